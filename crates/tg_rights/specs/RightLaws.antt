@@ -1,9 +1,12 @@
 -- Laws of sets of rights: what union, difference and inclusion mean for each right, and the algebra that follows.
 -- They are proved by cases, right by right, and are for every crate whose clauses or proofs speak of sets of rights.
 use Rattle.std.proofs.Common.{◌≡◌, refl, Bool, true, false, ◌&&◌, ◌||◌, not, ◌∙◌, sym, ap, ◌⊎◌, inl, inr}
+use Rattle.std.proofs.Math.Bool.{beq}
+use Rattle.std.specs.Bool.{Decides}
+use Rattle.std.specs.Cmp.{booleans_Decides}
 use Rattle.tg_rights.specs.declared.Right.{Right}
 use Rattle.tg_rights.specs.declared.Right.TheVariants.{R, W, T, G}
-use Rattle.tg_rights.specs.RightSet.{RightSet, has, no_rights, union, minus, is_none_held, holds_all}
+use Rattle.tg_rights.specs.RightSet.{RightSet, has, no_rights, only, union, minus, is_none_held, holds_all, is_same}
 
 -- ---- membership
 
@@ -203,3 +206,43 @@ some_minus a b some =
 pub some_holds_all : (a b : RightSet) → holds_all a b ≡ true → is_none_held b ≡ false → is_none_held a ≡ false
 some_holds_all a b all some =
     not_empty (is_none_held a) (is_none_held b) (λ none. ap is_none_held (sym (minus-no_rights b)) ∙ ap (λ s. holds_all s b) (sym (none_held-same a none)) ∙ all) some
+
+held_only : (r w t g : Bool) (x : Right) → holds_all (record { r = r; w = w; t = t; g = g }) (only x) ≡ has (record { r = r; w = w; t = t; g = g }) x
+held_only true w t g R = refl
+held_only false w t g R = refl
+held_only r true t g W = refl
+held_only r false t g W = refl
+held_only r w true g T = refl
+held_only r w false g T = refl
+held_only r w t true G = refl
+held_only r w t false G = refl
+
+-- a set with one right is held exactly where that right is in the set
+pub holds_all-only : (s : RightSet) (x : Right) → holds_all s (only x) ≡ has s x
+holds_all-only s x = held_only s.r s.w s.t s.g x
+
+-- ---- equality
+
+-- the test of equality answers equality
+pub is_same-Decides : (a b : RightSet) → Decides (is_same a b) (a ≡ b)
+is_same-Decides a b = (same, λ e. ap (is_same a) (sym e) ∙ itself a)
+  where
+    agree : (x y : Bool) → beq x y ≡ true → x ≡ y
+    agree x y = (booleans_Decides x y).0
+
+    same : is_same a b ≡ true → a ≡ b
+    same all =
+        let three : beq a.r b.r && beq a.w b.w && beq a.t b.t ≡ true = and_first (beq a.r b.r && beq a.w b.w && beq a.t b.t) (beq a.g b.g) all in
+        let two : beq a.r b.r && beq a.w b.w ≡ true = and_first (beq a.r b.r && beq a.w b.w) (beq a.t b.t) three in
+        λ i. record {
+          r = agree a.r b.r (and_first (beq a.r b.r) (beq a.w b.w) two) i;
+          w = agree a.w b.w (and_second (beq a.r b.r) (beq a.w b.w) two) i;
+          t = agree a.t b.t (and_second (beq a.r b.r && beq a.w b.w) (beq a.t b.t) three) i;
+          g = agree a.g b.g (and_second (beq a.r b.r && beq a.w b.w && beq a.t b.t) (beq a.g b.g) all) i;
+        }
+
+    one : (x : Bool) → beq x x ≡ true
+    one x = (booleans_Decides x x).1 refl
+
+    itself : (s : RightSet) → is_same s s ≡ true
+    itself s = λ i. one s.r i && one s.w i && one s.t i && one s.g i
