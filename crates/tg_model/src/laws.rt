@@ -1,2 +1,36 @@
 //! Laws of the definitions alone, each over every graph and every deed. A function here does nothing: what it ensures
 //! is the law.
+ghost use Rattle.std.specs.Prelude.{◌≡◌, ◌↔◌, ◌⊎◌, ◌<◌, ◌≤◌, ◌+◌, ℕ, List, None, Some};
+ghost use Rattle.tg_rights.specs.RightSet.{RightSet};
+ghost use Rattle.tg_model.specs.Graph.{ProtectionGraph, IsSubject, IsReachable, IsSound, HasEdge};
+ghost use Rattle.tg_model.specs.Opened.{Plan, IsPlan, start_of};
+ghost use Rattle.tg_model.specs.Rules.{Permits, denial_of, reply_of, effect, with_vertex, IsAllowed, step, answer_of};
+ghost use Rattle.tg_model.specs.declared.command.Command.{Command};
+ghost use Rattle.tg_model.specs.declared.command.Command.TheVariants as command;
+ghost use Rattle.tg_model.specs.declared.command.Deed.{Deed};
+ghost use Rattle.tg_model.specs.declared.command.Deed.TheVariants.{Create, Plain};
+ghost use Rattle.tg_model.specs.declared.law.Law.{Law};
+ghost use Rattle.tg_model.specs.declared.reply.Denial.{Denial};
+ghost use Rattle.tg_model.specs.declared.reply.Reply.TheVariants.{Name, Denied, VerticesFull};
+
+/// A command is allowed exactly where it has no denial, over any labels.
+pub fn allowed_exactly_where_not_denied()
+    ensures { (label : ℕ → ℕ → RightSet) (x : ℕ) (command : Command) → Permits label x command ↔ (denial_of label x command ≡ None) }
+{}
+
+/// A command that is denied changes nothing, and its denial is the answer. No deed that isn't allowed changes
+/// anything; a create past the limit is answered so.
+pub fn denied_changes_nothing()
+    ensures graph { (g : ProtectionGraph) (x : ℕ) (command : Command) (denial : Denial) → denial_of g.label x command ≡ Some denial → step g x (Plain command) ≡ g }
+    ensures answer { (g : ProtectionGraph) (x : ℕ) (command : Command) (denial : Denial) → denial_of g.label x command ≡ Some denial → answer_of g x (Plain command) ≡ Denied denial }
+    ensures deed { (g : ProtectionGraph) (x : ℕ) (deed : Deed) → ¬ IsAllowed g x deed → step g x deed ≡ g }
+    ensures full { (g : ProtectionGraph) (x : ℕ) (label : RightSet) (law : Law) (state : List ℕ) → g.limit ≤ g.made → answer_of g x (Create label law state) ≡ VerticesFull }
+{}
+
+/// What is allowed has its effect and its reply.
+pub fn allowed_has_its_effect()
+    ensures graph { (g : ProtectionGraph) (x : ℕ) (command : Command) → Permits g.label x command → step g x (Plain command) ≡ effect g x command }
+    ensures answer { (g : ProtectionGraph) (x : ℕ) (command : Command) → Permits g.label x command → answer_of g x (Plain command) ≡ reply_of g.label g.value g.made x command }
+    ensures created { (g : ProtectionGraph) (x : ℕ) (label : RightSet) (law : Law) (state : List ℕ) → g.made < g.limit → step g x (Create label law state) ≡ with_vertex g x label (record { law = law; state = state }) }
+    ensures name { (g : ProtectionGraph) (x : ℕ) (label : RightSet) (law : Law) (state : List ℕ) → g.made < g.limit → answer_of g x (Create label law state) ≡ Name g.made }
+{}
