@@ -34,3 +34,15 @@ pub fn allowed_has_its_effect()
     ensures created { (g : ProtectionGraph) (x : ℕ) (label : RightSet) (law : Law) (state : List ℕ) → g.made < g.limit → step g x (Create label law state) ≡ with_vertex g x label (record { law = law; state = state }) }
     ensures name { (g : ProtectionGraph) (x : ℕ) (label : RightSet) (law : Law) (state : List ℕ) → g.made < g.limit → answer_of g x (Create label law state) ≡ Name g.made }
 {}
+
+/// Of what a step of a subject can reach, all could be reached before, but for the vertex that the step makes.
+pub fn reach_only_shrinks()
+    ensures { (g : ProtectionGraph) (x : ℕ) (deed : Deed) (y : ℕ) → IsSound g → IsSubject g x → IsReachable (step g x deed) y → IsReachable g y ⊎ (y ≡ g.made) }
+{}
+
+/// A step of a subject leaves the row and the value of each vertex that can't be reached. The value is that of a
+/// vertex that was made: a create gives one to the next name.
+pub fn the_unreachable_stay()
+    ensures row { (g : ProtectionGraph) (x : ℕ) (deed : Deed) (u v : ℕ) → IsSubject g x → ¬ IsReachable g u → (step g x deed).label u v ≡ g.label u v }
+    ensures value { (g : ProtectionGraph) (x : ℕ) (deed : Deed) (u : ℕ) → IsSubject g x → ¬ IsReachable g u → u < g.made → (step g x deed).value u ≡ g.value u }
+{}
