@@ -1,2 +1,3 @@
 pub mod AllowedLaws
 pub mod ReachLaws
+pub mod SoundLaws

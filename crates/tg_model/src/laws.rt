@@ -46,3 +46,26 @@ pub fn the_unreachable_stay()
     ensures row { (g : ProtectionGraph) (x : ℕ) (deed : Deed) (u v : ℕ) → IsSubject g x → ¬ IsReachable g u → (step g x deed).label u v ≡ g.label u v }
     ensures value { (g : ProtectionGraph) (x : ℕ) (deed : Deed) (u : ℕ) → IsSubject g x → ¬ IsReachable g u → u < g.made → (step g x deed).value u ≡ g.value u }
 {}
+
+/// Each step of a subject keeps a graph sound.
+pub fn sound_is_kept()
+    ensures { (g : ProtectionGraph) (x : ℕ) (deed : Deed) → IsSound g → IsSubject g x → IsSound (step g x deed) }
+{}
+
+/// The graph that an opening starts from is sound, and has no more vertices than there may be.
+pub fn start_is_sound()
+    ensures sound { (plan : Plan) → IsPlan plan → IsSound (start_of plan) }
+    ensures limited { (plan : Plan) → IsPlan plan → (start_of plan).made ≤ (start_of plan).limit }
+{}
+
+/// No step changes who the subjects are, nor how many vertices there may be.
+pub fn subjects_stay()
+    ensures subjects { (g : ProtectionGraph) (x : ℕ) (deed : Deed) → (step g x deed).subjects ≡ g.subjects }
+    ensures limit { (g : ProtectionGraph) (x : ℕ) (deed : Deed) → (step g x deed).limit ≡ g.limit }
+{}
+
+/// The number of vertices never falls, and never passes the limit.
+pub fn made_never_falls()
+    ensures kept { (g : ProtectionGraph) (x : ℕ) (deed : Deed) → g.made ≤ (step g x deed).made }
+    ensures limited { (g : ProtectionGraph) (x : ℕ) (deed : Deed) → g.made ≤ g.limit → (step g x deed).made ≤ (step g x deed).limit }
+{}
