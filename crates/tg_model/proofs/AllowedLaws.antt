@@ -40,7 +40,7 @@ chosen_none true d h = refl
 chosen_none false d h = let no : ⊥ = cc in absurd no
 
 module _ (label : ℕ → ℕ → RightSet) where
-  held : (rule : Rule) (x y : ℕ) (rights : RightSet) → unless_held label rule x y rights ≡ None → Holds label x y rights
+  pub held : (rule : Rule) (x y : ℕ) (rights : RightSet) → unless_held label rule x y rights ≡ None → Holds label x y rights
   held rule x y rights h = chosen_none (holds_all (label x y) rights) _ h
 
   held_none : (rule : Rule) (x y : ℕ) (rights : RightSet) → Holds label x y rights → unless_held label rule x y rights ≡ None

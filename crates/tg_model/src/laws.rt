@@ -1,10 +1,12 @@
 //! Laws of the definitions alone, each over every graph and every deed. A function here does nothing: what it ensures
 //! is the law.
-ghost use Rattle.std.specs.Prelude.{◌≡◌, ◌↔◌, ◌⊎◌, ◌<◌, ◌≤◌, ◌+◌, ℕ, List, None, Some};
+ghost use Rattle.std.specs.Prelude.{◌≡◌, ◌↔◌, ◌⊎◌, ◌<◌, ◌≤◌, ◌+◌, ℕ, List, Option, None, Some, IfSome};
 ghost use Rattle.tg_rights.specs.RightSet.{RightSet};
 ghost use Rattle.tg_model.specs.Graph.{ProtectionGraph, IsSubject, IsReachable, IsSound, HasEdge};
-ghost use Rattle.tg_model.specs.Opened.{Plan, IsPlan, start_of};
-ghost use Rattle.tg_model.specs.Rules.{Permits, denial_of, reply_of, effect, with_vertex, IsAllowed, step, answer_of};
+ghost use Rattle.tg_model.specs.Law.{Fits, state_after};
+ghost use Rattle.tg_model.specs.Near.{SameNear, SameValuesNear};
+ghost use Rattle.tg_model.specs.Opened.{Plan, IsPlan, ValueFits, start_of};
+ghost use Rattle.tg_model.specs.Rules.{DeedFits, Permits, labels_after, values_after, denial_of, reply_of, effect, with_vertex, IsAllowed, step, answer_of};
 ghost use Rattle.tg_model.specs.declared.command.Command.{Command};
 ghost use Rattle.tg_model.specs.declared.command.Command.TheVariants as command;
 ghost use Rattle.tg_model.specs.declared.command.Deed.{Deed};
@@ -12,6 +14,7 @@ ghost use Rattle.tg_model.specs.declared.command.Deed.TheVariants.{Create, Plain
 ghost use Rattle.tg_model.specs.declared.law.Law.{Law};
 ghost use Rattle.tg_model.specs.declared.reply.Denial.{Denial};
 ghost use Rattle.tg_model.specs.declared.reply.Reply.TheVariants.{Name, Denied, VerticesFull};
+ghost use Rattle.tg_model.specs.declared.value.Value.{Value};
 
 /// A command is allowed exactly where it has no denial, over any labels.
 pub fn allowed_exactly_where_not_denied()
@@ -68,4 +71,20 @@ pub fn subjects_stay()
 pub fn made_never_falls()
     ensures kept { (g : ProtectionGraph) (x : ℕ) (deed : Deed) → g.made ≤ (step g x deed).made }
     ensures limited { (g : ProtectionGraph) (x : ℕ) (deed : Deed) → g.made ≤ g.limit → (step g x deed).made ≤ (step g x deed).limit }
+{}
+
+/// What a vertex stores fits its law: at the start, after a write, and after each step by a deed that fits.
+pub fn values_keep_fitting()
+    ensures start { (plan : Plan) → IsPlan plan → (y : ℕ) → IfSome ((start_of plan).value y) ValueFits }
+    ensures write { (law : Law) (state : List ℕ) (v : ℕ) → Fits law state → Fits law (state_after law state v) }
+    ensures step { (g : ProtectionGraph) (x : ℕ) (deed : Deed) → DeedFits deed → ((y : ℕ) → IfSome (g.value y) ValueFits) → (y : ℕ) → IfSome ((step g x deed).value y) ValueFits }
+{}
+
+/// A command of x looks at the row of x, and at the rows and values of those to which x has an edge. Where two
+/// contents are the same there, so are its denial and its reply; and what it changes, it changes place by place.
+pub fn commands_look_near()
+    ensures denial { (label other : ℕ → ℕ → RightSet) (x : ℕ) (command : Command) → SameNear label other x → denial_of other x command ≡ denial_of label x command }
+    ensures reply { (label other : ℕ → ℕ → RightSet) (value other_value : ℕ → Option Value) (n x : ℕ) (command : Command) → SameNear label other x → SameValuesNear label value other_value x → Permits label x command → reply_of other other_value n x command ≡ reply_of label value n x command }
+    ensures labels { (label other : ℕ → ℕ → RightSet) (x : ℕ) (command : Command) (a b : ℕ) → other a b ≡ label a b → labels_after other x command a b ≡ labels_after label x command a b }
+    ensures values { (value other : ℕ → Option Value) (command : Command) (a : ℕ) → other a ≡ value a → values_after other command a ≡ values_after value command a }
 {}
