@@ -1,6 +1,6 @@
 -- A command is allowed exactly where it has no denial; what is denied changes nothing, and what is allowed has its
 -- effect.
-use Rattle.std.proofs.Common.{◌≡◌, ◌≢◌, ◌↔◌, ℕ, ◌+◌, ◌<◌, ◌≤◌, ◌==◌, ◌||◌, nat_lt, Bool, true, false, cond, IsTrue, List, Option, Some, None, refl, sym, ap, ap₂, ◌∙◌, arith}
+use Rattle.std.proofs.Common.{◌≡◌, ◌≢◌, ◌↔◌, ℕ, ◌<◌, ◌≤◌, ◌==◌, ◌||◌, nat_lt, Bool, true, false, cond, List, Option, Some, None, refl, ap, ap₂}
 use Rattle.std.specs.Option.{option_or}
 use Rattle.std.proofs.lemmas.Bool.{eqb-false, ne_eqb, or_parts, or_from, ltb-true, lt-ltb, le-ltb, cond-true, cond-false, cond_both}
 use Rattle.tg_rights.specs.RightSet.{RightSet, only, holds_all}
@@ -10,8 +10,6 @@ use Rattle.tg_model.specs.declared.command.Command.TheVariants.{Take, Grant, Rem
 use Rattle.tg_model.specs.declared.command.Deed.{Deed}
 use Rattle.tg_model.specs.declared.command.Deed.TheVariants.{Create, Plain}
 use Rattle.tg_model.specs.declared.law.Law.{Law}
-use Rattle.tg_model.specs.declared.value.Value.{Value}
-use Rattle.tg_model.specs.declared.reply.Reply.{Reply}
 use Rattle.tg_model.specs.declared.reply.Reply.TheVariants.{Name, Denied, VerticesFull}
 use Rattle.tg_model.specs.declared.reply.Denial.{Denial}
 use Rattle.tg_model.specs.declared.reply.Rule.{Rule}

@@ -1,5 +1,5 @@
 -- What a vertex stores fits its law, from the opening on.
-use Rattle.std.proofs.Common.{◌≡◌, ℕ, zero, suc, ◌+◌, ◌-◌, ◌<◌, ◌≤◌, ◌==◌, cond, List, [], ◌∷◌, ◌++◌, length, Option, Some, None, refl, arith, length-append}
+use Rattle.std.proofs.Common.{ℕ, zero, suc, ◌-◌, ◌≤◌, ◌==◌, List, [], ◌∷◌, ◌++◌, length, Option, Some, None, refl, arith}
 use Rattle.std.proofs.lemmas.List.{length-drop}
 use Rattle.std.proofs.lemmas.Bool.{cond_both}
 use Rattle.std.proofs.lemmas.List.Elements.{All-head, All-tail}
@@ -15,7 +15,7 @@ use Rattle.tg_model.specs.declared.command.Deed.TheVariants.{Create, Plain}
 use Rattle.tg_model.specs.Law.{Fits, state_after, last_of}
 use Rattle.tg_model.specs.Graph.{ProtectionGraph}
 use Rattle.tg_model.specs.Opened.{Plan, IsPlan, ValueFits, start_of}
-use Rattle.tg_model.specs.Rules.{DeedFits, values_after, written, written_at, step}
+use Rattle.tg_model.specs.Rules.{DeedFits, values_after, written, step}
 use Rattle.tg_model.proofs.AllowedLaws.{plain_cases, create_cases}
 
 length-last_of : (k : ℕ) (xs : List ℕ) → length (last_of k xs) ≤ k

@@ -1,5 +1,5 @@
 -- A command looks at the rows and values near its worker, and at nothing else.
-use Rattle.std.proofs.Common.{◌≡◌, ◌≢◌, ◌↔◌, ℕ, ◌==◌, ◌&&◌, ◌||◌, Bool, true, false, cond, List, [], ◌∷◌, ◌++◌, map, Option, Some, None, refl, sym, ap, ◌∙◌}
+use Rattle.std.proofs.Common.{◌≡◌, ◌↔◌, ℕ, ◌==◌, ◌&&◌, ◌||◌, cond, map, Option, Some, None, refl, sym, ap, ◌∙◌}
 use Rattle.std.specs.Prelude.{option_map, not}
 use Rattle.std.specs.Option.{option_or}
 use Rattle.std.specs.List.{filter, range_with_len}
@@ -13,7 +13,7 @@ use Rattle.tg_model.specs.declared.reply.Rule.{Rule}
 use Rattle.tg_model.specs.declared.reply.Rule.TheVariants as rule
 use Rattle.tg_model.specs.declared.reply.Reply.TheVariants.{Values, Edges}
 use Rattle.tg_model.specs.declared.reply.Cause.TheVariants.{Missing}
-use Rattle.tg_model.specs.Graph.{HasEdge, listing_of}
+use Rattle.tg_model.specs.Graph.{listing_of}
 use Rattle.tg_model.specs.Near.{SameNear, SameValuesNear}
 use Rattle.tg_model.specs.Rules.{Permits, unless_distinct, unless_held, denial_of, labels_after, values_after, written, reply_of, state_of}
 use Rattle.tg_model.proofs.AllowedLaws.{held, permits-no_denial, no_denial-permits}
@@ -35,7 +35,7 @@ module _ (label other : ℕ → ℕ → RightSet) (x : ℕ) where
         ap (option_or (unless_distinct rule.Take ((x == y) || (y == z) || (x == z))))
         (ap (λ a. option_or a (unless_held other rule.Take y z r)) (held_same rule.Take x y (only right.T) (near.own y))
         ∙ or_same (unless_held label rule.Take x y (only right.T)) _ _
-          (λ passed. held_same rule.Take y z r (near.next y z (HasEdge-holds label x y (only right.T) (held label rule.Take x y (only right.T) passed) refl))))
+        (λ passed. held_same rule.Take y z r (near.next y z (HasEdge-holds label x y (only right.T) (held label rule.Take x y (only right.T) passed) refl))))
     denial_of-near (Grant y z r) =
         ap (option_or (unless_distinct rule.Grant ((x == y) || (y == z) || (x == z))))
         (ap (λ a. option_or a (unless_held other rule.Grant x z r)) (held_same rule.Grant x y (only right.G) (near.own y))
@@ -46,9 +46,10 @@ module _ (label other : ℕ → ℕ → RightSet) (x : ℕ) where
     denial_of-near Listing = refl
 
     pub Permits-near : (command : Command) → Permits other x command ↔ Permits label x command
-    Permits-near command =
-        (λ allowed. permits-no_denial label x command (sym (denial_of-near command) ∙ no_denial-permits other x command allowed),
-        λ allowed. permits-no_denial other x command (denial_of-near command ∙ no_denial-permits label x command allowed))
+    Permits-near command = (
+      λ allowed. permits-no_denial label x command (sym (denial_of-near command) ∙ no_denial-permits other x command allowed),
+      λ allowed. permits-no_denial other x command (denial_of-near command ∙ no_denial-permits label x command allowed),
+    )
 
   listing-same : (n : ℕ) → ((y : ℕ) → other x y ≡ label x y) → listing_of other n x ≡ listing_of label n x
   listing-same n same = let row : ◌≡◌ {A = ℕ → RightSet} (other x) (label x) = λ i y. same y i in ap (λ row. filter (λ e. not (is_none_held e.1)) (map (λ y. (y, row y)) (range_with_len 0 n))) row

@@ -1,16 +1,15 @@
 -- What a step does to the vertices that can be reached, and that it leaves the others alone.
-use Rattle.std.proofs.Common.{◌≡◌, ◌≢◌, ◌⊎◌, inl, inr, ⊎_elim, ℕ, ◌+◌, ◌<◌, ◌==◌, ◌&&◌, Bool, true, false, cond, List, Option, refl, sym, ap, subst, arith}
+use Rattle.std.proofs.Common.{◌≡◌, ◌≢◌, ◌⊎◌, inl, inr, ⊎_elim, ℕ, ◌<◌, ◌==◌, ◌&&◌, Bool, true, false, cond, Option, refl, sym, subst, arith}
 use Rattle.std.proofs.lemmas.Bool.{eqb-true, ne_eqb, and_parts, and_left, cond-false}
 use Rattle.tg_rights.specs.RightSet.{RightSet, only, union, minus, is_none_held}
 use Rattle.tg_rights.specs.RightLaws.{some_union, some_minus, some_holds_all}
 use Rattle.tg_rights.specs.declared.Right.TheVariants as right
 use Rattle.tg_model.specs.declared.value.Value.{Value}
-use Rattle.tg_model.specs.declared.law.Law.{Law}
 use Rattle.tg_model.specs.declared.command.Command.{Command}
 use Rattle.tg_model.specs.declared.command.Command.TheVariants.{Take, Grant, Remove, Read, Write, List as Listing}
 use Rattle.tg_model.specs.declared.command.Deed.{Deed}
 use Rattle.tg_model.specs.declared.command.Deed.TheVariants.{Create, Plain}
-use Rattle.tg_model.specs.Walks.{Walk, begins, goes, Walk-within}
+use Rattle.tg_model.specs.Walks.{begins, goes, Walk-within}
 use Rattle.tg_model.specs.Graph.{ProtectionGraph, IsSubject, HasEdge, IsReachable, IsSound, with_rights, without_rights}
 use Rattle.tg_model.specs.Rules.{Holds, Permits, labels_after, values_after, step}
 use Rattle.tg_model.proofs.AllowedLaws.{plain_cases, create_cases}

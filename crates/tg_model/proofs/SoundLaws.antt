@@ -1,17 +1,15 @@
 -- The graph that an opening starts from is sound, and each step of a subject keeps a graph sound.
-use Rattle.std.proofs.Common.{◌≡◌, ◌≢◌, ◌↔◌, ◌⊎◌, inl, inr, ⊎_elim, ℕ, zero, suc, ◌+◌, ◌<◌, ◌≤◌, ◌==◌, ◌&&◌, nat_lt, Bool, true, false, cond, List, [], ◌∷◌, length, get_or, Option, Some, None, refl, sym, ap, ◌∙◌, subst, arith}
-use Rattle.std.proofs.lemmas.Bool.{eqb-true, ne_eqb, and_parts, and_left, and_right, cond-false, cond_both, eqb-false, true≢false, false≢true}
+use Rattle.std.proofs.Common.{◌≡◌, ◌≢◌, ◌↔◌, ⊎_elim, ℕ, zero, suc, ◌+◌, ◌<◌, ◌≤◌, ◌==◌, ◌&&◌, Bool, true, false, cond, List, [], ◌∷◌, length, Option, Some, None, refl, sym, ap, ◌∙◌, subst, arith}
+use Rattle.std.proofs.lemmas.Bool.{eqb-true, ne_eqb, and_parts, cond-false, cond_both, eqb-false, true≢false, false≢true}
 use Rattle.std.specs.Prelude.{IsSome, is_some, slice_get, option_map}
 use Rattle.std.specs.List.{All, Contains, range_with_len}
 use Rattle.std.specs.List.Sorted.{IsStrictlyIncreasing}
 use Rattle.std.proofs.lemmas.List.FromFn.{length-range_with_len, get_or-range_with_len}
 use Rattle.std.proofs.lemmas.List.Elements.{All-head, All-tail}
 use Rattle.tg_rights.specs.RightSet.{RightSet, no_rights, only, union, minus, is_none_held}
-use Rattle.tg_rights.specs.RightLaws.{minus_none, some_union}
 use Rattle.tg_rights.specs.declared.Right.TheVariants as right
 use Rattle.tg_model.specs.declared.edge.Edge.{Edge}
 use Rattle.tg_model.specs.declared.value.Value.{Value}
-use Rattle.tg_model.specs.declared.law.Law.{Law}
 use Rattle.tg_model.specs.declared.command.Command.{Command}
 use Rattle.tg_model.specs.declared.command.Command.TheVariants.{Take, Grant, Remove, Read, Write, List as Listing}
 use Rattle.tg_model.specs.declared.command.Deed.{Deed}
