@@ -1,0 +1,5 @@
+pub mod Law
+pub mod Walks
+pub mod Graph
+pub mod Rules
+pub mod Opened
