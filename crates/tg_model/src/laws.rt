@@ -1,14 +1,13 @@
 //! Laws of the definitions alone, each over every graph and every deed. A function here does nothing: what it ensures
 //! is the law.
-ghost use Rattle.std.specs.Prelude.{◌≡◌, ◌↔◌, ◌⊎◌, ◌<◌, ◌≤◌, ◌+◌, ℕ, List, Option, None, Some, IfSome};
+ghost use Rattle.std.specs.Prelude.{◌≡◌, ◌↔◌, ◌⊎◌, ◌<◌, ◌≤◌, ℕ, List, Option, IfSome};
 ghost use Rattle.tg_rights.specs.RightSet.{RightSet};
-ghost use Rattle.tg_model.specs.Graph.{ProtectionGraph, IsSubject, IsReachable, IsSound, HasEdge};
+ghost use Rattle.tg_model.specs.Graph.{ProtectionGraph, IsSubject, IsReachable, IsSound};
 ghost use Rattle.tg_model.specs.Law.{Fits, state_after};
 ghost use Rattle.tg_model.specs.Near.{SameNear, SameValuesNear};
 ghost use Rattle.tg_model.specs.Opened.{Plan, IsPlan, ValueFits, start_of};
 ghost use Rattle.tg_model.specs.Rules.{DeedFits, Permits, labels_after, values_after, denial_of, reply_of, effect, with_vertex, IsAllowed, step, answer_of};
 ghost use Rattle.tg_model.specs.declared.command.Command.{Command};
-ghost use Rattle.tg_model.specs.declared.command.Command.TheVariants as command;
 ghost use Rattle.tg_model.specs.declared.command.Deed.{Deed};
 ghost use Rattle.tg_model.specs.declared.command.Deed.TheVariants.{Create, Plain};
 ghost use Rattle.tg_model.specs.declared.law.Law.{Law};
