@@ -90,33 +90,30 @@ module _ (label : ℕ → ℕ → RightSet) where
 
 -- ---- steps
 
-pub step-subjects : (g : ProtectionGraph) (x : ℕ) (deed : Deed) → (step g x deed).subjects ≡ g.subjects
-step-subjects g x (Create label law state) = create_cases g x (λ k. k.subjects ≡ g.subjects) label law state refl (λ room. refl)
-step-subjects g x (Plain command) = plain_cases g x (λ k. k.subjects ≡ g.subjects) command refl (λ allowed. refl)
+-- what can be reached was made
+pub lt-IsReachable : (g : ProtectionGraph) → IsSound g → (y : ℕ) → IsReachable g y → y < g.made
+lt-IsReachable g sound = Walk-within (λ y. y < g.made) sound.subjects_made (λ b c below edge. (sound.ends_made b c edge).1)
 
 module _ (g : ProtectionGraph) (x : ℕ) (subject : IsSubject g x) where
-  module _ (sound : IsSound g) where
-    -- reachable, or the name that is made next
-    abbrev Known : ℕ → Type 0
-    Known y = IsReachable g y ⊎ (y ≡ g.made)
+  pub IsReachable-plain : (command : Command) (y : ℕ) → IsReachable (step g x (Plain command)) y → IsReachable g y
+  IsReachable-plain command y =
+      plain_cases g x (λ k. IsReachable k y → IsReachable g y) command (λ reachable. reachable)
+      (λ allowed. Walk-within (IsReachable g) (λ c first. begins first) (closed_after g.label (IsReachable g) (λ a b reachable edge. goes reachable edge) x command (begins subject) allowed) y)
 
-    known_edge : (a b : ℕ) → Known a → HasEdge g.label a b → Known b
-    known_edge a b (inl reachable) edge = inl (goes reachable edge)
-    known_edge a b (inr new) edge = absurd (omega (arith, new, (sound.ends_made a b edge).0))
+  -- reachable, or the name that is made next: closed under edges, since no edge leaves that name
+  abbrev Known : ℕ → Type 0
+  Known y = IsReachable g y ⊎ (y ≡ g.made)
 
-    known_step : (deed : Deed) (a b : ℕ) → Known a → HasEdge (step g x deed).label a b → Known b
-    known_step (Create label law state) a b from edge =
-        create_cases g x (λ k. HasEdge k.label a b → Known b) label law state (known_edge a b from)
-        (λ room new. ⊎_elim (known_edge a b from) (λ (at_x, at_made, some). inr at_made) (HasEdge-with_rights g.label x g.made label a b new)) edge
-    known_step (Plain command) a b from edge =
-        plain_cases g x (λ k. HasEdge k.label a b → Known b) command (known_edge a b from)
-        (λ allowed. closed_after g.label Known known_edge x command (inl (begins subject)) allowed a b from) edge
+  known_edge : IsSound g → (a b : ℕ) → Known a → HasEdge g.label a b → Known b
+  known_edge sound a b (inl reachable) edge = inl (goes reachable edge)
+  known_edge sound a b (inr new) edge = absurd (omega (arith, new, (sound.ends_made a b edge).0))
 
-    pub IsReachable-step : (deed : Deed) (y : ℕ) → IsReachable (step g x deed) y → IsReachable g y ⊎ (y ≡ g.made)
-    IsReachable-step deed y reachable =
-        Walk-within Known
-        (λ c first. inl (begins (subst (λ xs. IsSubject (record g { subjects = xs }) c) (step-subjects g x deed) first)))
-        (known_step deed) y reachable
+  pub IsReachable-step : IsSound g → (deed : Deed) (y : ℕ) → IsReachable (step g x deed) y → IsReachable g y ⊎ (y ≡ g.made)
+  IsReachable-step sound (Create label law state) y =
+      create_cases g x (λ k. IsReachable k y → Known y) label law state (λ reachable. inl reachable)
+      (λ room. Walk-within Known (λ c first. inl (begins first))
+      (λ a b from new. ⊎_elim (known_edge sound a b from) (λ (at_x, at_made, some). inr at_made) (HasEdge-with_rights g.label x g.made label a b new)) y)
+  IsReachable-step sound (Plain command) y = λ reachable. inl (IsReachable-plain command y reachable)
 
   module _ (u : ℕ) (out_of_reach : IsReachable g u → ⊥) where
     not_x : u ≢ x

@@ -127,6 +127,10 @@ module _ (g : ProtectionGraph) (sound : IsSound g) (x : ℕ) (subject : IsSubjec
   IsSound-step (Plain command) = plain_cases g x IsSound command sound (effect_sound command)
 
 module _ (g : ProtectionGraph) (x : ℕ) where
+  pub step-subjects : (deed : Deed) → (step g x deed).subjects ≡ g.subjects
+  step-subjects (Create label law state) = create_cases g x (λ k. k.subjects ≡ g.subjects) label law state refl (λ room. refl)
+  step-subjects (Plain command) = plain_cases g x (λ k. k.subjects ≡ g.subjects) command refl (λ allowed. refl)
+
   pub step-limit : (deed : Deed) → (step g x deed).limit ≡ g.limit
   step-limit (Create label law state) = create_cases g x (λ k. k.limit ≡ g.limit) label law state refl (λ room. refl)
   step-limit (Plain command) = plain_cases g x (λ k. k.limit ≡ g.limit) command refl (λ allowed. refl)

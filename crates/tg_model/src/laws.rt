@@ -1,5 +1,9 @@
 //! Laws of the definitions alone, each over every graph and every deed. A function here does nothing: what it ensures
 //! is the law.
+//!
+//! The proofs of the crates above cite the lemmas behind the laws, which stand in `proofs/`: `AllowedLaws` (denials),
+//! `ReachLaws` (edges, reach and rows), `SoundLaws` (soundness), `FitLaws` (states) and `NearLaws` (what a command
+//! looks at).
 ghost use Rattle.std.specs.Prelude.{◌≡◌, ◌↔◌, ◌⊎◌, ◌<◌, ◌≤◌, ℕ, List, Option, IfSome};
 ghost use Rattle.tg_rights.specs.RightSet.{RightSet};
 ghost use Rattle.tg_model.specs.Graph.{ProtectionGraph, IsSubject, IsReachable, IsSound};
@@ -49,13 +53,16 @@ pub fn allowed_has_its_effect()
         g.made < g.limit → answer_of g x (Create label law state) ≡ Name g.made }
 {}
 
-/// All that can be reached after a step of a subject could be reached before it, but for the vertex that the step
-/// makes. So no history gives anyone a way to what was once out of reach ("only connectivity begets connectivity":
-/// Miller, "Robust Composition", 2006).
+/// All that can be reached after a step of a subject could be reached before it, but for the vertex that a create
+/// makes; a command makes none. So no history opens a way to what was once made and out of reach ("only connectivity
+/// begets connectivity": Miller, "Robust Composition", 2006).
 pub fn reach_only_shrinks()
-    ensures { (g : ProtectionGraph) (x : ℕ) (deed : Deed) (y : ℕ) →
+    ensures deed { (g : ProtectionGraph) (x : ℕ) (deed : Deed) (y : ℕ) →
         IsSound g → IsSubject g x →
         IsReachable (step g x deed) y → IsReachable g y ⊎ (y ≡ g.made) }
+    ensures command { (g : ProtectionGraph) (x : ℕ) (command : Command) (y : ℕ) →
+        IsSubject g x → IsReachable (step g x (Plain command)) y → IsReachable g y }
+    ensures made { (g : ProtectionGraph) (y : ℕ) → IsSound g → IsReachable g y → y < g.made }
 {}
 
 /// A step of a subject leaves the row and the value of each vertex that can't be reached. The value is that of a
@@ -108,7 +115,8 @@ pub fn values_keep_fitting()
 pub fn commands_look_near()
     ensures denial { (label other : ℕ → ℕ → RightSet) (x : ℕ) (command : Command) →
         SameNear label other x → denial_of other x command ≡ denial_of label x command }
-    ensures reply { (label other : ℕ → ℕ → RightSet) (value other_value : ℕ → Option Value) (n x : ℕ) (command : Command) →
+    ensures reply { (label other : ℕ → ℕ → RightSet) (value other_value : ℕ → Option Value) (n x : ℕ)
+        (command : Command) →
         SameNear label other x → SameValuesNear label value other_value x → Permits label x command →
         reply_of other other_value n x command ≡ reply_of label value n x command }
     ensures labels { (label other : ℕ → ℕ → RightSet) (x : ℕ) (command : Command) (a b : ℕ) →
