@@ -54,8 +54,8 @@ pub fn allowed_has_its_effect()
 {}
 
 /// All that can be reached after a step of a subject could be reached before it, but for the vertex that a create
-/// makes; a command makes none. So no history opens a way to what was once made and out of reach ("only connectivity
-/// begets connectivity": Miller, "Robust Composition", 2006).
+/// makes; a command makes none ("only connectivity begets connectivity": Miller, "Robust Composition", 2006). And in
+/// a sound graph only what was made can be reached.
 pub fn reach_only_shrinks()
     ensures deed { (g : ProtectionGraph) (x : ℕ) (deed : Deed) (y : ℕ) →
         IsSound g → IsSubject g x →
