@@ -1,0 +1,186 @@
+-- Where one record is left and it is complete, the cells with a place are those that targets lead to from the roots.
+use Rattle.std.proofs.Common.{◌≡◌, ◌≢◌, ◌⊎◌, ℕ, zero, suc, ◌+◌, ◌-◌, ◌*◌, ◌/◌, ◌<◌, ◌≤◌, ◌==◌, ◌&&◌, ◌||◌, ◌↔◌, List, [], ◌∷◌, ◌++◌, length, get_or, set, take, drop, slice_index, slice_index_or, Bool, true, false, not, cond, if◌then◌else◌, eqb, eqb-true, eq-eqb, ne_eqb, nat_lt, sym, refl, ap, ◌∙◌, subst, inl, inr, ⊎_elim, All, arith}
+use Rattle.std.specs.List.{list_any}
+use Rattle.std.proofs.lemmas.Bool.{cond-true, cond-false, or_cases, or_left, or_right, ltb-false, false≢true, cases_lt}
+use Rattle.std.proofs.lemmas.List.Elements.{All-head, All-tail}
+use mathlib.Core.Option.{some}
+use lib.ListN.{get_elem?}
+use Rattle.tg_word.specs.declared.Place.{Place}
+use Rattle.tg_race.specs.Words.{place_of}
+use Rattle.tg_race.proofs.PlaceWords.{word_of-some}
+use Rattle.tg_race.specs.declared.record.Counts.{Counts}
+use Rattle.tg_race.specs.declared.record.Record.{Record}
+use Rattle.tg_race.specs.Weights.{weigh, one_at}
+use Rattle.tg_race.specs.Words.{weigh_words, IsPair}
+use Rattle.tg_race.specs.Race.{Race, has, chunks_of}
+use Rattle.tg_race.specs.Course.{Net, Course, counts_of, chunk_has, pair_has, is_target, word_at, has_met, IsEarned, KeepsRule, IsComplete, IsReached, root, next}
+use Rattle.tg_race.proofs.Sums.{any_weighs, weighs_any, one_past, one_here}
+use Rattle.tg_race.proofs.Parts.{Parts, is_past, parts_of}
+use Rattle.tg_race.proofs.Steps.{alone_keeps}
+use Rattle.tg_race.proofs.Courses.{Within}
+
+-- the weight under which a list of pairs weighs as often as it has the cell
+abbrev cell_at : ℕ → ℕ × Place → ℕ
+cell_at n q = if q.0 == n then 1 else 0
+
+module _ {A : Type 0} where
+  any_some : (f : A → Bool) (l : List A) → list_any f l ≡ true → (x : A) × (f x ≡ true)
+  any_some f [] h = absurd (false≢true h)
+  any_some f (x ∷ l) h = ⊎_elim (λ e. (x, e)) (λ e. any_some f l e) (or_cases (f x) (list_any f l) h)
+
+  any_all : (P : A → Type 0) (f : A → Bool) (l : List A) → All P l → list_any f l ≡ true → (x : A) × (f x ≡ true) × P x
+  any_all P f [] all h = absurd (false≢true h)
+  any_all P f (x ∷ l) all h = ⊎_elim (λ e. (x, e, All-head P x l all)) (λ e. any_all P f l (All-tail P x l all) e) (or_cases (f x) (list_any f l) h)
+
+  any_where : (f g : A → Bool) → ((x : A) → f x ≡ true → g x ≡ true) → (l : List A) → list_any f l ≡ true → list_any g l ≡ true
+  any_where f g t [] h = h
+  any_where f g t (x ∷ l) h = ⊎_elim (λ e. or_left (g x) (list_any g l) (t x e)) (λ e. or_right (g x) (list_any g l) (any_where f g t l e)) (or_cases (f x) (list_any f l) h)
+
+  within_drop : (n : ℕ) (l : List A) → Within (drop n l) l
+  within_drop zero l p h = h
+  within_drop (suc n) [] p h = h
+  within_drop (suc n) (x ∷ l) p h = or_right (p x) (list_any p l) (within_drop n l p h)
+
+  within_take : (n : ℕ) (l : List A) → Within (take n l) l
+  within_take zero l p h = absurd (false≢true h)
+  within_take (suc n) [] p h = h
+  within_take (suc n) (x ∷ l) p h = ⊎_elim (λ e. or_left (p x) (list_any p l) e) (λ e. or_right (p x) (list_any p l) (within_take n l p e)) (or_cases (p x) (list_any p (take n l)) h)
+
+  -- an item of a list stands in one of its chunks of 8
+  in_chunk : (p : A → Bool) (fuel : ℕ) (l : List A) → length l ≤ fuel → list_any p l ≡ true → (c : ℕ) × (8 * c < length l) × (list_any p (take 8 (drop (8 * c) l)) ≡ true)
+  in_chunk p zero [] few h = absurd (false≢true h)
+  in_chunk p zero (x ∷ l) few h = absurd (omega arith)
+  in_chunk p (suc fuel) [] few h = absurd (false≢true h)
+  in_chunk p (suc fuel) (x ∷ l) few h = ⊎_elim (λ e. (0, omega arith, e)) (λ e. later e (in_chunk p fuel (drop 8 (x ∷ l)))) (split 8 (x ∷ l) h)
+    where
+      split : (n : ℕ) (l : List A) → list_any p l ≡ true → (list_any p (take n l) ≡ true) ⊎ (list_any p (drop n l) ≡ true)
+      split zero l h = inr h
+      split (suc n) [] h = inl h
+      split (suc n) (x ∷ l) h = ⊎_elim (λ e. inl (or_left (p x) (list_any p (take n l)) e)) (λ e. ⊎_elim (λ a. inl (or_right (p x) (list_any p (take n l)) a)) (λ b. inr b) (split n l e)) (or_cases (p x) (list_any p l) h)
+
+      later : list_any p (drop 8 (x ∷ l)) ≡ true → (length (drop 8 (x ∷ l)) ≤ fuel → list_any p (drop 8 (x ∷ l)) ≡ true → (c : ℕ) × (8 * c < length (drop 8 (x ∷ l))) × (list_any p (take 8 (drop (8 * c) (drop 8 (x ∷ l)))) ≡ true))
+          → (c : ℕ) × (8 * c < length (x ∷ l)) × (list_any p (take 8 (drop (8 * c) (x ∷ l))) ≡ true)
+      later e rest =
+          let len = Rattle.std.proofs.Common.length-drop 8 (x ∷ l) in
+          let r = rest (omega arith) e in
+          let c : ℕ = r.0 in
+          let same : drop (8 * c) (drop 8 (x ∷ l)) ≡ drop (8 * (c + 1)) (x ∷ l) = Rattle.std.proofs.Common.drop-drop (8 * c) 8 (x ∷ l) ∙ ap (λ (n : ℕ). drop n (x ∷ l)) (let e : 8 + 8 * c ≡ 8 * (c + 1) = omega arith in e) in
+          (c + 1, omega (arith, r.1), subst (λ (m : List A). list_any p (take 8 m) ≡ true) same r.2)
+
+-- a word of a cell, as a weight
+
+weigh_words_past : (n i : ℕ) (ws : List ℕ) → n < i → weigh_words (cell_at n) i ws ≡ 0
+weigh_words_past n i [] h = refl
+weigh_words_past n i (w ∷ ws) h = go (w == 0) (weigh_words_past n (suc i) ws (omega arith))
+  where
+    go : (b : Bool) → weigh_words (cell_at n) (suc i) ws ≡ 0 → (if b then 0 else cell_at n (i, place_of w)) + weigh_words (cell_at n) (suc i) ws ≡ 0
+    go true rest = omega arith
+    go false rest = omega (arith, cond-false {A = ℕ} (eqb i n) 1 0 (ne_eqb i n (λ (e : i ≡ n). omega arith)))
+
+free_weighs : (n i c : ℕ) (ws : List ℕ) → n ≡ i + c → get_or ws c 0 ≡ 0 → weigh_words (cell_at n) i ws ≡ 0
+free_weighs n i c [] is free = refl
+free_weighs n i zero (w ∷ ws) is free = omega (arith, cond-true {A = ℕ} (eqb w 0) 0 (cell_at n (i, place_of w)) (eq-eqb w 0 free), weigh_words_past n (suc i) ws (omega arith))
+free_weighs n i (suc c) (w ∷ ws) is free = go (w == 0) (free_weighs n (suc i) c ws (omega arith) free)
+  where
+    go : (b : Bool) → weigh_words (cell_at n) (suc i) ws ≡ 0 → (if b then 0 else cell_at n (i, place_of w)) + weigh_words (cell_at n) (suc i) ws ≡ 0
+    go true rest = omega arith
+    go false rest = omega (arith, cond-false {A = ℕ} (eqb i n) 1 0 (ne_eqb i n (λ (e : i ≡ n). omega arith)))
+
+taken_weighs : (n i c : ℕ) (ws : List ℕ) → n ≡ i + c → get_or ws c 0 ≢ 0 → 0 < weigh_words (cell_at n) i ws
+taken_weighs n i c [] is some_ = absurd (some_ refl)
+taken_weighs n i zero (w ∷ ws) is some_ =
+    omega (arith, cond-false {A = ℕ} (eqb w 0) 0 (cell_at n (i, place_of w)) (ne_eqb w 0 some_), cond-true {A = ℕ} (eqb i n) 1 0 (eq-eqb i n (omega arith)))
+taken_weighs n i (suc c) (w ∷ ws) is some_ = omega (arith, taken_weighs n (suc i) c ws (omega arith) some_)
+
+abbrev AllReached : Net → List (ℕ × Place) → Type 0
+AllReached net l = (x : ℕ) → list_any (λ q. q.0 == x) l ≡ true → IsReached net x
+
+-- a pair that passes a test, and its cell among those of the list
+any_pair : (f : ℕ × Place → Bool) (l : List (ℕ × Place)) → list_any f l ≡ true → (q : ℕ × Place) × (f q ≡ true) × (list_any (λ p. p.0 == q.0) l ≡ true)
+any_pair f [] h = absurd (false≢true h)
+any_pair f (x ∷ l) h =
+    ⊎_elim (λ e. (x, e, or_left (x.0 == x.0) (list_any (λ p. p.0 == x.0) l) (eq-eqb x.0 x.0 refl)))
+    (λ e. let r = any_pair f l e in (r.0, r.1, or_right (x.0 == r.0.0) (list_any (λ p. p.0 == r.0.0) l) r.2))
+    (or_cases (f x) (list_any f l) h)
+
+target_reached : (net : Net) (cs : List ℕ) (won : List (ℕ × Place)) (cell : ℕ) → AllReached net won → is_target net cs won cell ≡ true → IsReached net cell
+target_reached net cs won cell all h =
+    ⊎_elim (λ a. let c = any_some (chunk_has net cell) cs a in
+    root cell (within_drop (8 * c.0) net.roots (has cell) (within_take 8 (drop (8 * c.0) net.roots) (has cell) c.1)))
+    (λ b. let q = any_pair (pair_has net cell) won b in next q.0.0 cell (all q.0.0 q.2) q.1)
+    (or_cases (list_any (chunk_has net cell) cs) (list_any (pair_has net cell) won) h)
+
+earned_reached : (net : Net) (cs : List ℕ) (before qs : List (ℕ × Place)) → AllReached net before → IsEarned net cs before qs → AllReached net qs
+earned_reached net cs before [] all h x e = absurd (false≢true e)
+earned_reached net cs before (q ∷ qs) all h x e =
+    let new : IsReached net q.0 = target_reached net cs before q.0 all h.0 in
+    let all' : AllReached net (q ∷ before) = λ y f. ⊎_elim (λ a. subst (IsReached net) (eqb-true q.0 y a) new) (λ b. all y b) (or_cases (q.0 == y) (list_any (λ p. p.0 == y) before) f) in
+    ⊎_elim (λ a. subst (IsReached net) (eqb-true q.0 x a) new) (λ b. earned_reached net cs (q ∷ before) qs all' h.1 x b) (or_cases (q.0 == x) (list_any (λ p. p.0 == x) qs) e)
+
+-- a chunk past the last is among the list's
+past_some : (k : Counts) (l : List ℕ) → 0 < weigh (is_past k) l → (x : ℕ) × (chunks_of k ≤ x) × (list_any (λ y. y == x) l ≡ true)
+past_some k [] h = absurd (omega arith)
+past_some k (x ∷ l) h = go (nat_lt x (chunks_of k)) refl h (past_some k l)
+  where
+    go : (b : Bool) → nat_lt x (chunks_of k) ≡ b → 0 < (if b then 0 else 1) + weigh (is_past k) l → (0 < weigh (is_past k) l → (y : ℕ) × (chunks_of k ≤ y) × (list_any (λ z. z == y) l ≡ true))
+        → (y : ℕ) × (chunks_of k ≤ y) × (list_any (λ z. z == y) (x ∷ l) ≡ true)
+    go true e h rest = let r = rest (omega arith) in (r.0, r.1, or_right (x == r.0) (list_any (λ z. z == r.0) l) r.2)
+    go false e h rest = (x, ltb-false x (chunks_of k) e, or_left (x == x) (list_any (λ z. z == x) l) (eq-eqb x x refl))
+
+-- what passes at one number passes at a list that has it
+any_is : (f : ℕ → Bool) (x : ℕ) → f x ≡ true → (l : List ℕ) → list_any (λ y. y == x) l ≡ true → list_any f l ≡ true
+any_is f x h = any_where (λ (y : ℕ). y == x) f (λ y e. subst (λ (z : ℕ). f z ≡ true) (sym (eqb-true y x e)) h)
+
+module _ (net : Net) (r : Race) (v : Record) (rule : Parts (counts_of net) (record r { records = v ∷ [] })) (earned : IsEarned net v.chunks [] v.won) (complete : IsComplete net v) where
+  won_taken : (cell : ℕ) → list_any (λ q. q.0 == cell) v.won ≡ true → word_at r cell ≢ 0
+  won_taken cell h free =
+      let a = any_weighs (λ (q : ℕ × Place). q.0 == cell) v.won h in
+      let b = rule.won (cell_at cell) in
+      omega (arith, free_weighs cell 0 cell r.words (omega arith) free)
+
+  taken_won : (cell : ℕ) → word_at r cell ≢ 0 → list_any (λ q. q.0 == cell) v.won ≡ true
+  taken_won cell some_ =
+      let b = rule.won (cell_at cell) in
+      let t = taken_weighs cell 0 cell r.words (omega arith) some_ in
+      weighs_any (λ (q : ℕ × Place). q.0 == cell) v.won (omega arith)
+
+  seen_taken : (cell : ℕ) → list_any (λ q. q.0 == cell) v.seen ≡ true → word_at r cell ≢ 0
+  seen_taken cell h free =
+      let q = any_all (IsPair r.words) (λ (q : ℕ × Place). q.0 == cell) v.seen (rule.each 0 v refl).seen h in
+      word_of-some q.0.1 (sym q.2 ∙ (ap (λ (i : ℕ). word_at r i) (eqb-true q.0.0 cell q.1) ∙ free))
+
+  met_taken : (cell : ℕ) → has_met v cell ≡ true → word_at r cell ≢ 0
+  met_taken cell h = ⊎_elim (won_taken cell) (seen_taken cell) (or_cases (list_any (λ q. q.0 == cell) v.won) (list_any (λ q. q.0 == cell) v.seen) h)
+
+  -- the record has each chunk of roots
+  has_chunk : (c : ℕ) → 8 * c < length net.roots → list_any (λ x. x == c) v.chunks ≡ true
+  has_chunk c in' =
+      let p = past_some (counts_of net) v.chunks complete.last in
+      let x : ℕ = p.0 in
+      let above = p.1 in
+      let one = any_weighs (λ (y : ℕ). y == x) v.chunks p.2 in
+      let drawn = rule.chunks (one_at x) in
+      let up : x < r.next_chunk = ⊎_elim (λ lt. lt) (λ (le : r.next_chunk ≤ x). absurd (let none = one_past x r.next_chunk le in omega arith)) (cases_lt x r.next_chunk) in
+      let mine = rule.chunks (one_at c) in
+      let here = one_here c r.next_chunk (omega arith) in
+      weighs_any (λ (y : ℕ). y == c) v.chunks (omega arith)
+
+  reached_taken : (cell : ℕ) → IsReached net cell → word_at r cell ≢ 0
+  reached_taken cell (root _ h) =
+      let p = in_chunk (has cell) (length net.roots) net.roots (omega arith) h in
+      let mine = any_is (chunk_has net cell) p.0 p.2 v.chunks (has_chunk p.0 p.1) in
+      met_taken cell (complete.met cell (or_left (list_any (chunk_has net cell) v.chunks) (list_any (pair_has net cell) v.won) mine))
+  reached_taken to (next cell _ from h) =
+      let won = taken_won cell (reached_taken cell from) in
+      let mine = any_where (λ (q : ℕ × Place). q.0 == cell) (pair_has net to) (λ q e. subst (λ (i : ℕ). has to (slice_index_or net.targets i []) ≡ true) (sym (eqb-true q.0 cell e)) h) v.won won in
+      met_taken to (complete.met to (or_right (list_any (chunk_has net to) v.chunks) (list_any (pair_has net to) v.won) mine))
+
+  taken_reached : (cell : ℕ) → word_at r cell ≢ 0 → IsReached net cell
+  taken_reached cell some_ = earned_reached net v.chunks [] v.won (λ x e. absurd (false≢true e)) earned cell (taken_won cell some_)
+
+-- the cells with a place are the closure of the roots
+pub closure : (c : Course) (id : ℕ) (v : Record) → KeepsRule c → get_elem? c.race.records id ≡ some v → v.share ≡ c.net.helpers → IsComplete c.net v
+    → (cell : ℕ) → (word_at c.race cell ≢ 0) ↔ IsReached c.net cell
+closure c id v kept at all complete cell =
+    let rule = alone_keeps (counts_of c.net) c.race id v (parts_of (counts_of c.net) c.race kept.rule) at all in
+    (taken_reached c.net c.race v rule (kept.wins_earned id v at) complete cell, reached_taken c.net c.race v rule (kept.wins_earned id v at) complete cell)

@@ -1,0 +1,10 @@
+pub mod PlaceWords
+pub mod Sums
+pub mod Parts
+pub mod Tests
+pub mod Steps
+pub mod Courses
+pub mod Closure
+pub mod Allowed
+pub mod Nets
+pub mod Drawn

@@ -1,0 +1,14 @@
+use Rattle.std.proofs.Common.{arith, ◌∙◌, sym, ap}
+use Rattle.tg_race.specs.Seats.{Seated, Board}
+use Rattle.tg_race.proofs.Tests.{none_past}
+use Rattle.tg_race.proofs.Allowed.{draws_chunk}
+use Rattle.tg_race.proofs.helper.Helper.claim_roots.Goals as goal
+
+pub fetch_add-requires : goal.fetch_add-requires
+fetch_add-requires c =
+    let me = c.self.view_is in
+    let board = c.table.view_is in (
+      ap (λ (x : Seated). x.table) me ∙ (c.requires.own ∙ sym (ap (λ (x : Board). x.table) board)),
+      omega (arith, c.table.invariant.1),
+      draws_chunk _ _ _ _ (rw (c.table.invariant.0, ap (λ (x : Board). x.counts) board, ap (λ (x : Seated). x.done) me) (none_past c.args.table.now.counts c.args.self.now.done c.requires.allowed)) c.self.invariant.1,
+    )

@@ -1,0 +1,20 @@
+use Rattle.std.proofs.Common.{arith, ◌≡◌, ◌∙◌, sym, ap}
+use Rattle.tg_race.specs.declared.record.Record.{Record}
+use Rattle.tg_race.specs.Race.{empty}
+use Rattle.tg_race.specs.Seats.{Seated, Board}
+use Rattle.tg_race.proofs.Tests.{parted}
+use Rattle.tg_race.proofs.Allowed.{cuts}
+use Rattle.tg_race.proofs.helper.Helper.split.Goals as goal
+
+pub split_seat-seat-requires : goal.split_seat-seat-requires
+split_seat-seat-requires c =
+    let me = c.self.view_is in
+    let board = c.table.view_is in
+    let fresh = parted c.args.self.now.done c.requires.allowed in
+    let many = fresh.0 in
+    let share = ap (λ (x : Seated). x.done.share) me in
+    let done : c.self.inside.seat.me.0 ≡ c.args.self.now.done = ap (λ (x : Seated). x.done) me in (
+      ap (λ (x : Seated). x.table) me ∙ (c.requires.own ∙ sym (ap (λ (x : Board). x.table) board)),
+      omega (arith, c.table.invariant.1),
+      cuts _ _ _ (omega arith) (done ∙ (fresh.1 ∙ ap (λ (x : Record). empty x.share) (sym done))),
+    )

@@ -1,0 +1,49 @@
+-- The table: the counters are the words 0, 1 and 2, and the word of the cell i is the word i + 3. What each step tells.
+use Rattle.std.specs.Prelude.{◌≡◌, ◌≢◌, ℕ, ◌-◌, ◌^◌, ◌<◌, ◌≤◌, ◌==◌, true, false, List, [], ◌∷◌, if◌then◌else◌}
+use Rattle.atomic_table.specs.Table.{State, Me, Step}
+use Rattle.tg_race.specs.declared.record.Counts.{Counts}
+use Rattle.tg_race.specs.declared.record.Record.{Record}
+use Rattle.tg_race.specs.Words.{place_of, IsForward}
+use Rattle.tg_race.specs.Race.{Race, Rule, with_chunk, with_seen, with_won, with_block}
+
+abbrev pub words_of : Race → List ℕ
+words_of r = r.next_chunk ∷ r.next_aged ∷ r.next_old ∷ r.words
+
+-- the numbers with which a table is opened
+abbrev pub AreSmall : Counts → Type 0
+AreSmall k = (k.cells < 2 ^ 61) × (k.roots < 2 ^ 64) × (k.kept ≤ 2 ^ 20) × (0 < k.helpers) × (k.helpers < 2 ^ 32)
+
+-- the table's rule: its words and the views of its seats are those of a race under the rule
+pub record Holds (k : Counts) (s : State ℕ Record) : Type 0 where
+  pub race : Race
+  pub words : s.words ≡ words_of race
+  pub records : s.views ≡ race.records
+  pub rule : Rule k race
+  pub small : AreSmall k
+
+-- what a step at a counter tells: the record has drawn the number that was found
+abbrev pub drew_chunk : Step ℕ → Me ℕ Record → ℕ → Me ℕ Record → Type 0
+drew_chunk st m n m' = m' ≡ (with_chunk m.0 n, m.1)
+
+abbrev pub drew_aged : Step ℕ → Me ℕ Record → ℕ → Me ℕ Record → Type 0
+drew_aged st m n m' = m' ≡ (with_block true m.0 n, m.1)
+
+abbrev pub drew_old : Step ℕ → Me ℕ Record → ℕ → Me ℕ Record → Type 0
+drew_old st m n m' = m' ≡ (with_block false m.0 n, m.1)
+
+-- what a load of a cell's word tells: it was 0, or names the place that the record has now seen
+abbrev pub looked : Step ℕ → Me ℕ Record → ℕ → Me ℕ Record → Type 0
+looked st m n m' =
+    (n ≢ 0 → IsForward n) × (m' ≡ ((if n == 0 then m.0 else with_seen m.0 (st.word - 3, place_of n)), m.1))
+
+-- what an exchange at a cell's word tells: where it was 0 the cell is won, else the place that was found is seen
+abbrev pub tried : Step ℕ → Me ℕ Record → ℕ → Me ℕ Record → Type 0
+tried st m n m' =
+    (n ≢ 0 → IsForward n) × (m' ≡ ((if n == 0 then with_won m.0 (st.word - 3, place_of st.second) else with_seen m.0 (st.word - 3, place_of n)), m.1))
+
+-- the words of the cells, and one record that has done all, are those of a race under the rule
+pub record IsClosed (k : Counts) (words : List ℕ) (done : Record) : Type 0 where
+  pub next_chunk : ℕ
+  pub next_aged : ℕ
+  pub next_old : ℕ
+  pub rule : Rule k (record { next_chunk = next_chunk; next_aged = next_aged; next_old = next_old; words = words; records = done ∷ [] })

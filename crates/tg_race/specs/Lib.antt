@@ -1,0 +1,9 @@
+pub mod Weights
+pub mod Words
+pub mod Race
+pub mod Conditions
+pub mod Course
+pub mod Board
+pub mod Seats
+pub mod Claims
+pub mod Room

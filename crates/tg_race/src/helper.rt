@@ -1,0 +1,136 @@
+//! A helper: a seat at the table. Each call is one event of the race, and ensures what that event does to the record.
+ghost use Rattle.std.specs.Prelude.{◌≡◌, ◌<◌, IfSome, IfNone, IsTrue};
+ghost use Rattle.tg_word.specs.Word.{IsPlace};
+ghost use Rattle.tg_race.specs.Race.{empty, with_chunk, with_seen, with_block, both, less_one};
+ghost use Rattle.tg_race.specs.Conditions.{can_claim_roots, can_claim_block, can_use, can_part};
+ghost use Rattle.tg_race.specs.Claims.{claimed, place_found};
+
+use crate::forwarding::Forwarding;
+use crate::links::{place_in, word_to};
+use crate::plays::{Cut, DrawAged, DrawChunk, DrawOld, Glue, Look, Try};
+use crate::record::Record;
+use atomic_table::Seat;
+use std::marker::Model;
+use tg_word::Place;
+
+/// What a claim of a cell found.
+#[derive(Clone, Copy)]
+pub enum Claim {
+    /// The cell had no place, and has the one that was offered now.
+    Won,
+    /// The cell has had this place before.
+    Lost(Place),
+}
+
+/// A helper at the table. It takes no memory, and no call of it waits.
+///
+/// A clause sees the table that it sits at and what it has done (`done`, its record).
+#[derive(Drop)]
+pub struct Helper {
+    pub(crate) seat: Seat<u8, Record>,
+}
+
+impl Model for Helper {
+    ghost use Rattle.std.specs.Prelude.{◌≡◌, ◌<◌, []};
+    ghost use Rattle.tg_race.specs.Seats.{Seated};
+
+    ghost Value = { Seated };
+
+    ghost view = { λ h. record { table = h.seat.table_id; done = h.seat.me.0 } };
+
+    ghost invariant = { λ h. (h.seat.me.1 ≡ []) × (0 < h.seat.me.0.share) };
+}
+
+impl Helper {
+    /// Makes another helper, of share 1, and keeps the rest of its own share.
+    pub fn split(&mut self, table: &Forwarding) -> Helper
+        requires own { self.old.table ≡ table.now.table }
+        requires allowed { IsTrue (can_part self.old.done) }
+        ensures kept { self.new ≡ record self.old { done = less_one self.old.done } }
+        ensures made { (result.table ≡ self.old.table) × (result.done ≡ empty 1) }
+    {
+        let seat = table.table.shared.split_seat::<Cut>(&mut self.seat);
+        Helper { seat }
+    }
+
+    /// Takes in all that another helper has done, with its share.
+    pub fn join(&mut self, table: &Forwarding, other: Helper)
+        requires own { self.old.table ≡ table.now.table }
+        requires other { other.table ≡ table.now.table }
+        ensures { self.new ≡ record self.old { done = both self.old.done other.done } }
+    {
+        let Helper { seat } = other;
+        table.table.shared.join_seat::<Glue>(&mut self.seat, seat);
+    }
+
+    /// Claims the next chunk of roots, and answers its number, which may be past the last.
+    pub fn claim_roots(&mut self, table: &Forwarding) -> u64
+        requires own { self.old.table ≡ table.now.table }
+        requires allowed { IsTrue (can_claim_roots table.now.counts self.old.done) }
+        ensures { self.new ≡ record self.old { done = with_chunk self.old.done result } }
+    {
+        table
+            .table
+            .shared
+            .fetch_add::<DrawChunk>(&mut self.seat, 0, 1)
+    }
+
+    /// The place that a cell has got, if it has one. The helper has then seen it.
+    pub fn look(&mut self, table: &Forwarding, cell: u64) -> Option<Place>
+        requires own { self.old.table ≡ table.now.table }
+        requires inside { cell < table.now.counts.cells }
+        ensures none { IfNone result (self.new ≡ self.old) }
+        ensures some { IfSome result (λ p. self.new ≡ record self.old { done = with_seen self.old.done (cell, p) }) }
+        ensures place { IfSome result IsPlace }
+    {
+        let word = table
+            .table
+            .shared
+            .load::<Look>(&mut self.seat, cell as usize + 3);
+        if word == 0 {
+            None
+        } else {
+            Some(place_in(word))
+        }
+    }
+
+    /// Gives a cell this place, if it has none. The place is unused, in a block that the helper has claimed.
+    ///
+    /// Whether the cell was won or lost is decided by one exchange: a place that a cell has never changes.
+    pub fn claim_cell(&mut self, table: &Forwarding, cell: u64, place: Place) -> Claim
+        requires own { self.old.table ≡ table.now.table }
+        requires inside { cell < table.now.counts.cells }
+        requires place { IsPlace place }
+        requires allowed { IsTrue (can_use self.old.done place) }
+        ensures done { self.new ≡ record self.old { done = claimed self.old.done cell place result } }
+        ensures place { IsPlace (place_found place result) }
+    {
+        let found = table
+            .table
+            .shared
+            .compare_exchange::<Try>(&mut self.seat, cell as usize + 3, 0, word_to(place));
+        if found == 0 {
+            return Claim::Won;
+        }
+        Claim::Lost(place_in(found))
+    }
+
+    /// Claims the next block of Aged or of Old, and answers its number. The helper's blocks of that space are full.
+    pub fn claim_block(&mut self, table: &Forwarding, aged: bool) -> u64
+        requires own { self.old.table ≡ table.now.table }
+        requires allowed { IsTrue (can_claim_block aged self.old.done) }
+        ensures { self.new ≡ record self.old { done = with_block aged self.old.done result } }
+    {
+        if aged {
+            table
+                .table
+                .shared
+                .fetch_add::<DrawAged>(&mut self.seat, 1, 1)
+        } else {
+            table
+                .table
+                .shared
+                .fetch_add::<DrawOld>(&mut self.seat, 2, 1)
+        }
+    }
+}

@@ -1,0 +1,54 @@
+//! The laws of the race, each the contract of a function that does nothing.
+ghost use Rattle.std.specs.Prelude.{◌≡◌, ◌≢◌, ◌↔◌, ◌+◌, ◌*◌, ◌<◌, ◌≤◌, ℕ, List, [], ◌∷◌, IsTrue, length};
+ghost use lib.ListN.{get_elem?};
+ghost use mathlib.Core.Option.{some};
+ghost use Rattle.tg_race.specs.declared.record.Counts.{Counts};
+ghost use Rattle.tg_race.specs.declared.record.Record.{Record};
+ghost use Rattle.tg_race.specs.declared.event.Event.{Event};
+ghost use Rattle.tg_race.specs.Weights.{weigh, one_at};
+ghost use Rattle.tg_race.specs.Race.{Race, Rule, IsDrawn, both};
+ghost use Rattle.tg_race.specs.Course.{Net, Course, KeepsRule, AreEarned, IsComplete, IsReached, word_at, can_happen, happens, course_after, starting};
+
+/// After every list of events of any number of helpers the rule holds.
+pub fn the_rule_holds_after_all_events()
+    ensures event { (c : Course) (helper : ℕ) (e : Event) → KeepsRule c → IsTrue (can_happen c helper e) → KeepsRule (happens c helper e) }
+    ensures events { (net : Net) (events : List (ℕ × Event)) → KeepsRule (course_after (starting net) events) }
+{}
+
+/// No event changes a place that a cell has.
+pub fn places_never_change()
+    ensures event { (c : Course) (helper : ℕ) (e : Event) → IsTrue (can_happen c helper e) → (cell : ℕ) → word_at c.race cell ≢ 0 → word_at (happens c helper e).race cell ≡ word_at c.race cell }
+    ensures events { (c : Course) (events : List (ℕ × Event)) (cell : ℕ) → word_at c.race cell ≢ 0 → word_at (course_after c events).race cell ≡ word_at c.race cell }
+{}
+
+/// Where one record stands for all helpers and is complete, the cells with a place are the closure of the roots.
+pub fn a_complete_race_is_the_closure()
+    ensures { (c : Course) (id : ℕ) (v : Record) → KeepsRule c → get_elem? c.race.records id ≡ some v → v.share ≡ c.net.helpers → IsComplete c.net v → (cell : ℕ) → (word_at c.race cell ≢ 0) ↔ IsReached c.net cell }
+{}
+
+/// Where one record stands for all helpers, all others are spent: the race with that record alone is under the rule.
+pub fn one_record_stands_alone()
+    ensures { (k : Counts) (r : Race) (id : ℕ) (v : Record) → Rule k r → get_elem? r.records id ≡ some v → v.share ≡ k.helpers → Rule k (record r { records = v ∷ [] }) }
+{}
+
+/// Wins stay earned when two records become one.
+pub fn wins_stay_earned_under_join()
+    ensures { (net : Net) (v w : Record) → AreEarned net v → AreEarned net w → AreEarned net (both v w) }
+{}
+
+/// Blocks are few: each is full of won cells, but for one a helper and space.
+///
+/// The bound is on the numbers of the next blocks, and so on each claimed one, which is below it.
+pub fn blocks_are_few()
+    ensures aged_blocks { (k : Counts) (r : Race) → Rule k r → 64 * r.next_aged ≤ 64 * k.helpers + weigh (λ v. length v.won) r.records }
+    ensures old_blocks { (k : Counts) (r : Race) → Rule k r → 64 * r.next_old ≤ 64 * (k.kept + k.helpers) + weigh (λ v. length v.won) r.records }
+    ensures wins { (k : Counts) (r : Race) → Rule k r → weigh (λ v. length v.won) r.records ≤ k.cells }
+{}
+
+/// What 'drawn' says of one number: it stands once in the records if it is below the counter and not below the start,
+/// and else not at all.
+pub fn numbers_are_drawn_once()
+    ensures drawn { (start counter : ℕ) (of : Record → List ℕ) (records : List Record) → IsDrawn start counter of records → (n : ℕ) → start ≤ n → n < counter → weigh (λ v. weigh (one_at n) (of v)) records ≡ 1 }
+    ensures below { (start counter : ℕ) (of : Record → List ℕ) (records : List Record) → IsDrawn start counter of records → (n : ℕ) → n < start → weigh (λ v. weigh (one_at n) (of v)) records ≡ 0 }
+    ensures above { (start counter : ℕ) (of : Record → List ℕ) (records : List Record) → IsDrawn start counter of records → (n : ℕ) → counter ≤ n → weigh (λ v. weigh (one_at n) (of v)) records ≡ 0 }
+{}
