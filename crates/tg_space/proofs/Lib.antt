@@ -1,0 +1,6 @@
+pub mod Flat
+pub mod Writing
+pub mod Tables
+pub mod Tracing
+pub mod Adding
+pub mod Pointing

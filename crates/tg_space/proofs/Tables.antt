@@ -1,0 +1,179 @@
+-- What changes keep of a table of spaces.
+use Rattle.std.proofs.Common.{◌≡◌, ◌≢◌, ℕ, zero, suc, ◌<◌, ◌≤◌, ◌+◌, ◌*◌, ◌^◌, ◌/◌, ◌++◌, ◌∷◌, ◌⊎◌, inl, inr, List, [], length, get_or, set, refl, sym, ap, subst, arith, ◌∙◌, ⊎_elim, add-one}
+use Rattle.std.specs.List.{All}
+use Rattle.std.proofs.lemmas.List.{get_or-set_same, get_or-set_other, length-set, get_or_read, length_push, get_or_push, get_or_append_left, get_or-replicate}
+use Rattle.std.proofs.lemmas.List.Elements.{All-get_or}
+use Rattle.std.proofs.lemmas.Bool.{cases_eq, cases_lt}
+use Rattle.tg_word.specs.declared.Place.{Place}
+use Rattle.tg_block.specs.Cells.{IsBlock, free_cell, free_block, cell_of, with_word}
+use Rattle.tg_space.specs.SpaceList.{SpaceList, BlockList, IsSpace, IsSpaceList, Holds, space_of, block_of, cell_at, blocks_before, block_count, with_word_at, with_block, flat_of, cells_of}
+use Rattle.tg_space.specs.SpaceTable.{SpaceTable, IsSpaceTable, IsPrefixCount, IsHandedOut, used_of, number_in_space, with_spaces}
+use Rattle.tg_space.proofs.Flat.{before_more, before_few, blocks_all, flat_inside, length-cells_of}
+use Rattle.tg_space.proofs.Writing.{kept_cell}
+
+-- two lists of spaces with as many blocks in each space
+pub record SameShape (a b : SpaceList) : Type 0 where
+  pub long : length b ≡ length a
+  pub blocks : (space : ℕ) → length (space_of b space) ≡ length (space_of a space)
+
+same_before : (a b : SpaceList) → SameShape a b → (space : ℕ) → space ≤ length a → blocks_before b space ≡ blocks_before a space
+same_before a b same zero le = refl
+same_before a b same (suc k) le =
+    let step : blocks_before b (k + 1) ≡ blocks_before a (k + 1) =
+    omega (arith, same_before a b same k (omega arith), before_more a k (omega arith), before_more b k (omega (arith, same.long)), same.blocks k) in
+    subst (λ (n : ℕ). blocks_before b n ≡ blocks_before a n) (add-one k) step
+
+pub same_starts : (starts : List ℕ) (a b : SpaceList) → SameShape a b → IsPrefixCount starts a → IsPrefixCount starts b
+same_starts starts a b same count = record {
+  long = count.long ∙ ap (λ (n : ℕ). n + 1) (sym same.long);
+  counts = λ space le. let inside : space ≤ length a = omega (arith, same.long) in count.counts space inside ∙ sym (same_before a b same space inside);
+}
+
+pub same_holds : (a b : SpaceList) → SameShape a b → (p : Place) → Holds b p → Holds a p
+same_holds a b same p holds = record {
+  space = omega (arith, same.long, holds.space);
+  block = omega (arith, same.blocks p.space, holds.block);
+  cell = holds.cell;
+}
+
+pub holds_same : (a b : SpaceList) → SameShape a b → (p : Place) → Holds a p → Holds b p
+holds_same a b same p holds = record {
+  space = omega (arith, same.long, holds.space);
+  block = omega (arith, same.blocks p.space, holds.block);
+  cell = holds.cell;
+}
+
+-- the block of a held cell has 64 cells
+pub block_whole : (h : SpaceList) (p : Place) → IsSpaceList h → Holds h p → p.cell < length (block_of h p.space p.block)
+block_whole h p is holds =
+    let blocks : All IsBlock (space_of h p.space) = (All-get_or IsSpace h p.space [] holds.space is.spaces).1 in
+    let long : length (block_of h p.space p.block) ≡ 64 = (All-get_or IsBlock (space_of h p.space) p.block [] holds.block blocks).0 in
+    omega (arith, holds.cell)
+
+-- a write keeps the shape
+pub shape_written : (h : SpaceList) (p : Place) (i word : ℕ) → Holds h p → SameShape h (with_word_at h p i word)
+shape_written h p i word holds = record {
+  long = length-set h p.space new_space;
+  blocks = λ space. by_space space (cases_eq space p.space);
+}
+  where
+    new_space : BlockList
+    new_space = set (space_of h p.space) p.block (with_word (block_of h p.space p.block) p.cell i word)
+
+    by_space : (space : ℕ) → (space ≡ p.space) ⊎ (space ≢ p.space) → length (space_of (set h p.space new_space) space) ≡ length (space_of h space)
+    by_space space (inl same) =
+        ap (λ (s : ℕ). length (space_of (set h p.space new_space) s)) same
+        ∙ ap (λ (blocks : BlockList). length blocks) (get_or-set_same h p.space new_space [] holds.space)
+        ∙ length-set (space_of h p.space) p.block (with_word (block_of h p.space p.block) p.cell i word)
+        ∙ ap (λ (s : ℕ). length (space_of h s)) (sym same)
+    by_space space (inr other) = ap (λ (blocks : BlockList). length blocks) (get_or-set_other h p.space space new_space [] other)
+
+-- a write to a cell that was handed out keeps a table of spaces
+pub table_written : (t : SpaceTable) (p : Place) (i word : ℕ) → IsSpaceTable t → Holds t.spaces p → IsHandedOut t p → All IsSpace (with_word_at t.spaces p i word) → IsSpaceTable (with_spaces t (with_word_at t.spaces p i word))
+table_written t p i word is holds handed whole =
+    let shape = shape_written t.spaces p i word holds in
+    record {
+      enough = omega (arith, shape.long, is.enough);
+      few = omega (arith, shape.long, is.few);
+      blocks = whole;
+      counted = is.counted ∙ sym shape.long;
+      within = λ space inside. omega (arith, shape.blocks space, is.within space (omega (arith, shape.long)));
+      fresh = λ q held young unused.
+          let before = same_holds t.spaces (with_word_at t.spaces p i word) shape q held in
+          let apart : q ≢ p = λ same.
+          let used_q : number_in_space q < used_of t q.space = subst (λ (r : Place). number_in_space r < used_of t r.space) (sym same) (handed (subst (λ (r : Place). 2 ≤ r.space) same young)) in
+          omega arith in
+          kept_cell t.spaces p i word holds q apart ∙ is.fresh q before young unused;
+    }
+
+pub table_list : (t : SpaceTable) → IsSpaceTable t → IsSpaceList t.spaces
+table_list t is = record { few = is.few; spaces = is.blocks }
+
+-- what a reader of a table knows of a place in it, whose space begins with block `start`
+pub record FlatFacts (h : SpaceList) (p : Place) (start : ℕ) : Type 0 where
+  pub starts : start ≡ blocks_before h p.space
+  pub inside : flat_of h p < length (cells_of h)
+  pub few : length (cells_of h) ≤ 66 * 2 ^ 26
+
+pub count_few : (t : SpaceTable) → IsSpaceTable t → block_count t.spaces ≤ 66 * 2 ^ 20
+count_few t is =
+    omega (arith, before_few t.spaces (table_list t is) (length t.spaces), blocks_all t.spaces (length t.spaces) (omega arith))
+
+pub flat_facts : (t now : SpaceTable) (starts : List ℕ) (p : Place) (start : ℕ) → t ≡ now → IsSpaceTable t × IsPrefixCount starts t.spaces → Holds now.spaces p → start ≡ get_or starts p.space start → FlatFacts now.spaces p start
+flat_facts t now starts p start same is holds read =
+    let held : Holds t.spaces p = subst (λ (x : SpaceTable). Holds x.spaces p) (sym same) holds in
+    let table : IsSpaceTable now = subst (λ (x : SpaceTable). IsSpaceTable x) same is.0 in
+    record {
+      starts = get_or_read starts p.space start (omega (arith, is.1.long, held.space)) read 0 ∙ is.1.counts p.space (omega (arith, held.space)) ∙ ap (λ (x : SpaceTable). blocks_before x.spaces p.space) same;
+      inside = flat_inside now.spaces table.blocks p holds;
+      few = omega (arith, length-cells_of now.spaces table.blocks, count_few now table);
+    }
+
+-- the search for the space of a number stops before the last space
+pub search_goes_on : (t now : SpaceTable) (starts : List ℕ) (number space : ℕ) → t ≡ now → IsSpaceTable t × IsPrefixCount starts t.spaces → number < length (cells_of now.spaces) → space < length t.spaces → get_or starts (space + 1) 0 ≤ number / 64 → space + 1 < length t.spaces
+search_goes_on t now starts number space same is inside low before = by_place (cases_lt (space + 1) (length t.spaces))
+  where
+    by_place : (space + 1 < length t.spaces) ⊎ (length t.spaces ≤ space + 1) → space + 1 < length t.spaces
+    by_place (inl more) = more
+    by_place (inr last) =
+        let table : IsSpaceTable now = subst (λ (x : SpaceTable). IsSpaceTable x) same is.0 in
+        absurd (omega (arith, is.1.counts (space + 1) (omega arith), blocks_all t.spaces (space + 1) last, length-cells_of now.spaces table.blocks, ap (λ (x : SpaceTable). block_count x.spaces) same))
+
+-- one more block of free cells
+module _ (h : SpaceList) (space : ℕ) (low : space < length h) where
+  abbrev grown : BlockList
+  grown = space_of h space ++ free_block ∷ []
+
+  pub space_of-with_block : space_of (with_block h space) space ≡ grown
+  space_of-with_block = get_or-set_same h space grown [] low
+
+  pub length-with_block : (s : ℕ) → length (space_of h s) ≤ length (space_of (with_block h space) s)
+  length-with_block s = by_space (cases_eq s space)
+    where
+      by_space : (s ≡ space) ⊎ (s ≢ space) → length (space_of h s) ≤ length (space_of (with_block h space) s)
+      by_space (inl same) =
+          let long : length (space_of (with_block h space) s) ≡ length grown = ap (λ (k : ℕ). length (space_of (with_block h space) k)) same ∙ ap (λ (b : BlockList). length b) space_of-with_block in
+          omega (arith, long, length_push (space_of h space) free_block, ap (λ (k : ℕ). length (space_of h k)) same)
+      by_space (inr other) = omega (arith, ap (λ (b : BlockList). length b) (get_or-set_other h space s grown [] other))
+
+  -- a cell of the grown heap is a cell of the one before, or a free cell
+  pub cell_at-with_block : (p : Place) → Holds (with_block h space) p → (Holds h p × (cell_at (with_block h space) p ≡ cell_at h p)) ⊎ (cell_at (with_block h space) p ≡ free_cell)
+  cell_at-with_block p holds = by_space (cases_eq p.space space)
+    where
+      in_space : space_of (with_block h space) p.space ≡ grown → p.space ≡ space → (p.block < length (space_of h space)) ⊎ (length (space_of h space) ≤ p.block) → (Holds h p × (cell_at (with_block h space) p ≡ cell_at h p)) ⊎ (cell_at (with_block h space) p ≡ free_cell)
+      in_space here same (inl below) =
+          inl (
+            record { space = omega arith; block = omega (arith, ap (λ (k : ℕ). length (space_of h k)) same); cell = holds.cell },
+            ap (λ (b : BlockList). cell_of (get_or b p.block []) p.cell) here
+                ∙ ap (λ (b : List (List ℕ)). cell_of b p.cell) (get_or_append_left (space_of h space) (free_block ∷ []) [] p.block below)
+                ∙ ap (λ (k : ℕ). cell_of (block_of h k p.block) p.cell) (sym same),
+          )
+      in_space here same (inr last) =
+          let long = length_push (space_of h space) free_block in
+          let at : length (space_of h space) ≡ p.block = omega (arith, holds.block, ap (λ (b : BlockList). length b) here) in
+          inr
+          (ap (λ (b : BlockList). cell_of (get_or b p.block []) p.cell) here
+          ∙ ap (λ (b : List (List ℕ)). cell_of b p.cell) (get_or_push (space_of h space) free_block [] p.block at)
+          ∙ get_or-replicate 64 p.cell free_cell [] holds.cell)
+
+      by_space : (p.space ≡ space) ⊎ (p.space ≢ space) → (Holds h p × (cell_at (with_block h space) p ≡ cell_at h p)) ⊎ (cell_at (with_block h space) p ≡ free_cell)
+      by_space (inl same) =
+          in_space (ap (λ (k : ℕ). space_of (with_block h space) k) same ∙ space_of-with_block) same (cases_lt p.block (length (space_of h space)))
+      by_space (inr other) =
+          let kept : space_of (with_block h space) p.space ≡ space_of h p.space = get_or-set_other h space p.space grown [] other in
+          inl (
+            record { space = omega (arith, holds.space, length-set h space grown); block = omega (arith, holds.block, ap (λ (b : BlockList). length b) kept); cell = holds.cell },
+            ap (λ (b : BlockList). cell_of (get_or b p.block []) p.cell) kept,
+          )
+
+pub table_grown : (t : SpaceTable) (space : ℕ) → IsSpaceTable t → space < length t.spaces → All IsSpace (with_block t.spaces space) → IsSpaceTable (with_spaces t (with_block t.spaces space))
+table_grown t space is low whole =
+    let long : length (with_block t.spaces space) ≡ length t.spaces = length-set t.spaces space (grown t.spaces space low) in
+    record {
+      enough = omega (arith, long, is.enough);
+      few = omega (arith, long, is.few);
+      blocks = whole;
+      counted = is.counted ∙ sym long;
+      within = λ s inside. omega (arith, is.within s (omega (arith, long)), length-with_block t.spaces space low s);
+      fresh = λ p held young unused. ⊎_elim (λ old. old.1 ∙ is.fresh p old.0 young unused) (λ free. free) (cell_at-with_block t.spaces space low p held);
+    }

@@ -1,0 +1,31 @@
+use Rattle.std.proofs.Common.{◌≡◌, ◌<◌, ◌++◌, ◌∷◌, [], List, ℕ, length, set, take, drop, ◌∙◌, sym, ap, subst, arith}
+use Rattle.std.specs.List.{All}
+use Rattle.std.proofs.lemmas.List.{get_or_read, take_at}
+use Rattle.std.proofs.lemmas.List.Elements.{All-set}
+use Rattle.tg_block.specs.Cells.{free_block}
+use Rattle.tg_space.specs.SpaceList.{SpaceList, BlockList, IsSpace, space_of, with_block}
+use Rattle.tg_space.specs.SpaceTable.{SpaceTable, IsSpaceTable, IsPrefixCount, with_spaces}
+use Rattle.tg_space.proofs.Tables.{table_grown}
+use Rattle.tg_space.proofs.spaces.Spaces.add_block.Goals as goal
+
+pub invariant_of-self-2 : goal.invariant_of-self-2
+invariant_of-self-2 c =
+    let inside = c.self.inside in
+    let space = c.args.space in
+    let t : SpaceTable = record { spaces = inside.spaces.items; used = inside.used.items; limits = inside.limits } in
+    let same : t ≡ c.args.self.now = c.self.view_is in
+    let low : space < length t.spaces = subst (λ (x : SpaceTable). space < length x.spaces) (sym same) c.requires in
+    let before : c.index_mut-grown.result.now ≡ space_of t.spaces space =
+    get_or_read t.spaces space c.index_mut-grown.result.now low c.index_mut-grown.ensures.value [] in
+    let added : c.add_block.new.self ≡ c.index_mut-grown.result.now ++ free_block ∷ [] = c.in-Ok.ensures.added in
+    let changed : set t.spaces space c.add_block.new.self ≡ with_block t.spaces space =
+    ap (set t.spaces space) (added ∙ ap (λ (s : BlockList). s ++ free_block ∷ []) before) in
+    let whole : All IsSpace (with_block t.spaces space) =
+    subst (λ (h : SpaceList). All IsSpace h) changed (All-set IsSpace t.spaces space c.add_block.new.self c.in-Ok.ensures.whole c.self.invariant.0.blocks) in
+    let counts = c.count_blocks.new.starts in
+    let kept : take inside.starts.len (counts ++ drop (length counts) inside.starts.items) ≡ counts =
+    take_at counts (drop (length counts) inside.starts.items) inside.starts.len (omega (arith, c.count_blocks.auto.starts, c.deref_mut.ensures.len)) in (
+      subst (λ (h : SpaceList). IsSpaceTable (with_spaces t h)) (sym changed) (table_grown t space c.self.invariant.0 low whole),
+      subst (λ (xs : List ℕ). IsPrefixCount xs (set t.spaces space c.add_block.new.self)) (sym kept)
+          (subst (λ (h : SpaceList). IsPrefixCount counts h) c.deref.ensures.value c.count_blocks.ensures),
+    )

@@ -1,0 +1,23 @@
+use Rattle.std.proofs.Common.{◌≡◌, ◌<◌, ◌∙◌, ap, arith, sym, subst, ◌/◌, ◌%◌, length}
+use Rattle.std.proofs.lemmas.List.{get_or_read}
+use Rattle.tg_word.specs.declared.Place.{Place}
+use Rattle.tg_space.specs.SpaceList.{Holds}
+use Rattle.tg_space.specs.SpaceTable.{SpaceTable, IsSpaceTable, used_of}
+use Rattle.tg_space.proofs.spaces.Spaces.hand_out.Goals as goal
+
+pub returns-clause-free : goal.returns-clause-free
+returns-clause-free c =
+    let inside = c.self.inside in
+    let space = c.args.space in
+    let now = c.args.self.now in
+    let count = c.index-used.result.now in
+    let t : SpaceTable = record { spaces = inside.spaces.items; used = inside.used.items; limits = inside.limits } in
+    let same : t ≡ now = c.self.view_is in
+    let table : IsSpaceTable now = subst (λ (x : SpaceTable). IsSpaceTable x) same c.self.invariant.0 in
+    let counted : length t.used ≡ length t.spaces = c.self.invariant.0.counted in
+    let inside_old : space < length t.spaces = subst (λ (x : SpaceTable). space < length x.spaces) (sym same) c.requires.nursery.1 in
+    let count_is : count ≡ used_of now space =
+    get_or_read t.used space count (omega (arith, counted)) c.index-used.ensures 0 ∙ ap (λ (x : SpaceTable). used_of x space) same in
+    let place : Place = record { space = space; block = count / 64; cell = count % 64 } in
+    let held : Holds now.spaces place = record { space = c.requires.nursery.1; block = omega (arith, c.requires.room, count_is); cell = omega arith } in
+    table.fresh place held c.requires.nursery.0 (omega (arith, count_is))

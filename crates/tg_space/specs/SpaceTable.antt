@@ -1,0 +1,85 @@
+-- What contracts see of `Spaces`: the cells, how many cells of each nursery were handed out, and the limits.
+use Rattle.std.specs.Prelude.{◌≡◌, ℕ, ◌+◌, ◌-◌, ◌*◌, ◌/◌, ◌%◌, ◌^◌, ◌<◌, ◌≤◌, ◌⊎◌, List, [], ◌∷◌, length, replicate, slice_index, slice_set}
+use Rattle.std.specs.List.{All}
+use Rattle.tg_word.specs.declared.Place.{Place}
+use Rattle.tg_block.specs.Cells.{free_cell}
+use Rattle.tg_space.specs.SpaceList.{SpaceList, BlockList, IsSpace, Holds, space_of, cell_at, blocks_before, block_count}
+
+-- how many blocks all spaces, and how many one space may have
+pub record BlockLimits : Type 0 where
+  pub max_blocks : ℕ
+  pub space_blocks : ℕ
+
+abbrev pub limits_of : ℕ → ℕ → BlockLimits
+limits_of max_blocks space_blocks = record { max_blocks = max_blocks; space_blocks = space_blocks }
+
+-- at most 65,536 blocks in all and 1,048,576 in one space, and at least one
+pub record AreLimits (l : BlockLimits) : Type 0 where
+  pub some_blocks : 1 ≤ l.max_blocks
+  pub few_blocks : l.max_blocks ≤ 65536
+  pub some_in_space : 1 ≤ l.space_blocks
+  pub few_in_space : l.space_blocks ≤ 2 ^ 20
+
+pub record SpaceTable : Type 0 where
+  pub spaces : SpaceList
+  pub used : List ℕ
+  pub limits : BlockLimits
+
+-- space 0 is Old, space 1 is Aged, and each other one is a nursery
+abbrev pub IsNursery : SpaceTable → ℕ → Type 0
+IsNursery t space = (2 ≤ space) × (space < length t.spaces)
+
+-- how many cells of a nursery were handed out
+abbrev pub used_of : SpaceTable → ℕ → ℕ
+used_of t space = slice_index t.used space
+
+-- the number of a cell in its space
+abbrev pub number_in_space : Place → ℕ
+number_in_space p = 64 * p.block + p.cell
+
+-- the cell of a space with a number
+abbrev pub place_in_space : ℕ → ℕ → Place
+place_in_space space number = record { space = space; block = number / 64; cell = number % 64 }
+
+-- a cell of a nursery that was handed out; a cell of Old or Aged needs no handing out
+abbrev pub IsHandedOut : SpaceTable → Place → Type 0
+IsHandedOut t p = 2 ≤ p.space → number_in_space p < used_of t p.space
+
+-- what is so of the value of every `Spaces`
+pub record IsSpaceTable (t : SpaceTable) : Type 0 where
+  -- Old, Aged and at least one nursery
+  pub enough : 3 ≤ length t.spaces
+  pub few : length t.spaces ≤ 66
+  pub blocks : All IsSpace t.spaces
+  -- a count for each space, which stays within its cells
+  pub counted : length t.used ≡ length t.spaces
+  pub within : (space : ℕ) → space < length t.spaces → used_of t space ≤ 64 * length (space_of t.spaces space)
+  -- a cell of a nursery that was not handed out is free
+  pub fresh : (p : Place) → Holds t.spaces p → 2 ≤ p.space → used_of t p.space ≤ number_in_space p → cell_at t.spaces p ≡ free_cell
+
+-- the number of blocks before each space, and before the end
+pub record IsPrefixCount (starts : List ℕ) (h : SpaceList) : Type 0 where
+  pub long : length starts ≡ length h + 1
+  pub counts : (space : ℕ) → space ≤ length h → slice_index starts space ≡ blocks_before h space
+
+-- a space gets no more blocks: all spaces together have as many as they may, or this one has
+abbrev pub IsFull : SpaceTable → ℕ → Type 0
+IsFull t space =
+    (t.limits.max_blocks ≤ block_count t.spaces) ⊎ (t.limits.space_blocks ≤ length (space_of t.spaces space))
+
+-- ---- changes
+
+-- no block anywhere
+abbrev pub no_blocks : ℕ → BlockLimits → SpaceTable
+no_blocks workers limits = record { spaces = replicate (workers + 2) []; used = replicate (workers + 2) 0; limits = limits }
+
+abbrev pub with_spaces : SpaceTable → SpaceList → SpaceTable
+with_spaces t h = record { spaces = h; used = t.used; limits = t.limits }
+
+-- one more cell of a nursery is handed out
+abbrev pub with_one_used : SpaceTable → ℕ → SpaceTable
+with_one_used t space = record { spaces = t.spaces; used = slice_set t.used space (used_of t space + 1); limits = t.limits }
+
+-- Old is these blocks, and all other spaces are empty
+abbrev pub with_only_old : SpaceTable → BlockList → SpaceTable
+with_only_old t old = record { spaces = old ∷ replicate (length t.spaces - 1) []; used = replicate (length t.spaces) 0; limits = t.limits }

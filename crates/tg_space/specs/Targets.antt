@@ -1,0 +1,66 @@
+-- What the cells of a heap name, and what the copy of a cell is.
+use Rattle.std.specs.Prelude.{◌≡◌, ℕ, ◌==◌, ◌++◌, if◌then◌else◌, Bool, true, List, [], ◌∷◌, take, drop, map, slice_index, slice_index_or}
+use Rattle.std.specs.List.{flat_map}
+use Rattle.tg_word.specs.declared.Place.{Place}
+use Rattle.tg_word.specs.Word.{place_in, rights_in, word_at}
+use Rattle.tg_block.specs.Cells.{object_tag, chunk_tag}
+use Rattle.tg_space.specs.SpaceList.{SpaceList, flat_of, cells_of}
+use Rattle.tg_space.specs.declared.spaces.Root.{Root}
+use Rattle.tg_space.specs.declared.spaces.Root.TheVariants.{Row}
+
+-- from-space, the spaces whose cells a collection moves, is a test of the space's number; a full one moves all
+abbrev pub every_space : ℕ → Bool
+every_space space = true
+
+-- the words of the cell with a number
+abbrev pub cell_numbered : SpaceList → ℕ → List ℕ
+cell_numbered h number = slice_index_or (cells_of h) number []
+
+-- an object's references and link stand from word 4 on, a chunk's from word 1 on
+abbrev pub first_pointer : ℕ → ℕ
+first_pointer tag = if tag == object_tag then 4 else (if tag == chunk_tag then 1 else 8)
+
+-- the references and the link of a cell
+abbrev pub pointers_of : List ℕ → List ℕ
+pointers_of words = drop (first_pointer (slice_index words 0)) words
+
+-- ---- targets
+
+-- the number of the cell in from-space that a word names, if it names one
+abbrev pub target_in : (ℕ → Bool) → SpaceList → ℕ → List ℕ
+target_in from h word =
+    if word == 0 then []
+    else (if from (place_in word).space then flat_of h (place_in word) ∷ [] else [])
+
+-- the numbers of the cells in from-space that these words name
+abbrev pub named_by : (ℕ → Bool) → SpaceList → List ℕ → List ℕ
+named_by from h words = flat_map (target_in from h) words
+
+-- the targets of the cell with a number
+abbrev pub targets_of : (ℕ → Bool) → SpaceList → ℕ → List ℕ
+targets_of from h number = named_by from h (pointers_of (cell_numbered h number))
+
+-- the targets of a root: a row whose first cell is in from-space has that cell
+abbrev pub root_targets_of : (ℕ → Bool) → SpaceList → Root → List ℕ
+root_targets_of from h (Row place) = if from place.space then flat_of h place ∷ [] else []
+
+-- the targets of all roots
+abbrev pub all_root_targets : (ℕ → Bool) → SpaceList → List Root → List ℕ
+all_root_targets from h roots = flat_map (root_targets_of from h) roots
+
+-- ---- images under a map from the cells of from-space to new places
+
+-- the word with its place replaced by the new place of the cell that it names, where that cell is in from-space
+abbrev pub moved_word : (ℕ → Bool) → SpaceList → (ℕ → Place) → ℕ → ℕ
+moved_word from h to word =
+    if word == 0 then 0
+    else (if from (place_in word).space then word_at (rights_in word) (to (flat_of h (place_in word))) else word)
+
+-- the copy of a cell: its references and its link are moved, and all else is equal
+abbrev pub image_of : (ℕ → Bool) → SpaceList → (ℕ → Place) → List ℕ → List ℕ
+image_of from h to words =
+    let first = first_pointer (slice_index words 0) in take first words ++ map (moved_word from h to) (drop first words)
+
+-- these words are the copy of the cell with a number
+abbrev pub IsImage : (ℕ → Bool) → SpaceList → (ℕ → Place) → ℕ → List ℕ → Type 0
+IsImage from h to number words = words ≡ image_of from h to (cell_numbered h number)

@@ -1,0 +1,41 @@
+//! Laws of the definitions: no code, each a function whose contract is the law.
+ghost use Rattle.std.specs.Prelude.{◌≡◌, ◌≢◌, ◌<◌, ◌↔◌, ◌⊎◌, ℕ, [], List, length, slice_index_or, slice_set};
+ghost use Rattle.std.specs.List.{All, Contains};
+ghost use Rattle.tg_block.specs.Cells.{free_cell};
+ghost use Rattle.tg_word.specs.declared.Place.{Place};
+ghost use Rattle.tg_space.specs.SpaceList.{Holds, IsSpaceList, SpaceList, cell_at, cells_of, flat_of, with_block, with_word_at};
+ghost use Rattle.tg_space.specs.Closure.{IsComplete, IsInClosure, IsTraced};
+ghost use Rattle.tg_space.specs.Soundness.{AreSound, IsPointer};
+ghost use Rattle.tg_space.specs.Targets.{cell_numbered, pointers_of};
+ghost use Rattle.tg_space.specs.declared.spaces.Root.{Root};
+
+/// The law of tracing: a list of cells, each of which is a root or a target of an earlier one, and which holds the
+/// roots and the targets of its cells, is exactly the closure of the roots.
+pub fn traced_and_complete_is_the_closure()
+    ensures { (roots : List ℕ) (targets : ℕ → List ℕ) (won : List ℕ) → IsTraced roots targets won → IsComplete roots targets won → (c : ℕ) → Contains won c ↔ IsInClosure roots targets c }
+{}
+
+/// A place names one cell: held cells have numbers below the number of all cells, each its own, and the number names
+/// the same words as the place.
+pub fn places_name_cells()
+    ensures inside { (h : SpaceList) → IsSpaceList h → (p : Place) → Holds h p → flat_of h p < length (cells_of h) }
+    ensures apart { (h : SpaceList) → IsSpaceList h → (p q : Place) → Holds h p → Holds h q → flat_of h p ≡ flat_of h q → p ≡ q }
+    ensures words { (h : SpaceList) → IsSpaceList h → (p : Place) → Holds h p → cell_numbered h (flat_of h p) ≡ cell_at h p }
+{}
+
+/// Setting a word changes one cell, and that in one word.
+pub fn writes_change_one_word()
+    ensures changed { (h : SpaceList) (p : Place) (i word : ℕ) → IsSpaceList h → Holds h p → cell_at (with_word_at h p i word) p ≡ slice_set (cell_at h p) i word }
+    ensures others { (h : SpaceList) (p q : Place) (i word : ℕ) → Holds h p → q ≢ p → cell_at (with_word_at h p i word) q ≡ cell_at h q }
+    ensures places { (h : SpaceList) (p q : Place) (i word : ℕ) → Holds h p → Holds (with_word_at h p i word) q ↔ Holds h q }
+{}
+
+/// A new block adds free cells, and changes no other cell.
+pub fn new_blocks_are_free()
+    ensures { (h : SpaceList) (space : ℕ) (p : Place) → space < length h → Holds (with_block h space) p → (Holds h p × (cell_at (with_block h space) p ≡ cell_at h p)) ⊎ (cell_at (with_block h space) p ≡ free_cell) }
+{}
+
+/// In sound spaces each reference and link is empty, or names a held cell that is not free.
+pub fn sound_cells_name_used_cells()
+    ensures { (h : SpaceList) (roots : List Root) → AreSound h roots → IsSpaceList h → (number : ℕ) → number < length (cells_of h) → All (IsPointer h) (pointers_of (cell_numbered h number)) }
+{}

@@ -1,0 +1,40 @@
+//! Spaces of blocks of cells: the ground that the heap's graph and its collections stand on.
+//!
+//! A heap is a list of spaces. Space 0 is Old, space 1 is Aged, and space 2 + k is the nursery of worker k. A space is
+//! a list of blocks, which only grows, until a collection takes all its blocks away; a block is 64 cells of 8 words.
+//!
+//! ```text
+//!   space 0  Old         [block 0] [block 1] [block 2]
+//!   space 1  Aged        [block 0]
+//!   space 2  nursery 0   [block 0] [bl|ck 1]              | `used`: the cells after it are free
+//!   space 3  nursery 1   [blo|k 0]
+//! ```
+//!
+//! A place names a cell by its space, its block and its number in the block. Its flat number counts the cells of Old,
+//! then Aged, then the nurseries, space by space and block by block, 64 a block. Both name the same cells, and a flat
+//! number takes one sum to find: the number of blocks before each space is kept.
+//!
+//! The cells of a nursery are handed out one after the other. Those that were not handed out are free, so a cell that
+//! is handed out is always a free one. A nursery grows by one block at a time, within the `Limits`.
+//!
+//! What contracts see of `Spaces` is a record: the words of all cells as a list of lists, how many cells of each
+//! nursery were handed out, and the limits.
+//!
+//! **Who may call.** The heap's graph reads and writes words and allocates; a collection only reads, builds new
+//! blocks in a `Space` of its own, and hands them over by `adopt`. So a collection that is refused leaves all as it
+//! was. Only `new`, `add_block`, `adopt` and `Space::add_block` take memory.
+//!
+//! **What stands here for several crates above**, as definitions in `specs/`: the targets of cells and roots, the
+//! closure of the roots as the least set, the image of a cell under a map to new places, which spaces and roots are
+//! sound, and what a full collection leaves. The module `laws` says what follows from them, above all the law of
+//! tracing: what was traced from the roots, and is complete, is exactly the closure.
+#![tactic(auto)]
+
+pub use limits::Limits;
+pub use space::Space;
+pub use spaces::{Adoption, AllocateFault, Kind, Root, Spaces, first_pointer};
+
+pub mod laws;
+mod limits;
+mod space;
+mod spaces;

@@ -1,0 +1,104 @@
+//! One space.
+ghost use Rattle.std.specs.Prelude.{◌≡◌, ◌<◌, ◌≤◌, ◌^◌, ◌++◌, ◌∷◌, [], length, slice_index, slice_index_or, slice_set, OnOk, OnErr};
+ghost use Rattle.tg_block.specs.Cells.{cell_of, with_word, free_block};
+ghost use Rattle.tg_space.specs.SpaceList.{IsSpace};
+
+use std::alloc::{AllocError, Global};
+use std::marker::Model;
+use tg_block::{Block, WORDS};
+
+/// The blocks of one space, at most 1,048,576. Contracts see the list of its blocks, each a list of 64 cells of 8 words.
+#[derive(Drop)]
+pub struct Space {
+    blocks: Vec<Block>,
+}
+
+impl Model for Space {
+    ghost use Rattle.tg_space.specs.SpaceList.{BlockList, IsSpace};
+
+    ghost Value = { BlockList };
+
+    ghost view = { λ s. s.blocks.items };
+
+    ghost invariant = { λ s. IsSpace s.blocks.items };
+}
+
+impl Space {
+    /// A space with no block.
+    pub fn new(alloc: Global) -> Self
+        ensures { result ≡ [] }
+    {
+        Space {
+            blocks: Vec::new(alloc),
+        }
+    }
+
+    /// How many blocks there are.
+    #[inline]
+    pub fn len(&self) -> u64
+        ensures blocks { result ≡ length self.now }
+        ensures few { result ≤ 2 ^ 20 }
+    {
+        self.blocks.len() as u64
+    }
+
+    /// A word of a cell of a block.
+    #[inline]
+    pub fn word(&self, block: u64, cell: u64, i: usize) -> u64
+        requires block_inside { block < length self.now }
+        requires cell_inside { cell < 64 }
+        requires word_inside { i < 8 }
+        ensures { result ≡ slice_index (cell_of (slice_index_or self.now block []) cell) i }
+    {
+        self.blocks[block as usize].word(cell as usize, i)
+    }
+
+    /// The words of a cell of a block.
+    #[inline]
+    pub fn cell(&self, block: u64, cell: u64) -> [u64; WORDS]
+        requires block_inside { block < length self.now }
+        requires cell_inside { cell < 64 }
+        ensures { result ≡ cell_of (slice_index_or self.now block []) cell }
+    {
+        self.blocks[block as usize].cell(cell as usize)
+    }
+
+    /// Sets a word of a cell of a block.
+    #[inline]
+    pub fn set_word(&mut self, block: u64, cell: u64, i: usize, word: u64)
+        requires block_inside { block < length self.old }
+        requires cell_inside { cell < 64 }
+        requires word_inside { i < 8 }
+        ensures changed { self.new ≡ slice_set self.old block (with_word (slice_index_or self.old block []) cell i word) }
+        ensures whole { IsSpace self.new }
+    {
+        let block = &mut self.blocks[block as usize];
+        block.set_word(cell as usize, i, word);
+    }
+
+    /// Sets the words of a cell of a block.
+    #[inline]
+    pub fn set_cell(&mut self, block: u64, cell: u64, words: [u64; WORDS])
+        requires block_inside { block < length self.old }
+        requires cell_inside { cell < 64 }
+        ensures changed { self.new ≡ slice_set self.old block (slice_set (slice_index_or self.old block []) cell words) }
+        ensures whole { IsSpace self.new }
+    {
+        let block = &mut self.blocks[block as usize];
+        block.set_cell(cell as usize, words);
+    }
+
+    /// Adds a block of free cells at the end.
+    ///
+    /// It is refused only where memory was; then nothing is changed.
+    pub fn add_block(&mut self, alloc: Global) -> Result<(), AllocError>
+        requires { length self.old < 2 ^ 20 }
+        ensures added { OnOk result (self.new ≡ self.old ++ free_block ∷ []) }
+        ensures whole { OnOk result (IsSpace self.new) }
+        ensures refused { OnErr result (self.new ≡ self.old) }
+    {
+        let block = Block::new(alloc)?;
+        self.blocks.push(block)?;
+        Ok(())
+    }
+}

@@ -1,0 +1,346 @@
+//! All spaces of a heap.
+ghost use Rattle.std.specs.Prelude.{◌≡◌, ◌<◌, ◌≤◌, ◌+◌, ◌*◌, ◌^◌, ◌∷◌, ◌↔◌, ℕ, [], length, replicate, slice_index, slice_index_or, slice_set, Err, IfOk, OnOk, OnErr, IsOk, IsTrue};
+ghost use Rattle.tg_block.specs.Cells.{free_cell, cell_of};
+ghost use Rattle.tg_space.specs.SpaceList.{Holds, IsSpace, IsSpaceList, block_count, blocks_before, cell_at, cells_of, flat_of, space_of, with_block, with_word_at};
+ghost use Rattle.tg_space.specs.Targets.{first_pointer as first_pointer_of};
+ghost use Rattle.tg_space.specs.SpaceTable.{BlockLimits, IsFull, IsHandedOut, IsNursery, IsPrefixCount, IsSpaceTable, no_blocks, place_in_space, used_of, with_one_used, with_only_old, with_spaces};
+
+use crate::limits::Limits;
+use crate::space::Space;
+use std::alloc::{AllocError, Global};
+use std::marker::Model;
+use tg_block::{CHUNK_TAG, OBJECT_TAG, WORDS};
+use tg_word::Place;
+
+/// Which cells a collection moves.
+#[derive(Clone, Copy, PartialEq, Eq, Debug)]
+pub enum Kind {
+    /// All cells, to Old.
+    Full,
+}
+
+/// What a collection starts from.
+#[derive(Clone, Copy, PartialEq, Eq, Debug)]
+pub enum Root {
+    /// The row whose object is at a place.
+    Row(Place),
+}
+
+/// Why a space got no block.
+#[derive(Clone, Copy, PartialEq, Eq, Debug)]
+pub enum AllocateFault {
+    /// Memory for a growth was refused.
+    OutOfMemory,
+    /// All spaces together have as many blocks as they may, or this one has.
+    HeapFull,
+}
+
+/// The blocks that a collection made, in order.
+#[derive(Drop)]
+pub struct Adoption {
+    /// The new blocks of Aged.
+    pub aged: Space,
+    /// The new blocks of Old.
+    pub old: Space,
+}
+
+/// All spaces of a heap: Old, Aged and the nurseries.
+#[derive(Drop)]
+pub struct Spaces {
+    alloc: Global,
+    spaces: Vec<Space>,
+    // How many cells of each space were handed out; 0 for Old and Aged.
+    used: Vec<u64>,
+    // How many blocks stand before each space, and at last how many there are.
+    starts: Vec<u64>,
+    limits: Limits,
+}
+
+impl Model for Spaces {
+    ghost use Rattle.tg_space.specs.SpaceTable.{SpaceTable, IsSpaceTable, IsPrefixCount};
+
+    ghost Value = { SpaceTable };
+
+    ghost view = { λ a. record { spaces = a.spaces.items; used = a.used.items; limits = a.limits } };
+
+    ghost invariant = { λ a. IsSpaceTable (record { spaces = a.spaces.items; used = a.used.items; limits = a.limits }) × IsPrefixCount a.starts.items a.spaces.items };
+}
+
+impl Spaces {
+    /// The spaces of a heap with as many workers, from 1 to 64; no space has a block.
+    ///
+    /// It is refused only where memory was.
+    pub fn new(alloc: Global, workers: u64, limits: Limits) -> Result<Spaces, AllocError>
+        requires some { 1 ≤ workers }
+        requires few { workers ≤ 64 }
+        ensures { IfOk result (λ spaces. spaces ≡ no_blocks workers limits) }
+    {
+        let count = workers as usize + 2;
+        let spaces = empty_spaces(alloc, count)?;
+        let used = vec![in alloc; 0; count]?;
+        let starts = vec![in alloc; 0; count + 1]?;
+        Ok(Spaces {
+            alloc,
+            spaces,
+            used,
+            starts,
+            limits,
+        })
+    }
+
+    /// How many blocks the heap may have.
+    pub fn limits(&self) -> Limits
+        ensures { result ≡ self.now.limits }
+    {
+        self.limits
+    }
+
+    /// How many nurseries there are, one for each worker: from 1 to 64.
+    pub fn nurseries(&self) -> u64
+        ensures spaces { result + 2 ≡ length self.now.spaces }
+        ensures table { IsSpaceTable self.now }
+    {
+        self.spaces.len() as u64 - 2
+    }
+
+    /// How many blocks a space has.
+    #[inline]
+    pub fn len(&self, space: u64) -> u64
+        requires { space < length self.now.spaces }
+        ensures blocks { result ≡ length (space_of self.now.spaces space) }
+        ensures few { result ≤ 2 ^ 20 }
+    {
+        self.spaces[space as usize].len()
+    }
+
+    /// How many blocks all spaces have.
+    pub fn blocks(&self) -> u64
+        ensures blocks { result ≡ block_count self.now.spaces }
+        ensures few { result ≤ 66 * 2 ^ 20 }
+        ensures table { IsSpaceTable self.now }
+    {
+        self.starts[self.spaces.len()]
+    }
+
+    /// How many cells of a nursery were handed out.
+    #[inline]
+    pub fn used(&self, space: u64) -> u64
+        requires { space < length self.now.spaces }
+        ensures used { result ≡ used_of self.now space }
+        ensures within { result ≤ 64 * length (space_of self.now.spaces space) }
+    {
+        self.used[space as usize]
+    }
+
+    /// Whether a place names a cell.
+    #[inline]
+    pub fn holds(&self, place: Place) -> bool
+        ensures { IsTrue result ↔ Holds self.now.spaces place }
+    {
+        place.space < self.spaces.len() as u64
+            && place.block < self.spaces[place.space as usize].len()
+            && place.cell < 64
+    }
+
+    /// A word of a cell.
+    #[inline]
+    pub fn read(&self, place: Place, i: usize) -> u64
+        requires held { Holds self.now.spaces place }
+        requires inside { i < 8 }
+        ensures { result ≡ slice_index (cell_at self.now.spaces place) i }
+    {
+        self.spaces[place.space as usize].word(place.block, place.cell, i)
+    }
+
+    /// Sets a word of a cell. Where the cell is in a nursery, it was handed out.
+    #[inline]
+    pub fn write(&mut self, place: Place, i: usize, word: u64)
+        requires held { Holds self.old.spaces place }
+        requires inside { i < 8 }
+        requires handed_out { IsHandedOut self.old place }
+        ensures { self.new ≡ with_spaces self.old (with_word_at self.old.spaces place i word) }
+    {
+        let space = &mut self.spaces[place.space as usize];
+        space.set_word(place.block, place.cell, i, word);
+    }
+
+    /// The words of a cell.
+    #[inline]
+    pub fn cell(&self, place: Place) -> [u64; WORDS]
+        requires { Holds self.now.spaces place }
+        ensures words { result ≡ cell_at self.now.spaces place }
+        ensures numbered { result ≡ slice_index_or (cells_of self.now.spaces) (flat_of self.now.spaces place) [] }
+        ensures whole { length result ≡ 8 }
+    {
+        self.spaces[place.space as usize].cell(place.block, place.cell)
+    }
+
+    /// How many cells there are.
+    pub fn cells(&self) -> u64
+        ensures cells { result ≡ length (cells_of self.now.spaces) }
+        ensures few { result ≤ 66 * 2 ^ 26 }
+        ensures table { IsSpaceTable self.now }
+    {
+        64 * self.blocks()
+    }
+
+    /// The number of a cell: the cells of Old come first, then those of Aged and of the nurseries, each space block
+    /// by block. It takes the same short time in every heap.
+    #[inline]
+    pub fn flat(&self, place: Place) -> u64
+        requires { Holds self.now.spaces place }
+        ensures flat { result ≡ flat_of self.now.spaces place }
+        ensures inside { result < length (cells_of self.now.spaces) }
+    {
+        64 * (self.starts[place.space as usize] + place.block) + place.cell
+    }
+
+    /// The place of the cell with a number.
+    pub fn unflat(&self, number: u64) -> Place
+        requires { number < length (cells_of self.now.spaces) }
+        ensures held { Holds self.now.spaces result }
+        ensures flat { flat_of self.now.spaces result ≡ number }
+    {
+        let block = number / 64;
+        let mut space: usize = 0;
+        while self.starts[space + 1] <= block {
+            space += 1;
+        }
+        Place {
+            space: space as u64,
+            block: block - self.starts[space],
+            cell: number % 64,
+        }
+    }
+
+    /// The words of the cell with a number.
+    pub fn numbered_cell(&self, number: u64) -> [u64; WORDS]
+        requires { number < length (cells_of self.now.spaces) }
+        ensures words { result ≡ slice_index_or (cells_of self.now.spaces) number [] }
+        ensures whole { length result ≡ 8 }
+    {
+        self.cell(self.unflat(number))
+    }
+
+    /// Hands out the next cell of a nursery, which is free.
+    ///
+    /// The nursery has a cell that was not handed out: `used` is below 64 times `len`.
+    pub fn hand_out(&mut self, space: u64) -> Place
+        requires nursery { IsNursery self.old space }
+        requires room { used_of self.old space < 64 * length (space_of self.old.spaces space) }
+        ensures place { result ≡ place_in_space space (used_of self.old space) }
+        ensures held { Holds self.old.spaces result }
+        ensures free { cell_at self.old.spaces result ≡ free_cell }
+        ensures counted { self.new ≡ with_one_used self.old space }
+    {
+        let used = self.used[space as usize];
+        self.used[space as usize] = used + 1;
+        Place {
+            space,
+            block: used / 64,
+            cell: used % 64,
+        }
+    }
+
+    /// Whether a space gets no more blocks: all spaces together have `max_blocks` or more, or it has `space_blocks`.
+    pub fn is_full(&self, space: u64) -> bool
+        requires { space < length self.now.spaces }
+        ensures { IsTrue result ↔ IsFull self.now space }
+    {
+        self.blocks() >= self.limits.max_blocks() || self.len(space) >= self.limits.space_blocks()
+    }
+
+    /// Adds a block of free cells at the end of a space.
+    ///
+    /// It is refused where memory was, and where the space is full; then nothing is changed.
+    pub fn add_block(&mut self, space: u64) -> Result<(), AllocateFault>
+        requires { space < length self.old.spaces }
+        ensures added { OnOk result (self.new ≡ with_spaces self.old (with_block self.old.spaces space)) }
+        ensures refused { OnErr result (self.new ≡ self.old) }
+        ensures full { (result ≡ Err AllocateFault.HeapFull) ↔ IsFull self.old space }
+    {
+        if self.is_full(space) {
+            return Err(AllocateFault::HeapFull);
+        }
+        let grown = &mut self.spaces[space as usize];
+        let Ok(()) = grown.add_block(self.alloc) else {
+            return Err(AllocateFault::OutOfMemory);
+        };
+        count_blocks(&self.spaces, &mut self.starts);
+        Ok(())
+    }
+
+    /// Puts the blocks that a collection made in the place of those that it emptied.
+    ///
+    /// After a full one Old is the new blocks, there are none of Aged, and every other space has no block. It is
+    /// refused only where memory was, and never after a full collection; then nothing is changed.
+    pub fn adopt(&mut self, kind: Kind, adoption: Adoption) -> Result<(), AllocError>
+        requires { adoption.aged ≡ [] }
+        ensures adopted { OnOk result (self.new ≡ with_only_old self.old adoption.old) }
+        ensures refused { OnErr result (self.new ≡ self.old) }
+        ensures full { kind ≡ Kind.Full → IsOk result }
+    {
+        match kind {
+            Kind::Full => self.keep_only_old(adoption.old),
+        }
+        Ok(())
+    }
+
+    // Old is these blocks, and every other space has none.
+    fn keep_only_old(&mut self, old: Space)
+        ensures { self.new ≡ with_only_old self.old old }
+    {
+        empty_all(self.alloc, &mut self.spaces);
+        self.spaces[0] = old;
+        self.used.fill(0);
+        count_blocks(&self.spaces, &mut self.starts);
+    }
+}
+
+// As many spaces with no block.
+fn empty_spaces(alloc: Global, count: usize) -> Result<Vec<Space>, AllocError>
+    ensures { IfOk result (λ spaces. spaces.items ≡ replicate count []) }
+{
+    let mut spaces = Vec::with_capacity(alloc, count)?;
+    for _ in 0..count {
+        spaces.push(Space::new(alloc))?;
+    }
+    Ok(spaces)
+}
+
+// Takes every block out of these spaces.
+fn empty_all(alloc: Global, spaces: &mut [Space])
+    ensures { spaces.new ≡ replicate (length spaces.old) [] }
+{
+    for space in spaces.iter_mut() {
+        *space = Space::new(alloc);
+    }
+}
+
+// Counts the blocks before each space, and at last all of them.
+fn count_blocks(spaces: &[Space], starts: &mut [u64])
+    requires few { length spaces.now ≤ 66 }
+    requires room { length starts.old ≡ length spaces.now + 1 }
+    ensures { IsPrefixCount starts.new spaces.now }
+{
+    let mut before = 0;
+    starts[0] = 0;
+    for (i, space) in spaces.iter().enumerate() {
+        before += space.len();
+        starts[i + 1] = before;
+    }
+}
+
+/// The first word of a cell with this tag that may name a cell: 4 of an object, 1 of a chunk, and 8, past the last,
+/// of any other.
+#[inline]
+pub fn first_pointer(tag: u64) -> usize
+    ensures word { result ≡ first_pointer_of tag }
+    ensures inside { result ≤ 8 }
+{
+    match tag {
+        OBJECT_TAG => 4,
+        CHUNK_TAG => 1,
+        _ => WORDS,
+    }
+}
