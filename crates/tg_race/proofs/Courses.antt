@@ -16,7 +16,7 @@ use Rattle.tg_race.specs.Race.{Race, empty, past, with_chunk, with_seen, with_wo
 use Rattle.tg_race.specs.Conditions.{can_use}
 use Rattle.tg_race.specs.Course.{Net, Course, counts_of, chunk_has, pair_has, is_target, record_at, word_at, is_within, can_win, can, can_happen, happens, course_after, starting, IsEarned, AreEarned, KeepsRule}
 use Rattle.tg_race.proofs.Parts.{Parts, rule_of, parts_of}
-use Rattle.tg_race.proofs.Tests.{none_past, none_open_aged, none_open_old, usable, parted}
+use Rattle.tg_race.proofs.Needs.{none_past, none_open_aged, none_open_old, usable, parted}
 use Rattle.tg_race.proofs.Steps.{claim_keeps, claim_aged_keeps, claim_old_keeps, win_keeps, look_keeps, split_keeps, join_keeps, starts}
 
 -- `more` has all that `less` has

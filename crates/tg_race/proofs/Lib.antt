@@ -1,7 +1,7 @@
 pub mod PlaceWords
 pub mod Sums
 pub mod Parts
-pub mod Tests
+pub mod Needs
 pub mod Steps
 pub mod Courses
 pub mod Closure

@@ -89,11 +89,11 @@ impl World {
         }
     }
 
-    /// The record of a helper; `None` if no helper has this number.
-    pub fn record_of(&self, helper: usize) -> Option<&Record>
-        ensures { option_copied result ≡ slice_get self.now.race.records helper }
+    /// The record with this number; `None` if no helper has it.
+    pub fn record_of(&self, number: usize) -> Option<&Record>
+        ensures { option_copied result ≡ slice_get self.now.race.records number }
     {
-        self.records.get(helper)
+        self.records.get(number)
     }
 
     /// The words of the cells: 0, or the reference with no rights to the cell's place.

@@ -1,7 +1,7 @@
 use Rattle.std.proofs.Common.{arith, ◌≡◌, ◌∙◌, sym, ap, subst, Bool, true}
 use Rattle.tg_race.specs.Conditions.{can_claim_block}
 use Rattle.tg_race.specs.Seats.{Seated, Board}
-use Rattle.tg_race.proofs.Tests.{none_open_aged, none_open_old}
+use Rattle.tg_race.proofs.Needs.{none_open_aged, none_open_old}
 use Rattle.tg_race.proofs.Parts.{open_aged, open_old}
 use Rattle.tg_race.proofs.Allowed.{draws_aged, draws_old}
 use Rattle.tg_race.proofs.helper.Helper.claim_block.Goals as goal

@@ -7,7 +7,7 @@ use Rattle.tg_race.specs.Seats.{Seated, Board}
 use Rattle.atomic_table.specs.Table.{Me}
 use Rattle.tg_race.specs.Race.{with_won}
 use Rattle.tg_race.proofs.Parts.{claims_of}
-use Rattle.tg_race.proofs.Tests.{usable}
+use Rattle.tg_race.proofs.Needs.{usable}
 use Rattle.tg_race.proofs.Allowed.{tries, won_is}
 use Rattle.tg_race.proofs.helper.Helper.claim_cell.Goals as goal
 

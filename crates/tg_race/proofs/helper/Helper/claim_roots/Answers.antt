@@ -1,6 +1,6 @@
 use Rattle.std.proofs.Common.{arith, ◌∙◌, sym, ap}
 use Rattle.tg_race.specs.Seats.{Seated, Board}
-use Rattle.tg_race.proofs.Tests.{none_past}
+use Rattle.tg_race.proofs.Needs.{none_past}
 use Rattle.tg_race.proofs.Allowed.{draws_chunk}
 use Rattle.tg_race.proofs.helper.Helper.claim_roots.Goals as goal
 

@@ -2,7 +2,7 @@ use Rattle.std.proofs.Common.{arith, ◌≡◌, ◌∙◌, sym, ap}
 use Rattle.tg_race.specs.declared.record.Record.{Record}
 use Rattle.tg_race.specs.Race.{empty}
 use Rattle.tg_race.specs.Seats.{Seated, Board}
-use Rattle.tg_race.proofs.Tests.{parted}
+use Rattle.tg_race.proofs.Needs.{parted}
 use Rattle.tg_race.proofs.Allowed.{cuts}
 use Rattle.tg_race.proofs.helper.Helper.split.Goals as goal
 
