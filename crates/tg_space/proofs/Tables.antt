@@ -166,6 +166,25 @@ module _ (h : SpaceList) (space : ℕ) (low : space < length h) where
             ap (λ (b : BlockList). cell_of (get_or b p.block []) p.cell) kept,
           )
 
+  -- a cell of the heap before stays as it was
+  pub kept-with_block : (p : Place) → Holds h p → Holds (with_block h space) p × (cell_at (with_block h space) p ≡ cell_at h p)
+  kept-with_block p holds = by_space (cases_eq p.space space)
+    where
+      by_space : (p.space ≡ space) ⊎ (p.space ≢ space) → Holds (with_block h space) p × (cell_at (with_block h space) p ≡ cell_at h p)
+      by_space (inl same) =
+          let here : space_of (with_block h space) p.space ≡ grown = ap (λ (k : ℕ). space_of (with_block h space) k) same ∙ space_of-with_block in
+          let below : p.block < length (space_of h space) = omega (arith, holds.block, ap (λ (k : ℕ). length (space_of h k)) same) in (
+            record { space = omega (arith, holds.space, length-set h space grown); block = omega (arith, holds.block, length-with_block p.space); cell = holds.cell },
+            ap (λ (b : BlockList). cell_of (get_or b p.block []) p.cell) here
+                ∙ ap (λ (b : List (List ℕ)). cell_of b p.cell) (get_or_append_left (space_of h space) (free_block ∷ []) [] p.block below)
+                ∙ ap (λ (k : ℕ). cell_of (block_of h k p.block) p.cell) (sym same),
+          )
+      by_space (inr other) =
+          let kept : space_of (with_block h space) p.space ≡ space_of h p.space = get_or-set_other h space p.space grown [] other in (
+            record { space = omega (arith, holds.space, length-set h space grown); block = omega (arith, holds.block, ap (λ (b : BlockList). length b) kept); cell = holds.cell },
+            ap (λ (b : BlockList). cell_of (get_or b p.block []) p.cell) kept,
+          )
+
 pub table_grown : (t : SpaceTable) (space : ℕ) → IsSpaceTable t → space < length t.spaces → All IsSpace (with_block t.spaces space) → IsSpaceTable (with_spaces t (with_block t.spaces space))
 table_grown t space is low whole =
     let long : length (with_block t.spaces space) ≡ length t.spaces = length-set t.spaces space (grown t.spaces space low) in

@@ -32,7 +32,8 @@ pub fn writes_change_one_word()
 
 /// A new block adds free cells, and changes no other cell.
 pub fn new_blocks_are_free()
-    ensures { (h : SpaceList) (space : ℕ) (p : Place) → space < length h → Holds (with_block h space) p → (Holds h p × (cell_at (with_block h space) p ≡ cell_at h p)) ⊎ (cell_at (with_block h space) p ≡ free_cell) }
+    ensures kept { (h : SpaceList) (space : ℕ) (p : Place) → space < length h → Holds h p → Holds (with_block h space) p × (cell_at (with_block h space) p ≡ cell_at h p) }
+    ensures added { (h : SpaceList) (space : ℕ) (p : Place) → space < length h → Holds (with_block h space) p → (Holds h p × (cell_at (with_block h space) p ≡ cell_at h p)) ⊎ (cell_at (with_block h space) p ≡ free_cell) }
 {}
 
 /// In sound spaces each reference and link is empty, or names a held cell that is not free.

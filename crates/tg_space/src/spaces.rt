@@ -128,6 +128,7 @@ impl Spaces {
         requires { space < length self.now.spaces }
         ensures used { result ≡ used_of self.now space }
         ensures within { result ≤ 64 * length (space_of self.now.spaces space) }
+        ensures table { IsSpaceTable self.now }
     {
         self.used[space as usize]
     }
