@@ -6,7 +6,7 @@ use tg_rights::Rights;
 
 /// Rights of one vertex over another. Several triples of one pair give their rights together, and the rights of a
 /// triple may be none.
-#[derive(Clone, Copy, Debug)]
+#[derive(Clone, Copy, PartialEq, Eq, Debug)]
 pub struct Triple {
     /// The vertex that holds the rights.
     pub from: u64,
