@@ -1,7 +1,8 @@
 //! Laws of histories, each over every graph and every list of entries. A function here does nothing: what it ensures is
 //! the law.
 //!
-//! The proofs of the crates above cite the lemmas behind the laws, which stand in `proofs/HistoryLaws`.
+//! The proofs of the crates above cite the lemmas behind the laws, which stand in `proofs/HistoryLaws` (histories cut,
+//! joined and extended, what they keep and what they leave) and `proofs/Decided`.
 ghost use Rattle.std.specs.Prelude.{◌≡◌, ◌↔◌, ◌⊎◌, ◌<◌, ◌≤◌, ℕ, List, [], ◌∷◌, ◌++◌, take, slice_get, Some, IfSome};
 ghost use Rattle.tg_model.specs.Graph.{ProtectionGraph, IsReachable, IsSound};
 ghost use Rattle.tg_model.specs.Opened.{Plan, IsPlan, ValueFits, start_of};
@@ -80,9 +81,10 @@ pub fn the_unreachable_stay()
         (graph_after g es).value u ≡ g.value u }
 {}
 
-/// A history with a first bad place isn't legal, and has no other first bad place.
-pub fn first_bad_place_is_the_only_one()
-    ensures not_legal { (g : ProtectionGraph) (es : List Entry) (at : ℕ) → IsFirstBad g es at → ¬ IsLegal g es }
+/// A history is legal or has a first bad place. One with a first bad place isn't legal, and has no other.
+pub fn legal_or_one_first_bad_place()
+    ensures either { (g : ProtectionGraph) (es : List Entry) → IsLegal g es ⊎ ((at : ℕ) × IsFirstBad g es at) }
+    ensures not_both { (g : ProtectionGraph) (es : List Entry) (at : ℕ) → IsFirstBad g es at → ¬ IsLegal g es }
     ensures only { (g : ProtectionGraph) (es : List Entry) (at other : ℕ) →
         IsFirstBad g es at → IsFirstBad g es other → at ≡ other }
 {}

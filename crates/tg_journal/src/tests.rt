@@ -1,4 +1,4 @@
-//! The journal of the script `grant_then_denied_write`, written by hand, and the same with one reply altered.
+//! The journal of the script `grant_then_denied_write`, written by hand, as it is and damaged.
 
 use crate::{AuditFault, Entry, Journal, audit};
 use std::alloc::{AllocError, Global};
@@ -35,64 +35,143 @@ fn opening(alloc: Global) -> Result<Opening, Fail> {
     Ok(Opening::new(2, edges, values, 8)?)
 }
 
-fn enter(journal: &mut Journal, worker: u64, deed: Deed, reply: Reply) -> Result<(), AllocError> {
-    journal.reserve()?;
-    journal.push(Entry {
-        worker,
-        deed,
-        reply,
-    });
-    Ok(())
+// Worker 0 makes a cell of 0.
+fn created(alloc: Global) -> Result<Entry, Fail> {
+    Ok(Entry {
+        worker: 0,
+        deed: Deed::Create {
+            label: label("rw")?,
+            law: Law::Cell,
+            state: number(alloc, 0)?,
+        },
+        reply: Reply::Name(2),
+    })
 }
 
-// Worker 0 makes a cell of 0, and grants worker 1 the right to read it. Worker 1 reads it, and may not write it.
-// The number that worker 1 is said to have read is handed in.
-fn grant_then_denied_write(alloc: Global, seen: u64) -> Result<Journal, Fail> {
-    let mut journal = Journal::new(alloc);
-    let created = Deed::Create {
-        label: label("rw")?,
-        law: Law::Cell,
-        state: number(alloc, 0)?,
-    };
-    enter(&mut journal, 0, created, Reply::Name(2))?;
-    let granted = Command::Grant {
+// Worker 0 grants worker 1 the right to read it.
+fn granted() -> Result<Entry, Fail> {
+    let command = Command::Grant {
         via: 1,
         target: 2,
         rights: label("r")?,
     };
-    enter(&mut journal, 0, Deed::Plain(granted), Reply::Done)?;
-    let read = Command::Read { target: 2 };
-    let reply = Reply::Values(number(alloc, seen)?);
-    enter(&mut journal, 1, Deed::Plain(read), reply)?;
-    let write = Command::Write {
+    Ok(Entry {
+        worker: 0,
+        deed: Deed::Plain(command),
+        reply: Reply::Done,
+    })
+}
+
+// Worker 1 reads it.
+fn read(alloc: Global, state: u64) -> Result<Entry, Fail> {
+    Ok(Entry {
+        worker: 1,
+        deed: Deed::Plain(Command::Read { target: 2 }),
+        reply: Reply::Values(number(alloc, state)?),
+    })
+}
+
+// A worker may not write it.
+fn denied_write(worker: u64) -> Entry {
+    let command = Command::Write {
         target: 2,
         value: 7,
     };
     let cause = Cause::Missing {
-        from: 1,
+        from: worker,
         to: 2,
         rights: Rights::of(Right::W),
     };
-    let denial = Denial {
-        rule: Rule::Write,
-        cause,
-    };
-    enter(&mut journal, 1, Deed::Plain(write), Reply::Denied(denial))?;
+    Entry {
+        worker,
+        deed: Deed::Plain(command),
+        reply: Reply::Denied(Denial {
+            rule: Rule::Write,
+            cause,
+        }),
+    }
+}
+
+// Adds the entry.
+fn enter(journal: &mut Journal, entry: Entry) -> Result<(), AllocError> {
+    journal.reserve()?;
+    journal.push(entry);
+    Ok(())
+}
+
+// The journal, with the state that is said to have been read, and with the one who is denied to write.
+fn grant_then_denied_write(alloc: Global, state: u64, writer: u64) -> Result<Journal, Fail> {
+    let mut journal = Journal::new(alloc);
+    enter(&mut journal, created(alloc)?)?;
+    enter(&mut journal, granted()?)?;
+    enter(&mut journal, read(alloc, state)?)?;
+    enter(&mut journal, denied_write(writer))?;
     Ok(journal)
+}
+
+// What the audit finds, given that memory is ample.
+fn audited(alloc: Global, entries: &[Entry]) -> Result<Option<u64>, Fail> {
+    match audit(alloc, &opening(alloc)?, entries) {
+        Ok(()) => Ok(None),
+        Err(AuditFault::BadEntry { at }) => Ok(Some(at)),
+        Err(AuditFault::OutOfMemory) => Err(AllocError)?,
+    }
 }
 
 #[test]
 fn altered_journal(rt: HostRuntime) -> Result<(), Fail> {
     let alloc = rt.alloc();
-    let opening = opening(alloc)?;
-    let journal = grant_then_denied_write(alloc, 0)?;
+    let journal = grant_then_denied_write(alloc, 0, 1)?;
     assert_eq!(rt; journal.len(), 4);
     assert_eq!(rt; journal.entry(3).worker, 1);
-    assert_eq!(rt; audit(alloc, &opening, journal.entries()), Ok(()));
-    let altered = grant_then_denied_write(alloc, 1)?;
+    assert_eq!(rt; audited(alloc, journal.entries())?, None);
+    let altered = grant_then_denied_write(alloc, 1, 1)?;
+    assert_eq!(rt; audited(alloc, altered.entries())?, Some(2));
+    Ok(())
+}
+
+#[test]
+fn damaged_journals(rt: HostRuntime) -> Result<(), Fail> {
+    let alloc = rt.alloc();
+    let journal = grant_then_denied_write(alloc, 0, 1)?;
+    let entries = journal.entries();
+    assert_eq!(rt; entries.len(), 4);
     assert_eq!(rt;
-        audit(alloc, &opening, altered.entries()),
-        Err(AuditFault::BadEntry { at: 2 })
+        audited(alloc, &entries[1..])?,
+        Some(0),
+        "without its first entry"
+    );
+    assert_eq!(rt;
+        audited(alloc, &entries[..3])?,
+        None,
+        "without its last entry"
+    );
+    let unknown = grant_then_denied_write(alloc, 0, 9)?;
+    assert_eq!(rt;
+        audited(alloc, unknown.entries())?,
+        Some(3),
+        "with an unknown worker"
+    );
+    let mut twice = Journal::new(alloc);
+    enter(&mut twice, created(alloc)?)?;
+    enter(&mut twice, created(alloc)?)?;
+    assert_eq!(rt;
+        audited(alloc, twice.entries())?,
+        Some(1),
+        "with its first entry twice"
+    );
+    let mut misfit = Journal::new(alloc);
+    let mut first = created(alloc)?;
+    first.deed = Deed::Create {
+        label: label("rw")?,
+        law: Law::Cell,
+        state: Numbers::from_vec(Vec::new(alloc)),
+    };
+    enter(&mut misfit, first)?;
+    assert_eq!(rt;
+        audited(alloc, misfit.entries())?,
+        Some(0),
+        "with a state that does not fit"
     );
     Ok(())
 }
