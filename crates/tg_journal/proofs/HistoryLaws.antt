@@ -1,10 +1,9 @@
 -- Histories cut, joined and extended; what they keep, and what they leave.
-use Rattle.std.proofs.Common.{◌≡◌, ◌↔◌, ◌⊎◌, inl, inr, ◌≤◌, ◌<◌, ℕ, suc, zero, List, [], ◌∷◌, ◌++◌, take, Option, Some, None, IfSome, refl, sym, ap, subst, ◌∙◌, arith}
+use Rattle.std.proofs.Common.{◌≡◌, ◌⊎◌, inl, inr, ◌≤◌, ◌<◌, ℕ, suc, zero, List, [], ◌∷◌, ◌++◌, take, Some, IfSome, refl, ap, subst, ◌∙◌, arith}
 use Rattle.std.specs.Prelude.{slice_get}
-use Rattle.tg_model.specs.Graph.{ProtectionGraph, IsSubject, IsReachable, IsSound}
+use Rattle.tg_model.specs.Graph.{ProtectionGraph, IsReachable, IsSound}
 use Rattle.tg_model.specs.Opened.{Plan, IsPlan, ValueFits, start_of}
-use Rattle.tg_model.specs.Rules.{step, DeedFits}
-use Rattle.tg_model.specs.declared.command.Deed.{Deed}
+use Rattle.tg_model.specs.Rules.{step}
 use Rattle.tg_model.proofs.SoundLaws.{IsSound-step, IsSound-start_of, step-subjects, step-limit, le-step-made, step-within_limit}
 use Rattle.tg_model.proofs.ReachLaws.{IsReachable-step, lt-IsReachable, unreachable_row, unreachable_value}
 use Rattle.tg_model.proofs.FitLaws.{fits-step, fits-start_of}
