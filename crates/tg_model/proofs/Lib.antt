@@ -3,3 +3,4 @@ pub mod ReachLaws
 pub mod SoundLaws
 pub mod NearLaws
 pub mod FitLaws
+pub mod PlainLaws

@@ -4,3 +4,4 @@ pub mod Graph
 pub mod Rules
 pub mod Opened
 pub mod Near
+pub mod Plain

@@ -7,7 +7,7 @@ use tg_rights::Label;
 
 /// What a worker x asks for, but for making a vertex. Names are those of vertices; a name that was never made is as
 /// good as one without an edge.
-#[derive(Clone, Copy, Debug)]
+#[derive(Clone, Copy, PartialEq, Eq, Debug)]
 pub enum Command {
     /// Rights of `via` over `target` become x's as well. Served where x holds take over `via`, and `via` the rights.
     Take {

@@ -5,7 +5,7 @@ use std::marker::Model;
 use tg_rights::Label;
 
 /// An edge from one vertex to another, with its rights.
-#[derive(Clone, Copy, Debug)]
+#[derive(Clone, Copy, PartialEq, Eq, Debug)]
 pub struct Edge {
     /// The vertex that holds the rights.
     pub from: u64,
@@ -53,5 +53,12 @@ impl EdgeList {
         ensures { result.now ≡ self.now }
     {
         self.items.as_slice()
+    }
+
+    /// Whether two lists have the same edges in the same order.
+    pub fn same(&self, other: &EdgeList) -> bool
+        ensures { IsTrue result ↔ (self.now ≡ other.now) }
+    {
+        self.items.as_slice() == other.items.as_slice()
     }
 }

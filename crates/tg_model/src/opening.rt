@@ -90,7 +90,8 @@ impl Opening {
 
     /// The number of workers, from 1 to 64. They are named 0, 1, 2, ..
     pub fn workers(&self) -> u64
-        ensures { result ≡ self.now.workers }
+        ensures number { result ≡ self.now.workers }
+        ensures plan { IsPlan self.now }
     {
         self.workers
     }

@@ -16,7 +16,7 @@ pub enum Rule {
 }
 
 /// Which check failed.
-#[derive(Clone, Copy, Debug)]
+#[derive(Clone, Copy, PartialEq, Eq, Debug)]
 pub enum Cause {
     /// Two vertices of the command that have to differ are one.
     NotDistinct,
@@ -26,7 +26,7 @@ pub enum Cause {
 
 /// Why a command was denied: the first check that failed, in the order distinctness, the right to use the rule, the
 /// rights that are taken or given.
-#[derive(Clone, Copy, Debug)]
+#[derive(Clone, Copy, PartialEq, Eq, Debug)]
 pub struct Denial {
     pub rule: Rule,
     pub cause: Cause,
@@ -47,4 +47,50 @@ pub enum Reply {
     Denied(Denial),
     /// No vertex was made, since as many as may be were made before. Nothing changed.
     VerticesFull,
+}
+
+impl Reply {
+    /// Whether two replies are the same.
+    pub fn same(&self, other: &Reply) -> bool
+        ensures { IsTrue result ↔ (self.now ≡ other.now) }
+    {
+        match (self, other) {
+            (Reply::Done, Reply::Done) => true,
+            (Reply::Name(name), Reply::Name(other)) => *name == *other,
+            (Reply::Values(values), Reply::Values(other)) => values.same(other),
+            (Reply::Edges(edges), Reply::Edges(other)) => edges.same(other),
+            (Reply::Denied(denial), Reply::Denied(other)) => denial.same(other),
+            (Reply::VerticesFull, Reply::VerticesFull) => true,
+            _ => false,
+        }
+    }
+}
+
+impl Denial {
+    /// Whether two denials are the same.
+    pub fn same(&self, other: &Denial) -> bool
+        ensures { IsTrue result ↔ (self.now ≡ other.now) }
+    {
+        self.rule == other.rule && self.cause.same(&other.cause)
+    }
+}
+
+impl Cause {
+    // Whether two causes are the same.
+    fn same(&self, other: &Cause) -> bool
+        ensures { IsTrue result ↔ (self.now ≡ other.now) }
+    {
+        match (self, other) {
+            (Cause::NotDistinct, Cause::NotDistinct) => true,
+            (
+                Cause::Missing { from, to, rights },
+                Cause::Missing {
+                    from: other_from,
+                    to: other_to,
+                    rights: other_rights,
+                },
+            ) => *from == *other_from && *to == *other_to && *rights == *other_rights,
+            _ => false,
+        }
+    }
 }

@@ -1,0 +1,90 @@
+//! Laws of histories, each over every graph and every list of entries. A function here does nothing: what it ensures is
+//! the law.
+//!
+//! The proofs of the crates above cite the lemmas behind the laws, which stand in `proofs/HistoryLaws` (histories cut,
+//! joined and extended, what they keep and what they leave) and `proofs/Decided`.
+ghost use Rattle.std.specs.Prelude.{◌≡◌, ◌↔◌, ◌⊎◌, ◌<◌, ◌≤◌, ℕ, List, [], ◌∷◌, ◌++◌, take, slice_get, Some, IfSome};
+ghost use Rattle.tg_model.specs.Graph.{ProtectionGraph, IsReachable, IsSound};
+ghost use Rattle.tg_model.specs.Opened.{Plan, IsPlan, ValueFits, start_of};
+ghost use Rattle.tg_model.specs.Rules.{step};
+ghost use Rattle.tg_journal.specs.History.{IsLegalEntry, IsLegal, graph_after, IsFirstBad};
+ghost use Rattle.tg_journal.specs.declared.entry.Entry.{Entry};
+
+/// A history is legal exactly where each of its entries is legal on the graph after those before it.
+pub fn legal_where_each_entry_is()
+    ensures entry { (g : ProtectionGraph) (es : List Entry) (at : ℕ) (e : Entry) →
+        IsLegal g es → slice_get es at ≡ Some e → IsLegalEntry (graph_after g (take at es)) e }
+    ensures legal { (g : ProtectionGraph) (es : List Entry) →
+        ((at : ℕ) (e : Entry) → slice_get es at ≡ Some e → IsLegalEntry (graph_after g (take at es)) e) →
+        IsLegal g es }
+{}
+
+/// A legal history with one more legal entry is legal, and the graph after it is one step further.
+pub fn one_more_entry()
+    ensures legal { (g : ProtectionGraph) (es : List Entry) (e : Entry) →
+        IsLegal g es → IsLegalEntry (graph_after g es) e → IsLegal g (es ++ e ∷ []) }
+    ensures graph { (g : ProtectionGraph) (es : List Entry) (e : Entry) →
+        graph_after g (es ++ e ∷ []) ≡ step (graph_after g es) e.worker e.deed }
+{}
+
+/// Two histories that follow each other are legal together exactly where the first is, and the second from the graph
+/// after the first. The graph after both is that after the second, from there.
+pub fn histories_join()
+    ensures legal { (g : ProtectionGraph) (front more : List Entry) →
+        IsLegal g (front ++ more) ↔ (IsLegal g front × IsLegal (graph_after g front) more) }
+    ensures graph { (g : ProtectionGraph) (front more : List Entry) →
+        graph_after g (front ++ more) ≡ graph_after (graph_after g front) more }
+{}
+
+/// Each front of a legal history is legal.
+pub fn fronts_are_legal()
+    ensures { (g : ProtectionGraph) (es : List Entry) (n : ℕ) → IsLegal g es → IsLegal g (take n es) }
+{}
+
+/// A legal history keeps a graph sound. So the graph after a legal history of an opening is sound, has no more vertices
+/// than there may be, and what each of them stores fits its law.
+pub fn legal_histories_stay_sound()
+    ensures kept { (g : ProtectionGraph) (es : List Entry) →
+        IsSound g → IsLegal g es → IsSound (graph_after g es) }
+    ensures opened { (plan : Plan) (es : List Entry) →
+        IsPlan plan → IsLegal (start_of plan) es → IsSound (graph_after (start_of plan) es) }
+    ensures limited { (plan : Plan) (es : List Entry) →
+        IsPlan plan → (graph_after (start_of plan) es).made ≤ plan.limit }
+    ensures values { (plan : Plan) (es : List Entry) (y : ℕ) →
+        IsPlan plan → IsLegal (start_of plan) es →
+        IfSome ((graph_after (start_of plan) es).value y) ValueFits }
+{}
+
+/// No history changes who the subjects are, nor how many vertices there may be, and the number of vertices never falls.
+pub fn subjects_stay_and_made_never_falls()
+    ensures subjects { (g : ProtectionGraph) (es : List Entry) → (graph_after g es).subjects ≡ g.subjects }
+    ensures limit { (g : ProtectionGraph) (es : List Entry) → (graph_after g es).limit ≡ g.limit }
+    ensures made { (g : ProtectionGraph) (es : List Entry) → g.made ≤ (graph_after g es).made }
+{}
+
+/// What can be reached after a legal history could be reached before it, or was made in it.
+pub fn reach_only_shrinks()
+    ensures { (g : ProtectionGraph) (es : List Entry) (y : ℕ) →
+        IsSound g → IsLegal g es → IsReachable (graph_after g es) y →
+        IsReachable g y ⊎ ((g.made ≤ y) × (y < (graph_after g es).made)) }
+{}
+
+/// A vertex that can't be reached never can be again, and a legal history leaves its row and its value.
+pub fn the_unreachable_stay()
+    ensures out_of_reach { (g : ProtectionGraph) (es : List Entry) (u : ℕ) →
+        IsSound g → IsLegal g es → u < g.made → ¬ IsReachable g u → ¬ IsReachable (graph_after g es) u }
+    ensures row { (g : ProtectionGraph) (es : List Entry) (u v : ℕ) →
+        IsSound g → IsLegal g es → u < g.made → ¬ IsReachable g u →
+        (graph_after g es).label u v ≡ g.label u v }
+    ensures value { (g : ProtectionGraph) (es : List Entry) (u : ℕ) →
+        IsSound g → IsLegal g es → u < g.made → ¬ IsReachable g u →
+        (graph_after g es).value u ≡ g.value u }
+{}
+
+/// A history is legal or has a first bad place. One with a first bad place isn't legal, and has no other.
+pub fn legal_or_one_first_bad_place()
+    ensures either { (g : ProtectionGraph) (es : List Entry) → IsLegal g es ⊎ ((at : ℕ) × IsFirstBad g es at) }
+    ensures not_both { (g : ProtectionGraph) (es : List Entry) (at : ℕ) → IsFirstBad g es at → ¬ IsLegal g es }
+    ensures only { (g : ProtectionGraph) (es : List Entry) (at other : ℕ) →
+        IsFirstBad g es at → IsFirstBad g es other → at ≡ other }
+{}
