@@ -1,1 +1,2 @@
 pub mod PlainLaws
+mod Rows

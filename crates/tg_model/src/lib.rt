@@ -24,6 +24,8 @@ pub mod laws;
 mod numbers;
 mod opening;
 mod reply;
+#[cfg(test)]
+mod tests;
 mod triple;
 mod value;
 
