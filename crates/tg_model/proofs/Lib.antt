@@ -4,3 +4,4 @@ pub mod SoundLaws
 pub mod NearLaws
 pub mod FitLaws
 pub mod PlainLaws
+mod Rows

@@ -59,6 +59,6 @@ impl EdgeList {
     pub fn same(&self, other: &EdgeList) -> bool
         ensures { IsTrue result ↔ (self.now ≡ other.now) }
     {
-        self.items.as_slice() == other.items.as_slice()
+        self.as_slice() == other.as_slice()
     }
 }

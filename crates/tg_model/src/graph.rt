@@ -74,13 +74,13 @@ impl Graph {
         for value in opening.values() {
             values.push(value.copy(alloc)?)?;
         }
-        Ok(Graph {
+        Ok(Graph::from_parts(
             alloc,
-            workers: opening.workers(),
-            max_vertices: opening.max_vertices(),
+            opening.workers(),
+            opening.max_vertices(),
             triples,
             values,
-        })
+        ))
     }
 
     /// The graph of these parts: the number of workers, the most vertices that may ever be made, the triples, and the

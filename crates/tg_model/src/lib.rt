@@ -9,7 +9,8 @@
 //! What a reader has to believe stands in `specs/`: `Graph` (the graph, edges, reachability), `Rules` (where a
 //! command is served, why it is denied, what it changes, what is answered), `Opened` (openings, and the graph that
 //! one starts from), `Law` (states of payloads) and `Walks`. [`Graph`] is those definitions run on a plain list of
-//! edges: slow, and meant to be believed at a glance. An audit replays a journal on it, and tests compare with it.
+//! triples: slow, and meant to be believed at a glance (`Plain` says which graph such a list stands for). An audit
+//! replays a journal on it, and tests compare with it.
 //! The crates above speak of heaps and stores in the same words.
 //!
 //! [`laws`] has what holds of the definitions alone: that reach only shrinks but for the new name, that steps leave
@@ -24,6 +25,8 @@ pub mod laws;
 mod numbers;
 mod opening;
 mod reply;
+#[cfg(test)]
+mod tests;
 mod triple;
 mod value;
 

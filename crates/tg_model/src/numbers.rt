@@ -37,14 +37,14 @@ impl Numbers {
     pub fn copy(&self, alloc: Global) -> Result<Numbers, AllocError>
         ensures { IfOk result (λ copy. copy ≡ self.now) }
     {
-        let items = Vec::from_slice(alloc, self.items.as_slice())?;
-        Ok(Numbers { items })
+        let items = Vec::from_slice(alloc, self.as_slice())?;
+        Ok(Numbers::from_vec(items))
     }
 
     /// Whether two lists have the same numbers in the same order.
     pub fn same(&self, other: &Numbers) -> bool
         ensures { IsTrue result ↔ (self.now ≡ other.now) }
     {
-        self.items.as_slice() == other.items.as_slice()
+        self.as_slice() == other.as_slice()
     }
 }

@@ -12,7 +12,7 @@ impl Graph {
     ghost use Rattle.tg_model.specs.Plain.{graph_of};
     ghost use Rattle.tg_model.specs.Rules.{unless_held, denial_of};
 
-    /// Why a command is denied.
+    // Why a command is denied.
     pub(super) fn denial(&self, worker: u64, command: &Command) -> Option<Denial>
         ensures { result ≡ denial_of (graph_of self.now).label worker command.now }
     {
@@ -54,7 +54,7 @@ impl Graph {
         }
     }
 
-    /// Why a command is denied that wants only rights of the worker over its target.
+    // Why a command is denied that wants only rights of the worker over its target.
     fn unless_used(&self, rule: Rule, worker: u64, target: u64, rights: Rights) -> Option<Denial>
         ensures { result ≡ option_or (unless_distinct rule (worker == target)) (unless_held (graph_of self.now).label rule worker target rights) }
     {
@@ -64,7 +64,7 @@ impl Graph {
         )
     }
 
-    /// A denial where rights are missing.
+    // A denial where rights are missing.
     fn unless_held(&self, rule: Rule, from: u64, to: u64, rights: Rights) -> Option<Denial>
         ensures { result ≡ unless_held (graph_of self.now).label rule from to rights }
     {
@@ -83,7 +83,7 @@ impl Graph {
     }
 }
 
-/// A denial where two vertices that must differ are one.
+// A denial where two vertices that must differ are one.
 fn unless_distinct(rule: Rule, same: bool) -> Option<Denial>
     ensures { result ≡ unless_distinct rule same }
 {
@@ -96,7 +96,7 @@ fn unless_distinct(rule: Rule, same: bool) -> Option<Denial>
     None
 }
 
-/// The first of two denials.
+// The first of two denials.
 fn first_of(first: Option<Denial>, later: Option<Denial>) -> Option<Denial>
     ensures { result ≡ option_or first later }
 {

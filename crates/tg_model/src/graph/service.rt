@@ -34,7 +34,7 @@ impl Graph {
         Ok(self.carry_out(worker, deed)?)
     }
 
-    /// Takes a deed of one who is taken for a worker.
+    // Takes a deed of one who is taken for a worker.
     fn carry_out(&mut self, worker: u64, deed: &Deed) -> Result<Reply, AllocError>
         ensures reply { IfOk result (λ reply. reply ≡ answer_of (graph_of self.old) worker deed.now) }
         ensures step { OnOk result (graph_of self.new ≡ step (graph_of self.old) worker deed.now) }
@@ -49,7 +49,7 @@ impl Graph {
         }
     }
 
-    /// Makes a vertex and the edge of the worker to it.
+    // Makes a vertex and the edge of the worker to it.
     fn create(
         &mut self,
         worker: u64,
@@ -78,7 +78,7 @@ impl Graph {
         Ok(Reply::Name(name))
     }
 
-    /// Does what a command asks for that is served.
+    // Does what a command asks for that is served.
     fn serve(&mut self, worker: u64, command: &Command) -> Result<Reply, AllocError>
         ensures reply { IfOk result (λ r. r ≡ reply_of (graph_of self.old).label (graph_of self.old).value (graph_of self.old).made worker command.now) }
         ensures step { OnOk result (graph_of self.new ≡ effect (graph_of self.old) worker command.now) }
@@ -101,7 +101,7 @@ impl Graph {
         }
     }
 
-    /// Gives one vertex rights over another.
+    // Gives one vertex rights over another.
     fn add(&mut self, from: u64, to: u64, label: Label) -> Result<Reply, AllocError>
         ensures done { IfOk result (λ reply. reply ≡ Reply.Done) }
         ensures ok { OnOk result (graph_of self.new ≡ record (graph_of self.old) { label = with_rights (graph_of self.old).label from to label }) }
@@ -115,7 +115,7 @@ impl Graph {
         Ok(Reply::Done)
     }
 
-    /// Takes rights away.
+    // Takes rights away.
     fn remove(&mut self, from: u64, to: u64, label: Label)
         ensures { graph_of self.new ≡ record (graph_of self.old) { label = without_rights (graph_of self.old).label from to label } }
     {
@@ -124,7 +124,7 @@ impl Graph {
         }
     }
 
-    /// What a vertex stores.
+    // What a vertex stores.
     fn read(&self, target: u64) -> Result<Reply, AllocError>
         ensures { IfOk result (λ reply. reply ≡ Reply.Values (state_of ((graph_of self.now).value target))) }
     {
@@ -135,7 +135,7 @@ impl Graph {
         Ok(Reply::Values(state))
     }
 
-    /// Writes to a vertex.
+    // Writes to a vertex.
     fn write(&mut self, target: u64, value: u64) -> Result<Reply, AllocError>
         ensures done { IfOk result (λ reply. reply ≡ Reply.Done) }
         ensures ok { OnOk result (graph_of self.new ≡ effect (graph_of self.old) target (Command.Write target value)) }
@@ -150,7 +150,7 @@ impl Graph {
         Ok(Reply::Done)
     }
 
-    /// The edges of a vertex, by rising name of the target.
+    // The edges of a vertex, by rising name of the target.
     fn listing(&self, from: u64) -> Result<EdgeList, AllocError>
         ensures { IfOk result (λ edges. edges ≡ listing_of (graph_of self.now).label (graph_of self.now).made from) }
     {
@@ -164,7 +164,7 @@ impl Graph {
         Ok(EdgeList::from_vec(edges))
     }
 
-    /// The rights of a vertex over each vertex, by rising name, from one pass over the triples.
+    // The rights of a vertex over each vertex, by rising name, from one pass over the triples.
     fn row(&self, from: u64) -> Result<Vec<Rights>, AllocError>
         ensures { IfOk result (λ row. row.items ≡ map ((graph_of self.now).label from) (range_with_len 0 (graph_of self.now).made)) }
     {
