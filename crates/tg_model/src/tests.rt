@@ -1,5 +1,5 @@
 //! Runs that are worked out by hand, line by line on the plain graph. With each allocation refused in turn
-//! (`rt try --test --fail-alloc 1..`) they pass as well: a deed that wanted memory is handed in a second time, and each
+//! (`rt try --test --fail-alloc N`) they pass as well: a deed that wanted memory is handed in a second time, and each
 //! reply after it is that of the graph as it was before the first.
 
 use crate::{
