@@ -58,7 +58,7 @@ IsRootIn h (Row place) = IsKindAt h Object place
 pub record AreSound (h : SpaceList) (roots : List Root) : Type 0 where
   pub cells : All (HasLayout h) (cells_of h)
   -- no chunk is linked to twice
-  pub links : (c d : ℕ) → c < length (cells_of h) → d < length (cells_of h) → kind_of (cell_numbered h c) ≢ Free → kind_of (cell_numbered h d) ≢ Free → link_of (cell_numbered h c) ≢ 0 → link_of (cell_numbered h c) ≡ link_of (cell_numbered h d) → c ≡ d
+  pub links : (c d : ℕ) → c < length (cells_of h) → d < length (cells_of h) → link_of (cell_numbered h c) ≢ 0 → link_of (cell_numbered h c) ≡ link_of (cell_numbered h d) → c ≡ d
   pub rows : All (IsRootIn h) roots
 
 -- ---- what tracing uses of it
