@@ -10,9 +10,8 @@ use std::alloc::{AllocError, Global};
 use std::marker::Model;
 use tg_model::{Law, Numbers};
 
-/// Payloads, each under a key that the table picked when it came in. A key may be picked again once its payload was
-/// taken out. Contracts see a finite map from keys to laws with states, and `spare`, for how many more payloads there
-/// is room.
+/// Payloads, each under a key that the table picked when it came in. Once a payload was taken out, its key may be
+/// picked again. Contracts see a finite map from keys to values, and `spare`, for how many more payloads there is room.
 #[derive(Drop)]
 pub struct PayloadTable<P: Payload> {
     alloc: Global,
@@ -51,8 +50,8 @@ impl<P: Payload> PayloadTable<P> {
         self.payloads.len() as u64
     }
 
-    /// Makes room for so many more payloads, whose inserts then can't be refused. Keeps all entries, also where memory
-    /// is refused; takes none where there was room.
+    /// Makes room for so many more payloads, whose inserts then can't be refused. Takes no memory where there is room.
+    /// Where memory is refused, and else too, all entries stay.
     pub fn reserve(&mut self, more: u64) -> Result<(), AllocError>
         ensures room { OnOk result (more ≤ self.new.spare) }
         ensures had_room { more ≤ self.old.spare → IsOk result }
@@ -66,14 +65,14 @@ impl<P: Payload> PayloadTable<P> {
         Ok(())
     }
 
-    /// Puts the draft's payload into the table, and answers its key, which had none. Takes no memory where there is
-    /// room. Where memory is refused, the draft comes back and the entries are unchanged.
+    /// Puts the draft's payload into the table, and answers its key, under which there was none. Takes no memory where
+    /// there is room. Where memory is refused, the draft comes back and all entries stay.
     pub fn insert(&mut self, draft: Draft<P>) -> Result<u64, InsertRefused<P>>
         ensures fresh { IfOk result (λ key. entry self.old key ≡ None) }
         ensures inserted { IfOk result (λ key. Updates self.old self.new key (Some draft)) }
         ensures counted { OnOk result (count self.new ≡ count self.old + 1) }
 
-        // Room for one is used up, and none where the draft comes back.
+        // Where there is room it isn't refused, and it uses up room for one at most.
         ensures had_room { 0 < self.old.spare → IsOk result }
         ensures spare { self.old.spare ≤ self.new.spare + 1 }
 
@@ -124,7 +123,7 @@ impl<P: Payload> PayloadTable<P> {
         }
     }
 
-    /// Takes the payload under the key out of the table, whose room it leaves. Takes no memory.
+    /// Takes the payload under the key out of the table, which has room for one more then. Takes no memory.
     pub fn take_out(&mut self, key: u64) -> P
         requires { IsSome (entry self.old key) }
         ensures taken { entry self.old key ≡ Some (P.value result) }
