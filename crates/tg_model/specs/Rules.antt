@@ -2,7 +2,7 @@
 -- create and remove are those of the take-grant model (Lipton and Snyder 1977; Bishop, "Computer Security: Art and
 -- Science"); read, write and list are this store's own, and so is the order of the checks. All but the last four
 -- definitions speak of labels and values as functions, so that the same words serve a graph and a heap's content.
-use Rattle.std.specs.Prelude.{◌≡◌, ◌≢◌, ℕ, ◌+◌, ◌<◌, ◌==◌, ◌||◌, Bool, IsTrue, List, [], ◌∷◌, Option, Some, None, option_map, nat_lt, if◌then◌else◌}
+use Rattle.std.specs.Prelude.{◌≢◌, ℕ, ◌+◌, ◌<◌, ◌==◌, ◌||◌, Bool, IsTrue, List, [], Option, Some, None, option_map, nat_lt, if◌then◌else◌}
 use Rattle.std.specs.Option.{option_or}
 use Rattle.tg_rights.specs.RightSet.{RightSet, only, minus, holds_all}
 use Rattle.tg_rights.specs.declared.Right.TheVariants as right

@@ -1,0 +1,5 @@
+pub mod AllowedLaws
+pub mod ReachLaws
+pub mod SoundLaws
+pub mod NearLaws
+pub mod FitLaws
