@@ -1,4 +1,4 @@
-use Rattle.std.proofs.Common.{◌≢◌, ap, subst}
+use Rattle.std.proofs.Common.{◌≢◌, subst}
 use Rattle.std.specs.List.{AllPairs}
 use Rattle.tg_remember.proofs.NoteLemmas.{AllPairs-map}
 use Rattle.tg_remember.proofs.Remembered.len.Goals as goal

@@ -1,5 +1,5 @@
 use Rattle.std.proofs.Common.{ap, sym, ◌∙◌, inl, inr, ◌<◌, subst, map, Contains, ◌⊎◌, ◌↔◌, ◌≡◌}
-use Rattle.tg_remember.specs.Notes.{noted, place_of}
+use Rattle.tg_remember.specs.Notes.{place_of}
 use Rattle.tg_remember.proofs.NoteLemmas.{noted-keys, list_any-Decides, list_any-keys, Contains-noted, IsOk-where_found}
 use Rattle.tg_remember.proofs.Remembered.note.Goals as goal
 
