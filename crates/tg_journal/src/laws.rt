@@ -4,7 +4,7 @@
 //! The proofs of the crates above cite the lemmas behind the laws, which stand in `proofs/HistoryLaws` (histories cut,
 //! joined and extended, what they keep and what they leave) and `proofs/Decided`.
 ghost use Rattle.std.specs.Prelude.{◌≡◌, ◌↔◌, ◌⊎◌, ◌<◌, ◌≤◌, ℕ, List, [], ◌∷◌, ◌++◌, take, slice_get, Some, IfSome};
-ghost use Rattle.tg_model.specs.Graph.{ProtectionGraph, IsReachable, IsSound};
+ghost use Rattle.tg_model.specs.Graph.{ProtectionGraph, IsSubject, IsReachable, IsSound};
 ghost use Rattle.tg_model.specs.Opened.{Plan, IsPlan, ValueFits, start_of};
 ghost use Rattle.tg_model.specs.Rules.{step};
 ghost use Rattle.tg_journal.specs.History.{IsLegalEntry, IsLegal, graph_after, IsFirstBad};
@@ -55,9 +55,12 @@ pub fn legal_histories_stay_sound()
         IfSome ((graph_after (start_of plan) es).value y) ValueFits }
 {}
 
-/// No history changes who the subjects are, nor how many vertices there may be, and the number of vertices never falls.
+/// No history changes who the subjects are, which after an opening are its workers, nor how many vertices there may be.
+/// The number of vertices never falls.
 pub fn subjects_stay_and_made_never_falls()
     ensures subjects { (g : ProtectionGraph) (es : List Entry) → (graph_after g es).subjects ≡ g.subjects }
+    ensures workers { (plan : Plan) (es : List Entry) (x : ℕ) →
+        IsSubject (graph_after (start_of plan) es) x ↔ (x < plan.workers) }
     ensures limit { (g : ProtectionGraph) (es : List Entry) → (graph_after g es).limit ≡ g.limit }
     ensures made { (g : ProtectionGraph) (es : List Entry) → g.made ≤ (graph_after g es).made }
 {}
