@@ -13,7 +13,8 @@ use Rattle.tg_race.specs.declared.record.Record.{Record}
 use Rattle.tg_race.specs.Weights.{weigh, one_at}
 use Rattle.tg_race.specs.Words.{weigh_words, IsPair}
 use Rattle.tg_race.specs.Race.{Race, has, chunks_of}
-use Rattle.tg_race.specs.Course.{Net, Course, counts_of, chunk_has, pair_has, is_target, word_at, has_met, IsEarned, KeepsRule, IsComplete, IsReached, root, next}
+use Rattle.tg_race.specs.Board.{IsClosed}
+use Rattle.tg_race.specs.Course.{Net, Course, counts_of, chunk_has, pair_has, is_target, word_at, has_met, IsEarned, AreEarned, KeepsRule, IsComplete, IsReached, root, next}
 use Rattle.tg_race.proofs.Sums.{any_weighs, weighs_any, one_past, one_here}
 use Rattle.tg_race.proofs.Parts.{Parts, is_past, parts_of}
 use Rattle.tg_race.proofs.Steps.{alone_keeps}
@@ -184,3 +185,11 @@ pub closure : (c : Course) (id : ℕ) (v : Record) → KeepsRule c → get_elem?
 closure c id v kept at all complete cell =
     let rule = alone_keeps (counts_of c.net) c.race id v (parts_of (counts_of c.net) c.race kept.rule) at all in
     (taken_reached c.net c.race v rule (kept.wins_earned id v at) complete cell, reached_taken c.net c.race v rule (kept.wins_earned id v at) complete cell)
+
+-- a closed table stands for a course with the one record
+pub closed_course : (net : Net) (words : List ℕ) (done : Record) → IsClosed (counts_of net) words done → AreEarned net done → IsComplete net done
+    → (cell : ℕ) → (slice_index words cell ≢ 0) ↔ IsReached net cell
+closed_course net words done closed earned complete cell =
+    let r : Race = record { next_chunk = closed.next_chunk; next_aged = closed.next_aged; next_old = closed.next_old; words = words; records = done ∷ [] } in
+    let rule = parts_of (counts_of net) r closed.rule in
+    (taken_reached net r done rule earned complete cell, reached_taken net r done rule earned complete cell)

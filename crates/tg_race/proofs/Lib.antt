@@ -8,3 +8,4 @@ pub mod Closure
 pub mod Allowed
 pub mod Nets
 pub mod Drawn
+pub mod Standing

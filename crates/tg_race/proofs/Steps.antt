@@ -101,7 +101,7 @@ claimed_once k r rule p =
     let high' = one_below b r.next_old in
     two_ways (p.space == AGED) (p.space == OLD) (λ u. weigh (one_at b) u.aged_blocks) (λ u. weigh (one_at b) u.old_blocks) r.records (omega arith) (omega arith)
 
-same_place_is : (p q : Place) → same_place p q ≡ true → p ≡ q
+pub same_place_is : (p q : Place) → same_place p q ≡ true → p ≡ q
 same_place_is p q e =
     let a = and_parts (p.space == q.space) ((p.block == q.block) && (p.cell == q.cell)) e in
     let b = and_parts (p.block == q.block) (p.cell == q.cell) a.1 in

@@ -149,7 +149,13 @@ lists = map (λ v. v.items)
 abbrev pub net_of : Shape → Net
 net_of s = record { roots = lists s.roots.items; targets = lists s.targets.items; kept = s.kept; space_blocks = s.space_blocks; helpers = s.helpers }
 
--- the numbers with which a race is run: at most 1,048,576 blocks are kept, there is a helper, and lists are no longer than memory
+-- the numbers with which a race is run: at most 1,048,576 blocks are kept, and there is a helper
 abbrev pub IsRaceable : Net → Type 0
-IsRaceable net =
-    (net.kept ≤ 1048576) × (0 < net.helpers) × (net.helpers < 4294967296) × (length net.targets < 9223372036854775808) × (length net.roots < 9223372036854775808)
+IsRaceable net = (net.kept ≤ 1048576) × (0 < net.helpers)
+
+-- what holds of the net of each world: its lists and its count of helpers are no longer than a program's
+pub record IsHeld (net : Net) : Type 0 where
+  pub raceable : IsRaceable net
+  pub helpers : net.helpers < 4294967296
+  pub roots : length net.roots < 9223372036854775808
+  pub targets : length net.targets < 9223372036854775808

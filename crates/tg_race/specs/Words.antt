@@ -1,5 +1,6 @@
 -- Forwarding words, and the pairs of a cell and its place that they stand for.
 use Rattle.std.specs.Prelude.{◌≡◌, ◌≢◌, ℕ, suc, ◌+◌, ◌==◌, ◌&&◌, Bool, List, [], ◌∷◌, if◌then◌else◌, slice_index, All}
+use Rattle.std.specs.List.{list_any}
 use Rattle.tg_word.specs.declared.Place.{Place}
 use Rattle.tg_word.specs.Word.{IsPlace, link_to, place_in}
 
@@ -48,3 +49,11 @@ place_at p q = if same_place q.1 p then 1 else 0
 -- whether a place lies in the block b of a space
 abbrev pub lies_in : ℕ → ℕ → Place → Bool
 lies_in space b p = (p.space == space) && (b == p.block)
+
+-- whether the pair is that of the cell and the place
+abbrev pub same_pair : ℕ → Place → ℕ × Place → Bool
+same_pair cell p q = (q.0 == cell) && same_place q.1 p
+
+-- whether the pair of the cell and the place stands in the list
+abbrev pub has_pair : ℕ → Place → List (ℕ × Place) → Bool
+has_pair cell p = list_any (same_pair cell p)

@@ -1,13 +1,17 @@
 //! The laws of the race, each the contract of a function that does nothing.
-ghost use Rattle.std.specs.Prelude.{◌≡◌, ◌≢◌, ◌↔◌, ◌+◌, ◌*◌, ◌<◌, ◌≤◌, ℕ, List, [], ◌∷◌, IsTrue, length};
+ghost use Rattle.std.specs.Prelude.{◌≡◌, ◌≢◌, ◌↔◌, ◌+◌, ◌*◌, ◌<◌, ◌≤◌, ℕ, List, [], ◌∷◌, IsTrue, length, slice_index};
 ghost use lib.ListN.{get_elem?};
 ghost use mathlib.Core.Option.{some};
 ghost use Rattle.tg_race.specs.declared.record.Counts.{Counts};
 ghost use Rattle.tg_race.specs.declared.record.Record.{Record};
 ghost use Rattle.tg_race.specs.declared.event.Event.{Event};
+ghost use Rattle.tg_word.specs.declared.Place.{Place};
+ghost use Rattle.tg_word.specs.Word.{IsPlace};
+ghost use Rattle.tg_race.specs.Words.{word_of, has_pair};
+ghost use Rattle.tg_race.specs.Board.{IsClosed};
 ghost use Rattle.tg_race.specs.Weights.{weigh, one_at};
-ghost use Rattle.tg_race.specs.Race.{Race, Rule, IsDrawn, both};
-ghost use Rattle.tg_race.specs.Course.{Net, Course, KeepsRule, AreEarned, IsComplete, IsReached, word_at, can_happen, happens, course_after, starting};
+ghost use Rattle.tg_race.specs.Race.{Race, Rule, EachRecord, IsDrawn, both, has};
+ghost use Rattle.tg_race.specs.Course.{Net, Course, counts_of, KeepsRule, AreEarned, IsComplete, IsReached, word_at, can_happen, happens, course_after, starting};
 
 /// After every list of events of any number of helpers the rule holds.
 pub fn the_rule_holds_after_all_events()
@@ -26,6 +30,22 @@ pub fn a_complete_race_is_the_closure()
     ensures { (c : Course) (id : ℕ) (v : Record) → KeepsRule c → get_elem? c.race.records id ≡ some v → v.share ≡ c.net.helpers → IsComplete c.net v → (cell : ℕ) → (word_at c.race cell ≢ 0) ↔ IsReached c.net cell }
 {}
 
+/// What a record has won stands in the table: the cell has the place that was won.
+pub fn wins_stand_in_the_table()
+    ensures { (k : Counts) (r : Race) → Rule k r → EachRecord (λ v. (cell : ℕ) (p : Place) → IsTrue (has_pair cell p v.won) → slice_index r.words cell ≡ word_of p) r.records }
+{}
+
+/// The places in a closed table are those of the pairs that its one record has won, and no other.
+pub fn a_closed_table_has_the_wins()
+    ensures { (k : Counts) (words : List ℕ) (done : Record) → IsClosed k words done → (cell : ℕ) (p : Place) → IsPlace p → (slice_index words cell ≡ word_of p) ↔ IsTrue (has_pair cell p done.won) }
+{}
+
+/// Where the record of a closed table is complete and its wins were earned, the cells with a place are the closure of
+/// the roots.
+pub fn a_closed_table_is_the_closure()
+    ensures { (net : Net) (words : List ℕ) (done : Record) → IsClosed (counts_of net) words done → AreEarned net done → IsComplete net done → (cell : ℕ) → (slice_index words cell ≢ 0) ↔ IsReached net cell }
+{}
+
 /// Where one record stands for all helpers, all others are spent: the race with that record alone is under the rule.
 pub fn one_record_stands_alone()
     ensures { (k : Counts) (r : Race) (id : ℕ) (v : Record) → Rule k r → get_elem? r.records id ≡ some v → v.share ≡ k.helpers → Rule k (record r { records = v ∷ [] }) }
@@ -38,11 +58,17 @@ pub fn wins_stay_earned_under_join()
 
 /// Blocks are few: each is full of won cells, but for one a helper and space.
 ///
-/// The bound is on the numbers of the next blocks, and so on each claimed one, which is below it.
+/// The bound is on the number of the next block.
 pub fn blocks_are_few()
     ensures aged_blocks { (k : Counts) (r : Race) → Rule k r → 64 * r.next_aged ≤ 64 * k.helpers + weigh (λ v. length v.won) r.records }
     ensures old_blocks { (k : Counts) (r : Race) → Rule k r → 64 * r.next_old ≤ 64 * (k.kept + k.helpers) + weigh (λ v. length v.won) r.records }
     ensures wins { (k : Counts) (r : Race) → Rule k r → weigh (λ v. length v.won) r.records ≤ k.cells }
+{}
+
+/// The same of each block that was claimed in a closed table.
+pub fn claimed_blocks_are_few()
+    ensures aged_blocks { (k : Counts) (words : List ℕ) (done : Record) → IsClosed k words done → (b : ℕ) → IsTrue (has b done.aged_blocks) → 64 * (b + 1) ≤ 64 * k.helpers + length done.won }
+    ensures old_blocks { (k : Counts) (words : List ℕ) (done : Record) → IsClosed k words done → (b : ℕ) → IsTrue (has b done.old_blocks) → 64 * (b + 1) ≤ 64 * (k.kept + k.helpers) + length done.won }
 {}
 
 /// What 'drawn' says of one number: it stands once in the records if it is below the counter and not below the start,

@@ -1,0 +1,107 @@
+-- Won pairs and the words: each won pair stands in the table, and each place in the table was won.
+use Rattle.std.proofs.Common.{◌≡◌, ◌≢◌, ◌↔◌, ℕ, zero, suc, ◌+◌, ◌*◌, ◌<◌, ◌≤◌, ◌==◌, ◌&&◌, List, [], ◌∷◌, length, get_or, slice_index, Bool, true, false, if◌then◌else◌, IsTrue, eqb, eqb-true, eq-eqb, ne_eqb, sym, refl, ap, ◌∙◌, ⊎_elim, arith}
+use Rattle.std.proofs.lemmas.Bool.{cond-true, cond-false, and_parts, eqb-false, cases_lt}
+use Rattle.tg_word.specs.declared.Place.{Place}
+use Rattle.tg_word.specs.Word.{IsPlace}
+use Rattle.tg_race.specs.declared.record.Counts.{Counts}
+use Rattle.tg_race.specs.declared.record.Record.{Record}
+use Rattle.tg_race.specs.Weights.{weigh, one_at}
+use Rattle.tg_race.specs.Words.{word_of, place_of, same_place, same_pair, has_pair, weigh_words}
+use Rattle.tg_race.specs.Race.{Race, Rule, EachRecord, has}
+use Rattle.tg_race.specs.Board.{IsClosed}
+use Rattle.tg_race.proofs.PlaceWords.{place_of-word_of, word_of-some}
+use Rattle.tg_race.proofs.Sums.{weigh_one_le, any_weighs, weighs_any}
+use Rattle.tg_race.proofs.Steps.{same_place_is, aged_few, old_few}
+use Rattle.tg_race.proofs.Drawn.{drawn_above}
+
+-- the weight under which a list of pairs weighs as often as it has the pair
+abbrev pair_at : ℕ → Place → ℕ × Place → ℕ
+pair_at c p q = if same_pair c p q then 1 else 0
+
+same_place_self : (p : Place) → same_place p p ≡ true
+same_place_self p =
+    λ i. eq-eqb p.space p.space refl i && (eq-eqb p.block p.block refl i && eq-eqb p.cell p.cell refl i)
+
+-- a cell whose word is not 0 and whose pair passes the test; i is the cell of the first word
+record Passes (f : ℕ × Place → Bool) (i : ℕ) (ws : List ℕ) : Type 0 where
+  pub at : ℕ
+  pub cell : ℕ
+  pub is : cell ≡ i + at
+  pub inside : at < length ws
+  pub taken : get_or ws at 0 ≢ 0
+  pub passes : f (cell, place_of (get_or ws at 0)) ≡ true
+
+passes_later : (f : ℕ × Place → Bool) (i w : ℕ) (ws : List ℕ) → Passes f (suc i) ws → Passes f i (w ∷ ws)
+passes_later f i w ws p = record {
+  at = suc p.at;
+  cell = p.cell;
+  is = let e = p.is in omega arith;
+  inside = let e = p.inside in omega arith;
+  taken = p.taken;
+  passes = p.passes;
+}
+
+-- where the pairs of the words that pass a test weigh anything, there is one
+weighed_passes : (f : ℕ × Place → Bool) (i : ℕ) (ws : List ℕ) → 0 < weigh_words (λ q. if f q then 1 else 0) i ws → Passes f i ws
+weighed_passes f i [] some_ = absurd (omega arith)
+weighed_passes f i (w ∷ ws) some_ = go (w == 0) refl (f (i, place_of w)) refl some_ (weighed_passes f (suc i) ws)
+  where
+    rest : ℕ
+    rest = weigh_words (λ q. if f q then 1 else 0) (suc i) ws
+
+    go : (b : Bool) → (w == 0) ≡ b → (d : Bool) → f (i, place_of w) ≡ d → 0 < (if b then 0 else if d then 1 else 0) + rest → (0 < rest → Passes f (suc i) ws) → Passes f i (w ∷ ws)
+    go true z d e h more = passes_later f i w ws (more (omega arith))
+    go false z false e h more = passes_later f i w ws (more (omega arith))
+    go false z true e h more = record { at = 0; cell = i; is = omega arith; inside = omega arith; taken = eqb-false w 0 z; passes = e }
+
+-- a place in the table weighs
+taken_pair : (n i c : ℕ) (p : Place) (ws : List ℕ) → n ≡ i + c → get_or ws c 0 ≡ word_of p → IsPlace p → 0 < weigh_words (pair_at n p) i ws
+taken_pair n i c p [] is here inside = absurd (word_of-some p (sym here))
+taken_pair n i zero p (w ∷ ws) is here inside =
+    let some_ : w ≢ 0 = λ none. word_of-some p (sym here ∙ none) in
+    let back : place_of w ≡ p = ap place_of here ∙ place_of-word_of p inside in
+    let test : same_pair n p (i, place_of w) ≡ true = λ j. eq-eqb i n (let e : i ≡ n = omega arith in e) j && (ap (λ (x : Place). same_place x p) back ∙ same_place_self p) j in
+    omega (arith, cond-false (eqb w 0) 0 (pair_at n p (i, place_of w)) (ne_eqb w 0 some_), cond-true {A = ℕ} (same_pair n p (i, place_of w)) 1 0 test)
+taken_pair n i (suc c) p (w ∷ ws) is here inside = omega (arith, taken_pair n (suc i) c p ws (omega arith) here inside)
+
+-- a pair that a record has won stands in the table
+pub won_stands : (k : Counts) (r : Race) → Rule k r → EachRecord (λ v. (cell : ℕ) (p : Place) → IsTrue (has_pair cell p v.won) → slice_index r.words cell ≡ word_of p) r.records
+won_stands k r rule id v at cell p won =
+    let mine = any_weighs (same_pair cell p) v.won won in
+    let one = weigh_one_le (λ u. weigh (pair_at cell p) u.won) r.records id v at in
+    let all = rule.wins_once.won (pair_at cell p) in
+    let found = weighed_passes (same_pair cell p) 0 r.words (omega arith) in
+    let w : ℕ = get_or r.words found.at 0 in
+    let test = and_parts (found.cell == cell) (same_place (place_of w) p) found.passes in
+    let is : found.at ≡ cell = (let here = eqb-true found.cell cell test.0 in let e = found.is in omega arith) in
+    let forward = rule.wins_once.forward found.at 0 found.inside found.taken in
+    ap (λ (n : ℕ). get_or r.words n 0) (sym is) ∙ (sym forward.1 ∙ ap word_of (same_place_is (place_of w) p test.1))
+
+-- the places in a closed table are those of the pairs that were won
+pub closed_pairs : (k : Counts) (words : List ℕ) (done : Record) → IsClosed k words done → (cell : ℕ) (p : Place) → IsPlace p → (slice_index words cell ≡ word_of p) ↔ IsTrue (has_pair cell p done.won)
+closed_pairs k words done closed cell p inside = (there, back)
+  where
+    there : slice_index words cell ≡ word_of p → IsTrue (has_pair cell p done.won)
+    there here =
+        let all = closed.rule.wins_once.won (pair_at cell p) in
+        weighs_any (same_pair cell p) done.won (omega (arith, taken_pair cell 0 cell p words (omega arith) here inside))
+
+    back : IsTrue (has_pair cell p done.won) → slice_index words cell ≡ word_of p
+    back won = won_stands k _ closed.rule 0 done refl cell p won
+
+-- the blocks that were claimed in a closed table are few
+pub closed_aged_few : (k : Counts) (words : List ℕ) (done : Record) → IsClosed k words done → (b : ℕ) → IsTrue (has b done.aged_blocks) → 64 * (b + 1) ≤ 64 * k.helpers + length done.won
+closed_aged_few k words done closed b mine =
+    let some_ = any_weighs (λ (x : ℕ). x == b) done.aged_blocks mine in
+    let few = aged_few k _ closed.rule in
+    let none : closed.next_aged ≤ b → weigh (λ v. weigh (one_at b) v.aged_blocks) (done ∷ []) ≡ 0 = drawn_above 0 closed.next_aged (λ v. v.aged_blocks) (done ∷ []) closed.rule.blocks_once.0 b in
+    let below : b < closed.next_aged = ⊎_elim (λ lt. lt) (λ (le : closed.next_aged ≤ b). absurd (let zero_ = none le in omega arith)) (cases_lt b closed.next_aged) in
+    omega arith
+
+pub closed_old_few : (k : Counts) (words : List ℕ) (done : Record) → IsClosed k words done → (b : ℕ) → IsTrue (has b done.old_blocks) → 64 * (b + 1) ≤ 64 * (k.kept + k.helpers) + length done.won
+closed_old_few k words done closed b mine =
+    let some_ = any_weighs (λ (x : ℕ). x == b) done.old_blocks mine in
+    let few = old_few k _ closed.rule in
+    let none : closed.next_old ≤ b → weigh (λ v. weigh (one_at b) v.old_blocks) (done ∷ []) ≡ 0 = drawn_above k.kept closed.next_old (λ v. v.old_blocks) (done ∷ []) closed.rule.blocks_once.1 b in
+    let below : b < closed.next_old = ⊎_elim (λ lt. lt) (λ (le : closed.next_old ≤ b). absurd (let zero_ = none le in omega arith)) (cases_lt b closed.next_old) in
+    omega arith
