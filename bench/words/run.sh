@@ -1,6 +1,6 @@
 #!/bin/sh
 # run.sh: how many words a second are read from a heap, and from a plain vector of as many words.
-# It copies the crates that it needs, and the program beside it, into a temporary folder, and proves, builds and runs it there.
+# It copies the crates that it needs, and the program beside it (`main.rt.in`, a name that the gate passes over), into a temporary folder, and proves, builds and runs it there.
 set -eu
 here=$(cd "$(dirname "$0")" && pwd)
 top=$(cd "$here/../.." && pwd)
@@ -13,6 +13,6 @@ for name in tg_rights tg_model tg_word tg_block tg_space; do
     grep "^$name:" "$top/crates.txt" >> "$build/crates.txt"
 done
 echo 'words: tg_space tg_word' >> "$build/crates.txt"
-cp "$here/main.rt" "$build/crates/words/src/main.rt"
+cp "$here/main.rt.in" "$build/crates/words/src/main.rt"
 cd "$build/crates/words"
 rt run
