@@ -1,5 +1,5 @@
 //! The race of three cells event by event, and helpers on threads over one table.
-use crate::tests::trials::{Found, race};
+use crate::tests::trials::{Found, race, win_and_look};
 use crate::{Event, Forwarding, Record, Shape, World};
 use std::alloc::{AllocError, Global};
 use std::test::Fail;
@@ -130,6 +130,12 @@ fn one_helper_at_the_table(rt: HostRuntime) -> Result<(), Fail> {
     assert!(rt; helper.claim_block(&table, true) == 0);
     let words = table.close(helper);
     assert!(rt; words.len() == 5 && words.iter().all(|word| *word == 0));
+    Ok(())
+}
+
+#[test]
+fn a_won_cell_is_seen(rt: HostRuntime) -> Result<(), Fail> {
+    assert!(rt; matches!(win_and_look(rt.alloc())?, Some(place) if place == FIRST));
     Ok(())
 }
 

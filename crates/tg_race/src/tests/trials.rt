@@ -52,6 +52,17 @@ fn try_cell(helper: &mut Helper, table: &Forwarding, cell: u64, block: u64, used
     }
 }
 
+/// What a helper sees of a cell that it has won.
+pub(crate) fn win_and_look(alloc: Global) -> Result<Option<Place>, AllocError> {
+    let (table, mut helper) = Forwarding::open(alloc, 5, 0, 0, 1)?;
+    let block = helper.claim_block(&table, true);
+    if block >= 1_048_576 {
+        return Ok(None);
+    }
+    let _ = try_cell(&mut helper, &table, 2, block, 0);
+    Ok(helper.look(&table, 2))
+}
+
 // Claims a block of Aged, and tries each of its places on a cell.
 fn work(
     alloc: Global,
