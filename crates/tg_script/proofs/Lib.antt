@@ -1,0 +1,5 @@
+pub mod PieceLaws
+pub mod NumberLaws
+pub mod LabelLaws
+pub mod GrammarLaws
+pub mod ReadLaws
