@@ -3,3 +3,4 @@ pub mod NumberLaws
 pub mod LabelLaws
 pub mod GrammarLaws
 pub mod ReadLaws
+pub mod FetchLaws

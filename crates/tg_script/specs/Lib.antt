@@ -1,2 +1,4 @@
+pub mod Sources
 pub mod Grammar
 pub mod Words
+pub mod Fetching

@@ -1,8 +1,14 @@
 //! Scripts: from bytes to lines.
 #![tactic(auto)]
 
+mod buffer;
+mod fetch;
 mod line;
 mod read;
+mod source;
 
+pub use buffer::LineBuffer;
+pub use fetch::{Lines, MOST_BYTES, MOST_LINE_BYTES};
 pub use line::Line;
 pub use read::read_line;
+pub use source::{Fetched, Next, Source};
