@@ -4,3 +4,4 @@ pub mod LabelLaws
 pub mod GrammarLaws
 pub mod ReadLaws
 pub mod FetchLaws
+pub mod ReadingLaws

@@ -3,17 +3,18 @@ use mathlib.Core.Bool.{true≢false}
 use Rattle.std.proofs.Common.{◌≡◌, ◌⊎◌, inl, inr, ℕ, ◌+◌, ◌%◌, ◌<◌, ◌^◌, nat_lt, ◌++◌, ◌&&◌, Bool, true, false, cond, List, [], ◌∷◌, Option, Some, None, option_and_then, IfSome, refl, sym, ap, ap₂, ◌∙◌, subst, arith}
 use Rattle.std.specs.Prelude.{codes, decimal}
 use Rattle.std.specs.List.{list_all, join_with_byte}
-use Rattle.tg_script.proofs.GrammarLaws.{no_space, no_space-append, no_space-decimal, pieces-join, join-pieces}
+use Rattle.tg_script.proofs.GrammarLaws.{visible, visible-append, visible-decimal, pieces-join, join-pieces}
 use Rattle.std.proofs.lemmas.Bool.{and_parts, and_from, lt-ltb}
 use Rattle.std.proofs.lemmas.Fmt.{decimal_by_steps}
 use Rattle.std.specs.Str.{bytes_eq}
 use Rattle.std.proofs.lemmas.Option.{option_and_then_some}
 use Rattle.std.proofs.lemmas.Slice.Eq.{bytes_eq-Decides}
 use Rattle.tg_rights.specs.RightSet.{RightSet, text_of, letter_if}
+use Rattle.tg_model.specs.declared.command.Command.{Command}
 use Rattle.tg_model.specs.declared.command.Command.TheVariants.{Take, Grant, Remove, Read, Write, List as Listing}
 use Rattle.tg_script.specs.declared.line.Line.{Line}
 use Rattle.tg_script.specs.declared.line.Line.TheVariants.{Edge, Create, Plain, Full, Minor}
-use Rattle.tg_script.specs.Grammar.{words_of, line_text, LineFits, NumberFits, LabelFits}
+use Rattle.tg_script.specs.Grammar.{words_of, line_text, LineFits, CommandFits, NumberFits, LabelFits, words_of_command}
 use Rattle.tg_script.specs.Words.{pieces, number_of, label_of, one_word, two_words, three_words, four_words, five_words, line_of}
 use Rattle.tg_script.proofs.NumberLaws.{number_of-decimal, number_text}
 use Rattle.tg_script.proofs.LabelLaws.{label_of-text_of, label_text}
@@ -242,52 +243,77 @@ found_line bytes (Some line) e =
     let k = words_of-line (pieces bytes) line (sym e) in
     (k.fits, sym (join-pieces bytes) ∙ ap (join_with_byte 32) k.words)
 
-no_space-letter_if : (b : Bool) (letter : ℕ) → no_space (letter ∷ []) ≡ true → no_space (letter_if b letter) ≡ true
-no_space-letter_if true letter h = h
-no_space-letter_if false letter h = refl
+visible-letter_if : (b : Bool) (letter : ℕ) → visible (letter ∷ []) ≡ true → visible (letter_if b letter) ≡ true
+visible-letter_if true letter h = h
+visible-letter_if false letter h = refl
 
-no_space-text_of : (l : RightSet) → no_space (text_of l) ≡ true
-no_space-text_of l =
-    let r = no_space-letter_if l.r 114 refl in
-    let w = no_space-letter_if l.w 119 refl in
-    let t = no_space-letter_if l.t 116 refl in
-    let g = no_space-letter_if l.g 103 refl in
-    let rw_ = no_space-append (letter_if l.r 114) (letter_if l.w 119) r w in
-    let rwt = no_space-append (letter_if l.r 114 ++ letter_if l.w 119) (letter_if l.t 116) rw_ t in
-    no_space-append (letter_if l.r 114 ++ letter_if l.w 119 ++ letter_if l.t 116) (letter_if l.g 103) rwt g
+visible-text_of : (l : RightSet) → visible (text_of l) ≡ true
+visible-text_of l =
+    let r = visible-letter_if l.r 114 refl in
+    let w = visible-letter_if l.w 119 refl in
+    let t = visible-letter_if l.t 116 refl in
+    let g = visible-letter_if l.g 103 refl in
+    let both = visible-append (letter_if l.r 114) (letter_if l.w 119) r w in
+    let rwt = visible-append (letter_if l.r 114 ++ letter_if l.w 119) (letter_if l.t 116) both t in
+    visible-append (letter_if l.r 114 ++ letter_if l.w 119 ++ letter_if l.t 116) (letter_if l.g 103) rwt g
 
-all_one : (a : List ℕ) (ws : List (List ℕ)) → no_space a ≡ true → list_all no_space ws ≡ true → list_all no_space (a ∷ ws) ≡ true
-all_one a ws h k = and_from (no_space a) (list_all no_space ws) h k
+all_one : (a : List ℕ) (ws : List (List ℕ)) → visible a ≡ true → list_all visible ws ≡ true → list_all visible (a ∷ ws) ≡ true
+all_one a ws h k = and_from (visible a) (list_all visible ws) h k
 
-cut2 : (a b : List ℕ) → no_space a ≡ true → no_space b ≡ true → pieces (join_with_byte 32 (a ∷ b ∷ [])) ≡ a ∷ b ∷ []
-cut2 a b h i = pieces-join a (b ∷ []) (all_one a (b ∷ []) h (all_one b [] i refl))
+all_three : (a b c : List ℕ) → visible a ≡ true → visible b ≡ true → visible c ≡ true → list_all visible (a ∷ b ∷ c ∷ []) ≡ true
+all_three a b c h i j = all_one a (b ∷ c ∷ []) h (all_one b (c ∷ []) i (all_one c [] j refl))
 
-cut3 : (a b c : List ℕ) → no_space a ≡ true → no_space b ≡ true → no_space c ≡ true → pieces (join_with_byte 32 (a ∷ b ∷ c ∷ [])) ≡ a ∷ b ∷ c ∷ []
-cut3 a b c h i j = pieces-join a (b ∷ c ∷ []) (all_one a (b ∷ c ∷ []) h (all_one b (c ∷ []) i (all_one c [] j refl)))
+all_four : (a b c d : List ℕ) → visible a ≡ true → visible b ≡ true → visible c ≡ true → visible d ≡ true → list_all visible (a ∷ b ∷ c ∷ d ∷ []) ≡ true
+all_four a b c d h i j k = all_one a (b ∷ c ∷ d ∷ []) h (all_three b c d i j k)
 
-cut4 : (a b c d : List ℕ) → no_space a ≡ true → no_space b ≡ true → no_space c ≡ true → no_space d ≡ true → pieces (join_with_byte 32 (a ∷ b ∷ c ∷ d ∷ [])) ≡ a ∷ b ∷ c ∷ d ∷ []
-cut4 a b c d h i j k = pieces-join a (b ∷ c ∷ d ∷ []) (all_one a (b ∷ c ∷ d ∷ []) h (all_one b (c ∷ d ∷ []) i (all_one c (d ∷ []) j (all_one d [] k refl))))
+all_five : (a b c d e : List ℕ) → visible a ≡ true → visible b ≡ true → visible c ≡ true → visible d ≡ true → visible e ≡ true → list_all visible (a ∷ b ∷ c ∷ d ∷ e ∷ []) ≡ true
+all_five a b c d e h i j k l = all_one a (b ∷ c ∷ d ∷ e ∷ []) h (all_four b c d e i j k l)
 
-cut5 : (a b c d e : List ℕ) → no_space a ≡ true → no_space b ≡ true → no_space c ≡ true → no_space d ≡ true → no_space e ≡ true → pieces (join_with_byte 32 (a ∷ b ∷ c ∷ d ∷ e ∷ [])) ≡ a ∷ b ∷ c ∷ d ∷ e ∷ []
-cut5 a b c d e h i j k l =
-    pieces-join a (b ∷ c ∷ d ∷ e ∷ []) (all_one a (b ∷ c ∷ d ∷ e ∷ []) h (all_one b (c ∷ d ∷ e ∷ []) i (all_one c (d ∷ e ∷ []) j (all_one d (e ∷ []) k (all_one e [] l refl)))))
+-- the words of a line are visible
+visible-words_of_command : (x : ℕ) (c : Command) → NumberFits x → CommandFits c → list_all visible (words_of_command x c) ≡ true
+visible-words_of_command x (Take y z l) h f = all_five (decimal x) (codes "take") (decimal y) (decimal z) (text_of l) (visible-decimal x h) refl (visible-decimal y f.0) (visible-decimal z f.1) (visible-text_of l)
+visible-words_of_command x (Grant y z l) h f = all_five (decimal x) (codes "grant") (decimal y) (decimal z) (text_of l) (visible-decimal x h) refl (visible-decimal y f.0) (visible-decimal z f.1) (visible-text_of l)
+visible-words_of_command x (Remove y l) h f = all_four (decimal x) (codes "remove") (decimal y) (text_of l) (visible-decimal x h) refl (visible-decimal y f.0) (visible-text_of l)
+visible-words_of_command x (Read y) h f = all_three (decimal x) (codes "read") (decimal y) (visible-decimal x h) refl (visible-decimal y f)
+visible-words_of_command x (Write y v) h f = all_four (decimal x) (codes "write") (decimal y) (decimal v) (visible-decimal x h) refl (visible-decimal y f.0) (visible-decimal v f.1)
+visible-words_of_command x Listing h f = all_one (decimal x) (codes "list" ∷ []) (visible-decimal x h) refl
+
+pub visible-words_of : (l : Line) → LineFits l → list_all visible (words_of l) ≡ true
+visible-words_of (Edge e) f = all_four (codes "edge") (decimal e.from) (decimal e.to) (text_of e.label) refl (visible-decimal e.from f.0) (visible-decimal e.to f.1) (visible-text_of e.label)
+visible-words_of (Create x l) f = all_three (decimal x) (codes "create") (text_of l) (visible-decimal x f.0) refl (visible-text_of l)
+visible-words_of (Plain x c) f = visible-words_of_command x c f.0 f.1
+visible-words_of Full f = refl
+visible-words_of Minor f = refl
+
+cut : (ws : List (List ℕ)) → (ws ≡ [] → ⊥) → list_all visible ws ≡ true → pieces (join_with_byte 32 ws) ≡ ws
+cut [] some h = absurd (some refl)
+cut (w ∷ ws) some h = pieces-join w ws h
+
+some_command : (x : ℕ) (c : Command) → words_of_command x c ≡ [] → ⊥
+some_command x (Take y z l) e = cc
+some_command x (Grant y z l) e = cc
+some_command x (Remove y l) e = cc
+some_command x (Read y) e = cc
+some_command x (Write y v) e = cc
+some_command x Listing e = cc
+
+some_words : (l : Line) → words_of l ≡ [] → ⊥
+some_words (Edge e) h = cc
+some_words (Create x l) h = cc
+some_words (Plain x c) h = some_command x c h
+some_words Full h = cc
+some_words Minor h = cc
 
 pub pieces-line : (line : Line) → LineFits line → pieces (line_text line) ≡ words_of line
-pieces-line (Edge e) f =
-    cut4 (codes "edge") (decimal e.from) (decimal e.to) (text_of e.label) refl (no_space-decimal e.from f.0) (no_space-decimal e.to f.1) (no_space-text_of e.label)
-pieces-line (Create x l) f = cut3 (decimal x) (codes "create") (text_of l) (no_space-decimal x f.0) refl (no_space-text_of l)
-pieces-line (Plain x (Take y z l)) f =
-    cut5 (decimal x) (codes "take") (decimal y) (decimal z) (text_of l) (no_space-decimal x f.0) refl (no_space-decimal y f.1.0) (no_space-decimal z f.1.1) (no_space-text_of l)
-pieces-line (Plain x (Grant y z l)) f =
-    cut5 (decimal x) (codes "grant") (decimal y) (decimal z) (text_of l) (no_space-decimal x f.0) refl (no_space-decimal y f.1.0) (no_space-decimal z f.1.1) (no_space-text_of l)
-pieces-line (Plain x (Remove y l)) f =
-    cut4 (decimal x) (codes "remove") (decimal y) (text_of l) (no_space-decimal x f.0) refl (no_space-decimal y f.1.0) (no_space-text_of l)
-pieces-line (Plain x (Read y)) f = cut3 (decimal x) (codes "read") (decimal y) (no_space-decimal x f.0) refl (no_space-decimal y f.1)
-pieces-line (Plain x (Write y v)) f =
-    cut4 (decimal x) (codes "write") (decimal y) (decimal v) (no_space-decimal x f.0) refl (no_space-decimal y f.1.0) (no_space-decimal v f.1.1)
-pieces-line (Plain x Listing) f = cut2 (decimal x) (codes "list") (no_space-decimal x f.0) refl
-pieces-line Full f = refl
-pieces-line Minor f = refl
+pieces-line line f = cut (words_of line) (some_words line) (visible-words_of line f)
 
 pub only_line : (bytes : List ℕ) (found : Option Line) (line : Line) → found ≡ line_of (pieces bytes) → LineFits line → bytes ≡ line_text line → found ≡ Some line
 only_line bytes found line e fits text = e ∙ ap (λ x. line_of (pieces x)) text ∙ ap line_of (pieces-line line fits) ∙ line_of-words line fits
+
+-- two lines with one text are one line
+pub line_text-same : (l m : Line) → LineFits l → LineFits m → line_text l ≡ line_text m → l ≡ m
+line_text-same l m first second same =
+    let read = line_of (pieces (line_text l)) in
+    let at_l : read ≡ Some l = only_line (line_text l) read l refl first refl in
+    let at_m : read ≡ Some m = only_line (line_text l) read m refl second same in
+    cc

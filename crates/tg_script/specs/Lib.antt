@@ -2,3 +2,4 @@ pub mod Sources
 pub mod Grammar
 pub mod Words
 pub mod Fetching
+pub mod Reading

@@ -2,12 +2,15 @@
 #![tactic(auto)]
 
 mod buffer;
+mod fault;
 mod fetch;
+pub mod laws;
 mod line;
 mod read;
 mod source;
 
 pub use buffer::LineBuffer;
+pub use fault::ScriptFault;
 pub use fetch::{Lines, MOST_BYTES, MOST_LINE_BYTES};
 pub use line::Line;
 pub use read::read_line;
