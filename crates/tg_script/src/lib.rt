@@ -2,19 +2,28 @@
 #![tactic(auto)]
 
 mod answer;
+mod buffer;
 mod count;
 mod fault;
+mod fetch;
+pub mod laws;
+mod line;
 mod memory;
+mod read;
 mod reply;
 mod sink;
 mod source;
 mod stream;
 
 pub use answer::{Answer, Refusal};
+pub use buffer::LineBuffer;
 pub use count::Count;
 pub use fault::ScriptFault;
+pub use fetch::{Lines, MOST_BYTES, MOST_LINE_BYTES};
+pub use line::Line;
 pub use memory::{Bytes, Written};
+pub use read::read_line;
 pub use reply::write_reply;
 pub use sink::{Put, Sink, WriteFailed, put_all, put_texts};
-pub use source::{Next, Source};
+pub use source::{Fetched, Next, Source};
 pub use stream::OfWrite;
