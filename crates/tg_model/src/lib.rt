@@ -29,6 +29,6 @@ pub use command::{Command, Deed};
 pub use edge::{Edge, EdgeList};
 pub use law::Law;
 pub use numbers::Numbers;
-pub use opening::{Opening, OpeningFault};
+pub use opening::{MAX_VERTICES, MAX_WORKERS, Opening, OpeningFault};
 pub use reply::{Cause, Denial, Reply, Rule};
 pub use value::Value;
