@@ -1,0 +1,135 @@
+//! Blocks of cells.
+//!
+//! The heap grows by blocks. A block is 64 cells, a cell 8 words of 64 bits:
+//!
+//! ```text
+//!            word 0   1      2            3          4          5          6          7
+//!  free      0        0      0            0          0          0          0          0
+//!  object    1        name   payload key  0          reference  reference  reference  next chunk
+//!  chunk     2        reference ..                                         reference  next chunk
+//! ```
+//!
+//! The first word of a cell, its tag, says what the cell is; a cell that is none of the three is bad. What its
+//! references mean is no matter of this crate.
+//!
+//! The cells of a block are one allocation of 4 KiB, made of zeros once. A block is moved by its pointer, so
+//! its cells never move, and a list of blocks grows without copying them.
+//!
+//! A block is seen as a list of 64 cells, each a list of 8 words. Setting a word or a cell changes it alone.
+#![tactic(auto)]
+
+ghost use Rattle.std.specs.Prelude.{◌≡◌, ℕ, ◌<◌, List, IfOk, slice_index, slice_set};
+ghost use Rattle.tg_block.specs.Cells.{IsBlock, cell_of, kind_of, with_word, free_block, all_are_zero};
+
+use std::alloc::{AllocError, Global};
+use std::marker::Model;
+
+/// How many cells a block has.
+pub const CELLS: usize = 64;
+
+/// How many words a cell has.
+pub const WORDS: usize = 8;
+
+/// The first word of an object.
+pub const OBJECT_TAG: u64 = 1;
+
+/// The first word of a chunk.
+pub const CHUNK_TAG: u64 = 2;
+
+/// What a cell is.
+#[derive(Clone, Copy, PartialEq, Eq, Debug)]
+pub enum CellKind {
+    /// All words are 0.
+    Free,
+    /// A vertex: the first word is 1.
+    Object,
+    /// More references of a vertex: the first word is 2.
+    Chunk,
+    /// None of these.
+    Bad,
+}
+
+/// 64 cells of 8 words.
+#[derive(Drop)]
+pub struct Block {
+    cells: Box<[[u64; WORDS]; CELLS]>,
+}
+
+impl Model for Block {
+    ghost Value = { List (List ℕ) };
+
+    ghost view = { λ b. b.cells.value };
+
+    ghost invariant = { λ b. IsBlock b.cells.value };
+}
+
+impl Block {
+    /// A block of free cells; refused only where memory for its 4 KiB was.
+    pub fn new(alloc: Global) -> Result<Block, AllocError>
+        ensures { IfOk result (λ block. block ≡ free_block) }
+    {
+        let cells = Box::new(alloc, [[0; WORDS]; CELLS])?;
+        Ok(Block { cells })
+    }
+
+    /// A word of a cell.
+    #[inline]
+    pub fn word(&self, cell: usize, i: usize) -> u64
+        requires cell_inside { cell < 64 }
+        requires word_inside { i < 8 }
+        ensures word { result ≡ slice_index (cell_of self.now cell) i }
+        ensures block { IsBlock self.now }
+    {
+        self.cells[cell][i]
+    }
+
+    /// Sets a word of a cell; all other words stay.
+    #[inline]
+    pub fn set_word(&mut self, cell: usize, i: usize, word: u64)
+        requires cell_inside { cell < 64 }
+        requires word_inside { i < 8 }
+        ensures { self.new ≡ with_word self.old cell i word }
+    {
+        self.cells[cell][i] = word;
+    }
+
+    /// The words of a cell.
+    #[inline]
+    pub fn cell(&self, at: usize) -> [u64; WORDS]
+        requires { at < 64 }
+        ensures words { result ≡ cell_of self.now at }
+        ensures block { IsBlock self.now }
+    {
+        self.cells[at]
+    }
+
+    /// Sets the words of a cell; all other cells stay.
+    #[inline]
+    pub fn set_cell(&mut self, at: usize, words: [u64; WORDS])
+        requires { at < 64 }
+        ensures { self.new ≡ slice_set self.old at words }
+    {
+        self.cells[at] = words;
+    }
+
+    /// What a cell is.
+    pub fn kind(&self, cell: usize) -> CellKind
+        requires { cell < 64 }
+        ensures { result ≡ kind_of (cell_of self.now cell) }
+    {
+        let words = &self.cells[cell];
+        match words[0] {
+            0 if is_all_zero(words) => CellKind::Free,
+            OBJECT_TAG => CellKind::Object,
+            CHUNK_TAG => CellKind::Chunk,
+            _ => CellKind::Bad,
+        }
+    }
+}
+
+// Whether each of the words is 0.
+fn is_all_zero(words: &[u64]) -> bool
+    ensures { result ≡ all_are_zero words.now }
+{
+    words.iter().all(|word| *word == 0)
+}
