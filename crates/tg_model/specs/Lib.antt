@@ -3,3 +3,4 @@ pub mod Walks
 pub mod Graph
 pub mod Rules
 pub mod Opened
+pub mod Plain

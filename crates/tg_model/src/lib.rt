@@ -18,17 +18,21 @@
 
 mod command;
 mod edge;
+mod graph;
 mod law;
 pub mod laws;
 mod numbers;
 mod opening;
 mod reply;
+mod triple;
 mod value;
 
 pub use command::{Command, Deed};
 pub use edge::{Edge, EdgeList};
+pub use graph::{Graph, ModelFault};
 pub use law::Law;
 pub use numbers::Numbers;
-pub use opening::{Opening, OpeningFault};
+pub use opening::{MAX_VERTICES, MAX_WORKERS, Opening, OpeningFault};
 pub use reply::{Cause, Denial, Reply, Rule};
+pub use triple::Triple;
 pub use value::Value;
