@@ -6,3 +6,4 @@ pub mod ReadLaws
 pub mod FetchLaws
 pub mod ReadingLaws
 pub mod SinkLaws
+pub mod LinesLaws

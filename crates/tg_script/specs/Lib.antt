@@ -5,3 +5,7 @@ pub mod Grammar
 pub mod Words
 pub mod Reading
 pub mod Texts
+pub mod Script
+pub mod Running
+pub mod Lines
+pub mod Opening

@@ -36,6 +36,7 @@ impl Lines {
     pub fn next_line<S: Source>(&mut self, source: &mut S, line: &mut LineBuffer) -> Fetched
         ensures bytes { FetchesKnown self.old.room (S.left source.old) result line.new (S.left source.new) }
         ensures room { result ≡ Fetched.Line → self.new.room + length line.new + 1 ≡ self.old.room }
+        ensures shrinks { self.new.room ≤ self.old.room }
         ensures failures { S.failures source.new ≡ S.failures source.old + failures_of result }
         ensures asked { S.asked source.new + self.new.room ≤ S.asked source.old + self.old.room + 1 }
         ensures asked_of_line { result ≡ Fetched.Line → S.asked source.new + self.new.room ≡ S.asked source.old + self.old.room }
