@@ -1,1 +1,2 @@
 mod PairLaws
+mod StandLaws

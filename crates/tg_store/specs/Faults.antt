@@ -1,4 +1,4 @@
--- How a fault of the graph is told to the store's callers.
+-- How a fault of the graph is told to the store's callers, and for what reason no vertex was made.
 use Rattle.std.specs.Prelude.{◌≡◌, ℕ, Result, IsErrAnd}
 use Rattle.tg_model.specs.declared.graph.ModelFault.{ModelFault}
 use Rattle.tg_model.specs.declared.graph.ModelFault.TheVariants as model
@@ -6,15 +6,10 @@ use Rattle.tg_store.specs.declared.fault.ApplyFault.{ApplyFault}
 use Rattle.tg_store.specs.declared.fault.ApplyFault.TheVariants as apply
 use Rattle.tg_store.specs.declared.fault.CreateRefused.{CreateRefused}
 use Rattle.tg_store.specs.declared.fault.CreateFault.{CreateFault}
-use Rattle.tg_store.specs.declared.fault.CreateFault.TheVariants as create
 
 abbrev pub apply_fault_of : ModelFault → ApplyFault
 apply_fault_of model.OutOfMemory = apply.OutOfMemory
 apply_fault_of model.NoSuchWorker = apply.NoSuchWorker
-
-abbrev pub create_fault_of : ModelFault → CreateFault
-create_fault_of model.OutOfMemory = create.OutOfMemory
-create_fault_of model.NoSuchWorker = create.NoSuchWorker
 
 -- no vertex was made, for this reason
 abbrev pub IsRefusedFor : CreateFault → Result ℕ CreateRefused → Type 0

@@ -84,17 +84,3 @@ impl From<ModelFault> for ApplyFault {
         }
     }
 }
-
-impl From<ModelFault> for CreateFault {
-    ghost use Rattle.tg_store.specs.Faults.{create_fault_of};
-    ghost use Rattle.std.specs.Prelude.{◌≡◌};
-
-    ghost from_gives = { λ fault e. e ≡ create_fault_of fault };
-
-    fn from(fault: ModelFault) -> CreateFault {
-        match fault {
-            ModelFault::NoSuchWorker => CreateFault::NoSuchWorker,
-            ModelFault::OutOfMemory => CreateFault::OutOfMemory,
-        }
-    }
-}

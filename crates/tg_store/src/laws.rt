@@ -10,5 +10,4 @@ use crate::store::Store;
 pub fn stands_for_one_graph(_store: &Store)
     ensures some { (g : ProtectionGraph) × StandsFor _store.now g }
     ensures one { (g h : ProtectionGraph) → StandsFor _store.now g → StandsFor _store.now h → g ≡ h }
-{
-}
+{}

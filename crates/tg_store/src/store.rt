@@ -1,5 +1,6 @@
 //! The store and its calls.
 ghost use Rattle.std.specs.Prelude.{◌≡◌, ◌↔◌, ◌≤◌, Err, IfOk, IfErr, OnOk, OnErr};
+ghost use Rattle.tg_store.specs.declared.fault.CreateRefused.{CreateRefused};
 
 use crate::collect::{Kind, compact};
 use crate::fault::{ApplyFault, CollectFault, CreateFault, CreateRefused, OpenFault, OpenRefused};
@@ -75,12 +76,7 @@ impl Store {
     /// `NoSuchWorker` is answered exactly where no worker has the name, and else `VerticesFull` exactly where as many
     /// vertices were made as may be; else `OutOfMemory` alone. After a fault the store is as it was, and the value is
     /// handed back.
-    pub fn create(
-        &mut self,
-        worker: u64,
-        label: Label,
-        value: Value,
-    ) -> Result<u64, CreateRefused>
+    pub fn create(&mut self, worker: u64, label: Label, value: Value) -> Result<u64, CreateRefused>
         requires { ValueFits value }
         ensures name { (g : ProtectionGraph) → StandsFor self.old g → IfOk result (λ name. answer_of g worker (Deed.Create label value.law value.state) ≡ Reply.Name name) }
         ensures step { (g : ProtectionGraph) → StandsFor self.old g → OnOk result (StandsFor self.new (step g worker (Deed.Create label value.law value.state))) }
@@ -90,21 +86,24 @@ impl Store {
         ensures refused { OnErr result (self.new ≡ self.old) }
         ensures opening { self.new.opening ≡ self.old.opening }
     {
+        if worker >= self.graph.workers() {
+            return refused(value, CreateFault::NoSuchWorker);
+        }
+        let name = self.graph.made();
+        if name >= self.graph.max_vertices() {
+            return refused(value, CreateFault::VerticesFull);
+        }
         let Value { law, state } = value;
         let deed = Deed::Create { label, law, state };
-        let reply = self.graph.apply(worker, &deed);
+        let made = self.graph.apply(worker, &deed).is_ok();
         let Deed::Create { law, state, .. } = deed else {
             unreachable!()
         };
-        let why = match reply {
-            Ok(Reply::Name(name)) => return Ok(name),
-            Ok(_) => CreateFault::VerticesFull,
-            Err(fault) => CreateFault::from(fault),
-        };
-        Err(CreateRefused {
-            value: Value { law, state },
-            why,
-        })
+        if made {
+            Ok(name)
+        } else {
+            refused(Value { law, state }, CreateFault::OutOfMemory)
+        }
     }
 
     /// Copies what the store holds into new memory and gives up the old. Answers how many vertices there are, which is
@@ -121,4 +120,11 @@ impl Store {
         }
         Ok(self.graph.made())
     }
+}
+
+// No vertex was made, and the value goes back.
+fn refused(value: Value, why: CreateFault) -> Result<u64, CreateRefused>
+    ensures { let refused : CreateRefused = record { value = value; why = why } in result ≡ Err refused }
+{
+    Err(CreateRefused { value, why })
 }
