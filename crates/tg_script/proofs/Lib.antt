@@ -7,3 +7,7 @@ pub mod FetchLaws
 pub mod ReadingLaws
 pub mod SinkLaws
 pub mod LinesLaws
+pub mod OpeningLaws
+pub mod RunLaws
+pub mod CommandLaws
+pub mod RanLaws

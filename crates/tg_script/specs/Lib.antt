@@ -9,3 +9,6 @@ pub mod Script
 pub mod Running
 pub mod Lines
 pub mod Opening
+pub mod Supply
+pub mod Answering
+pub mod Run

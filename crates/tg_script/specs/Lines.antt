@@ -42,3 +42,8 @@ read_failures r = 0
 -- these lines are taken: whatever is read behind them is read behind them
 abbrev pub Behind : Script → List ℕ → List Line → Script → List ℕ → Type 0
 Behind s bytes front t rest = (lines : List Line) (end : Option ScriptFault) → ReadsFrom t rest lines end → ReadsFrom s bytes (front ++ lines) end
+
+-- how many failures of the sink an outcome is
+abbrev pub write_failures : {T : Type 0} → Result T ScriptFault → ℕ
+write_failures (Err fault.WriteFailed) = 1
+write_failures r = 0

@@ -1,6 +1,8 @@
 -- What the opening of a run comes to: the edge lines in front of a script, and the store that they make.
 use Rattle.std.specs.Prelude.{◌≡◌, ℕ, false, List, [], ◌∷◌, ◌++◌, map, Option, Some, None, Result, Ok, Err}
 use Rattle.tg_model.specs.declared.edge.Edge.{Edge}
+use Rattle.tg_model.specs.Opened.{Plan, HasLimits, start_of}
+use Rattle.tg_store.specs.Store.{StoreState, StandsFor}
 use Rattle.tg_script.specs.declared.line.Line.{Line}
 use Rattle.tg_script.specs.declared.line.Line.TheVariants as line
 use Rattle.tg_script.specs.declared.fault.ScriptFault.{ScriptFault}
@@ -27,3 +29,10 @@ abbrev pub ReadsEdges : Script → List ℕ → Result Front ScriptFault → Scr
 ReadsEdges s bytes (Ok front) t after = ReadsFirst s bytes front.edges.items front.first t after
 ReadsEdges s bytes (Err fault.OutOfMemory) t after = Unit {0}
 ReadsEdges s bytes (Err f) t after = (edges : List Edge) × ReadsFrom s bytes (edge_lines edges) (Some f)
+
+-- The store stands for the graph that the plan starts from; or a limit of the plan is out of its range, or memory was wanting.
+abbrev pub Opens : Plan → Result StoreState ScriptFault → Type 0
+Opens p (Ok store) = HasLimits p × StandsFor store (start_of p)
+Opens p (Err fault.BadLimits) = ¬ HasLimits p
+Opens p (Err fault.OutOfMemory) = HasLimits p
+Opens p (Err f) = ⊥

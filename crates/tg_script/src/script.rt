@@ -29,7 +29,7 @@ pub(crate) struct Script {
 impl Script {
     ghost use Rattle.std.specs.Prelude.{◌≡◌, ◌+◌, ◌<◌, ◌≤◌, ℕ, List, Some, Ok, true, IfOk, IfSome};
     ghost use Rattle.tg_script.specs.Reading.{MayStand, opening_after};
-    ghost use Rattle.tg_script.specs.Lines.{NextLine, TakesLine, Follows, read_failures};
+    ghost use Rattle.tg_script.specs.Lines.{NextLine, TakesLine, Follows, read_failures, write_failures};
 
     /// No line was read.
     pub(crate) fn new(workers: u64) -> Script
@@ -53,6 +53,7 @@ impl Script {
         ensures follows { IfOk result (λ next. IfSome next (λ line. Follows self.old line self.new)) }
         ensures shorter { IfOk result (λ next. IfSome next (λ _. self.new.lines.room < self.old.lines.room)) }
         ensures failures { S.failures source.new ≡ S.failures source.old + read_failures result }
+        ensures unwritten { write_failures result ≡ 0 }
         ensures asked { S.asked source.new + self.new.lines.room ≤ S.asked source.old + self.old.lines.room + 1 }
         ensures asked_of_line { IfOk result (λ next. IfSome next (λ line. S.asked source.new + self.new.lines.room ≡ S.asked source.old + self.old.lines.room)) }
     {
