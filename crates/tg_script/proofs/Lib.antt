@@ -11,3 +11,4 @@ pub mod OpeningLaws
 pub mod RunLaws
 pub mod CommandLaws
 pub mod RanLaws
+pub mod OutputLaws

@@ -69,7 +69,7 @@ apply_done old new x command answer answers steps unknown supply (Some s) shown 
 same_scene : (old new : Run) (s : Scene) → new.store ≡ old.store → values_left new.supply ≡ values_left old.supply → Shows old (Some s) → Shows new (Some s)
 same_scene old new s store supply shown = (subst (λ (x : StoreState). StandsFor x s.graph) (sym store) shown.0, supply ∙ shown.1)
 
-pub apply_refused : (old new : Run) (x : ℕ) (command : Command) (fault : ApplyFault) → ((g : ProtectionGraph) → StandsFor old.store g → (Err fault ≡ Err apply.NoSuchWorker) ↔ (¬ IsSubject g x)) → new.store ≡ old.store → new.supply ≡ old.supply → Handles old (line.Plain x command) (told.Refused (apply_refusal fault)) new
+pub apply_refused : (old new : Run) (x : ℕ) (command : Command) (fault : ApplyFault) → ((g : ProtectionGraph) → StandsFor old.store g → (◌≡◌ {A = Result Reply ApplyFault} (Err fault) (Err apply.NoSuchWorker)) ↔ (¬ IsSubject g x)) → new.store ≡ old.store → new.supply ≡ old.supply → Handles old (line.Plain x command) (told.Refused (apply_refusal fault)) new
 apply_refused old new x command fault unknown store supply None shown = (None, tt, tt)
 apply_refused old new x command apply.NoSuchWorker unknown store supply (Some s) shown =
     (Some s, same_scene old new s store (ap values_left supply) shown, inl (inr ((unknown s.graph shown.0).0 refl, refl, refl)))

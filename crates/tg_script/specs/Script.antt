@@ -61,6 +61,11 @@ IsOutput (Some s) [] text = text ≡ []
 IsOutput (Some s) (l ∷ lines) text =
     (a : Answer) × (t : Option Scene) × (rest : List ℕ) × Answers s l a t × (text ≡ answer_text a ++ rest) × IsOutput t lines rest
 
+-- no line is a full collection
+abbrev pub HasNoFull : List Line → Type 0
+HasNoFull [] = Unit {0}
+HasNoFull (l ∷ lines) = (l ≢ line.Full) × HasNoFull lines
+
 -- The text for the lines, where memory may be wanting, and was for so many of them.
 abbrev pub IsAdmissible : Option Scene → List Line → ℕ → List ℕ → Type 0
 IsAdmissible None lines wants text = Unit {0}

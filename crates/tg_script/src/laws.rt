@@ -5,6 +5,7 @@ ghost use Rattle.tg_script.specs.declared.fault.ScriptFault.{ScriptFault};
 ghost use Rattle.tg_script.specs.declared.fault.ScriptFault.TheVariants.{ReadFailed};
 ghost use Rattle.tg_script.specs.Grammar.{LineFits, line_text};
 ghost use Rattle.tg_script.specs.Reading.{Reads};
+ghost use Rattle.tg_script.specs.Script.{Scene, IsOutput, IsAdmissible, HasNoFull};
 
 /// The grammar is unambiguous: a text is that of one line at most.
 pub fn a_text_is_one_line()
@@ -23,4 +24,14 @@ pub fn failed_reading_is_a_front()
     ensures { (workers room count : ℕ) (opening : Bool) (bytes : List ℕ) (lines others : List Line) (other : Option ScriptFault) →
         Reads workers room count opening bytes lines (Some ReadFailed) → Reads workers room count opening bytes others other →
         other ≢ Some ReadFailed → (more : List Line) × (others ≡ lines ++ more) }
+{}
+
+/// Where nothing was wanting, an admissible text is the output.
+pub fn admissible_without_wants_is_the_output()
+    ensures { (s : Option Scene) (lines : List Line) (text : List ℕ) → IsAdmissible s lines 0 text → IsOutput s lines text }
+{}
+
+/// The output is one text, where no full collection comes.
+pub fn output_is_deterministic()
+    ensures { (s : Scene) (lines : List Line) (text other : List ℕ) → HasNoFull lines → IsOutput (Some s) lines text → IsOutput (Some s) lines other → text ≡ other }
 {}
