@@ -5,3 +5,4 @@ pub mod GrammarLaws
 pub mod ReadLaws
 pub mod FetchLaws
 pub mod ReadingLaws
+pub mod StockLaws

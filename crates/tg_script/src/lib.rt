@@ -8,6 +8,8 @@ pub mod laws;
 mod line;
 mod read;
 mod source;
+mod stock;
+mod word;
 
 pub use buffer::LineBuffer;
 pub use fault::ScriptFault;
@@ -15,3 +17,4 @@ pub use fetch::{Lines, MOST_BYTES, MOST_LINE_BYTES};
 pub use line::Line;
 pub use read::read_line;
 pub use source::{Fetched, Next, Source};
+pub use stock::{MOST_BOXES, StockFault, StockItem, read_stock};

@@ -3,7 +3,7 @@ use Rattle.std.specs.Prelude.{decimal}
 use Rattle.std.specs.Str.{bytes_eq}
 use Rattle.tg_script.specs.Words.{number_of}
 use Rattle.tg_script.proofs.NumberLaws.{parsed_small, no_text, no_parse, same_text, other_text}
-use Rattle.tg_script.proofs.read.number_of.Goals as goal
+use Rattle.tg_script.proofs.word.number_of.Goals as goal
 
 pub returns-in_default : goal.returns-in_default
 returns-in_default c = sym (no_text c.args.word.now c.in_default.ensures.cases.0)
