@@ -3,7 +3,6 @@ use Rattle.std.proofs.Common.{◌≡◌, ◌≢◌, ◌⊎◌, inl, inr, ℕ, �
 use Rattle.std.specs.Prelude.{decimal}
 use Rattle.std.specs.List.{list_all, AllByRecursion}
 use Rattle.std.specs.Char.{is_ascii_digit}
-use Rattle.std.proofs.Math.Seq.{drop-cons}
 use Rattle.std.proofs.lemmas.Bool.{eqb-true, leb-true, le-leb, and_parts, and_from}
 use Rattle.std.proofs.lemmas.List.{take_more, take_all, drop_all, length-replicate}
 use Rattle.std.proofs.lemmas.Option.{option_and_then_some}
@@ -13,6 +12,7 @@ use Rattle.tg_script.specs.declared.stock.StockItem.TheVariants.{Cell, Sum, Max,
 use Rattle.tg_script.specs.Words.{number_of}
 use Rattle.tg_script.specs.Stock.{letter_of, ItemFits, item_text, item_boxes, stock_text, stock_boxes, Spells, IsStockText}
 use Rattle.tg_script.specs.StockWords.{digits_before, behind_digits, kind_of, in_range, count_of, first_item}
+use Rattle.tg_script.proofs.PieceLaws.{drop_next}
 use Rattle.tg_script.proofs.NumberLaws.{number_of-decimal, number_text}
 
 -- ---- cutting digits off
@@ -28,9 +28,6 @@ behind_on bs b h = rw h refl
 
 behind_off : (bs : List ℕ) (b : ℕ) → is_ascii_digit b ≡ false → behind_digits (b ∷ bs) ≡ b ∷ bs
 behind_off bs b h = rw h refl
-
-drop_next : (bs : List ℕ) (at b : ℕ) → at < length bs → b ≡ get_or bs at b → drop at bs ≡ b ∷ drop (at + 1) bs
-drop_next bs at b l e = rw add-one (drop-cons bs at b l ∙ ap (λ x. x ∷ drop (suc at) bs) (sym e))
 
 -- the first `at` bytes are digits
 pub record DigitsTo (bs : List ℕ) (at : ℕ) : Type 0 where
@@ -360,3 +357,7 @@ longer done kind count number size = omega (arith, size, length-append done (rep
 -- of a text that names few enough boxes, all that it spells are few enough
 pub few_enough : (text : List ℕ) (boxes found : List StockItem) → IsStockText text boxes → Spells text found → IsStockText text found
 few_enough text boxes found s f = (f, subst (λ (x : List StockItem). length x ≤ 100000) (spells-same text boxes found s.0 f) s.1)
+
+-- a text is that of one stock at most
+pub stock_same : (text : List ℕ) (boxes others : List StockItem) → IsStockText text boxes → IsStockText text others → boxes ≡ others
+stock_same text boxes others s t = spells-same text boxes others s.0 t.0

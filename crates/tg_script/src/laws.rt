@@ -5,6 +5,8 @@ ghost use Rattle.tg_script.specs.declared.fault.ScriptFault.{ScriptFault};
 ghost use Rattle.tg_script.specs.declared.fault.ScriptFault.TheVariants.{ReadFailed};
 ghost use Rattle.tg_script.specs.Grammar.{LineFits, line_text};
 ghost use Rattle.tg_script.specs.Reading.{Reads};
+ghost use Rattle.tg_script.specs.declared.stock.StockItem.{StockItem};
+ghost use Rattle.tg_script.specs.Stock.{IsStockText};
 
 /// The grammar is unambiguous: a text is that of one line at most.
 pub fn a_text_is_one_line()
@@ -23,4 +25,9 @@ pub fn failed_reading_is_a_front()
     ensures { (workers room count : ℕ) (opening : Bool) (bytes : List ℕ) (lines others : List Line) (other : Option ScriptFault) →
         Reads workers room count opening bytes lines (Some ReadFailed) → Reads workers room count opening bytes others other →
         other ≢ Some ReadFailed → (more : List Line) × (others ≡ lines ++ more) }
+{}
+
+/// The text of a stock has one reading: it names one list of boxes at most.
+pub fn a_text_is_one_stock()
+    ensures { (text : List ℕ) (boxes others : List StockItem) → IsStockText text boxes → IsStockText text others → boxes ≡ others }
 {}

@@ -9,6 +9,8 @@ mod line;
 mod read;
 mod source;
 mod stock;
+#[cfg(test)]
+mod stock_tests;
 mod word;
 
 pub use buffer::LineBuffer;
