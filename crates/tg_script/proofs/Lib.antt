@@ -12,3 +12,5 @@ pub mod RunLaws
 pub mod CommandLaws
 pub mod RanLaws
 pub mod OutputLaws
+pub mod StockLaws
+pub mod StreamLaws

@@ -8,7 +8,8 @@ with_front-with_front : (a b : List ℕ) (ws : List (List ℕ)) → with_front a
 with_front-with_front a b [] = refl
 with_front-with_front a b (w ∷ ws) = ap (λ x. x ∷ ws) (sym (append_assoc a b w))
 
-drop_next : (bs : List ℕ) (at b : ℕ) → at < length bs → b ≡ get_or bs at b → drop at bs ≡ b ∷ drop (at + 1) bs
+-- what is left from a place on begins with the byte there
+pub drop_next : (bs : List ℕ) (at b : ℕ) → at < length bs → b ≡ get_or bs at b → drop at bs ≡ b ∷ drop (at + 1) bs
 drop_next bs at b l e = rw add-one (drop-cons bs at b l ∙ ap (λ x. x ∷ drop (suc at) bs) (sym e))
 
 cut_here : (t : Bool) (b : ℕ) (bs : List ℕ) → t ≡ true → cond t ([] ∷ pieces bs) (with_front (b ∷ []) (pieces bs)) ≡ [] ∷ pieces bs

@@ -12,3 +12,6 @@ pub mod Opening
 pub mod Supply
 pub mod Answering
 pub mod Run
+pub mod Stock
+pub mod StockWords
+pub mod Values

@@ -1,6 +1,7 @@
 -- How the code reads a line: it is cut at its spaces, and the words are read one by one. `Grammar` says what a line is; nothing
 -- here has to be believed.
-use Rattle.std.specs.Prelude.{◌≡◌, ℕ, ◌^◌, ◌==◌, ◌&&◌, nat_eq, nat_lt, nat_le, Bool, List, [], ◌∷◌, ◌++◌, Option, Some, None, option_and_then, codes, decimal, if◌then◌else◌}
+use Rattle.std.specs.Prelude.{ℕ, ◌+◌, ◌-◌, ◌*◌, ◌^◌, ◌==◌, ◌&&◌, ◌||◌, not, nat_lt, Bool, false, length, List, [], ◌∷◌, ◌++◌, Option, Some, None, option_and_then, codes, decimal, if◌then◌else◌}
+use Rattle.std.specs.Char.{is_ascii_digit}
 use Rattle.std.specs.Str.{bytes_eq}
 use Rattle.std.specs.Str.Parse.{digits_value}
 use Rattle.tg_rights.specs.RightSet.{RightSet, label_of as some_label}
@@ -28,6 +29,21 @@ pieces_left (Some bytes) = pieces bytes
 abbrev pub number_of : List ℕ → Option ℕ
 number_of word =
     if nat_lt (digits_value 10 word) (2 ^ 64) && bytes_eq (decimal (digits_value 10 word)) word then Some (digits_value 10 word) else None
+
+-- a number's text has a digit, and more than one only where the first isn't 0
+abbrev pub no_leading_zero : List ℕ → Bool
+no_leading_zero [] = false
+no_leading_zero (b ∷ bs) = not (b == 48) || (length bs == 0)
+
+-- the number with one digit more, where it is one and the number fits
+abbrev pub with_digit : ℕ → ℕ → Option ℕ
+with_digit number byte =
+    if is_ascii_digit byte && nat_lt (number * 10 + (byte - 48)) (2 ^ 64) then Some (number * 10 + (byte - 48)) else None
+
+-- the number with all these digits more
+abbrev pub digits_on : ℕ → List ℕ → Option ℕ
+digits_on number [] = Some number
+digits_on number (b ∷ bs) = option_and_then (λ longer. digits_on longer bs) (with_digit number b)
 
 -- the label that a word is the text of
 abbrev pub label_of : List ℕ → Option RightSet

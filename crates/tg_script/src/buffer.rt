@@ -35,7 +35,7 @@ impl LineBuffer {
     pub fn len(&self) -> usize
         ensures { result ≡ length self.now }
     {
-        self.len
+        self.as_slice().len()
     }
 
     /// The bytes, in the order in which they were pushed.

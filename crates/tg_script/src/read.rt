@@ -2,18 +2,14 @@
 //!
 //! No memory is taken, and no byte is read more than a few times. A number is read by its digits and written again, so
 //! that what is no number's one text (a leading zero, a sign) is found by comparing.
-ghost use Rattle.std.specs.Prelude.{◌≡◌, ◌∷◌, ◌<◌, ◌^◌, [], Some, IfSome, decimal, option_map};
-ghost use Rattle.std.specs.Str.{bytes_eq};
-ghost use Rattle.tg_rights.specs.RightText.{read_of};
+ghost use Rattle.std.specs.Prelude.{◌≡◌, ◌∷◌, [], Some, IfSome, option_map};
 ghost use Rattle.tg_script.specs.declared.line.Line.{Line};
 ghost use Rattle.tg_script.specs.Grammar.{line_text, LineFits};
-ghost use Rattle.tg_script.specs.Words.{pieces, pieces_left, number_of, label_of, one_word, two_words, three_words, four_words, five_words, line_of};
+ghost use Rattle.tg_script.specs.Words.{pieces, pieces_left, one_word, two_words, three_words, four_words, five_words, line_of};
 
 use crate::line::Line;
-use itoa::Buffer;
-use std::str;
+use crate::word::{is_word, label_of, number_of};
 use tg_model::{Command, Edge};
-use tg_rights::{Label, Rights};
 
 /// The line whose text the bytes are, without a line feed; `None` exactly where no rule of the grammar gives them. Takes
 /// no memory.
@@ -60,42 +56,6 @@ fn piece(bytes: &[u8]) -> (&[u8], Option<&[u8]>)
         }
     }
     (bytes, None)
-}
-
-fn is_word(word: &[u8], text: &[u8]) -> bool
-    ensures { result ≡ bytes_eq word.now text.now }
-{
-    word == text
-}
-
-/// The number that a word is the text of.
-fn number_of(word: &[u8]) -> Option<u64>
-    ensures { result ≡ number_of word.now }
-{
-    let Ok(text) = str::from_utf8(word) else {
-        return None;
-    };
-    let Ok(number) = text.parse::<u64>() else {
-        return None;
-    };
-    let mut buffer = Buffer::new();
-    if is_word(buffer.format(number).as_bytes(), word) {
-        Some(number)
-    } else {
-        None
-    }
-}
-
-fn label_of(word: &[u8]) -> Option<Label>
-    ensures { result ≡ label_of word.now }
-{
-    Label::new(rights_of(word)?)
-}
-
-fn rights_of(word: &[u8]) -> Option<Rights>
-    ensures { result ≡ read_of word.now }
-{
-    Rights::read_text(word)
 }
 
 fn one_word(a: &[u8]) -> Option<Line>
