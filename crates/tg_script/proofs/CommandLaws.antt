@@ -64,9 +64,11 @@ pub under_end : (start : Script) (bytes : List ℕ) (t : Option Scene) (first : 
 under_end start bytes t first before s r l left taken a r' after end h handles wrote ends =
     let v = handles h.scene h.shows in
     let k = told_then h.scene v.0 l a [] 0 [] v.2 (told_none v.0) in
-    let P : List ℕ → Type 0 = λ x. IsTold start bytes t first end (h.sofar ++ x) in
-    (h.sofar ++ answer_text a, wrote_known taken after (before ++ h.sofar) (answer_text a) h.took wrote ∙ ap Some (append_assoc before h.sofar (answer_text a)),
-    subst P (append-nil (answer_text a)) (h.goes_on [] k.0 end (answer_text a ++ []) (ends h.rest h.leaves) k.1))
+    let P : List ℕ → Type 0 = λ x. IsTold start bytes t first end (h.sofar ++ x) in (
+      h.sofar ++ answer_text a,
+      wrote_known taken after (before ++ h.sofar) (answer_text a) h.took wrote ∙ ap Some (append_assoc before h.sofar (answer_text a)),
+      subst P (append-nil (answer_text a)) (h.goes_on [] k.0 end (answer_text a ++ []) (ends h.rest h.leaves) k.1),
+    )
 
 -- the answer is cut short
 pub under_cut : (start : Script) (bytes : List ℕ) (t : Option Scene) (first : Line) (before : List ℕ) (s : Script) (r : Run) (l : Line) (left taken : Option (List ℕ)) (a : Answer) (r' : Run) (after : Option (List ℕ)) → Under start bytes t first before s r l left taken → Handles r l a r' → WroteSome taken (answer_text a) after → (text : List ℕ) × IsTold start bytes t first (Some fault.ReadFailed) text × WroteSome (Some before) text after
@@ -74,9 +76,11 @@ under_cut start bytes t first before s r l left taken a r' after h handles wrote
     let v = handles h.scene h.shows in
     let k = told_then h.scene v.0 l a [] 0 [] v.2 (told_none v.0) in
     let w = wrote_some_known taken after (before ++ h.sofar) (answer_text a) h.took wrote in
-    let P : List ℕ → Type 0 = λ x. IsTold start bytes t first (Some fault.ReadFailed) (h.sofar ++ x) in
-    (h.sofar ++ answer_text a, subst P (append-nil (answer_text a)) (h.goes_on [] k.0 (Some fault.ReadFailed) (answer_text a ++ []) tt k.1),
-    (h.sofar ++ w.0, w.1, ap (λ x. h.sofar ++ x) w.2 ∙ sym (append_assoc h.sofar w.0 w.1), w.3 ∙ ap Some (append_assoc before h.sofar w.0)))
+    let P : List ℕ → Type 0 = λ x. IsTold start bytes t first (Some fault.ReadFailed) (h.sofar ++ x) in (
+      h.sofar ++ answer_text a,
+      subst P (append-nil (answer_text a)) (h.goes_on [] k.0 (Some fault.ReadFailed) (answer_text a ++ []) tt k.1),
+      (h.sofar ++ w.0, w.1, ap (λ x. h.sofar ++ x) w.2 ∙ sym (append_assoc h.sofar w.0 w.1), w.3 ∙ ap Some (append_assoc before h.sofar w.0)),
+    )
 
 -- the answer is written, and a further line is read
 pub under_next : (start : Script) (bytes : List ℕ) (t : Option Scene) (first : Line) (before : List ℕ) (s : Script) (r : Run) (l : Line) (left taken : Option (List ℕ)) (a : Answer) (r' : Run) (after : Option (List ℕ)) (next : Line) (s' : Script) (left' : Option (List ℕ)) → Under start bytes t first before s r l left taken → Handles r l a r' → Wrote taken (answer_text a) after → ((rest : List ℕ) → left ≡ Some rest → (rest' : List ℕ) × (left' ≡ Some rest') × Passes s rest next s' rest') → Under start bytes t first before s' r' next left' after

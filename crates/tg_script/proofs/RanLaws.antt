@@ -97,7 +97,7 @@ commands_of-front (e ∷ edges) l lines command = commands_of-front edges l line
 abbrev pub scene_with : Start → List Edge → Scene
 scene_with start edges = record {
   graph = start_of (record { workers = start.workers; edges = edges; values = start.values; limit = start.limit });
-  stock = start.stock
+  stock = start.stock;
 }
 
 told_output : (start : Start) (s t : Script) (bytes rest : List ℕ) (edges : List Edge) (l : Line) (end : Option ScriptFault) (text : List ℕ) → IsFresh s start.workers → IsCommand l → Behind s bytes (edge_lines edges ++ l ∷ []) t rest → IsTold t rest (Some (scene_with start edges)) l end text → IsScriptOutput start bytes end text
@@ -105,9 +105,12 @@ told_output start s t bytes rest edges l end text fresh command behind h =
     let lines = edge_lines edges ++ l ∷ h.0 in
     let P : List Line → Type 0 = λ x. ReadsFrom s bytes x end in
     let Q : List Edge → Type 0 = λ x. IsAdmissible (Some (scene_with start x)) (commands_of lines) h.1 text in
-    let R : List Line → Type 0 = λ x. IsAdmissible (Some (scene_with start edges)) x h.1 text in
-    (lines, h.1, fresh_reads s start.workers bytes lines end fresh (subst P (append_assoc (edge_lines edges) (l ∷ []) h.0) (behind h.0 end h.2)),
-    subst Q (sym (edges_of-front edges l h.0 command)) (subst R (sym (commands_of-front edges l h.0 command)) h.3))
+    let R : List Line → Type 0 = λ x. IsAdmissible (Some (scene_with start edges)) x h.1 text in (
+      lines,
+      h.1,
+      fresh_reads s start.workers bytes lines end fresh (subst P (append_assoc (edge_lines edges) (l ∷ []) h.0) (behind h.0 end h.2)),
+      subst Q (sym (edges_of-front edges l h.0 command)) (subst R (sym (commands_of-front edges l h.0 command)) h.3),
+    )
 
 told_written : (start : Start) (s t : Script) (bytes rest : List ℕ) (edges : List Edge) (l : Line) (before : List ℕ) (end : Option ScriptFault) (after : Option (List ℕ)) → IsFresh s start.workers → IsCommand l → Behind s bytes (edge_lines edges ++ l ∷ []) t rest → StandsTold t rest (Some (scene_with start edges)) l before end after → IsWritten start bytes before end after
 told_written start s t bytes rest edges l before end after fresh command behind h =

@@ -61,9 +61,11 @@ other_way x e same = cc
 pub apply_done : (old new : Run) (x : ℕ) (command : Command) (answer : Reply) → ((g : ProtectionGraph) → StandsFor old.store g → answer ≡ answer_of g x (deed.Plain command)) → ((g : ProtectionGraph) → StandsFor old.store g → StandsFor new.store (step g x (deed.Plain command))) → ((g : ProtectionGraph) → StandsFor old.store g → (Ok answer ≡ Err apply.NoSuchWorker) ↔ (¬ IsSubject g x)) → new.supply ≡ old.supply → Handles old (line.Plain x command) (told.Reply answer) new
 apply_done old new x command answer answers steps unknown supply None shown = (None, tt, tt)
 apply_done old new x command answer answers steps unknown supply (Some s) shown =
-    let subject = subject_held old.store s.graph x shown.0 (λ none. other_way answer apply.NoSuchWorker ((unknown s.graph shown.0).1 none)) in
-    (Some (record { graph = step s.graph x (deed.Plain command); stock = s.stock }), (steps s.graph shown.0, ap values_left supply ∙ shown.1),
-    inl (inl (subject, ap told.Reply (answers s.graph shown.0), refl)))
+    let subject = subject_held old.store s.graph x shown.0 (λ none. other_way answer apply.NoSuchWorker ((unknown s.graph shown.0).1 none)) in (
+      Some (record { graph = step s.graph x (deed.Plain command); stock = s.stock }),
+      (steps s.graph shown.0, ap values_left supply ∙ shown.1),
+      inl (inl (subject, ap told.Reply (answers s.graph shown.0), refl)),
+    )
 
 -- the scene is as it was
 same_scene : (old new : Run) (s : Scene) → new.store ≡ old.store → values_left new.supply ≡ values_left old.supply → Shows old (Some s) → Shows new (Some s)
@@ -109,9 +111,11 @@ create_done store new x label value left name answers steps unknown supply (Some
     let answer = answers s.graph shown.0 in
     let room = room_left s.graph.made s.graph.limit name (nat_lt s.graph.made s.graph.limit) answer in
     let u : Scene = record { graph = step s.graph x (deed.Create label value.law value.state); stock = cond (nat_lt s.graph.made s.graph.limit) left s.stock } in
-    let P : List Value → Type 0 = λ stock. Creates s x label stock (told.Reply (reply.Name name)) (Some u) in
-    (Some u, (steps s.graph shown.0, supply ∙ sym (ap (λ t. cond t left s.stock) room)),
-    inl (subst P shown.1 (inl (subject, ap told.Reply (sym answer), refl))))
+    let P : List Value → Type 0 = λ stock. Creates s x label stock (told.Reply (reply.Name name)) (Some u) in (
+      Some u,
+      (steps s.graph shown.0, supply ∙ sym (ap (λ t. cond t left s.stock) room)),
+      inl (subst P shown.1 (inl (subject, ap told.Reply (sym answer), refl))),
+    )
 
 full_answer : (made limit : ℕ) → limit ≤ made → cond (nat_lt made limit) (reply.Name made) reply.VerticesFull ≡ reply.VerticesFull
 full_answer made limit full =
@@ -146,9 +150,11 @@ create_refused store new x label value left create.VerticesFull unknown full sam
     let graph : step s.graph x d ≡ s.graph = unchanged_graph s.graph.made s.graph.limit _ s.graph held.1 in
     let stock = unchanged_stock s.graph.made s.graph.limit left s.stock held.1 in
     let u : Scene = record { graph = step s.graph x d; stock = cond (nat_lt s.graph.made s.graph.limit) left s.stock } in
-    let P : List Value → Type 0 = λ stock. Creates s x label stock (told.Reply reply.VerticesFull) (Some u) in
-    (Some u, (subst (λ (h : ProtectionGraph). StandsFor new.store h) (sym graph) (subst (λ (y : StoreState). StandsFor y s.graph) (sym same) shown.0), supply ∙ shown.1 ∙ sym stock),
-    inl (subst P shown.1 (inl (held.0, ap told.Reply (sym (full_answer s.graph.made s.graph.limit held.1)), refl))))
+    let P : List Value → Type 0 = λ stock. Creates s x label stock (told.Reply reply.VerticesFull) (Some u) in (
+      Some u,
+      (subst (λ (h : ProtectionGraph). StandsFor new.store h) (sym graph) (subst (λ (y : StoreState). StandsFor y s.graph) (sym same) shown.0), supply ∙ shown.1 ∙ sym stock),
+      inl (subst P shown.1 (inl (held.0, ap told.Reply (sym (full_answer s.graph.made s.graph.limit held.1)), refl))),
+    )
 create_refused store new x label value left create.OutOfMemory unknown full same supply (Some s) shown =
     let subject = subject_held store s.graph x shown.0 (λ none. let e = (unknown s.graph shown.0).1 none in cc) in
     let some : s.stock ≡ [] → ⊥ = λ none. let e : value ∷ left ≡ [] = shown.1 ∙ none in cc in

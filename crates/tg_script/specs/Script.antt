@@ -106,7 +106,7 @@ pub record Start : Type 0 where
 abbrev pub scene_of : Start → List Line → Scene
 scene_of start lines = record {
   graph = start_of (record { workers = start.workers; edges = edges_of lines; values = start.values; limit = start.limit });
-  stock = start.stock
+  stock = start.stock;
 }
 
 -- the text is what may be written for a script of these bytes, which is read up to this fault, or to its end

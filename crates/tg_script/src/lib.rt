@@ -27,6 +27,8 @@ mod read;
 mod reply;
 mod run;
 mod run_script;
+#[cfg(test)]
+mod run_tests;
 mod script;
 mod sink;
 mod source;

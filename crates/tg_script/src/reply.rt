@@ -92,7 +92,15 @@ fn write_edge<K: Sink>(sink: &mut K, edge: (u64, Label)) -> Result<(), WriteFail
 {
     let mut buffer = Buffer::new();
     let rights = edge.1.rights().text();
-    put_texts(sink, &[b" ", buffer.format(edge.0).as_bytes(), b":", rights.as_bytes()])
+    put_texts(
+        sink,
+        &[
+            b" ",
+            buffer.format(edge.0).as_bytes(),
+            b":",
+            rights.as_bytes(),
+        ],
+    )
 }
 
 fn write_denial<K: Sink>(sink: &mut K, denial: &Denial) -> Result<(), WriteFailed>
@@ -105,13 +113,27 @@ fn write_denial<K: Sink>(sink: &mut K, denial: &Denial) -> Result<(), WriteFaile
     }
 }
 
-fn write_missing<K: Sink>(sink: &mut K, from: u64, to: u64, rights: Rights) -> Result<(), WriteFailed>
+fn write_missing<K: Sink>(
+    sink: &mut K,
+    from: u64,
+    to: u64,
+    rights: Rights,
+) -> Result<(), WriteFailed>
     ensures { Writes (K.taken sink.old) (K.failures sink.old) (cause_text (Cause.Missing from to rights)) result (K.taken sink.new) (K.failures sink.new) }
 {
     let mut first = Buffer::new();
     let mut second = Buffer::new();
     let rights = rights.text();
-    put_texts(sink, &[first.format(from).as_bytes(), b"->", second.format(to).as_bytes(), b" ", rights.as_bytes()])
+    put_texts(
+        sink,
+        &[
+            first.format(from).as_bytes(),
+            b"->",
+            second.format(to).as_bytes(),
+            b" ",
+            rights.as_bytes(),
+        ],
+    )
 }
 
 fn rule_bytes(rule: Rule) -> &'static [u8]
