@@ -35,7 +35,7 @@ pub use edge::{Edge, EdgeList};
 pub use graph::{Graph, ModelFault};
 pub use law::Law;
 pub use numbers::Numbers;
-pub use opening::{Opening, OpeningFault};
+pub use opening::{MAX_VERTICES, MAX_WORKERS, Opening, OpeningFault};
 pub use reply::{Cause, Denial, Reply, Rule};
 pub use triple::Triple;
 pub use value::Value;

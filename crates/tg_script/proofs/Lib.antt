@@ -1,0 +1,16 @@
+pub mod PieceLaws
+pub mod NumberLaws
+pub mod LabelLaws
+pub mod GrammarLaws
+pub mod ReadLaws
+pub mod FetchLaws
+pub mod ReadingLaws
+pub mod SinkLaws
+pub mod LinesLaws
+pub mod OpeningLaws
+pub mod RunLaws
+pub mod CommandLaws
+pub mod RanLaws
+pub mod OutputLaws
+pub mod StockLaws
+pub mod StreamLaws

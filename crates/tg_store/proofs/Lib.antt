@@ -1,0 +1,2 @@
+mod PairLaws
+mod StandLaws

@@ -1,0 +1,44 @@
+//! The texts of the help.
+
+pub const ABOUT: &str = "An object store whose access control is proved
+
+Workers make objects, hold rights over them, and pass rights on by the rules of the take-grant model. The store
+reads a script from standard input, runs it line by line, and writes one line of reply for each command to standard
+output.";
+
+pub const WORKERS: &str = "How many workers there are, from 1 to 64. They are named 0, 1, 2, .. [default: 2]";
+
+pub const VERTICES: &str = "How many vertices may ever be made, from 1 to 16777216. The workers
+are vertices, so it may not be below their number [default: 1000000]";
+
+pub const STOCK: &str = "The boxes that creates take, first to last, as letters: c keeps the last
+value that was written, s the sum of all, m the greatest, l the last four;
+a number after a letter stands for so many boxes of it [default: none]";
+
+pub const MANUAL: &str = "Script:
+  One command a line, of at most 256 bytes, with one space between words; at most 1 MiB in all. X, Y and Z are names
+  of vertices, V is a number, and RIGHTS are letters out of r (read), w (write), t (take) and g (grant), in this order.
+
+  edge X Y RIGHTS      worker X starts with RIGHTS over worker Y; stands before all other lines
+  X create RIGHTS      X makes an object, with the next box of the stock, and has RIGHTS over it
+  X take Y Z RIGHTS    X, with t over Y, gets RIGHTS that Y has over Z
+  X grant Y Z RIGHTS   X, with g over Y, gives Y RIGHTS that X has over Z
+  X remove Y RIGHTS    X gives up RIGHTS over Y
+  X read Y             X, with r over Y, is shown what Y stores
+  X write Y V          X, with w over Y, writes V to Y
+  X list               X is shown its edges
+  full                 collects, and answers how many vertices are left
+
+Replies:
+  ok                   with what was asked for after it: a name, values, edges as NAME:RIGHTS
+  denied ..            the rule, and the rights that were missing on an edge X->Y
+  refused ..           memory, vertices, worker or stock: what there was too little of
+
+Exit status:
+  0  the whole script was run
+  1  the run stopped, and standard error has one line that says why
+  2  the words of the command line were not accepted
+
+Example:
+  printf '0 create rw\\n0 list\\n' | tgstore --workers 1 --stock c
+  writes 'ok 1' and 'ok 1:rw'.";
