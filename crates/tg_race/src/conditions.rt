@@ -1,8 +1,8 @@
 //! The events' conditions on a record, as tests.
-ghost use Rattle.std.specs.Prelude.{◌≡◌, ◌==◌, ◌&&◌, ◌<◌, not, nat_lt};
-ghost use Rattle.std.specs.List.{list_any, list_all};
-ghost use Rattle.tg_race.specs.Words.{same_place, lies_in, space_of, OLD, AGED};
-ghost use Rattle.tg_race.specs.Race.{has, owns, used_in, has_room};
+ghost use Rattle.std.specs.Prelude.{◌≡◌, nat_lt};
+ghost use Rattle.std.specs.List.{list_all};
+ghost use Rattle.tg_race.specs.Words.{space_of};
+ghost use Rattle.tg_race.specs.Race.{has, owns, used_in};
 ghost use Rattle.tg_race.specs.Conditions.{uses, can_use, is_new, can_part, blocks_of, can_claim_block};
 
 use crate::record::Record;

@@ -1,7 +1,7 @@
 //! The race as a state machine, with no atomic.
-ghost use Rattle.std.specs.Prelude.{◌≡◌, ◌+◌, ◌<◌, ◌≤◌, ◌==◌, nat_lt, IfOk, MatchResult, OnErr, if◌then◌else◌, true, false, ◌&&◌, not, slice_get};
+ghost use Rattle.std.specs.Prelude.{◌≡◌, nat_lt, IfOk, MatchResult, if◌then◌else◌, true, false, slice_get};
 ghost use Rattle.std.specs.Option.{option_copied};
-ghost use Rattle.tg_race.specs.Course.{net_of, IsRaceable, can, can_win, is_within, can_happen, happens, starting, record_at, word_at, KeepsRule};
+ghost use Rattle.tg_race.specs.Course.{net_of, IsRaceable, can, can_win, is_within, can_happen, happens, starting, record_at, KeepsRule};
 ghost use Rattle.tg_race.specs.declared.event.Event.TheVariants.{Claim, Look, Lose, Win, Block, Part, Meet};
 
 use crate::event::Event;

@@ -1,4 +1,4 @@
-use Rattle.std.proofs.Common.{ℕ, ◌+◌, ◌*◌}
+use Rattle.std.proofs.Common.{◌+◌, ◌*◌}
 use Rattle.tg_race.proofs.tests.trials.+fn-work_by_all-join+arg2+work_by_all.Given as goal
 
 abbrev pub decreases-join+arg2 : goal.decreases-join+arg2
