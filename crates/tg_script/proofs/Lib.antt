@@ -6,3 +6,10 @@ pub mod ReadLaws
 pub mod FetchLaws
 pub mod ReadingLaws
 pub mod StockLaws
+pub mod SinkLaws
+pub mod LinesLaws
+pub mod OpeningLaws
+pub mod RunLaws
+pub mod CommandLaws
+pub mod RanLaws
+pub mod OutputLaws

@@ -1,7 +1,16 @@
 pub mod Sources
+pub mod Sinks
+pub mod Fetching
 pub mod Grammar
 pub mod Words
-pub mod Fetching
 pub mod Reading
 pub mod Stock
 pub mod StockWords
+pub mod Texts
+pub mod Script
+pub mod Running
+pub mod Lines
+pub mod Opening
+pub mod Supply
+pub mod Answering
+pub mod Run

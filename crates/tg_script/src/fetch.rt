@@ -14,40 +14,36 @@ pub const MOST_BYTES: u32 = 1_048_576;
 /// The most bytes that a line may have, without its line feed.
 pub const MOST_LINE_BYTES: usize = 256;
 
-/// The lines that are left of a source.
-pub struct Lines<S: Source> {
-    /// Where the bytes come from.
-    pub source: S,
+/// How far the lines of a source were read.
+#[derive(Drop)]
+pub struct Lines {
     /// How many bytes may still come, at most [`MOST_BYTES`].
     pub room: u32,
 }
 
-impl<S: Source> Lines<S> {
-    /// All lines of the source, which may have [`MOST_BYTES`] bytes.
-    pub fn new(source: S) -> Lines<S>
-        ensures source { result.source ≡ source }
-        ensures room { result.room ≡ 1048576 }
+impl Lines {
+    /// All lines are left, and [`MOST_BYTES`] bytes may come.
+    pub fn new() -> Lines
+        ensures { result.room ≡ 1048576 }
     {
-        Lines {
-            source,
-            room: MOST_BYTES,
-        }
+        Lines { room: MOST_BYTES }
     }
 
     /// Reads the next line into the buffer, without its line feed, and says what came of it: a line, no more bytes, or
     /// the first fault, looked for at each byte in this order: the source failed, more bytes came than may, the line
     /// has more than [`MOST_LINE_BYTES`]; or the input ended within a line. The source is asked once for each byte of
     /// the line and for what ended it, and not again. Takes no memory.
-    pub fn next_line(&mut self, line: &mut LineBuffer) -> Fetched
-        ensures bytes { FetchesKnown self.old.room (S.left self.old.source) result line.new (S.left self.new.source) }
+    pub fn next_line<S: Source>(&mut self, source: &mut S, line: &mut LineBuffer) -> Fetched
+        ensures bytes { FetchesKnown self.old.room (S.left source.old) result line.new (S.left source.new) }
         ensures room { result ≡ Fetched.Line → self.new.room + length line.new + 1 ≡ self.old.room }
-        ensures failures { S.failures self.new.source ≡ S.failures self.old.source + failures_of result }
-        ensures asked { S.asked self.new.source + self.new.room ≤ S.asked self.old.source + self.old.room + 1 }
-        ensures asked_of_line { result ≡ Fetched.Line → S.asked self.new.source + self.new.room ≡ S.asked self.old.source + self.old.room }
+        ensures shrinks { self.new.room ≤ self.old.room }
+        ensures failures { S.failures source.new ≡ S.failures source.old + failures_of result }
+        ensures asked { S.asked source.new + self.new.room ≤ S.asked source.old + self.old.room + 1 }
+        ensures asked_of_line { result ≡ Fetched.Line → S.asked source.new + self.new.room ≡ S.asked source.old + self.old.room }
     {
         line.clear();
         for _ in 0..257u32 {
-            match self.source.next() {
+            match source.next() {
                 Next::Failed => return Fetched::Failed,
                 Next::End => {
                     return if line.len() == 0 {

@@ -1,0 +1,24 @@
+use Rattle.std.proofs.Common.{◌≡◌, ◌+◌, ℕ, List, Option, Some, false}
+use Rattle.tg_script.specs.Opening.{IsCommand}
+use Rattle.tg_script.specs.Run.{Shows, HasFittingStock}
+use Rattle.tg_script.specs.Script.{Scene}
+use Rattle.tg_script.proofs.CommandLaws.{Under}
+use Rattle.tg_script.proofs.run_script.run_commands.Given as goal
+
+abbrev pub invariant-lines : goal.invariant-lines
+invariant-lines g l =
+    let s = g.S.Source in
+    let k = g.K.Sink in
+    record {
+      command : IsCommand l.line;
+      fits : HasFittingStock l.run;
+      opening : l.script.opening ≡ false;
+      under : (t : Option Scene) (rest before : List ℕ) → Shows l.fn.run t → s.left l.fn.source ≡ Some rest → k.taken l.fn.sink ≡ Some before →
+          Under l.fn.script rest t l.fn.first before l.script l.run l.line (s.left l.source) (k.taken l.sink);
+      read : s.failures l.source ≡ s.failures l.fn.source;
+      wrote : k.failures l.sink ≡ k.failures l.fn.sink;
+      asked : s.asked l.source + l.script.lines.room ≡ s.asked l.fn.source + l.fn.script.lines.room;
+    }
+
+abbrev pub decreases-lines : goal.decreases-lines
+decreases-lines g l = l.script.lines.room

@@ -1,0 +1,49 @@
+-- What comes of the next line of a script, and what that says of how its bytes are read.
+use Rattle.std.specs.Prelude.{◌≡◌, ℕ, ◌+◌, List, [], ◌∷◌, ◌++◌, Option, Some, None, Result, Ok, Err}
+use Rattle.tg_script.specs.declared.line.Line.{Line}
+use Rattle.tg_script.specs.declared.fault.ScriptFault.{ScriptFault}
+use Rattle.tg_script.specs.declared.fault.ScriptFault.TheVariants as fault
+use Rattle.tg_script.specs.declared.script.Script.{Script}
+use Rattle.tg_script.specs.Grammar.{LineFits, line_text}
+use Rattle.tg_script.specs.Reading.{Reads, MayStand, IsBadText, opening_after}
+
+-- the bytes that are left are these lines, and then the fault, or the end
+abbrev pub ReadsFrom : Script → List ℕ → List Line → Option ScriptFault → Type 0
+ReadsFrom s bytes lines end = Reads s.workers s.lines.room s.count s.opening bytes lines end
+
+-- the line is taken: whatever is read behind it is read behind it
+abbrev pub Passes : Script → List ℕ → Line → Script → List ℕ → Type 0
+Passes s bytes l t rest = (lines : List Line) (end : Option ScriptFault) → ReadsFrom t rest lines end → ReadsFrom s bytes (l ∷ lines) end
+
+-- a line, the end of the input, or the first fault
+abbrev pub NextLine : Script → List ℕ → Result (Option Line) ScriptFault → Script → Option (List ℕ) → Type 0
+NextLine s bytes (Ok (Some l)) t after = (rest : List ℕ) × (after ≡ Some rest) × Passes s bytes l t rest
+NextLine s bytes (Ok None) t after = ReadsFrom s bytes [] None
+NextLine s bytes (Err fault) t after = ReadsFrom s bytes [] (Some fault)
+
+-- the line may stand where it came, and now one more line was read
+pub record Follows (s : Script) (l : Line) (t : Script) : Type 0 where
+  pub stands : MayStand s.workers s.opening l
+  pub workers : t.workers ≡ s.workers
+  pub count : t.count ≡ s.count + 1
+  pub opening : t.opening ≡ opening_after s.opening l
+
+-- the line in the buffer is taken, or is bad
+abbrev pub TakesLine : Script → Result (Option Line) ScriptFault → Script → Type 0
+TakesLine s (Ok (Some l)) t = LineFits l × (s.buffer ≡ line_text l) × Follows s l t × (t.lines ≡ s.lines)
+TakesLine s (Ok None) t = ⊥
+TakesLine s (Err f) t = (f ≡ fault.BadLine (s.count + 1)) × IsBadText s.workers s.opening s.buffer × (t ≡ s)
+
+-- how many failures of the source an outcome is
+abbrev pub read_failures : {T : Type 0} → Result T ScriptFault → ℕ
+read_failures (Err fault.ReadFailed) = 1
+read_failures r = 0
+
+-- these lines are taken: whatever is read behind them is read behind them
+abbrev pub Behind : Script → List ℕ → List Line → Script → List ℕ → Type 0
+Behind s bytes front t rest = (lines : List Line) (end : Option ScriptFault) → ReadsFrom t rest lines end → ReadsFrom s bytes (front ++ lines) end
+
+-- how many failures of the sink an outcome is
+abbrev pub write_failures : {T : Type 0} → Result T ScriptFault → ℕ
+write_failures (Err fault.WriteFailed) = 1
+write_failures r = 0

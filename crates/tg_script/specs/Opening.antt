@@ -1,0 +1,38 @@
+-- What the opening of a run comes to: the edge lines in front of a script, and the store that they make.
+use Rattle.std.specs.Prelude.{◌≡◌, ℕ, false, List, [], ◌∷◌, ◌++◌, map, Option, Some, None, Result, Ok, Err}
+use Rattle.tg_model.specs.declared.edge.Edge.{Edge}
+use Rattle.tg_model.specs.Opened.{Plan, HasLimits, start_of}
+use Rattle.tg_store.specs.Store.{StoreState, StandsFor}
+use Rattle.tg_script.specs.declared.line.Line.{Line}
+use Rattle.tg_script.specs.declared.line.Line.TheVariants as line
+use Rattle.tg_script.specs.declared.fault.ScriptFault.{ScriptFault}
+use Rattle.tg_script.specs.declared.fault.ScriptFault.TheVariants as fault
+use Rattle.tg_script.specs.declared.script.Script.{Script}
+use Rattle.tg_script.specs.declared.opening.Front.{Front}
+use Rattle.tg_script.specs.Reading.{MayStand}
+use Rattle.tg_script.specs.Lines.{ReadsFrom, Behind}
+
+-- a line that may stand behind the edges
+abbrev pub IsCommand : Line → Type 0
+IsCommand l = MayStand 0 false l
+
+abbrev pub edge_lines : List Edge → List Line
+edge_lines edges = map line.Edge edges
+
+-- where no other line came the input ended, else whatever is read behind that line is read behind it
+abbrev pub ReadsFirst : Script → List ℕ → List Edge → Option Line → Script → Option (List ℕ) → Type 0
+ReadsFirst s bytes edges None t after = ReadsFrom s bytes (edge_lines edges) None
+ReadsFirst s bytes edges (Some l) t after = (rest : List ℕ) × (after ≡ Some rest) × Behind s bytes (edge_lines edges ++ l ∷ []) t rest
+
+-- the edge lines, up to the first other line or to the end; or edge lines up to the first fault; or memory was wanting
+abbrev pub ReadsEdges : Script → List ℕ → Result Front ScriptFault → Script → Option (List ℕ) → Type 0
+ReadsEdges s bytes (Ok front) t after = ReadsFirst s bytes front.edges.items front.first t after
+ReadsEdges s bytes (Err fault.OutOfMemory) t after = Unit {0}
+ReadsEdges s bytes (Err f) t after = (edges : List Edge) × ReadsFrom s bytes (edge_lines edges) (Some f)
+
+-- The store stands for the graph that the plan starts from; or a limit of the plan is out of its range, or memory was wanting.
+abbrev pub Opens : Plan → Result StoreState ScriptFault → Type 0
+Opens p (Ok store) = HasLimits p × StandsFor store (start_of p)
+Opens p (Err fault.BadLimits) = ¬ HasLimits p
+Opens p (Err fault.OutOfMemory) = HasLimits p
+Opens p (Err f) = ⊥

@@ -1,0 +1,115 @@
+-- What is written for the lines of a script. Nothing here knows how lines are fetched or replies are put out.
+use Rattle.std.specs.Prelude.{◌≡◌, ◌≢◌, ◌⊎◌, ℕ, ◌+◌, List, [], ◌∷◌, ◌++◌, Option, Some, None, nat_lt, if◌then◌else◌}
+use Rattle.tg_rights.specs.RightSet.{RightSet}
+use Rattle.tg_model.specs.declared.value.Value.{Value}
+use Rattle.tg_model.specs.declared.edge.Edge.{Edge}
+use Rattle.tg_model.specs.declared.command.Deed.TheVariants as deed
+use Rattle.tg_model.specs.Graph.{ProtectionGraph, IsSubject}
+use Rattle.tg_model.specs.Rules.{step, answer_of}
+use Rattle.tg_model.specs.Opened.{start_of}
+use Rattle.tg_script.specs.declared.line.Line.{Line}
+use Rattle.tg_script.specs.declared.line.Line.TheVariants as line
+use Rattle.tg_script.specs.declared.answer.Answer.{Answer}
+use Rattle.tg_script.specs.declared.answer.Answer.TheVariants as told
+use Rattle.tg_script.specs.declared.answer.Refusal.{Refusal}
+use Rattle.tg_script.specs.declared.answer.Refusal.TheVariants as refusal
+use Rattle.tg_script.specs.declared.fault.ScriptFault.{ScriptFault}
+use Rattle.tg_script.specs.Reading.{ReadsScript}
+use Rattle.tg_script.specs.Texts.{answer_text}
+
+-- ---- the answer to one line
+
+-- the graph, and the values that are left in the stock
+pub record Scene : Type 0 where
+  pub graph : ProtectionGraph
+  pub stock : List Value
+
+-- The answer to a create line of x and the scene after it, where this stands in the stock. The first value is taken where a
+-- vertex is made.
+abbrev pub Creates : Scene → ℕ → RightSet → List Value → Answer → Option Scene → Type 0
+Creates s x label [] a t = (a ≡ told.Refused refusal.Stock) × (t ≡ Some s)
+Creates s x label (value ∷ rest) a t =
+    (IsSubject s.graph x × (a ≡ told.Reply (answer_of s.graph x (deed.Create label value.law value.state)))
+    × (t ≡ Some (record { graph = step s.graph x (deed.Create label value.law value.state); stock = if nat_lt s.graph.made s.graph.limit then rest else s.stock })))
+    ⊎ ((¬ IsSubject s.graph x) × (a ≡ told.Refused refusal.Worker) × (t ≡ Some s))
+
+-- The answer to a line and the scene after it, where nothing is wanting. Edge lines have no answer, and there is no line for
+-- the nurseries yet. A full collection keeps all vertices that were ever made, and what the scene is after it isn't said.
+abbrev pub Answers : Scene → Line → Answer → Option Scene → Type 0
+Answers s (line.Edge edge) a t = ⊥
+Answers s (line.Create x label) a t = Creates s x label s.stock a t
+Answers s (line.Plain x command) a t =
+    (IsSubject s.graph x × (a ≡ told.Reply (answer_of s.graph x (deed.Plain command))) × (t ≡ Some (record s { graph = step s.graph x (deed.Plain command) })))
+    ⊎ ((¬ IsSubject s.graph x) × (a ≡ told.Refused refusal.Worker) × (t ≡ Some s))
+Answers s line.Full a t = (a ≡ told.Collected (Some s.graph.made)) × (t ≡ None)
+Answers s line.Minor a t = ⊥
+
+-- What may be answered in place of that, with nothing changed: memory may be wanting for each line that reaches the store, one
+-- of a worker or a collection. There is no heap and no second thread yet for whose want a line could be refused.
+abbrev pub MayRefuse : Scene → Line → Refusal → Type 0
+MayRefuse s (line.Create x label) refusal.Memory = IsSubject s.graph x × (s.stock ≢ [])
+MayRefuse s (line.Plain x command) refusal.Memory = IsSubject s.graph x
+MayRefuse s line.Full refusal.Memory = Unit {0}
+MayRefuse s l r = ⊥
+
+-- ---- the text for many lines
+
+-- The text for the lines, where nothing is wanting. Where the scene isn't known, nothing is said of the text.
+abbrev pub IsOutput : Option Scene → List Line → List ℕ → Type 0
+IsOutput None lines text = Unit {0}
+IsOutput (Some s) [] text = text ≡ []
+IsOutput (Some s) (l ∷ lines) text =
+    (a : Answer) × (t : Option Scene) × (rest : List ℕ) × Answers s l a t × (text ≡ answer_text a ++ rest) × IsOutput t lines rest
+
+-- no line is a full collection
+abbrev pub HasNoFull : List Line → Type 0
+HasNoFull [] = Unit {0}
+HasNoFull (l ∷ lines) = (l ≢ line.Full) × HasNoFull lines
+
+-- The text for the lines, where memory may be wanting, and was for so many of them.
+abbrev pub IsAdmissible : Option Scene → List Line → ℕ → List ℕ → Type 0
+IsAdmissible None lines wants text = Unit {0}
+IsAdmissible (Some s) [] wants text = (wants ≡ 0) × (text ≡ [])
+IsAdmissible (Some s) (l ∷ lines) wants text =
+    ((a : Answer) × (t : Option Scene) × (rest : List ℕ) × Answers s l a t × (text ≡ answer_text a ++ rest) × IsAdmissible t lines wants rest)
+    ⊎ ((r : Refusal) × (fewer : ℕ) × (rest : List ℕ) × MayRefuse s l r × (wants ≡ fewer + 1) × (text ≡ answer_text (told.Refused r) ++ rest)
+    × IsAdmissible (Some s) lines fewer rest)
+
+-- ---- the whole of a script
+
+-- the edges of the edge lines in front
+abbrev pub edges_of : List Line → List Edge
+edges_of [] = []
+edges_of (line.Edge edge ∷ lines) = edge ∷ edges_of lines
+edges_of (line.Create x label ∷ lines) = []
+edges_of (line.Plain x command ∷ lines) = []
+edges_of (line.Full ∷ lines) = []
+edges_of (line.Minor ∷ lines) = []
+
+-- the lines behind them
+abbrev pub commands_of : List Line → List Line
+commands_of [] = []
+commands_of (line.Edge edge ∷ lines) = commands_of lines
+commands_of (line.Create x label ∷ lines) = line.Create x label ∷ lines
+commands_of (line.Plain x command ∷ lines) = line.Plain x command ∷ lines
+commands_of (line.Full ∷ lines) = line.Full ∷ lines
+commands_of (line.Minor ∷ lines) = line.Minor ∷ lines
+
+-- what a run is given beside the script: the number of workers, the most vertices, the workers' values, and the stock
+pub record Start : Type 0 where
+  pub workers : ℕ
+  pub limit : ℕ
+  pub values : List Value
+  pub stock : List Value
+
+-- the scene that the edge lines of a script make
+abbrev pub scene_of : Start → List Line → Scene
+scene_of start lines = record {
+  graph = start_of (record { workers = start.workers; edges = edges_of lines; values = start.values; limit = start.limit });
+  stock = start.stock;
+}
+
+-- the text is what may be written for a script of these bytes, which is read up to this fault, or to its end
+abbrev pub IsScriptOutput : Start → List ℕ → Option ScriptFault → List ℕ → Type 0
+IsScriptOutput start bytes end text =
+    (lines : List Line) × (wants : ℕ) × ReadsScript start.workers bytes lines end × IsAdmissible (Some (scene_of start lines)) (commands_of lines) wants text

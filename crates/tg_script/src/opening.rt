@@ -1,0 +1,73 @@
+//! The opening of a run: the edge lines of its script, and the store that they make.
+ghost use Rattle.std.specs.Prelude.{◌≡◌, ◌+◌, ◌<◌, ◌≤◌, ℕ, List, Some, true, false, IfOk, IfSome};
+ghost use Rattle.std.specs.List.{All};
+ghost use Rattle.tg_model.specs.Opened.{Plan, JoinsWorkers, HasValues};
+ghost use Rattle.tg_script.specs.Lines.{read_failures, write_failures};
+ghost use Rattle.tg_script.specs.Opening.{ReadsEdges, IsCommand, Opens};
+
+use crate::fault::ScriptFault;
+use crate::line::Line;
+use crate::script::Script;
+use crate::source::Source;
+use std::alloc::Global;
+use tg_model::{Edge, Opening, Value};
+use tg_store::Store;
+
+/// The edges in front of a script, and the line behind them.
+#[derive(Drop)]
+pub(crate) struct Front {
+    pub(crate) edges: Vec<Edge>,
+    pub(crate) first: Option<Line>,
+}
+
+/// Reads the edge lines in front of a script, and the line behind them where one comes.
+pub(crate) fn read_edges<S: Source>(
+    alloc: Global,
+    script: &mut Script,
+    source: &mut S,
+) -> Result<Front, ScriptFault>
+    requires { script.old.opening ≡ true }
+    ensures edges { IfOk result (λ front. All (JoinsWorkers script.old.workers) front.edges.items) }
+    ensures first { IfOk result (λ front. IfSome front.first (λ line. IsCommand line × (script.new.opening ≡ false))) }
+    ensures bytes { (bytes : List ℕ) → S.left source.old ≡ Some bytes → ReadsEdges script.old bytes result script.new (S.left source.new) }
+    ensures failures { S.failures source.new ≡ S.failures source.old + read_failures result }
+    ensures unwritten { write_failures result ≡ 0 }
+    ensures asked { S.asked source.new + script.new.lines.room ≤ S.asked source.old + script.old.lines.room + 1 }
+    ensures asked_of_line { IfOk result (λ front. IfSome front.first (λ _. S.asked source.new + script.new.lines.room ≡ S.asked source.old + script.old.lines.room)) }
+{
+    let mut edges = Vec::new(alloc);
+    while let Some(line) = script.next(source)? {
+        let Line::Edge(edge) = line else {
+            let first = Some(line);
+            return Ok(Front { edges, first });
+        };
+        if edges.push(edge).is_err() {
+            return Err(ScriptFault::OutOfMemory);
+        }
+    }
+    Ok(Front { edges, first: None })
+}
+
+/// Opens the store with the workers, the edges between them and their values. Refused for a limit that is out of its
+/// range, or else for want of memory.
+pub(crate) fn open_store(
+    alloc: Global,
+    workers: u64,
+    edges: Vec<Edge>,
+    values: Vec<Value>,
+    max_vertices: u64,
+) -> Result<Store, ScriptFault>
+    requires workers { (1 ≤ workers) × (workers ≤ 64) }
+    requires edges { All (JoinsWorkers workers) edges.items }
+    requires values { HasValues workers values.items }
+    ensures { let plan : Plan = record { workers = workers; edges = edges.items; values = values.items; limit = max_vertices } in Opens plan result }
+{
+    // Workers, edges and values are as asked, so it can only be the limit.
+    let Ok(opening) = Opening::new(workers, edges, values, max_vertices) else {
+        return Err(ScriptFault::BadLimits);
+    };
+    match Store::open(alloc, opening) {
+        Ok(store) => Ok(store),
+        Err(_) => Err(ScriptFault::OutOfMemory),
+    }
+}

@@ -1,0 +1,108 @@
+//! A run under way: the store and the stock, and how each line is answered.
+ghost use Rattle.std.specs.Prelude.{◌≡◌};
+ghost use Rattle.tg_script.specs.Answering.{apply_refusal, create_answer};
+
+use crate::answer::{Answer, Refusal};
+use crate::line::Line;
+use crate::supply::Supply;
+use tg_model::{Command, Reply, Value};
+use tg_rights::Label;
+use tg_store::{ApplyFault, CreateFault, CreateRefused, Kind, Store};
+
+/// The store, and the values for the vertices that are still to be made.
+#[derive(Drop)]
+pub(crate) struct Run {
+    pub(crate) store: Store,
+    pub(crate) supply: Supply,
+}
+
+impl Run {
+    ghost use Rattle.std.specs.Prelude.{◌≡◌, None};
+    ghost use Rattle.tg_model.specs.Opened.{ValueFits};
+    ghost use Rattle.tg_script.specs.Opening.{IsCommand};
+    ghost use Rattle.tg_script.specs.Run.{Handles, HandlesWith, HasFittingStock};
+
+    /// What a line is answered. No line fails: where memory is wanting, that is the answer.
+    pub(crate) fn answer(&mut self, line: Line) -> Answer
+        requires command { IsCommand line }
+        requires fits { HasFittingStock self.old }
+        ensures answer { Handles self.old line result self.new }
+        ensures fits { HasFittingStock self.new }
+    {
+        match line {
+            Line::Create { worker, label } => self.create(worker, label),
+            Line::Plain { worker, command } => self.apply(worker, command),
+            Line::Full => self.collect(),
+            Line::Edge(_) | Line::Minor => unreachable!(),
+        }
+    }
+
+    fn apply(&mut self, worker: u64, command: Command) -> Answer
+        ensures answer { Handles self.old (Line.Plain worker command) result self.new }
+        ensures supply { self.new.supply ≡ self.old.supply }
+    {
+        match self.store.apply(worker, command) {
+            Ok(reply) => Answer::Reply(reply),
+            Err(fault) => Answer::Refused(apply_refusal(fault)),
+        }
+    }
+
+    fn collect(&mut self) -> Answer
+        ensures answer { Handles self.old Line.Full result self.new }
+        ensures supply { self.new.supply ≡ self.old.supply }
+    {
+        match self.store.collect(Kind::Full) {
+            Ok(kept) => Answer::Collected(Some(kept)),
+            Err(_) => Answer::Refused(Refusal::Memory),
+        }
+    }
+
+    // The first value of the stock goes to the new vertex.
+    fn create(&mut self, worker: u64, label: Label) -> Answer
+        requires { HasFittingStock self.old }
+        ensures answer { Handles self.old (Line.Create worker label) result self.new }
+        ensures fits { HasFittingStock self.new }
+    {
+        match self.supply.take() {
+            Some(value) => self.create_of(worker, label, value),
+            None => Answer::Refused(Refusal::Stock),
+        }
+    }
+
+    // Where no vertex is made, the value is put back.
+    fn create_of(&mut self, worker: u64, label: Label, value: Value) -> Answer
+        requires room { self.old.supply.front ≡ None }
+        requires value { ValueFits value }
+        requires fits { HasFittingStock self.old }
+        ensures answer { HandlesWith self.old value (Line.Create worker label) result self.new }
+        ensures fits { HasFittingStock self.new }
+    {
+        match self.store.create(worker, label, value) {
+            Ok(name) => Answer::Reply(Reply::Name(name)),
+            Err(refused) => {
+                let CreateRefused { value, why } = refused;
+                self.supply.put_back(value);
+                create_answer(why)
+            }
+        }
+    }
+}
+
+fn apply_refusal(fault: ApplyFault) -> Refusal
+    ensures { result ≡ apply_refusal fault }
+{
+    match fault {
+        ApplyFault::NoSuchWorker => Refusal::Worker,
+        ApplyFault::OutOfMemory => Refusal::Memory,
+    }
+}
+
+fn create_answer(fault: CreateFault) -> Answer
+    ensures { result ≡ create_answer fault }
+{
+    match fault {
+        CreateFault::NoSuchWorker => Answer::Refused(Refusal::Worker),
+        CreateFault::VerticesFull => Answer::Reply(Reply::VerticesFull),
+        CreateFault::OutOfMemory => Answer::Refused(Refusal::Memory),
+    }
+}

@@ -1,0 +1,147 @@
+//! The run of a whole script.
+ghost use Rattle.std.specs.Prelude.{◌≡◌, ◌+◌, ◌<◌, ◌≤◌, ℕ, List, Option, Some, Err, false, OnOk};
+ghost use Rattle.std.specs.List.{All};
+ghost use Rattle.tg_model.specs.Opened.{HasValues, ValueFits};
+ghost use Rattle.tg_script.specs.Lines.{read_failures, write_failures};
+ghost use Rattle.tg_script.specs.Opening.{IsCommand};
+ghost use Rattle.tg_script.specs.Run.{Shows, HasFittingStock};
+ghost use Rattle.tg_script.specs.Running.{Ran, TellsAll, Finishes, RunsLine};
+ghost use Rattle.tg_script.specs.Script.{Scene, Start};
+
+use crate::fault::ScriptFault;
+use crate::line::Line;
+use crate::opening::{Front, open_store, read_edges};
+use crate::reply::write_reply;
+use crate::run::Run;
+use crate::script::Script;
+use crate::sink::{Sink, WriteFailed};
+use crate::source::Source;
+use crate::supply::Supply;
+use std::alloc::Global;
+use tg_model::Value;
+
+/// What a run is given beside its script and its values.
+#[derive(Clone, Copy, PartialEq, Eq, Debug)]
+pub struct Settings {
+    /// The number of workers, from 1 to 64.
+    pub workers: u64,
+    /// The most vertices that may ever be made, from 1 to 2^24 and not below the number of workers.
+    pub max_vertices: u64,
+}
+
+/// Runs the script, with one value for each worker and a stock of values for the vertices that the script makes. The
+/// store opens at the first line that is no edge line, or at the end of the input; each reply is written before the
+/// next line is run. What is written is the text for the lines before the first fault, and after `WriteFailed` a
+/// front of it. The source is asked for at most 1,048,577 bytes. The sink is finished at the end, after a fault too,
+/// which then stands.
+pub fn run_script_one<S: Source, K: Sink>(
+    alloc: Global,
+    source: &mut S,
+    sink: &mut K,
+    settings: Settings,
+    values: Vec<Value>,
+    stock: Vec<Value>,
+) -> Result<(), ScriptFault>
+    requires workers { (1 ≤ settings.workers) × (settings.workers ≤ 64) }
+    requires values { HasValues settings.workers values.items }
+    requires stock { All ValueFits stock.items }
+    ensures output { let start : Start = record { workers = settings.workers; limit = settings.max_vertices; values = values.items; stock = stock.items } in
+        (bytes before : List ℕ) → S.left source.old ≡ Some bytes → K.taken sink.old ≡ Some before → Ran start bytes before result (K.taken sink.new) }
+    ensures asked { S.asked source.new ≤ S.asked source.old + 1048577 }
+    ensures read_failed { S.failures source.new ≡ S.failures source.old + read_failures result }
+    ensures write_failed { result ≡ Err ScriptFault.WriteFailed → K.failures sink.old < K.failures sink.new }
+    ensures unfailed { OnOk result (K.failures sink.new ≡ K.failures sink.old) }
+{
+    let outcome = run_lines(alloc, source, sink, settings, values, stock);
+    finish(sink, outcome)
+}
+
+// Finishes the sink. A fault that came before stands.
+fn finish<K: Sink>(sink: &mut K, outcome: Result<(), ScriptFault>) -> Result<(), ScriptFault>
+    ensures { Finishes (K.taken sink.old) (K.failures sink.old) outcome result (K.taken sink.new) (K.failures sink.new) }
+{
+    if sink.finish() {
+        return outcome;
+    }
+    match outcome {
+        Ok(()) => Err(ScriptFault::WriteFailed),
+        Err(fault) => Err(fault),
+    }
+}
+
+// All but that the sink is finished.
+fn run_lines<S: Source, K: Sink>(
+    alloc: Global,
+    source: &mut S,
+    sink: &mut K,
+    settings: Settings,
+    values: Vec<Value>,
+    stock: Vec<Value>,
+) -> Result<(), ScriptFault>
+    requires workers { (1 ≤ settings.workers) × (settings.workers ≤ 64) }
+    requires values { HasValues settings.workers values.items }
+    requires stock { All ValueFits stock.items }
+    ensures output { let start : Start = record { workers = settings.workers; limit = settings.max_vertices; values = values.items; stock = stock.items } in
+        (bytes before : List ℕ) → S.left source.old ≡ Some bytes → K.taken sink.old ≡ Some before → Ran start bytes before result (K.taken sink.new) }
+    ensures asked { S.asked source.new ≤ S.asked source.old + 1048577 }
+    ensures read_failed { S.failures source.new ≡ S.failures source.old + read_failures result }
+    ensures write_failed { K.failures sink.new ≡ K.failures sink.old + write_failures result }
+{
+    let mut script = Script::new(settings.workers);
+    let front = read_edges(alloc, &mut script, source)?;
+    let Front { edges, first } = front;
+    let store = open_store(
+        alloc,
+        settings.workers,
+        edges,
+        values,
+        settings.max_vertices,
+    )?;
+    let Some(first) = first else {
+        return Ok(());
+    };
+    let supply = Supply::new(stock);
+    let mut run = Run { store, supply };
+    run_commands(&mut run, &mut script, source, sink, first)
+}
+
+// Runs the lines from the first on that is no edge line.
+fn run_commands<S: Source, K: Sink>(
+    run: &mut Run,
+    script: &mut Script,
+    source: &mut S,
+    sink: &mut K,
+    first: Line,
+) -> Result<(), ScriptFault>
+    requires command { IsCommand first }
+    requires fits { HasFittingStock run.old }
+    requires opening { script.old.opening ≡ false }
+    ensures written { (t : Option Scene) (rest before : List ℕ) → Shows run.old t → S.left source.old ≡ Some rest → K.taken sink.old ≡ Some before →
+        TellsAll script.old rest t first before result (K.taken sink.new) }
+    ensures asked { S.asked source.new ≤ S.asked source.old + script.old.lines.room + 1 }
+    ensures read_failed { S.failures source.new ≡ S.failures source.old + read_failures result }
+    ensures write_failed { K.failures sink.new ≡ K.failures sink.old + write_failures result }
+{
+    let mut line = first;
+    'lines: loop {
+        let Ok(()) = run_line(run, sink, line) else {
+            return Err(ScriptFault::WriteFailed);
+        };
+        let came = script.next(source)?;
+        let Some(next) = came else {
+            return Ok(());
+        };
+        line = next;
+    }
+}
+
+// Answers the line, and writes the answer.
+fn run_line<K: Sink>(run: &mut Run, sink: &mut K, line: Line) -> Result<(), WriteFailed>
+    requires command { IsCommand line }
+    requires fits { HasFittingStock run.old }
+    ensures line { RunsLine run.old line run.new (K.taken sink.old) (K.failures sink.old) result (K.taken sink.new) (K.failures sink.new) }
+    ensures fits { HasFittingStock run.new }
+{
+    let answer = run.answer(line);
+    write_reply(sink, &answer)
+}

@@ -1,0 +1,119 @@
+//! A script that is read line by line, with the first fault in it.
+ghost use Rattle.std.specs.Prelude.{◌≡◌, ◌+◌, ◌<◌, ◌≤◌, ◌↔◌, ℕ, List, Some, Ok, true, IsTrue, IfSome, IfNone};
+ghost use Rattle.tg_script.specs.Grammar.{LineFits, line_text};
+ghost use Rattle.tg_script.specs.Reading.{MayStand, IsBadText, opening_after};
+
+use crate::buffer::LineBuffer;
+use crate::fault::ScriptFault;
+use crate::fetch::Lines;
+use crate::line::Line;
+use crate::read::read_line;
+use crate::source::{Fetched, Source};
+
+/// A script, as far as it was read.
+#[derive(Drop)]
+pub(crate) struct Script {
+    /// How many bytes may still come.
+    pub(crate) lines: Lines,
+    /// The line that came last.
+    pub(crate) buffer: LineBuffer,
+    /// How many workers there are.
+    pub(crate) workers: u64,
+    /// How many lines came before.
+    pub(crate) count: u64,
+    /// Whether edge lines may still come.
+    pub(crate) opening: bool,
+    ghost bounded: { count + lines.room ≤ 1048576 },
+}
+
+impl Script {
+    ghost use Rattle.std.specs.Prelude.{◌≡◌, ◌+◌, ◌<◌, ◌≤◌, ℕ, List, Some, Ok, true, IfOk, IfSome};
+    ghost use Rattle.tg_script.specs.Reading.{MayStand, opening_after};
+    ghost use Rattle.tg_script.specs.Lines.{NextLine, TakesLine, Follows, read_failures, write_failures};
+
+    /// No line was read.
+    pub(crate) fn new(workers: u64) -> Script
+        ensures workers { result.workers ≡ workers }
+        ensures room { result.lines.room ≡ 1048576 }
+        ensures count { result.count ≡ 0 }
+        ensures opening { result.opening ≡ true }
+    {
+        Script {
+            lines: Lines::new(),
+            buffer: LineBuffer::new(),
+            workers,
+            count: 0,
+            opening: true,
+        }
+    }
+
+    /// The next line, or `None` at the end of the input, or else the first fault.
+    pub(crate) fn next<S: Source>(&mut self, source: &mut S) -> Result<Option<Line>, ScriptFault>
+        ensures bytes { (bytes : List ℕ) → S.left source.old ≡ Some bytes → NextLine self.old bytes result self.new (S.left source.new) }
+        ensures follows { IfOk result (λ next. IfSome next (λ line. Follows self.old line self.new)) }
+        ensures shorter { IfOk result (λ next. IfSome next (λ _. self.new.lines.room < self.old.lines.room)) }
+        ensures failures { S.failures source.new ≡ S.failures source.old + read_failures result }
+        ensures unwritten { write_failures result ≡ 0 }
+        ensures asked { S.asked source.new + self.new.lines.room ≤ S.asked source.old + self.old.lines.room + 1 }
+        ensures asked_of_line { IfOk result (λ next. IfSome next (λ line. S.asked source.new + self.new.lines.room ≡ S.asked source.old + self.old.lines.room)) }
+    {
+        let number = self.count + 1;
+        match self.lines.next_line(source, &mut self.buffer) {
+            Fetched::Line => self.take_line(),
+            Fetched::End => Ok(None),
+            Fetched::Unfinished => Err(ScriptFault::BadLine { line: number }),
+            Fetched::LineTooLong => Err(ScriptFault::LineTooLong { line: number }),
+            Fetched::InputTooLong => Err(ScriptFault::InputTooLong),
+            Fetched::Failed => Err(ScriptFault::ReadFailed),
+        }
+    }
+
+    // The line in the buffer, if it is one that may stand here.
+    fn take_line(&mut self) -> Result<Option<Line>, ScriptFault>
+        requires { self.old.count + self.old.lines.room < 1048576 }
+        ensures { TakesLine self.old result self.new }
+    {
+        match standing_line(self.buffer.as_slice(), self.workers, self.opening) {
+            Some(line) => {
+                self.count += 1;
+                self.opening = is_opening_after(self.opening, &line);
+                Ok(Some(line))
+            }
+            None => Err(ScriptFault::BadLine {
+                line: self.count + 1,
+            }),
+        }
+    }
+}
+
+// The line of these bytes, if it may stand here.
+fn standing_line(text: &[u8], workers: u64, opening: bool) -> Option<Line>
+    ensures found { IfSome result (λ line. LineFits line × MayStand workers opening line × (text.now ≡ line_text line)) }
+    ensures bad { IfNone result (IsBadText workers opening text.now) }
+{
+    let line = read_line(text)?;
+    if may_stand(&line, workers, opening) {
+        Some(line)
+    } else {
+        None
+    }
+}
+
+fn may_stand(line: &Line, workers: u64, opening: bool) -> bool
+    ensures { IsTrue result ↔ MayStand workers opening line.now }
+{
+    match line {
+        Line::Edge(edge) => opening && edge.joins_workers(workers),
+        Line::Create { .. } | Line::Plain { .. } | Line::Full => true,
+        Line::Minor => false,
+    }
+}
+
+fn is_opening_after(opening: bool, line: &Line) -> bool
+    ensures { result ≡ opening_after opening line.now }
+{
+    match line {
+        Line::Edge(_) => opening,
+        Line::Create { .. } | Line::Plain { .. } | Line::Full | Line::Minor => false,
+    }
+}

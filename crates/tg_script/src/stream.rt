@@ -1,0 +1,72 @@
+//! std's readers and writers as a source and a sink.
+ghost use Rattle.std.specs.Prelude.{◌≡◌, Some};
+
+use crate::count::Count;
+use crate::sink::{Put, Sink};
+use crate::source::{Next, Source};
+use std::io::{Read, Write};
+use std::sync::ledger::Ledger;
+
+/// A writer as a sink. Each put is one write, so wrap the writer in a buffer where many small texts come; `finish`
+/// flushes it. An error fails, an interruption included, and so does a write that takes no byte.
+#[derive(Drop)]
+pub struct OfWrite<W: Write + Drop, L: Ledger> {
+    pub writer: W,
+    pub failures: Count<L>,
+}
+
+impl<W: Write + Drop, L: Ledger> Sink for OfWrite<W, L> {
+    ghost taken = { λ s. W.contents s.writer };
+
+    ghost failures = { λ s. s.failures };
+
+    fn put(&mut self, bytes: &[u8]) -> Put {
+        match self.writer.write(bytes) {
+            Ok(count) if count > 0 => Put::Took(count),
+            _ => {
+                self.failures.tick();
+                Put::Failed
+            }
+        }
+    }
+
+    fn finish(&mut self) -> bool {
+        let done = self.writer.flush().is_ok();
+        if !done {
+            self.failures.tick();
+        }
+        done
+    }
+}
+
+/// A reader as a source. Each byte is one read, so wrap the reader in a buffer. An error fails, an interruption
+/// included, and a read that gives no byte is the end.
+#[derive(Drop)]
+pub struct OfRead<R: Read + Drop, A: Ledger, F: Ledger> {
+    pub reader: R,
+    /// How often the source was asked.
+    pub asked: Count<A>,
+    /// How often the reader failed.
+    pub failures: Count<F>,
+}
+
+impl<R: Read + Drop, A: Ledger, F: Ledger> Source for OfRead<R, A, F> {
+    ghost left = { λ s. R.remaining s.reader };
+
+    ghost failures = { λ s. s.failures };
+
+    ghost asked = { λ s. s.asked };
+
+    fn next(&mut self) -> Next {
+        self.asked.tick();
+        let mut byte = [0u8; 1];
+        match self.reader.read(&mut byte) {
+            Ok(0) => Next::End,
+            Ok(_) => Next::Byte(byte[0]),
+            Err(_) => {
+                self.failures.tick();
+                Next::Failed
+            }
+        }
+    }
+}
