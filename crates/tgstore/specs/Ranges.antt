@@ -1,7 +1,7 @@
 -- The ranges of the numbers that the command line may set.
 use Rattle.std.specs.Prelude.{◌≤◌}
 use Rattle.tg_model.specs.declared.opening.TheConstants.{MAX_WORKERS, MAX_VERTICES}
-use Rattle.tgstore.specs.declared.settings.Settings.{Settings}
+use Rattle.tg_script.specs.declared.run_script.Settings.{Settings}
 
 -- each number is in its range; fewer vertices than workers are no matter of the ranges
 pub record AreInRange (s : Settings) : Type 0 where

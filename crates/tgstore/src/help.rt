@@ -6,7 +6,8 @@ Workers make objects, hold rights over them, and pass rights on by the rules of 
 reads a script from standard input, runs it line by line, and writes one line of reply for each command to standard
 output.";
 
-pub const WORKERS: &str = "How many workers there are, from 1 to 64. They are named 0, 1, 2, .. [default: 2]";
+pub const WORKERS: &str =
+    "How many workers there are, from 1 to 64. They are named 0, 1, 2, .. [default: 2]";
 
 pub const VERTICES: &str = "How many vertices may ever be made, from 1 to 16777216. The workers
 are vertices, so it may not be below their number [default: 1000000]";

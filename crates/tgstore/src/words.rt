@@ -3,12 +3,13 @@ ghost use Rattle.std.specs.Prelude.{◌≤◌, IfOk};
 ghost use Rattle.tgstore.specs.Ranges.{AreInRange};
 
 use crate::help;
-use crate::settings::{Options, Settings};
+use crate::settings::Options;
 use clap::error::ErrorKind;
 use clap::{Arg, ArgAction, ArgMatches, Command, Error};
 use std::alloc::Global;
 use std::convert::AsStr;
 use tg_model::{MAX_VERTICES, MAX_WORKERS};
+use tg_script::Settings;
 
 const DEFAULT_WORKERS: u64 = 2;
 
@@ -94,7 +95,9 @@ fn number(
         None => Ok(default),
         Some(n) if 1 <= n && n <= most => Ok(n),
         Some(n) => {
-            let message = format!(in alloc; "invalid value '{n}' for '--{name} <N>': {n} is not in 1..={most}")?;
+            let message = format!(in alloc;
+                "invalid value '{n}' for '--{name} <N>': {n} is not in 1..={most}"
+            )?;
             Err(command.error(ErrorKind::ValueValidation, message.as_str())?)
         }
     }

@@ -1,0 +1,90 @@
+#!/usr/bin/env python3
+"""run.py [PROGRAM] [--rounds N]
+
+Runs the store beside the plain program of reference.rs on scripts that it makes, and prints for each the seconds of
+both (the median of the rounds, which take turns), their ratio, and whether they wrote the same. It asserts nothing:
+what else the machine does moves all of it. PROGRAM is crates/tgstore/out/tgstore unless it is given."""
+import os
+import statistics
+import subprocess
+import sys
+import tempfile
+import time
+
+HERE = os.path.dirname(os.path.abspath(__file__))
+BUILT = os.path.join(HERE, "..", "crates", "tgstore", "out", "tgstore")
+
+
+def lists():
+    """One worker lists its empty row: what reading a line and writing a reply cost."""
+    return ["--workers", "1"], ["0 list"] * 149_796
+
+
+def creates():
+    """One worker makes vertices, about as many as a script can ask for."""
+    return ["--workers", "1", "--stock", "c100000"], ["0 create r"] * 95_000
+
+
+def reads_and_writes():
+    """Writes over eight vertices, and a read after each seventh."""
+    lines = ["0 create rw"] * 8
+    for i in range(65_000):
+        name = 1 + i % 8
+        lines.append(f"0 write {name} {i * 7919 % 1_000_003}" if i % 8 else f"0 read {1 + i // 8 % 8}")
+    return ["--workers", "1", "--stock", "c2s2m2l2"], lines
+
+
+SCRIPTS = {"lists": lists, "creates": creates, "reads and writes": reads_and_writes}
+
+
+def seconds(program, words, script, output):
+    """The seconds that one run takes, from start to end."""
+    with open(script, "rb") as source, open(output, "wb") as sink:
+        start = time.perf_counter()
+        status = subprocess.run([program] + words, stdin=source, stdout=sink).returncode
+        took = time.perf_counter() - start
+    if status:
+        print(f"{program}: status {status}")
+    return took
+
+
+def read(path):
+    with open(path, "rb") as file:
+        return file.read()
+
+
+def measure(name, folder, program, reference, rounds):
+    words, lines = SCRIPTS[name]()
+    script = os.path.join(folder, "script")
+    with open(script, "w") as file:
+        file.write("".join(line + "\n" for line in lines))
+    outputs = [os.path.join(folder, "ours"), os.path.join(folder, "plain")]
+    ours, plain = [], []
+    for _ in range(rounds):
+        ours.append(seconds(program, words, script, outputs[0]))
+        plain.append(seconds(reference, words, script, outputs[1]))
+    a, b = statistics.median(ours), statistics.median(plain)
+    same = "yes" if read(outputs[0]) == read(outputs[1]) else "NO"
+    print(f"{name:18} {len(lines):8} {a:9.3f} {b:9.3f} {a / b:7.2f}  {same}", flush=True)
+
+
+def main():
+    words = sys.argv[1:]
+    rounds = 5
+    if "--rounds" in words:
+        at = words.index("--rounds")
+        rounds = int(words[at + 1])
+        del words[at:at + 2]
+    program = os.path.abspath(words[0] if words else BUILT)
+    if not os.path.exists(program):
+        sys.exit(f"{program} isn't there: build it by `rt run` in crates/tgstore, or name a program")
+    with tempfile.TemporaryDirectory() as folder:
+        reference = os.path.join(folder, "reference")
+        subprocess.run(["rustc", "-O", "--edition", "2021", "-o", reference, os.path.join(HERE, "reference.rs")], check=True)
+        print(f"{'script':18} {'lines':>8} {'store s':>9} {'plain s':>9} {'ratio':>7}  same output")
+        for name in SCRIPTS:
+            measure(name, folder, program, reference, rounds)
+
+
+if __name__ == "__main__":
+    main()

@@ -1,0 +1,20 @@
+-- How faults are told, and the statuses of the program.
+use Rattle.std.specs.Prelude.{ℕ}
+use Rattle.tg_script.specs.declared.stock.StockFault.{StockFault}
+use Rattle.tg_script.specs.declared.stock.StockFault.TheVariants as stock
+use Rattle.tgstore.specs.declared.start.StartFault.{StartFault}
+use Rattle.tgstore.specs.declared.start.StartFault.TheVariants as start
+use Rattle.tgstore.specs.declared.stop.Stop.{Stop}
+use Rattle.tgstore.specs.declared.stop.Stop.TheVariants as stop
+
+abbrev pub start_fault_of : StockFault → StartFault
+start_fault_of stock.OutOfMemory = start.OutOfMemory
+start_fault_of stock.BadStock = start.BadStock
+
+-- 2 where the words are at fault, else 1
+abbrev pub status_of : Stop → ℕ
+status_of stop.BadWords = 2
+status_of (stop.Start start.BadStock) = 2
+status_of (stop.Start start.BadLimits) = 2
+status_of (stop.Start start.OutOfMemory) = 1
+status_of (stop.Script fault) = 1

@@ -1,0 +1,147 @@
+//! The texts and statuses of the command line.
+use crate::settings::Options;
+use crate::start::prepare;
+use crate::stop::Stop;
+use crate::words::options;
+use std::alloc::Global;
+use std::test::Fail;
+use tg_script::Settings;
+
+const FAULT_END: &str = "\n\nUsage: tgstore [OPTIONS]\n\nFor more information, try '--help'.\n";
+
+#[test]
+fn words_that_are_accepted(rt: HostRuntime) -> Result<(), Fail> {
+    let alloc = rt.alloc();
+    let cases: [(&[&str], u64, u64, &str); 4] = [
+        (&["tgstore"], 2, 1_000_000, ""),
+        (
+            &["tgstore", "--workers", "1", "--stock", "c"],
+            1,
+            1_000_000,
+            "c",
+        ),
+        (
+            &["tgstore", "--vertices=16777216", "--workers=64"],
+            64,
+            16_777_216,
+            "",
+        ),
+        (&["tgstore", "--workers", "2", "--vertices", "1"], 2, 1, ""),
+    ];
+    for (words, workers, vertices, stock) in cases {
+        let read = match options(alloc, words) {
+            Ok(read) => read,
+            Err(_) => return Err(Fail::from("words that are not accepted")),
+        };
+        assert_eq!(rt; read.settings.workers, workers);
+        assert_eq!(rt; read.settings.max_vertices, vertices);
+        assert!(rt; read.stock == stock, "{}", read.stock);
+    }
+    Ok(())
+}
+
+// The text of a fault of the words, whose status is 2.
+fn text_of(alloc: Global, words: &[&str]) -> Result<String, Fail> {
+    match options(alloc, words) {
+        Ok(_) => Err(Fail::from("words that are accepted")),
+        Err(error) if error.exit_code() == 2 => Ok(format!(in alloc; "{error}")?),
+        Err(_) => Err(Fail::from("a status that is not 2")),
+    }
+}
+
+#[test]
+fn sixty_five_workers(rt: HostRuntime) -> Result<(), Fail> {
+    let alloc = rt.alloc();
+    let cases = [
+        (
+            ["tgstore", "--workers", "65"],
+            "error: invalid value '65' for '--workers <N>': 65 is not in 1..=64",
+        ),
+        (
+            ["tgstore", "--workers", "0"],
+            "error: invalid value '0' for '--workers <N>': 0 is not in 1..=64",
+        ),
+        (
+            ["tgstore", "--vertices", "16777217"],
+            "error: invalid value '16777217' for '--vertices <N>': 16777217 is not in 1..=16777216",
+        ),
+    ];
+    for (words, start) in cases {
+        let text = text_of(alloc, words.as_slice())?;
+        let wanted = format!(in alloc; "{start}{FAULT_END}")?;
+        assert!(rt; text.as_str() == wanted.as_str(), "{text}");
+    }
+    Ok(())
+}
+
+#[test]
+fn words_that_name_no_option(rt: HostRuntime) -> Result<(), Fail> {
+    let alloc = rt.alloc();
+    let cases: [(&[&str], &str); 5] = [
+        (
+            &["tgstore", "--blocks", "5"],
+            "error: unexpected argument '--blocks' found",
+        ),
+        (
+            &["tgstore", "script"],
+            "error: unexpected argument 'script' found",
+        ),
+        (
+            &["tgstore", "--workers"],
+            "error: a value is required for '--workers <N>' but none was supplied",
+        ),
+        (
+            &["tgstore", "--workers", "two"],
+            "error: invalid value 'two' for '--workers <N>': invalid digit found in string",
+        ),
+        (
+            &["tgstore", "--stock", "c", "--stock", "c"],
+            "error: the argument '--stock <TEXT>' cannot be used multiple times",
+        ),
+    ];
+    for (words, start) in cases {
+        let text = text_of(alloc, words)?;
+        assert!(rt; text.as_str().starts_with(start), "{text}");
+    }
+    Ok(())
+}
+
+#[test]
+fn help_is_status_0(rt: HostRuntime) -> Result<(), Fail> {
+    let alloc = rt.alloc();
+    let Err(help) = options(alloc, ["tgstore", "--help"].as_slice()) else {
+        return Err(Fail::from("no help"));
+    };
+    assert_eq!(rt; help.exit_code(), 0);
+    let text = format!(in alloc; "{help}")?;
+    let lines = [
+        "Usage: tgstore [OPTIONS]\n",
+        "  --workers <N>   How many workers there are, from 1 to 64. They are named 0, 1, 2, .. [default: 2]\n",
+        "  X create RIGHTS      X makes an object, with the next box of the stock, and has RIGHTS over it\n",
+        "  printf '0 create rw\\n0 list\\n' | tgstore --workers 1 --stock c\n",
+    ];
+    for line in lines {
+        assert!(rt; text.as_str().contains(line), "{text}");
+    }
+    Ok(())
+}
+
+#[test]
+fn vertices_below_workers(rt: HostRuntime) -> Result<(), Fail> {
+    let alloc = rt.alloc();
+    let cases = [("", "bad limits"), ("c0", "bad stock"), ("x", "bad stock")];
+    for (stock, line) in cases {
+        let settings = Settings {
+            workers: 2,
+            max_vertices: 1,
+        };
+        let Err(fault) = prepare(alloc, &Options { settings, stock }) else {
+            return Err(Fail::from("it is prepared"));
+        };
+        let stop = Stop::Start(fault);
+        assert_eq!(rt; stop.status(), 2);
+        let text = format!(in alloc; "{stop}")?;
+        assert!(rt; text.as_str() == line, "{text}");
+    }
+    Ok(())
+}
