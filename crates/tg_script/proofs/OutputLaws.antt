@@ -1,5 +1,5 @@
 -- The text for the lines of a script is one text.
-use Rattle.std.proofs.Common.{◌≡◌, ◌≢◌, inl, inr, ℕ, List, [], ◌∷◌, ◌++◌, Option, Some, None, refl, sym, ap, ◌∙◌, subst, arith}
+use Rattle.std.proofs.Common.{◌≡◌, ◌≢◌, inl, inr, ℕ, List, [], ◌∷◌, ◌++◌, Option, Some, None, refl, sym, ap, ◌∙◌, subst, arith, append_assoc, append-nil}
 use Rattle.std.specs.Prelude.{nat_lt, if◌then◌else◌}
 use Rattle.tg_rights.specs.RightSet.{RightSet}
 use Rattle.tg_model.specs.declared.value.Value.{Value}
@@ -8,6 +8,7 @@ use Rattle.tg_model.specs.Rules.{step}
 use Rattle.tg_script.specs.declared.line.Line.{Line}
 use Rattle.tg_script.specs.declared.line.Line.TheVariants as line
 use Rattle.tg_script.specs.declared.answer.Answer.{Answer}
+use Rattle.tg_script.specs.declared.answer.Answer.TheVariants as told
 use Rattle.tg_script.specs.Texts.{answer_text}
 use Rattle.tg_script.specs.Script.{Scene, Creates, Answers, IsOutput, IsAdmissible, HasNoFull}
 
@@ -48,3 +49,23 @@ outputs_same (l ∷ lines) s text other none h k =
     h.4 ∙ ap (λ x. answer_text x ++ h.2) same.0
     ∙ ap (λ x. answer_text k.0 ++ x) (outputs_same lines same.1 h.2 k.2 none.1 (subst P same.2 h.5) (subst Q same.3 k.5))
     ∙ sym k.4
+
+-- what two outputs of lines with a full collection have in common: the text up to and with its answer
+pub front_same : (known : List Line) (s : Scene) (more : List Line) (text other : List ℕ) → HasNoFull known → IsOutput (Some s) (known ++ line.Full ∷ more) text → IsOutput (Some s) (known ++ line.Full ∷ more) other → (front : List ℕ) × (rest : List ℕ) × (others : List ℕ) × IsOutput (Some s) (known ++ line.Full ∷ []) front × (text ≡ front ++ rest) × (other ≡ front ++ others)
+front_same [] s more text other none h k =
+    let a : Answer = told.Collected (Some s.graph.made) in
+    (answer_text a, h.2, k.2, (a, None, [], (refl, refl), sym (append-nil (answer_text a)), tt), h.4 ∙ ap (λ x. answer_text x ++ h.2) h.3.0, k.4 ∙ ap (λ x. answer_text x ++ k.2) k.3.0)
+front_same (l ∷ known) s more text other none h k =
+    let same = answers_same s l h.0 k.0 h.1 k.1 none.0 h.3 k.3 in
+    let lines = known ++ line.Full ∷ more in
+    let P : Option Scene → Type 0 = λ x. IsOutput x lines h.2 in
+    let Q : Option Scene → Type 0 = λ x. IsOutput x lines k.2 in
+    let f = front_same known same.1 more h.2 k.2 none.1 (subst P same.2 h.5) (subst Q same.3 k.5) in
+    let R : Option Scene → Type 0 = λ x. IsOutput x (known ++ line.Full ∷ []) f.0 in (
+      answer_text h.0 ++ f.0,
+      f.1,
+      f.2,
+      (h.0, h.1, f.0, h.3, refl, subst R (sym same.2) f.3),
+      h.4 ∙ ap (λ x. answer_text h.0 ++ x) f.4 ∙ sym (append_assoc (answer_text h.0) f.0 f.1),
+      k.4 ∙ ap (λ x. answer_text x ++ k.2) (sym same.0) ∙ ap (λ x. answer_text h.0 ++ x) f.5 ∙ sym (append_assoc (answer_text h.0) f.0 f.2),
+    )

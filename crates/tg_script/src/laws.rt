@@ -1,6 +1,7 @@
 //! Laws of the definitions alone. A function here does nothing: what it ensures is the law.
-ghost use Rattle.std.specs.Prelude.{◌≡◌, ◌≢◌, ℕ, ◌++◌, Bool, List, Option, Some};
+ghost use Rattle.std.specs.Prelude.{◌≡◌, ◌≢◌, ℕ, ◌++◌, Bool, List, Option, Some, ◌∷◌, []};
 ghost use Rattle.tg_script.specs.declared.line.Line.{Line};
+ghost use Rattle.tg_script.specs.declared.line.Line.TheVariants.{Full};
 ghost use Rattle.tg_script.specs.declared.fault.ScriptFault.{ScriptFault};
 ghost use Rattle.tg_script.specs.declared.fault.ScriptFault.TheVariants.{ReadFailed};
 ghost use Rattle.tg_script.specs.Grammar.{LineFits, line_text};
@@ -36,6 +37,13 @@ pub fn admissible_without_wants_is_the_output()
 /// The output is one text, where no full collection comes.
 pub fn output_is_deterministic()
     ensures { (s : Scene) (lines : List Line) (text other : List ℕ) → HasNoFull lines → IsOutput (Some s) lines text → IsOutput (Some s) lines other → text ≡ other }
+{}
+
+/// Where a full collection comes, all outputs have the same text up to and with its answer.
+pub fn outputs_agree_up_to_the_first_full()
+    ensures { (s : Scene) (known more : List Line) (text other : List ℕ) → HasNoFull known →
+        IsOutput (Some s) (known ++ Full ∷ more) text → IsOutput (Some s) (known ++ Full ∷ more) other →
+        (front : List ℕ) × (rest : List ℕ) × (others : List ℕ) × IsOutput (Some s) (known ++ Full ∷ []) front × (text ≡ front ++ rest) × (other ≡ front ++ others) }
 {}
 
 /// The text of a stock has one reading: it names one list of boxes at most.
