@@ -1,10 +1,9 @@
 -- The lines that are no edge lines, one after the other.
 use mathlib.Core.Bool.{false≢true}
-use Rattle.std.proofs.Common.{◌≡◌, ◌⊎◌, inl, inr, ℕ, ◌+◌, ◌-◌, length, Bool, true, false, List, [], ◌∷◌, ◌++◌, Option, Some, None, Result, Ok, Err, refl, sym, ap, ◌∙◌, subst, append_assoc, append-nil}
+use Rattle.std.proofs.Common.{◌≡◌, inl, inr, ℕ, ◌+◌, ◌-◌, length, Bool, false, List, [], ◌∷◌, ◌++◌, Option, Some, None, Err, refl, sym, ap, ◌∙◌, subst, append_assoc, append-nil}
 use Rattle.tg_script.specs.declared.line.Line.{Line}
 use Rattle.tg_script.specs.declared.line.Line.TheVariants as line
 use Rattle.tg_script.specs.declared.answer.Answer.{Answer}
-use Rattle.tg_script.specs.declared.answer.Answer.TheVariants as told
 use Rattle.tg_script.specs.declared.fault.ScriptFault.{ScriptFault}
 use Rattle.tg_script.specs.declared.fault.ScriptFault.TheVariants as fault
 use Rattle.tg_script.specs.declared.script.Script.{Script}

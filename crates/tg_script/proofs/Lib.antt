@@ -5,7 +5,6 @@ pub mod GrammarLaws
 pub mod ReadLaws
 pub mod FetchLaws
 pub mod ReadingLaws
-pub mod StockLaws
 pub mod SinkLaws
 pub mod LinesLaws
 pub mod OpeningLaws
@@ -13,3 +12,5 @@ pub mod RunLaws
 pub mod CommandLaws
 pub mod RanLaws
 pub mod OutputLaws
+pub mod StockLaws
+pub mod StreamLaws

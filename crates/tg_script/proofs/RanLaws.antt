@@ -1,7 +1,7 @@
 -- What was written for the whole of a script.
 use mathlib.Core.Bool.{false≢true}
 use Rattle.std.specs.Prelude.{IsOk}
-use Rattle.std.proofs.Common.{◌≡◌, ◌⊎◌, inl, inr, ℕ, ◌+◌, Bool, true, false, List, [], ◌∷◌, ◌++◌, map, Option, Some, None, Result, Ok, Err, refl, sym, ap, ◌∙◌, subst, arith, append_assoc, append-nil}
+use Rattle.std.proofs.Common.{◌≡◌, inl, inr, ℕ, Bool, true, List, [], ◌∷◌, ◌++◌, Option, Some, None, Result, Ok, Err, refl, sym, ap, ◌∙◌, subst, arith, append_assoc, append-nil}
 use Rattle.tg_model.specs.declared.edge.Edge.{Edge}
 use Rattle.tg_model.specs.Opened.{Plan, start_of}
 use Rattle.tg_script.specs.declared.line.Line.{Line}
@@ -9,7 +9,7 @@ use Rattle.tg_script.specs.declared.line.Line.TheVariants as line
 use Rattle.tg_script.specs.declared.fault.ScriptFault.{ScriptFault}
 use Rattle.tg_script.specs.declared.fault.ScriptFault.TheVariants as fault
 use Rattle.tg_script.specs.declared.script.Script.{Script}
-use Rattle.tg_script.specs.Sinks.{WroteSome, Keeps}
+use Rattle.tg_script.specs.Sinks.{Keeps}
 use Rattle.tg_script.specs.Reading.{Reads, ReadsScript}
 use Rattle.tg_script.specs.Script.{Scene, IsAdmissible, Start, edges_of, commands_of, scene_of, IsScriptOutput}
 use Rattle.tg_script.specs.Lines.{ReadsFrom, Behind}

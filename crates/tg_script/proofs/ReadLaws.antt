@@ -1,6 +1,6 @@
 -- Reading gives exactly the lines of the grammar.
 use mathlib.Core.Bool.{true≢false}
-use Rattle.std.proofs.Common.{◌≡◌, ◌⊎◌, inl, inr, ℕ, ◌+◌, ◌%◌, ◌<◌, ◌^◌, nat_lt, ◌++◌, ◌&&◌, Bool, true, false, cond, List, [], ◌∷◌, Option, Some, None, option_and_then, IfSome, refl, sym, ap, ap₂, ◌∙◌, subst, arith}
+use Rattle.std.proofs.Common.{◌≡◌, ◌⊎◌, inl, inr, ℕ, ◌+◌, ◌%◌, ◌<◌, ◌^◌, nat_lt, ◌++◌, Bool, true, false, cond, List, [], ◌∷◌, Option, Some, None, option_and_then, IfSome, refl, sym, ap, ap₂, ◌∙◌, subst, arith}
 use Rattle.std.specs.Prelude.{codes, decimal}
 use Rattle.std.specs.List.{list_all, join_with_byte}
 use Rattle.tg_script.proofs.GrammarLaws.{visible, visible-append, visible-decimal, pieces-join, join-pieces}

@@ -1,8 +1,8 @@
 -- Reading is deterministic: bytes have one first line, and that decides what comes of it.
-use Rattle.std.proofs.Common.{◌≡◌, ◌≢◌, ◌⊎◌, inl, inr, ℕ, ◌+◌, ◌-◌, ◌*◌, ◌^◌, ◌<◌, ◌≤◌, ◌==◌, ◌&&◌, nat_lt, Bool, true, false, cond, if◌then◌else◌, List, [], ◌∷◌, ◌++◌, length, Option, Some, None, refl, sym, ap, ◌∙◌, subst, arith, length-append}
+use Rattle.std.proofs.Common.{◌≡◌, ◌≢◌, inl, inr, ℕ, ◌+◌, ◌-◌, ◌*◌, ◌<◌, ◌≤◌, ◌==◌, ◌&&◌, nat_lt, Bool, true, false, if◌then◌else◌, List, [], ◌∷◌, ◌++◌, length, Option, Some, None, refl, sym, ap, ◌∙◌, subst, arith, length-append}
 use Rattle.std.specs.Prelude.{codes, decimal}
 use Rattle.std.specs.List.{list_all, join_with_byte}
-use Rattle.std.proofs.lemmas.Bool.{eqb-true, eq-eqb, ne_eqb, ltb-true, lt-ltb, le-ltb, and_parts, and_from}
+use Rattle.std.proofs.lemmas.Bool.{eq-eqb, ne_eqb, ltb-true, lt-ltb, le-ltb, and_parts, and_from}
 use Rattle.std.proofs.lemmas.Fmt.{length-decimal-le}
 use Rattle.tg_rights.specs.RightSet.{RightSet, text_of}
 use Rattle.tg_rights.specs.RightText.{length-text_of}
@@ -14,7 +14,7 @@ use Rattle.tg_script.specs.declared.fault.ScriptFault.{ScriptFault}
 use Rattle.tg_script.specs.declared.fault.ScriptFault.TheVariants.{ReadFailed, InputTooLong, LineTooLong, BadLine, WriteFailed, OutOfMemory, HeapFull, BadLimits}
 use Rattle.tg_script.specs.Fetching.{IsOneLine}
 use Rattle.tg_script.specs.Grammar.{words_of, words_of_command, line_text, LineFits, CommandFits, NumberFits}
-use Rattle.tg_script.specs.Reading.{MayStand, opening_after, IsBadText, Ends, Reads}
+use Rattle.tg_script.specs.Reading.{MayStand, opening_after, Ends, Reads}
 use Rattle.tg_script.proofs.GrammarLaws.{visible}
 use Rattle.tg_script.proofs.ReadLaws.{visible-words_of, line_text-same}
 

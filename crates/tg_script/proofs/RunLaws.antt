@@ -1,6 +1,6 @@
 -- Each line is answered by the scene that the run shows.
 use mathlib.Core.Bool.{true≢false}
-use Rattle.std.proofs.Common.{◌≡◌, ◌⊎◌, inl, inr, ◌↔◌, ℕ, ◌<◌, ◌≤◌, nat_lt, Bool, true, false, cond, List, [], ◌∷◌, Option, Some, None, Result, Ok, Err, refl, sym, ap, ◌∙◌, subst, arith}
+use Rattle.std.proofs.Common.{◌≡◌, inl, inr, ◌↔◌, ℕ, ◌<◌, ◌≤◌, nat_lt, Bool, true, false, cond, List, [], ◌∷◌, Some, None, Result, Ok, Err, refl, sym, ap, ◌∙◌, subst, arith}
 use Rattle.std.specs.List.{All, Contains, range_with_len}
 use Rattle.std.proofs.lemmas.Bool.{ltb-true, lt-ltb}
 use Rattle.tg_rights.specs.RightSet.{RightSet}
@@ -19,17 +19,14 @@ use Rattle.tg_store.specs.declared.fault.CreateFault.{CreateFault}
 use Rattle.tg_store.specs.declared.fault.CreateFault.TheVariants as create
 use Rattle.tg_store.specs.Store.{StoreState, StandsFor}
 use Rattle.tg_model.proofs.PlainLaws.{is_subject, is_worker}
-use Rattle.tg_script.specs.declared.line.Line.{Line}
 use Rattle.tg_script.specs.declared.line.Line.TheVariants as line
-use Rattle.tg_script.specs.declared.answer.Answer.{Answer}
 use Rattle.tg_script.specs.declared.answer.Answer.TheVariants as told
-use Rattle.tg_script.specs.declared.answer.Refusal.{Refusal}
 use Rattle.tg_script.specs.declared.answer.Refusal.TheVariants as refusal
 use Rattle.tg_script.specs.declared.run.Run.{Run}
 use Rattle.tg_script.specs.Supply.{values_left}
-use Rattle.tg_script.specs.Script.{Scene, Creates, Answers, MayRefuse}
+use Rattle.tg_script.specs.Script.{Scene, Creates}
 use Rattle.tg_script.specs.Answering.{apply_refusal, create_answer}
-use Rattle.tg_script.specs.Run.{ShowsBy, Shows, Serves, HandlesBy, Handles}
+use Rattle.tg_script.specs.Run.{Shows, HandlesBy, Handles}
 
 -- ---- who is a subject
 

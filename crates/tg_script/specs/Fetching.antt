@@ -1,5 +1,5 @@
 -- What came of the next line of a source, and what that says of the bytes that were left.
-use Rattle.std.specs.Prelude.{◌≡◌, ◌≢◌, ℕ, ◌+◌, ◌<◌, ◌≤◌, List, [], ◌∷◌, ◌++◌, length, Option, Some, None}
+use Rattle.std.specs.Prelude.{◌≡◌, ◌≢◌, ℕ, ◌<◌, ◌≤◌, List, [], ◌∷◌, ◌++◌, length, Option, Some, None}
 use Rattle.std.specs.List.{AllByRecursion}
 use Rattle.tg_script.specs.declared.source.Fetched.{Fetched}
 use Rattle.tg_script.specs.declared.source.Fetched.TheVariants as fetched

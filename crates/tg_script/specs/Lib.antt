@@ -4,8 +4,6 @@ pub mod Fetching
 pub mod Grammar
 pub mod Words
 pub mod Reading
-pub mod Stock
-pub mod StockWords
 pub mod Texts
 pub mod Script
 pub mod Running
@@ -14,3 +12,6 @@ pub mod Opening
 pub mod Supply
 pub mod Answering
 pub mod Run
+pub mod Stock
+pub mod StockWords
+pub mod Values

@@ -1,6 +1,6 @@
 -- How the code takes the text of a stock apart: a letter, and the digits behind it. `Stock` says what a text is; nothing
 -- here has to be believed.
-use Rattle.std.specs.Prelude.{◌≡◌, ℕ, ◌==◌, ◌&&◌, nat_le, List, [], ◌∷◌, Option, Some, None, option_and_then, if◌then◌else◌}
+use Rattle.std.specs.Prelude.{ℕ, ◌==◌, ◌&&◌, nat_le, List, [], ◌∷◌, Option, Some, None, option_and_then, if◌then◌else◌}
 use Rattle.std.specs.Char.{is_ascii_digit}
 use Rattle.tg_script.specs.declared.stock.StockItem.{StockItem}
 use Rattle.tg_script.specs.declared.stock.StockItem.TheVariants.{Cell, Sum, Max, Log}

@@ -5,9 +5,9 @@ ghost use Rattle.tg_script.specs.declared.fault.ScriptFault.{ScriptFault};
 ghost use Rattle.tg_script.specs.declared.fault.ScriptFault.TheVariants.{ReadFailed};
 ghost use Rattle.tg_script.specs.Grammar.{LineFits, line_text};
 ghost use Rattle.tg_script.specs.Reading.{Reads};
+ghost use Rattle.tg_script.specs.Script.{Scene, IsOutput, IsAdmissible, HasNoFull};
 ghost use Rattle.tg_script.specs.declared.stock.StockItem.{StockItem};
 ghost use Rattle.tg_script.specs.Stock.{IsStockText};
-ghost use Rattle.tg_script.specs.Script.{Scene, IsOutput, IsAdmissible, HasNoFull};
 
 /// The grammar is unambiguous: a text is that of one line at most.
 pub fn a_text_is_one_line()
@@ -28,11 +28,6 @@ pub fn failed_reading_is_a_front()
         other ≢ Some ReadFailed → (more : List Line) × (others ≡ lines ++ more) }
 {}
 
-/// The text of a stock has one reading: it names one list of boxes at most.
-pub fn a_text_is_one_stock()
-    ensures { (text : List ℕ) (boxes others : List StockItem) → IsStockText text boxes → IsStockText text others → boxes ≡ others }
-{}
-
 /// Where nothing was wanting, an admissible text is the output.
 pub fn admissible_without_wants_is_the_output()
     ensures { (s : Option Scene) (lines : List Line) (text : List ℕ) → IsAdmissible s lines 0 text → IsOutput s lines text }
@@ -41,4 +36,9 @@ pub fn admissible_without_wants_is_the_output()
 /// The output is one text, where no full collection comes.
 pub fn output_is_deterministic()
     ensures { (s : Scene) (lines : List Line) (text other : List ℕ) → HasNoFull lines → IsOutput (Some s) lines text → IsOutput (Some s) lines other → text ≡ other }
+{}
+
+/// The text of a stock has one reading: it names one list of boxes at most.
+pub fn a_text_is_one_stock()
+    ensures { (text : List ℕ) (boxes others : List StockItem) → IsStockText text boxes → IsStockText text others → boxes ≡ others }
 {}

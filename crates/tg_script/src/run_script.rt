@@ -1,5 +1,5 @@
 //! The run of a whole script.
-ghost use Rattle.std.specs.Prelude.{◌≡◌, ◌+◌, ◌<◌, ◌≤◌, ℕ, List, Option, Some, Err, false, OnOk};
+ghost use Rattle.std.specs.Prelude.{◌≡◌, ◌+◌, ◌<◌, ◌≤◌, ℕ, List, [], Option, Some, Err, false, OnOk};
 ghost use Rattle.std.specs.List.{All};
 ghost use Rattle.tg_model.specs.Opened.{HasValues, ValueFits};
 ghost use Rattle.tg_script.specs.Lines.{read_failures, write_failures};
@@ -8,8 +8,10 @@ ghost use Rattle.tg_script.specs.Run.{Shows, HasFittingStock};
 ghost use Rattle.tg_script.specs.Running.{Ran, TellsAll, Finishes, RunsLine};
 ghost use Rattle.tg_script.specs.Script.{Scene, Start};
 
+use crate::count::Count;
 use crate::fault::ScriptFault;
 use crate::line::Line;
+use crate::memory::{Bytes, Written};
 use crate::opening::{Front, open_store, read_edges};
 use crate::reply::write_reply;
 use crate::run::Run;
@@ -18,6 +20,8 @@ use crate::sink::{Sink, WriteFailed};
 use crate::source::Source;
 use crate::supply::Supply;
 use std::alloc::Global;
+use std::marker::Brand;
+use std::sync::ledger::{Blank, Ledger};
 use tg_model::Value;
 
 /// What a run is given beside its script and its values.
@@ -54,6 +58,59 @@ pub fn run_script_one<S: Source, K: Sink>(
 {
     let outcome = run_lines(alloc, source, sink, settings, values, stock);
     finish(sink, outcome)
+}
+
+/// What a run in memory wrote, and how it ended.
+#[derive(Debug, Drop)]
+pub struct InMemory {
+    pub written: Vec<u8>,
+    pub outcome: Result<(), ScriptFault>,
+}
+
+/// Runs a script that lies in memory, as [`run_script_one`] does, and keeps what is written in memory.
+pub fn run_in_memory(
+    alloc: Global,
+    script: &[u8],
+    settings: Settings,
+    values: Vec<Value>,
+    stock: Vec<Value>,
+) -> InMemory
+    requires workers { (1 ≤ settings.workers) × (settings.workers ≤ 64) }
+    requires values { HasValues settings.workers values.items }
+    requires stock { All ValueFits stock.items }
+    ensures { let start : Start = record { workers = settings.workers; limit = settings.max_vertices; values = values.items; stock = stock.items } in
+        Ran start script.now [] result.outcome (Some result.written.items) }
+{
+    let (asked, failures) = (Blank::new(1), Blank::new(1));
+    run_counted::<Brand, Brand>(alloc, script, settings, values, stock, asked, failures)
+}
+
+// The counts of the source and of the sink are those of the ledgers A and F.
+fn run_counted<A: Ledger, F: Ledger>(
+    alloc: Global,
+    script: &[u8],
+    settings: Settings,
+    values: Vec<Value>,
+    stock: Vec<Value>,
+    asked: Blank,
+    failures: Blank,
+) -> InMemory
+    requires workers { (1 ≤ settings.workers) × (settings.workers ≤ 64) }
+    requires values { HasValues settings.workers values.items }
+    requires stock { All ValueFits stock.items }
+    requires asked { (asked.name ≡ A.name) × (asked.parts ≡ A.parts) × (0 < asked.parts) }
+    requires failures { (failures.name ≡ F.name) × (failures.parts ≡ F.parts) × (0 < failures.parts) }
+    ensures { let start : Start = record { workers = settings.workers; limit = settings.max_vertices; values = values.items; stock = stock.items } in
+        Ran start script.now [] result.outcome (Some result.written.items) }
+{
+    let mut source = Bytes::new(script, Count::<A>::new(asked));
+    let mut sink = Written::new(alloc, Count::<F>::new(failures));
+    let outcome = run_script_one(alloc, &mut source, &mut sink, settings, values, stock);
+    let Written { bytes, failures: _ } = sink;
+    InMemory {
+        written: bytes,
+        outcome,
+    }
 }
 
 // Finishes the sink. A fault that came before stands.

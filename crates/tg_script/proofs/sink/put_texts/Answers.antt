@@ -1,4 +1,4 @@
-use Rattle.std.proofs.Common.{[], ◌∷◌, ◌++◌}
+use Rattle.std.proofs.Common.{[]}
 use Rattle.tg_script.proofs.SinkLaws.{writes_cut_at}
 use Rattle.tg_script.proofs.sink.put_texts.Goals as goal
 

@@ -1,4 +1,4 @@
-use Rattle.std.proofs.Common.{List, sym, subst, arith}
+use Rattle.std.proofs.Common.{List, sym, subst}
 use Rattle.tg_script.specs.declared.stock.StockItem.{StockItem}
 use Rattle.tg_script.proofs.StockLaws.{Progress, progress_start, progress_next, progress_end, progress_none, not_empty, empty}
 use Rattle.tg_script.proofs.stock.gather_boxes.Goals as goal

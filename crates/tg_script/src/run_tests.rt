@@ -1,0 +1,129 @@
+//! Worked scripts, with what is written for each.
+ghost use Rattle.std.specs.Prelude.{◌≤◌};
+
+use crate::{ScriptFault, Settings, StockItem, read_stock, run_in_memory, values_of};
+use std::process::Abort;
+use std::test::Fail;
+
+// Runs the script with so many workers, and compares what is written and how the run ends.
+fn runs(
+    rt: &(impl Abort + AllocGlobal),
+    workers: u64,
+    max_vertices: u64,
+    stock: &[u8],
+    script: &[u8],
+    written: &[u8],
+    outcome: Result<(), ScriptFault>,
+) -> Result<(), Fail>
+    requires { (1 ≤ workers) × (workers ≤ 64) }
+{
+    let alloc = rt.alloc();
+    let cells = vec![in alloc; StockItem::Cell; workers as usize]?;
+    let values = values_of(alloc, cells.as_slice())?;
+    let stock = read_stock(alloc, stock)?;
+    let stock = values_of(alloc, stock.as_slice())?;
+    let settings = Settings {
+        workers,
+        max_vertices,
+    };
+    let ran = run_in_memory(alloc, script, settings, values, stock);
+    assert_eq!(rt; ran.written.as_slice(), written);
+    assert_eq!(rt; ran.outcome, outcome);
+    Ok(())
+}
+
+#[test]
+fn empty_script(rt: HostRuntime) -> Result<(), Fail> {
+    runs(&rt, 2, 1_000_000, b"", b"", b"", Ok(()))
+}
+
+#[test]
+fn create_then_list(rt: HostRuntime) -> Result<(), Fail> {
+    let script = b"0 create rw\n0 list\n";
+    runs(&rt, 1, 1_000_000, b"c", script, b"ok 1\nok 1:rw\n", Ok(()))
+}
+
+#[test]
+fn grant_then_denied_write(rt: HostRuntime) -> Result<(), Fail> {
+    let script = b"edge 0 1 tg\n0 create rw\n0 grant 1 2 r\n1 read 2\n1 write 2 7\n";
+    let written = b"ok 2\nok\nok 0\ndenied write 1->2 w\n";
+    runs(&rt, 2, 1_000_000, b"c", script, written, Ok(()))
+}
+
+#[test]
+fn take_more_than_is_held(rt: HostRuntime) -> Result<(), Fail> {
+    let script = b"edge 0 1 t\n1 create r\n0 take 1 2 rwg\n0 list\n";
+    let written = b"ok 2\ndenied take 1->2 wg\nok 1:t\n";
+    runs(&rt, 2, 1_000_000, b"c", script, written, Ok(()))
+}
+
+#[test]
+fn read_of_a_name_never_made(rt: HostRuntime) -> Result<(), Fail> {
+    let written = b"denied read 0->99 r\n";
+    runs(&rt, 1, 1_000_000, b"", b"0 read 99\n", written, Ok(()))
+}
+
+#[test]
+fn order_of_the_checks(rt: HostRuntime) -> Result<(), Fail> {
+    let script =
+        b"0 take 1 0 r\n0 take 1 1 r\n0 take 0 1 r\n0 read 0\n0 take 1 5 r\n0 grant 1 5 r\n";
+    let written =
+        b"denied take distinct\ndenied take distinct\ndenied take distinct\ndenied read distinct\ndenied take 0->1 t\ndenied grant 0->1 g\n";
+    runs(&rt, 2, 1_000_000, b"", script, written, Ok(()))
+}
+
+#[test]
+fn log_and_sum_payloads(rt: HostRuntime) -> Result<(), Fail> {
+    let script =
+        b"0 create rw\n0 create rw\n0 read 2\n0 write 2 1\n0 write 2 2\n1 write 2 9\n0 write 2 3\n0 write 2 4\n0 write 2 5\n0 read 2\n0 write 3 18446744073709551615\n0 write 3 1\n0 read 3\n";
+    let written =
+        b"ok 2\nok 3\nok\nok\nok\ndenied write 1->2 w\nok\nok\nok\nok 2 3 4 5\nok\nok\nok 0\n";
+    runs(&rt, 2, 1_000_000, b"ls", script, written, Ok(()))
+}
+
+#[test]
+fn vertex_limit_and_unknown_worker(rt: HostRuntime) -> Result<(), Fail> {
+    let script = b"0 create r\n1 create r\n1 list\n7 list\n";
+    let written = b"ok 2\nrefused vertices\nok\nrefused worker\n";
+    runs(&rt, 2, 3, b"c2", script, written, Ok(()))
+}
+
+#[test]
+fn bad_lines(rt: HostRuntime) -> Result<(), Fail> {
+    let bad = Err(ScriptFault::BadLine { line: 2 });
+    for script in [
+        b"0 list\n0 create wr\n".as_slice(),
+        b"0 list\n0 create \n".as_slice(),
+        b"0 list\n0  list\n".as_slice(),
+        b"0 list\n00 list\n".as_slice(),
+        b"0 list\n\n".as_slice(),
+        b"0 list\nedge 0 0 r\n".as_slice(),
+        b"0 list\n0 list".as_slice(),
+    ] {
+        runs(&rt, 1, 1_000_000, b"c", script, b"ok\n", bad)?;
+    }
+    Ok(())
+}
+
+#[test]
+fn line_too_long(rt: HostRuntime) -> Result<(), Fail> {
+    let mut script = Vec::from_slice(rt.alloc(), b"0 list\n")?;
+    for _ in 0..257 {
+        script.push(b'x')?;
+    }
+    script.push(b'\n')?;
+    let fault = Err(ScriptFault::LineTooLong { line: 2 });
+    runs(&rt, 1, 1_000_000, b"", script.as_slice(), b"ok\n", fault)
+}
+
+#[test]
+fn edge_lines_unite(rt: HostRuntime) -> Result<(), Fail> {
+    let script = b"edge 0 1 r\nedge 0 1 w\n0 list\n";
+    runs(&rt, 2, 1_000_000, b"", script, b"ok 1:rw\n", Ok(()))
+}
+
+#[test]
+fn weak_collection_counts_all_names(rt: HostRuntime) -> Result<(), Fail> {
+    let script = b"0 create r\n0 remove 1 r\nfull\n";
+    runs(&rt, 1, 1_000_000, b"c", script, b"ok 1\nok\nok 2\n", Ok(()))
+}
