@@ -69,35 +69,3 @@ impl<W: Write + Drop, L: Ledger> Sink for OfWrite<W, L> {
         done
     }
 }
-
-/// A reader as a source. Each byte is one read, so wrap the reader in a buffer. An error fails, an interruption
-/// included, and a read that gives no byte is the end.
-#[derive(Drop)]
-pub struct OfRead<R: Read + Drop, A: Ledger, F: Ledger> {
-    pub reader: R,
-    /// How often the source was asked.
-    pub asked: Count<A>,
-    /// How often the reader failed.
-    pub failures: Count<F>,
-}
-
-impl<R: Read + Drop, A: Ledger, F: Ledger> Source for OfRead<R, A, F> {
-    ghost left = { λ s. R.remaining s.reader };
-
-    ghost failures = { λ s. s.failures };
-
-    ghost asked = { λ s. s.asked };
-
-    fn next(&mut self) -> Next {
-        self.asked.tick();
-        let mut byte = [0u8; 1];
-        match self.reader.read(&mut byte) {
-            Ok(0) => Next::End,
-            Ok(_) => Next::Byte(byte[0]),
-            Err(_) => {
-                self.failures.tick();
-                Next::Failed
-            }
-        }
-    }
-}
