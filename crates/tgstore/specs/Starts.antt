@@ -10,7 +10,7 @@ use Rattle.tg_script.specs.declared.run_script.Settings.{Settings}
 use Rattle.tgstore.specs.declared.start.Start.{Start}
 use Rattle.tgstore.specs.declared.start.StartFault.{StartFault}
 use Rattle.tgstore.specs.declared.start.StartFault.TheVariants.{BadStock, BadLimits, OutOfMemory}
-use Rattle.tgstore.specs.Boxes.{box_of}
+use Rattle.tg_script.specs.Values.{value_of}
 
 -- no stock has this text
 abbrev pub IsBadStock : List ℕ → Type 0
@@ -24,10 +24,10 @@ HasRoom s = s.workers ≤ s.max_vertices
 pub record StartsFrom (settings : Settings) (text : List ℕ) (s : Start) : Type 0 where
   pub settings_same : s.settings ≡ settings
   pub room : HasRoom settings
-  pub workers : s.workers.items ≡ replicate settings.workers (box_of Cell)
-  pub stock : (items : List StockItem) × IsStockText text items × (s.stock.items ≡ map box_of items)
+  pub workers : s.workers.items ≡ replicate settings.workers (value_of Cell)
+  pub stock : (items : List StockItem) × IsStockText text items × (s.stock.items ≡ map value_of items)
 
--- the first of these that holds is the fault; memory is wanting only where neither does
+-- the first of the two that holds is the fault; memory is wanting only where the text is that of a stock
 abbrev pub IsStartFault : Settings → List ℕ → StartFault → Type 0
 IsStartFault settings text BadStock = IsBadStock text
 IsStartFault settings text BadLimits = (items : List StockItem) × IsStockText text items × (settings.max_vertices < settings.workers)

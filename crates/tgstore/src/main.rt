@@ -6,7 +6,6 @@
 
 ghost use Rattle.tgstore.specs.Ranges.{AreInRange};
 
-mod boxes;
 mod help;
 mod run;
 mod settings;

@@ -1,13 +1,15 @@
 //! What a run starts from, and what is wrong with it before any input is read.
-ghost use Rattle.std.specs.Prelude.{IfOk, IfErr};
+ghost use Rattle.std.specs.Prelude.{◌≡◌, IfOk, IfErr, replicate};
+ghost use Rattle.std.specs.List.{All};
+ghost use Rattle.tg_model.specs.Opened.{ValueFits};
+ghost use Rattle.tg_script.specs.Values.{value_of};
 ghost use Rattle.tgstore.specs.Ranges.{AreInRange};
 ghost use Rattle.tgstore.specs.Starts.{StartsFrom, IsReady, IsStartFault};
 
-use crate::boxes::{stock_boxes, worker_boxes};
 use crate::settings::Options;
 use std::alloc::{AllocError, Global};
 use tg_model::Value;
-use tg_script::{Settings, StockFault, read_stock};
+use tg_script::{Settings, StockFault, StockItem, read_stock, value_of, values_of};
 use thiserror::Error;
 
 /// What a run is given beside its script.
@@ -74,7 +76,19 @@ pub fn prepare(alloc: Global, options: &Options) -> Result<Start, StartFault>
     }
     Ok(Start {
         settings,
-        workers: worker_boxes(alloc, settings.workers)?,
-        stock: stock_boxes(alloc, items.as_slice())?,
+        workers: worker_values(alloc, settings.workers)?,
+        stock: values_of(alloc, items.as_slice())?,
     })
+}
+
+// A cell with 0 for each worker.
+fn worker_values(alloc: Global, workers: u64) -> Result<Vec<Value>, AllocError>
+    ensures values { IfOk result (λ values. values.items ≡ replicate workers (value_of StockItem.Cell)) }
+    ensures fit { IfOk result (λ values. All ValueFits values.items) }
+{
+    let mut values = Vec::new(alloc);
+    for _ in 0..workers {
+        values.push(value_of(alloc, StockItem::Cell)?)?;
+    }
+    Ok(values)
 }
