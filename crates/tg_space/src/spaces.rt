@@ -276,7 +276,6 @@ impl Spaces {
     /// After a full one Old is the new blocks, there are none of Aged, and every other space has no block. It is
     /// refused only where memory was, and never after a full collection; then nothing is changed.
     pub fn adopt(&mut self, kind: Kind, adoption: Adoption) -> Result<(), AllocError>
-        requires { adoption.aged ≡ [] }
         ensures adopted { OnOk result (self.new ≡ with_only_old self.old adoption.old) }
         ensures refused { OnErr result (self.new ≡ self.old) }
         ensures full { kind ≡ Kind.Full → IsOk result }
