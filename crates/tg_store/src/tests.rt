@@ -1,0 +1,1 @@
+//! Boxes of several kinds, through generic code.
