@@ -23,8 +23,8 @@ impl<P: Payload> Model for PayloadList<P> {
     ghost Value = { NamedValues };
 
     ghost view = { λ a. record {
-        values = values_under a.table a.keys.items;
-        spare = min a.table.spare (vec_capacity a.keys - vec_len a.keys);
+      values = values_under a.table a.keys.items;
+      spare = min a.table.spare (vec_capacity a.keys - vec_len a.keys);
     } };
 
     ghost invariant = { λ a. AreKeys a.table a.keys.items };

@@ -1,5 +1,7 @@
 //! The store and its calls.
 ghost use Rattle.std.specs.Prelude.{◌≡◌, ◌↔◌, ◌≤◌, ℕ, [], Err, IfOk, IfErr, IsErrAnd, OnOk, OnErr, MatchOption};
+ghost use Rattle.tg_model.specs.Plain.{graph_of};
+ghost use Rattle.tg_model.specs.Rules.{step};
 ghost use Rattle.tg_store.specs.Faults.{IsFirstDifference};
 
 use crate::collect::{Kind, compact};
@@ -7,7 +9,7 @@ use crate::fault::{ApplyFault, CollectFault, CreateFault, CreateRefused, OpenFau
 use crate::payload_list::PayloadList;
 use std::alloc::Global;
 use std::marker::Model;
-use tg_model::{Command, Deed, Denial, Graph, Law, Numbers, Opening, Reply, Value};
+use tg_model::{Command, Deed, Denial, Graph, Law, ModelFault, Numbers, Opening, Reply, Value};
 use tg_payload::{Draft, Payload};
 use tg_rights::Label;
 
@@ -161,7 +163,7 @@ impl<P: Payload> Store<P> {
         if self.payloads.reserve(1).is_err() {
             return create_refused(draft, CreateFault::OutOfMemory);
         }
-        if self.rows.apply(worker, &unlooked_at(self.alloc, label)).is_err() {
+        if add_vertex(self.alloc, &mut self.rows, worker, label).is_err() {
             return create_refused(draft, CreateFault::OutOfMemory);
         }
         self.payloads.push(draft);
@@ -184,15 +186,18 @@ impl<P: Payload> Store<P> {
     }
 }
 
-// The making of a vertex in the rows, whose values are not looked at.
-fn unlooked_at(alloc: Global, label: Label) -> Deed
-    ensures { result ≡ Deed.Create label (Law.Log 1) [] }
+// Makes a vertex in the rows, whose values are not looked at.
+fn add_vertex(alloc: Global, rows: &mut Graph, worker: u64, label: Label) -> Result<(), ModelFault>
+    ensures added { OnOk result (graph_of rows.new ≡ step (graph_of rows.old) worker (Deed.Create label (Law.Log 1) [])) }
+    ensures refused { OnErr result (rows.new ≡ rows.old) }
 {
-    Deed::Create {
+    let deed = Deed::Create {
         label,
         law: Law::Log(1),
         state: Numbers::from_vec(Vec::new(alloc)),
-    }
+    };
+    rows.apply(worker, &deed)?;
+    Ok(())
 }
 
 // The first place where a draft's law or state isn't that of the value; or else the smaller of the two numbers.
