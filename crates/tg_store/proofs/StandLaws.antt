@@ -1,19 +1,14 @@
 -- What a store's rows say of the graph that it stands for, and what becomes of it by a deed.
-use Rattle.std.proofs.Common.{◌≡◌, ◌≢◌, ◌∙◌, ℕ, ◌<◌, ◌+◌, ◌++◌, ◌∷◌, [], List, length, refl, sym, ap, subst, Option, Some, None, Bool, true, false, Result, Ok, Err, OnOk, is_err, arith, length-append}
+use Rattle.std.proofs.Common.{◌≡◌, ℕ, ◌<◌, ◌++◌, ◌∷◌, [], List, length, refl, sym, ap, subst, Bool, false, Result, Ok, Err, OnOk, is_err, arith, length-append}
 use Rattle.std.specs.Prelude.{slice_get}
 use Rattle.std.specs.List.{Contains, range_with_len}
 use Rattle.std.proofs.lemmas.Bool.{lt-ltb}
 use Rattle.tg_rights.specs.RightSet.{RightSet}
 use Rattle.tg_model.specs.declared.value.Value.{Value}
-use Rattle.tg_model.specs.declared.command.Command.{Command}
-use Rattle.tg_model.specs.declared.command.Command.TheVariants.{Take, Grant, Remove, Read, Write, List as Listing}
-use Rattle.tg_model.specs.declared.command.Deed.TheVariants.{Create, Plain}
+use Rattle.tg_model.specs.declared.command.Deed.TheVariants.{Create}
 use Rattle.tg_model.specs.declared.law.Law.{Law}
-use Rattle.tg_model.specs.declared.reply.Denial.{Denial}
-use Rattle.tg_model.specs.declared.reply.Reply.TheVariants.{Edges}
-use Rattle.tg_model.specs.Graph.{ProtectionGraph, IsSubject, with_rights, listing_of}
-use Rattle.tg_model.specs.Plain.{PlainGraph, graph_of}
-use Rattle.tg_model.specs.Rules.{step, answer_of, denial_of, denied_or, effect, unless_denied, written_at, with_value, with_vertex}
+use Rattle.tg_model.specs.Graph.{ProtectionGraph, IsSubject, with_rights}
+use Rattle.tg_model.specs.Rules.{step, with_value}
 use Rattle.tg_model.proofs.PlainLaws.{is_subject, is_worker, same_graph, slice_get-push}
 use Rattle.tg_store.specs.Store.{StoreState, StandsFor}
 

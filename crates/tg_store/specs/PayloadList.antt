@@ -1,5 +1,5 @@
 -- The payloads of vertices by rising name, each under a key of a table.
-use Rattle.std.specs.Prelude.{◌≡◌, ℕ, List, [], ◌∷◌, Option, Some, IsSome, map, slice_get, unwrap_or}
+use Rattle.std.specs.Prelude.{◌≡◌, ℕ, List, [], Some, IsSome, map, slice_get, unwrap_or}
 use Rattle.tg_model.specs.declared.value.Value.{Value}
 use Rattle.tg_model.specs.declared.law.Law.TheVariants.{Cell}
 use Rattle.tg_payload.specs.Table.{Payloads, entry}

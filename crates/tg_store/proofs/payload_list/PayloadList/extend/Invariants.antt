@@ -1,4 +1,4 @@
-use Rattle.std.proofs.Common.{◌≡◌, ◌≤◌, ◌+◌, ◌++◌, length}
+use Rattle.std.proofs.Common.{◌≡◌, ◌≤◌, ◌++◌, length}
 use Rattle.tg_store.proofs.payload_list.PayloadList.extend.Given as goal
 
 -- the payloads so far are added, and there is room for the rest

@@ -1,4 +1,4 @@
-use Rattle.std.proofs.Common.{◌≡◌, ◌∙◌, ap, sym, ◌++◌, ◌∷◌, [], IsOk}
+use Rattle.std.proofs.Common.{◌≡◌, ◌∙◌, ap, ◌++◌, ◌∷◌, []}
 use Rattle.tg_store.specs.PayloadList.{NamedValues}
 use Rattle.tg_store.proofs.PayloadLaws.{values-pushed, AreKeys-pushed}
 use Rattle.tg_store.proofs.payload_list.PayloadList.push.Goals as goal

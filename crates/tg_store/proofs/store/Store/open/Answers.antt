@@ -1,4 +1,4 @@
-use Rattle.std.proofs.Common.{◌≡◌, ap, refl}
+use Rattle.std.proofs.Common.{◌≡◌, ap}
 use Rattle.tg_store.specs.Faults.{IsFirstDifference}
 use Rattle.tg_store.specs.declared.fault.OpenFault.TheVariants.{PayloadMismatch}
 use Rattle.tg_store.proofs.DifferenceLaws.{one_first}
