@@ -44,4 +44,6 @@ mod claims;
 mod collect;
 mod copies;
 mod fault;
+#[cfg(test)]
+mod tests;
 mod win;
