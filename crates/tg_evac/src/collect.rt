@@ -1,5 +1,5 @@
 //! The collection: claim, then copy.
-ghost use Rattle.std.specs.Prelude.{◌≡◌, ◌≤◌, ◌^◌, [], IfErr, IfOk};
+ghost use Rattle.std.specs.Prelude.{◌≡◌, [], IfErr, IfOk};
 ghost use Rattle.tg_space.specs.Collection.{IsFullCollection, MayLackRoom, used_cells};
 ghost use Rattle.tg_space.specs.Soundness.{AreSound};
 
