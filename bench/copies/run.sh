@@ -1,0 +1,35 @@
+#!/bin/sh
+# run.sh: bytes copied a second by full collections of a live heap of 35,008 cells, tree-like and random, beside a bare copier in C
+# (copier.c) and memcpy. It copies the crates that it needs, and the program beside it (`main.rt.in`, a name that the gate passes
+# over), into a temporary folder, and proves, builds and runs it there. The two take turns; a number is the best of five.
+# It wants cc and awk.
+set -eu
+here=$(cd "$(dirname "$0")" && pwd)
+top=$(cd "$here/../.." && pwd)
+build=$(mktemp -d)
+trap 'rm -rf "$build"' EXIT INT TERM
+mkdir -p "$build/crates/copies/src"
+cp "$top/HANDLES" "$build/"
+for name in tg_rights tg_model tg_word tg_block tg_space tg_evac; do
+    cp -r "$top/crates/$name" "$build/crates/$name"
+    grep "^$name:" "$top/crates.txt" >> "$build/crates.txt"
+done
+echo 'copies: tg_evac tg_space tg_block tg_word tg_rights' >> "$build/crates.txt"
+cp "$here/main.rt.in" "$build/crates/copies/src/main.rt"
+cp -r "$here/proofs" "$build/crates/copies/proofs"
+cc -O2 -o "$build/copier" "$here/copier.c"
+(cd "$build/crates/copies" && rt run) > "$build/built" 2>&1 || { cat "$build/built"; exit 1; }
+for round in 1 2 3 4 5; do
+    "$build/copier" | sed 's/^/C /'
+    "$build/crates/copies/out/copies" | sed 's/^/ours /'
+done | awk '
+    { at = $1 " " $2; if (!(at in best) || $4 < best[at]) best[at] = $4; cells = $3 }
+    function rate(at) { return best[at] ? cells * 64 / best[at] * 1000 : 0 }
+    END {
+        printf "%-8s %12s %12s %12s %10s %10s\n", "shape", "ours", "C", "memcpy", "ours/C", "ours/memcpy"
+        split("tree random", shapes, " ")
+        for (i = 1; i <= 2; i++) {
+            s = shapes[i]
+            printf "%-8s %7.0f MB/s %7.0f MB/s %7.0f MB/s %10.2f %10.2f\n", s, rate("ours " s), rate("C " s), rate("C memcpy"), rate("ours " s) / rate("C " s), rate("ours " s) / rate("C memcpy")
+        }
+    }'
