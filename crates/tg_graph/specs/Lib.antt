@@ -1,0 +1,4 @@
+pub mod Content
+pub mod Standing
+pub mod Rows
+pub mod Heap

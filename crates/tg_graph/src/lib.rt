@@ -1,0 +1,2 @@
+//! The graph in the cells of a heap.
+#![tactic(auto)]
