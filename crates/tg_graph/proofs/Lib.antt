@@ -1,0 +1,5 @@
+pub mod Members
+pub mod Places
+pub mod Layouts
+pub mod Lookups
+pub mod Slots
