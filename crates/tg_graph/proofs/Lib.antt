@@ -3,3 +3,5 @@ pub mod Places
 pub mod Layouts
 pub mod Lookups
 pub mod Slots
+pub mod Chains
+pub mod Changes
