@@ -1,2 +1,9 @@
 //! The graph in the cells of a heap.
 #![tactic(auto)]
+
+mod cells;
+mod heap;
+mod opening;
+mod rows;
+
+pub use heap::{Found, Heap, HeapRefused, VertexRefused};

@@ -1,0 +1,7 @@
+pub mod Members
+pub mod Places
+pub mod Layouts
+pub mod Lookups
+pub mod Slots
+pub mod Chains
+pub mod Changes
