@@ -5,3 +5,6 @@ pub mod Lookups
 pub mod Slots
 pub mod Chains
 pub mod Changes
+pub mod KeptCells
+pub mod KeptRows
+pub mod KeptGraph
