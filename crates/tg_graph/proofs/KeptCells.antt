@@ -72,31 +72,31 @@ module _ (from : ℕ → Bool) (h : SpaceList) (to : ℕ → Place) (words : Lis
 -- ---- moved words
 
 -- where a collection has the cell of a place: those of from-space are moved
-abbrev pub goes : (ℕ → Bool) → SpaceList → (ℕ → Place) → Place → Place
-goes from h to p = if from p.space then to (flat_of h p) else p
+abbrev pub moved_place : (ℕ → Bool) → SpaceList → (ℕ → Place) → Place → Place
+moved_place from h to p = if from p.space then to (flat_of h p) else p
 
 -- the moved word names the new place, with the same rights
 pub record IsMovedWord (from : ℕ → Bool) (h : SpaceList) (to : ℕ → Place) (word : ℕ) : Type 0 where
-  pub is : moved_word from h to word ≡ word_at (rights_in word) (goes from h to (place_in word))
+  pub is : moved_word from h to word ≡ word_at (rights_in word) (moved_place from h to (place_in word))
   pub some : moved_word from h to word ≢ 0
   pub present : IsTrue (is_present (moved_word from h to word))
-  pub place : place_in (moved_word from h to word) ≡ goes from h to (place_in word)
+  pub place : place_in (moved_word from h to word) ≡ moved_place from h to (place_in word)
   pub rights : rights_in (moved_word from h to word) ≡ rights_in word
 
-pub word_moved : (from : ℕ → Bool) (h : SpaceList) (to : ℕ → Place) (word : ℕ) → word ≢ 0 → IsTrue (is_present word) → IsPlace (goes from h to (place_in word)) → IsMovedWord from h to word
+pub word_moved : (from : ℕ → Bool) (h : SpaceList) (to : ℕ → Place) (word : ℕ) → word ≢ 0 → IsTrue (is_present word) → IsPlace (moved_place from h to (place_in word)) → IsMovedWord from h to word
 word_moved from h to word ne present inside = record {
   is = same;
-  some = λ z. let high = word_at-above_zero (rights_in word) (goes from h to (place_in word)) inside in let low : word_at (rights_in word) (goes from h to (place_in word)) ≡ 0 = sym same ∙ z in omega arith;
-  present = subst (λ (w : ℕ). IsTrue (is_present w)) (sym same) (is_present-word_at (rights_in word) (goes from h to (place_in word)) inside);
-  place = ap place_in same ∙ place_in-word_at (rights_in word) (goes from h to (place_in word)) inside;
-  rights = ap rights_in same ∙ rights_in-word_at (rights_in word) (goes from h to (place_in word)) inside;
+  some = λ z. let high = word_at-above_zero (rights_in word) (moved_place from h to (place_in word)) inside in let low : word_at (rights_in word) (moved_place from h to (place_in word)) ≡ 0 = sym same ∙ z in omega arith;
+  present = subst (λ (w : ℕ). IsTrue (is_present w)) (sym same) (is_present-word_at (rights_in word) (moved_place from h to (place_in word)) inside);
+  place = ap place_in same ∙ place_in-word_at (rights_in word) (moved_place from h to (place_in word)) inside;
+  rights = ap rights_in same ∙ rights_in-word_at (rights_in word) (moved_place from h to (place_in word)) inside;
 }
   where
-    by_space : (b : Bool) → from (place_in word).space ≡ b → moved_word from h to word ≡ word_at (rights_in word) (goes from h to (place_in word))
+    by_space : (b : Bool) → from (place_in word).space ≡ b → moved_word from h to word ≡ word_at (rights_in word) (moved_place from h to (place_in word))
     by_space true f = let t : (word == 0) ≡ false = grind (arith, nat_tests) in rw (t, f) refl
     by_space false f = let t : (word == 0) ≡ false = grind (arith, nat_tests) in rw (t, f) (sym (present_word word present))
 
-    same : moved_word from h to word ≡ word_at (rights_in word) (goes from h to (place_in word))
+    same : moved_word from h to word ≡ word_at (rights_in word) (moved_place from h to (place_in word))
     same = by_space (from (place_in word).space) refl
 
 empty_present : (word : ℕ) → IsTrue (is_present word) → word ≡ 0 → ⊥
@@ -113,10 +113,10 @@ pub record Moves (from : ℕ → Bool) (h after : SpaceList) (to : ℕ → Place
   pub held : (p : Place) → kept p → Holds h p
   pub used : (p : Place) → kept p → 0 < get_or (cell_at h p) 0 0
   pub closed : (p : Place) → kept p → (word : ℕ) → Contains (pointers_of (cell_at h p)) word → word ≢ 0 → kept (place_in word)
-  pub stands : (p : Place) → kept p → Holds after (goes from h to p)
-  pub copied : (p : Place) → kept p → cell_at after (goes from h to p) ≡ image_of from h to (cell_at h p)
-  pub apart : (p q : Place) → kept p → kept q → goes from h to p ≡ goes from h to q → p ≡ q
-  pub rest : (q : Place) → Holds after q → (cell_at after q ≡ free_cell) ⊎ ((p : Place) × kept p × (goes from h to p ≡ q))
+  pub stands : (p : Place) → kept p → Holds after (moved_place from h to p)
+  pub copied : (p : Place) → kept p → cell_at after (moved_place from h to p) ≡ image_of from h to (cell_at h p)
+  pub apart : (p q : Place) → kept p → kept q → moved_place from h to p ≡ moved_place from h to q → p ≡ q
+  pub rest : (q : Place) → Holds after q → (cell_at after q ≡ free_cell) ⊎ ((p : Place) × kept p × (moved_place from h to p ≡ q))
 
 -- each number of the place of a held cell is in its range
 pub held_in_range : (h : SpaceList) → IsSpaceList h → (p : Place) → Holds h p → IsPlace p
@@ -142,7 +142,7 @@ module _ {from : ℕ → Bool} {h after : SpaceList} {to : ℕ → Place} {kept 
       let pointer : IsPointer h word = pointers_from_layout h (cell_at h p) (kept_long p keep) (kept_layout p keep) k d inside in
       let target : kept (place_in word) = move.closed p keep word (Contains-get_or (pointers_of (cell_at h p)) k d inside) ne in
       let present : IsTrue (is_present word) = ⊎_elim (λ z. absurd (ne z)) (λ (names : NamesCell h word). names.present) pointer in
-      (target, word_moved from h to word ne present (held_in_range after move.whole_after (goes from h to (place_in word)) (move.stands (place_in word) target)))
+      (target, word_moved from h to word ne present (held_in_range after move.whole_after (moved_place from h to (place_in word)) (move.stands (place_in word) target)))
 
   -- the kinds of kept cells
   pub kept_kind : (p : Place) → kept p → (kind_of (cell_at h p) ≡ Object) ⊎ (kind_of (cell_at h p) ≡ Chunk)
@@ -182,10 +182,10 @@ module _ {from : ℕ → Bool} {h after : SpaceList} {to : ℕ → Place} {kept 
 
   -- the copy of a kept cell
   pub record IsCopied (p : Place) : Type 0 where
-    pub held : Holds after (goes from h to p)
-    pub kind : kind_of (cell_at after (goes from h to p)) ≡ kind_of (cell_at h p)
-    pub link : link_at after (goes from h to p) ≡ moved_word from h to (link_at h p)
-    pub words : references_of (cell_at after (goes from h to p)) ≡ map (moved_word from h to) (references_of (cell_at h p))
+    pub held : Holds after (moved_place from h to p)
+    pub kind : kind_of (cell_at after (moved_place from h to p)) ≡ kind_of (cell_at h p)
+    pub link : link_at after (moved_place from h to p) ≡ moved_word from h to (link_at h p)
+    pub words : references_of (cell_at after (moved_place from h to p)) ≡ map (moved_word from h to) (references_of (cell_at h p))
 
   pub is_copied : (p : Place) → kept p → IsCopied p
   is_copied p keep =
@@ -201,20 +201,20 @@ module _ {from : ℕ → Bool} {h after : SpaceList} {to : ℕ → Place} {kept 
       }
 
   -- the words of an object before its references stay
-  object_word : (p : Place) → kept p → kind_of (cell_at h p) ≡ Object → (i : ℕ) → i < 4 → get_or (cell_at after (goes from h to p)) i 0 ≡ get_or (cell_at h p) i 0
+  object_word : (p : Place) → kept p → kind_of (cell_at h p) ≡ Object → (i : ℕ) → i < 4 → get_or (cell_at after (moved_place from h to p)) i 0 ≡ get_or (cell_at h p) i 0
   object_word p keep is i low =
       let first = object_first p is in
       ap (λ (words : List ℕ). get_or words i 0) (move.copied p keep) ∙ kept_before from h to (cell_at h p) (kept_long p keep) i (omega arith) (omega arith)
 
-  pub name_kept : (p : Place) → kept p → kind_of (cell_at h p) ≡ Object → name_at after (goes from h to p) ≡ name_at h p
+  pub name_kept : (p : Place) → kept p → kind_of (cell_at h p) ≡ Object → name_at after (moved_place from h to p) ≡ name_at h p
   name_kept p keep is = object_word p keep is 1 (lit< tt)
 
-  pub key_kept : (p : Place) → kept p → kind_of (cell_at h p) ≡ Object → key_at after (goes from h to p) ≡ key_at h p
+  pub key_kept : (p : Place) → kept p → kind_of (cell_at h p) ≡ Object → key_at after (moved_place from h to p) ≡ key_at h p
   key_kept p keep is = object_word p keep is 2 (lit< tt)
 
   -- ---- the cells of `after` are sound
 
-  pub kind_at_after : (kind : CellKind) (p : Place) → kept p → kind_of (cell_at h p) ≡ kind → IsKindAt after kind (goes from h to p)
+  pub kind_at_after : (kind : CellKind) (p : Place) → kept p → kind_of (cell_at h p) ≡ kind → IsKindAt after kind (moved_place from h to p)
   kind_at_after kind p keep is = let copy = is_copied p keep in record { held = copy.held; is = copy.kind ∙ is }
 
   pub reference_after : (word : ℕ) → IsKeptWord word → IsReference h word → IsReference after (moved_word from h to word)
@@ -257,7 +257,7 @@ module _ {from : ℕ → Bool} {h after : SpaceList} {to : ℕ → Place} {kept 
   -- the layout of a copy
   module _ (p : Place) (keep : kept p) where
     abbrev copy : List ℕ
-    copy = cell_at after (goes from h to p)
+    copy = cell_at after (moved_place from h to p)
 
     copy_references : All (IsReference after) (references_of copy)
     copy_references =
@@ -312,16 +312,16 @@ module _ {from : ℕ → Bool} {h after : SpaceList} {to : ℕ → Place} {kept 
   links_after : (p q : Place) → Holds after p → Holds after q → link_at after p ≢ 0 → link_at after p ≡ link_at after q → p ≡ q
   links_after p q holds_p holds_q ne same = by_rest (move.rest p holds_p) (move.rest q holds_q)
     where
-      both : (a b : Place) → kept a → kept b → goes from h to a ≡ p → goes from h to b ≡ q → p ≡ q
+      both : (a b : Place) → kept a → kept b → moved_place from h to a ≡ p → moved_place from h to b ≡ q → p ≡ q
       both a b keep_a keep_b at_a at_b =
           let link_a : link_at after p ≡ moved_word from h to (link_at h a) = ap (link_at after) (sym at_a) ∙ (is_copied a keep_a).link in
           let link_b : link_at after q ≡ moved_word from h to (link_at h b) = ap (link_at after) (sym at_b) ∙ (is_copied b keep_b).link in
           let some : moved_word from h to (link_at h a) ≢ 0 = λ z. ne (link_a ∙ z) in
           let one : link_at h a ≡ link_at h b = one_link (link_at h a) (link_at h b) (link_kept a keep_a) (link_kept b keep_b) (link_held h move.whole [] move.sound a (move.held a keep_a)) (link_held h move.whole [] move.sound b (move.held b keep_b)) some (sym link_a ∙ same ∙ link_b) in
           let place : a ≡ b = links_apart h move.whole [] move.sound a b (move.held a keep_a) (move.held b keep_b) (λ z. some (ap (moved_word from h to) z)) one in
-          sym at_a ∙ ap (goes from h to) place ∙ at_b
+          sym at_a ∙ ap (moved_place from h to) place ∙ at_b
 
-      by_rest : (cell_at after p ≡ free_cell) ⊎ ((a : Place) × kept a × (goes from h to a ≡ p)) → (cell_at after q ≡ free_cell) ⊎ ((b : Place) × kept b × (goes from h to b ≡ q)) → p ≡ q
+      by_rest : (cell_at after p ≡ free_cell) ⊎ ((a : Place) × kept a × (moved_place from h to a ≡ p)) → (cell_at after q ≡ free_cell) ⊎ ((b : Place) × kept b × (moved_place from h to b ≡ q)) → p ≡ q
       by_rest (inl free) _ = absurd (ne (ap link_of free))
       by_rest (inr _) (inl free) = absurd (ne (same ∙ ap link_of free))
       by_rest (inr (a, keep_a, at_a)) (inr (b, keep_b, at_b)) = both a b keep_a keep_b at_a at_b

@@ -21,7 +21,7 @@ use Rattle.tg_graph.specs.Rows.{IsChain, IsVertexAt, chunks_from, key_at, link_a
 use Rattle.tg_graph.specs.Heap.{IsGraph, content_in}
 use Rattle.tg_graph.proofs.Members.{Contains-here, Contains-more}
 use Rattle.tg_graph.proofs.Lookups.{vertex_of_name, name_of_vertex, label_at, value_at}
-use Rattle.tg_graph.proofs.KeptCells.{Moves, IsKeptWord, goes, is_copied, kept_kind, name_kept, key_kept, kind_at_after, sound_after}
+use Rattle.tg_graph.proofs.KeptCells.{Moves, IsKeptWord, moved_place, is_copied, kept_kind, name_kept, key_kept, kind_at_after, sound_after}
 use Rattle.tg_graph.proofs.KeptRows.{IsKeptRow, row_kept}
 
 -- a word that gives a name some rights
@@ -56,7 +56,7 @@ module _ {from : ℕ → Bool} {h after : SpaceList} {to : ℕ → Place} {kept 
     pub place : Place
     pub keep : kept place
     pub object : IsKindAt h Object place
-    pub at : goes from h to place ≡ q
+    pub at : moved_place from h to place ≡ q
     pub name : name_at after q ≡ name_at h place
     pub key : key_at after q ≡ key_at h place
 
@@ -66,7 +66,7 @@ module _ {from : ℕ → Bool} {h after : SpaceList} {to : ℕ → Place} {kept 
       not_free : cell_at after q ≡ free_cell → ⊥
       not_free free = let no : Free ≡ Object = sym (ap kind_of free) ∙ object.is in absurd cc
 
-      found : (p : Place) → kept p → goes from h to p ≡ q → WasAt q
+      found : (p : Place) → kept p → moved_place from h to p ≡ q → WasAt q
       found p keep at =
           let is : kind_of (cell_at h p) ≡ Object = sym (is_copied move p keep).kind ∙ ap (λ (r : Place). kind_of (cell_at after r)) at ∙ object.is in
           record {
@@ -96,18 +96,18 @@ module _ {from : ℕ → Bool} {h after : SpaceList} {to : ℕ → Place} {kept 
     names = λ p q one two same.
         let was = was_at p one in
         let is = was_at q two in
-        sym was.at ∙ ap (goes from h to) (graph.names was.place is.place was.object is.object (sym was.name ∙ same ∙ is.name)) ∙ is.at;
+        sym was.at ∙ ap (moved_place from h to) (graph.names was.place is.place was.object is.object (sym was.name ∙ same ∙ is.name)) ∙ is.at;
     keys = λ p q one two same.
         let was = was_at p one in
         let is = was_at q two in
-        sym was.at ∙ ap (goes from h to) (graph.keys was.place is.place was.object is.object (sym was.key ∙ same ∙ is.key)) ∙ is.at;
+        sym was.at ∙ ap (moved_place from h to) (graph.keys was.place is.place was.object is.object (sym was.key ∙ same ∙ is.key)) ∙ is.at;
     payloads_used = λ key. (used key, unused key);
   }
     where
       used : (key : ℕ) → IsSome (entry left key) → (q : Place) × IsKindAt after Object q × (key_at after q ≡ key)
       used key some =
           let old = keeps.none_else key some in
-          (goes from h to old.0, kind_at_after move Object old.0 old.1 old.2.is, key_kept move old.0 old.1 old.2.is ∙ old.3)
+          (moved_place from h to old.0, kind_at_after move Object old.0 old.1 old.2.is, key_kept move old.0 old.1 old.2.is ∙ old.3)
 
       unused : (key : ℕ) → ((q : Place) × IsKindAt after Object q × (key_at after q ≡ key)) → IsSome (entry left key)
       unused key (q, object, at) =
@@ -119,7 +119,7 @@ module _ {from : ℕ → Bool} {h after : SpaceList} {to : ℕ → Place} {kept 
   -- ---- the content
 
   -- the vertices of `after` are the kept ones
-  pub vertex_after : (x : ℕ) (p : Place) → kept p → IsVertexAt h x p → IsVertexAt after x (goes from h to p)
+  pub vertex_after : (x : ℕ) (p : Place) → kept p → IsVertexAt h x p → IsVertexAt after x (moved_place from h to p)
   vertex_after x p keep vertex = record {
     object = kind_at_after move Object p keep vertex.object.is;
     named = name_kept move p keep vertex.object.is ∙ vertex.named;
@@ -132,7 +132,7 @@ module _ {from : ℕ → Bool} {h after : SpaceList} {to : ℕ → Place} {kept 
       place : Place
       keep : kept place
       before : IsVertexAt h x place
-      now : IsVertexAt after x (goes from h to place)
+      now : IsVertexAt after x (moved_place from h to place)
       row : IsKeptRow move place
 
     was : (x : ℕ) → IsNamed (content_in after left) x → Was x
@@ -143,7 +143,7 @@ module _ {from : ℕ → Bool} {h after : SpaceList} {to : ℕ → Place} {kept 
         record { place = old.place; keep = old.keep; before = before; now = vertex_after x old.place old.keep before; row = row_of_kept old.place old.keep old.object }
 
     named_after : (x : ℕ) (p : Place) → kept p → IsVertexAt h x p → IsNamed (content_in after left) x
-    named_after x p keep vertex = name_of_vertex after left move.whole_after x (goes from h to p) (vertex_after x p keep vertex)
+    named_after x p keep vertex = name_of_vertex after left move.whole_after x (moved_place from h to p) (vertex_after x p keep vertex)
 
     names_kept : (x : ℕ) → IsNamed (content_in after left) x ↔ (IsNamed (content_in h payloads) x × names x)
     names_kept x = (
@@ -167,12 +167,12 @@ module _ {from : ℕ → Bool} {h after : SpaceList} {to : ℕ → Place} {kept 
       closed = λ x y named edge. target_named x y (was x named) edge;
       labels = λ x y named.
           let w = was x named in
-          label_at after left move.whole_after graph_after x (goes from h to w.place) w.now y
+          label_at after left move.whole_after graph_after x (moved_place from h to w.place) w.now y
           ∙ w.row.rights y
           ∙ sym (label_at h payloads move.whole graph x w.place w.before y);
       values = λ x named.
           let w = was x named in
-          value_at after left move.whole_after graph_after x (goes from h to w.place) w.now
+          value_at after left move.whole_after graph_after x (moved_place from h to w.place) w.now
           ∙ ap (entry left) (key_kept move w.place w.keep w.before.object.is)
           ∙ keeps.same w.place w.keep w.before.object
           ∙ sym (value_at h payloads move.whole graph x w.place w.before);

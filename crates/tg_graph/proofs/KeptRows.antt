@@ -17,7 +17,7 @@ use Rattle.tg_graph.specs.Rows.{IsChain, chunks_from, link_at, name_at, name_in,
 use Rattle.tg_graph.proofs.Layouts.{references_at}
 use Rattle.tg_graph.proofs.Chains.{chain_whole}
 use Rattle.tg_graph.proofs.Slots.{names_in-some}
-use Rattle.tg_graph.proofs.KeptCells.{Moves, IsKeptWord, IsMovedWord, goes, is_copied, kind_at_after, link_kept, name_kept, references_kept, sound_after}
+use Rattle.tg_graph.proofs.KeptCells.{Moves, IsKeptWord, IsMovedWord, moved_place, is_copied, kind_at_after, link_kept, name_kept, references_kept, sound_after}
 
 -- the references of these cells
 abbrev pub words_of : SpaceList → List Place → List ℕ
@@ -31,22 +31,22 @@ module _ {from : ℕ → Bool} {h after : SpaceList} {to : ℕ → Place} {kept 
       let here : kept p = subst kept at (keep some).0 in
       All-cons kept p ps here (chain_cells ps (link_at h p) (link_kept move p here) rest)
 
-  chain_after : (ps : List Place) (link : ℕ) → IsKeptWord move link → IsChain h link ps → IsChain after (moved_word from h to link) (map (goes from h to) ps)
+  chain_after : (ps : List Place) (link : ℕ) → IsKeptWord move link → IsChain h link ps → IsChain after (moved_word from h to link) (map (moved_place from h to) ps)
   chain_after [] link keep none = subst (λ (x : ℕ). moved_word from h to x ≡ 0) (sym none) refl
   chain_after (p ∷ ps) link keep (some, at, chunk, rest) =
       let target = keep some in
       let here : kept p = subst kept at target.0 in (
         target.1.some,
-        target.1.place ∙ ap (goes from h to) at,
+        target.1.place ∙ ap (moved_place from h to) at,
         kind_at_after move Chunk p here chunk.is,
-        subst (λ (x : ℕ). IsChain after x (map (goes from h to) ps)) (sym (is_copied move p here).link) (chain_after ps (link_at h p) (link_kept move p here) rest),
+        subst (λ (x : ℕ). IsChain after x (map (moved_place from h to) ps)) (sym (is_copied move p here).link) (chain_after ps (link_at h p) (link_kept move p here) rest),
       )
 
-  words_after : (ps : List Place) → All kept ps → words_of after (map (goes from h to) ps) ≡ map (moved_word from h to) (words_of h ps)
+  words_after : (ps : List Place) → All kept ps → words_of after (map (moved_place from h to) ps) ≡ map (moved_word from h to) (words_of h ps)
   words_after [] all = refl
   words_after (p ∷ ps) all =
       let here = (is_copied move p (All-head kept p ps all)).words in
-      ap (λ (ws : List ℕ). ws ++ words_of after (map (goes from h to) ps)) here
+      ap (λ (ws : List ℕ). ws ++ words_of after (map (moved_place from h to) ps)) here
       ∙ ap (λ (ws : List ℕ). map (moved_word from h to) (references_of (cell_at h p)) ++ ws) (words_after ps (All-tail kept p ps all))
       ∙ sym (map-append (moved_word from h to) (references_of (cell_at h p)) (words_of h ps))
 
@@ -115,44 +115,44 @@ module _ {from : ℕ → Bool} {h after : SpaceList} {to : ℕ → Place} {kept 
 
   -- the row of a kept object that ends, and that of its copy
   pub record IsKeptRow (p : Place) : Type 0 where
-    pub object : IsKindAt after Object (goes from h to p)
+    pub object : IsKindAt after Object (moved_place from h to p)
     pub cells : All kept (row_of h p)
-    pub row : row_of after (goes from h to p) ≡ map (goes from h to) (row_of h p)
-    pub ends : IsChain after (link_at after (goes from h to p)) (chunks_from after (length (cells_of after)) (link_at after (goes from h to p)))
+    pub row : row_of after (moved_place from h to p) ≡ map (moved_place from h to) (row_of h p)
+    pub ends : IsChain after (link_at after (moved_place from h to p)) (chunks_from after (length (cells_of after)) (link_at after (moved_place from h to p)))
     pub words : All (IsKeptWord move) (row_words h p)
     pub references : All (IsReference h) (row_words h p)
-    pub rights : (name : ℕ) → rights_to after name (row_words after (goes from h to p)) ≡ rights_to h name (row_words h p)
-    pub names : names_in after (row_words after (goes from h to p)) ≡ names_in h (row_words h p)
+    pub rights : (name : ℕ) → rights_to after name (row_words after (moved_place from h to p)) ≡ rights_to h name (row_words h p)
+    pub names : names_in after (row_words after (moved_place from h to p)) ≡ names_in h (row_words h p)
 
   pub row_kept : (p : Place) → kept p → kind_of (cell_at h p) ≡ Object → IsChain h (link_at h p) (chunks_from h (length (cells_of h)) (link_at h p)) → IsKeptRow p
   row_kept p keep is chain = record {
     object = object;
     cells = cells;
     row = row;
-    ends = subst (IsChain after (link_at after (goes from h to p))) (sym enough) moved;
+    ends = subst (IsChain after (link_at after (moved_place from h to p))) (sym enough) moved;
     words = words_kept (row_of h p) cells;
     references = words_refer (row_of h p) cells;
     rights = λ name. ap (rights_to after name) words ∙ rights_after name (row_words h p) (words_kept (row_of h p) cells) (words_refer (row_of h p) cells);
     names = ap (names_in after) words ∙ names_after (row_words h p) (words_kept (row_of h p) cells) (words_refer (row_of h p) cells);
   }
     where
-      object : IsKindAt after Object (goes from h to p)
+      object : IsKindAt after Object (moved_place from h to p)
       object = kind_at_after move Object p keep is
 
       cells : All kept (row_of h p)
       cells = All-cons kept p (chunks_from h (length (cells_of h)) (link_at h p)) keep (chain_cells (chunks_from h (length (cells_of h)) (link_at h p)) (link_at h p) (link_kept move p keep) chain)
 
-      moved : IsChain after (link_at after (goes from h to p)) (map (goes from h to) (chunks_from h (length (cells_of h)) (link_at h p)))
+      moved : IsChain after (link_at after (moved_place from h to p)) (map (moved_place from h to) (chunks_from h (length (cells_of h)) (link_at h p)))
       moved =
-          subst (λ (x : ℕ). IsChain after x (map (goes from h to) (chunks_from h (length (cells_of h)) (link_at h p)))) (sym (is_copied move p keep).link)
+          subst (λ (x : ℕ). IsChain after x (map (moved_place from h to) (chunks_from h (length (cells_of h)) (link_at h p)))) (sym (is_copied move p keep).link)
           (chain_after (chunks_from h (length (cells_of h)) (link_at h p)) (link_at h p) (link_kept move p keep) chain)
 
-      enough : chunks_from after (length (cells_of after)) (link_at after (goes from h to p)) ≡ map (goes from h to) (chunks_from h (length (cells_of h)) (link_at h p))
+      enough : chunks_from after (length (cells_of after)) (link_at after (moved_place from h to p)) ≡ map (moved_place from h to) (chunks_from h (length (cells_of h)) (link_at h p))
       enough =
-          chain_whole after move.whole_after [] (sound_after move) (goes from h to p) (map (goes from h to) (chunks_from h (length (cells_of h)) (link_at h p))) object moved
+          chain_whole after move.whole_after [] (sound_after move) (moved_place from h to p) (map (moved_place from h to) (chunks_from h (length (cells_of h)) (link_at h p))) object moved
 
-      row : row_of after (goes from h to p) ≡ map (goes from h to) (row_of h p)
-      row = ap (λ (ps : List Place). goes from h to p ∷ ps) enough
+      row : row_of after (moved_place from h to p) ≡ map (moved_place from h to) (row_of h p)
+      row = ap (λ (ps : List Place). moved_place from h to p ∷ ps) enough
 
-      words : row_words after (goes from h to p) ≡ map (moved_word from h to) (row_words h p)
+      words : row_words after (moved_place from h to p) ≡ map (moved_word from h to) (row_words h p)
       words = ap (words_of after) row ∙ words_after (row_of h p) cells

@@ -8,3 +8,4 @@ pub mod Changes
 pub mod KeptCells
 pub mod KeptRows
 pub mod KeptGraph
+pub mod KeptFull
