@@ -19,6 +19,7 @@ use Rattle.tg_graph.specs.Content.{Content, IsNamed}
 use Rattle.tg_graph.specs.Standing.{Keeps}
 use Rattle.tg_graph.specs.Rows.{IsChain, IsVertexAt, chunks_from, key_at, link_at, name_at, name_in, names_in, rights_to, row_words}
 use Rattle.tg_graph.specs.Heap.{IsGraph, content_in}
+use Rattle.tg_graph.specs.Kept.{KeepsPayloads}
 use Rattle.tg_graph.proofs.Members.{Contains-here, Contains-more}
 use Rattle.tg_graph.proofs.Lookups.{vertex_of_name, name_of_vertex, label_at, value_at}
 use Rattle.tg_graph.proofs.KeptCells.{Moves, IsKeptWord, moved_place, is_copied, kept_kind, name_kept, key_kept, kind_at_after, sound_after}
@@ -44,11 +45,6 @@ rights_given h name (w ∷ words) e = by_test (cases_Bool (not (w == 0) && (name
     by_test (inr f) again =
         let rest = again (rw f at e) in
         record { word = rest.word; among = Contains-more w words rest.word rest.among; some = rest.some; named = rest.named }
-
--- The payloads after a collection: those of the kept objects, and no other.
-pub record KeepsPayloads (h : SpaceList) (kept : Place → Type 0) (payloads left : Payloads) : Type 0 where
-  pub same : (p : Place) → kept p → IsKindAt h Object p → entry left (key_at h p) ≡ entry payloads (key_at h p)
-  pub none_else : (key : ℕ) → IsSome (entry left key) → (p : Place) × kept p × IsKindAt h Object p × (key_at h p ≡ key)
 
 module _ {from : ℕ → Bool} {h after : SpaceList} {to : ℕ → Place} {kept : Place → Type 0} (move : Moves from h after to kept) (payloads left : Payloads) (graph : IsGraph h payloads) (keeps : KeepsPayloads h kept payloads left) where
   -- where an object of `after` was

@@ -21,6 +21,7 @@ use Rattle.tg_payload.specs.Table.{Payloads}
 use Rattle.tg_graph.specs.Standing.{IsReached}
 use Rattle.tg_graph.specs.Rows.{IsChain, IsVertexAt, chunks_from, link_at, name_at, name_in, object_named, references_of, rights_to, row_of, row_words}
 use Rattle.tg_graph.specs.Heap.{IsGraph, content_in, label_from}
+use Rattle.tg_graph.specs.Kept.{IsCopiedFrom}
 use Rattle.tg_graph.proofs.Members.{Contains-cases, Contains-here, Contains-more, Contains-none, Contains-flat_map, option_cases}
 use Rattle.tg_graph.proofs.Places.{cell_long}
 use Rattle.tg_graph.proofs.Layouts.{object_tagged, chunk_tagged, apart_kinds, references_at, link_some}
@@ -30,7 +31,7 @@ use Rattle.tg_graph.proofs.Chains.{chain_chunks, row_held, row_references}
 use Rattle.tg_graph.proofs.KeptCells.{Moves, IsKeptWord}
 use Rattle.tg_graph.proofs.KeptRows.{IsKeptRow, row_kept}
 use Rattle.tg_graph.proofs.KeptGraph.{GivesRights, rights_given}
-use Rattle.tg_graph.proofs.KeptFull.{NamesNumber, IsInRows, IsCopiedFrom, HasOnlyOld, copied_in_rows, full_in_rows, full_moves, next_of, root_of_worker, rows_at, worker_of_root}
+use Rattle.tg_graph.proofs.KeptFull.{NamesNumber, IsInRows, HasOnlyOld, copied_in_rows, full_in_rows, full_moves, next_of, root_of_worker, rows_at, worker_of_root}
 
 -- ---- edges and pointers
 

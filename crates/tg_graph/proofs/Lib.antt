@@ -10,3 +10,4 @@ pub mod KeptRows
 pub mod KeptGraph
 pub mod KeptFull
 pub mod KeptReached
+pub mod KeptHeap
