@@ -11,7 +11,7 @@ use Rattle.tg_word.specs.declared.Place.{Place}
 use Rattle.tg_block.specs.declared.CellKind.TheVariants.{Object}
 use Rattle.tg_space.specs.SpaceList.{SpaceList, BlockList, IsSpaceList, Holds, space_of, cell_at, cells_of, flat_of}
 use Rattle.tg_space.specs.SpaceTable.{SpaceTable, IsSpaceTable, with_only_old}
-use Rattle.tg_space.specs.Targets.{every_space}
+use Rattle.tg_space.specs.Targets.{every_space, cell_numbered}
 use Rattle.tg_space.specs.declared.spaces.Root.TheVariants.{Row}
 use Rattle.tg_space.specs.Soundness.{AreSound, IsKindAt, IsRootIn}
 use Rattle.tg_space.specs.Collection.{IsFullCollection, new_place}
@@ -21,11 +21,13 @@ use Rattle.tg_payload.specs.Table.{Payloads, Updates, entry}
 use Rattle.tg_graph.specs.Standing.{IsReached, Keeps}
 use Rattle.tg_graph.specs.Rows.{IsVertexAt, key_at}
 use Rattle.tg_graph.specs.Heap.{HeapState, IsGraph, IsWellFormed, content_of, roots_of}
-use Rattle.tg_graph.specs.Kept.{IsCopiedFrom, KeepsPayloads}
+use Rattle.tg_graph.specs.Kept.{IsCopiedFrom, KeepsPayloads, copied_to}
 use Rattle.tg_graph.proofs.Members.{option_cases}
+use Rattle.tg_graph.proofs.Places.{place_numbered}
+use Rattle.tg_graph.proofs.Layouts.{object_tagged}
 use Rattle.tg_graph.proofs.KeptCells.{Moves}
 use Rattle.tg_graph.proofs.KeptGraph.{content_after, graph_after, vertex_after}
-use Rattle.tg_graph.proofs.KeptFull.{HasOnlyOld, full_moves, rows_at}
+use Rattle.tg_graph.proofs.KeptFull.{HasOnlyOld, full_moves}
 use Rattle.tg_graph.proofs.KeptReached.{AreWorkers, kept_is_reached, worker_objects}
 
 -- the workers of a well-formed heap are sound roots
@@ -52,10 +54,6 @@ only_old old n = record { some = omega arith; is_old = refl; none_else = none }
     none (suc k) some = by_place k (cases_lt k n)
 
 -- ---- a heap after a full collection
-
--- where the object of a worker goes
-abbrev pub copied_to : SpaceList → List ℕ → Place → Place
-copied_to h forward p = new_place forward (flat_of h p)
 
 abbrev pub settled_heap : HeapState → List ℕ → BlockList → Payloads → HeapState
 settled_heap s forward old left =
@@ -110,6 +108,12 @@ module _ (s : HeapState) (is : IsWellFormed s) (table : IsSpaceTable s.table) (f
     };
     keeps = content_after move s.payloads left is.graph keeps (IsReached (content_of s) (length s.workers)) are_reached;
   }
+
+  -- the same of a heap with this table and these workers
+  pub settled_as : (now : SpaceTable) (workers : List Place) → now ≡ with_only_old s.table old → workers ≡ map (copied_to s.table.spaces forward) s.workers → IsSettled s (record { table = now; payloads = left; workers = workers })
+  settled_as now workers same_table same_workers =
+      subst (λ (places : List Place). IsSettled s (record { table = now; payloads = left; workers = places })) (sym same_workers)
+      (subst (λ (t : SpaceTable). IsSettled s (record { table = t; payloads = left; workers = map (copied_to s.table.spaces forward) s.workers })) (sym same_table) settled)
 
 -- ---- dropped payloads
 
@@ -180,3 +184,30 @@ module _ (h : SpaceList) (whole : IsSpaceList h) (forward : List ℕ) (payloads 
   payload_there now p object are =
       let before : IsSome (entry payloads (key_at h p)) = (graph.payloads_used (key_at h p)).1 (p, object, refl) in
       subst (λ (o : Option Value). IsSome o) (sym (are.kept p object (inl (omega arith)))) before
+
+  -- what a cell with a number is
+  object_numbered : (n : ℕ) → n < length (cells_of h) → get_or (cell_numbered h n) 0 0 ≡ 1 → (p : Place) × IsKindAt h Object p × (flat_of h p ≡ n) × (cell_numbered h n ≡ cell_at h p)
+  object_numbered n low tag =
+      let at = place_numbered h whole n low in
+      let words : cell_numbered h n ≡ cell_at h at.place = ap (cell_numbered h) (sym at.is) ∙ get_or-flat_of h whole.spaces at.place at.held in
+      (at.place, record { held = at.held; is = (object_tagged (cell_at h at.place)).1 (ap (λ (ws : List ℕ). get_or ws 0 0) (sym words) ∙ tag) }, at.is, words)
+
+  pub payload_numbered : (now : Payloads) (n : ℕ) → n < length (cells_of h) → AreDroppedBelow h forward payloads now n → get_or (cell_numbered h n) 0 0 ≡ 1 → IsSome (entry now (get_or (cell_numbered h n) 2 0))
+  payload_numbered now n low are tag =
+      let (p, object, at, words) = object_numbered n low tag in
+      rw words (payload_there now p object (subst (λ (k : ℕ). AreDroppedBelow h forward payloads now k) (sym at) are))
+
+  -- the step of a loop over the cells' numbers
+  pub dropped_next : (now next : Payloads) (n : ℕ) → n < length (cells_of h) → get_or forward n 0 ≡ 0 → AreDroppedBelow h forward payloads now n →
+      (get_or (cell_numbered h n) 0 0 ≡ 1 → Updates now next (get_or (cell_numbered h n) 2 0) None) → (get_or (cell_numbered h n) 0 0 ≢ 1 → next ≡ now) → AreDroppedBelow h forward payloads next (n + 1)
+  dropped_next now next n low none are gone same = by_tag (cases_eq (get_or (cell_numbered h n) 0 0) 1)
+    where
+      by_tag : (get_or (cell_numbered h n) 0 0 ≡ 1) ⊎ (get_or (cell_numbered h n) 0 0 ≢ 1) → AreDroppedBelow h forward payloads next (n + 1)
+      by_tag (inl tag) =
+          let (p, object, at, words) = object_numbered n low tag in
+          let update : Updates now next (key_at h p) None = subst (λ (ws : List ℕ). Updates now next (get_or ws 2 0) None) words (gone tag) in
+          subst (λ (k : ℕ). AreDroppedBelow h forward payloads next (k + 1)) at
+          (dropped_here now next p object (ap (λ (k : ℕ). get_or forward k 0) at ∙ none) (subst (λ (k : ℕ). AreDroppedBelow h forward payloads now k) (sym at) are) update)
+      by_tag (inr other) =
+          subst (λ (table : Payloads). AreDroppedBelow h forward payloads table (n + 1)) (sym (same other))
+          (dropped_past now n are (λ p object at _. other (ap (λ (ws : List ℕ). get_or ws 0 0) (ap (cell_numbered h) (sym at) ∙ get_or-flat_of h whole.spaces p object.held) ∙ (object_tagged (cell_at h p)).0 object.is)))

@@ -4,6 +4,7 @@ use Rattle.tg_word.specs.declared.Place.{Place}
 use Rattle.tg_block.specs.declared.CellKind.TheVariants.{Object}
 use Rattle.tg_space.specs.SpaceList.{SpaceList, Holds, flat_of}
 use Rattle.tg_space.specs.Soundness.{IsKindAt}
+use Rattle.tg_space.specs.Collection.{new_place}
 use Rattle.tg_payload.specs.Table.{Payloads, entry}
 use Rattle.tg_graph.specs.Rows.{key_at}
 
@@ -11,6 +12,10 @@ use Rattle.tg_graph.specs.Rows.{key_at}
 pub record IsCopiedFrom (h : SpaceList) (forward : List ℕ) (p : Place) : Type 0 where
   pub held : Holds h p
   pub some : slice_index forward (flat_of h p) ≢ 0
+
+-- the place to which it was copied
+abbrev pub copied_to : SpaceList → List ℕ → Place → Place
+copied_to h forward p = new_place forward (flat_of h p)
 
 -- the payloads of the kept objects are left, and no other
 pub record KeepsPayloads (h : SpaceList) (kept : Place → Type 0) (payloads left : Payloads) : Type 0 where
