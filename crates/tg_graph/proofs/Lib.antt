@@ -5,3 +5,4 @@ pub mod Lookups
 pub mod Slots
 pub mod Chains
 pub mod Changes
+pub mod Kept
