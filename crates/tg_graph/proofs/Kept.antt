@@ -21,6 +21,8 @@ use Rattle.tg_graph.specs.Heap.{IsGraph, content_in}
 use Rattle.tg_graph.proofs.Places.{sound_from_places, links_apart}
 use Rattle.tg_graph.proofs.Layouts.{KindCases, is_free, is_object, is_chunk, is_bad, kind_cases}
 use Rattle.tg_graph.proofs.Lookups.{IsRead, content_from, label_at, label_nowhere, name_of_vertex, value_at, value_nowhere, vertex_of_name}
+use Rattle.tg_graph.proofs.Slots.{IsOther, Puts}
+use Rattle.tg_graph.proofs.Changes.{same_or_other}
 use Rattle.tg_graph.proofs.Chains.{chain_whole, row_references}
 
 -- ---- labels with one changed
@@ -249,3 +251,43 @@ module _ (h after : SpaceList) (stays : Stays h after) where
           content = shown_content after payloads spaces (IsNamed c) label c.value shows;
           vertices = vertices_stay;
         }
+
+    -- where the row of one object says something else of one name, and all other rows stay
+    module _ (p : Place) (object : IsKindAt h Object p) (name : ℕ) (rights : RightSet) where
+      abbrev changed : ℕ → ℕ → RightSet
+      changed = with_label (content_in h payloads).label (name_at h p) name rights
+
+      changed_here : (new : List ℕ) → Puts h (row_words h p) new name rights → (y : ℕ) → rights_to h y new ≡ changed (name_at h p) y
+      changed_here new puts y =
+          let self : (name_at h p == name_at h p) ≡ true = ⊎_elim (λ t. t.0) (λ f. absurd (f.1 refl)) (eqb_tells (name_at h p) (name_at h p)) in
+          puts.gives y
+          ∙ ap (λ (r : RightSet). cond (y == name) rights r) (sym (label_at h payloads is graph (name_at h p) p (record { object = object; named = refl }) y))
+          ∙ rw self refl
+
+      changed_at : (a y : ℕ) → a ≢ name_at h p → (content_in h payloads).label a y ≡ changed a y
+      changed_at a y other =
+          let test : (a == name_at h p) ≡ false = ⊎_elim (λ t. absurd (other t.1)) (λ f. f.0) (eqb_tells a (name_at h p)) in
+          rw test refl
+
+      changed_there : (a : ℕ) → a ≢ name_at h p → (content_in h payloads).label a ≡ changed a
+      changed_there a other = λ i y. changed_at a y other i
+
+      changed_nowhere : (x y : ℕ) → (IsNamed (content_in h payloads) x → ⊥) → changed x y ≡ no_rights
+      changed_nowhere x y none =
+          let other : x ≢ name_at h p = λ e. none (name_of_vertex h payloads is x p (record { object = object; named = sym e })) in
+          sym (changed_at x y other) ∙ label_nowhere h payloads is x none y
+
+      pub one_row : (chunks : List Place) (new : List ℕ) → IsSpaceList after → ((q : Place) → IsKindAt after Object q → IsKindAt h Object q) → ((q : Place) → Holds after q → HasLayout after (cell_at after q)) →
+          ((q r : Place) → Holds after q → Holds after r → link_at after q ≢ 0 → link_at after q ≡ link_at after r → q ≡ r) →
+          ((q : Place) → IsKindAt h Object q → q ≢ p → ShowsRow after q ((content_in h payloads).label (name_at h q))) →
+          IsChain after (link_at after p) chunks → words_of after (p ∷ chunks) ≡ new → All (IsReference h) new → Puts h (row_words h p) new name rights →
+          Becomes h after payloads (IsNamed (content_in h payloads)) changed (content_in h payloads).value
+      one_row chunks new spaces back layouts links others ends words references puts =
+          same_objects changed spaces back layouts links (λ q at. by_place q at (same_or_other q p)) changed_nowhere
+        where
+          by_place : (q : Place) → IsKindAt h Object q → (q ≡ p) ⊎ (q ≢ p) → ShowsRow after q (changed (name_at h q))
+          by_place q at (inl same) =
+              subst (λ (r : Place). ShowsRow after r (changed (name_at h r))) (sym same)
+              (row_shown p chunks new (changed (name_at h p)) ends words references puts.distinct (changed_here new puts))
+          by_place q at (inr other) =
+              subst (ShowsRow after q) (changed_there (name_at h q) (λ e. other (graph.names q p at object e))) (others q at other)

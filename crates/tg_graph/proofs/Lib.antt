@@ -6,3 +6,4 @@ pub mod Slots
 pub mod Chains
 pub mod Changes
 pub mod Kept
+pub mod Fresh
