@@ -5,8 +5,8 @@ use Rattle.std.specs.List.{All, Contains, position_or_len}
 use Rattle.std.specs.Option.{option_or}
 use Rattle.std.proofs.lemmas.Bool.{cases_Bool}
 use Rattle.std.proofs.lemmas.Bool.Decides.{nat_tests}
-use Rattle.std.proofs.lemmas.List.{get_or-take, get_or-drop, length-take, length-drop}
-use Rattle.std.proofs.lemmas.List.Elements.{All-nil, All-append}
+use Rattle.std.proofs.lemmas.List.{get_or-take, get_or-drop, get_or_default, length-take}
+use Rattle.std.proofs.lemmas.List.Elements.{All-nil, All-append, All-weaker}
 use Rattle.std.proofs.lemmas.List.Quantifiers.{position-Some}
 use Rattle.std.proofs.lemmas.List.Sums.{fails_before_first}
 use Rattle.tg_rights.specs.RightSet.{no_rights}
@@ -14,9 +14,9 @@ use Rattle.tg_word.specs.declared.Place.{Place}
 use Rattle.tg_word.specs.Word.{rights_in}
 use Rattle.tg_space.specs.SpaceList.{SpaceList, cell_at}
 use Rattle.tg_space.specs.Targets.{first_pointer}
-use Rattle.tg_graph.specs.Rows.{IsChain, link_at, name_in, references_of, rights_to}
+use Rattle.tg_graph.specs.Rows.{IsChain, link_at, name_in, references_of, rights_to, row_of, row_words}
 use Rattle.tg_graph.specs.Spots.{is_empty, last_of, refers_to, word_in_cell, word_of_cell, word_where}
-use Rattle.tg_graph.proofs.Members.{Contains-head, Contains-tail}
+use Rattle.tg_graph.proofs.Members.{Contains-here, Contains-more}
 use Rattle.tg_graph.proofs.Slots.{IsOther, rights_none}
 use Rattle.tg_graph.proofs.Walks.{words_of}
 
@@ -65,3 +65,95 @@ module _ (h : SpaceList) (name : ℕ) where
       by_tests true b e f = let t : refers_to h name word ≡ false = rw e refl in cc
       by_tests false true e f = (λ z. grind (arith, nat_tests), grind (arith, nat_tests))
       by_tests false false e f = let t : refers_to h name word ≡ false = rw e (rw f refl) in cc
+
+-- ---- the cells of a row
+
+-- the word of a cell, with this number, is the first reference that passes
+pub record IsWordOf (h : SpaceList) (test : ℕ → Bool) (ps : List Place) (q : Place) (i : ℕ) : Type 0 where
+  pub cell : Contains ps q
+  pub from : first_pointer (slice_index (cell_at h q) 0) ≤ i
+  pub to : i < 7
+  pub passes : test (slice_index (cell_at h q) i) ≡ true
+
+abbrev pub Finds : SpaceList → (ℕ → Bool) → List Place → Option (Place × ℕ) → Type 0
+Finds h test ps None = All (λ word. test word ≡ false) (words_of h ps)
+Finds h test ps (Some e) = IsWordOf h test ps e.0 e.1
+
+-- what a search through cells tells of their words
+pub where_finds : (h : SpaceList) (test : ℕ → Bool) (ps : List Place) → Finds h test ps (word_where test h ps)
+where_finds h test [] = All-nil (λ word. test word ≡ false)
+where_finds h test (q ∷ qs) = by_found (position test (references_of (cell_at h q))) refl
+  where
+    words : List ℕ
+    words = references_of (cell_at h q)
+
+    passed : All (λ word. test word ≡ false) words → (o : Option (Place × ℕ)) → Finds h test qs o → Finds h test (q ∷ qs) o
+    passed fails None rest = All-append (λ word. test word ≡ false) words (words_of h qs) fails rest
+    passed fails (Some e) rest = record { cell = Contains-more q qs e.0 rest.cell; from = rest.from; to = rest.to; passes = rest.passes }
+
+    by_found : (o : Option ℕ) → position test words ≡ o → Finds h test (q ∷ qs) (option_or (option_map (word_of_cell h q) o) (word_where test h qs))
+    by_found None none = passed (λ k d inside. ap test (get_or_default words k d 0 inside) ∙ position-None test words none k inside) (word_where test h qs) (where_finds h test qs)
+    by_found (Some k) found =
+        let at = position-Some test words k 0 found in
+        let word = reference_at (cell_at h q) k at.0 in
+        record { cell = Contains-here q qs; from = omega arith; to = word.1; passes = ap test (sym word.0) ∙ at.1 }
+
+-- the rights over a name are those of the reference to it
+module _ (h : SpaceList) (name : ℕ) where
+  rights_where : (ps : List Place) (e : Place × ℕ) → word_where (refers_to h name) h ps ≡ Some e → rights_to h name (words_of h ps) ≡ rights_in (slice_index (cell_at h e.0) e.1)
+  rights_where [] e found = cc
+  rights_where (q ∷ qs) e found = by_found (position (refers_to h name) (references_of (cell_at h q))) refl found
+    where
+      words : List ℕ
+      words = references_of (cell_at h q)
+
+      by_found : (o : Option ℕ) → position (refers_to h name) words ≡ o → option_or (option_map (word_of_cell h q) o) (word_where (refers_to h name) h qs) ≡ Some e → rights_to h name (words ++ words_of h qs) ≡ rights_in (slice_index (cell_at h e.0) e.1)
+      by_found None none rest =
+          rights_later h name words (words_of h qs) (position-None (refers_to h name) words none) ∙ rights_where qs e rest
+      by_found (Some k) here is =
+          let at = position-Some (refers_to h name) words k 0 here in
+          let word = reference_at (cell_at h q) k at.0 in
+          let same : word_of_cell h q k ≡ e = cc in
+          rights_first h name words (words_of h qs) k at.0 at.2 at.1 ∙ ap rights_in word.0
+          ∙ ap (λ (w : Place × ℕ). rights_in (slice_index (cell_at h w.0) w.1)) same
+
+  -- where no reference was found, no word refers to the name
+  pub others_where : (ps : List Place) → word_where (refers_to h name) h ps ≡ None → All (IsOther h name) (words_of h ps)
+  others_where ps none =
+      let finds : All (λ word. refers_to h name word ≡ false) (words_of h ps) = subst (Finds h (refers_to h name) ps) none (where_finds h (refers_to h name) ps) in
+      All-weaker (λ word. refers_to h name word ≡ false) (IsOther h name) (λ word. not_referring h name word) (words_of h ps) finds
+
+-- the reference to a name in a row
+pub record IsReferenceTo (h : SpaceList) (p : Place) (name : ℕ) (q : Place) (i : ℕ) : Type 0 where
+  pub cell : Contains (row_of h p) q
+  pub from : first_pointer (slice_index (cell_at h q) 0) ≤ i
+  pub to : i < 7
+  pub some : slice_index (cell_at h q) i ≢ 0
+  pub named : name_in h (slice_index (cell_at h q) i) ≡ name
+  pub rights : rights_to h name (row_words h p) ≡ rights_in (slice_index (cell_at h q) i)
+
+pub reference_found : (h : SpaceList) (p : Place) (name : ℕ) (q : Place) (i : ℕ) → word_where (refers_to h name) h (row_of h p) ≡ Some (q, i) → IsReferenceTo h p name q i
+reference_found h p name q i found =
+    let finds : IsWordOf h (refers_to h name) (row_of h p) q i = subst (Finds h (refers_to h name) (row_of h p)) found (where_finds h (refers_to h name) (row_of h p)) in
+    let both = referring h name (slice_index (cell_at h q) i) finds.passes in
+    record { cell = finds.cell; from = finds.from; to = finds.to; some = both.0; named = both.1; rights = rights_where h name (row_of h p) (q, i) found }
+
+-- an empty place of a row
+pub record IsEmptyPlace (h : SpaceList) (p q : Place) (i : ℕ) : Type 0 where
+  pub cell : Contains (row_of h p) q
+  pub from : first_pointer (slice_index (cell_at h q) 0) ≤ i
+  pub to : i < 7
+  pub empty : slice_index (cell_at h q) i ≡ 0
+
+pub empty_found : (h : SpaceList) (p : Place) (q : Place) (i : ℕ) → word_where is_empty h (row_of h p) ≡ Some (q, i) → IsEmptyPlace h p q i
+empty_found h p q i found =
+    let finds : IsWordOf h is_empty (row_of h p) q i = subst (Finds h is_empty (row_of h p)) found (where_finds h is_empty (row_of h p)) in
+    let test : (slice_index (cell_at h q) i == 0) ≡ true = finds.passes in
+    record { cell = finds.cell; from = finds.from; to = finds.to; empty = grind (arith, nat_tests) }
+
+-- the last cell of a row has no link
+pub last_ends : (h : SpaceList) (p : Place) (ps : List Place) → IsChain h (link_at h p) ps → Contains (p ∷ ps) (last_of p ps) × (link_at h (last_of p ps) ≡ 0)
+last_ends h p [] ends = (Contains-here p [], ends)
+last_ends h p (q ∷ qs) ends =
+    let rest = last_ends h q qs ends.3 in
+    (Contains-more p (q ∷ qs) (last_of q qs) rest.0, rest.1)

@@ -1,3 +1,5 @@
+pub mod Walks
+pub mod Finding
 pub mod Members
 pub mod Places
 pub mod Layouts
@@ -5,5 +7,5 @@ pub mod Lookups
 pub mod Slots
 pub mod Chains
 pub mod Changes
-pub mod Walks
-pub mod Finding
+pub mod Kept
+pub mod Fresh
