@@ -45,7 +45,6 @@ impl<P: Payload> Cells<P> {
         ensures some { IfSome result (λ found. is_none_held found.rights ≡ false) }
         ensures place { IfSome result (λ found. IsVertexAt self.now.spaces.spaces name found.place) }
     {
-        let _ = self.spaces.blocks();
         match find_spot(&self.spaces, from, name) {
             Spot::Reference { cell, index } => Some(self.found_at(cell, index)),
             _ => None,
