@@ -117,7 +117,7 @@ pub record Stays (h after : SpaceList) : Type 0 where
   pub names : (p : Place) → IsKindAt h Object p → name_at after p ≡ name_at h p
   pub keys : (p : Place) → IsKindAt h Object p → key_at after p ≡ key_at h p
 
-flat_map_same : {X Y : Type 0} (f g : X → List Y) (xs : List X) → All (λ x. g x ≡ f x) xs → flat_map g xs ≡ flat_map f xs
+pub flat_map_same : {X Y : Type 0} (f g : X → List Y) (xs : List X) → All (λ x. g x ≡ f x) xs → flat_map g xs ≡ flat_map f xs
 flat_map_same f g [] same = refl
 flat_map_same f g (x ∷ xs) same =
     ap (λ ys. ys ++ flat_map g xs) (All-head (λ z. g z ≡ f z) x xs same) ∙ ap (λ ys. f x ++ ys) (flat_map_same f g xs (All-tail (λ z. g z ≡ f z) x xs same))

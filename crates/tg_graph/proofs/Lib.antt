@@ -7,3 +7,4 @@ pub mod Chains
 pub mod Changes
 pub mod Kept
 pub mod Fresh
+pub mod Written
