@@ -8,3 +8,4 @@ pub mod Changes
 pub mod Kept
 pub mod Fresh
 pub mod Written
+pub mod Linked

@@ -1,29 +1,26 @@
 -- A reference or the last link of a row is written, and what that makes of the graph.
-use Rattle.std.proofs.Common.{◌≡◌, ◌≢◌, ◌↔◌, ℕ, zero, suc, ◌<◌, ◌≤◌, ◌+◌, ◌-◌, ◌⊎◌, ◌==◌, inl, inr, Bool, true, false, List, [], ◌∷◌, ◌++◌, length, get_or, take, drop, set, refl, sym, ap, subst, arith, ◌∙◌, ⊎_elim}
+use Rattle.std.proofs.Common.{◌≡◌, ◌≢◌, ℕ, zero, suc, ◌<◌, ◌≤◌, ◌+◌, ◌-◌, ◌⊎◌, ◌==◌, inl, inr, true, false, List, [], ◌∷◌, ◌++◌, length, get_or, take, drop, set, refl, sym, ap, subst, arith, ◌∙◌, ⊎_elim}
 use Rattle.std.specs.List.{All, Contains, IsDistinct, flat_map}
 use Rattle.std.proofs.lemmas.Bool.{cases_eq}
 use Rattle.std.proofs.lemmas.Bool.Decides.{eqb_tells}
-use Rattle.std.proofs.lemmas.List.{append-nil, append_assoc, drop_more, drop-set-lt, drop-set-add, get_or-drop, get_or-set_other, get_or-set_same, get_or-take, get_or_default, length-drop, length-set, length-take-le, set_split, take-append-drop, take-set-le}
+use Rattle.std.proofs.lemmas.List.{append_assoc, drop_more, drop-set-add, get_or-drop, get_or-set_other, get_or-set_same, get_or-take, get_or_default, length-drop, length-set, length-take-le, set_split, take-append-drop, take-set-le}
 use lib.Seq.{take-set-lt}
-use Rattle.std.proofs.lemmas.List.Concat.{flat_map-append}
-use Rattle.std.proofs.lemmas.List.Elements.{All-nil, All-cons, All-append, All-from_get_or, All-head, All-set, All-tail, All-weaker}
+use Rattle.std.proofs.lemmas.List.Elements.{All-cons, All-append, All-from_get_or, All-set, All-tail, All-weaker}
 use Rattle.tg_rights.specs.RightSet.{RightSet, no_rights}
-use Rattle.tg_model.specs.declared.value.Value.{Value}
 use Rattle.tg_word.specs.declared.Place.{Place}
 use Rattle.tg_word.specs.Word.{is_present, place_in, rights_in}
 use Rattle.tg_block.specs.Cells.{kind_of}
-use Rattle.tg_block.specs.declared.CellKind.{CellKind}
-use Rattle.tg_block.specs.declared.CellKind.TheVariants.{Free, Object, Chunk, Bad}
-use Rattle.tg_space.specs.SpaceList.{SpaceList, IsSpaceList, Holds, cell_at, cells_of, with_cell_at, with_word_at}
-use Rattle.tg_space.specs.Soundness.{AreSound, HasLayout, HasLayoutOf, IsKindAt, IsReference, RefersTo, IsLink, link_of}
+use Rattle.tg_block.specs.declared.CellKind.TheVariants.{Object, Chunk}
+use Rattle.tg_space.specs.SpaceList.{SpaceList, IsSpaceList, Holds, cell_at, cells_of, with_word_at}
+use Rattle.tg_space.specs.Soundness.{HasLayout, HasLayoutOf, IsKindAt, IsReference, RefersTo, IsLink, link_of}
 use Rattle.tg_space.specs.Targets.{first_pointer}
 use Rattle.tg_payload.specs.Table.{Payloads}
-use Rattle.tg_graph.specs.Content.{IsContent, IsNamed}
-use Rattle.tg_graph.specs.Rows.{IsChain, chunks_from, key_at, link_at, name_at, name_in, names_in, references_of, row_of, row_words}
+use Rattle.tg_graph.specs.Content.{IsNamed}
+use Rattle.tg_graph.specs.Rows.{IsChain, chunks_from, link_at, name_at, name_in, names_in, references_of, row_of, row_words}
 use Rattle.tg_graph.specs.Heap.{IsGraph, content_in}
 use Rattle.tg_graph.proofs.Members.{All-left, All-right}
-use Rattle.tg_graph.proofs.Places.{cell_long, layout_at, links_apart}
-use Rattle.tg_graph.proofs.Layouts.{KindCases, RowCell, is_free, is_object, is_chunk, is_bad, kind_cases, chunk_tagged, free_zero, link_held, object_tagged, references_at, references_of_chunk, references_of_object, row_cell}
+use Rattle.tg_graph.proofs.Places.{cell_long, layout_at}
+use Rattle.tg_graph.proofs.Layouts.{KindCases, RowCell, is_free, is_object, is_chunk, is_bad, kind_cases, chunk_tagged, free_zero, object_tagged, references_of_chunk, references_of_object, row_cell}
 use Rattle.tg_graph.proofs.Chains.{row_apart, row_held, row_references}
 use Rattle.tg_graph.proofs.Changes.{cell_kept, cell_written, holds_written, list_written, same_or_other}
 use Rattle.tg_graph.proofs.Slots.{IsOther, Puts, puts_changed, puts_cleared, puts_filled}
@@ -32,7 +29,7 @@ use Rattle.tg_graph.proofs.Kept.{Becomes, ShowsRow, Stays, chain_stays, flat_map
 -- ---- one word of a cell
 
 -- where the first reference of a cell stands
-first_range : (tag : ℕ) → (1 ≤ first_pointer tag) × (first_pointer tag ≤ 8)
+pub first_range : (tag : ℕ) → (1 ≤ first_pointer tag) × (first_pointer tag ≤ 8)
 first_range tag = by_tag (cases_eq tag 1) (cases_eq tag 2)
   where
     by_tag : (tag ≡ 1) ⊎ (tag ≢ 1) → (tag ≡ 2) ⊎ (tag ≢ 2) → (1 ≤ first_pointer tag) × (first_pointer tag ≤ 8)
@@ -81,11 +78,11 @@ module _ (words : List ℕ) (long : length words ≡ 8) (i word : ℕ) (low : fi
   link_same : i < 7 → link_of (set words i word) ≡ link_of words
   link_same less = get_or-set_other words i 7 word 0 (λ e. let z : 7 ≡ i = e in omega arith)
 
-  link_set : i ≡ 7 → link_of (set words i word) ≡ word
+  pub link_set : i ≡ 7 → link_of (set words i word) ≡ word
   link_set same =
       ap (λ (n : ℕ). link_of (set words n word)) same ∙ get_or-set_same words 7 word 0 (omega arith)
 
-  references_same : i ≡ 7 → references_of (set words i word) ≡ references_of words
+  pub references_same : i ≡ 7 → references_of (set words i word) ≡ references_of words
   references_same same =
       references_moved ∙ take-set-le (7 - first) (drop first words) (i - first) word (omega arith)
 
@@ -138,19 +135,19 @@ module _ (h : SpaceList) (payloads : Payloads) (is : IsSpaceList h) (graph : IsG
   abbrev new_words : List ℕ
   new_words = set (cell_at h q) i word
 
-  here : cell_at after q ≡ new_words
+  pub here : cell_at after q ≡ new_words
   here = cell_written h is q held new_words
 
-  there : (p : Place) → p ≢ q → cell_at after p ≡ cell_at h p
+  pub there : (p : Place) → p ≢ q → cell_at after p ≡ cell_at h p
   there p other = cell_kept h is q held new_words p other
 
   long : length (cell_at h q) ≡ 8
   long = cell_long h is q held
 
-  held_before : (p : Place) → Holds after p → Holds h p
+  pub held_before : (p : Place) → Holds after p → Holds h p
   held_before p = (holds_written h is q held new_words p).0
 
-  held_after : (p : Place) → Holds h p → Holds after p
+  pub held_after : (p : Place) → Holds h p → Holds after p
   held_after p = (holds_written h is q held new_words p).1
 
   pub word_spaces : IsSpaceList (with_word_at h q i word)
@@ -182,7 +179,7 @@ module _ (h : SpaceList) (payloads : Payloads) (is : IsSpaceList h) (graph : IsG
     keys = λ p object. object_head p object 2 (omega arith);
   }
 
-  word_back : (p : Place) → IsKindAt after Object p → IsKindAt h Object p
+  pub word_back : (p : Place) → IsKindAt after Object p → IsKindAt h Object p
   word_back p object = record {
     held = held_before p object.held;
     is = (object_tagged (cell_at h p)).1 (sym (tag_stays p) ∙ (object_tagged (cell_at after p)).0 object.is);
@@ -208,7 +205,7 @@ module _ (h : SpaceList) (payloads : Payloads) (is : IsSpaceList h) (graph : IsG
           subst (HasLayoutOf after new_words) (sym new_kind) (subst (All (IsReference after)) (references_of_chunk new_words new_kind) row.references, row.link)
       by_kind (is_bad kind) = absurd (subst (HasLayoutOf h (cell_at h q)) kind (layout_at h is [] graph.sound q held))
 
-  word_layouts : RowCell after new_words → (p : Place) → Holds after p → HasLayout after (cell_at after p)
+  pub word_layouts : RowCell after new_words → (p : Place) → Holds after p → HasLayout after (cell_at after p)
   word_layouts row p held_p = by_place (same_or_other p q)
     where
       by_place : (p ≡ q) ⊎ (p ≢ q) → HasLayout after (cell_at after p)
@@ -217,7 +214,7 @@ module _ (h : SpaceList) (payloads : Payloads) (is : IsSpaceList h) (graph : IsG
           subst (HasLayout after) (sym (there p other)) (layout_stays h after word_stays (cell_at h p) (layout_at h is [] graph.sound p (held_before p held_p)))
 
   -- what the cell was
-  was_row : RowCell h (cell_at h q)
+  pub was_row : RowCell h (cell_at h q)
   was_row = row_cell h (cell_at h q) (layout_at h is [] graph.sound q held)
 
   -- no row but that of one object has the cell
@@ -228,7 +225,7 @@ module _ (h : SpaceList) (payloads : Payloads) (is : IsSpaceList h) (graph : IsG
         let place : get_or row has.0 d ≡ q = get_or_default row has.0 d q has.1 ∙ has.2 in
         other (row_apart h is [] graph.sound r p (chunks_from h (length (cells_of h)) (link_at h r)) (chunks_from h (length (cells_of h)) (link_at h p)) at object (graph.ends r at) (graph.ends p object) j has.0 d inside has.1 (same ∙ sym place)).0
 
-    outside_rows : (r : Place) → IsKindAt h Object r → r ≢ p → ShowsRow after r ((content_in h payloads).label (name_at h r))
+    pub outside_rows : (r : Place) → IsKindAt h Object r → r ≢ p → ShowsRow after r ((content_in h payloads).label (name_at h r))
     outside_rows r at other =
         row_stays h after word_stays payloads is graph r at
         (All-weaker (λ c. c ≢ q) (λ c. cell_at after c ≡ cell_at h c) there (row_of h r) (outside r at other))
@@ -276,7 +273,7 @@ module _ (h : SpaceList) (payloads : Payloads) (is : IsSpaceList h) (graph : IsG
       let was = was_row h payloads is graph q held i word low high in
       let new = references_set (cell_at h q) (cell_long h is q held) i word low high slot.1 in
       let all = All-set (IsReference written) (references_of (cell_at h q)) (i - first_pointer (get_or (cell_at h q) 0 0)) word (reference_stays h written stays word reference)
-          (All-weaker (IsReference h) (IsReference written) (reference_stays h written stays) (references_of (cell_at h q)) was.references) in
+      (All-weaker (IsReference h) (IsReference written) (reference_stays h written stays) (references_of (cell_at h q)) was.references) in
       record {
         references = subst (All (IsReference written)) (sym new) all;
         link = subst (IsLink written) (sym (link_same (cell_at h q) (cell_long h is q held) i word low high slot.1)) (link_stays h written stays (link_of (cell_at h q)) was.link);
@@ -308,7 +305,7 @@ module _ (h : SpaceList) (payloads : Payloads) (is : IsSpaceList h) (graph : IsG
       let ys = replaced.rest in
       let old_all : All (IsReference h) (xs ++ old_word ∷ ys) = subst (All (IsReference h)) replaced.of_old (row_references h is [] graph.sound p object (graph.ends p object)) in
       let all : All (IsReference h) (xs ++ word ∷ ys) = All-append (IsReference h) xs (word ∷ ys) (All-left (IsReference h) xs (old_word ∷ ys) old_all)
-          (All-cons (IsReference h) word ys reference (All-tail (IsReference h) old_word ys (All-right (IsReference h) xs (old_word ∷ ys) old_all))) in
+      (All-cons (IsReference h) word ys reference (All-tail (IsReference h) old_word ys (All-right (IsReference h) xs (old_word ∷ ys) old_all))) in
       one_row h written stays payloads is graph p object name rights chunks (xs ++ word ∷ ys)
       (word_spaces h payloads is graph q held i word low high) (word_back h payloads is graph q held i word low high) (word_layouts h payloads is graph q held i word low high slot_row)
       (links_stay h written stays payloads is graph (λ r held_r some. (held_before h payloads is graph q held i word low high r held_r, links_same r)))
@@ -325,21 +322,21 @@ module _ (h : SpaceList) (payloads : Payloads) (is : IsSpaceList h) (graph : IsG
       Becomes h (with_word_at h q i word) payloads (IsNamed (content_in h payloads)) (with_label (content_in h payloads).label (name_at h p) (name_in h word) (rights_in word)) (content_in h payloads).value
   slot_filled word empty refers others =
       slot_put h payloads is graph p q i word object has slot (inr refers) (name_in h word) (rights_in word) (λ xs ys was.
-          let was_empty : row_words h p ≡ xs ++ 0 ∷ ys = was ∙ ap (λ (w : ℕ). xs ++ w ∷ ys) empty in
-          subst (λ (w : ℕ). Puts h (xs ++ w ∷ ys) (xs ++ word ∷ ys) (name_in h word) (rights_in word)) (sym empty)
-          (puts_filled h xs ys word (reference_some word refers) (subst (All (IsOther h (name_in h word))) was_empty others)
-          (subst (λ (ws : List ℕ). IsDistinct (λ a b. a == b) (names_in h ws)) was_empty (graph.targets p object))))
+      let was_empty : row_words h p ≡ xs ++ 0 ∷ ys = was ∙ ap (λ (w : ℕ). xs ++ w ∷ ys) empty in
+      subst (λ (w : ℕ). Puts h (xs ++ w ∷ ys) (xs ++ word ∷ ys) (name_in h word) (rights_in word)) (sym empty)
+      (puts_filled h xs ys word (reference_some word refers) (subst (All (IsOther h (name_in h word))) was_empty others)
+      (subst (λ (ws : List ℕ). IsDistinct (λ a b. a == b) (names_in h ws)) was_empty (graph.targets p object))))
 
   pub slot_changed : (word : ℕ) → get_or (cell_at h q) i 0 ≢ 0 → RefersTo h word → place_in word ≡ place_in (get_or (cell_at h q) i 0) →
       Becomes h (with_word_at h q i word) payloads (IsNamed (content_in h payloads)) (with_label (content_in h payloads).label (name_at h p) (name_in h word) (rights_in word)) (content_in h payloads).value
   slot_changed word some refers same =
       slot_put h payloads is graph p q i word object has slot (inr refers) (name_in h word) (rights_in word) (λ xs ys was.
-          puts_changed h xs ys (get_or (cell_at h q) i 0) some word (reference_some word refers) (ap (name_at h) same)
-          (subst (λ (ws : List ℕ). IsDistinct (λ a b. a == b) (names_in h ws)) was (graph.targets p object)))
+      puts_changed h xs ys (get_or (cell_at h q) i 0) some word (reference_some word refers) (ap (name_at h) same)
+      (subst (λ (ws : List ℕ). IsDistinct (λ a b. a == b) (names_in h ws)) was (graph.targets p object)))
 
   pub slot_cleared : get_or (cell_at h q) i 0 ≢ 0 →
       Becomes h (with_word_at h q i 0) payloads (IsNamed (content_in h payloads)) (with_label (content_in h payloads).label (name_at h p) (name_in h (get_or (cell_at h q) i 0)) no_rights) (content_in h payloads).value
   slot_cleared some =
       slot_put h payloads is graph p q i 0 object has slot (inl refl) (name_in h (get_or (cell_at h q) i 0)) no_rights (λ xs ys was.
-          puts_cleared h xs ys (get_or (cell_at h q) i 0) some
-          (subst (λ (ws : List ℕ). IsDistinct (λ a b. a == b) (names_in h ws)) was (graph.targets p object)))
+      puts_cleared h xs ys (get_or (cell_at h q) i 0) some
+      (subst (λ (ws : List ℕ). IsDistinct (λ a b. a == b) (names_in h ws)) was (graph.targets p object)))
