@@ -1,29 +1,28 @@
 -- A free cell becomes an object or a chunk, and a block of free cells is added.
-use Rattle.std.proofs.Common.{◌≡◌, ◌≢◌, ◌↔◌, ℕ, zero, suc, ◌<◌, ◌≤◌, ◌⊎◌, ◌==◌, inl, inr, Bool, true, false, if◌then◌else◌, List, [], ◌∷◌, ◌++◌, length, get_or, take, drop, map, Option, Some, None, IsSome, refl, sym, ap, subst, arith, ◌∙◌, ⊎_elim}
-use Rattle.std.specs.List.{All, Contains, IsDistinct}
+use Rattle.std.proofs.Common.{◌≡◌, ◌≢◌, ℕ, ◌<◌, ◌⊎◌, ◌==◌, inl, inr, true, false, List, [], ◌∷◌, ◌++◌, length, get_or, Option, Some, None, IsSome, refl, sym, ap, subst, arith, ◌∙◌, ⊎_elim}
+use Rattle.std.specs.List.{All, IsDistinct}
 use Rattle.std.proofs.lemmas.Bool.{cases_eq}
 use Rattle.std.proofs.lemmas.Bool.Decides.{eqb_tells}
 use Rattle.std.proofs.lemmas.List.Elements.{All-nil, All-cons, All-weaker}
 use Rattle.std.proofs.lemmas.Map.Keys.{IsDistinct-from_apart}
-use Rattle.tg_rights.specs.RightSet.{RightSet, no_rights}
 use Rattle.tg_model.specs.declared.value.Value.{Value}
 use Rattle.tg_model.specs.Rules.{with_value}
 use Rattle.tg_word.specs.declared.Place.{Place}
-use Rattle.tg_block.specs.Cells.{kind_of, free_cell, object_tag, chunk_tag}
+use Rattle.tg_block.specs.Cells.{kind_of, object_tag, chunk_tag}
 use Rattle.tg_block.specs.declared.CellKind.{CellKind}
-use Rattle.tg_block.specs.declared.CellKind.TheVariants.{Free, Object, Chunk, Bad}
+use Rattle.tg_block.specs.declared.CellKind.TheVariants.{Free, Object, Chunk}
 use Rattle.tg_space.specs.SpaceList.{SpaceList, IsSpaceList, Holds, cell_at, cells_of, with_cell_at, with_block}
-use Rattle.tg_space.specs.Soundness.{AreSound, HasLayout, IsKindAt, IsReference, link_of}
+use Rattle.tg_space.specs.Soundness.{HasLayout, IsKindAt, IsReference, link_of}
 use Rattle.tg_space.proofs.Tables.{cell_at-with_block, kept-with_block}
 use Rattle.tg_payload.specs.Table.{Payloads, Updates, entry}
-use Rattle.tg_graph.specs.Content.{IsContent, IsNamed}
+use Rattle.tg_graph.specs.Content.{IsNamed}
 use Rattle.tg_graph.specs.Rows.{IsChain, IsVertexAt, chunks_from, key_at, link_at, name_at, names_in, references_of, rights_to, row_of}
 use Rattle.tg_graph.specs.Heap.{IsGraph, content_in}
 use Rattle.tg_graph.proofs.Places.{layout_at}
 use Rattle.tg_graph.proofs.Lookups.{label_nowhere, name_of_vertex, value_at, value_nowhere, vertex_of_name}
 use Rattle.tg_graph.proofs.Chains.{chain_chunks, row_held}
 use Rattle.tg_graph.proofs.Changes.{cell_kept, cell_written, holds_written, list_written, same_or_other}
-use Rattle.tg_graph.proofs.Kept.{Becomes, Shows, ShowsRow, Stays, layout_stays, links_stay, reference_stays, row_stays, same_objects, shown_content, shown_graph, vertices_stay, words_of}
+use Rattle.tg_graph.proofs.Kept.{Becomes, Shows, ShowsRow, Stays, layout_stays, links_stay, reference_stays, row_stays, same_objects, shown_content, shown_graph, vertices_stay}
 
 -- the cells of a row are objects and chunks
 pub row_used : (h : SpaceList) (p : Place) (ps : List Place) → IsKindAt h Object p → IsChain h (link_at h p) ps → (q : Place) → IsKindAt h Free q → All (λ c. c ≢ q) (p ∷ ps)
@@ -257,7 +256,7 @@ module _ (h : SpaceList) (payloads : Payloads) (is : IsSpaceList h) (graph : IsG
     values = by_object {X = λ p. entry new (key_at with_vertex p) ≡ values (name_at with_vertex p)}
         (ap (entry new) new_key ∙ updates.changed ∙ sym value_here ∙ ap values (sym new_name))
         (λ p object. updates.others (key_at with_vertex p) (used_key p object) ∙ ap (entry payloads) (stays.keys p object)
-            ∙ sym (value_at h payloads is graph (name_at h p) p (record { object = object; named = refl })) ∙ ap (content_in h payloads).value (sym (stays.names p object)) ∙ value_there (name_at with_vertex p) (old_name p object));
+        ∙ sym (value_at h payloads is graph (name_at h p) p (record { object = object; named = refl })) ∙ ap (content_in h payloads).value (sym (stays.names p object)) ∙ value_there (name_at with_vertex p) (old_name p object));
     no_label = λ x y none. label_nowhere h payloads is x (λ named. none (inl named)) y;
     no_value = λ x none. sym (value_there x (λ same. none (inr same))) ∙ value_nowhere h payloads is x (λ named. none (inl named));
   }

@@ -1,27 +1,24 @@
 -- What a change of the cells keeps, and what is to be shown for the graph after it.
-use Rattle.std.proofs.Common.{◌≡◌, ◌≢◌, ◌↔◌, ℕ, zero, suc, ◌<◌, ◌≤◌, ◌+◌, ◌⊎◌, ◌==◌, ◌&&◌, inl, inr, Bool, true, false, cond, not, if◌then◌else◌, List, [], ◌∷◌, ◌++◌, length, get_or, take, drop, map, Option, Some, None, IsSome, refl, sym, ap, subst, arith, ◌∙◌, ⊎_elim}
-use Rattle.std.specs.List.{All, Contains, IsDistinct, flat_map}
+use Rattle.std.proofs.Common.{◌≡◌, ◌≢◌, ◌↔◌, ℕ, ◌⊎◌, ◌==◌, ◌&&◌, inl, inr, true, false, cond, if◌then◌else◌, List, [], ◌∷◌, ◌++◌, length, take, drop, Option, None, IsSome, refl, sym, ap, subst, ◌∙◌, ⊎_elim}
+use Rattle.std.specs.List.{All, IsDistinct, flat_map}
 use Rattle.std.proofs.lemmas.Bool.Decides.{eqb_tells}
-use Rattle.std.proofs.lemmas.List.{append_assoc}
-use Rattle.std.proofs.lemmas.List.Elements.{All-nil, All-cons, All-head, All-tail, All-weaker}
+use Rattle.std.proofs.lemmas.List.Elements.{All-head, All-tail, All-weaker}
 use Rattle.tg_rights.specs.RightSet.{RightSet, no_rights, union, minus}
 use Rattle.tg_model.specs.declared.value.Value.{Value}
 use Rattle.tg_model.specs.Graph.{with_rights, without_rights}
 use Rattle.tg_word.specs.declared.Place.{Place}
 use Rattle.tg_word.specs.Word.{place_in, rights_in}
-use Rattle.tg_block.specs.Cells.{kind_of}
-use Rattle.tg_block.specs.declared.CellKind.TheVariants.{Free, Object, Chunk, Bad}
+use Rattle.tg_block.specs.declared.CellKind.TheVariants.{Object, Chunk}
 use Rattle.tg_space.specs.SpaceList.{SpaceList, IsSpaceList, Holds, cell_at, cells_of}
 use Rattle.tg_space.specs.Soundness.{AreSound, HasLayout, HasLayoutOf, IsKindAt, IsReference, RefersTo, IsLink, LinksTo, link_of}
-use Rattle.tg_space.specs.declared.spaces.Root.{Root}
 use Rattle.tg_payload.specs.Table.{Payloads, entry}
-use Rattle.tg_graph.specs.Content.{Content, IsContent, IsNamed}
+use Rattle.tg_graph.specs.Content.{IsContent, IsNamed}
 use Rattle.tg_graph.specs.Rows.{IsChain, IsVertexAt, chunks_from, key_at, link_at, name_at, name_in, names_in, references_of, rights_to, row_of, row_words}
 use Rattle.tg_graph.specs.Heap.{IsGraph, content_in}
 use Rattle.tg_graph.proofs.Places.{sound_from_places, links_apart}
 use Rattle.tg_graph.proofs.Layouts.{KindCases, is_free, is_object, is_chunk, is_bad, kind_cases}
-use Rattle.tg_graph.proofs.Lookups.{IsRead, content_from, label_at, label_nowhere, name_of_vertex, value_at, value_nowhere, vertex_of_name}
-use Rattle.tg_graph.proofs.Slots.{IsOther, Puts}
+use Rattle.tg_graph.proofs.Lookups.{content_from, label_at, label_nowhere, name_of_vertex, value_at, value_nowhere, vertex_of_name}
+use Rattle.tg_graph.proofs.Slots.{Puts}
 use Rattle.tg_graph.proofs.Changes.{same_or_other}
 use Rattle.tg_graph.proofs.Chains.{chain_whole, row_references}
 
@@ -117,7 +114,7 @@ pub record Stays (h after : SpaceList) : Type 0 where
   pub names : (p : Place) → IsKindAt h Object p → name_at after p ≡ name_at h p
   pub keys : (p : Place) → IsKindAt h Object p → key_at after p ≡ key_at h p
 
-flat_map_same : {X Y : Type 0} (f g : X → List Y) (xs : List X) → All (λ x. g x ≡ f x) xs → flat_map g xs ≡ flat_map f xs
+pub flat_map_same : {X Y : Type 0} (f g : X → List Y) (xs : List X) → All (λ x. g x ≡ f x) xs → flat_map g xs ≡ flat_map f xs
 flat_map_same f g [] same = refl
 flat_map_same f g (x ∷ xs) same =
     ap (λ ys. ys ++ flat_map g xs) (All-head (λ z. g z ≡ f z) x xs same) ∙ ap (λ ys. f x ++ ys) (flat_map_same f g xs (All-tail (λ z. g z ≡ f z) x xs same))
@@ -149,7 +146,7 @@ module _ (h after : SpaceList) (stays : Stays h after) where
           subst (HasLayoutOf after words) (sym kind) (All-weaker (IsReference h) (IsReference after) reference_stays (take 6 (drop 1 words)) shape.0, link_stays (link_of words) shape.1)
       by_kind (is_bad kind) = absurd (subst (HasLayoutOf h words) kind layout)
 
-  name_stays : (word : ℕ) → IsReference h word → word ≢ 0 → name_in after word ≡ name_in h word
+  pub name_stays : (word : ℕ) → IsReference h word → word ≢ 0 → name_in after word ≡ name_in h word
   name_stays word is some =
       ⊎_elim (λ z. absurd (some z)) (λ (refers : RefersTo h word). stays.names (place_in word) refers.object) is
 

@@ -9,3 +9,5 @@ pub mod Chains
 pub mod Changes
 pub mod Kept
 pub mod Fresh
+pub mod Written
+pub mod Linked
