@@ -1,5 +1,6 @@
 pub mod Walks
 pub mod Finding
+pub mod Listing
 pub mod Members
 pub mod Places
 pub mod Layouts

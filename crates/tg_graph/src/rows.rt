@@ -118,7 +118,8 @@ pub(crate) fn edges_of(
 ) -> Result<Vec<(u64, Label)>, AllocError>
     requires sound { AreSound spaces.now.spaces [] }
     requires row { IsRow spaces.now.spaces from }
-    ensures { IfOk result (λ edges. edges.items ≡ edges_in spaces.now.spaces (row_words spaces.now.spaces from)) }
+    ensures table { OnOk result (IsSpaceTable spaces.now) }
+    ensures edges { IfOk result (λ edges. edges.items ≡ edges_in spaces.now.spaces (row_words spaces.now.spaces from)) }
 {
     let mut edges = Vec::new(alloc);
     let mut at = from;
