@@ -1,9 +1,9 @@
 -- Chains of chunks, and rows: an object and the chunks to which its link leads.
-use Rattle.std.proofs.Common.{◌≡◌, ◌≢◌, ℕ, zero, suc, ◌<◌, ◌≤◌, ◌+◌, ◌-◌, ◌⊎◌, ◌==◌, inl, inr, Bool, true, false, List, [], ◌∷◌, ◌++◌, length, get_or, take, drop, map, refl, sym, ap, subst, arith, ◌∙◌, ⊎_elim}
-use Rattle.std.specs.List.{All, Contains, IsDistinct, flat_map, list_any}
-use Rattle.std.proofs.lemmas.Bool.{cases_lt, cases_Bool}
+use Rattle.std.proofs.Common.{◌≡◌, ◌≢◌, ℕ, zero, suc, ◌<◌, ◌≤◌, ◌-◌, ◌⊎◌, ◌==◌, inl, inr, true, false, List, [], ◌∷◌, length, get_or, map, refl, sym, ap, subst, arith, ◌∙◌, ⊎_elim}
+use Rattle.std.specs.List.{All, IsDistinct, flat_map, list_any}
+use Rattle.std.proofs.lemmas.Bool.{cases_Bool}
 use Rattle.std.proofs.lemmas.Bool.Decides.{nat_tests, eqb_tells}
-use Rattle.std.proofs.lemmas.List.{get_or_default, get_or-map, length-map}
+use Rattle.std.proofs.lemmas.List.{get_or-map, length-map}
 use Rattle.std.proofs.lemmas.List.Elements.{All-nil, All-cons, All-head, All-tail, All-append}
 use Rattle.std.proofs.lemmas.Map.Keys.{IsDistinct-from_apart}
 use Rattle.std.proofs.lemmas.Map.Steps.{length-le_from_distinct_below}
@@ -11,7 +11,7 @@ use Rattle.tg_word.specs.declared.Place.{Place}
 use Rattle.tg_word.specs.Word.{place_in}
 use Rattle.tg_block.specs.declared.CellKind.TheVariants.{Object, Chunk}
 use Rattle.tg_space.specs.SpaceList.{SpaceList, IsSpaceList, Holds, cell_at, cells_of, flat_of}
-use Rattle.tg_space.specs.Soundness.{AreSound, IsKindAt, IsReference, LinksTo}
+use Rattle.tg_space.specs.Soundness.{AreSound, IsKindAt, IsReference}
 use Rattle.tg_space.specs.declared.spaces.Root.{Root}
 use Rattle.tg_space.proofs.Flat.{flat_inside, same_place}
 use Rattle.tg_graph.specs.Rows.{IsChain, chunks_from, link_at, references_of, row_of, row_words}
@@ -134,20 +134,20 @@ module _ (h : SpaceList) (is : IsSpaceList h) (roots : List Root) (sound : AreSo
       let numbers = map (flat_of h) row in
       let long : length numbers ≡ length row = length-map row (flat_of h) in
       let below : All (λ (n : ℕ). n < length (cells_of h)) numbers = (λ k d low.
-          let inside : k < length row = omega arith in
-          subst (λ (n : ℕ). n < length (cells_of h)) (sym (get_or-map (flat_of h) row k p d inside))
-          (flat_inside h is.spaces (get_or row k p) (row_held h p ps object ends k p inside))) in
+      let inside : k < length row = omega arith in
+      subst (λ (n : ℕ). n < length (cells_of h)) (sym (get_or-map (flat_of h) row k p d inside))
+      (flat_inside h is.spaces (get_or row k p) (row_held h p ps object ends k p inside))) in
       let apart : IsDistinct (λ (a b : ℕ). a == b) numbers = IsDistinct-from_apart (λ (a b : ℕ). a == b) numbers (λ i j d less low.
-          let low_j : j < length row = omega arith in
-          let low_i : i < length row = omega arith in
-          let at_i = get_or-map (flat_of h) row i p d low_i in
-          let at_j = get_or-map (flat_of h) row j p d low_j in
-          ⊎_elim
-          (λ t.
-              let same = same_place h is.spaces (get_or row i p) (get_or row j p) (row_held h p ps object ends i p low_i) (row_held h p ps object ends j p low_j) (sym at_i ∙ t.1 ∙ at_j) in
-              let one : i ≡ j = (row_apart p p ps ps object object ends ends i j p low_i low_j same).1 in
-              absurd (omega arith))
-          (λ f. f.0) (eqb_tells (get_or numbers i d) (get_or numbers j d))) in
+      let low_j : j < length row = omega arith in
+      let low_i : i < length row = omega arith in
+      let at_i = get_or-map (flat_of h) row i p d low_i in
+      let at_j = get_or-map (flat_of h) row j p d low_j in
+      ⊎_elim
+      (λ t.
+      let same = same_place h is.spaces (get_or row i p) (get_or row j p) (row_held h p ps object ends i p low_i) (row_held h p ps object ends j p low_j) (sym at_i ∙ t.1 ∙ at_j) in
+      let one : i ≡ j = (row_apart p p ps ps object object ends ends i j p low_i low_j same).1 in
+      absurd (omega arith))
+      (λ f. f.0) (eqb_tells (get_or numbers i d) (get_or numbers j d))) in
       let few = length-le_from_distinct_below numbers (length (cells_of h)) apart (below_from_any numbers (length (cells_of h)) below) in
       omega arith
 

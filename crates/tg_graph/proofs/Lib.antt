@@ -1,3 +1,6 @@
+pub mod Walks
+pub mod Finding
+pub mod Listing
 pub mod Members
 pub mod Places
 pub mod Layouts
@@ -5,6 +8,10 @@ pub mod Lookups
 pub mod Slots
 pub mod Chains
 pub mod Changes
+pub mod Kept
+pub mod Fresh
+pub mod Written
+pub mod Linked
 pub mod KeptCells
 pub mod KeptRows
 pub mod KeptGraph

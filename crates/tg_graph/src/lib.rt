@@ -5,5 +5,6 @@ mod cells;
 mod heap;
 mod opening;
 mod rows;
+mod settle;
 
 pub use heap::{Found, Heap, HeapRefused, VertexRefused};

@@ -183,6 +183,7 @@ impl Spaces {
         ensures words { result ≡ cell_at self.now.spaces place }
         ensures numbered { result ≡ slice_index_or (cells_of self.now.spaces) (flat_of self.now.spaces place) [] }
         ensures whole { length result ≡ 8 }
+        ensures table { IsSpaceTable self.now }
     {
         self.spaces[place.space as usize].cell(place.block, place.cell)
     }
