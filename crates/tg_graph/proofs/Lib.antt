@@ -18,3 +18,4 @@ pub mod KeptGraph
 pub mod KeptFull
 pub mod KeptReached
 pub mod KeptHeap
+pub mod Counted

@@ -110,6 +110,7 @@ impl<P: Payload> Heap<P> {
     pub fn vertices(&self) -> u64
         ensures { result ≡ length (content_of self.now).names }
     {
+        let _ = self.cells.spaces.blocks();
         self.cells.payloads.len()
     }
 
