@@ -109,11 +109,19 @@ module _ (s : HeapState) (is : IsWellFormed s) (table : IsSpaceTable s.table) (f
     keeps = content_after move s.payloads left is.graph keeps (IsReached (content_of s) (length s.workers)) are_reached;
   }
 
-  -- the same of a heap with this table and these workers
-  pub settled_as : (now : SpaceTable) (workers : List Place) → now ≡ with_only_old s.table old → workers ≡ map (copied_to s.table.spaces forward) s.workers → IsSettled s (record { table = now; payloads = left; workers = workers })
-  settled_as now workers same_table same_workers =
-      subst (λ (places : List Place). IsSettled s (record { table = now; payloads = left; workers = places })) (sym same_workers)
-      (subst (λ (t : SpaceTable). IsSettled s (record { table = t; payloads = left; workers = map (copied_to s.table.spaces forward) s.workers })) (sym same_table) settled)
+-- the same of a heap that is seen as `seen`, once its parts were changed
+pub record IsChangedTo (s : HeapState) (forward : List ℕ) (old : BlockList) (now : HeapState) : Type 0 where
+  pub table : now.table ≡ with_only_old s.table old
+  pub whole : IsSpaceTable now.table
+  pub payloads : KeepsPayloads s.table.spaces (IsCopiedFrom s.table.spaces forward) s.payloads now.payloads
+  pub workers : now.workers ≡ map (copied_to s.table.spaces forward) s.workers
+
+pub settled_as : (s seen now : HeapState) (forward : List ℕ) (old : BlockList) → s ≡ seen → IsWellFormed s → IsSpaceTable s.table → IsFullCollection seen.table.spaces (roots_of seen) forward old → IsChangedTo s forward old now → IsSettled seen now
+settled_as s seen now forward old same is table collected changed =
+    let from_roots : IsFullCollection s.table.spaces (roots_of s) forward old = subst (λ (heap : HeapState). IsFullCollection heap.table.spaces (roots_of heap) forward old) (sym same) collected in
+    let whole = subst IsSpaceTable changed.table changed.whole in
+    let heap : IsSettled s (settled_heap s forward old now.payloads) = settled s is table forward old from_roots now.payloads changed.payloads whole in
+    subst (λ (before : HeapState). IsSettled before now) same (subst (IsSettled s) (sym (λ i. record { table = changed.table i; payloads = now.payloads; workers = changed.workers i })) heap)
 
 -- ---- dropped payloads
 
