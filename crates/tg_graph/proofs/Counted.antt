@@ -72,7 +72,6 @@ once-range a (suc n) = (λ has. let low = range_from (a + 1) n a has in absurd (
 
 -- ---- places
 
-
 module _ (h : SpaceList) where
   in_block : (space block : ℕ) (p : Place) → Contains (map (λ (cell : ℕ). let q : Place = record { space = space; block = block; cell = cell } in q) (range_with_len 0 64)) p → (p.space ≡ space) × (p.block ≡ block)
   in_block space block p has =

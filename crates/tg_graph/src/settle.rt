@@ -25,7 +25,10 @@ impl<P: Payload> Heap<P> {
         ensures rows { IfOk result (λ roots. roots.items ≡ roots_of self.now) }
         ensures sound { AreSound self.now.table.spaces (roots_of self.now) }
     {
-        self.workers.iter().map(|place| Root::Row(*place)).collect(alloc)
+        self.workers
+            .iter()
+            .map(|place| Root::Row(*place))
+            .collect(alloc)
     }
 
     /// Puts the blocks that a collection from the heap's own roots made in the place of those that it emptied, and

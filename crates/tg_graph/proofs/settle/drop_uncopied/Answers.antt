@@ -22,13 +22,13 @@ loop-number-preserved g c =
     let whole = table_list c.args.spaces.now c.cells-number-end.ensures.table in
     let low : c.loop-number.number < length (cells_of h) = omega (arith, c.cells-number-end.ensures.cells) in
     elim c.if-forward-number-eq0.branch [
-      then-forward-number-eq0 w ↦
-        subst (λ (now : Payloads). AreDroppedBelow h c.args.forward.now c.args.payloads.now now (c.loop-number.number + 1)) (sym w.payloads-is)
-        (dropped_next h whole c.args.forward.now c.args.payloads.now c.requires.graph c.loop-number.payloads w.drop_payload_of.new.payloads c.loop-number.number low w.if-forward-number-eq0.true c.loop-number.invariant
-        w.drop_payload_of.ensures.gone w.drop_payload_of.ensures.none)
-    | else-forward-number-eq0 w ↦
-        subst (λ (now : Payloads). AreDroppedBelow h c.args.forward.now c.args.payloads.now now (c.loop-number.number + 1)) (sym w.payloads-is)
-        (dropped_past h whole c.args.forward.now c.args.payloads.now c.requires.graph c.loop-number.payloads c.loop-number.number c.loop-number.invariant (λ p object at. w.if-forward-number-eq0.false))
+      | then-forward-number-eq0 w ↦
+          subst (λ (now : Payloads). AreDroppedBelow h c.args.forward.now c.args.payloads.now now (c.loop-number.number + 1)) (sym w.payloads-is)
+          (dropped_next h whole c.args.forward.now c.args.payloads.now c.requires.graph c.loop-number.payloads w.drop_payload_of.new.payloads c.loop-number.number low w.if-forward-number-eq0.true c.loop-number.invariant
+          w.drop_payload_of.ensures.gone w.drop_payload_of.ensures.none)
+      | else-forward-number-eq0 w ↦
+          subst (λ (now : Payloads). AreDroppedBelow h c.args.forward.now c.args.payloads.now now (c.loop-number.number + 1)) (sym w.payloads-is)
+          (dropped_past h whole c.args.forward.now c.args.payloads.now c.requires.graph c.loop-number.payloads c.loop-number.number c.loop-number.invariant (λ p object at. w.if-forward-number-eq0.false))
     ]
 
 pub returns-clause-left : goal.returns-clause-left
