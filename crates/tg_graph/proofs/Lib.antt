@@ -9,3 +9,4 @@ pub mod Kept
 pub mod Fresh
 pub mod Written
 pub mod Linked
+pub mod Collected
