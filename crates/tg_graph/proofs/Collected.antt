@@ -40,6 +40,10 @@ use Rattle.tg_graph.proofs.Linked.{held_place}
 abbrev pub IsKept : SpaceList → List ℕ → Place → Type 0
 IsKept h forward p = get_or forward (flat_of h p) 0 ≢ 0
 
+-- the object with this name was copied
+abbrev pub IsKeptName : SpaceList → List ℕ → ℕ → Type 0
+IsKeptName h forward x = (p : Place) × IsVertexAt h x p × IsKept h forward p
+
 -- where the copy of a cell is
 abbrev pub copy_place : SpaceList → List ℕ → Place → Place
 copy_place h forward p = new_place forward (flat_of h p)
@@ -221,7 +225,7 @@ module _ (h : SpaceList) (payloads : Payloads) (is : IsSpaceList h) (graph : IsG
   abbrev KeepsTarget : ℕ → Type 0
   KeepsTarget word = word ≢ 0 → Kept (place_in word)
 
-  references_kept : (p : Place) → Kept p → All KeepsTarget (references_of (cell_at h p))
+  pub references_kept : (p : Place) → Kept p → All KeepsTarget (references_of (cell_at h p))
   references_kept p keep k d inside some =
       let words = cell_at h p in
       let n = first_pointer (get_or words 0 0) in
@@ -448,7 +452,7 @@ module _ (h : SpaceList) (payloads : Payloads) (is : IsSpaceList h) (graph : IsG
       ∙ ap (λ (ws : List ℕ). map moved (references_of (cell_at h p)) ++ ws) (words_copied ps (All-tail Kept p ps keeps))
       ∙ sym (map-append moved (references_of (cell_at h p)) (words_of h ps))
 
-  words_kept : (ps : List Place) → All Kept ps → All (λ w. IsReference h w × KeepsTarget w) (words_of h ps)
+  pub words_kept : (ps : List Place) → All Kept ps → All (λ w. IsReference h w × KeepsTarget w) (words_of h ps)
   words_kept [] keeps = All-nil (λ w. IsReference h w × KeepsTarget w)
   words_kept (p ∷ ps) keeps =
       let keep = All-head Kept p ps keeps in
@@ -500,7 +504,7 @@ module _ (h : SpaceList) (payloads : Payloads) (is : IsSpaceList h) (graph : IsG
           ∙ ap (λ (r : RightSet). cond (name_in h w == y) r (rights_to after y (map moved words))) m.rights ∙ ap (λ (r : RightSet). cond (name_in h w == y) (rights_in w) r) rest ∙ sym right
 
   -- the cells of a kept object's row are kept
-  row_kept : (p : Place) → IsKept h forward p → IsKindAt h Object p → All Kept (row_of h p)
+  pub row_kept : (p : Place) → IsKept h forward p → IsKindAt h Object p → All Kept (row_of h p)
   row_kept p keep object =
       let four = first_object p object in
       All-cons Kept p (chunks_from h (length (cells_of h)) (link_at h p)) (object.held, keep)
@@ -562,9 +566,6 @@ module _ (h : SpaceList) (payloads : Payloads) (is : IsSpaceList h) (graph : IsG
   abbrev kept_value : ℕ → Option Value
   kept_value x = kept_value_at (object_named h x)
 
-  abbrev IsNameKept : ℕ → Type 0
-  IsNameKept x = (p : Place) × IsVertexAt h x p × IsKept h forward p
-
   kept_label_is : (x : ℕ) (p : Place) → IsVertexAt h x p → IsKept h forward p → (y : ℕ) → kept_label x y ≡ rights_to h y (row_words h p)
   kept_label_is x p vertex keep y =
       let test : (get_or forward (flat_of h p) 0 == 0) ≡ false = ⊎_elim (λ t. absurd (keep t.1)) (λ f. f.0) (eqb_tells (get_or forward (flat_of h p) 0) 0) in
@@ -575,23 +576,45 @@ module _ (h : SpaceList) (payloads : Payloads) (is : IsSpaceList h) (graph : IsG
       let test : (get_or forward (flat_of h p) 0 == 0) ≡ false = ⊎_elim (λ t. absurd (keep t.1)) (λ f. f.0) (eqb_tells (get_or forward (flat_of h p) 0) 0) in
       ap kept_value_at (named_from_vertex h payloads is graph x p vertex) ∙ ap (λ (b : Bool). cond b None (entry payloads (key_at h p))) test
 
-  not_kept : (x : ℕ) → (IsNameKept x → ⊥) → (p : Place) → object_named h x ≡ Some p → (get_or forward (flat_of h p) 0 == 0) ≡ true
+  not_kept : (x : ℕ) → (IsKeptName h forward x → ⊥) → (p : Place) → object_named h x ≡ Some p → (get_or forward (flat_of h p) 0 == 0) ≡ true
   not_kept x none p found =
       ⊎_elim (λ t. t.0) (λ f. absurd (none (p, vertex_from_named h is x p found, f.1))) (eqb_tells (get_or forward (flat_of h p) 0) 0)
 
-  no_kept_label : (x y : ℕ) → (IsNameKept x → ⊥) → kept_label x y ≡ no_rights
+  no_kept_label : (x y : ℕ) → (IsKeptName h forward x → ⊥) → kept_label x y ≡ no_rights
   no_kept_label x y none = by_found (option_cases (object_named h x))
     where
       by_found : (object_named h x ≡ None) ⊎ ((p : Place) × (object_named h x ≡ Some p)) → kept_label x y ≡ no_rights
       by_found (inl e) = ap (λ (o : Option Place). kept_label_at o y) e
       by_found (inr some) = ap (λ (o : Option Place). kept_label_at o y) some.1 ∙ ap (λ (b : Bool). cond b no_rights (rights_to h y (row_words h some.0))) (not_kept x none some.0 some.1)
 
-  no_kept_value : (x : ℕ) → (IsNameKept x → ⊥) → kept_value x ≡ None
+  no_kept_value : (x : ℕ) → (IsKeptName h forward x → ⊥) → kept_value x ≡ None
   no_kept_value x none = by_found (option_cases (object_named h x))
     where
       by_found : (object_named h x ≡ None) ⊎ ((p : Place) × (object_named h x ≡ Some p)) → kept_value x ≡ None
       by_found (inl e) = ap kept_value_at e
       by_found (inr some) = ap kept_value_at some.1 ∙ ap (λ (b : Bool). cond b None (entry payloads (key_at h some.0))) (not_kept x none some.0 some.1)
+
+  -- where rights are, there is a reference, and its target is kept
+  target_of_rights : (words : List ℕ) → All (λ w. IsReference h w × KeepsTarget w) words → (y : ℕ) → is_none_held (rights_to h y words) ≡ false → IsKeptName h forward y
+  target_of_rights [] all y some = absurd (let no : true ≡ false = some in cc)
+  target_of_rights (w ∷ words) all y some =
+      by_tests (eqb_tells w 0) (eqb_tells (name_in h w) y) (All-head (λ x. IsReference h x × KeepsTarget x) w words all) (target_of_rights words (All-tail (λ x. IsReference h x × KeepsTarget x) w words all) y)
+    where
+      by_tests : (((w == 0) ≡ true) × (w ≡ 0)) ⊎ (((w == 0) ≡ false) × (w ≢ 0)) → (((name_in h w == y) ≡ true) × (name_in h w ≡ y)) ⊎ (((name_in h w == y) ≡ false) × (name_in h w ≢ y)) → IsReference h w × KeepsTarget w →
+          (is_none_held (rights_to h y words) ≡ false → IsKeptName h forward y) → IsKeptName h forward y
+      by_tests (inl z) _ both rest = rest (subst (λ (b : Bool). is_none_held (cond (not b && (name_in h w == y)) (rights_in w) (rights_to h y words)) ≡ false) z.0 some)
+      by_tests (inr some_word) (inl same) both rest =
+          let refers : RefersTo h w = ⊎_elim (λ z. absurd (some_word.1 z)) (λ r. r) both.0 in
+          (place_in w, record { object = refers.object; named = same.1 }, (both.1 some_word.1).1)
+      by_tests (inr some_word) (inr other) both rest =
+          let past : is_none_held (cond (not false && false) (rights_in w) (rights_to h y words)) ≡ false = subst (λ (b : Bool). is_none_held (cond (not b && false) (rights_in w) (rights_to h y words)) ≡ false) some_word.0 (subst (λ (b : Bool). is_none_held (cond (not (w == 0) && b) (rights_in w) (rights_to h y words)) ≡ false) other.0 some) in
+          rest past
+
+  -- the targets of a kept vertex are kept
+  pub kept_closed : (x y : ℕ) → IsKeptName h forward x → HasEdge (content_in h payloads).label x y → IsKeptName h forward y
+  kept_closed x y at edge =
+      let p = at.0 in
+      target_of_rights (row_words h p) (words_kept (row_of h p) (row_kept p at.2 at.1.object)) y (ap is_none_held (sym (label_at h payloads is graph x p at.1 y)) ∙ edge)
 
   module _ (new : Payloads) (keeps : KeepsPayloads h forward payloads new) where
     copy_vertex : (x : ℕ) (p : Place) → IsVertexAt h x p → IsKept h forward p → IsVertexAt after x (to p)
@@ -614,7 +637,7 @@ module _ (h : SpaceList) (payloads : Payloads) (is : IsSpaceList h) (graph : IsG
             (λ t. absurd (impossible (ap (entry new) (sym at.2) ∙ keeps.dropped at.0 at.1 t.1)))
             (λ f. (to at.0, object_copied at.0 f.1 at.1, key_copied at.0 f.1 at.1 ∙ at.2)) (eqb_tells (get_or forward (flat_of h at.0) 0) 0)
 
-    kept_shows : Shows after new IsNameKept kept_label kept_value
+    kept_shows : Shows after new (IsKeptName h forward) kept_label kept_value
     kept_shows = record {
       layouts = layouts;
       links = links;
@@ -650,11 +673,30 @@ module _ (h : SpaceList) (payloads : Payloads) (is : IsSpaceList h) (graph : IsG
     }
 
     pub graph_collected : IsGraph (collected h old) new
-    graph_collected = shown_graph after new spaces IsNameKept kept_label kept_value kept_shows
+    graph_collected = shown_graph after new spaces (IsKeptName h forward) kept_label kept_value kept_shows
 
-    kept_content : IsContent (content_in after new) IsNameKept kept_label kept_value
-    kept_content = shown_content after new spaces IsNameKept kept_label kept_value kept_shows
+    kept_content : IsContent (content_in after new) (IsKeptName h forward) kept_label kept_value
+    kept_content = shown_content after new spaces (IsKeptName h forward) kept_label kept_value kept_shows
 
     -- a kept vertex goes to its copy
     pub vertex_collected : (x : ℕ) (p : Place) → IsVertexAt h x p → IsKept h forward p → IsVertexAt (collected h old) x (copy_place h forward p)
     vertex_collected = copy_vertex
+
+    -- the content is the old one on the names of the objects that were copied
+    pub content_collected : Keeps (content_in h payloads) (content_in (collected h old) new) (IsKeptName h forward)
+    content_collected =
+        let before = content_in h payloads in
+        let content = kept_content in
+        record {
+          names = λ x. (
+            λ named. let at = (content.names x).0 named in (name_of_vertex h payloads is x at.0 at.1, at),
+            λ both. (content.names x).1 both.1,
+          );
+          closed = λ x y named edge. (content.names y).1 (kept_closed x y ((content.names x).0 named) edge);
+          labels = λ x y named.
+              let at = (content.names x).0 named in
+              content.labels x y ∙ kept_label_is x at.0 at.1 at.2 y ∙ sym (label_at h payloads is graph x at.0 at.1 y);
+          values = λ x named.
+              let at = (content.names x).0 named in
+              content.values x ∙ kept_value_is x at.0 at.1 at.2 ∙ sym (value_at h payloads is graph x at.0 at.1);
+        }

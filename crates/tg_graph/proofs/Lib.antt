@@ -10,3 +10,4 @@ pub mod Fresh
 pub mod Written
 pub mod Linked
 pub mod Collected
+pub mod Reaching
