@@ -12,3 +12,5 @@ pub mod Kept
 pub mod Fresh
 pub mod Written
 pub mod Linked
+pub mod Collected
+pub mod Reaching
