@@ -8,46 +8,46 @@ ghost use Rattle.tg_graph.specs.Spots.{CanPut, CanWrite, chunk_put, narrowed, ta
 
 use crate::rows::{LINK, Spot};
 use tg_block::CHUNK_TAG;
-use tg_rights::{Label, Rights};
+use tg_rights::Rights;
 use tg_space::Spaces;
 use tg_word::{Place, Slot, pack, place_of, rights_of};
 
 /// Puts rights over the object at a place where they go in a row: the reference gets them too, or else the empty place
 /// gets a reference with them, or else a new chunk from the nursery of a worker, which has a cell left for it.
-pub(crate) fn put(spaces: &mut Spaces, worker: u64, spot: Spot, to: Place, label: Label)
+pub(crate) fn put(spaces: &mut Spaces, worker: u64, spot: Spot, to: Place, rights: Rights)
     requires few { worker < 64 }
     requires nursery { worker + 2 < length spaces.old.spaces }
     requires can { CanPut spaces.old (worker + 2) spot }
     requires to { IsPlace to }
-    ensures { spaces.new ≡ table_put spaces.old (worker + 2) spot label to }
+    ensures { spaces.new ≡ table_put spaces.old (worker + 2) spot rights to }
 {
-    let word = reference_to(to, label.rights());
+    let word = reference_to(to, rights);
     match spot {
-        Spot::Reference { cell, index } => widen(spaces, cell, index, label),
+        Spot::Reference { cell, index } => widen(spaces, cell, index, rights),
         Spot::Empty { cell, index } => spaces.write(cell, index, word),
         Spot::Full { last } => extend(spaces, worker, last, word),
     }
 }
 
 // Adds rights to a reference.
-fn widen(spaces: &mut Spaces, cell: Place, index: usize, label: Label)
+fn widen(spaces: &mut Spaces, cell: Place, index: usize, rights: Rights)
     requires can { CanWrite spaces.old cell index }
     requires place { IsPlace (place_in (slice_index (cell_at spaces.old.spaces cell) index)) }
-    ensures { spaces.new ≡ word_put spaces.old cell index (widened (slice_index (cell_at spaces.old.spaces cell) index) label) }
+    ensures { spaces.new ≡ word_put spaces.old cell index (widened (slice_index (cell_at spaces.old.spaces cell) index) rights) }
 {
     let word = spaces.read(cell, index);
-    let rights = rights_of(word).union(label.rights());
+    let rights = rights_of(word).union(rights);
     spaces.write(cell, index, reference_to(place_of(word), rights));
 }
 
 /// Takes rights off a reference, which becomes the empty word where it has none left.
-pub(crate) fn narrow(spaces: &mut Spaces, cell: Place, index: usize, label: Label)
+pub(crate) fn narrow(spaces: &mut Spaces, cell: Place, index: usize, rights: Rights)
     requires can { CanWrite spaces.old cell index }
     requires place { IsPlace (place_in (slice_index (cell_at spaces.old.spaces cell) index)) }
-    ensures { spaces.new ≡ word_put spaces.old cell index (narrowed (slice_index (cell_at spaces.old.spaces cell) index) label) }
+    ensures { spaces.new ≡ word_put spaces.old cell index (narrowed (slice_index (cell_at spaces.old.spaces cell) index) rights) }
 {
     let word = spaces.read(cell, index);
-    let rights = rights_of(word).minus(label.rights());
+    let rights = rights_of(word).minus(rights);
     let left = if rights.is_empty() {
         0
     } else {
