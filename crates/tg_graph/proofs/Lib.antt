@@ -1,6 +1,7 @@
 pub mod Walks
 pub mod Finding
 pub mod Listing
+pub mod Putting
 pub mod Members
 pub mod Places
 pub mod Layouts
@@ -12,6 +13,8 @@ pub mod Kept
 pub mod Fresh
 pub mod Written
 pub mod Linked
+pub mod Collected
+pub mod Reaching
 pub mod KeptCells
 pub mod KeptRows
 pub mod KeptGraph

@@ -4,6 +4,7 @@
 mod cells;
 mod heap;
 mod opening;
+mod references;
 mod rows;
 mod settle;
 
