@@ -50,7 +50,7 @@ module _ (h : SpaceList) where
 
   module _ (words : List ℕ) (long : length words ≡ 8) where
     -- the words of a cell from one on, up to the link
-    parts : (n m : ℕ) → n + m ≡ 7 → drop n words ≡ take m (drop n words) ++ (link_of words ∷ [])
+    pub parts : (n m : ℕ) → n + m ≡ 7 → drop n words ≡ take m (drop n words) ++ (link_of words ∷ [])
     parts n m sum =
         sym (take-append-drop m (drop n words))
         ∙ ap (λ (xs : List ℕ). take m (drop n words) ++ xs)

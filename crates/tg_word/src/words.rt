@@ -62,9 +62,9 @@ pub fn place_of(word: u64) -> Place
     }
 }
 
-/// The rights in a word that is known to hold a reference.
+/// The rights in a word that is known to hold a reference; none in the empty word.
 ///
-/// It looks at no other bits: a word off the layout gives rights that mean nothing.
+/// It looks at no other bits.
 #[inline]
 pub fn rights_of(word: u64) -> Rights
     ensures { result ≡ rights_in word }

@@ -1,0 +1,7 @@
+pub mod Content
+pub mod Standing
+pub mod Rows
+pub mod Heap
+pub mod Spots
+pub mod Steps
+pub mod Kept
