@@ -1,0 +1,4 @@
+//! Decisions and effects.
+#![tactic(auto)]
+
+pub mod laws;
