@@ -39,7 +39,7 @@ pub fn steps_on_a_content_are_its_graphs()
     ensures created { (c new : Content) (g : ProtectionGraph) (x : ℕ) (label : RightSet) (law : Law) (state : List ℕ) →
         StandsFor c g → OnlyNamedHold c → IsSound g → IsSubject g x → g.made < g.limit →
         IsContent new (λ y. IsNamed c y ⊎ (y ≡ g.made)) (with_rights c.label x g.made label)
-            (with_value c.value g.made (record { law = law; state = state })) →
+        (with_value c.value g.made (record { law = law; state = state })) →
         StandsFor new (step g x (Create label law state)) }
     ensures full { (c new : Content) (g : ProtectionGraph) (x : ℕ) (label : RightSet) (law : Law) (state : List ℕ) →
         StandsFor c g → g.limit ≤ g.made → IsSameContent c new → StandsFor new (step g x (Create label law state)) }
