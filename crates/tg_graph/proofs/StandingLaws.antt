@@ -1,8 +1,8 @@
 -- What is decided and changed on a content, and what a collection keeps of it, against the graph that it stands for.
-use Rattle.std.proofs.Common.{◌≡◌, ◌↔◌, ◌⊎◌, inl, inr, ⊎_elim, ℕ, ◌<◌, ◌≤◌, ◌==◌, ◌&&◌, Bool, true, false, cond, List, Some, None, refl, sym, ap, ◌∙◌, subst, arith}
-use Rattle.std.proofs.lemmas.Bool.{cond-true, eq-eqb}
+use Rattle.std.proofs.Common.{◌≡◌, ◌↔◌, ◌⊎◌, inl, inr, ⊎_elim, ℕ, ◌<◌, ◌≤◌, ◌==◌, ◌&&◌, Bool, true, false, cond, map, List, Some, None, refl, sym, ap, ◌∙◌, subst, arith}
+use Rattle.std.proofs.lemmas.Bool.{cond-true, eq-eqb, eqb-true}
 use Rattle.std.specs.List.{Contains, range_with_len}
-use Rattle.tg_rights.specs.RightSet.{RightSet, union, is_none_held}
+use Rattle.tg_rights.specs.RightSet.{RightSet, no_rights, union, is_none_held}
 use Rattle.tg_rights.specs.RightLaws.{none_held-same}
 use Rattle.tg_model.specs.declared.value.Value.{Value}
 use Rattle.tg_model.specs.declared.law.Law.{Law}
@@ -17,6 +17,10 @@ use Rattle.tg_model.proofs.AllowedLaws.{permits-no_denial, step-allowed, step-de
 use Rattle.tg_model.proofs.NearLaws.{denial_of-near, reply_of-near, labels_after-same, values_after-same}
 use Rattle.tg_model.proofs.ReachLaws.{HasEdge-with_rights, closed_after, IsReachable-plain, IsReachable-step}
 use Rattle.tg_model.proofs.PlainLaws.{is_subject, is_worker}
+use Rattle.tg_word.specs.declared.Place.{Place}
+use Rattle.tg_graph.specs.Rows.{name_at, object_named, objects_of}
+use Rattle.tg_graph.specs.Heap.{HeapState, IsUnchanged, content_in, content_of}
+use Rattle.tg_graph.proofs.Members.{Contains-map, find_gives, option_cases}
 use Rattle.tg_graph.specs.Content.{Content, IsNamed, IsContent, IsSameContent, OnlyNamedHold}
 use Rattle.tg_graph.specs.Standing.{StandsFor, IsReached, Keeps}
 
@@ -111,7 +115,7 @@ module _ (c new : Content) (g : ProtectionGraph) (stands : StandsFor c g) (x : �
   -- a new vertex has no edge, in the content and in the graph
   no_row : OnlyNamedHold c → IsSound g → (b : ℕ) → c.label g.made b ≡ g.label g.made b
   no_row only sound b =
-      none_held-same (c.label g.made b) (no_edge-none _ (λ edge. not_named-made c g stands (only g.made b edge)))
+      only g.made (not_named-made c g stands) b
       ∙ sym (none_held-same (g.label g.made b) (no_edge-none _ (λ edge. omega (arith, (sound.ends_made g.made b edge).0))))
 
   more : (a b : ℕ) → c.label a b ≡ g.label a b → with_rights c.label x g.made label a b ≡ with_rights g.label x g.made label a b
@@ -152,6 +156,29 @@ module _ (c new : Content) (g : ProtectionGraph) (stands : StandsFor c g) (x : �
   StandsFor-full law state full same =
       subst (StandsFor new) (sym (step-not_allowed g x (Create label law state) (λ room. omega (arith, full, room))))
       (StandsFor-same c new g stands same)
+
+-- ---- contents of heaps
+
+module _ (s : HeapState) where
+  pub OnlyNamedHold-content_of : OnlyNamedHold (content_of s)
+  OnlyNamedHold-content_of x not_named y = by_object (option_cases (object_named s.table.spaces x))
+    where
+      by_object : (object_named s.table.spaces x ≡ None) ⊎ ((p : Place) × (object_named s.table.spaces x ≡ Some p)) → (content_of s).label x y ≡ no_rights
+      by_object (inl none) = rw none refl
+      by_object (inr (p, found)) =
+          let h = s.table.spaces in
+          let both = find_gives (λ q. name_at h q == x) (objects_of h) p found in
+          absurd (not_named (subst (Contains (map (name_at h) (objects_of h))) (eqb-true (name_at h p) x both.1) (Contains-map (name_at h) (objects_of h) p both.0)))
+
+-- a heap that is unchanged has the same content
+pub IsSameContent-unchanged : (old new : HeapState) → IsUnchanged old new → IsSameContent (content_of old) (content_of new)
+IsSameContent-unchanged old new unchanged =
+    let same : content_of new ≡ content_of old = λ i. content_in (unchanged.table i).spaces (record { entries = unchanged.entries i; spare = 0 }) in
+    record {
+      names = λ x. let P : Content → Type 0 = λ c. IsNamed c x ↔ IsNamed (content_of old) x in subst P (sym same) (λ is. is, λ is. is);
+      labels = λ x y. ap (λ c. c.label x y) same;
+      values = λ x. ap (λ c. c.value x) same;
+    }
 
 -- ---- what is kept
 

@@ -1,9 +1,8 @@
 -- What a heap says of the graph, whatever its cells look like.
 use Rattle.std.specs.Prelude.{◌≡◌, ◌↔◌, ℕ, List, Option}
 use Rattle.std.specs.List.{Contains}
-use Rattle.tg_rights.specs.RightSet.{RightSet}
+use Rattle.tg_rights.specs.RightSet.{RightSet, no_rights}
 use Rattle.tg_model.specs.declared.value.Value.{Value}
-use Rattle.tg_model.specs.Graph.{HasEdge}
 
 -- The names of the vertices that a heap has. label x y is the set of rights of x over y, which is empty where the heap has no x, and value x is what x stores.
 pub record Content : Type 0 where
@@ -24,6 +23,6 @@ pub record IsContent (c : Content) (named : ℕ → Type 0) (label : ℕ → ℕ
 abbrev pub IsSameContent : Content → Content → Type 0
 IsSameContent old new = IsContent new (IsNamed old) old.label old.value
 
--- only what the content has holds rights; this is so in what a heap says
+-- what the content doesn't have holds no rights
 abbrev pub OnlyNamedHold : Content → Type 0
-OnlyNamedHold c = (x y : ℕ) → HasEdge c.label x y → IsNamed c x
+OnlyNamedHold c = (x : ℕ) → ¬ IsNamed c x → (y : ℕ) → c.label x y ≡ no_rights
