@@ -70,6 +70,9 @@ module _ (c : Content) (g : ProtectionGraph) (stands : StandsFor c g) where
 
 -- ---- what is changed
 
+pub IsSameContent-self : (c : Content) → IsSameContent c c
+IsSameContent-self c = record { names = λ x. (λ is. is, λ is. is); labels = λ x y. refl; values = λ x. refl }
+
 -- a content that is the same stands for the same graph
 pub StandsFor-same : (old new : Content) (g : ProtectionGraph) → StandsFor old g → IsSameContent old new → StandsFor new g
 StandsFor-same old new g stands same = record {
@@ -179,6 +182,10 @@ IsSameContent-unchanged old new unchanged =
       labels = λ x y. ap (λ c. c.label x y) same;
       values = λ x. ap (λ c. c.value x) same;
     }
+
+pub StandsFor-unchanged : (old new : HeapState) (g : ProtectionGraph) → StandsFor (content_of old) g → IsUnchanged old new → StandsFor (content_of new) g
+StandsFor-unchanged old new g stands unchanged =
+    StandsFor-same (content_of old) (content_of new) g stands (IsSameContent-unchanged old new unchanged)
 
 -- ---- what is kept
 
