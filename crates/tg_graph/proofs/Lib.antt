@@ -1,6 +1,10 @@
+pub mod StandingLaws
 pub mod Members
 pub mod Places
 pub mod Layouts
 pub mod Lookups
 pub mod Slots
-pub mod StandingLaws
+pub mod Chains
+pub mod Changes
+pub mod Walks
+pub mod Finding
