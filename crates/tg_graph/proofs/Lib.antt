@@ -1,4 +1,6 @@
 pub mod StandingLaws
+pub mod Walks
+pub mod Finding
 pub mod Members
 pub mod Places
 pub mod Layouts
@@ -6,5 +8,7 @@ pub mod Lookups
 pub mod Slots
 pub mod Chains
 pub mod Changes
-pub mod Walks
-pub mod Finding
+pub mod Kept
+pub mod Fresh
+pub mod Written
+pub mod Linked
