@@ -4,7 +4,8 @@
 ghost use Rattle.std.specs.Prelude.{◌≡◌, ◌↔◌, ℕ};
 ghost use Rattle.std.specs.List.{range_with_len};
 ghost use Rattle.tg_model.specs.Graph.{ProtectionGraph, IsReachable};
-ghost use Rattle.tg_graph.specs.Content.{Content, IsNamed};
+ghost use Rattle.tg_graph.specs.Content.{Content, IsNamed, IsSameContent, OnlyNamedHold};
+ghost use Rattle.tg_graph.specs.Heap.{HeapState, IsUnchanged, content_of};
 ghost use Rattle.tg_graph.specs.Standing.{StandsFor, IsReached, Keeps};
 
 /// What a collection keeps stands for the graph that the old content stood for, where all that can be reached is
@@ -22,4 +23,16 @@ pub fn what_is_kept_stands_for_the_same_graph()
     ensures names { (old new : Content) (g : ProtectionGraph) (workers x : ℕ) →
         StandsFor old g → g.subjects ≡ range_with_len 0 workers → Keeps old new (IsReached old workers) →
         IsNamed new x ↔ IsReachable g x }
+{}
+
+/// What a heap doesn't have holds no rights.
+pub fn what_a_heap_lacks_holds_no_rights()
+    ensures { (s : HeapState) → OnlyNamedHold (content_of s) }
+{}
+
+/// A heap that is unchanged, but for room for payloads, has the same content, and stands for the same graph.
+pub fn an_unchanged_heap_has_the_same_content()
+    ensures same { (old new : HeapState) → IsUnchanged old new → IsSameContent (content_of old) (content_of new) }
+    ensures stands { (old new : HeapState) (g : ProtectionGraph) →
+        StandsFor (content_of old) g → IsUnchanged old new → StandsFor (content_of new) g }
 {}

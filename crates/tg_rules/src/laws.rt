@@ -36,7 +36,8 @@ pub fn decisions_on_a_content_are_its_graphs()
 {}
 
 /// A content that is changed as the rules say stands for the next graph: where a command is served, and where a vertex
-/// is made. Where a command is denied, or no more vertices may be made, it does where it stays as it is.
+/// is made. Where a command is denied, or no more vertices may be made, it does where it stays as it is. The next name
+/// is one that the content doesn't have.
 pub fn steps_on_a_content_are_its_graphs()
     ensures served { (c new : Content) (g : ProtectionGraph) (x : ℕ) (command : Command) →
         StandsFor c g → IsSubject g x → denial_of c.label x command ≡ None →
