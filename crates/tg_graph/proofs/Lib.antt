@@ -1,6 +1,7 @@
 pub mod StandingLaws
 pub mod Walks
 pub mod Finding
+pub mod Listing
 pub mod Members
 pub mod Places
 pub mod Layouts
@@ -12,3 +13,5 @@ pub mod Kept
 pub mod Fresh
 pub mod Written
 pub mod Linked
+pub mod Collected
+pub mod Reaching

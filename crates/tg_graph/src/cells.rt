@@ -1,9 +1,10 @@
 //! The graph in the cells: what one change writes.
-ghost use Rattle.std.specs.Prelude.{◌≡◌, ◌+◌, ◌*◌, ◌<◌, ◌≤◌, ◌⊎◌, false, slice_index, Err, IfOk, IfErr, IfSome, IsOk, OnOk, OnErr, length, Some};
+ghost use Rattle.std.specs.Prelude.{◌≡◌, ◌+◌, ◌*◌, ◌<◌, ◌≤◌, ◌⊎◌, ℕ, false, slice_index, Err, IfOk, IfErr, IfSome, IsOk, OnOk, OnErr, length, Some};
+ghost use Rattle.std.specs.List.{All};
 ghost use Rattle.tg_rights.specs.RightSet.{is_none_held};
 ghost use Rattle.tg_word.specs.Word.{place_in, rights_in};
 ghost use Rattle.tg_space.specs.SpaceList.{Holds, cell_at};
-ghost use Rattle.tg_model.specs.Graph.{with_rights, without_rights};
+ghost use Rattle.tg_model.specs.Graph.{listing_of, with_rights, without_rights};
 ghost use Rattle.tg_model.specs.Rules.{state_of, with_value, written_at};
 ghost use Rattle.tg_payload.specs.Table.{Payloads};
 ghost use Rattle.tg_block.specs.declared.CellKind.TheVariants.{Object};
@@ -68,6 +69,8 @@ impl<P: Payload> Cells<P> {
     pub(crate) fn row(&self, from: Place) -> Result<EdgeList, AllocError>
         requires graph { IsGraph self.now.spaces.spaces self.now.payloads }
         requires from { IsKindAt self.now.spaces.spaces Object from }
+        ensures { let content = content_in self.now.spaces.spaces self.now.payloads in
+            IfOk result (λ edges. (n : ℕ) → All (λ x. x < n) content.names → edges ≡ listing_of content.label n (name_at self.now.spaces.spaces from)) }
     {
         let mut edges = edges_of(self.alloc, &self.spaces, from)?;
         edges.sort_unstable_by_key(|edge| edge.0);
@@ -78,8 +81,10 @@ impl<P: Payload> Cells<P> {
     pub(crate) fn state(&self, at: Place) -> Result<Numbers, AllocError>
         requires graph { IsGraph self.now.spaces.spaces self.now.payloads }
         requires at { IsKindAt self.now.spaces.spaces Object at }
+        ensures { IfOk result (λ state. state ≡ state_of ((content_in self.now.spaces.spaces self.now.payloads).value (name_at self.now.spaces.spaces at))) }
     {
-        self.payloads.read(self.spaces.read(at, KEY))
+        let cell = self.spaces.cell(at);
+        self.payloads.read(cell[KEY])
     }
 
     /// Writes a number to what an object stores. Where it is refused, nothing is changed.
@@ -87,8 +92,8 @@ impl<P: Payload> Cells<P> {
         requires graph { IsGraph self.old.spaces.spaces self.old.payloads }
         requires at { IsKindAt self.old.spaces.spaces Object at }
     {
-        let key = self.spaces.read(at, KEY);
-        self.payloads.write(key, number)
+        let cell = self.spaces.cell(at);
+        self.payloads.write(cell[KEY], number)
     }
 
     /// Gives one object rights over another. Growth comes first: where it is refused, nothing is changed.

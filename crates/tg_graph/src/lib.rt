@@ -5,6 +5,7 @@ mod cells;
 mod heap;
 pub mod laws;
 mod opening;
+mod references;
 mod rows;
 
 pub use heap::{Found, Heap, HeapRefused, VertexRefused};
