@@ -11,7 +11,7 @@ use tg_block::{CHUNK_TAG, OBJECT_TAG, WORDS};
 use tg_space::{Root, Spaces};
 use tg_word::{PRESENT_AT, Place, SPACES, place_of, rights_of};
 
-// Whether each cell has its layout, no chunk is linked to twice, and the roots are rows.
+/// Whether each cell has its layout, no chunk is linked to twice, and the roots are rows. `false` says nothing.
 pub fn are_sound(spaces: &Spaces, roots: &[Root]) -> bool
     ensures { IsTrue result → AreSound spaces.now.spaces roots.now }
 {
