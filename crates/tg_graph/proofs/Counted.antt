@@ -1,21 +1,19 @@
 -- A heap has as many payloads as objects.
-use Rattle.std.proofs.Common.{◌≡◌, ◌≢◌, ◌↔◌, ℕ, zero, suc, ◌<◌, ◌≤◌, ◌+◌, ◌⊎◌, ◌==◌, Bool, true, false, List, [], ◌∷◌, ◌++◌, length, get_or, map, Option, Some, None, IsSome, is_some, eqb, cond, ◌||◌, refl, sym, ap, subst, arith, ◌∙◌, inl, inr, ⊎_elim}
+use Rattle.std.proofs.Common.{◌≡◌, ℕ, zero, suc, ◌<◌, ◌≤◌, ◌+◌, ◌⊎◌, Bool, true, false, List, [], ◌∷◌, ◌++◌, length, get_or, map, Option, None, IsSome, is_some, eqb, cond, ◌||◌, refl, sym, ap, subst, arith, ◌∙◌, inl, inr, ⊎_elim}
 use Rattle.std.specs.List.{All, Contains, IsDistinct, count_by, filter, flat_map, list_any, range_with_len}
 use Rattle.std.proofs.lemmas.Bool.{cases_Bool, cases_lt, eqb-true, eq-eqb}
 use Rattle.std.proofs.lemmas.Bool.Decides.{eqb_tells}
 use Rattle.std.proofs.lemmas.Cmp.{nat_eq_equiv}
 use Rattle.std.proofs.lemmas.List.{get_or_default, get_or_past, length-map}
-use Rattle.std.proofs.lemmas.List.Elements.{All-from_recursion, recursion_from_All, Contains-append_cases}
+use Rattle.std.proofs.lemmas.List.Elements.{recursion_from_All, Contains-append_cases}
 use Rattle.std.proofs.lemmas.List.FromFn.{fill_by_all, get_or-range_with_len, length-range_with_len}
 use Rattle.std.proofs.lemmas.List.Sums.{length-filter, sum_by-cons}
 use Rattle.std.proofs.lemmas.Map.Keys.{IsDistinct-cons}
 use Rattle.std.proofs.lemmas.Map.Made.{length-le_from_is_member}
-use Rattle.tg_model.proofs.PlainLaws.{is_subject, is_worker}
+use Rattle.tg_model.proofs.PlainLaws.{is_subject}
 use Rattle.tg_model.specs.declared.value.Value.{Value}
 use Rattle.tg_word.specs.declared.Place.{Place}
-use Rattle.tg_block.specs.declared.CellKind.TheVariants.{Object}
 use Rattle.tg_space.specs.SpaceList.{SpaceList, IsSpaceList, cell_at, space_of}
-use Rattle.tg_space.specs.Soundness.{IsKindAt}
 use Rattle.tg_payload.specs.Table.{Payloads, count, entry}
 use Rattle.tg_graph.specs.Rows.{is_object, key_at, name_at, objects_of, places_in, places_of}
 use Rattle.tg_graph.specs.Heap.{IsGraph}

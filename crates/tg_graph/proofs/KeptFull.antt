@@ -1,10 +1,10 @@
 -- A full collection keeps the cells that the roots reach.
-use Rattle.std.proofs.Common.{◌≡◌, ◌≢◌, ℕ, zero, suc, ◌<◌, ◌≤◌, ◌+◌, ◌⊎◌, ◌==◌, Bool, true, false, List, [], ◌∷◌, length, get_or, map, refl, sym, ap, subst, arith, ◌∙◌, inl, inr, ⊎_elim}
+use Rattle.std.proofs.Common.{◌≡◌, ◌≢◌, ℕ, zero, suc, ◌<◌, ◌⊎◌, ◌==◌, true, false, List, [], ◌∷◌, length, get_or, map, refl, sym, ap, subst, arith, ◌∙◌, inl, inr, ⊎_elim}
 use Rattle.std.specs.List.{All, Contains}
-use Rattle.std.proofs.lemmas.Bool.{cases_eq, cases_lt}
+use Rattle.std.proofs.lemmas.Bool.{cases_eq}
 use Rattle.std.proofs.lemmas.Bool.Decides.{eqb_tells}
 use Rattle.std.proofs.lemmas.List.Elements.{All-contains}
-use Rattle.tg_model.specs.Walks.{Walk, Walk-within, begins, goes}
+use Rattle.tg_model.specs.Walks.{Walk-within, goes}
 use Rattle.tg_word.specs.declared.Place.{Place}
 use Rattle.tg_word.specs.Word.{IsPlace, link_to, place_in}
 use Rattle.tg_word.proofs.Packing.{place_in-word_at, word_at-above_zero}
@@ -13,7 +13,7 @@ use Rattle.tg_block.specs.Cells.{cell_of, free_cell}
 use Rattle.tg_block.specs.declared.CellKind.TheVariants.{Object}
 use Rattle.tg_space.specs.SpaceList.{SpaceList, BlockList, IsSpaceList, Holds, space_of, cell_at, cells_of, flat_of}
 use Rattle.tg_space.specs.Closure.{IsInClosure}
-use Rattle.tg_space.specs.Targets.{every_space, target_in, named_by, targets_of, root_targets_of, all_root_targets, pointers_of, cell_numbered, image_of}
+use Rattle.tg_space.specs.Targets.{every_space, target_in, named_by, targets_of, root_targets_of, all_root_targets, pointers_of, image_of}
 use Rattle.tg_space.specs.Soundness.{AreSound, IsKindAt, IsPointer, NamesCell}
 use Rattle.tg_space.specs.Collection.{IsFullCollection, IsForwarded, IsNewPlace, new_cell, new_place}
 use Rattle.tg_space.specs.declared.spaces.Root.{Root}

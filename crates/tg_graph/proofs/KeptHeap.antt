@@ -1,16 +1,16 @@
 -- What a full collection leaves of a heap, and the payloads that it drops.
 use Rattle.std.proofs.Common.{◌≡◌, ◌≢◌, ◌↔◌, ℕ, zero, suc, ◌<◌, ◌≤◌, ◌+◌, ◌-◌, ◌⊎◌, List, [], ◌∷◌, length, get_or, replicate, map, Option, Some, None, IsSome, option_map, refl, sym, ap, subst, arith, ◌∙◌, inl, inr, ⊎_elim}
-use Rattle.std.specs.List.{All, slice_get}
+use Rattle.std.specs.List.{slice_get}
 use Rattle.std.proofs.lemmas.Bool.{cases_eq, cases_lt}
 use Rattle.std.proofs.lemmas.List.{length-map, length-replicate, get_or-replicate, get_or_past}
 use Rattle.std.proofs.lemmas.List.Elements.{All-map}
-use Rattle.std.proofs.lemmas.Option.{slice_get-map, slice_get-get_or, slice_get_within}
+use Rattle.std.proofs.lemmas.Option.{slice_get-map, slice_get_within}
 use Rattle.tg_model.specs.declared.value.Value.{Value}
 use Rattle.tg_model.specs.Walks.{begins}
 use Rattle.tg_word.specs.declared.Place.{Place}
 use Rattle.tg_block.specs.declared.CellKind.TheVariants.{Object}
-use Rattle.tg_space.specs.SpaceList.{SpaceList, BlockList, IsSpaceList, Holds, space_of, cell_at, cells_of, flat_of}
-use Rattle.tg_space.specs.SpaceTable.{SpaceTable, IsSpaceTable, with_only_old}
+use Rattle.tg_space.specs.SpaceList.{SpaceList, BlockList, IsSpaceList, space_of, cell_at, cells_of, flat_of}
+use Rattle.tg_space.specs.SpaceTable.{IsSpaceTable, with_only_old}
 use Rattle.tg_space.specs.Targets.{every_space, cell_numbered}
 use Rattle.tg_space.specs.declared.spaces.Root.TheVariants.{Row}
 use Rattle.tg_space.specs.Soundness.{AreSound, IsKindAt, IsRootIn}

@@ -1,19 +1,19 @@
 -- A full collection keeps exactly the vertices to which walks along edges lead from the workers.
-use Rattle.std.proofs.Common.{◌≡◌, ◌≢◌, ◌↔◌, ℕ, ◌<◌, ◌≤◌, ◌+◌, ◌-◌, ◌⊎◌, ◌++◌, Bool, true, false, List, [], ◌∷◌, length, get_or, take, drop, Option, Some, None, refl, sym, ap, subst, arith, ◌∙◌, inl, inr, ⊎_elim}
+use Rattle.std.proofs.Common.{◌≡◌, ◌≢◌, ◌↔◌, ℕ, ◌<◌, ◌≤◌, ◌+◌, ◌-◌, ◌⊎◌, ◌++◌, Bool, true, false, List, [], ◌∷◌, length, get_or, Option, Some, refl, sym, ap, subst, arith, ◌∙◌, inl, inr, ⊎_elim}
 use Rattle.std.specs.List.{All, Contains, slice_get}
 use Rattle.std.proofs.lemmas.Bool.{cases_Bool}
 use Rattle.std.proofs.lemmas.List.{get_or_default}
 use Rattle.std.proofs.lemmas.Option.{slice_get-get_or}
 use Rattle.std.proofs.lemmas.List.Elements.{All-contains, Contains-append_cases}
-use Rattle.tg_rights.specs.RightSet.{RightSet, is_none_held}
+use Rattle.tg_rights.specs.RightSet.{is_none_held}
 use Rattle.tg_model.specs.Graph.{HasEdge}
-use Rattle.tg_model.specs.Walks.{Walk, Walk-within, begins, goes}
+use Rattle.tg_model.specs.Walks.{Walk-within, begins, goes}
 use Rattle.tg_word.specs.declared.Place.{Place}
 use Rattle.tg_word.specs.Word.{place_in}
 use Rattle.tg_block.specs.declared.CellKind.TheVariants.{Object, Chunk}
 use Rattle.tg_space.specs.SpaceList.{SpaceList, BlockList, IsSpaceList, Holds, cell_at, cells_of, flat_of}
 use Rattle.tg_space.specs.Targets.{every_space, first_pointer, pointers_of, targets_of, all_root_targets}
-use Rattle.tg_space.specs.Soundness.{IsKindAt, IsReference, RefersTo, LinksTo, link_of}
+use Rattle.tg_space.specs.Soundness.{IsKindAt, IsReference, RefersTo, link_of}
 use Rattle.tg_space.specs.Collection.{IsFullCollection}
 use Rattle.tg_space.proofs.Flat.{same_place}
 use Rattle.tg_space.proofs.Pointing.{parts}
@@ -24,7 +24,7 @@ use Rattle.tg_graph.specs.Heap.{IsGraph, content_in, label_from}
 use Rattle.tg_graph.specs.Kept.{IsCopiedFrom}
 use Rattle.tg_graph.proofs.Members.{Contains-cases, Contains-here, Contains-more, Contains-none, Contains-flat_map, option_cases}
 use Rattle.tg_graph.proofs.Places.{cell_long}
-use Rattle.tg_graph.proofs.Layouts.{object_tagged, chunk_tagged, apart_kinds, references_at, link_some}
+use Rattle.tg_graph.proofs.Layouts.{object_tagged, chunk_tagged, apart_kinds, references_at}
 use Rattle.tg_graph.proofs.Lookups.{label_at, vertex_from_named}
 use Rattle.tg_graph.proofs.Slots.{IsOther, others_from_none}
 use Rattle.tg_graph.proofs.Chains.{chain_chunks, row_held, row_references}

@@ -7,7 +7,7 @@ ghost use Rattle.tg_model.specs.Graph.{listing_of, with_rights, without_rights};
 ghost use Rattle.tg_model.specs.Rules.{state_of, with_value, written_at};
 ghost use Rattle.tg_block.specs.declared.CellKind.TheVariants.{Object};
 ghost use Rattle.tg_space.specs.SpaceList.{Holds, cell_at, space_of};
-ghost use Rattle.tg_space.specs.SpaceTable.{IsFull, used_of};
+ghost use Rattle.tg_space.specs.SpaceTable.{IsFull, IsSpaceTable, used_of};
 ghost use Rattle.tg_space.specs.Soundness.{IsKindAt};
 ghost use Rattle.tg_nursery.specs.Allocation.{HasFewerLeft, HasLeft, room_made_for};
 ghost use Rattle.tg_graph.specs.Content.{IsNamed};
@@ -183,6 +183,7 @@ impl<P: Payload> Cells<P> {
         ensures payloads { self.new.payloads.entries ≡ self.old.payloads.entries }
         ensures spare { OnOk result (0 < self.new.payloads.spare) }
         ensures spaces { OnOk result (self.new.spaces ≡ room_made_for self.old.spaces (worker + 2) cells) }
+        ensures table { OnOk result (IsSpaceTable self.new.spaces) }
         ensures left { OnOk result (HasLeft self.new.spaces (worker + 2) cells) }
         ensures refused { OnErr result (self.new.spaces ≡ self.old.spaces) }
         ensures full { result ≡ Err AllocateFault.HeapFull → HasFewerLeft self.old.spaces (worker + 2) cells × IsFull self.old.spaces (worker + 2) }
@@ -197,6 +198,7 @@ impl<P: Payload> Cells<P> {
     pub(crate) fn place_vertex(&mut self, worker: u64, name: u64, draft: Draft<P>) -> Place
         requires few { worker < 64 }
         requires nursery { worker + 2 < length self.old.spaces.spaces }
+        requires table { IsSpaceTable self.old.spaces }
         requires graph { IsGraph self.old.spaces.spaces self.old.payloads }
         requires fresh { ¬ IsNamed (content_in self.old.spaces.spaces self.old.payloads) name }
         requires spare { 0 < self.old.payloads.spare }
@@ -205,6 +207,7 @@ impl<P: Payload> Cells<P> {
             ChangesTo self.old.spaces self.new.spaces self.new.payloads (λ x. IsNamed content x ⊎ (x ≡ name)) content.label (with_value content.value name draft) }
         ensures vertex { IsVertexAt self.new.spaces.spaces name result }
         ensures rows { KeepsRows self.old.spaces.spaces self.new.spaces.spaces }
+        ensures table { IsSpaceTable self.new.spaces }
         ensures used { self.new.spaces.used ≡ slice_set self.old.spaces.used (worker + 2) (used_of self.old.spaces (worker + 2) + 1) }
         ensures blocks { (space : ℕ) → length (space_of self.new.spaces.spaces space) ≡ length (space_of self.old.spaces.spaces space) }
         ensures spare_left { self.old.payloads.spare ≤ self.new.payloads.spare + 1 }

@@ -1,6 +1,7 @@
 //! What a collection leaves of a heap.
-ghost use Rattle.std.specs.Prelude.{◌≡◌, ◌≢◌, ◌<◌, IfOk, IsOk, IsSome, OnOk, OnErr, None, length, map, slice_index, slice_index_or};
+ghost use Rattle.std.specs.Prelude.{◌≡◌, ◌≢◌, ◌<◌, IfOk, IsOk, IsSome, OnOk, OnErr, None, length, map, slice_index};
 ghost use Rattle.std.specs.List.{All};
+ghost use Rattle.tg_block.specs.Cells.{object_tag};
 ghost use Rattle.tg_payload.specs.Table.{Updates, entry};
 ghost use Rattle.tg_space.specs.Collection.{IsFullCollection};
 ghost use Rattle.tg_space.specs.Soundness.{AreSound};
@@ -86,9 +87,9 @@ fn drop_uncopied<P: Payload>(spaces: &Spaces, payloads: &mut PayloadTable<P>, fo
 // Takes out and drops the payload of the cell with a number, if it is an object.
 fn drop_payload_of<P: Payload>(spaces: &Spaces, payloads: &mut PayloadTable<P>, number: u64)
     requires inside { number < length (cells_of spaces.now.spaces) }
-    requires there { slice_index (cell_numbered spaces.now.spaces number) 0 ≡ 1 → IsSome (entry payloads.old (slice_index (cell_numbered spaces.now.spaces number) 2)) }
-    ensures gone { slice_index (cell_numbered spaces.now.spaces number) 0 ≡ 1 → Updates payloads.old payloads.new (slice_index (cell_numbered spaces.now.spaces number) 2) None }
-    ensures none { slice_index (cell_numbered spaces.now.spaces number) 0 ≢ 1 → payloads.new ≡ payloads.old }
+    requires there { let words = cell_numbered spaces.now.spaces number in slice_index words 0 ≡ object_tag → IsSome (entry payloads.old (slice_index words 2)) }
+    ensures gone { let words = cell_numbered spaces.now.spaces number in slice_index words 0 ≡ object_tag → Updates payloads.old payloads.new (slice_index words 2) None }
+    ensures none { slice_index (cell_numbered spaces.now.spaces number) 0 ≢ object_tag → payloads.new ≡ payloads.old }
 {
     let cell = spaces.numbered_cell(number);
     if cell[0] == OBJECT_TAG {

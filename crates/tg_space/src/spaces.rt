@@ -272,6 +272,7 @@ impl Spaces {
     pub fn add_block(&mut self, space: u64) -> Result<(), AllocateFault>
         requires { space < length self.old.spaces }
         ensures added { OnOk result (self.new ≡ with_spaces self.old (with_block self.old.spaces space)) }
+        ensures table { OnOk result (IsSpaceTable self.new) }
         ensures refused { OnErr result (self.new ≡ self.old) }
         ensures full { (result ≡ Err AllocateFault.HeapFull) ↔ IsFull self.old space }
     {

@@ -1,7 +1,7 @@
 -- What was dropped of the cells before the loop's.
 use Rattle.std.proofs.Common.{◌≡◌, ◌<◌, ◌+◌, ℕ, length, subst, sym, arith}
 use Rattle.tg_payload.specs.Table.{Payloads}
-use Rattle.tg_space.specs.SpaceList.{IsSpaceList, cells_of}
+use Rattle.tg_space.specs.SpaceList.{cells_of}
 use Rattle.tg_space.proofs.Tables.{table_list}
 use Rattle.tg_graph.proofs.KeptHeap.{AreDroppedBelow, all_dropped, dropped_next, dropped_past, none_dropped, payload_numbered}
 use Rattle.tg_graph.proofs.settle.drop_uncopied.Goals.{then-forward-number-eq0, else-forward-number-eq0}

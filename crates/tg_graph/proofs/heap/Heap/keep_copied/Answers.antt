@@ -1,5 +1,5 @@
 -- The heap that is left is the settled one.
-use Rattle.std.proofs.Common.{◌≡◌, ℕ, List, length, map, sym, ap, subst, ◌∙◌}
+use Rattle.std.proofs.Common.{◌≡◌, List, length, map, sym, ap, subst, ◌∙◌}
 use Rattle.std.specs.List.{All}
 use Rattle.std.specs.Vec.{with_items}
 use Rattle.std.specs.declared.vec.Vec.{Vec}
@@ -8,7 +8,7 @@ use Rattle.tg_word.specs.declared.Place.{Place}
 use Rattle.tg_space.specs.SpaceList.{Holds}
 use Rattle.tg_graph.specs.Heap.{HeapState}
 use Rattle.tg_graph.specs.Kept.{copied_to}
-use Rattle.tg_graph.proofs.KeptHeap.{IsChangedTo, IsSettled, settled_as, workers_of}
+use Rattle.tg_graph.proofs.KeptHeap.{IsSettled, settled_as, workers_of}
 use Rattle.tg_graph.proofs.KeptReached.{worker_objects}
 use Rattle.tg_graph.proofs.heap.Heap.keep_copied.Given.{Over}
 use Rattle.tg_graph.proofs.heap.Heap.keep_copied.Goals.{After-unwrap}
