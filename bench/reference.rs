@@ -1,5 +1,6 @@
 //! The plain program that the store is measured against: the same scripts and replies, written in plain Rust with no
-//! proof in mind. A vertex is a struct with an ordered map of its edges. It has no collections.
+//! proof in mind. A vertex is a struct with an ordered map of its edges. A collection marks what is reached and empties
+//! the rest, and moves nothing.
 //!
 //! Build: rustc -O --edition 2021 reference.rs
 
@@ -237,6 +238,28 @@ impl Store {
             let _ = write!(out, "ok {name}");
         }
     }
+
+    /// Empties the vertices to which no walk along edges leads from a worker. Answers how many are left.
+    fn collect(&mut self) -> u64 {
+        let workers = self.options.workers;
+        let mut reached: Vec<bool> = (0..self.vertices.len() as u64).map(|x| x < workers).collect();
+        let mut unseen: Vec<u64> = (0..workers).collect();
+        let mut count = workers;
+        while let Some(x) = unseen.pop() {
+            for to in self.vertices[x as usize].edges.keys() {
+                if !std::mem::replace(&mut reached[*to as usize], true) {
+                    count += 1;
+                    unseen.push(*to);
+                }
+            }
+        }
+        for (vertex, kept) in self.vertices.iter_mut().zip(reached) {
+            if !kept {
+                *vertex = Vertex::new(Law::Cell);
+            }
+        }
+        count
+    }
 }
 
 fn main() -> io::Result<()> {
@@ -259,6 +282,9 @@ fn main() -> io::Result<()> {
         text.clear();
         let done = if words[0] == b"edge" && words.len() == 4 {
             edge(&mut store, &words[1..]).map(|()| false)
+        } else if words == [b"full"] {
+            let _ = write!(text, "ok {}", store.collect());
+            Some(true)
         } else {
             let x = number(words[0]).filter(|_| words.len() > 1);
             x.and_then(|x| store.run(&mut text, x, &words[1..])).map(|()| true)

@@ -34,7 +34,28 @@ def reads_and_writes():
     return ["--workers", "1", "--stock", "c2s2m2l2"], lines
 
 
-SCRIPTS = {"lists": lists, "creates": creates, "reads and writes": reads_and_writes}
+def takes():
+    """A row of 2,000 edges is built by grants, and then 63 workers take from it, as often as a script has room for."""
+    lines = [f"edge {k} 0 t" for k in range(1, 64)] + ["0 create tg"] + ["0 create r"] * 2_000
+    lines += [f"0 grant 64 {65 + i} r" for i in range(2_000)]
+    lines += [f"{k} take 0 64 t" for k in range(1, 64)]
+    lines += [f"{1 + i % 63} take 64 {65 + i * 7 % 2_000} r" for i in range(56_900)]
+    return ["--workers", "64", "--stock", "c2001"], lines
+
+
+def collections():
+    """A row of 20,000 vertices, and full collections with one new vertex between each two."""
+    lines = ["0 create r"] * 20_000 + ["full", "0 create r"] * 200
+    return ["--workers", "1", "--stock", "c20200"], lines
+
+
+SCRIPTS = {
+    "lists": lists,
+    "creates": creates,
+    "reads and writes": reads_and_writes,
+    "takes": takes,
+    "collections": collections,
+}
 
 
 def seconds(program, words, script, output):
