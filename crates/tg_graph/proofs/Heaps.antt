@@ -17,9 +17,9 @@ pub either_way : {T E A B C : Type 0} (r : Result T E) → OnOk r A → OnErr r 
 either_way (Ok x) done refused f g = f done
 either_way (Err e) done refused f g = g refused
 
-pub both_errors : {T E A B : Type 0} (r : Result T E) → OnErr r A → OnErr r B → OnErr r (A × B)
-both_errors (Ok x) one two = tt
-both_errors (Err e) one two = (one, two)
+pub both_errors : {T E : Type 0} (A B : Type 0) (r : Result T E) → OnErr r A → OnErr r B → OnErr r (A × B)
+both_errors A B (Ok x) one two = tt
+both_errors A B (Err e) one two = (one, two)
 
 -- the place of a worker is that of the vertex with its number
 pub worker_vertex : (s : HeapState) → IsWellFormed s → (x : ℕ) (p : Place) → x < length s.workers → p ≡ get_or s.workers x p → IsVertexAt s.table.spaces x p

@@ -24,7 +24,7 @@ invariant_of-self g c =
     let named = λ (x : ℕ). IsNamed content x ⊎ (x ≡ c.args.name) in
     let label = with_rights content.label (name_of s c.index-from.result.now) c.args.name c.rights.result in
     let values = with_value content.value c.args.name c.args.draft in
-    either_way c.new_vertex.result c.new_vertex.ensures.made (both_errors c.new_vertex.result c.new_vertex.ensures.spaces c.new_vertex.ensures.payloads)
+    either_way c.new_vertex.result c.new_vertex.ensures.made (both_errors (new.spaces ≡ s.table) (new.payloads.entries ≡ s.payloads.entries) c.new_vertex.result c.new_vertex.ensures.spaces c.new_vertex.ensures.payloads)
     (λ to. well_formed_after s new.spaces new.payloads named label values to c.self.invariant)
     (λ same. well_formed_roomy s new.spaces new.payloads c.self.invariant same.0 same.1)
 
