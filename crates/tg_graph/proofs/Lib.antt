@@ -17,3 +17,10 @@ pub mod Written
 pub mod Linked
 pub mod Collected
 pub mod Reaching
+pub mod KeptCells
+pub mod KeptRows
+pub mod KeptGraph
+pub mod KeptFull
+pub mod KeptReached
+pub mod KeptHeap
+pub mod Counted

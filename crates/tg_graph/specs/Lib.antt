@@ -4,3 +4,4 @@ pub mod Rows
 pub mod Heap
 pub mod Spots
 pub mod Steps
+pub mod Kept

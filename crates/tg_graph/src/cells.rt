@@ -28,7 +28,7 @@ use tg_space::Spaces;
 use tg_word::{Place, place_of, rights_of};
 
 /// The word of an object that is the key of its payload.
-const KEY: usize = 2;
+pub(crate) const KEY: usize = 2;
 
 /// The cells of all spaces, and what the objects among them store.
 #[derive(Drop)]

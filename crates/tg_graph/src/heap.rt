@@ -50,8 +50,8 @@ pub struct VertexRefused<P: Payload> {
 /// between them and their values. A vertex is named to most calls by the place of its object.
 #[derive(Drop)]
 pub struct Heap<P: Payload> {
-    cells: Cells<P>,
-    workers: Vec<Place>,
+    pub(crate) cells: Cells<P>,
+    pub(crate) workers: Vec<Place>,
 }
 
 impl<P: Payload> Model for Heap<P> {
@@ -110,6 +110,7 @@ impl<P: Payload> Heap<P> {
     pub fn vertices(&self) -> u64
         ensures { result ≡ length (content_of self.now).names }
     {
+        let _ = self.cells.spaces.blocks();
         self.cells.payloads.len()
     }
 

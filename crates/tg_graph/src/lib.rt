@@ -6,5 +6,6 @@ mod heap;
 mod opening;
 mod references;
 mod rows;
+mod settle;
 
 pub use heap::{Found, Heap, HeapRefused, VertexRefused};

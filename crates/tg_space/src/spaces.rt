@@ -295,6 +295,7 @@ impl Spaces {
         ensures adopted { OnOk result (self.new ≡ with_only_old self.old adoption.old) }
         ensures refused { OnErr result (self.new ≡ self.old) }
         ensures full { kind ≡ Kind.Full → IsOk result }
+        ensures table { OnOk result (IsSpaceTable self.new) }
     {
         match kind {
             Kind::Full => self.keep_only_old(adoption.old),
@@ -304,7 +305,8 @@ impl Spaces {
 
     // Old is these blocks, and every other space has none.
     fn keep_only_old(&mut self, old: Space)
-        ensures { self.new ≡ with_only_old self.old old }
+        ensures adopted { self.new ≡ with_only_old self.old old }
+        ensures table { IsSpaceTable self.new }
     {
         empty_all(self.alloc, &mut self.spaces);
         self.spaces[0] = old;
