@@ -29,7 +29,7 @@ pub(crate) fn read_edges<S: Source>(
     requires { script.old.opening ≡ true }
     ensures edges { IfOk result (λ front. All (JoinsWorkers script.old.workers) front.edges.items) }
     ensures first { IfOk result (λ front. IfSome front.first (λ line. IsCommand line × (script.new.opening ≡ false))) }
-    ensures bytes { (bytes : List ℕ) → S.left source.old ≡ Some bytes → ReadsEdges script.old bytes result script.new (S.left source.new) }
+    ensures bytes { (bytes : List ℕ) → S.left source.old ≡ Some bytes → (rest : List ℕ) × (S.left source.new ≡ Some rest) × ReadsEdges script.old bytes result script.new rest }
     ensures failures { S.failures source.new ≡ S.failures source.old + read_failures result }
     ensures unwritten { write_failures result ≡ 0 }
     ensures asked { S.asked source.new + script.new.lines.room ≤ S.asked source.old + script.old.lines.room + 1 }

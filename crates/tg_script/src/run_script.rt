@@ -50,7 +50,8 @@ pub fn run_script_one<S: Source, K: Sink>(
     requires values { HasValues settings.workers values.items }
     requires stock { All ValueFits stock.items }
     ensures output { let start : Start = record { workers = settings.workers; limit = settings.max_vertices; values = values.items; stock = stock.items } in
-        (bytes before : List ℕ) → S.left source.old ≡ Some bytes → K.taken sink.old ≡ Some before → Ran start bytes before result (K.taken sink.new) }
+        (bytes before : List ℕ) → S.left source.old ≡ Some bytes → K.taken sink.old ≡ Some before →
+        (left : List ℕ) × (S.left source.new ≡ Some left) × Ran start bytes before result left (K.taken sink.new) }
     ensures asked { S.asked source.new ≤ S.asked source.old + 1048577 }
     ensures read_failed { S.failures source.new ≡ S.failures source.old + read_failures result }
     ensures write_failed { result ≡ Err ScriptFault.WriteFailed → K.failures sink.old < K.failures sink.new }
@@ -79,7 +80,7 @@ pub fn run_in_memory(
     requires values { HasValues settings.workers values.items }
     requires stock { All ValueFits stock.items }
     ensures { let start : Start = record { workers = settings.workers; limit = settings.max_vertices; values = values.items; stock = stock.items } in
-        Ran start script.now [] result.outcome (Some result.written.items) }
+        (left : List ℕ) × Ran start script.now [] result.outcome left (Some result.written.items) }
 {
     let (asked, failures) = (Blank::new(1), Blank::new(1));
     run_counted::<Brand, Brand>(alloc, script, settings, values, stock, asked, failures)
@@ -101,7 +102,7 @@ fn run_counted<A: Ledger, F: Ledger>(
     requires asked { (asked.name ≡ A.name) × (asked.parts ≡ A.parts) × (0 < asked.parts) }
     requires failures { (failures.name ≡ F.name) × (failures.parts ≡ F.parts) × (0 < failures.parts) }
     ensures { let start : Start = record { workers = settings.workers; limit = settings.max_vertices; values = values.items; stock = stock.items } in
-        Ran start script.now [] result.outcome (Some result.written.items) }
+        (left : List ℕ) × Ran start script.now [] result.outcome left (Some result.written.items) }
 {
     let mut source = Bytes::new(script, Count::<A>::new(asked));
     let mut sink = Written::new(alloc, Count::<F>::new(failures));
@@ -139,7 +140,8 @@ fn run_lines<S: Source, K: Sink>(
     requires values { HasValues settings.workers values.items }
     requires stock { All ValueFits stock.items }
     ensures output { let start : Start = record { workers = settings.workers; limit = settings.max_vertices; values = values.items; stock = stock.items } in
-        (bytes before : List ℕ) → S.left source.old ≡ Some bytes → K.taken sink.old ≡ Some before → Ran start bytes before result (K.taken sink.new) }
+        (bytes before : List ℕ) → S.left source.old ≡ Some bytes → K.taken sink.old ≡ Some before →
+        (left : List ℕ) × (S.left source.new ≡ Some left) × Ran start bytes before result left (K.taken sink.new) }
     ensures asked { S.asked source.new ≤ S.asked source.old + 1048577 }
     ensures read_failed { S.failures source.new ≡ S.failures source.old + read_failures result }
     ensures write_failed { K.failures sink.new ≡ K.failures sink.old + write_failures result }
@@ -174,7 +176,7 @@ fn run_commands<S: Source, K: Sink>(
     requires fits { HasFittingStock run.old }
     requires opening { script.old.opening ≡ false }
     ensures written { (t : Option Scene) (rest before : List ℕ) → Shows run.old t → S.left source.old ≡ Some rest → K.taken sink.old ≡ Some before →
-        TellsAll script.old rest t first before result (K.taken sink.new) }
+        (left : List ℕ) × (S.left source.new ≡ Some left) × TellsAll script.old rest t first before result left (K.taken sink.new) }
     ensures asked { S.asked source.new ≤ S.asked source.old + script.old.lines.room + 1 }
     ensures read_failed { S.failures source.new ≡ S.failures source.old + read_failures result }
     ensures write_failed { K.failures sink.new ≡ K.failures sink.old + write_failures result }

@@ -22,7 +22,7 @@ returns-in_default-clause-written g c = λ t rest before shows left taken.
     let s = g.S.Source in
     let k = g.K.Sink in
     let w = c.in_default.ensures.line in
-    under_cut c.args.script.now rest t c.args.first before c.lines.script c.lines.run c.lines.line (s.left c.lines.source) (k.taken c.lines.sink) w.0 c.run_line.new.run (k.taken c.run_line.new.sink)
+    under_cut (Unit {0}) c.args.script.now rest t c.args.first before c.lines.script c.lines.run c.lines.line (s.left c.lines.source) (k.taken c.lines.sink) w.0 c.run_line.new.run (k.taken c.run_line.new.sink)
     (c.lines.invariant.under t rest before shows left taken) w.1 w.2.0
 
 pub returns-in_err-came-clause-written : goal.returns-in_err-came-clause-written
@@ -31,10 +31,15 @@ returns-in_err-came-clause-written g c = λ t rest before shows left taken.
     let k = g.K.Sink in
     let w = c.in-Ok.ensures.line in
     let p = err_from_is_err_and c.from_residual.result c.from_residual.ensures.1 in
-    rw (p.1, p.2)
-    (tells_fault (Unit {0}) c.in_err-came.field-0.0 c.args.script.now rest t c.args.first before (k.taken c.run_line.new.sink)
-    (under_end c.args.script.now rest t c.args.first before c.lines.script c.lines.run c.lines.line (s.left c.lines.source) (k.taken c.lines.sink) w.0 c.run_line.new.run (k.taken c.run_line.new.sink)
-    (Some c.in_err-came.field-0.0) (c.lines.invariant.under t rest before shows left taken) w.1 w.2.0 c.in_err-came.ensures.bytes))
+    let u = c.lines.invariant.under t rest before shows left taken in
+    let n = c.in_err-came.ensures.bytes u.rest u.leaves in
+    rw (p.1, p.2) (
+      n.0,
+      n.1,
+      tells_fault (Unit {0}) c.in_err-came.field-0.0 c.args.script.now rest t c.args.first before n.0 (k.taken c.run_line.new.sink) n.2.0
+          (under_end c.args.script.now rest t c.args.first before c.lines.script c.lines.run c.lines.line (s.left c.lines.source) (k.taken c.lines.sink) w.0 c.run_line.new.run (k.taken c.run_line.new.sink)
+          (Some c.in_err-came.field-0.0) n.0 u w.1 w.2.0 n.2.1),
+    )
 
 pub returns-in_err-came-clause-write_failed : goal.returns-in_err-came-clause-write_failed
 returns-in_err-came-clause-write_failed g c =
@@ -48,8 +53,13 @@ returns-in_default-came-clause-written g c = λ t rest before shows left taken.
     let k = g.K.Sink in
     let w = c.in-Ok.ensures.line in
     let ends = rw c.in_default-came.is at c.in_ok-came.ensures.bytes in
-    under_end c.args.script.now rest t c.args.first before c.lines.script c.lines.run c.lines.line (s.left c.lines.source) (k.taken c.lines.sink) w.0 c.run_line.new.run (k.taken c.run_line.new.sink)
-    None (c.lines.invariant.under t rest before shows left taken) w.1 w.2.0 ends
+    let u = c.lines.invariant.under t rest before shows left taken in
+    let n = ends u.rest u.leaves in (
+      n.0,
+      n.1,
+      under_end c.args.script.now rest t c.args.first before c.lines.script c.lines.run c.lines.line (s.left c.lines.source) (k.taken c.lines.sink) w.0 c.run_line.new.run (k.taken c.run_line.new.sink)
+          None n.0 u w.1 w.2.0 n.2,
+    )
 
 pub lines-preserved : goal.lines-preserved
 lines-preserved g c =
