@@ -36,6 +36,8 @@ mod stock;
 #[cfg(test)]
 mod stock_tests;
 mod stream;
+#[cfg(test)]
+mod stream_tests;
 mod supply;
 mod values;
 mod word;

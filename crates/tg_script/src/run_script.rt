@@ -1,5 +1,5 @@
 //! The run of a whole script.
-ghost use Rattle.std.specs.Prelude.{◌≡◌, ◌+◌, ◌<◌, ◌≤◌, ℕ, List, [], Option, Some, Err, false, OnOk};
+ghost use Rattle.std.specs.Prelude.{◌≡◌, ◌+◌, ◌<◌, ◌≤◌, ℕ, List, [], Option, Some, Err, true, false, OnOk};
 ghost use Rattle.std.specs.List.{All};
 ghost use Rattle.tg_model.specs.Opened.{HasValues, ValueFits};
 ghost use Rattle.tg_script.specs.Lines.{read_failures, write_failures};
@@ -56,6 +56,7 @@ pub fn run_script_one<S: Source, K: Sink>(
     ensures read_failed { S.failures source.new ≡ S.failures source.old + read_failures result }
     ensures write_failed { result ≡ Err ScriptFault.WriteFailed → K.failures sink.old < K.failures sink.new }
     ensures unfailed { OnOk result (K.failures sink.new ≡ K.failures sink.old) }
+    ensures finished { K.finished sink.new ≡ true }
 {
     let outcome = run_lines(alloc, source, sink, settings, values, stock);
     finish(sink, outcome)
@@ -107,7 +108,7 @@ fn run_counted<A: Ledger, F: Ledger>(
     let mut source = Bytes::new(script, Count::<A>::new(asked));
     let mut sink = Written::new(alloc, Count::<F>::new(failures));
     let outcome = run_script_one(alloc, &mut source, &mut sink, settings, values, stock);
-    let Written { bytes, failures: _ } = sink;
+    let Written { bytes, .. } = sink;
     InMemory {
         written: bytes,
         outcome,
@@ -116,7 +117,8 @@ fn run_counted<A: Ledger, F: Ledger>(
 
 // Finishes the sink. A fault that came before stands.
 fn finish<K: Sink>(sink: &mut K, outcome: Result<(), ScriptFault>) -> Result<(), ScriptFault>
-    ensures { Finishes (K.taken sink.old) (K.failures sink.old) outcome result (K.taken sink.new) (K.failures sink.new) }
+    ensures outcome { Finishes (K.taken sink.old) (K.failures sink.old) outcome result (K.taken sink.new) (K.failures sink.new) }
+    ensures finished { K.finished sink.new ≡ true }
 {
     if sink.finish() {
         return outcome;

@@ -97,10 +97,7 @@ fn run_counted<A: Ledger, B: Ledger, C: Ledger, R: Read + Drop, W: Write + Drop>
         asked: Count::<A>::new(asked),
         failures: Count::<B>::new(read_failures),
     };
-    let mut sink = OfWrite {
-        writer,
-        failures: Count::<C>::new(write_failures),
-    };
+    let mut sink = OfWrite::new(writer, Count::<C>::new(write_failures));
     let Start {
         settings,
         workers,

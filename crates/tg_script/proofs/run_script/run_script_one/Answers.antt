@@ -10,5 +10,5 @@ returns-clause-output g c = λ bytes before left taken.
       ran.0,
       ran.1,
       ran_finished c.run_lines-outcome.result c.finish.result start bytes before ran.0 (s.taken c.run_lines-outcome.new.sink) (s.taken c.finish.new.sink)
-          (s.failures c.run_lines-outcome.new.sink) (s.failures c.finish.new.sink) ran.2 c.finish.ensures,
+          (s.failures c.run_lines-outcome.new.sink) (s.failures c.finish.new.sink) ran.2 c.finish.ensures.outcome,
     )
