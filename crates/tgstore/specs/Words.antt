@@ -1,6 +1,6 @@
 -- What the words of the command line say. How they are taken apart is clap's matter: behind the program's name `--NAME` takes
 -- the next word, `--NAME=TEXT` takes the text, and no option comes twice.
-use Rattle.std.specs.Prelude.{◌≡◌, ℕ, List, [], Option, Some, None, codes, unwrap_or}
+use Rattle.std.specs.Prelude.{◌≡◌, ℕ, List, [], Option, Some, codes, unwrap_or}
 use Rattle.std.specs.Option.{option_map_or}
 use Rattle.std.specs.Str.Parse.{digits_value, without_leading_plus}
 use Rattle.clap.specs.Words.{App, Rule, first_of, matches_of, new_app, new_rule, one_of, with_rule}

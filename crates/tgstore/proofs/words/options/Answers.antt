@@ -1,5 +1,5 @@
 use Rattle.std.proofs.Common.{◌≡◌, ◌∙◌, ap, codes, map, refl, true}
-use Rattle.clap.specs.Words.{App, app_of, found_of, first_of, is_simple, matches_of, one_of}
+use Rattle.clap.specs.Words.{App, found_of, first_of, is_simple, matches_of, one_of}
 use Rattle.clap.specs.Walk.{rows_of}
 use Rattle.clap.proofs.OnLiterals.{clap_on_literals}
 use Rattle.clap.proofs.WalkLemmas.{first_value-rows, one_text-rows}
