@@ -30,7 +30,7 @@ told_none None = tt
 told_none (Some s) = (refl, refl)
 
 -- Where the run is: what it shows, what is left, what was written, and that whatever is told from here on is told from the start.
-pub record Under (start : Script) (bytes : List ℕ) (t : Option Scene) (first : Line) (before : List ℕ) (s : Script) (r : Run) (l : Line) (left taken : Option (List ℕ)) : Type 0 where
+pub record Under {P : Type 0} (start : Script) (bytes : List ℕ) (t : Option Scene) (first : Line) (before : List ℕ) (s : Script) (r : Run P) (l : Line) (left taken : Option (List ℕ)) : Type 0 where
   pub scene : Option Scene
   pub rest : List ℕ
   pub sofar : List ℕ
@@ -39,7 +39,7 @@ pub record Under (start : Script) (bytes : List ℕ) (t : Option Scene) (first :
   pub took : taken ≡ Some (before ++ sofar)
   pub goes_on : (lines : List Line) (wants : ℕ) (end : Option ScriptFault) (behind text : List ℕ) → ReadsFrom s rest lines end behind → IsAdmissible scene (l ∷ lines) wants text → IsTold start bytes t first end behind (sofar ++ text)
 
-pub under_first : (start : Script) (bytes : List ℕ) (t : Option Scene) (first : Line) (before : List ℕ) (r : Run) (left taken : Option (List ℕ)) → Shows r t → left ≡ Some bytes → taken ≡ Some before → Under start bytes t first before start r first left taken
+pub under_first : {P : Type 0} (start : Script) (bytes : List ℕ) (t : Option Scene) (first : Line) (before : List ℕ) (r : Run P) (left taken : Option (List ℕ)) → Shows r t → left ≡ Some bytes → taken ≡ Some before → Under start bytes t first before start r first left taken
 under_first start bytes t first before r left taken shows leaves took = record {
   scene = t;
   rest = bytes;
@@ -57,7 +57,7 @@ wrote_some_known : (taken after : Option (List ℕ)) (known bytes : List ℕ) �
 wrote_some_known taken after known bytes is w = let P : Option (List ℕ) → Type 0 = λ x. WroteSome x bytes after in subst P is w
 
 -- the answer is written, and nothing more is read
-pub under_end : (start : Script) (bytes : List ℕ) (t : Option Scene) (first : Line) (before : List ℕ) (s : Script) (r : Run) (l : Line) (left taken : Option (List ℕ)) (a : Answer) (r' : Run) (after : Option (List ℕ)) (end : Option ScriptFault) (behind : List ℕ) (h : Under start bytes t first before s r l left taken) → Handles r l a r' → Wrote taken (answer_text a) after → ReadsFrom s h.rest [] end behind → StandsTold start bytes t first before end behind after
+pub under_end : {P : Type 0} (start : Script) (bytes : List ℕ) (t : Option Scene) (first : Line) (before : List ℕ) (s : Script) (r : Run P) (l : Line) (left taken : Option (List ℕ)) (a : Answer) (r' : Run P) (after : Option (List ℕ)) (end : Option ScriptFault) (behind : List ℕ) (h : Under start bytes t first before s r l left taken) → Handles r l a r' → Wrote taken (answer_text a) after → ReadsFrom s h.rest [] end behind → StandsTold start bytes t first before end behind after
 under_end start bytes t first before s r l left taken a r' after end behind h handles wrote ends =
     let v = handles h.scene h.shows in
     let k = told_then h.scene v.0 l a [] 0 [] v.2 (told_none v.0) in
@@ -68,7 +68,7 @@ under_end start bytes t first before s r l left taken a r' after end behind h ha
     )
 
 -- the answer is cut short, and nothing more is read
-pub under_cut : (T : Type 0) (start : Script) (bytes : List ℕ) (t : Option Scene) (first : Line) (before : List ℕ) (s : Script) (r : Run) (l : Line) (left taken : Option (List ℕ)) (a : Answer) (r' : Run) (after : Option (List ℕ)) → Under start bytes t first before s r l left taken → Handles r l a r' → WroteSome taken (answer_text a) after → (rest : List ℕ) × (left ≡ Some rest) × TellsAll {T = T} start bytes t first before (Err fault.WriteFailed) rest after
+pub under_cut : (T : Type 0) {P : Type 0} (start : Script) (bytes : List ℕ) (t : Option Scene) (first : Line) (before : List ℕ) (s : Script) (r : Run P) (l : Line) (left taken : Option (List ℕ)) (a : Answer) (r' : Run P) (after : Option (List ℕ)) → Under start bytes t first before s r l left taken → Handles r l a r' → WroteSome taken (answer_text a) after → (rest : List ℕ) × (left ≡ Some rest) × TellsAll {T = T} start bytes t first before (Err fault.WriteFailed) rest after
 under_cut T start bytes t first before s r l left taken a r' after h handles wrote =
     let v = handles h.scene h.shows in
     let k = told_then h.scene v.0 l a [] 0 [] v.2 (told_none v.0) in
@@ -84,7 +84,7 @@ under_cut T start bytes t first before s r l left taken a r' after h handles wro
     )
 
 -- the answer is written, and a further line is read
-pub under_next : (start : Script) (bytes : List ℕ) (t : Option Scene) (first : Line) (before : List ℕ) (s : Script) (r : Run) (l : Line) (left taken : Option (List ℕ)) (a : Answer) (r' : Run) (after : Option (List ℕ)) (next : Line) (s' : Script) (left' : Option (List ℕ)) → Under start bytes t first before s r l left taken → Handles r l a r' → Wrote taken (answer_text a) after → ((rest : List ℕ) → left ≡ Some rest → (rest' : List ℕ) × (left' ≡ Some rest') × Passes s rest next s' rest') → Under start bytes t first before s' r' next left' after
+pub under_next : {P : Type 0} (start : Script) (bytes : List ℕ) (t : Option Scene) (first : Line) (before : List ℕ) (s : Script) (r : Run P) (l : Line) (left taken : Option (List ℕ)) (a : Answer) (r' : Run P) (after : Option (List ℕ)) (next : Line) (s' : Script) (left' : Option (List ℕ)) → Under start bytes t first before s r l left taken → Handles r l a r' → Wrote taken (answer_text a) after → ((rest : List ℕ) → left ≡ Some rest → (rest' : List ℕ) × (left' ≡ Some rest') × Passes s rest next s' rest') → Under start bytes t first before s' r' next left' after
 under_next start bytes t first before s r l left taken a r' after next s' left' h handles wrote came =
     let v = handles h.scene h.shows in
     let n = came h.rest h.leaves in

@@ -57,7 +57,7 @@ TellsAll s bytes t first before (Err fault.WriteFailed) left after =
 TellsAll s bytes t first before (Err f) left after = IsOfReading f × StandsTold s bytes t first before (Some f) left after
 
 -- the line was answered, and the answer was written or a front of it
-abbrev pub RunsLine : {T E : Type 0} → Run → Line → Run → Option (List ℕ) → ℕ → Result T E → Option (List ℕ) → ℕ → Type 0
+abbrev pub RunsLine : {P T E : Type 0} → Run P → Line → Run P → Option (List ℕ) → ℕ → Result T E → Option (List ℕ) → ℕ → Type 0
 RunsLine old l new before failures result after failures' =
     (a : Answer) × Handles old l a new × Writes before failures (answer_text a) result after failures'
 

@@ -1,13 +1,14 @@
 //! Runs between a reader and a writer of which one fails in mid-stream or takes a byte at a time.
 ghost use Rattle.std.specs.Prelude.{◌≡◌, ◌<◌};
 
-use crate::{Count, OfRead, OfWrite, ScriptFault, Settings, StockItem, run_script_one, values_of};
+use crate::{Count, OfRead, OfWrite, ScriptFault, Settings, drafts_of, run_script_one};
 use std::alloc::{AllocError, Global};
 use std::io;
 use std::io::{ErrorKind, Read, Write};
 use std::marker::Brand;
 use std::sync::ledger::{Blank, Ledger};
 use std::test::Fail;
+use tg_payload::CellPayload;
 
 const SCRIPT: &[u8] = b"0 create rw\n0 list\n";
 
@@ -82,10 +83,9 @@ fn run_counted<A: Ledger, B: Ledger, C: Ledger>(
         workers: 1,
         max_vertices: 1_000_000,
     };
-    let cell = [StockItem::Cell];
-    let values = values_of(alloc, cell.as_slice())?;
-    let stock = values_of(alloc, cell.as_slice())?;
-    let outcome = run_script_one(alloc, &mut source, &mut sink, settings, values, stock);
+    let workers = drafts_of(alloc, vec![in alloc; CellPayload::new(0)]?)?;
+    let stock = drafts_of(alloc, vec![in alloc; CellPayload::new(0)]?)?;
+    let outcome = run_script_one(alloc, &mut source, &mut sink, settings, workers, stock);
     let OfWrite { writer, .. } = sink;
     Ok((writer.taken, outcome))
 }

@@ -7,7 +7,7 @@ use Rattle.tg_script.proofs.run_script.run_lines.Goals as goal
 
 pub returns-in_err-front-clause-output : goal.returns-in_err-front-clause-output
 returns-in_err-front-clause-output g c = λ bytes before left taken.
-    let start : Start = record { workers = c.args.settings.workers; limit = c.args.settings.max_vertices; values = c.args.values.items; stock = c.args.stock.items } in
+    let start : Start = record { workers = c.args.settings.workers; limit = c.args.settings.max_vertices; values = c.args.workers.items; stock = c.args.stock.items } in
     let fresh : IsFresh c.new-script.result c.args.settings.workers = record { workers = c.new-script.ensures.workers; room = c.new-script.ensures.room; count = c.new-script.ensures.count; opening = c.new-script.ensures.opening } in
     let p = err_from_is_err_and c.from_residual.result c.from_residual.ensures.1 in
     let n = c.in_err-front.ensures.bytes bytes left in
@@ -16,8 +16,8 @@ returns-in_err-front-clause-output g c = λ bytes before left taken.
 
 pub returns-in_err-store-clause-output : goal.returns-in_err-store-clause-output
 returns-in_err-store-clause-output g c = λ bytes before left taken.
-    let start : Start = record { workers = c.args.settings.workers; limit = c.args.settings.max_vertices; values = c.args.values.items; stock = c.args.stock.items } in
-    let plan : Plan = record { workers = c.args.settings.workers; edges = c.in_ok-front.front.edges.items; values = c.args.values.items; limit = c.args.settings.max_vertices } in
+    let start : Start = record { workers = c.args.settings.workers; limit = c.args.settings.max_vertices; values = c.args.workers.items; stock = c.args.stock.items } in
+    let plan : Plan = record { workers = c.args.settings.workers; edges = c.in_ok-front.front.edges.items; values = c.args.workers.items; limit = c.args.settings.max_vertices } in
     let fresh : IsFresh c.new-script.result c.args.settings.workers = record { workers = c.new-script.ensures.workers; room = c.new-script.ensures.room; count = c.new-script.ensures.count; opening = c.new-script.ensures.opening } in
     let p = err_from_is_err_and c.from_residual-in_err-store.result c.from_residual-in_err-store.ensures.1 in
     let front = c.in_ok-front.front in
@@ -31,7 +31,7 @@ returns-in_err-store-clause-output g c = λ bytes before left taken.
 
 pub returns-in_default-clause-output : goal.returns-in_default-clause-output
 returns-in_default-clause-output g c = λ bytes before left taken.
-    let start : Start = record { workers = c.args.settings.workers; limit = c.args.settings.max_vertices; values = c.args.values.items; stock = c.args.stock.items } in
+    let start : Start = record { workers = c.args.settings.workers; limit = c.args.settings.max_vertices; values = c.args.workers.items; stock = c.args.stock.items } in
     let fresh : IsFresh c.new-script.result c.args.settings.workers = record { workers = c.new-script.ensures.workers; room = c.new-script.ensures.room; count = c.new-script.ensures.count; opening = c.new-script.ensures.opening } in
     let read = c.in_ok-front.ensures.bytes bytes left in
     let reads = rw c.in_default.is at read in
@@ -40,7 +40,7 @@ returns-in_default-clause-output g c = λ bytes before left taken.
 
 pub returns-clause-output : goal.returns-clause-output
 returns-clause-output g c = λ bytes before left taken.
-    let start : Start = record { workers = c.args.settings.workers; limit = c.args.settings.max_vertices; values = c.args.values.items; stock = c.args.stock.items } in
+    let start : Start = record { workers = c.args.settings.workers; limit = c.args.settings.max_vertices; values = c.args.workers.items; stock = c.args.stock.items } in
     let fresh : IsFresh c.new-script.result c.args.settings.workers = record { workers = c.new-script.ensures.workers; room = c.new-script.ensures.room; count = c.new-script.ensures.count; opening = c.new-script.ensures.opening } in
     let edges = c.in_ok-front.front.edges.items in
     let read = c.in_ok-front.ensures.bytes bytes left in
