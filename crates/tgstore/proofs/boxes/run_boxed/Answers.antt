@@ -1,4 +1,4 @@
-use Rattle.std.proofs.Common.{rules, refl, ap, ◌∙◌, ◌≡◌, ◌+◌, ◌++◌, ◌∷◌, [], take, ℕ}
+use Rattle.std.proofs.Common.{refl, ap, ◌∙◌, ◌≡◌, ◌++◌, ◌∷◌, [], take}
 use Rattle.tg_payload.specs.contracts.payload.BoxDynPayloadSendPayload.TheImpl.{value-value}
 use Rattle.tg_script.specs.declared.stock.StockItem.{StockItem}
 use Rattle.tg_script.specs.declared.stock.StockItem.TheVariants.{Cell, Sum, Max, Log}
