@@ -1,6 +1,6 @@
 -- The lines that are no edge lines, one after the other.
 use mathlib.Core.Bool.{false≢true}
-use Rattle.std.proofs.Common.{◌≡◌, inl, inr, ℕ, ◌+◌, ◌-◌, length, Bool, false, List, [], ◌∷◌, ◌++◌, Option, Some, None, Err, refl, sym, ap, ◌∙◌, subst, append_assoc, append-nil}
+use Rattle.std.proofs.Common.{◌≡◌, inl, inr, ℕ, ◌+◌, false, List, [], ◌∷◌, ◌++◌, Option, Some, None, Err, refl, sym, ap, ◌∙◌, subst, append_assoc, append-nil}
 use Rattle.tg_script.specs.declared.line.Line.{Line}
 use Rattle.tg_script.specs.declared.line.Line.TheVariants as line
 use Rattle.tg_script.specs.declared.answer.Answer.{Answer}
@@ -10,10 +10,8 @@ use Rattle.tg_script.specs.declared.script.Script.{Script}
 use Rattle.tg_script.specs.declared.run.Run.{Run}
 use Rattle.tg_script.specs.Texts.{answer_text}
 use Rattle.tg_script.specs.Sinks.{Wrote, WroteSome}
-use Rattle.tg_script.specs.Reading.{Reads, opening_after}
-use Rattle.tg_script.specs.Grammar.{line_text}
 use Rattle.tg_script.specs.Script.{Scene, IsAdmissible}
-use Rattle.tg_script.specs.Lines.{ReadsFrom, Passes, Follows}
+use Rattle.tg_script.specs.Lines.{ReadsFrom, Passes, Follows, IsOfReading}
 use Rattle.tg_script.specs.Opening.{IsCommand}
 use Rattle.tg_script.specs.Run.{Shows, Serves, Handles}
 use Rattle.tg_script.specs.Running.{IsTold, StandsTold, TellsAll}
@@ -32,16 +30,16 @@ told_none None = tt
 told_none (Some s) = (refl, refl)
 
 -- Where the run is: what it shows, what is left, what was written, and that whatever is told from here on is told from the start.
-pub record Under (start : Script) (bytes : List ℕ) (t : Option Scene) (first : Line) (before : List ℕ) (s : Script) (r : Run) (l : Line) (left taken : Option (List ℕ)) : Type 0 where
+pub record Under {P : Type 0} (start : Script) (bytes : List ℕ) (t : Option Scene) (first : Line) (before : List ℕ) (s : Script) (r : Run P) (l : Line) (left taken : Option (List ℕ)) : Type 0 where
   pub scene : Option Scene
   pub rest : List ℕ
   pub sofar : List ℕ
   pub shows : Shows r scene
   pub leaves : left ≡ Some rest
   pub took : taken ≡ Some (before ++ sofar)
-  pub goes_on : (lines : List Line) (wants : ℕ) (end : Option ScriptFault) (text : List ℕ) → ReadsFrom s rest lines end → IsAdmissible scene (l ∷ lines) wants text → IsTold start bytes t first end (sofar ++ text)
+  pub goes_on : (lines : List Line) (wants : ℕ) (end : Option ScriptFault) (behind text : List ℕ) → ReadsFrom s rest lines end behind → IsAdmissible scene (l ∷ lines) wants text → IsTold start bytes t first end behind (sofar ++ text)
 
-pub under_first : (start : Script) (bytes : List ℕ) (t : Option Scene) (first : Line) (before : List ℕ) (r : Run) (left taken : Option (List ℕ)) → Shows r t → left ≡ Some bytes → taken ≡ Some before → Under start bytes t first before start r first left taken
+pub under_first : {P : Type 0} (start : Script) (bytes : List ℕ) (t : Option Scene) (first : Line) (before : List ℕ) (r : Run P) (left taken : Option (List ℕ)) → Shows r t → left ≡ Some bytes → taken ≡ Some before → Under start bytes t first before start r first left taken
 under_first start bytes t first before r left taken shows leaves took = record {
   scene = t;
   rest = bytes;
@@ -49,7 +47,7 @@ under_first start bytes t first before r left taken shows leaves took = record {
   shows = shows;
   leaves = leaves;
   took = took ∙ ap Some (sym (append-nil before));
-  goes_on = λ lines wants end text reads admissible. (lines, wants, reads, admissible);
+  goes_on = λ lines wants end behind text reads admissible. (lines, wants, reads, admissible);
 }
 
 wrote_known : (taken after : Option (List ℕ)) (known bytes : List ℕ) → taken ≡ Some known → Wrote taken bytes after → after ≡ Some (known ++ bytes)
@@ -59,30 +57,34 @@ wrote_some_known : (taken after : Option (List ℕ)) (known bytes : List ℕ) �
 wrote_some_known taken after known bytes is w = let P : Option (List ℕ) → Type 0 = λ x. WroteSome x bytes after in subst P is w
 
 -- the answer is written, and nothing more is read
-pub under_end : (start : Script) (bytes : List ℕ) (t : Option Scene) (first : Line) (before : List ℕ) (s : Script) (r : Run) (l : Line) (left taken : Option (List ℕ)) (a : Answer) (r' : Run) (after : Option (List ℕ)) (end : Option ScriptFault) → Under start bytes t first before s r l left taken → Handles r l a r' → Wrote taken (answer_text a) after → ((rest : List ℕ) → left ≡ Some rest → ReadsFrom s rest [] end) → StandsTold start bytes t first before end after
-under_end start bytes t first before s r l left taken a r' after end h handles wrote ends =
+pub under_end : {P : Type 0} (start : Script) (bytes : List ℕ) (t : Option Scene) (first : Line) (before : List ℕ) (s : Script) (r : Run P) (l : Line) (left taken : Option (List ℕ)) (a : Answer) (r' : Run P) (after : Option (List ℕ)) (end : Option ScriptFault) (behind : List ℕ) (h : Under start bytes t first before s r l left taken) → Handles r l a r' → Wrote taken (answer_text a) after → ReadsFrom s h.rest [] end behind → StandsTold start bytes t first before end behind after
+under_end start bytes t first before s r l left taken a r' after end behind h handles wrote ends =
     let v = handles h.scene h.shows in
     let k = told_then h.scene v.0 l a [] 0 [] v.2 (told_none v.0) in
-    let P : List ℕ → Type 0 = λ x. IsTold start bytes t first end (h.sofar ++ x) in (
+    let P : List ℕ → Type 0 = λ x. IsTold start bytes t first end behind (h.sofar ++ x) in (
       h.sofar ++ answer_text a,
       wrote_known taken after (before ++ h.sofar) (answer_text a) h.took wrote ∙ ap Some (append_assoc before h.sofar (answer_text a)),
-      subst P (append-nil (answer_text a)) (h.goes_on [] k.0 end (answer_text a ++ []) (ends h.rest h.leaves) k.1),
+      subst P (append-nil (answer_text a)) (h.goes_on [] k.0 end behind (answer_text a ++ []) ends k.1),
     )
 
--- the answer is cut short
-pub under_cut : (start : Script) (bytes : List ℕ) (t : Option Scene) (first : Line) (before : List ℕ) (s : Script) (r : Run) (l : Line) (left taken : Option (List ℕ)) (a : Answer) (r' : Run) (after : Option (List ℕ)) → Under start bytes t first before s r l left taken → Handles r l a r' → WroteSome taken (answer_text a) after → (text : List ℕ) × IsTold start bytes t first (Some fault.ReadFailed) text × WroteSome (Some before) text after
-under_cut start bytes t first before s r l left taken a r' after h handles wrote =
+-- the answer is cut short, and nothing more is read
+pub under_cut : (T : Type 0) {P : Type 0} (start : Script) (bytes : List ℕ) (t : Option Scene) (first : Line) (before : List ℕ) (s : Script) (r : Run P) (l : Line) (left taken : Option (List ℕ)) (a : Answer) (r' : Run P) (after : Option (List ℕ)) → Under start bytes t first before s r l left taken → Handles r l a r' → WroteSome taken (answer_text a) after → (rest : List ℕ) × (left ≡ Some rest) × TellsAll {T = T} start bytes t first before (Err fault.WriteFailed) rest after
+under_cut T start bytes t first before s r l left taken a r' after h handles wrote =
     let v = handles h.scene h.shows in
     let k = told_then h.scene v.0 l a [] 0 [] v.2 (told_none v.0) in
     let w = wrote_some_known taken after (before ++ h.sofar) (answer_text a) h.took wrote in
-    let P : List ℕ → Type 0 = λ x. IsTold start bytes t first (Some fault.ReadFailed) (h.sofar ++ x) in (
-      h.sofar ++ answer_text a,
-      subst P (append-nil (answer_text a)) (h.goes_on [] k.0 (Some fault.ReadFailed) (answer_text a ++ []) tt k.1),
-      (h.sofar ++ w.0, w.1, ap (λ x. h.sofar ++ x) w.2 ∙ sym (append_assoc h.sofar w.0 w.1), w.3 ∙ ap Some (append_assoc before h.sofar w.0)),
+    let P : List ℕ → Type 0 = λ x. IsTold start bytes t first (Some fault.WriteFailed) h.rest (h.sofar ++ x) in (
+      h.rest,
+      h.leaves,
+      (
+        h.sofar ++ answer_text a,
+        subst P (append-nil (answer_text a)) (h.goes_on [] k.0 (Some fault.WriteFailed) h.rest (answer_text a ++ []) refl k.1),
+        (h.sofar ++ w.0, w.1, ap (λ x. h.sofar ++ x) w.2 ∙ sym (append_assoc h.sofar w.0 w.1), w.3 ∙ ap Some (append_assoc before h.sofar w.0)),
+      ),
     )
 
 -- the answer is written, and a further line is read
-pub under_next : (start : Script) (bytes : List ℕ) (t : Option Scene) (first : Line) (before : List ℕ) (s : Script) (r : Run) (l : Line) (left taken : Option (List ℕ)) (a : Answer) (r' : Run) (after : Option (List ℕ)) (next : Line) (s' : Script) (left' : Option (List ℕ)) → Under start bytes t first before s r l left taken → Handles r l a r' → Wrote taken (answer_text a) after → ((rest : List ℕ) → left ≡ Some rest → (rest' : List ℕ) × (left' ≡ Some rest') × Passes s rest next s' rest') → Under start bytes t first before s' r' next left' after
+pub under_next : {P : Type 0} (start : Script) (bytes : List ℕ) (t : Option Scene) (first : Line) (before : List ℕ) (s : Script) (r : Run P) (l : Line) (left taken : Option (List ℕ)) (a : Answer) (r' : Run P) (after : Option (List ℕ)) (next : Line) (s' : Script) (left' : Option (List ℕ)) → Under start bytes t first before s r l left taken → Handles r l a r' → Wrote taken (answer_text a) after → ((rest : List ℕ) → left ≡ Some rest → (rest' : List ℕ) × (left' ≡ Some rest') × Passes s rest next s' rest') → Under start bytes t first before s' r' next left' after
 under_next start bytes t first before s r l left taken a r' after next s' left' h handles wrote came =
     let v = handles h.scene h.shows in
     let n = came h.rest h.leaves in
@@ -93,41 +95,23 @@ under_next start bytes t first before s r l left taken a r' after next s' left' 
       shows = v.1;
       leaves = n.1;
       took = wrote_known taken after (before ++ h.sofar) (answer_text a) h.took wrote ∙ ap Some (append_assoc before h.sofar (answer_text a));
-      goes_on = λ lines wants end text reads admissible.
+      goes_on = λ lines wants end behind text reads admissible.
           let k = told_then h.scene v.0 l a (next ∷ lines) wants text v.2 admissible in
-          subst (λ x. IsTold start bytes t first end x) (sym (append_assoc h.sofar (answer_text a) text))
-          (h.goes_on (next ∷ lines) k.0 end (answer_text a ++ text) (n.2 lines end reads) k.1);
+          subst (λ x. IsTold start bytes t first end behind x) (sym (append_assoc h.sofar (answer_text a) text))
+          (h.goes_on (next ∷ lines) k.0 end behind (answer_text a ++ text) (n.2 lines end behind reads) k.1);
     }
 
 -- ---- faults
 
--- reading doesn't end by these faults
-reads_not : (f : ScriptFault) → ((workers room count : ℕ) (opening : Bool) (bytes : List ℕ) → Reads workers room count opening bytes [] (Some f) → ⊥) → (lines : List Line) (workers room count : ℕ) (opening : Bool) (bytes : List ℕ) → Reads workers room count opening bytes lines (Some f) → ⊥
-reads_not f never [] workers room count opening bytes h = never workers room count opening bytes h
-reads_not f never (l ∷ lines) workers room count opening bytes h =
-    reads_not f never lines workers (room - (length (line_text l) + 1)) (count + 1) (opening_after opening l) h.0 h.5
-
-pub no_write_failed : (lines : List Line) (workers room count : ℕ) (opening : Bool) (bytes : List ℕ) → Reads workers room count opening bytes lines (Some fault.WriteFailed) → ⊥
-no_write_failed = reads_not fault.WriteFailed (λ workers room count opening bytes h. h)
-
-pub no_out_of_memory : (lines : List Line) (workers room count : ℕ) (opening : Bool) (bytes : List ℕ) → Reads workers room count opening bytes lines (Some fault.OutOfMemory) → ⊥
-no_out_of_memory = reads_not fault.OutOfMemory (λ workers room count opening bytes h. h)
-
-pub no_heap_full : (lines : List Line) (workers room count : ℕ) (opening : Bool) (bytes : List ℕ) → Reads workers room count opening bytes lines (Some fault.HeapFull) → ⊥
-no_heap_full = reads_not fault.HeapFull (λ workers room count opening bytes h. h)
-
-pub no_bad_limits : (lines : List Line) (workers room count : ℕ) (opening : Bool) (bytes : List ℕ) → Reads workers room count opening bytes lines (Some fault.BadLimits) → ⊥
-no_bad_limits = reads_not fault.BadLimits (λ workers room count opening bytes h. h)
-
-pub tells_fault : (T : Type 0) (f : ScriptFault) (s : Script) (bytes : List ℕ) (t : Option Scene) (first : Line) (before : List ℕ) (after : Option (List ℕ)) → StandsTold s bytes t first before (Some f) after → TellsAll {T = T} s bytes t first before (Err f) after
-tells_fault T fault.ReadFailed s bytes t first before after h = h
-tells_fault T fault.InputTooLong s bytes t first before after h = h
-tells_fault T (fault.LineTooLong n) s bytes t first before after h = h
-tells_fault T (fault.BadLine n) s bytes t first before after h = h
-tells_fault T fault.WriteFailed s bytes t first before after h = absurd (no_write_failed h.2.0 s.workers s.lines.room s.count s.opening bytes h.2.2)
-tells_fault T fault.OutOfMemory s bytes t first before after h = h
-tells_fault T fault.HeapFull s bytes t first before after h = h
-tells_fault T fault.BadLimits s bytes t first before after h = h
+pub tells_fault : (T : Type 0) (f : ScriptFault) (s : Script) (bytes : List ℕ) (t : Option Scene) (first : Line) (before left : List ℕ) (after : Option (List ℕ)) → IsOfReading f → StandsTold s bytes t first before (Some f) left after → TellsAll {T = T} s bytes t first before (Err f) left after
+tells_fault T fault.ReadFailed s bytes t first before left after r h = (r, h)
+tells_fault T fault.InputTooLong s bytes t first before left after r h = (r, h)
+tells_fault T (fault.LineTooLong n) s bytes t first before left after r h = (r, h)
+tells_fault T (fault.BadLine n) s bytes t first before left after r h = (r, h)
+tells_fault T fault.WriteFailed s bytes t first before left after r h = absurd r
+tells_fault T fault.OutOfMemory s bytes t first before left after r h = absurd r
+tells_fault T fault.HeapFull s bytes t first before left after r h = absurd r
+tells_fault T fault.BadLimits s bytes t first before left after r h = absurd r
 
 -- a line that came behind another that is no edge line is no edge line
 pub next_command : (s : Script) (l : Line) (t : Script) → s.opening ≡ false → Follows s l t → IsCommand l × (t.opening ≡ false)

@@ -15,8 +15,8 @@ use Rattle.tg_model.specs.declared.value.Value.{Value}
 use Rattle.tg_model.specs.declared.opening.OpeningFault.{OpeningFault}
 use Rattle.tg_model.specs.declared.opening.OpeningFault.TheVariants.{BadWorkers, BadLimits, BadEdge, BadValues}
 use Rattle.tg_model.specs.Opened.{Plan, JoinsWorkers, ValueFits, HasWorkers, HasLimits, HasValues, IsFirstWithout, IsValuesFault, IsFaultOf}
-use Rattle.tg_script.specs.Lines.{ReadsFrom, Passes, Behind, Follows}
-use Rattle.tg_script.specs.Opening.{edge_lines, ReadsEdges, IsCommand}
+use Rattle.tg_script.specs.Lines.{ReadsFrom, Passes, Behind, Follows, IsOfReading}
+use Rattle.tg_script.specs.Opening.{edge_lines, ReadsEdges, IsOfEdges, IsCommand}
 use Rattle.tg_script.proofs.LinesLaws.{behind_more}
 
 edge_lines-push : (edges : List Edge) (edge : Edge) → edge_lines (edges ++ edge ∷ []) ≡ edge_lines edges ++ line.Edge edge ∷ []
@@ -24,23 +24,32 @@ edge_lines-push [] edge = refl
 edge_lines-push (e ∷ edges) edge = ap (λ x. line.Edge e ∷ x) (edge_lines-push edges edge)
 
 -- nothing more comes
-pub behind_all : (s t : Script) (bytes rest : List ℕ) (front : List Line) (end : Option ScriptFault) → Behind s bytes front t rest → ReadsFrom t rest [] end → ReadsFrom s bytes front end
-behind_all s t bytes rest front end b h = subst (λ x. ReadsFrom s bytes x end) (append-nil front) (b [] end h)
+pub behind_all : (s t : Script) (bytes rest : List ℕ) (front : List Line) (end : Option ScriptFault) (left : List ℕ) → Behind s bytes front t rest → ReadsFrom t rest [] end left → ReadsFrom s bytes front end left
+behind_all s t bytes rest front end left b h = subst (λ x. ReadsFrom s bytes x end left) (append-nil front) (b [] end left h)
 
 pub edges_more : (s t u : Script) (bytes rest after : List ℕ) (edges more : List Edge) (edge : Edge) → more ≡ edges ++ edge ∷ [] → Behind s bytes (edge_lines edges) t rest → Passes t rest (line.Edge edge) u after → Behind s bytes (edge_lines more) u after
 edges_more s t u bytes rest after edges more edge same b p =
     let P : List Line → Type 0 = λ x. Behind s bytes x u after in
     subst P (sym (edge_lines-push edges edge) ∙ ap edge_lines (sym same)) (behind_more s t u bytes rest after (edge_lines edges) (line.Edge edge) b p)
 
-pub edges_fault : (s t u : Script) (bytes rest : List ℕ) (edges : List Edge) (f : ScriptFault) (after : Option (List ℕ)) → Behind s bytes (edge_lines edges) t rest → ReadsFrom t rest [] (Some f) → ReadsEdges s bytes (Err f) u after
-edges_fault s t u bytes rest edges fault.ReadFailed after b h = (edges, behind_all s t bytes rest (edge_lines edges) (Some fault.ReadFailed) b h)
-edges_fault s t u bytes rest edges fault.InputTooLong after b h = (edges, behind_all s t bytes rest (edge_lines edges) (Some fault.InputTooLong) b h)
-edges_fault s t u bytes rest edges (fault.LineTooLong n) after b h = (edges, behind_all s t bytes rest (edge_lines edges) (Some (fault.LineTooLong n)) b h)
-edges_fault s t u bytes rest edges (fault.BadLine n) after b h = (edges, behind_all s t bytes rest (edge_lines edges) (Some (fault.BadLine n)) b h)
-edges_fault s t u bytes rest edges fault.WriteFailed after b h = (edges, behind_all s t bytes rest (edge_lines edges) (Some fault.WriteFailed) b h)
-edges_fault s t u bytes rest edges fault.OutOfMemory after b h = tt
-edges_fault s t u bytes rest edges fault.HeapFull after b h = (edges, behind_all s t bytes rest (edge_lines edges) (Some fault.HeapFull) b h)
-edges_fault s t u bytes rest edges fault.BadLimits after b h = (edges, behind_all s t bytes rest (edge_lines edges) (Some fault.BadLimits) b h)
+of_edges : (f : ScriptFault) → IsOfReading f → IsOfEdges f
+of_edges fault.ReadFailed h = h
+of_edges fault.InputTooLong h = h
+of_edges (fault.LineTooLong n) h = h
+of_edges (fault.BadLine n) h = h
+of_edges fault.WriteFailed h = h
+of_edges fault.OutOfMemory h = tt
+of_edges fault.HeapFull h = h
+of_edges fault.BadLimits h = h
+
+pub edges_fault : (s t u : Script) (bytes rest : List ℕ) (edges : List Edge) (f : ScriptFault) (left : List ℕ) → Behind s bytes (edge_lines edges) t rest → IsOfReading f → ReadsFrom t rest [] (Some f) left → ReadsEdges s bytes (Err f) u left
+edges_fault s t u bytes rest edges f left b of_reading h = (of_edges f of_reading, edges, behind_all s t bytes rest (edge_lines edges) (Some f) left b h)
+
+-- there was no memory for an edge
+pub edges_unkept : (s t u v : Script) (bytes rest after : List ℕ) (edges : List Edge) (edge : Edge) → Behind s bytes (edge_lines edges) t rest → Passes t rest (line.Edge edge) u after → ReadsEdges s bytes (Err fault.OutOfMemory) v after
+edges_unkept s t u v bytes rest after edges edge b p =
+    let more = edges ++ edge ∷ [] in
+    (tt, more, behind_all s u bytes after (edge_lines more) (Some fault.OutOfMemory) after (edges_more s t u bytes rest after edges more edge refl b p) refl)
 
 -- ---- one more line
 

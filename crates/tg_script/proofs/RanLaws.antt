@@ -1,7 +1,7 @@
 -- What was written for the whole of a script.
 use mathlib.Core.Bool.{false≢true}
-use Rattle.std.specs.Prelude.{IsOk}
-use Rattle.std.proofs.Common.{◌≡◌, inl, inr, ℕ, Bool, true, List, [], ◌∷◌, ◌++◌, Option, Some, None, Result, Ok, Err, refl, sym, ap, ◌∙◌, subst, arith, append_assoc, append-nil}
+use Rattle.std.specs.Prelude.{IsOk, IfSome}
+use Rattle.std.proofs.Common.{◌≡◌, inl, inr, ℕ, ◌≤◌, Bool, true, false, List, [], ◌∷◌, ◌++◌, length, Option, Some, None, Result, Ok, Err, refl, sym, ap, ◌∙◌, subst, arith, append_assoc, append-nil}
 use Rattle.tg_model.specs.declared.edge.Edge.{Edge}
 use Rattle.tg_model.specs.Opened.{Plan, start_of}
 use Rattle.tg_script.specs.declared.line.Line.{Line}
@@ -13,10 +13,10 @@ use Rattle.tg_script.specs.Sinks.{Keeps}
 use Rattle.tg_script.specs.Reading.{Reads, ReadsScript}
 use Rattle.tg_script.specs.Script.{Scene, IsAdmissible, Start, edges_of, commands_of, scene_of, IsScriptOutput}
 use Rattle.tg_script.specs.Lines.{ReadsFrom, Behind}
-use Rattle.tg_script.specs.Opening.{IsCommand, edge_lines, ReadsEdges, Opens}
-use Rattle.tg_script.specs.Running.{HasRoom, IsWritten, Ran, IsTold, StandsTold, TellsAll, Finishes}
-use Rattle.tg_script.proofs.LinesLaws.{reads_front}
-use Rattle.tg_script.proofs.CommandLaws.{no_write_failed, no_out_of_memory, no_heap_full, no_bad_limits}
+use Rattle.tg_script.specs.Opening.{IsCommand, edge_lines, ReadsFirst, ReadsEdges, Opens}
+use Rattle.tg_script.specs.Running.{HasRoom, IsWritten, IsUnopened, Ran, IsTold, StandsTold, TellsAll, Finishes}
+use Rattle.tg_script.proofs.LinesLaws.{MayStop, reads_stop}
+use Rattle.tg_script.proofs.OpeningLaws.{behind_all}
 
 -- a script of which no line was read, with so many workers
 pub record IsFresh (s : Script) (n : ℕ) : Type 0 where
@@ -25,12 +25,12 @@ pub record IsFresh (s : Script) (n : ℕ) : Type 0 where
   pub count : s.count ≡ 0
   pub opening : s.opening ≡ true
 
-fresh_reads : (s : Script) (workers : ℕ) (bytes : List ℕ) (lines : List Line) (end : Option ScriptFault) → IsFresh s workers → ReadsFrom s bytes lines end → ReadsScript workers bytes lines end
-fresh_reads s workers bytes lines end fresh h =
-    let A : ℕ → Type 0 = λ x. Reads x s.lines.room s.count s.opening bytes lines end in
-    let B : ℕ → Type 0 = λ x. Reads workers x s.count s.opening bytes lines end in
-    let C : ℕ → Type 0 = λ x. Reads workers 1048576 x s.opening bytes lines end in
-    let D : Bool → Type 0 = λ x. Reads workers 1048576 0 x bytes lines end in
+fresh_reads : (s : Script) (workers : ℕ) (bytes : List ℕ) (lines : List Line) (end : Option ScriptFault) (left : List ℕ) → IsFresh s workers → ReadsFrom s bytes lines end left → ReadsScript workers bytes lines end left
+fresh_reads s workers bytes lines end left fresh h =
+    let A : ℕ → Type 0 = λ x. Reads x s.lines.room s.count s.opening bytes lines end left in
+    let B : ℕ → Type 0 = λ x. Reads workers x s.count s.opening bytes lines end left in
+    let C : ℕ → Type 0 = λ x. Reads workers 1048576 x s.opening bytes lines end left in
+    let D : Bool → Type 0 = λ x. Reads workers 1048576 0 x bytes lines end left in
     subst D fresh.opening (subst C fresh.count (subst B fresh.room (subst A fresh.workers h)))
 
 -- ---- edge lines alone
@@ -39,41 +39,35 @@ commands_of-edges : (edges : List Edge) → commands_of (edge_lines edges) ≡ [
 commands_of-edges [] = refl
 commands_of-edges (e ∷ edges) = commands_of-edges edges
 
-edges_output : (start : Start) (s : Script) (bytes : List ℕ) (edges : List Edge) (end : Option ScriptFault) → IsFresh s start.workers → ReadsFrom s bytes (edge_lines edges) end → IsScriptOutput start bytes end []
-edges_output start s bytes edges end fresh h =
+edges_output : (start : Start) (s : Script) (bytes : List ℕ) (edges : List Edge) (end : Option ScriptFault) (left : List ℕ) → IsFresh s start.workers → ReadsFrom s bytes (edge_lines edges) end left → IsScriptOutput start bytes end left []
+edges_output start s bytes edges end left fresh h =
     let P : List Line → Type 0 = λ x. IsAdmissible (Some (scene_of start (edge_lines edges))) x 0 [] in
-    (edge_lines edges, 0, fresh_reads s start.workers bytes (edge_lines edges) end fresh h, subst P (sym (commands_of-edges edges)) (refl, refl))
+    (edge_lines edges, 0, fresh_reads s start.workers bytes (edge_lines edges) end left fresh h, subst P (sym (commands_of-edges edges)) (refl, refl))
 
-edges_written : (start : Start) (s : Script) (bytes before : List ℕ) (edges : List Edge) (end : Option ScriptFault) (after : Option (List ℕ)) → IsFresh s start.workers → ReadsFrom s bytes (edge_lines edges) end → after ≡ Some before → IsWritten start bytes before end after
-edges_written start s bytes before edges end after fresh h same =
-    ([], same ∙ ap Some (sym (append-nil before)), edges_output start s bytes edges end fresh h)
+edges_written : (start : Start) (s : Script) (bytes before : List ℕ) (edges : List Edge) (end : Option ScriptFault) (left : List ℕ) (after : Option (List ℕ)) → IsFresh s start.workers → ReadsFrom s bytes (edge_lines edges) end left → after ≡ Some before → IsWritten start bytes before end left after
+edges_written start s bytes before edges end left after fresh h same =
+    ([], same ∙ ap Some (sym (append-nil before)), edges_output start s bytes edges end left fresh h)
+
+-- nothing but edge lines was read
+edges_unopened : (start : Start) (s : Script) (bytes : List ℕ) (edges : List Edge) (f : ScriptFault) (left : List ℕ) → IsFresh s start.workers → ReadsFrom s bytes (edge_lines edges) (Some f) left → IsUnopened start bytes f left
+edges_unopened start s bytes edges f left fresh h =
+    let none = ap length (commands_of-edges edges) in
+    (edge_lines edges, fresh_reads s start.workers bytes (edge_lines edges) (Some f) left fresh h, omega (arith, none))
 
 -- the input ended behind the edge lines
-pub ran_edges : {T : Type 0} (done : T) (start : Start) (s : Script) (bytes before : List ℕ) (edges : List Edge) (after : Option (List ℕ)) → IsFresh s start.workers → HasRoom start → ReadsFrom s bytes (edge_lines edges) None → after ≡ Some before → Ran {T = T} start bytes before (Ok done) after
-ran_edges done start s bytes before edges after fresh room h same = (room, edges_written start s bytes before edges None after fresh h same)
+pub ran_edges : {T : Type 0} (done : T) (start : Start) (s : Script) (bytes before : List ℕ) (edges : List Edge) (left : List ℕ) (after : Option (List ℕ)) → IsFresh s start.workers → HasRoom start → ReadsFrom s bytes (edge_lines edges) None left → after ≡ Some before → Ran {T = T} start bytes before (Ok done) left after
+ran_edges done start s bytes before edges left after fresh room h same = (room, edges_written start s bytes before edges None left after fresh h same)
 
 -- a fault came behind the edge lines
-pub ran_edges_fault : (T : Type 0) (f : ScriptFault) (start : Start) (s t : Script) (bytes before : List ℕ) (left after : Option (List ℕ)) → IsFresh s start.workers → ReadsEdges s bytes (Err f) t left → after ≡ Some before → Ran {T = T} start bytes before (Err f) after
-ran_edges_fault T fault.ReadFailed start s t bytes before left after fresh h same = edges_written start s bytes before h.0 (Some fault.ReadFailed) after fresh h.1 same
-ran_edges_fault T fault.InputTooLong start s t bytes before left after fresh h same = edges_written start s bytes before h.0 (Some fault.InputTooLong) after fresh h.1 same
-ran_edges_fault T (fault.LineTooLong n) start s t bytes before left after fresh h same = edges_written start s bytes before h.0 (Some (fault.LineTooLong n)) after fresh h.1 same
-ran_edges_fault T (fault.BadLine n) start s t bytes before left after fresh h same = edges_written start s bytes before h.0 (Some (fault.BadLine n)) after fresh h.1 same
-ran_edges_fault T fault.WriteFailed start s t bytes before left after fresh h same = absurd (no_write_failed (edge_lines h.0) s.workers s.lines.room s.count s.opening bytes h.1)
-ran_edges_fault T fault.OutOfMemory start s t bytes before left after fresh h same = same
-ran_edges_fault T fault.HeapFull start s t bytes before left after fresh h same = absurd (no_heap_full (edge_lines h.0) s.workers s.lines.room s.count s.opening bytes h.1)
-ran_edges_fault T fault.BadLimits start s t bytes before left after fresh h same = absurd (no_bad_limits (edge_lines h.0) s.workers s.lines.room s.count s.opening bytes h.1)
-
--- the store was not opened
-pub ran_store_fault : (T : Type 0) (p : Plan) (f : ScriptFault) (start : Start) (bytes before : List ℕ) (after : Option (List ℕ)) → p.workers ≡ start.workers → p.limit ≡ start.limit → Opens p (Err f) → after ≡ Some before → Ran {T = T} start bytes before (Err f) after
-ran_store_fault T p fault.ReadFailed start bytes before after workers limit h same = absurd h
-ran_store_fault T p fault.InputTooLong start bytes before after workers limit h same = absurd h
-ran_store_fault T p (fault.LineTooLong n) start bytes before after workers limit h same = absurd h
-ran_store_fault T p (fault.BadLine n) start bytes before after workers limit h same = absurd h
-ran_store_fault T p fault.WriteFailed start bytes before after workers limit h same = absurd h
-ran_store_fault T p fault.OutOfMemory start bytes before after workers limit h same = same
-ran_store_fault T p fault.HeapFull start bytes before after workers limit h same = absurd h
-ran_store_fault T p fault.BadLimits start bytes before after workers limit h same =
-    ((λ room. h (omega (arith, room.0, limit), omega (arith, room.1, limit), omega (arith, room.2, workers, limit))), same)
+pub ran_edges_fault : (T : Type 0) (f : ScriptFault) (start : Start) (s t : Script) (bytes before left : List ℕ) (after : Option (List ℕ)) → IsFresh s start.workers → ReadsEdges s bytes (Err f) t left → after ≡ Some before → Ran {T = T} start bytes before (Err f) left after
+ran_edges_fault T fault.ReadFailed start s t bytes before left after fresh h same = edges_written start s bytes before h.1 (Some fault.ReadFailed) left after fresh h.2 same
+ran_edges_fault T fault.InputTooLong start s t bytes before left after fresh h same = edges_written start s bytes before h.1 (Some fault.InputTooLong) left after fresh h.2 same
+ran_edges_fault T (fault.LineTooLong n) start s t bytes before left after fresh h same = edges_written start s bytes before h.1 (Some (fault.LineTooLong n)) left after fresh h.2 same
+ran_edges_fault T (fault.BadLine n) start s t bytes before left after fresh h same = edges_written start s bytes before h.1 (Some (fault.BadLine n)) left after fresh h.2 same
+ran_edges_fault T fault.OutOfMemory start s t bytes before left after fresh h same = (edges_unopened start s bytes h.1 fault.OutOfMemory left fresh h.2, same)
+ran_edges_fault T fault.WriteFailed start s t bytes before left after fresh h same = absurd h.0
+ran_edges_fault T fault.HeapFull start s t bytes before left after fresh h same = absurd h.0
+ran_edges_fault T fault.BadLimits start s t bytes before left after fresh h same = absurd h.0
 
 -- ---- edge lines and others
 
@@ -93,6 +87,36 @@ commands_of-front [] line.Full lines command = refl
 commands_of-front [] line.Minor lines command = refl
 commands_of-front (e ∷ edges) l lines command = commands_of-front edges l lines command
 
+-- ---- the store is not opened
+
+pub first_command : (first : Option Line) (t : Script) → IfSome first (λ l. IsCommand l × (t.opening ≡ false)) → IfSome first IsCommand
+first_command None t h = tt
+first_command (Some l) t h = h.0
+
+one_command : (edges : List Edge) (l : Line) → IsCommand l → length (commands_of (edge_lines edges ++ l ∷ [])) ≤ 1
+one_command edges l command = let one = ap length (commands_of-front edges l [] command) in omega (arith, one)
+
+unopened : (start : Start) (s t : Script) (bytes rest : List ℕ) (edges : List Edge) (first : Option Line) (f : ScriptFault) → IsFresh s start.workers → IfSome first IsCommand → ReadsFirst s bytes edges first t rest → MayStop f → IsUnopened start bytes f rest
+unopened start s t bytes rest edges None f fresh command h stop =
+    edges_unopened start s bytes edges f rest fresh (reads_stop f stop (edge_lines edges) s.workers s.lines.room s.count s.opening bytes rest h)
+unopened start s t bytes rest edges (Some l) f fresh command h stop =
+    let lines = edge_lines edges ++ l ∷ [] in
+    (lines, fresh_reads s start.workers bytes lines (Some f) rest fresh (behind_all s t bytes rest lines (Some f) rest h (stop t.workers t.lines.room t.count t.opening rest)), one_command edges l command)
+
+pub ran_store_fault : (T : Type 0) (p : Plan) (f : ScriptFault) (start : Start) (s t : Script) (bytes before rest : List ℕ) (edges : List Edge) (first : Option Line) (after : Option (List ℕ)) → p.workers ≡ start.workers → p.limit ≡ start.limit → Opens p (Err f) → IsFresh s start.workers → IfSome first IsCommand → ReadsFirst s bytes edges first t rest → after ≡ Some before → Ran {T = T} start bytes before (Err f) rest after
+ran_store_fault T p fault.ReadFailed start s t bytes before rest edges first after workers limit h fresh command reads same = absurd h
+ran_store_fault T p fault.InputTooLong start s t bytes before rest edges first after workers limit h fresh command reads same = absurd h
+ran_store_fault T p (fault.LineTooLong n) start s t bytes before rest edges first after workers limit h fresh command reads same = absurd h
+ran_store_fault T p (fault.BadLine n) start s t bytes before rest edges first after workers limit h fresh command reads same = absurd h
+ran_store_fault T p fault.WriteFailed start s t bytes before rest edges first after workers limit h fresh command reads same = absurd h
+ran_store_fault T p fault.OutOfMemory start s t bytes before rest edges first after workers limit h fresh command reads same =
+    (unopened start s t bytes rest edges first fault.OutOfMemory fresh command reads (λ w r c o b. refl), same)
+ran_store_fault T p fault.HeapFull start s t bytes before rest edges first after workers limit h fresh command reads same = absurd h
+ran_store_fault T p fault.BadLimits start s t bytes before rest edges first after workers limit h fresh command reads same =
+    ((λ room. h (omega (arith, room.0, limit), omega (arith, room.1, limit), omega (arith, room.2, workers, limit))), unopened start s t bytes rest edges first fault.BadLimits fresh command reads (λ w r c o b. refl), same)
+
+-- ---- the store is opened
+
 -- the scene that these edges make
 abbrev pub scene_with : Start → List Edge → Scene
 scene_with start edges = record {
@@ -100,62 +124,66 @@ scene_with start edges = record {
   stock = start.stock;
 }
 
-told_output : (start : Start) (s t : Script) (bytes rest : List ℕ) (edges : List Edge) (l : Line) (end : Option ScriptFault) (text : List ℕ) → IsFresh s start.workers → IsCommand l → Behind s bytes (edge_lines edges ++ l ∷ []) t rest → IsTold t rest (Some (scene_with start edges)) l end text → IsScriptOutput start bytes end text
-told_output start s t bytes rest edges l end text fresh command behind h =
+told_output : (start : Start) (s t : Script) (bytes rest : List ℕ) (edges : List Edge) (l : Line) (end : Option ScriptFault) (left text : List ℕ) → IsFresh s start.workers → IsCommand l → Behind s bytes (edge_lines edges ++ l ∷ []) t rest → IsTold t rest (Some (scene_with start edges)) l end left text → IsScriptOutput start bytes end left text
+told_output start s t bytes rest edges l end left text fresh command behind h =
     let lines = edge_lines edges ++ l ∷ h.0 in
-    let P : List Line → Type 0 = λ x. ReadsFrom s bytes x end in
+    let P : List Line → Type 0 = λ x. ReadsFrom s bytes x end left in
     let Q : List Edge → Type 0 = λ x. IsAdmissible (Some (scene_with start x)) (commands_of lines) h.1 text in
     let R : List Line → Type 0 = λ x. IsAdmissible (Some (scene_with start edges)) x h.1 text in (
       lines,
       h.1,
-      fresh_reads s start.workers bytes lines end fresh (subst P (append_assoc (edge_lines edges) (l ∷ []) h.0) (behind h.0 end h.2)),
+      fresh_reads s start.workers bytes lines end left fresh (subst P (append_assoc (edge_lines edges) (l ∷ []) h.0) (behind h.0 end left h.2)),
       subst Q (sym (edges_of-front edges l h.0 command)) (subst R (sym (commands_of-front edges l h.0 command)) h.3),
     )
 
-told_written : (start : Start) (s t : Script) (bytes rest : List ℕ) (edges : List Edge) (l : Line) (before : List ℕ) (end : Option ScriptFault) (after : Option (List ℕ)) → IsFresh s start.workers → IsCommand l → Behind s bytes (edge_lines edges ++ l ∷ []) t rest → StandsTold t rest (Some (scene_with start edges)) l before end after → IsWritten start bytes before end after
-told_written start s t bytes rest edges l before end after fresh command behind h =
-    (h.0, h.1, told_output start s t bytes rest edges l end h.0 fresh command behind h.2)
+told_written : (start : Start) (s t : Script) (bytes rest : List ℕ) (edges : List Edge) (l : Line) (before : List ℕ) (end : Option ScriptFault) (left : List ℕ) (after : Option (List ℕ)) → IsFresh s start.workers → IsCommand l → Behind s bytes (edge_lines edges ++ l ∷ []) t rest → StandsTold t rest (Some (scene_with start edges)) l before end left after → IsWritten start bytes before end left after
+told_written start s t bytes rest edges l before end left after fresh command behind h =
+    (h.0, h.1, told_output start s t bytes rest edges l end left h.0 fresh command behind h.2)
 
-pub ran_commands : {T : Type 0} (r : Result T ScriptFault) (start : Start) (s t : Script) (bytes rest : List ℕ) (edges : List Edge) (l : Line) (before : List ℕ) (after : Option (List ℕ)) → IsFresh s start.workers → HasRoom start → IsCommand l → Behind s bytes (edge_lines edges ++ l ∷ []) t rest → TellsAll t rest (Some (scene_with start edges)) l before r after → Ran start bytes before r after
-ran_commands (Ok done) start s t bytes rest edges l before after fresh room command behind h = (room, told_written start s t bytes rest edges l before None after fresh command behind h)
-ran_commands (Err fault.ReadFailed) start s t bytes rest edges l before after fresh room command behind h = told_written start s t bytes rest edges l before (Some fault.ReadFailed) after fresh command behind h
-ran_commands (Err fault.InputTooLong) start s t bytes rest edges l before after fresh room command behind h = told_written start s t bytes rest edges l before (Some fault.InputTooLong) after fresh command behind h
-ran_commands (Err (fault.LineTooLong n)) start s t bytes rest edges l before after fresh room command behind h = told_written start s t bytes rest edges l before (Some (fault.LineTooLong n)) after fresh command behind h
-ran_commands (Err (fault.BadLine n)) start s t bytes rest edges l before after fresh room command behind h = told_written start s t bytes rest edges l before (Some (fault.BadLine n)) after fresh command behind h
-ran_commands (Err fault.WriteFailed) start s t bytes rest edges l before after fresh room command behind h =
-    (h.0, told_output start s t bytes rest edges l (Some fault.ReadFailed) h.0 fresh command behind h.1, h.2)
-ran_commands (Err fault.OutOfMemory) start s t bytes rest edges l before after fresh room command behind h = absurd (no_out_of_memory h.2.0 t.workers t.lines.room t.count t.opening rest h.2.2)
-ran_commands (Err fault.HeapFull) start s t bytes rest edges l before after fresh room command behind h = absurd (no_heap_full h.2.0 t.workers t.lines.room t.count t.opening rest h.2.2)
-ran_commands (Err fault.BadLimits) start s t bytes rest edges l before after fresh room command behind h = absurd (no_bad_limits h.2.0 t.workers t.lines.room t.count t.opening rest h.2.2)
+pub ran_commands : {T : Type 0} (r : Result T ScriptFault) (start : Start) (s t : Script) (bytes rest : List ℕ) (edges : List Edge) (l : Line) (before left : List ℕ) (after : Option (List ℕ)) → IsFresh s start.workers → HasRoom start → IsCommand l → Behind s bytes (edge_lines edges ++ l ∷ []) t rest → TellsAll t rest (Some (scene_with start edges)) l before r left after → Ran start bytes before r left after
+ran_commands (Ok done) start s t bytes rest edges l before left after fresh room command behind h = (room, told_written start s t bytes rest edges l before None left after fresh command behind h)
+ran_commands (Err fault.ReadFailed) start s t bytes rest edges l before left after fresh room command behind h = told_written start s t bytes rest edges l before (Some fault.ReadFailed) left after fresh command behind h.1
+ran_commands (Err fault.InputTooLong) start s t bytes rest edges l before left after fresh room command behind h = told_written start s t bytes rest edges l before (Some fault.InputTooLong) left after fresh command behind h.1
+ran_commands (Err (fault.LineTooLong n)) start s t bytes rest edges l before left after fresh room command behind h = told_written start s t bytes rest edges l before (Some (fault.LineTooLong n)) left after fresh command behind h.1
+ran_commands (Err (fault.BadLine n)) start s t bytes rest edges l before left after fresh room command behind h = told_written start s t bytes rest edges l before (Some (fault.BadLine n)) left after fresh command behind h.1
+ran_commands (Err fault.WriteFailed) start s t bytes rest edges l before left after fresh room command behind h =
+    (h.0, told_output start s t bytes rest edges l (Some fault.WriteFailed) left h.0 fresh command behind h.1, h.2)
+ran_commands (Err fault.OutOfMemory) start s t bytes rest edges l before left after fresh room command behind h = absurd h.0
+ran_commands (Err fault.HeapFull) start s t bytes rest edges l before left after fresh room command behind h = absurd h.0
+ran_commands (Err fault.BadLimits) start s t bytes rest edges l before left after fresh room command behind h = absurd h.0
 
 -- ---- the sink is finished
 
 keeps_known : (mid after : Option (List ℕ)) (known : List ℕ) → mid ≡ Some known → Keeps mid after → after ≡ Some known
 keeps_known mid after known is keeps = let P : Option (List ℕ) → Type 0 = λ x. Keeps x after in subst P is keeps
 
-written_keeps : (start : Start) (bytes before : List ℕ) (end : Option ScriptFault) (mid after : Option (List ℕ)) → IsWritten start bytes before end mid → Keeps mid after → IsWritten start bytes before end after
-written_keeps start bytes before end mid after h keeps = (h.0, keeps_known mid after (before ++ h.0) h.1 keeps, h.2)
+written_keeps : (start : Start) (bytes before : List ℕ) (end : Option ScriptFault) (left : List ℕ) (mid after : Option (List ℕ)) → IsWritten start bytes before end left mid → Keeps mid after → IsWritten start bytes before end left after
+written_keeps start bytes before end left mid after h keeps = (h.0, keeps_known mid after (before ++ h.0) h.1 keeps, h.2)
 
-pub ran_keeps : {T : Type 0} (r : Result T ScriptFault) (start : Start) (bytes before : List ℕ) (mid after : Option (List ℕ)) → Ran start bytes before r mid → Keeps mid after → Ran start bytes before r after
-ran_keeps (Ok done) start bytes before mid after h keeps = (h.0, written_keeps start bytes before None mid after h.1 keeps)
-ran_keeps (Err fault.ReadFailed) start bytes before mid after h keeps = written_keeps start bytes before (Some fault.ReadFailed) mid after h keeps
-ran_keeps (Err fault.InputTooLong) start bytes before mid after h keeps = written_keeps start bytes before (Some fault.InputTooLong) mid after h keeps
-ran_keeps (Err (fault.LineTooLong n)) start bytes before mid after h keeps = written_keeps start bytes before (Some (fault.LineTooLong n)) mid after h keeps
-ran_keeps (Err (fault.BadLine n)) start bytes before mid after h keeps = written_keeps start bytes before (Some (fault.BadLine n)) mid after h keeps
-ran_keeps (Err fault.WriteFailed) start bytes before mid after h keeps =
+ran_keeps : {T : Type 0} (r : Result T ScriptFault) (start : Start) (bytes before left : List ℕ) (mid after : Option (List ℕ)) → Ran start bytes before r left mid → Keeps mid after → Ran start bytes before r left after
+ran_keeps (Ok done) start bytes before left mid after h keeps = (h.0, written_keeps start bytes before None left mid after h.1 keeps)
+ran_keeps (Err fault.ReadFailed) start bytes before left mid after h keeps = written_keeps start bytes before (Some fault.ReadFailed) left mid after h keeps
+ran_keeps (Err fault.InputTooLong) start bytes before left mid after h keeps = written_keeps start bytes before (Some fault.InputTooLong) left mid after h keeps
+ran_keeps (Err (fault.LineTooLong n)) start bytes before left mid after h keeps = written_keeps start bytes before (Some (fault.LineTooLong n)) left mid after h keeps
+ran_keeps (Err (fault.BadLine n)) start bytes before left mid after h keeps = written_keeps start bytes before (Some (fault.BadLine n)) left mid after h keeps
+ran_keeps (Err fault.WriteFailed) start bytes before left mid after h keeps =
     (h.0, h.1, (h.2.0, h.2.1, h.2.2, keeps_known mid after (before ++ h.2.0) h.2.3 keeps))
-ran_keeps (Err fault.OutOfMemory) start bytes before mid after h keeps = keeps_known mid after before h keeps
-ran_keeps (Err fault.HeapFull) start bytes before mid after h keeps = absurd h
-ran_keeps (Err fault.BadLimits) start bytes before mid after h keeps = (h.0, keeps_known mid after before h.1 keeps)
+ran_keeps (Err fault.OutOfMemory) start bytes before left mid after h keeps = (h.0, keeps_known mid after before h.1 keeps)
+ran_keeps (Err fault.HeapFull) start bytes before left mid after h keeps = absurd h
+ran_keeps (Err fault.BadLimits) start bytes before left mid after h keeps = (h.0, h.1, keeps_known mid after before h.2 keeps)
 
 -- the whole text was written, but the sink was not finished
-ran_unfinished : {T : Type 0} (r : Result T ScriptFault) (start : Start) (bytes before : List ℕ) (mid after : Option (List ℕ)) → IsOk r → Ran start bytes before r mid → Keeps mid after → Ran {T = T} start bytes before (Err fault.WriteFailed) after
-ran_unfinished (Err f) start bytes before mid after fine h keeps = absurd (false≢true fine)
-ran_unfinished (Ok done) start bytes before mid after fine (room, h) keeps =
-    (h.0, (h.2.0, h.2.1, reads_front h.2.0 start.workers 1048576 0 true bytes None h.2.2, h.2.3), (h.0, [], sym (append-nil h.0), keeps_known mid after (before ++ h.0) h.1 keeps))
+ran_unfinished : {T : Type 0} (r : Result T ScriptFault) (start : Start) (bytes before left : List ℕ) (mid after : Option (List ℕ)) → IsOk r → Ran start bytes before r left mid → Keeps mid after → Ran {T = T} start bytes before (Err fault.WriteFailed) left after
+ran_unfinished (Err f) start bytes before left mid after fine h keeps = absurd (false≢true fine)
+ran_unfinished (Ok done) start bytes before left mid after fine (room, h) keeps =
+    let stop : MayStop fault.WriteFailed = λ w r c o b. refl in (
+      h.0,
+      (h.2.0, h.2.1, reads_stop fault.WriteFailed stop h.2.0 start.workers 1048576 0 true bytes left h.2.2, h.2.3),
+      (h.0, [], sym (append-nil h.0), keeps_known mid after (before ++ h.0) h.1 keeps),
+    )
 
-pub ran_finished : {T : Type 0} (outcome r : Result T ScriptFault) (start : Start) (bytes before : List ℕ) (mid after : Option (List ℕ)) (f g : ℕ) → Ran start bytes before outcome mid → Finishes mid f outcome r after g → Ran start bytes before r after
-ran_finished outcome r start bytes before mid after f g h (keeps, inl same) =
-    subst (λ x. Ran start bytes before x after) (sym same.0) (ran_keeps outcome start bytes before mid after h keeps)
-ran_finished outcome r start bytes before mid after f g h (keeps, inr failed) =
-    subst (λ x. Ran start bytes before x after) (sym failed.1) (ran_unfinished outcome start bytes before mid after failed.0 h keeps)
+pub ran_finished : {T : Type 0} (outcome r : Result T ScriptFault) (start : Start) (bytes before left : List ℕ) (mid after : Option (List ℕ)) (f g : ℕ) → Ran start bytes before outcome left mid → Finishes mid f outcome r after g → Ran start bytes before r left after
+ran_finished outcome r start bytes before left mid after f g h (keeps, inl same) =
+    subst (λ x. Ran start bytes before x left after) (sym same.0) (ran_keeps outcome start bytes before left mid after h keeps)
+ran_finished outcome r start bytes before left mid after f g h (keeps, inr failed) =
+    subst (λ x. Ran start bytes before x left after) (sym failed.1) (ran_unfinished outcome start bytes before left mid after failed.0 h keeps)

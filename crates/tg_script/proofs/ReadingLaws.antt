@@ -1,9 +1,10 @@
 -- Reading is deterministic: bytes have one first line, and that decides what comes of it.
-use Rattle.std.proofs.Common.{◌≡◌, ◌≢◌, inl, inr, ℕ, ◌+◌, ◌-◌, ◌*◌, ◌<◌, ◌≤◌, ◌==◌, ◌&&◌, nat_lt, Bool, true, false, if◌then◌else◌, List, [], ◌∷◌, ◌++◌, length, Option, Some, None, refl, sym, ap, ◌∙◌, subst, arith, length-append}
+use Rattle.std.proofs.Common.{◌≡◌, ◌≢◌, inl, inr, ℕ, ◌+◌, ◌-◌, ◌*◌, ◌<◌, ◌≤◌, ◌==◌, ◌&&◌, nat_lt, Bool, true, false, if◌then◌else◌, List, [], ◌∷◌, ◌++◌, length, drop, Option, Some, None, refl, sym, ap, ◌∙◌, subst, arith, append_assoc, length-append}
 use Rattle.std.specs.Prelude.{codes, decimal}
 use Rattle.std.specs.List.{list_all, join_with_byte}
 use Rattle.std.proofs.lemmas.Bool.{eq-eqb, ne_eqb, ltb-true, lt-ltb, le-ltb, and_parts, and_from}
 use Rattle.std.proofs.lemmas.Fmt.{length-decimal-le}
+use Rattle.std.proofs.Math.Seq.{drop-append_seam}
 use Rattle.tg_rights.specs.RightSet.{RightSet, text_of}
 use Rattle.tg_rights.specs.RightText.{length-text_of}
 use Rattle.tg_model.specs.declared.command.Command.{Command}
@@ -14,13 +15,9 @@ use Rattle.tg_script.specs.declared.fault.ScriptFault.{ScriptFault}
 use Rattle.tg_script.specs.declared.fault.ScriptFault.TheVariants.{ReadFailed, InputTooLong, LineTooLong, BadLine, WriteFailed, OutOfMemory, HeapFull, BadLimits}
 use Rattle.tg_script.specs.Fetching.{IsOneLine}
 use Rattle.tg_script.specs.Grammar.{words_of, words_of_command, line_text, LineFits, CommandFits, NumberFits}
-use Rattle.tg_script.specs.Reading.{MayStand, opening_after, Ends, Reads}
+use Rattle.tg_script.specs.Reading.{MayStand, opening_after, Ends, IsOfBytes, Reads}
 use Rattle.tg_script.proofs.GrammarLaws.{visible}
 use Rattle.tg_script.proofs.ReadLaws.{visible-words_of, line_text-same}
-
--- reading ended otherwise than by a failure of the source
-abbrev IsRead : Option ScriptFault → Type 0
-IsRead end = end ≢ Some ReadFailed
 
 -- ---- the first line of some bytes
 
@@ -180,42 +177,87 @@ some_length : (xs : List ℕ) → xs ≢ [] → 0 < length xs
 some_length [] h = absurd (h refl)
 some_length (x ∷ xs) h = omega arith
 
--- where bytes are left, so is a byte of the first line, or its line feed
-some_left : (rest : List ℕ) → rest ≢ [] → 0 < length (front rest) + feeds (behind rest)
-some_left [] h = absurd (h refl)
-some_left (b ∷ bs) h =
-    elim (b == 10) as (λ t. 0 < length (if t then [] else b ∷ front bs) + feeds (if t then Some bs else behind bs)) [ true ↦ omega arith | false ↦ omega arith ]
+-- a byte and what is behind it have a byte of the first line, or its line feed
+some_left : (b : ℕ) (bs : List ℕ) → 0 < length (front (b ∷ bs)) + feeds (behind (b ∷ bs))
+some_left b bs = elim (b == 10) as (λ t. 0 < length (if t then [] else b ∷ front bs) + feeds (if t then Some bs else behind bs)) [ true ↦ omega arith | false ↦ omega arith ]
 
 no_more : (text : List ℕ) → text ≡ text ++ []
 no_more [] = refl
 no_more (x ∷ xs) = ap (λ ys. x ∷ ys) (no_more xs)
 
-ends-fit : (workers room count : ℕ) (opening : Bool) (bytes : List ℕ) (end : Option ScriptFault) → Ends workers room count opening bytes end → IsRead end → Fits_end count room (length (front bytes)) (feeds (behind bytes)) end
-ends-fit workers room count opening bytes None h read = (ap (λ b. length (front b)) h, ap (λ b. feeds (behind b)) h)
-ends-fit workers room count opening bytes (Some (BadLine number)) h read =
+ends-fit : (workers room count : ℕ) (opening : Bool) (bytes : List ℕ) (end : Option ScriptFault) (left : List ℕ) → Ends workers room count opening bytes end left → IsOfBytes end → Fits_end count room (length (front bytes)) (feeds (behind bytes)) end
+ends-fit workers room count opening bytes None left h of_bytes = (ap (λ b. length (front b)) h.0, ap (λ b. feeds (behind b)) h.0)
+ends-fit workers room count opening bytes (Some (BadLine number)) left h of_bytes =
     let text = h.1 in
-    elim h.5 [
-      | inl k ↦ let b = begins bytes text (10 ∷ h.2) k.0 h.3 in (h.0, omega (arith, b.length_is, h.4), omega (arith, b.length_is, b.feeds_is, k.1), omega (arith, b.feeds_is))
+    elim h.4 [
+      | inl k ↦ let b = begins bytes text (10 ∷ left) k.0 h.2 in (h.0, omega (arith, b.length_is, h.3), omega (arith, b.length_is, b.feeds_is, k.1), omega (arith, b.feeds_is))
       | inr k ↦
-          let b = begins bytes text [] (k.0 ∙ no_more text) h.3 in
-          (h.0, omega (arith, b.length_is, h.4), omega (arith, b.length_is, b.feeds_is, k.1), omega (arith, b.length_is, some_length text k.2))
+          let b = begins bytes text [] (k.0 ∙ no_more text) h.2 in
+          (h.0, omega (arith, b.length_is, h.3), omega (arith, b.length_is, b.feeds_is, k.2), omega (arith, b.length_is, some_length text k.3))
     ]
-ends-fit workers room count opening bytes (Some (LineTooLong number)) h read =
-    let b = begins bytes h.1 h.2 h.3 h.4 in
-    (h.0, omega (arith, b.length_is, h.5), omega (arith, h.6))
-ends-fit workers room count opening bytes (Some InputTooLong) h read =
-    let b = begins bytes h.0 h.1 h.2 h.4 in
-    (omega (arith, h.5, h.6), omega (arith, h.5, b.length_is, b.feeds_is, some_left h.1 h.3))
-ends-fit workers room count opening bytes (Some ReadFailed) h read = absurd (read refl)
-ends-fit workers room count opening bytes (Some WriteFailed) h read = h
-ends-fit workers room count opening bytes (Some OutOfMemory) h read = h
-ends-fit workers room count opening bytes (Some HeapFull) h read = h
-ends-fit workers room count opening bytes (Some BadLimits) h read = h
+ends-fit workers room count opening bytes (Some (LineTooLong number)) left h of_bytes =
+    let b = begins bytes h.1 left h.2 h.3 in
+    (h.0, omega (arith, b.length_is, h.4), omega (arith, h.5))
+ends-fit workers room count opening bytes (Some InputTooLong) left h of_bytes =
+    let b = begins bytes h.0 (h.1 ∷ left) h.2 h.3 in
+    (omega (arith, h.4, h.5), omega (arith, h.4, b.length_is, b.feeds_is, some_left h.1 left))
+ends-fit workers room count opening bytes (Some ReadFailed) left h of_bytes = of_bytes
+ends-fit workers room count opening bytes (Some WriteFailed) left h of_bytes = of_bytes
+ends-fit workers room count opening bytes (Some OutOfMemory) left h of_bytes = of_bytes
+ends-fit workers room count opening bytes (Some HeapFull) left h of_bytes = of_bytes
+ends-fit workers room count opening bytes (Some BadLimits) left h of_bytes = of_bytes
 
-same_end : (workers room count : ℕ) (opening : Bool) (bytes : List ℕ) (end other : Option ScriptFault) → Ends workers room count opening bytes end → Ends workers room count opening bytes other → IsRead end → IsRead other → end ≡ other
-same_end workers room count opening bytes end other h k read read' =
-    fits_end-same count room (length (front bytes)) (feeds (behind bytes)) end (ends-fit workers room count opening bytes end h read)
-    ∙ sym (fits_end-same count room (length (front bytes)) (feeds (behind bytes)) other (ends-fit workers room count opening bytes other k read'))
+same_end : (workers room count : ℕ) (opening : Bool) (bytes : List ℕ) (end other : Option ScriptFault) (left left' : List ℕ) → Ends workers room count opening bytes end left → Ends workers room count opening bytes other left' → IsOfBytes end → IsOfBytes other → end ≡ other
+same_end workers room count opening bytes end other left left' h k of_bytes of_bytes' =
+    fits_end-same count room (length (front bytes)) (feeds (behind bytes)) end (ends-fit workers room count opening bytes end left h of_bytes)
+    ∙ sym (fits_end-same count room (length (front bytes)) (feeds (behind bytes)) other (ends-fit workers room count opening bytes other left' k of_bytes'))
+
+-- ---- what is left behind the end
+
+-- what is left behind so many bytes
+left_behind : (bytes text left : List ℕ) (n : ℕ) → bytes ≡ text ++ left → length text ≡ n → left ≡ drop n bytes
+left_behind bytes text left n e size =
+    sym (ap (λ k. drop k bytes) (sym size) ∙ ap (λ b. drop (length text) b) e ∙ drop-append_seam text left)
+
+same_left_behind : (bytes text text' left left' : List ℕ) (n : ℕ) → bytes ≡ text ++ left → bytes ≡ text' ++ left' → length text ≡ n → length text' ≡ n → left ≡ left'
+same_left_behind bytes text text' left left' n e e' size size' = left_behind bytes text left n e size ∙ sym (left_behind bytes text' left' n e' size')
+
+behind-text : (bytes text rest : List ℕ) → bytes ≡ text ++ 10 ∷ rest → IsOneLine text → behind bytes ≡ Some rest
+behind-text bytes text rest e h = ap behind e ∙ behind-append text (10 ∷ rest) h
+
+behind-none : (bytes text : List ℕ) → bytes ≡ text → IsOneLine text → behind bytes ≡ None
+behind-none bytes text e h = ap behind (e ∙ no_more text) ∙ behind-append text [] h
+
+other_way : (bytes left : List ℕ) → behind bytes ≡ Some left → behind bytes ≡ None → ⊥
+other_way bytes left h k = cc
+
+same_left : (workers room count : ℕ) (opening : Bool) (bytes : List ℕ) (end : Option ScriptFault) (left left' : List ℕ) → Ends workers room count opening bytes end left → Ends workers room count opening bytes end left' → IsOfBytes end → left ≡ left'
+same_left workers room count opening bytes None left left' h k of_bytes = h.1 ∙ sym k.1
+same_left workers room count opening bytes (Some (BadLine number)) left left' h k of_bytes =
+    elim h.4 [
+      | inl p ↦
+          elim k.4 [
+            | inl q ↦
+                let a = behind-text bytes h.1 left p.0 h.2 in
+                let b = behind-text bytes k.1 left' q.0 k.2 in
+                cc
+            | inr q ↦ absurd (other_way bytes left (behind-text bytes h.1 left p.0 h.2) (behind-none bytes k.1 q.0 k.2))
+          ]
+      | inr p ↦
+          elim k.4 [
+            | inl q ↦ absurd (other_way bytes left' (behind-text bytes k.1 left' q.0 k.2) (behind-none bytes h.1 p.0 h.2))
+            | inr q ↦ p.1 ∙ sym q.1
+          ]
+    ]
+same_left workers room count opening bytes (Some (LineTooLong number)) left left' h k of_bytes = same_left_behind bytes h.1 k.1 left left' 257 h.2 k.2 h.4 k.4
+same_left workers room count opening bytes (Some InputTooLong) left left' h k of_bytes =
+    same_left_behind bytes (h.0 ++ h.1 ∷ []) (k.0 ++ k.1 ∷ []) left left' (room + 1) (h.2 ∙ sym (append_assoc h.0 (h.1 ∷ []) left)) (k.2 ∙ sym (append_assoc k.0 (k.1 ∷ []) left'))
+    (length-append h.0 (h.1 ∷ []) ∙ ap (λ n. n + 1) h.4) (length-append k.0 (k.1 ∷ []) ∙ ap (λ n. n + 1) k.4)
+same_left workers room count opening bytes (Some ReadFailed) left left' h k of_bytes = absurd of_bytes
+same_left workers room count opening bytes (Some WriteFailed) left left' h k of_bytes = absurd of_bytes
+same_left workers room count opening bytes (Some OutOfMemory) left left' h k of_bytes = absurd of_bytes
+same_left workers room count opening bytes (Some HeapFull) left left' h k of_bytes = absurd of_bytes
+same_left workers room count opening bytes (Some BadLimits) left left' h k of_bytes = absurd of_bytes
 
 -- ---- reading doesn't end before a line that may stand there
 
@@ -229,12 +271,9 @@ record Stands (workers room : ℕ) (opening : Bool) (bytes : List ℕ) (l : Line
 front-text : (bytes text rest : List ℕ) → bytes ≡ text ++ 10 ∷ rest → IsOneLine text → front bytes ≡ text
 front-text bytes text rest e h = ap front e ∙ front-append text (10 ∷ rest) h ∙ sym (no_more text)
 
-behind-text : (bytes text rest : List ℕ) → bytes ≡ text ++ 10 ∷ rest → IsOneLine text → behind bytes ≡ Some rest
-behind-text bytes text rest e h = ap behind e ∙ behind-append text (10 ∷ rest) h
-
-no_end : (workers room count : ℕ) (opening : Bool) (bytes : List ℕ) (l : Line) (rest : List ℕ) (end : Option ScriptFault) → Stands workers room opening bytes l rest → Ends workers room count opening bytes end → IsRead end → ⊥
-no_end workers room count opening bytes l rest end s h read =
-    no_fit end h (ends-fit workers room count opening bytes end h read)
+no_end : (workers room count : ℕ) (opening : Bool) (bytes : List ℕ) (l : Line) (rest : List ℕ) (end : Option ScriptFault) (left : List ℕ) → Stands workers room opening bytes l rest → Ends workers room count opening bytes end left → IsOfBytes end → ⊥
+no_end workers room count opening bytes l rest end left s h of_bytes =
+    no_fit end h (ends-fit workers room count opening bytes end left h of_bytes)
   where
     one : IsOneLine (line_text l)
     one = one_line-line_text l s.fits
@@ -245,12 +284,12 @@ no_end workers room count opening bytes l rest end s h read =
     fed : feeds (behind bytes) ≡ 1
     fed = ap feeds (behind-text bytes (line_text l) rest s.text one)
 
-    no_fit : (end : Option ScriptFault) → Ends workers room count opening bytes end → Fits_end count room (length (front bytes)) (feeds (behind bytes)) end → ⊥
+    no_fit : (end : Option ScriptFault) → Ends workers room count opening bytes end left → Fits_end count room (length (front bytes)) (feeds (behind bytes)) end → ⊥
     no_fit None h f = omega (arith, fed, f.1)
     no_fit (Some (BadLine number)) h f =
-        elim h.5 [
-          | inl k ↦ k.2 l s.fits s.may (sym (front-text bytes h.1 h.2 k.0 h.3) ∙ front-text bytes (line_text l) rest s.text one)
-          | inr k ↦ let b = begins bytes h.1 [] (k.0 ∙ no_more h.1) h.3 in omega (arith, fed, b.feeds_is)
+        elim h.4 [
+          | inl k ↦ k.2 l s.fits s.may (sym (front-text bytes h.1 left k.0 h.2) ∙ front-text bytes (line_text l) rest s.text one)
+          | inr k ↦ let b = begins bytes h.1 [] (k.0 ∙ no_more h.1) h.2 in omega (arith, fed, b.feeds_is)
         ]
     no_fit (Some (LineTooLong number)) h f = omega (arith, size, f.1, length-line_text l s.fits)
     no_fit (Some InputTooLong) h f = omega (arith, size, fed, f.1, s.room_left)
@@ -272,48 +311,51 @@ same_line workers room opening bytes l m rest rest' s t =
     (line_text-same m l t.fits s.fits text, cc)
 
 -- a reading that begins with a line
-abbrev ReadsOn : ℕ → ℕ → ℕ → Bool → Line → List ℕ → List Line → Option ScriptFault → Type 0
-ReadsOn workers room count opening l rest lines end =
-    Reads workers (room - (length (line_text l) + 1)) (count + 1) (opening_after opening l) rest lines end
+abbrev ReadsOn : ℕ → ℕ → ℕ → Bool → Line → List ℕ → List Line → Option ScriptFault → List ℕ → Type 0
+ReadsOn workers room count opening l rest lines end left =
+    Reads workers (room - (length (line_text l) + 1)) (count + 1) (opening_after opening l) rest lines end left
 
-stands : (workers room count : ℕ) (opening : Bool) (bytes : List ℕ) (l : Line) (lines : List Line) (end : Option ScriptFault) → Reads workers room count opening bytes (l ∷ lines) end
-    → (rest : List ℕ) × Stands workers room opening bytes l rest × ReadsOn workers room count opening l rest lines end
-stands workers room count opening bytes l lines end h = (h.0, record { text = h.1; fits = h.2; may = h.3; room_left = h.4 }, h.5)
+stands : (workers room count : ℕ) (opening : Bool) (bytes : List ℕ) (l : Line) (lines : List Line) (end : Option ScriptFault) (left : List ℕ) → Reads workers room count opening bytes (l ∷ lines) end left
+    → (rest : List ℕ) × Stands workers room opening bytes l rest × ReadsOn workers room count opening l rest lines end left
+stands workers room count opening bytes l lines end left h = (h.0, record { text = h.1; fits = h.2; may = h.3; room_left = h.4 }, h.5)
 
-moved : (workers room count : ℕ) (opening : Bool) (l m : Line) (rest rest' : List ℕ) (lines : List Line) (end : Option ScriptFault) → m ≡ l → rest' ≡ rest → ReadsOn workers room count opening m rest' lines end → ReadsOn workers room count opening l rest lines end
-moved workers room count opening l m rest rest' lines end e f h =
-    subst (λ (r : List ℕ). ReadsOn workers room count opening l r lines end) f
-    (subst (λ (k : Line). ReadsOn workers room count opening k rest' lines end) e h)
+moved : (workers room count : ℕ) (opening : Bool) (l m : Line) (rest rest' : List ℕ) (lines : List Line) (end : Option ScriptFault) (left : List ℕ) → m ≡ l → rest' ≡ rest → ReadsOn workers room count opening m rest' lines end left → ReadsOn workers room count opening l rest lines end left
+moved workers room count opening l m rest rest' lines end left e f h =
+    subst (λ (r : List ℕ). ReadsOn workers room count opening l r lines end left) f
+    (subst (λ (k : Line). ReadsOn workers room count opening k rest' lines end left) e h)
 
-pub reads-same : (workers room count : ℕ) (opening : Bool) (bytes : List ℕ) (lines others : List Line) (end other : Option ScriptFault) → Reads workers room count opening bytes lines end → Reads workers room count opening bytes others other → IsRead end → IsRead other → (lines ≡ others) × (end ≡ other)
-reads-same workers room count opening bytes [] [] end other h k read read' = (refl, same_end workers room count opening bytes end other h k read read')
-reads-same workers room count opening bytes [] (m ∷ others) end other h k read read' =
-    let t = stands workers room count opening bytes m others other k in
-    absurd (no_end workers room count opening bytes m t.0 end t.1 h read)
-reads-same workers room count opening bytes (l ∷ lines) [] end other h k read read' =
-    let s = stands workers room count opening bytes l lines end h in
-    absurd (no_end workers room count opening bytes l s.0 other s.1 k read')
-reads-same workers room count opening bytes (l ∷ lines) (m ∷ others) end other h k read read' =
-    let s = stands workers room count opening bytes l lines end h in
-    let t = stands workers room count opening bytes m others other k in
+pub reads-same : (workers room count : ℕ) (opening : Bool) (bytes : List ℕ) (lines others : List Line) (end other : Option ScriptFault) (left left' : List ℕ) → Reads workers room count opening bytes lines end left → Reads workers room count opening bytes others other left' → IsOfBytes end → IsOfBytes other → (lines ≡ others) × (end ≡ other) × (left ≡ left')
+reads-same workers room count opening bytes [] [] end other left left' h k of_bytes of_bytes' =
+    let same = same_end workers room count opening bytes end other left left' h k of_bytes of_bytes' in
+    let k' = subst (λ (e : Option ScriptFault). Ends workers room count opening bytes e left') (sym same) k in
+    (refl, same, same_left workers room count opening bytes end left left' h k' of_bytes)
+reads-same workers room count opening bytes [] (m ∷ others) end other left left' h k of_bytes of_bytes' =
+    let t = stands workers room count opening bytes m others other left' k in
+    absurd (no_end workers room count opening bytes m t.0 end left t.1 h of_bytes)
+reads-same workers room count opening bytes (l ∷ lines) [] end other left left' h k of_bytes of_bytes' =
+    let s = stands workers room count opening bytes l lines end left h in
+    absurd (no_end workers room count opening bytes l s.0 other left' s.1 k of_bytes')
+reads-same workers room count opening bytes (l ∷ lines) (m ∷ others) end other left left' h k of_bytes of_bytes' =
+    let s = stands workers room count opening bytes l lines end left h in
+    let t = stands workers room count opening bytes m others other left' k in
     let e = same_line workers room opening bytes l m s.0 t.0 s.1 t.1 in
-    let on = moved workers room count opening l m s.0 t.0 others other e.0 e.1 t.2 in
-    let more = reads-same workers (room - (length (line_text l) + 1)) (count + 1) (opening_after opening l) s.0 lines others end other s.2 on read read' in
+    let on = moved workers room count opening l m s.0 t.0 others other left' e.0 e.1 t.2 in
+    let more = reads-same workers (room - (length (line_text l) + 1)) (count + 1) (opening_after opening l) s.0 lines others end other left left' s.2 on of_bytes of_bytes' in
     let first = e.0 in
     let others_same = more.0 in
-    (cc, more.1)
+    (cc, more.1, more.2)
 
-pub reads-front : (workers room count : ℕ) (opening : Bool) (bytes : List ℕ) (lines others : List Line) (other : Option ScriptFault) → Reads workers room count opening bytes lines (Some ReadFailed) → Reads workers room count opening bytes others other → IsRead other → (more : List Line) × (others ≡ lines ++ more)
-reads-front workers room count opening bytes [] others other h k read' = (others, refl)
-reads-front workers room count opening bytes (l ∷ lines) [] other h k read' =
-    let s = stands workers room count opening bytes l lines (Some ReadFailed) h in
-    absurd (no_end workers room count opening bytes l s.0 other s.1 k read')
-reads-front workers room count opening bytes (l ∷ lines) (m ∷ others) other h k read' =
-    let s = stands workers room count opening bytes l lines (Some ReadFailed) h in
-    let t = stands workers room count opening bytes m others other k in
+pub reads-front : (workers room count : ℕ) (opening : Bool) (bytes : List ℕ) (lines others : List Line) (end other : Option ScriptFault) (left left' : List ℕ) → Reads workers room count opening bytes lines end left → Reads workers room count opening bytes others other left' → IsOfBytes other → (more : List Line) × (others ≡ lines ++ more)
+reads-front workers room count opening bytes [] others end other left left' h k of_bytes' = (others, refl)
+reads-front workers room count opening bytes (l ∷ lines) [] end other left left' h k of_bytes' =
+    let s = stands workers room count opening bytes l lines end left h in
+    absurd (no_end workers room count opening bytes l s.0 other left' s.1 k of_bytes')
+reads-front workers room count opening bytes (l ∷ lines) (m ∷ others) end other left left' h k of_bytes' =
+    let s = stands workers room count opening bytes l lines end left h in
+    let t = stands workers room count opening bytes m others other left' k in
     let e = same_line workers room opening bytes l m s.0 t.0 s.1 t.1 in
-    let on = moved workers room count opening l m s.0 t.0 others other e.0 e.1 t.2 in
-    let more = reads-front workers (room - (length (line_text l) + 1)) (count + 1) (opening_after opening l) s.0 lines others other s.2 on read' in
+    let on = moved workers room count opening l m s.0 t.0 others other left' e.0 e.1 t.2 in
+    let more = reads-front workers (room - (length (line_text l) + 1)) (count + 1) (opening_after opening l) s.0 lines others end other left left' s.2 on of_bytes' in
     let first = e.0 in
     let others_same = more.1 in
     (more.0, cc)

@@ -1,7 +1,7 @@
 -- Each line is answered by the scene that the run shows.
 use mathlib.Core.Bool.{true≢false}
 use Rattle.std.proofs.Common.{◌≡◌, inl, inr, ◌↔◌, ℕ, ◌<◌, ◌≤◌, nat_lt, Bool, true, false, cond, List, [], ◌∷◌, Some, None, Result, Ok, Err, refl, sym, ap, ◌∙◌, subst, arith}
-use Rattle.std.specs.List.{All, Contains, range_with_len}
+use Rattle.std.specs.List.{Contains, range_with_len}
 use Rattle.std.proofs.lemmas.Bool.{ltb-true, lt-ltb}
 use Rattle.tg_rights.specs.RightSet.{RightSet}
 use Rattle.tg_model.specs.declared.value.Value.{Value}
@@ -9,8 +9,6 @@ use Rattle.tg_model.specs.declared.command.Command.{Command}
 use Rattle.tg_model.specs.declared.command.Deed.TheVariants as deed
 use Rattle.tg_model.specs.declared.reply.Reply.{Reply}
 use Rattle.tg_model.specs.declared.reply.Reply.TheVariants as reply
-use Rattle.std.proofs.lemmas.List.Elements.{All-tail}
-use Rattle.tg_model.specs.Opened.{ValueFits}
 use Rattle.tg_model.specs.Graph.{ProtectionGraph, IsSubject}
 use Rattle.tg_model.specs.Rules.{step, answer_of}
 use Rattle.tg_store.specs.declared.fault.ApplyFault.{ApplyFault}
@@ -55,7 +53,7 @@ other_way x e same = cc
 
 -- ---- commands
 
-pub apply_done : (old new : Run) (x : ℕ) (command : Command) (answer : Reply) → ((g : ProtectionGraph) → StandsFor old.store g → answer ≡ answer_of g x (deed.Plain command)) → ((g : ProtectionGraph) → StandsFor old.store g → StandsFor new.store (step g x (deed.Plain command))) → ((g : ProtectionGraph) → StandsFor old.store g → (Ok answer ≡ Err apply.NoSuchWorker) ↔ (¬ IsSubject g x)) → new.supply ≡ old.supply → Handles old (line.Plain x command) (told.Reply answer) new
+pub apply_done : {P : Type 0} (old new : Run P) (x : ℕ) (command : Command) (answer : Reply) → ((g : ProtectionGraph) → StandsFor old.store g → answer ≡ answer_of g x (deed.Plain command)) → ((g : ProtectionGraph) → StandsFor old.store g → StandsFor new.store (step g x (deed.Plain command))) → ((g : ProtectionGraph) → StandsFor old.store g → (Ok answer ≡ Err apply.NoSuchWorker) ↔ (¬ IsSubject g x)) → new.supply ≡ old.supply → Handles old (line.Plain x command) (told.Reply answer) new
 apply_done old new x command answer answers steps unknown supply None shown = (None, tt, tt)
 apply_done old new x command answer answers steps unknown supply (Some s) shown =
     let subject = subject_held old.store s.graph x shown.0 (λ none. other_way answer apply.NoSuchWorker ((unknown s.graph shown.0).1 none)) in (
@@ -65,10 +63,10 @@ apply_done old new x command answer answers steps unknown supply (Some s) shown 
     )
 
 -- the scene is as it was
-same_scene : (old new : Run) (s : Scene) → new.store ≡ old.store → values_left new.supply ≡ values_left old.supply → Shows old (Some s) → Shows new (Some s)
+same_scene : {P : Type 0} (old new : Run P) (s : Scene) → new.store ≡ old.store → values_left new.supply ≡ values_left old.supply → Shows old (Some s) → Shows new (Some s)
 same_scene old new s store supply shown = (subst (λ (x : StoreState). StandsFor x s.graph) (sym store) shown.0, supply ∙ shown.1)
 
-pub apply_refused : (old new : Run) (x : ℕ) (command : Command) (fault : ApplyFault) → ((g : ProtectionGraph) → StandsFor old.store g → (◌≡◌ {A = Result Reply ApplyFault} (Err fault) (Err apply.NoSuchWorker)) ↔ (¬ IsSubject g x)) → new.store ≡ old.store → new.supply ≡ old.supply → Handles old (line.Plain x command) (told.Refused (apply_refusal fault)) new
+pub apply_refused : {P : Type 0} (old new : Run P) (x : ℕ) (command : Command) (fault : ApplyFault) → ((g : ProtectionGraph) → StandsFor old.store g → (◌≡◌ {A = Result Reply ApplyFault} (Err fault) (Err apply.NoSuchWorker)) ↔ (¬ IsSubject g x)) → new.store ≡ old.store → new.supply ≡ old.supply → Handles old (line.Plain x command) (told.Refused (apply_refusal fault)) new
 apply_refused old new x command fault unknown store supply None shown = (None, tt, tt)
 apply_refused old new x command apply.NoSuchWorker unknown store supply (Some s) shown =
     (Some s, same_scene old new s store (ap values_left supply) shown, inl (inr ((unknown s.graph shown.0).0 refl, refl, refl)))
@@ -78,11 +76,11 @@ apply_refused old new x command apply.OutOfMemory unknown store supply (Some s) 
 
 -- ---- collections
 
-pub collect_done : (old new : Run) (kept : ℕ) → ((g : ProtectionGraph) → StandsFor old.store g → kept ≡ g.made) → Handles old line.Full (told.Collected (Some kept)) new
+pub collect_done : {P : Type 0} (old new : Run P) (kept : ℕ) → ((g : ProtectionGraph) → StandsFor old.store g → kept ≡ g.made) → Handles old line.Full (told.Collected (Some kept)) new
 collect_done old new kept made None shown = (None, tt, tt)
 collect_done old new kept made (Some s) shown = (None, tt, inl (ap (λ n. told.Collected (Some n)) (made s.graph shown.0), refl))
 
-pub collect_refused : (old new : Run) → new.store ≡ old.store → new.supply ≡ old.supply → Handles old line.Full (told.Refused refusal.Memory) new
+pub collect_refused : {P : Type 0} (old new : Run P) → new.store ≡ old.store → new.supply ≡ old.supply → Handles old line.Full (told.Refused refusal.Memory) new
 collect_refused old new store supply None shown = (None, tt, tt)
 collect_refused old new store supply (Some s) shown =
     (Some s, same_scene old new s store (ap values_left supply) shown, inr (refusal.Memory, tt, refl, refl))
@@ -90,7 +88,7 @@ collect_refused old new store supply (Some s) shown =
 -- ---- vertices
 
 -- nothing is left of the stock
-pub create_none : (old new : Run) (x : ℕ) (label : RightSet) → values_left old.supply ≡ [] → new.store ≡ old.store → values_left new.supply ≡ values_left old.supply → Handles old (line.Create x label) (told.Refused refusal.Stock) new
+pub create_none : {P : Type 0} (old new : Run P) (x : ℕ) (label : RightSet) → values_left old.supply ≡ [] → new.store ≡ old.store → values_left new.supply ≡ values_left old.supply → Handles old (line.Create x label) (told.Refused refusal.Stock) new
 create_none old new x label empty store supply None shown = (None, tt, tt)
 create_none old new x label empty store supply (Some s) shown =
     let P : List Value → Type 0 = λ stock. Creates s x label stock (told.Refused refusal.Stock) (Some s) in
@@ -101,7 +99,7 @@ room_left made limit name true same = refl
 room_left made limit name false same = cc
 
 -- a vertex was made
-pub create_done : (store : StoreState) (new : Run) (x : ℕ) (label : RightSet) (value : Value) (left : List Value) (name : ℕ) → ((g : ProtectionGraph) → StandsFor store g → answer_of g x (deed.Create label value.law value.state) ≡ reply.Name name) → ((g : ProtectionGraph) → StandsFor store g → StandsFor new.store (step g x (deed.Create label value.law value.state))) → ((g : ProtectionGraph) → StandsFor store g → ⊥ ↔ (¬ IsSubject g x)) → values_left new.supply ≡ left → HandlesBy store (value ∷ left) (line.Create x label) (told.Reply (reply.Name name)) new
+pub create_done : (store : StoreState) {P : Type 0} (new : Run P) (x : ℕ) (label : RightSet) (value : Value) (left : List Value) (name : ℕ) → ((g : ProtectionGraph) → StandsFor store g → answer_of g x (deed.Create label value.law value.state) ≡ reply.Name name) → ((g : ProtectionGraph) → StandsFor store g → StandsFor new.store (step g x (deed.Create label value.law value.state))) → ((g : ProtectionGraph) → StandsFor store g → ⊥ ↔ (¬ IsSubject g x)) → values_left new.supply ≡ left → HandlesBy store (value ∷ left) (line.Create x label) (told.Reply (reply.Name name)) new
 create_done store new x label value left name answers steps unknown supply None shown = (None, tt, tt)
 create_done store new x label value left name answers steps unknown supply (Some s) shown =
     let subject = subject_held store s.graph x shown.0 (λ none. (unknown s.graph shown.0).1 none) in
@@ -136,7 +134,7 @@ unchanged_stock made limit new old full =
     ] refl
 
 -- no vertex was made, and the value was put back
-pub create_refused : (store : StoreState) (new : Run) (x : ℕ) (label : RightSet) (value : Value) (left : List Value) (why : CreateFault) → ((g : ProtectionGraph) → StandsFor store g → (why ≡ create.NoSuchWorker) ↔ (¬ IsSubject g x)) → ((g : ProtectionGraph) → StandsFor store g → (why ≡ create.VerticesFull) ↔ (IsSubject g x × (g.limit ≤ g.made))) → new.store ≡ store → values_left new.supply ≡ value ∷ left → HandlesBy store (value ∷ left) (line.Create x label) (create_answer why) new
+pub create_refused : (store : StoreState) {P : Type 0} (new : Run P) (x : ℕ) (label : RightSet) (value : Value) (left : List Value) (why : CreateFault) → ((g : ProtectionGraph) → StandsFor store g → (why ≡ create.NoSuchWorker) ↔ (¬ IsSubject g x)) → ((g : ProtectionGraph) → StandsFor store g → (why ≡ create.VerticesFull) ↔ (IsSubject g x × (g.limit ≤ g.made))) → new.store ≡ store → values_left new.supply ≡ value ∷ left → HandlesBy store (value ∷ left) (line.Create x label) (create_answer why) new
 create_refused store new x label value left why unknown full same supply None shown = (None, tt, tt)
 create_refused store new x label value left create.NoSuchWorker unknown full same supply (Some s) shown =
     let P : List Value → Type 0 = λ stock. Creates s x label stock (told.Refused refusal.Worker) (Some s) in
@@ -156,8 +154,3 @@ create_refused store new x label value left create.OutOfMemory unknown full same
     let subject = subject_held store s.graph x shown.0 (λ none. let e = (unknown s.graph shown.0).1 none in cc) in
     let some : s.stock ≡ [] → ⊥ = λ none. let e : value ∷ left ≡ [] = shown.1 ∙ none in cc in
     (Some s, (subst (λ (y : StoreState). StandsFor y s.graph) (sym same) shown.0, supply ∙ shown.1), inr (refusal.Memory, (subject, some), refl, refl))
-
--- ---- values
-
-pub rest_fits : (values left : List Value) (value : Value) → values ≡ value ∷ left → All ValueFits values → All ValueFits left
-rest_fits values left value same fits = let P : List Value → Type 0 = λ x. All ValueFits x in All-tail ValueFits value left (subst P same fits)

@@ -1,7 +1,7 @@
 -- What a read of one byte says of the bytes that are left.
 use Rattle.std.proofs.Common.{◌≡◌, ◌≢◌, ℕ, ◌≤◌, List, [], ◌∷◌, ◌++◌, length, take, get_or, Option, Some, None, refl, ap, ◌∙◌, arith}
-use Rattle.std.specs.Io.KnownBytes.{Consumes, IsAtEnd}
-use Rattle.tg_script.specs.declared.source.Next.TheVariants.{Byte, End}
+use Rattle.std.specs.Io.KnownBytes.{Keeps, Consumes, IsAtEnd}
+use Rattle.tg_script.specs.declared.source.Next.TheVariants.{Byte, End, Failed}
 use Rattle.tg_script.specs.Sources.{Tells}
 
 pub tells_end : (old new : Option (List ℕ)) → Consumes old new [] → IsAtEnd new → Tells old End new
@@ -13,6 +13,11 @@ pub tells_byte : (old new : Option (List ℕ)) (byte : ℕ) (bytes : List ℕ) �
 tells_byte None new byte bytes one h = tt
 tells_byte (Some xs) None byte bytes one h = absurd h
 tells_byte (Some xs) (Some ys) byte bytes one h = (ys, h ∙ ap (λ x. x ++ ys) one, refl)
+
+pub tells_failed : (old new : Option (List ℕ)) → Keeps old new → Tells old Failed new
+tells_failed None new h = tt
+tells_failed (Some xs) None h = absurd h
+tells_failed (Some xs) (Some ys) h = ap Some h
 
 pub one_byte : (buffer : List ℕ) (count : ℕ) → length buffer ≡ 1 → count ≤ 1 → count ≢ 0 → take count buffer ≡ get_or buffer 0 0 ∷ []
 one_byte [] count one most some = absurd (omega arith)

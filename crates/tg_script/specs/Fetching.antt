@@ -8,28 +8,27 @@ use Rattle.tg_script.specs.declared.source.Fetched.TheVariants as fetched
 abbrev pub IsOneLine : List ℕ → Type 0
 IsOneLine bytes = AllByRecursion (λ b. b ≢ 10) bytes
 
--- Where these bytes were left and `room` of them may come: the outcome, what is then in the buffer, and the bytes that
--- are left after it. A line has at most 256 bytes.
-abbrev pub Fetches : ℕ → List ℕ → Fetched → List ℕ → Option (List ℕ) → Type 0
+-- Where these bytes were left and `room` of them may come: the outcome, the bytes of the line that came, and what is left
+-- behind all that came. A line has at most 256 bytes.
+abbrev pub Fetches : ℕ → List ℕ → Fetched → List ℕ → List ℕ → Type 0
 -- a line and its line feed came
-Fetches room bytes fetched.Line line after =
-    (rest : List ℕ) × (bytes ≡ line ++ 10 ∷ rest) × (after ≡ Some rest) × IsOneLine line × (length line ≤ 256) × (length line < room)
+Fetches room bytes fetched.Line line rest = (bytes ≡ line ++ 10 ∷ rest) × IsOneLine line × (length line ≤ 256) × (length line < room)
 -- nothing was left
-Fetches room bytes fetched.End line after = bytes ≡ []
+Fetches room bytes fetched.End line rest = (bytes ≡ []) × (rest ≡ [])
 -- some bytes were left, which no line feed ends
-Fetches room bytes fetched.Unfinished line after = (bytes ≢ []) × (bytes ≡ line) × IsOneLine line × (length line ≤ 256) × (length line ≤ room)
+Fetches room bytes fetched.Unfinished line rest = (bytes ≢ []) × (bytes ≡ line) × (rest ≡ []) × IsOneLine line × (length line ≤ 256) × (length line ≤ room)
 -- 256 bytes came and a further one, all without a line feed
-Fetches room bytes fetched.LineTooLong line after =
-    (byte : ℕ) × (rest : List ℕ) × (bytes ≡ line ++ byte ∷ rest) × (length line ≡ 256) × IsOneLine line × (byte ≢ 10) × (256 < room)
+Fetches room bytes fetched.LineTooLong line rest =
+    (byte : ℕ) × (bytes ≡ line ++ byte ∷ rest) × (length line ≡ 256) × IsOneLine line × (byte ≢ 10) × (256 < room)
 -- as many bytes came as may, without a line feed, and one more
-Fetches room bytes fetched.InputTooLong line after =
-    (byte : ℕ) × (rest : List ℕ) × (bytes ≡ line ++ byte ∷ rest) × (length line ≡ room) × IsOneLine line × (length line ≤ 256)
+Fetches room bytes fetched.InputTooLong line rest =
+    (byte : ℕ) × (bytes ≡ line ++ byte ∷ rest) × (length line ≡ room) × IsOneLine line × (length line ≤ 256)
 -- the source failed behind these bytes
-Fetches room bytes fetched.Failed line after = (rest : List ℕ) × (bytes ≡ line ++ rest) × IsOneLine line × (length line ≤ 256) × (length line ≤ room)
+Fetches room bytes fetched.Failed line rest = (bytes ≡ line ++ rest) × IsOneLine line × (length line ≤ 256) × (length line ≤ room)
 
 -- the same, where it is known which bytes were left
 abbrev pub FetchesKnown : ℕ → Option (List ℕ) → Fetched → List ℕ → Option (List ℕ) → Type 0
-FetchesKnown room (Some bytes) outcome line after = Fetches room bytes outcome line after
+FetchesKnown room (Some bytes) outcome line after = (rest : List ℕ) × (after ≡ Some rest) × Fetches room bytes outcome line rest
 FetchesKnown room None outcome line after = Unit {0}
 
 -- how many failures of the source an outcome is

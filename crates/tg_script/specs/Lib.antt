@@ -14,4 +14,3 @@ pub mod Answering
 pub mod Run
 pub mod Stock
 pub mod StockWords
-pub mod Values

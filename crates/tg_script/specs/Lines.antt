@@ -5,21 +5,27 @@ use Rattle.tg_script.specs.declared.fault.ScriptFault.{ScriptFault}
 use Rattle.tg_script.specs.declared.fault.ScriptFault.TheVariants as fault
 use Rattle.tg_script.specs.declared.script.Script.{Script}
 use Rattle.tg_script.specs.Grammar.{LineFits, line_text}
-use Rattle.tg_script.specs.Reading.{Reads, MayStand, IsBadText, opening_after}
+use Rattle.tg_script.specs.Reading.{Reads, MayStand, IsBadText, IsOfBytes, opening_after}
 
--- the bytes that are left are these lines, and then the fault, or the end
-abbrev pub ReadsFrom : Script → List ℕ → List Line → Option ScriptFault → Type 0
-ReadsFrom s bytes lines end = Reads s.workers s.lines.room s.count s.opening bytes lines end
+-- the bytes are these lines, and then the fault, or the end, and these bytes are left
+abbrev pub ReadsFrom : Script → List ℕ → List Line → Option ScriptFault → List ℕ → Type 0
+ReadsFrom s bytes lines end left = Reads s.workers s.lines.room s.count s.opening bytes lines end left
 
 -- the line is taken: whatever is read behind it is read behind it
 abbrev pub Passes : Script → List ℕ → Line → Script → List ℕ → Type 0
-Passes s bytes l t rest = (lines : List Line) (end : Option ScriptFault) → ReadsFrom t rest lines end → ReadsFrom s bytes (l ∷ lines) end
+Passes s bytes l t rest =
+    (lines : List Line) (end : Option ScriptFault) (left : List ℕ) → ReadsFrom t rest lines end left → ReadsFrom s bytes (l ∷ lines) end left
 
--- a line, the end of the input, or the first fault
-abbrev pub NextLine : Script → List ℕ → Result (Option Line) ScriptFault → Script → Option (List ℕ) → Type 0
-NextLine s bytes (Ok (Some l)) t after = (rest : List ℕ) × (after ≡ Some rest) × Passes s bytes l t rest
-NextLine s bytes (Ok None) t after = ReadsFrom s bytes [] None
-NextLine s bytes (Err fault) t after = ReadsFrom s bytes [] (Some fault)
+-- a fault that is met in reading
+abbrev pub IsOfReading : ScriptFault → Type 0
+IsOfReading fault.ReadFailed = Unit {0}
+IsOfReading f = IsOfBytes (Some f)
+
+-- a line, the end of the input, or the first fault, and the bytes that are left behind it
+abbrev pub NextLine : Script → List ℕ → Result (Option Line) ScriptFault → Script → List ℕ → Type 0
+NextLine s bytes (Ok (Some l)) t rest = Passes s bytes l t rest
+NextLine s bytes (Ok None) t rest = ReadsFrom s bytes [] None rest
+NextLine s bytes (Err f) t rest = IsOfReading f × ReadsFrom s bytes [] (Some f) rest
 
 -- the line may stand where it came, and now one more line was read
 pub record Follows (s : Script) (l : Line) (t : Script) : Type 0 where
@@ -41,7 +47,8 @@ read_failures r = 0
 
 -- these lines are taken: whatever is read behind them is read behind them
 abbrev pub Behind : Script → List ℕ → List Line → Script → List ℕ → Type 0
-Behind s bytes front t rest = (lines : List Line) (end : Option ScriptFault) → ReadsFrom t rest lines end → ReadsFrom s bytes (front ++ lines) end
+Behind s bytes front t rest =
+    (lines : List Line) (end : Option ScriptFault) (left : List ℕ) → ReadsFrom t rest lines end left → ReadsFrom s bytes (front ++ lines) end left
 
 -- how many failures of the sink an outcome is
 abbrev pub write_failures : {T : Type 0} → Result T ScriptFault → ℕ

@@ -10,7 +10,7 @@ use Rattle.tg_script.specs.declared.fault.ScriptFault.TheVariants as fault
 use Rattle.tg_script.specs.declared.script.Script.{Script}
 use Rattle.tg_script.specs.declared.opening.Front.{Front}
 use Rattle.tg_script.specs.Reading.{MayStand}
-use Rattle.tg_script.specs.Lines.{ReadsFrom, Behind}
+use Rattle.tg_script.specs.Lines.{ReadsFrom, Behind, IsOfReading}
 
 -- a line that may stand behind the edges
 abbrev pub IsCommand : Line → Type 0
@@ -20,15 +20,19 @@ abbrev pub edge_lines : List Edge → List Line
 edge_lines edges = map line.Edge edges
 
 -- where no other line came the input ended, else whatever is read behind that line is read behind it
-abbrev pub ReadsFirst : Script → List ℕ → List Edge → Option Line → Script → Option (List ℕ) → Type 0
-ReadsFirst s bytes edges None t after = ReadsFrom s bytes (edge_lines edges) None
-ReadsFirst s bytes edges (Some l) t after = (rest : List ℕ) × (after ≡ Some rest) × Behind s bytes (edge_lines edges ++ l ∷ []) t rest
+abbrev pub ReadsFirst : Script → List ℕ → List Edge → Option Line → Script → List ℕ → Type 0
+ReadsFirst s bytes edges None t rest = ReadsFrom s bytes (edge_lines edges) None rest
+ReadsFirst s bytes edges (Some l) t rest = Behind s bytes (edge_lines edges ++ l ∷ []) t rest
 
--- the edge lines, up to the first other line or to the end; or edge lines up to the first fault; or memory was wanting
-abbrev pub ReadsEdges : Script → List ℕ → Result Front ScriptFault → Script → Option (List ℕ) → Type 0
-ReadsEdges s bytes (Ok front) t after = ReadsFirst s bytes front.edges.items front.first t after
-ReadsEdges s bytes (Err fault.OutOfMemory) t after = Unit {0}
-ReadsEdges s bytes (Err f) t after = (edges : List Edge) × ReadsFrom s bytes (edge_lines edges) (Some f)
+-- a fault that is met in reading, or memory was wanting for an edge
+abbrev pub IsOfEdges : ScriptFault → Type 0
+IsOfEdges fault.OutOfMemory = Unit {0}
+IsOfEdges f = IsOfReading f
+
+-- the edge lines, up to the first other line or to the end; or edge lines up to the first fault; and what is left behind them
+abbrev pub ReadsEdges : Script → List ℕ → Result Front ScriptFault → Script → List ℕ → Type 0
+ReadsEdges s bytes (Ok front) t rest = ReadsFirst s bytes front.edges.items front.first t rest
+ReadsEdges s bytes (Err f) t rest = IsOfEdges f × (edges : List Edge) × ReadsFrom s bytes (edge_lines edges) (Some f) rest
 
 -- The store stands for the graph that the plan starts from; or a limit of the plan is out of its range, or memory was wanting.
 abbrev pub Opens : Plan → Result StoreState ScriptFault → Type 0

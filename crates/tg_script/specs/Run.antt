@@ -1,8 +1,6 @@
 -- How a run under way stands to a scene, and what is said of the answer to a line.
 use Rattle.std.specs.Prelude.{◌≡◌, ◌⊎◌, List, ◌∷◌, Option, Some, None}
-use Rattle.std.specs.List.{All}
 use Rattle.tg_model.specs.declared.value.Value.{Value}
-use Rattle.tg_model.specs.Opened.{ValueFits}
 use Rattle.tg_store.specs.Store.{StoreState, StandsFor}
 use Rattle.tg_script.specs.declared.line.Line.{Line}
 use Rattle.tg_script.specs.declared.answer.Answer.{Answer}
@@ -17,7 +15,7 @@ abbrev pub ShowsBy : StoreState → List Value → Option Scene → Type 0
 ShowsBy store values None = Unit {0}
 ShowsBy store values (Some s) = StandsFor store s.graph × (values ≡ s.stock)
 
-abbrev pub Shows : Run → Option Scene → Type 0
+abbrev pub Shows : {P : Type 0} → Run P → Option Scene → Type 0
 Shows r t = ShowsBy r.store (values_left r.supply) t
 
 -- the line is answered, or refused for want with the scene as it was
@@ -26,16 +24,12 @@ Serves None l a t = Unit {0}
 Serves (Some s) l a t = Answers s l a t ⊎ ((r : Refusal) × MayRefuse s l r × (a ≡ told.Refused r) × (t ≡ Some s))
 
 -- whatever scene was shown, the run now shows one by which the line was served
-abbrev pub HandlesBy : StoreState → List Value → Line → Answer → Run → Type 0
+abbrev pub HandlesBy : {P : Type 0} → StoreState → List Value → Line → Answer → Run P → Type 0
 HandlesBy store values l a new = (t : Option Scene) → ShowsBy store values t → (u : Option Scene) × Shows new u × Serves t l a u
 
-abbrev pub Handles : Run → Line → Answer → Run → Type 0
+abbrev pub Handles : {P : Type 0} → Run P → Line → Answer → Run P → Type 0
 Handles old l a new = HandlesBy old.store (values_left old.supply) l a new
 
 -- the same, where the first value of the stock was taken
-abbrev pub HandlesWith : Run → Value → Line → Answer → Run → Type 0
+abbrev pub HandlesWith : {P : Type 0} → Run P → Value → Line → Answer → Run P → Type 0
 HandlesWith old value l a new = HandlesBy old.store (value ∷ values_left old.supply) l a new
-
--- all values that are left fit their laws
-abbrev pub HasFittingStock : Run → Type 0
-HasFittingStock r = All ValueFits (values_left r.supply)

@@ -1,5 +1,5 @@
 -- What a run's answer says of the bytes that were read and of those that were written.
-use Rattle.std.specs.Prelude.{◌≡◌, ◌⊎◌, ℕ, ◌+◌, ◌≤◌, IsOk, List, [], ◌∷◌, ◌++◌, Option, Some, None, Result, Ok, Err}
+use Rattle.std.specs.Prelude.{◌≡◌, ◌⊎◌, ℕ, ◌+◌, ◌≤◌, IsOk, List, [], ◌∷◌, ◌++◌, length, Option, Some, None, Result, Ok, Err}
 use Rattle.tg_script.specs.declared.fault.ScriptFault.{ScriptFault}
 use Rattle.tg_script.specs.declared.fault.ScriptFault.TheVariants as fault
 use Rattle.tg_script.specs.Sinks.{WroteSome, Keeps, Writes}
@@ -10,51 +10,54 @@ use Rattle.tg_script.specs.declared.answer.Answer.{Answer}
 use Rattle.tg_script.specs.declared.run.Run.{Run}
 use Rattle.tg_script.specs.Texts.{answer_text}
 use Rattle.tg_script.specs.Run.{Handles}
-use Rattle.tg_script.specs.Lines.{ReadsFrom}
-use Rattle.tg_script.specs.Script.{Scene, IsAdmissible, Start, IsScriptOutput}
+use Rattle.tg_script.specs.Lines.{ReadsFrom, IsOfReading}
+use Rattle.tg_script.specs.Reading.{ReadsScript}
+use Rattle.tg_script.specs.Script.{Scene, IsAdmissible, Start, IsScriptOutput, commands_of}
 
 -- the text for the script, read up to this fault or to its end, stands behind what was written before
-abbrev pub IsWritten : Start → List ℕ → List ℕ → Option ScriptFault → Option (List ℕ) → Type 0
-IsWritten start bytes before end after = (text : List ℕ) × (after ≡ Some (before ++ text)) × IsScriptOutput start bytes end text
+abbrev pub IsWritten : Start → List ℕ → List ℕ → Option ScriptFault → List ℕ → Option (List ℕ) → Type 0
+IsWritten start bytes before end left after = (text : List ℕ) × (after ≡ Some (before ++ text)) × IsScriptOutput start bytes end left text
+
+-- the script is read no further than the first line that is no edge line, which this fault then ended
+abbrev pub IsUnopened : Start → List ℕ → ScriptFault → List ℕ → Type 0
+IsUnopened start bytes f left = (lines : List Line) × ReadsScript start.workers bytes lines (Some f) left × (length (commands_of lines) ≤ 1)
 
 -- the limit leaves room for the workers
 abbrev pub HasRoom : Start → Type 0
 HasRoom start = HasLimits (record { workers = start.workers; edges = []; values = start.values; limit = start.limit })
 
--- What stands in the sink after a run over these bytes, where `before` stood in it: the text for all of the script, or for the
--- lines before its first fault. Where the sink failed, a front of the text for the lines that were read; where the store
--- wasn't opened for want of memory or for the limit, nothing more. There is no heap yet that could be full.
-abbrev pub Ran : {T : Type 0} → Start → List ℕ → List ℕ → Result T ScriptFault → Option (List ℕ) → Type 0
-Ran start bytes before (Ok done) after = HasRoom start × IsWritten start bytes before None after
-Ran start bytes before (Err fault.ReadFailed) after = IsWritten start bytes before (Some fault.ReadFailed) after
-Ran start bytes before (Err fault.InputTooLong) after = IsWritten start bytes before (Some fault.InputTooLong) after
-Ran start bytes before (Err (fault.LineTooLong number)) after = IsWritten start bytes before (Some (fault.LineTooLong number)) after
-Ran start bytes before (Err (fault.BadLine number)) after = IsWritten start bytes before (Some (fault.BadLine number)) after
-Ran start bytes before (Err fault.WriteFailed) after =
-    (text : List ℕ) × IsScriptOutput start bytes (Some fault.ReadFailed) text × WroteSome (Some before) text after
-Ran start bytes before (Err fault.OutOfMemory) after = after ≡ Some before
-Ran start bytes before (Err fault.HeapFull) after = ⊥
-Ran start bytes before (Err fault.BadLimits) after = (¬ HasRoom start) × (after ≡ Some before)
+-- What stands in the sink after a run over these bytes, where `before` stood in it, and what is left of them: the text for
+-- all of the script, or for the lines before its first fault. Where the sink failed, a front of the text for the lines that
+-- were read; where the store wasn't opened for want of memory or for the limit, nothing more. There is no heap yet that could
+-- be full. No byte behind the end of the run is read.
+abbrev pub Ran : {T : Type 0} → Start → List ℕ → List ℕ → Result T ScriptFault → List ℕ → Option (List ℕ) → Type 0
+Ran start bytes before (Ok done) left after = HasRoom start × IsWritten start bytes before None left after
+Ran start bytes before (Err fault.WriteFailed) left after =
+    (text : List ℕ) × IsScriptOutput start bytes (Some fault.WriteFailed) left text × WroteSome (Some before) text after
+Ran start bytes before (Err fault.OutOfMemory) left after = IsUnopened start bytes fault.OutOfMemory left × (after ≡ Some before)
+Ran start bytes before (Err fault.HeapFull) left after = ⊥
+Ran start bytes before (Err fault.BadLimits) left after = (¬ HasRoom start) × IsUnopened start bytes fault.BadLimits left × (after ≡ Some before)
+Ran start bytes before (Err f) left after = IsWritten start bytes before (Some f) left after
 
 -- ---- parts of a run
 
 -- the lines behind the first are read so far, and the text is admissible for all of them from the scene
-abbrev pub IsTold : Script → List ℕ → Option Scene → Line → Option ScriptFault → List ℕ → Type 0
-IsTold s bytes t first end text = (lines : List Line) × (wants : ℕ) × ReadsFrom s bytes lines end × IsAdmissible t (first ∷ lines) wants text
+abbrev pub IsTold : Script → List ℕ → Option Scene → Line → Option ScriptFault → List ℕ → List ℕ → Type 0
+IsTold s bytes t first end left text = (lines : List Line) × (wants : ℕ) × ReadsFrom s bytes lines end left × IsAdmissible t (first ∷ lines) wants text
 
 -- such a text stands behind what was written before
-abbrev pub StandsTold : Script → List ℕ → Option Scene → Line → List ℕ → Option ScriptFault → Option (List ℕ) → Type 0
-StandsTold s bytes t first before end after = (text : List ℕ) × (after ≡ Some (before ++ text)) × IsTold s bytes t first end text
+abbrev pub StandsTold : Script → List ℕ → Option Scene → Line → List ℕ → Option ScriptFault → List ℕ → Option (List ℕ) → Type 0
+StandsTold s bytes t first before end left after = (text : List ℕ) × (after ≡ Some (before ++ text)) × IsTold s bytes t first end left text
 
--- what stands in the sink after the lines from the first on that is no edge line
-abbrev pub TellsAll : {T : Type 0} → Script → List ℕ → Option Scene → Line → List ℕ → Result T ScriptFault → Option (List ℕ) → Type 0
-TellsAll s bytes t first before (Ok done) after = StandsTold s bytes t first before None after
-TellsAll s bytes t first before (Err fault.WriteFailed) after =
-    (text : List ℕ) × IsTold s bytes t first (Some fault.ReadFailed) text × WroteSome (Some before) text after
-TellsAll s bytes t first before (Err f) after = StandsTold s bytes t first before (Some f) after
+-- what stands in the sink after the lines from the first on that is no edge line, and what is left behind them
+abbrev pub TellsAll : {T : Type 0} → Script → List ℕ → Option Scene → Line → List ℕ → Result T ScriptFault → List ℕ → Option (List ℕ) → Type 0
+TellsAll s bytes t first before (Ok done) left after = StandsTold s bytes t first before None left after
+TellsAll s bytes t first before (Err fault.WriteFailed) left after =
+    (text : List ℕ) × IsTold s bytes t first (Some fault.WriteFailed) left text × WroteSome (Some before) text after
+TellsAll s bytes t first before (Err f) left after = IsOfReading f × StandsTold s bytes t first before (Some f) left after
 
 -- the line was answered, and the answer was written or a front of it
-abbrev pub RunsLine : {T E : Type 0} → Run → Line → Run → Option (List ℕ) → ℕ → Result T E → Option (List ℕ) → ℕ → Type 0
+abbrev pub RunsLine : {P T E : Type 0} → Run P → Line → Run P → Option (List ℕ) → ℕ → Result T E → Option (List ℕ) → ℕ → Type 0
 RunsLine old l new before failures result after failures' =
     (a : Answer) × Handles old l a new × Writes before failures (answer_text a) result after failures'
 

@@ -109,7 +109,8 @@ scene_of start lines = record {
   stock = start.stock;
 }
 
--- the text is what may be written for a script of these bytes, which is read up to this fault, or to its end
-abbrev pub IsScriptOutput : Start → List ℕ → Option ScriptFault → List ℕ → Type 0
-IsScriptOutput start bytes end text =
-    (lines : List Line) × (wants : ℕ) × ReadsScript start.workers bytes lines end × IsAdmissible (Some (scene_of start lines)) (commands_of lines) wants text
+-- the text is what may be written for a script of these bytes, which is read up to this fault, or to its end, so that these
+-- bytes are left
+abbrev pub IsScriptOutput : Start → List ℕ → Option ScriptFault → List ℕ → List ℕ → Type 0
+IsScriptOutput start bytes end left text =
+    (lines : List Line) × (wants : ℕ) × ReadsScript start.workers bytes lines end left × IsAdmissible (Some (scene_of start lines)) (commands_of lines) wants text

@@ -1,11 +1,10 @@
 //! Laws of the definitions alone. A function here does nothing: what it ensures is the law.
-ghost use Rattle.std.specs.Prelude.{◌≡◌, ◌≢◌, ℕ, ◌++◌, Bool, List, Option, Some, ◌∷◌, []};
+ghost use Rattle.std.specs.Prelude.{◌≡◌, ℕ, ◌++◌, Bool, List, Option, Some, ◌∷◌, []};
 ghost use Rattle.tg_script.specs.declared.line.Line.{Line};
 ghost use Rattle.tg_script.specs.declared.line.Line.TheVariants.{Full};
 ghost use Rattle.tg_script.specs.declared.fault.ScriptFault.{ScriptFault};
-ghost use Rattle.tg_script.specs.declared.fault.ScriptFault.TheVariants.{ReadFailed};
 ghost use Rattle.tg_script.specs.Grammar.{LineFits, line_text};
-ghost use Rattle.tg_script.specs.Reading.{Reads};
+ghost use Rattle.tg_script.specs.Reading.{Reads, IsOfBytes};
 ghost use Rattle.tg_script.specs.Script.{Scene, IsOutput, IsAdmissible, HasNoFull};
 ghost use Rattle.tg_script.specs.declared.stock.StockItem.{StockItem};
 ghost use Rattle.tg_script.specs.Stock.{IsStockText};
@@ -15,18 +14,19 @@ pub fn a_text_is_one_line()
     ensures { (l m : Line) → LineFits l → LineFits m → line_text l ≡ line_text m → l ≡ m }
 {}
 
-/// Reading is deterministic: where the source doesn't fail, bytes are read as the same lines and end in the same way.
+/// Reading is deterministic: where the end lies in the bytes, they are read as the same lines, end in the same way, and
+/// leave the same.
 pub fn reading_is_deterministic()
-    ensures { (workers room count : ℕ) (opening : Bool) (bytes : List ℕ) (lines others : List Line) (end other : Option ScriptFault) →
-        Reads workers room count opening bytes lines end → Reads workers room count opening bytes others other →
-        end ≢ Some ReadFailed → other ≢ Some ReadFailed → (lines ≡ others) × (end ≡ other) }
+    ensures { (workers room count : ℕ) (opening : Bool) (bytes : List ℕ) (lines others : List Line) (end other : Option ScriptFault) (left left' : List ℕ) →
+        Reads workers room count opening bytes lines end left → Reads workers room count opening bytes others other left' →
+        IsOfBytes end → IsOfBytes other → (lines ≡ others) × (end ≡ other) × (left ≡ left') }
 {}
 
-/// A source that fails gives a front of the lines that it would give else.
-pub fn failed_reading_is_a_front()
-    ensures { (workers room count : ℕ) (opening : Bool) (bytes : List ℕ) (lines others : List Line) (other : Option ScriptFault) →
-        Reads workers room count opening bytes lines (Some ReadFailed) → Reads workers room count opening bytes others other →
-        other ≢ Some ReadFailed → (more : List Line) × (others ≡ lines ++ more) }
+/// A reading that is cut short, as by a source that fails, gives a front of the lines that would be read else.
+pub fn cut_reading_is_a_front()
+    ensures { (workers room count : ℕ) (opening : Bool) (bytes : List ℕ) (lines others : List Line) (end other : Option ScriptFault) (left left' : List ℕ) →
+        Reads workers room count opening bytes lines end left → Reads workers room count opening bytes others other left' →
+        IsOfBytes other → (more : List Line) × (others ≡ lines ++ more) }
 {}
 
 /// Where nothing was wanting, an admissible text is the output.

@@ -7,7 +7,7 @@
 //! What a reader has to believe stands in `specs/`, each part without the others: `Grammar` says how a line is spelled,
 //! `Reading` what the lines of some bytes are and which fault comes first in them, `Texts` how an answer is spelled,
 //! `Script` what is answered to the lines and in which cases a line may be refused instead, and `Running` what then
-//! stands in the sink. `Stock` says how the values for new vertices are spelled. `Sources` and `Sinks` say what a
+//! stands in the sink. `Stock` says how the boxes for new vertices are spelled. `Sources` and `Sinks` say what a
 //! source and a sink promise. The other files of `specs/` are inside matters of this crate.
 //!
 //! Nothing here waits, and no line takes memory but an edge line and what the store takes. Programs call
@@ -17,6 +17,7 @@
 mod answer;
 mod buffer;
 mod count;
+mod drafts;
 mod fault;
 mod fetch;
 pub mod laws;
@@ -36,13 +37,15 @@ mod stock;
 #[cfg(test)]
 mod stock_tests;
 mod stream;
+#[cfg(test)]
+mod stream_tests;
 mod supply;
-mod values;
 mod word;
 
 pub use answer::{Answer, Refusal};
 pub use buffer::LineBuffer;
 pub use count::Count;
+pub use drafts::drafts_of;
 pub use fault::ScriptFault;
 pub use fetch::{Lines, MOST_BYTES, MOST_LINE_BYTES};
 pub use line::Line;
@@ -54,4 +57,3 @@ pub use sink::{Put, Sink, WriteFailed, put_all, put_texts};
 pub use source::{Fetched, Next, Source};
 pub use stock::{MOST_BOXES, StockFault, StockItem, read_stock};
 pub use stream::{OfRead, OfWrite};
-pub use values::{value_of, values_of};

@@ -48,6 +48,8 @@ impl<'a, L: Ledger> Source for Bytes<'a, L> {
 pub struct Written<L: Ledger> {
     pub bytes: Vec<u8>,
     pub failures: Count<L>,
+    /// Whether nothing was put since it was last finished.
+    pub finished: bool,
 }
 
 impl<L: Ledger> Written<L> {
@@ -59,6 +61,7 @@ impl<L: Ledger> Written<L> {
         Written {
             bytes: Vec::new(alloc),
             failures,
+            finished: false,
         }
     }
 }
@@ -68,7 +71,10 @@ impl<L: Ledger> Sink for Written<L> {
 
     ghost failures = { λ s. s.failures };
 
+    ghost finished = { λ s. s.finished };
+
     fn put(&mut self, bytes: &[u8]) -> Put {
+        self.finished = false;
         match self.bytes.extend_from_slice(bytes) {
             Ok(()) => Put::Took(bytes.len()),
             Err(_) => {
@@ -79,6 +85,7 @@ impl<L: Ledger> Sink for Written<L> {
     }
 
     fn finish(&mut self) -> bool {
+        self.finished = true;
         true
     }
 }

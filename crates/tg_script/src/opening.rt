@@ -1,16 +1,18 @@
 //! The opening of a run: the edge lines of its script, and the store that they make.
-ghost use Rattle.std.specs.Prelude.{◌≡◌, ◌+◌, ◌<◌, ◌≤◌, ℕ, List, Some, true, false, IfOk, IfSome};
+ghost use Rattle.std.specs.Prelude.{◌≡◌, ◌+◌, ◌<◌, ◌≤◌, ℕ, List, length, Some, true, false, IfOk, IfSome};
 ghost use Rattle.std.specs.List.{All};
-ghost use Rattle.tg_model.specs.Opened.{Plan, JoinsWorkers, HasValues};
+ghost use Rattle.tg_model.specs.Opened.{Plan, JoinsWorkers};
 ghost use Rattle.tg_script.specs.Lines.{read_failures, write_failures};
 ghost use Rattle.tg_script.specs.Opening.{ReadsEdges, IsCommand, Opens};
 
+use crate::drafts::values_of;
 use crate::fault::ScriptFault;
 use crate::line::Line;
 use crate::script::Script;
 use crate::source::Source;
 use std::alloc::Global;
-use tg_model::{Edge, Opening, Value};
+use tg_model::{Edge, MAX_VERTICES, Opening};
+use tg_payload::{Draft, Payload};
 use tg_store::Store;
 
 /// The edges in front of a script, and the line behind them.
@@ -29,7 +31,7 @@ pub(crate) fn read_edges<S: Source>(
     requires { script.old.opening ≡ true }
     ensures edges { IfOk result (λ front. All (JoinsWorkers script.old.workers) front.edges.items) }
     ensures first { IfOk result (λ front. IfSome front.first (λ line. IsCommand line × (script.new.opening ≡ false))) }
-    ensures bytes { (bytes : List ℕ) → S.left source.old ≡ Some bytes → ReadsEdges script.old bytes result script.new (S.left source.new) }
+    ensures bytes { (bytes : List ℕ) → S.left source.old ≡ Some bytes → (rest : List ℕ) × (S.left source.new ≡ Some rest) × ReadsEdges script.old bytes result script.new rest }
     ensures failures { S.failures source.new ≡ S.failures source.old + read_failures result }
     ensures unwritten { write_failures result ≡ 0 }
     ensures asked { S.asked source.new + script.new.lines.room ≤ S.asked source.old + script.old.lines.room + 1 }
@@ -48,25 +50,31 @@ pub(crate) fn read_edges<S: Source>(
     Ok(Front { edges, first: None })
 }
 
-/// Opens the store with the workers, the edges between them and their values. Refused for a limit that is out of its
+/// Opens the store with the workers, the edges between them and their payloads. Refused for a limit that is out of its
 /// range, or else for want of memory.
-pub(crate) fn open_store(
+pub(crate) fn open_store<P: Payload>(
     alloc: Global,
     workers: u64,
     edges: Vec<Edge>,
-    values: Vec<Value>,
+    drafts: Vec<Draft<P>>,
     max_vertices: u64,
-) -> Result<Store, ScriptFault>
+) -> Result<Store<P>, ScriptFault>
     requires workers { (1 ≤ workers) × (workers ≤ 64) }
     requires edges { All (JoinsWorkers workers) edges.items }
-    requires values { HasValues workers values.items }
-    ensures { let plan : Plan = record { workers = workers; edges = edges.items; values = values.items; limit = max_vertices } in Opens plan result }
+    requires drafts { length drafts.items ≡ workers }
+    ensures { let plan : Plan = record { workers = workers; edges = edges.items; values = drafts.items; limit = max_vertices } in Opens plan result }
 {
-    // Workers, edges and values are as asked, so it can only be the limit.
-    let Ok(opening) = Opening::new(workers, edges, values, max_vertices) else {
+    if max_vertices < 1 || MAX_VERTICES < max_vertices || max_vertices < workers {
         return Err(ScriptFault::BadLimits);
+    }
+    let Ok(values) = values_of(alloc, drafts.as_slice()) else {
+        return Err(ScriptFault::OutOfMemory);
     };
-    match Store::open(alloc, opening) {
+    // Workers, limits, edges and values are as asked.
+    let Ok(opening) = Opening::new(workers, edges, values, max_vertices) else {
+        unreachable!()
+    };
+    match Store::open(alloc, opening, drafts) {
         Ok(store) => Ok(store),
         Err(_) => Err(ScriptFault::OutOfMemory),
     }

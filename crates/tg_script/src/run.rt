@@ -5,29 +5,27 @@ ghost use Rattle.tg_script.specs.Answering.{apply_refusal, create_answer};
 use crate::answer::{Answer, Refusal};
 use crate::line::Line;
 use crate::supply::Supply;
-use tg_model::{Command, Reply, Value};
+use tg_model::{Command, Reply};
+use tg_payload::{Draft, Payload};
 use tg_rights::Label;
 use tg_store::{ApplyFault, CreateFault, CreateRefused, Kind, Store};
 
-/// The store, and the values for the vertices that are still to be made.
+/// The store, and the payloads for the vertices that are still to be made.
 #[derive(Drop)]
-pub(crate) struct Run {
-    pub(crate) store: Store,
-    pub(crate) supply: Supply,
+pub(crate) struct Run<P: Payload> {
+    pub(crate) store: Store<P>,
+    pub(crate) supply: Supply<P>,
 }
 
-impl Run {
+impl<P: Payload> Run<P> {
     ghost use Rattle.std.specs.Prelude.{◌≡◌, None};
-    ghost use Rattle.tg_model.specs.Opened.{ValueFits};
     ghost use Rattle.tg_script.specs.Opening.{IsCommand};
-    ghost use Rattle.tg_script.specs.Run.{Handles, HandlesWith, HasFittingStock};
+    ghost use Rattle.tg_script.specs.Run.{Handles, HandlesWith};
 
     /// What a line is answered. No line fails: where memory is wanting, that is the answer.
     pub(crate) fn answer(&mut self, line: Line) -> Answer
-        requires command { IsCommand line }
-        requires fits { HasFittingStock self.old }
-        ensures answer { Handles self.old line result self.new }
-        ensures fits { HasFittingStock self.new }
+        requires { IsCommand line }
+        ensures { Handles self.old line result self.new }
     {
         match line {
             Line::Create { worker, label } => self.create(worker, label),
@@ -38,8 +36,7 @@ impl Run {
     }
 
     fn apply(&mut self, worker: u64, command: Command) -> Answer
-        ensures answer { Handles self.old (Line.Plain worker command) result self.new }
-        ensures supply { self.new.supply ≡ self.old.supply }
+        ensures { Handles self.old (Line.Plain worker command) result self.new }
     {
         match self.store.apply(worker, command) {
             Ok(reply) => Answer::Reply(reply),
@@ -48,8 +45,7 @@ impl Run {
     }
 
     fn collect(&mut self) -> Answer
-        ensures answer { Handles self.old Line.Full result self.new }
-        ensures supply { self.new.supply ≡ self.old.supply }
+        ensures { Handles self.old Line.Full result self.new }
     {
         match self.store.collect(Kind::Full) {
             Ok(kept) => Answer::Collected(Some(kept)),
@@ -57,31 +53,26 @@ impl Run {
         }
     }
 
-    // The first value of the stock goes to the new vertex.
+    // The first payload of the stock goes to the new vertex.
     fn create(&mut self, worker: u64, label: Label) -> Answer
-        requires { HasFittingStock self.old }
-        ensures answer { Handles self.old (Line.Create worker label) result self.new }
-        ensures fits { HasFittingStock self.new }
+        ensures { Handles self.old (Line.Create worker label) result self.new }
     {
         match self.supply.take() {
-            Some(value) => self.create_of(worker, label, value),
+            Some(draft) => self.create_of(worker, label, draft),
             None => Answer::Refused(Refusal::Stock),
         }
     }
 
-    // Where no vertex is made, the value is put back.
-    fn create_of(&mut self, worker: u64, label: Label, value: Value) -> Answer
-        requires room { self.old.supply.front ≡ None }
-        requires value { ValueFits value }
-        requires fits { HasFittingStock self.old }
-        ensures answer { HandlesWith self.old value (Line.Create worker label) result self.new }
-        ensures fits { HasFittingStock self.new }
+    // Where no vertex is made, the payload is put back.
+    fn create_of(&mut self, worker: u64, label: Label, draft: Draft<P>) -> Answer
+        requires { self.old.supply.front ≡ None }
+        ensures { HandlesWith self.old draft (Line.Create worker label) result self.new }
     {
-        match self.store.create(worker, label, value) {
+        match self.store.create(worker, label, draft) {
             Ok(name) => Answer::Reply(Reply::Name(name)),
             Err(refused) => {
-                let CreateRefused { value, why } = refused;
-                self.supply.put_back(value);
+                let CreateRefused { draft, why } = refused;
+                self.supply.put_back(draft);
                 create_answer(why)
             }
         }

@@ -1,10 +1,8 @@
 //! The run of a whole script.
-ghost use Rattle.std.specs.Prelude.{◌≡◌, ◌+◌, ◌<◌, ◌≤◌, ℕ, List, [], Option, Some, Err, false, OnOk};
-ghost use Rattle.std.specs.List.{All};
-ghost use Rattle.tg_model.specs.Opened.{HasValues, ValueFits};
+ghost use Rattle.std.specs.Prelude.{◌≡◌, ◌+◌, ◌<◌, ◌≤◌, ℕ, List, [], length, Option, Some, Err, true, false, OnOk};
 ghost use Rattle.tg_script.specs.Lines.{read_failures, write_failures};
 ghost use Rattle.tg_script.specs.Opening.{IsCommand};
-ghost use Rattle.tg_script.specs.Run.{Shows, HasFittingStock};
+ghost use Rattle.tg_script.specs.Run.{Shows};
 ghost use Rattle.tg_script.specs.Running.{Ran, TellsAll, Finishes, RunsLine};
 ghost use Rattle.tg_script.specs.Script.{Scene, Start};
 
@@ -22,9 +20,9 @@ use crate::supply::Supply;
 use std::alloc::Global;
 use std::marker::Brand;
 use std::sync::ledger::{Blank, Ledger};
-use tg_model::Value;
+use tg_payload::{Draft, Payload};
 
-/// What a run is given beside its script and its values.
+/// What a run is given beside its script and its payloads.
 #[derive(Clone, Copy, PartialEq, Eq, Debug)]
 pub struct Settings {
     /// The number of workers, from 1 to 64.
@@ -33,30 +31,32 @@ pub struct Settings {
     pub max_vertices: u64,
 }
 
-/// Runs the script, with one value for each worker and a stock of values for the vertices that the script makes. The
+/// Runs the script, with one payload for each worker, by rising name, and a stock of payloads for the vertices that the
+/// script makes: a create line takes the first that is left, and where no vertex is made it stands in front again. The
 /// store opens at the first line that is no edge line, or at the end of the input; each reply is written before the
 /// next line is run. What is written is the text for the lines before the first fault, and after `WriteFailed` a
 /// front of it. The source is asked for at most 1,048,577 bytes. The sink is finished at the end, after a fault too,
 /// which then stands.
-pub fn run_script_one<S: Source, K: Sink>(
+pub fn run_script_one<P: Payload, S: Source, K: Sink>(
     alloc: Global,
     source: &mut S,
     sink: &mut K,
     settings: Settings,
-    values: Vec<Value>,
-    stock: Vec<Value>,
+    workers: Vec<Draft<P>>,
+    stock: Vec<Draft<P>>,
 ) -> Result<(), ScriptFault>
-    requires workers { (1 ≤ settings.workers) × (settings.workers ≤ 64) }
-    requires values { HasValues settings.workers values.items }
-    requires stock { All ValueFits stock.items }
-    ensures output { let start : Start = record { workers = settings.workers; limit = settings.max_vertices; values = values.items; stock = stock.items } in
-        (bytes before : List ℕ) → S.left source.old ≡ Some bytes → K.taken sink.old ≡ Some before → Ran start bytes before result (K.taken sink.new) }
+    requires number { (1 ≤ settings.workers) × (settings.workers ≤ 64) }
+    requires workers { length workers.items ≡ settings.workers }
+    ensures output { let start : Start = record { workers = settings.workers; limit = settings.max_vertices; values = workers.items; stock = stock.items } in
+        (bytes before : List ℕ) → S.left source.old ≡ Some bytes → K.taken sink.old ≡ Some before →
+        (left : List ℕ) × (S.left source.new ≡ Some left) × Ran start bytes before result left (K.taken sink.new) }
     ensures asked { S.asked source.new ≤ S.asked source.old + 1048577 }
     ensures read_failed { S.failures source.new ≡ S.failures source.old + read_failures result }
     ensures write_failed { result ≡ Err ScriptFault.WriteFailed → K.failures sink.old < K.failures sink.new }
     ensures unfailed { OnOk result (K.failures sink.new ≡ K.failures sink.old) }
+    ensures finished { K.finished sink.new ≡ true }
 {
-    let outcome = run_lines(alloc, source, sink, settings, values, stock);
+    let outcome = run_lines(alloc, source, sink, settings, workers, stock);
     finish(sink, outcome)
 }
 
@@ -68,45 +68,43 @@ pub struct InMemory {
 }
 
 /// Runs a script that lies in memory, as [`run_script_one`] does, and keeps what is written in memory.
-pub fn run_in_memory(
+pub fn run_in_memory<P: Payload>(
     alloc: Global,
     script: &[u8],
     settings: Settings,
-    values: Vec<Value>,
-    stock: Vec<Value>,
+    workers: Vec<Draft<P>>,
+    stock: Vec<Draft<P>>,
 ) -> InMemory
-    requires workers { (1 ≤ settings.workers) × (settings.workers ≤ 64) }
-    requires values { HasValues settings.workers values.items }
-    requires stock { All ValueFits stock.items }
-    ensures { let start : Start = record { workers = settings.workers; limit = settings.max_vertices; values = values.items; stock = stock.items } in
-        Ran start script.now [] result.outcome (Some result.written.items) }
+    requires number { (1 ≤ settings.workers) × (settings.workers ≤ 64) }
+    requires workers { length workers.items ≡ settings.workers }
+    ensures { let start : Start = record { workers = settings.workers; limit = settings.max_vertices; values = workers.items; stock = stock.items } in
+        (left : List ℕ) × Ran start script.now [] result.outcome left (Some result.written.items) }
 {
     let (asked, failures) = (Blank::new(1), Blank::new(1));
-    run_counted::<Brand, Brand>(alloc, script, settings, values, stock, asked, failures)
+    run_counted::<P, Brand, Brand>(alloc, script, settings, workers, stock, asked, failures)
 }
 
 // The counts of the source and of the sink are those of the ledgers A and F.
-fn run_counted<A: Ledger, F: Ledger>(
+fn run_counted<P: Payload, A: Ledger, F: Ledger>(
     alloc: Global,
     script: &[u8],
     settings: Settings,
-    values: Vec<Value>,
-    stock: Vec<Value>,
+    workers: Vec<Draft<P>>,
+    stock: Vec<Draft<P>>,
     asked: Blank,
     failures: Blank,
 ) -> InMemory
-    requires workers { (1 ≤ settings.workers) × (settings.workers ≤ 64) }
-    requires values { HasValues settings.workers values.items }
-    requires stock { All ValueFits stock.items }
+    requires number { (1 ≤ settings.workers) × (settings.workers ≤ 64) }
+    requires workers { length workers.items ≡ settings.workers }
     requires asked { (asked.name ≡ A.name) × (asked.parts ≡ A.parts) × (0 < asked.parts) }
     requires failures { (failures.name ≡ F.name) × (failures.parts ≡ F.parts) × (0 < failures.parts) }
-    ensures { let start : Start = record { workers = settings.workers; limit = settings.max_vertices; values = values.items; stock = stock.items } in
-        Ran start script.now [] result.outcome (Some result.written.items) }
+    ensures { let start : Start = record { workers = settings.workers; limit = settings.max_vertices; values = workers.items; stock = stock.items } in
+        (left : List ℕ) × Ran start script.now [] result.outcome left (Some result.written.items) }
 {
     let mut source = Bytes::new(script, Count::<A>::new(asked));
     let mut sink = Written::new(alloc, Count::<F>::new(failures));
-    let outcome = run_script_one(alloc, &mut source, &mut sink, settings, values, stock);
-    let Written { bytes, failures: _ } = sink;
+    let outcome = run_script_one(alloc, &mut source, &mut sink, settings, workers, stock);
+    let Written { bytes, .. } = sink;
     InMemory {
         written: bytes,
         outcome,
@@ -115,7 +113,8 @@ fn run_counted<A: Ledger, F: Ledger>(
 
 // Finishes the sink. A fault that came before stands.
 fn finish<K: Sink>(sink: &mut K, outcome: Result<(), ScriptFault>) -> Result<(), ScriptFault>
-    ensures { Finishes (K.taken sink.old) (K.failures sink.old) outcome result (K.taken sink.new) (K.failures sink.new) }
+    ensures outcome { Finishes (K.taken sink.old) (K.failures sink.old) outcome result (K.taken sink.new) (K.failures sink.new) }
+    ensures finished { K.finished sink.new ≡ true }
 {
     if sink.finish() {
         return outcome;
@@ -127,19 +126,19 @@ fn finish<K: Sink>(sink: &mut K, outcome: Result<(), ScriptFault>) -> Result<(),
 }
 
 // All but that the sink is finished.
-fn run_lines<S: Source, K: Sink>(
+fn run_lines<P: Payload, S: Source, K: Sink>(
     alloc: Global,
     source: &mut S,
     sink: &mut K,
     settings: Settings,
-    values: Vec<Value>,
-    stock: Vec<Value>,
+    workers: Vec<Draft<P>>,
+    stock: Vec<Draft<P>>,
 ) -> Result<(), ScriptFault>
-    requires workers { (1 ≤ settings.workers) × (settings.workers ≤ 64) }
-    requires values { HasValues settings.workers values.items }
-    requires stock { All ValueFits stock.items }
-    ensures output { let start : Start = record { workers = settings.workers; limit = settings.max_vertices; values = values.items; stock = stock.items } in
-        (bytes before : List ℕ) → S.left source.old ≡ Some bytes → K.taken sink.old ≡ Some before → Ran start bytes before result (K.taken sink.new) }
+    requires number { (1 ≤ settings.workers) × (settings.workers ≤ 64) }
+    requires workers { length workers.items ≡ settings.workers }
+    ensures output { let start : Start = record { workers = settings.workers; limit = settings.max_vertices; values = workers.items; stock = stock.items } in
+        (bytes before : List ℕ) → S.left source.old ≡ Some bytes → K.taken sink.old ≡ Some before →
+        (left : List ℕ) × (S.left source.new ≡ Some left) × Ran start bytes before result left (K.taken sink.new) }
     ensures asked { S.asked source.new ≤ S.asked source.old + 1048577 }
     ensures read_failed { S.failures source.new ≡ S.failures source.old + read_failures result }
     ensures write_failed { K.failures sink.new ≡ K.failures sink.old + write_failures result }
@@ -151,7 +150,7 @@ fn run_lines<S: Source, K: Sink>(
         alloc,
         settings.workers,
         edges,
-        values,
+        workers,
         settings.max_vertices,
     )?;
     let Some(first) = first else {
@@ -163,18 +162,17 @@ fn run_lines<S: Source, K: Sink>(
 }
 
 // Runs the lines from the first on that is no edge line.
-fn run_commands<S: Source, K: Sink>(
-    run: &mut Run,
+fn run_commands<P: Payload, S: Source, K: Sink>(
+    run: &mut Run<P>,
     script: &mut Script,
     source: &mut S,
     sink: &mut K,
     first: Line,
 ) -> Result<(), ScriptFault>
     requires command { IsCommand first }
-    requires fits { HasFittingStock run.old }
     requires opening { script.old.opening ≡ false }
     ensures written { (t : Option Scene) (rest before : List ℕ) → Shows run.old t → S.left source.old ≡ Some rest → K.taken sink.old ≡ Some before →
-        TellsAll script.old rest t first before result (K.taken sink.new) }
+        (left : List ℕ) × (S.left source.new ≡ Some left) × TellsAll script.old rest t first before result left (K.taken sink.new) }
     ensures asked { S.asked source.new ≤ S.asked source.old + script.old.lines.room + 1 }
     ensures read_failed { S.failures source.new ≡ S.failures source.old + read_failures result }
     ensures write_failed { K.failures sink.new ≡ K.failures sink.old + write_failures result }
@@ -193,11 +191,13 @@ fn run_commands<S: Source, K: Sink>(
 }
 
 // Answers the line, and writes the answer.
-fn run_line<K: Sink>(run: &mut Run, sink: &mut K, line: Line) -> Result<(), WriteFailed>
-    requires command { IsCommand line }
-    requires fits { HasFittingStock run.old }
-    ensures line { RunsLine run.old line run.new (K.taken sink.old) (K.failures sink.old) result (K.taken sink.new) (K.failures sink.new) }
-    ensures fits { HasFittingStock run.new }
+fn run_line<P: Payload, K: Sink>(
+    run: &mut Run<P>,
+    sink: &mut K,
+    line: Line,
+) -> Result<(), WriteFailed>
+    requires { IsCommand line }
+    ensures { RunsLine run.old line run.new (K.taken sink.old) (K.failures sink.old) result (K.taken sink.new) (K.failures sink.new) }
 {
     let answer = run.answer(line);
     write_reply(sink, &answer)

@@ -1,11 +1,37 @@
 //! Worked scripts, with what is written for each.
-ghost use Rattle.std.specs.Prelude.{◌≤◌};
+ghost use Rattle.std.specs.Prelude.{[], ◌∷◌};
+ghost use Rattle.tg_model.specs.declared.law.Law.TheVariants.{Cell};
 
-use crate::{ScriptFault, Settings, StockItem, read_stock, run_in_memory, values_of};
+use crate::{InMemory, ScriptFault, Settings, StockItem, drafts_of, read_stock, run_in_memory};
+use std::alloc::{AllocError, Global};
 use std::process::Abort;
+use std::sync::Arc;
+use std::sync::atomic::{AtomicU64, Ordering};
 use std::test::Fail;
+use tg_model::Law;
+use tg_payload::{CellPayload, LogPayload, MaxPayload, Payload, PayloadBox, SumPayload};
 
-// Runs the script with so many workers, and compares what is written and how the run ends.
+// Runs the script with these payloads of the workers and in the stock.
+fn run_with<P: Payload>(
+    alloc: Global,
+    max_vertices: u64,
+    workers: Vec<P>,
+    stock: Vec<P>,
+    script: &[u8],
+) -> Result<InMemory, AllocError> {
+    let settings = Settings {
+        workers: workers.len() as u64,
+        max_vertices,
+    };
+    if settings.workers < 1 || 64 < settings.workers {
+        return Err(AllocError);
+    }
+    let workers = drafts_of(alloc, workers)?;
+    let stock = drafts_of(alloc, stock)?;
+    Ok(run_in_memory(alloc, script, settings, workers, stock))
+}
+
+// Runs the script with so many workers, who store cells, and compares what is written and how the run ends.
 fn runs(
     rt: &(impl Abort + AllocGlobal),
     workers: u64,
@@ -14,19 +40,23 @@ fn runs(
     script: &[u8],
     written: &[u8],
     outcome: Result<(), ScriptFault>,
-) -> Result<(), Fail>
-    requires { (1 ≤ workers) × (workers ≤ 64) }
-{
+) -> Result<(), Fail> {
     let alloc = rt.alloc();
-    let cells = vec![in alloc; StockItem::Cell; workers as usize]?;
-    let values = values_of(alloc, cells.as_slice())?;
-    let stock = read_stock(alloc, stock)?;
-    let stock = values_of(alloc, stock.as_slice())?;
-    let settings = Settings {
-        workers,
-        max_vertices,
-    };
-    let ran = run_in_memory(alloc, script, settings, values, stock);
+    let mut cells: Vec<PayloadBox> = Vec::new(alloc);
+    for _ in 0..workers {
+        cells.push(Box::new(alloc, CellPayload::new(0))?)?;
+    }
+    let mut boxes: Vec<PayloadBox> = Vec::new(alloc);
+    for item in read_stock(alloc, stock)?.as_slice() {
+        let payload: PayloadBox = match item {
+            StockItem::Cell => Box::new(alloc, CellPayload::new(0))?,
+            StockItem::Sum => Box::new(alloc, SumPayload::new(0))?,
+            StockItem::Max => Box::new(alloc, MaxPayload::new(0))?,
+            StockItem::Log => Box::new(alloc, LogPayload::new(alloc, 4))?,
+        };
+        boxes.push(payload)?;
+    }
+    let ran = run_with(alloc, max_vertices, cells, boxes, script)?;
     assert_eq!(rt; ran.written.as_slice(), written);
     assert_eq!(rt; ran.outcome, outcome);
     Ok(())
@@ -126,4 +156,66 @@ fn edge_lines_unite(rt: HostRuntime) -> Result<(), Fail> {
 fn weak_collection_counts_all_names(rt: HostRuntime) -> Result<(), Fail> {
     let script = b"0 create r\n0 remove 1 r\nfull\n";
     runs(&rt, 1, 1_000_000, b"c", script, b"ok 1\nok\nok 2\n", Ok(()))
+}
+
+// A payload that counts its drops.
+struct CountingPayload {
+    number: u64,
+    drops: Arc<AtomicU64>,
+}
+
+impl Drop for CountingPayload {
+    fn drop(self) {
+        self.drops.fetch_add(1, Ordering::SeqCst);
+        let CountingPayload {
+            number: _,
+            drops: _,
+        } = self;
+    }
+}
+
+impl Payload for CountingPayload {
+    ghost value = { λ p. record { law = Cell; state = p.number ∷ [] } };
+
+    fn law(&self) -> Law {
+        Law::Cell
+    }
+
+    fn len(&self) -> usize {
+        1
+    }
+
+    fn at(&self, _i: usize) -> u64 {
+        self.number
+    }
+
+    fn write(&mut self, number: u64) -> Result<(), AllocError> {
+        self.number = number;
+        Ok(())
+    }
+}
+
+// The second create is refused; what is in the store, and what is left in the stock, is dropped once, at the end.
+#[test]
+fn two_counting_boxes(rt: HostRuntime) -> Result<(), Fail> {
+    let alloc = rt.alloc();
+    let drops = Arc::new(alloc, AtomicU64::new(0))?;
+    let mut stock: Vec<PayloadBox> = Vec::new(alloc);
+    for number in 1..3u64 {
+        let payload = CountingPayload {
+            number,
+            drops: drops.clone()?,
+        };
+        stock.push(Box::new(alloc, payload)?)?;
+    }
+    let mut workers: Vec<PayloadBox> = Vec::new(alloc);
+    workers.push(Box::new(alloc, CellPayload::new(0))?)?;
+    let script = b"0 create rw\n0 create rw\n0 read 1\n";
+    let ran = run_with(alloc, 2, workers, stock, script.as_slice())?;
+    assert_eq!(rt;
+        ran.written.as_slice(),
+        b"ok 1\nrefused vertices\nok 1\n".as_slice()
+    );
+    assert_eq!(rt; drops.load(Ordering::SeqCst), 2);
+    Ok(())
 }

@@ -49,7 +49,7 @@ impl Script {
 
     /// The next line, or `None` at the end of the input, or else the first fault.
     pub(crate) fn next<S: Source>(&mut self, source: &mut S) -> Result<Option<Line>, ScriptFault>
-        ensures bytes { (bytes : List ℕ) → S.left source.old ≡ Some bytes → NextLine self.old bytes result self.new (S.left source.new) }
+        ensures bytes { (bytes : List ℕ) → S.left source.old ≡ Some bytes → (rest : List ℕ) × (S.left source.new ≡ Some rest) × NextLine self.old bytes result self.new rest }
         ensures follows { IfOk result (λ next. IfSome next (λ line. Follows self.old line self.new)) }
         ensures shorter { IfOk result (λ next. IfSome next (λ _. self.new.lines.room < self.old.lines.room)) }
         ensures failures { S.failures source.new ≡ S.failures source.old + read_failures result }

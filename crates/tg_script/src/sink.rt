@@ -1,5 +1,5 @@
 //! Where the replies to a script go.
-ghost use Rattle.std.specs.Prelude.{◌≡◌, ◌≢◌, ◌+◌, [], List, ℕ, Option};
+ghost use Rattle.std.specs.Prelude.{◌≡◌, ◌≢◌, ◌+◌, [], List, ℕ, Bool, true, false, Option};
 ghost use Rattle.std.specs.List.{flat_map};
 ghost use Rattle.tg_script.specs.Sinks.{Takes, Keeps, put_failures, finish_failures, Writes};
 
@@ -12,8 +12,8 @@ pub enum Put {
     Failed,
 }
 
-/// Where bytes go. Contracts see the bytes that were taken, where they are known, and how often the sink has failed,
-/// a count with no greatest value.
+/// Where bytes go. Contracts see the bytes that were taken, where they are known, how often the sink has failed, a count
+/// with no greatest value, and whether it is finished.
 pub trait Sink {
     ghost use Rattle.tg_script.specs.Sinks.{Takes, Keeps, put_failures, finish_failures};
 
@@ -23,16 +23,21 @@ pub trait Sink {
     /// How often it has failed.
     ghost failures: { Self → ℕ };
 
+    /// Whether [`Sink::finish`] was called since bytes were last handed to it.
+    ghost finished: { Self → Bool };
+
     /// Takes some of the bytes, from the front.
     fn put(&mut self, bytes: &[u8]) -> Put
         requires { bytes.now ≢ [] }
         ensures bytes { Takes (taken self.old) bytes.now result (taken self.new) }
-        ensures failures { failures self.new ≡ failures self.old + put_failures result };
+        ensures failures { failures self.new ≡ failures self.old + put_failures result }
+        ensures finished { finished self.new ≡ false };
 
     /// Passes on what was taken but is still kept back. Answers whether that went well.
     fn finish(&mut self) -> bool
         ensures bytes { Keeps (taken self.old) (taken self.new) }
-        ensures failures { failures self.new ≡ failures self.old + finish_failures result };
+        ensures failures { failures self.new ≡ failures self.old + finish_failures result }
+        ensures finished { finished self.new ≡ true };
 }
 
 /// Writing came to an error, in the middle of a text or at its front.

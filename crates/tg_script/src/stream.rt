@@ -43,7 +43,26 @@ impl<R: Read + Drop, A: Ledger, F: Ledger> Source for OfRead<R, A, F> {
 #[derive(Drop)]
 pub struct OfWrite<W: Write + Drop, L: Ledger> {
     pub writer: W,
+    /// How often writing or flushing came to an error.
     pub failures: Count<L>,
+    /// Whether nothing was put since it was last finished.
+    pub finished: bool,
+}
+
+impl<W: Write + Drop, L: Ledger> OfWrite<W, L> {
+    ghost use Rattle.std.specs.Prelude.{◌≡◌};
+
+    /// The writer as it is; the count says how often it failed.
+    pub fn new(writer: W, failures: Count<L>) -> OfWrite<W, L>
+        ensures writer { result.writer ≡ writer }
+        ensures failures { result.failures ≡ failures }
+    {
+        OfWrite {
+            writer,
+            failures,
+            finished: false,
+        }
+    }
 }
 
 impl<W: Write + Drop, L: Ledger> Sink for OfWrite<W, L> {
@@ -51,7 +70,10 @@ impl<W: Write + Drop, L: Ledger> Sink for OfWrite<W, L> {
 
     ghost failures = { λ s. s.failures };
 
+    ghost finished = { λ s. s.finished };
+
     fn put(&mut self, bytes: &[u8]) -> Put {
+        self.finished = false;
         match self.writer.write(bytes) {
             Ok(count) if count > 0 => Put::Took(count),
             _ => {
@@ -62,6 +84,7 @@ impl<W: Write + Drop, L: Ledger> Sink for OfWrite<W, L> {
     }
 
     fn finish(&mut self) -> bool {
+        self.finished = true;
         let done = self.writer.flush().is_ok();
         if !done {
             self.failures.tick();

@@ -1,6 +1,8 @@
 //! The words of the command line.
-ghost use Rattle.std.specs.Prelude.{◌≤◌, IfOk};
+ghost use Rattle.std.specs.Prelude.{◌≡◌, ◌≤◌, IfOk, false, map, codes};
+ghost use Rattle.clap.specs.Words.{app_of, found_of, one_text, rule_of};
 ghost use Rattle.tgstore.specs.Ranges.{AreInRange};
+ghost use Rattle.tgstore.specs.Words.{AreSaid, command_line, number_or, number_rule, option_rule};
 
 use crate::help;
 use crate::settings::Options;
@@ -15,10 +17,11 @@ const DEFAULT_WORKERS: u64 = 2;
 
 const DEFAULT_VERTICES: u64 = 1_000_000;
 
-/// Reads the words, the first of which is the program's name. `Ok` only where each number is in its range: workers
-/// from 1 to 64, vertices from 1 to 2^24. An `Err` is the text for the user, of the help as of a fault, or want of
-/// memory.
+/// Reads the words, the first of which is the program's name: the options that they say, and the defaults of those that
+/// they don't. `Ok` only where each number is in its range: workers from 1 to 64, vertices from 1 to 2^24. An `Err` is the
+/// text for the user, of the help as of a fault, or want of memory.
 pub fn options<'a, S: AsStr>(alloc: Global, words: &'a [S]) -> Result<Options<'a>, Error>
+    ensures said { IfOk result (AreSaid (map S.text words.entry.now)) }
     ensures in_range { IfOk result (λ o. AreInRange o.settings) }
 {
     let mut command = command(alloc)?;
@@ -48,7 +51,9 @@ pub fn options<'a, S: AsStr>(alloc: Global, words: &'a [S]) -> Result<Options<'a
 }
 
 // The command line.
-fn command<'a>(alloc: Global) -> Result<Command<'a>, Error> {
+fn command<'a>(alloc: Global) -> Result<Command<'a>, Error>
+    ensures { IfOk result (λ command. app_of command ≡ command_line) }
+{
     let command = Command::new(alloc, "tgstore")
         .bin_name("tgstore")?
         .about(help::ABOUT)
@@ -60,7 +65,10 @@ fn command<'a>(alloc: Global) -> Result<Command<'a>, Error> {
 }
 
 // An option whose value is a number.
-fn number_arg<'a>(alloc: Global, name: &'a str, help: &'a str) -> Arg<'a> {
+fn number_arg<'a>(alloc: Global, name: &'a str, help: &'a str) -> Arg<'a>
+    ensures rule { rule_of result ≡ number_rule name.entry.now }
+    ensures local { result.global ≡ false }
+{
     Arg::new(alloc, name)
         .long(name)
         .value_name("N")
@@ -70,7 +78,10 @@ fn number_arg<'a>(alloc: Global, name: &'a str, help: &'a str) -> Arg<'a> {
 }
 
 // The option of the stock.
-fn stock_arg<'a>(alloc: Global) -> Arg<'a> {
+fn stock_arg<'a>(alloc: Global) -> Arg<'a>
+    ensures rule { rule_of result ≡ option_rule (codes "stock") }
+    ensures local { result.global ≡ false }
+{
     Arg::new(alloc, "stock")
         .long("stock")
         .value_name("TEXT")
@@ -78,7 +89,7 @@ fn stock_arg<'a>(alloc: Global) -> Arg<'a> {
         .action(ArgAction::Set)
 }
 
-// The number of an option, from 1 to `most`.
+// The number of an option, from 1 to `most`, or the default where the words don't have the option.
 fn number(
     alloc: Global,
     command: &mut Command,
@@ -89,14 +100,16 @@ fn number(
 ) -> Result<u64, Error>
     requires least { 1 ≤ default }
     requires most { default ≤ most }
-    ensures { IfOk result (λ n. (1 ≤ n) × (n ≤ most)) }
+    ensures in_range { IfOk result (λ n. (1 ≤ n) × (n ≤ most)) }
+    ensures said { IfOk result (λ n. n ≡ number_or default (one_text (found_of matches.now) name.now)) }
 {
-    match matches.get_one::<u64>(name) {
-        None => Ok(default),
-        Some(n) if 1 <= n && n <= most => Ok(n),
-        Some(n) => {
+    match matches.try_get_one::<u64>(name) {
+        Ok(None) => Ok(default),
+        Ok(Some(n)) if 1 <= n && n <= most => Ok(n),
+        _ => {
+            let text = matches.get_str(name).unwrap_or("");
             let message = format!(in alloc;
-                "invalid value '{n}' for '--{name} <N>': {n} is not in 1..={most}"
+                "invalid value '{text}' for '--{name} <N>': {text} is not in 1..={most}"
             )?;
             Err(command.error(ErrorKind::ValueValidation, message.as_str())?)
         }

@@ -1,8 +1,10 @@
+use Rattle.std.proofs.Common.{ap, ◌∙◌, arith, length}
 use Rattle.tg_model.specs.Opened.{Plan}
 use Rattle.tg_script.proofs.OpeningLaws.{only_limits}
 use Rattle.tg_script.proofs.opening.open_store.Goals as goal
 
-pub returns-in_default : goal.returns-in_default
-returns-in_default c =
-    let p : Plan = record { workers = c.args.workers; edges = c.args.edges.items; values = c.args.values.items; limit = c.args.max_vertices } in
-    only_limits p c.in_default.field-0 c.requires.workers c.requires.edges c.requires.values c.in_default.ensures.refused
+pub unreachable-requires : goal.unreachable-requires
+unreachable-requires g c =
+    let p : Plan = record { workers = c.args.workers; edges = c.args.edges.items; values = c.in-Ok.values.items; limit = c.args.max_vertices } in
+    let number = ap length (c.in-Ok.ensures.values ∙ c.as_slice.ensures.value) ∙ c.requires.drafts in
+    only_limits p c.in_default-new.field-0 c.requires.workers c.requires.edges (number, c.in-Ok.ensures.fit) c.in_default-new.ensures.refused (omega arith, omega arith, omega arith)

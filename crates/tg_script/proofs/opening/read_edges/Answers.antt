@@ -2,16 +2,16 @@ use Rattle.std.proofs.Common.{sym, arith, None, refl}
 use Rattle.std.proofs.lemmas.Result.{err_from_is_err_and}
 use Rattle.tg_script.specs.Opening.{edge_lines}
 use Rattle.tg_script.proofs.LinesLaws.{behind_more}
-use Rattle.tg_script.proofs.OpeningLaws.{behind_all, edges_more, edges_fault, pushed, edge_taken, command_taken, joined}
+use Rattle.tg_script.proofs.OpeningLaws.{behind_all, edges_more, edges_fault, edges_unkept, pushed, edge_taken, command_taken, joined}
 use Rattle.tg_script.proofs.opening.read_edges.Goals as goal
 
 pub returns-in_err-line-clause-bytes : goal.returns-in_err-line-clause-bytes
 returns-in_err-line-clause-bytes g c = λ bytes known.
     let i = c.loop-edges.invariant.bytes bytes known in
+    let n = c.in_err-line.ensures.bytes i.0 i.1 in
     let p = err_from_is_err_and c.from_residual.result c.from_residual.ensures.1 in
     rw (p.1, p.2)
-    (edges_fault c.args.script.now c.loop-edges.script c.next.new.self bytes i.0 c.loop-edges.edges.items c.in_err-line.field-0.0 (g.S.Source.left c.next.new.source) i.2
-    (c.in_err-line.ensures.bytes i.0 i.1))
+    (n.0, n.1, edges_fault c.args.script.now c.loop-edges.script c.next.new.self bytes i.0 c.loop-edges.edges.items c.in_err-line.field-0.0 n.0 i.2 n.2.0 n.2.1)
 
 pub returns-in_default-line : goal.returns-in_default-line
 returns-in_default-line g c =
@@ -30,6 +30,14 @@ returns-in_default-line g c =
       asked = omega (arith, asked, c.loop-edges.invariant.asked);
       asked_of_line = omega (arith, asked, c.loop-edges.invariant.asked);
     }
+
+pub returns-then-is_err-clause-bytes : goal.returns-then-is_err-clause-bytes
+returns-then-is_err-clause-bytes g c = λ bytes known.
+    let i = c.loop-edges.invariant.bytes bytes known in
+    let came = rw c.in-Some.is at c.in_ok-line.ensures.bytes in
+    let n = came i.0 i.1 in
+    let passes = rw c.in-Edge.is at n.2 in
+    (n.0, n.1, edges_unkept c.args.script.now c.loop-edges.script c.next.new.self c.next.new.self bytes i.0 n.0 c.loop-edges.edges.items c.in-Edge.edge i.2 passes)
 
 pub loop-edges-preserved : goal.loop-edges-preserved
 loop-edges-preserved g c =
@@ -55,7 +63,8 @@ pub returns-clause-bytes : goal.returns-clause-bytes
 returns-clause-bytes g c = λ bytes known.
     let i = c.loop-edges.invariant.bytes bytes known in
     let came = rw c.in_default.is at c.in_ok-line.ensures.bytes in
-    behind_all c.args.script.now c.loop-edges.script bytes i.0 (edge_lines c.loop-edges.edges.items) None i.2 (came i.0 i.1)
+    let n = came i.0 i.1 in
+    (n.0, n.1, behind_all c.args.script.now c.loop-edges.script bytes i.0 (edge_lines c.loop-edges.edges.items) None n.0 i.2 n.2)
 
 pub returns-in_err-line-clause-unwritten : goal.returns-in_err-line-clause-unwritten
 returns-in_err-line-clause-unwritten g c =

@@ -9,7 +9,6 @@ lines-init g c =
     let k = g.K.Sink in
     record {
       command = c.requires.command;
-      fits = c.requires.fits;
       opening = c.requires.opening;
       under = λ t rest before shows left taken. under_first c.args.script.now rest t c.args.first before c.args.run.now (s.left c.args.source.now) (k.taken c.args.sink.now) shows left taken;
       read = refl;
@@ -21,24 +20,29 @@ pub returns-in_default-clause-written : goal.returns-in_default-clause-written
 returns-in_default-clause-written g c = λ t rest before shows left taken.
     let s = g.S.Source in
     let k = g.K.Sink in
-    let w = c.in_default.ensures.line in
-    under_cut c.args.script.now rest t c.args.first before c.lines.script c.lines.run c.lines.line (s.left c.lines.source) (k.taken c.lines.sink) w.0 c.run_line.new.run (k.taken c.run_line.new.sink)
+    let w = c.in_default.ensures in
+    under_cut (Unit {0}) c.args.script.now rest t c.args.first before c.lines.script c.lines.run c.lines.line (s.left c.lines.source) (k.taken c.lines.sink) w.0 c.run_line.new.run (k.taken c.run_line.new.sink)
     (c.lines.invariant.under t rest before shows left taken) w.1 w.2.0
 
 pub returns-in_err-came-clause-written : goal.returns-in_err-came-clause-written
 returns-in_err-came-clause-written g c = λ t rest before shows left taken.
     let s = g.S.Source in
     let k = g.K.Sink in
-    let w = c.in-Ok.ensures.line in
+    let w = c.in-Ok.ensures in
     let p = err_from_is_err_and c.from_residual.result c.from_residual.ensures.1 in
-    rw (p.1, p.2)
-    (tells_fault (Unit {0}) c.in_err-came.field-0.0 c.args.script.now rest t c.args.first before (k.taken c.run_line.new.sink)
-    (under_end c.args.script.now rest t c.args.first before c.lines.script c.lines.run c.lines.line (s.left c.lines.source) (k.taken c.lines.sink) w.0 c.run_line.new.run (k.taken c.run_line.new.sink)
-    (Some c.in_err-came.field-0.0) (c.lines.invariant.under t rest before shows left taken) w.1 w.2.0 c.in_err-came.ensures.bytes))
+    let u = c.lines.invariant.under t rest before shows left taken in
+    let n = c.in_err-came.ensures.bytes u.rest u.leaves in
+    rw (p.1, p.2) (
+      n.0,
+      n.1,
+      tells_fault (Unit {0}) c.in_err-came.field-0.0 c.args.script.now rest t c.args.first before n.0 (k.taken c.run_line.new.sink) n.2.0
+          (under_end c.args.script.now rest t c.args.first before c.lines.script c.lines.run c.lines.line (s.left c.lines.source) (k.taken c.lines.sink) w.0 c.run_line.new.run (k.taken c.run_line.new.sink)
+          (Some c.in_err-came.field-0.0) n.0 u w.1 w.2.0 n.2.1),
+    )
 
 pub returns-in_err-came-clause-write_failed : goal.returns-in_err-came-clause-write_failed
 returns-in_err-came-clause-write_failed g c =
-    let w = c.in-Ok.ensures.line in
+    let w = c.in-Ok.ensures in
     let p = err_from_is_err_and c.from_residual.result c.from_residual.ensures.1 in
     rw (p.1, p.2) (omega (arith, c.in_err-came.ensures.unwritten, w.2.1, c.lines.invariant.wrote))
 
@@ -46,23 +50,27 @@ pub returns-in_default-came-clause-written : goal.returns-in_default-came-clause
 returns-in_default-came-clause-written g c = λ t rest before shows left taken.
     let s = g.S.Source in
     let k = g.K.Sink in
-    let w = c.in-Ok.ensures.line in
+    let w = c.in-Ok.ensures in
     let ends = rw c.in_default-came.is at c.in_ok-came.ensures.bytes in
-    under_end c.args.script.now rest t c.args.first before c.lines.script c.lines.run c.lines.line (s.left c.lines.source) (k.taken c.lines.sink) w.0 c.run_line.new.run (k.taken c.run_line.new.sink)
-    None (c.lines.invariant.under t rest before shows left taken) w.1 w.2.0 ends
+    let u = c.lines.invariant.under t rest before shows left taken in
+    let n = ends u.rest u.leaves in (
+      n.0,
+      n.1,
+      under_end c.args.script.now rest t c.args.first before c.lines.script c.lines.run c.lines.line (s.left c.lines.source) (k.taken c.lines.sink) w.0 c.run_line.new.run (k.taken c.run_line.new.sink)
+          None n.0 u w.1 w.2.0 n.2,
+    )
 
 pub lines-preserved : goal.lines-preserved
 lines-preserved g c =
     let s = g.S.Source in
     let k = g.K.Sink in
-    let w = c.in-Ok.ensures.line in
+    let w = c.in-Ok.ensures in
     let came = rw c.in-Some.is at c.in_ok-came.ensures.bytes in
     let follows = rw c.in-Some.is at c.in_ok-came.ensures.follows in
     let asked = rw c.in-Some.is at c.in_ok-came.ensures.asked_of_line in
     let n = next_command c.lines.script c.in-Some.next c.next.new.self c.lines.invariant.opening follows in
     record {
       command = n.0;
-      fits = c.in-Ok.ensures.fits;
       opening = n.1;
       under = λ t rest before shows left taken.
           under_next c.args.script.now rest t c.args.first before c.lines.script c.lines.run c.lines.line (s.left c.lines.source) (k.taken c.lines.sink) w.0 c.run_line.new.run (k.taken c.run_line.new.sink)

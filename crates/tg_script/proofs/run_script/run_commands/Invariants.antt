@@ -1,6 +1,6 @@
 use Rattle.std.proofs.Common.{◌≡◌, ◌+◌, ℕ, List, Option, Some, false}
 use Rattle.tg_script.specs.Opening.{IsCommand}
-use Rattle.tg_script.specs.Run.{Shows, HasFittingStock}
+use Rattle.tg_script.specs.Run.{Shows}
 use Rattle.tg_script.specs.Script.{Scene}
 use Rattle.tg_script.proofs.CommandLaws.{Under}
 use Rattle.tg_script.proofs.run_script.run_commands.Given as goal
@@ -11,7 +11,6 @@ invariant-lines g l =
     let k = g.K.Sink in
     record {
       command : IsCommand l.line;
-      fits : HasFittingStock l.run;
       opening : l.script.opening ≡ false;
       under : (t : Option Scene) (rest before : List ℕ) → Shows l.fn.run t → s.left l.fn.source ≡ Some rest → k.taken l.fn.sink ≡ Some before →
           Under l.fn.script rest t l.fn.first before l.script l.run l.line (s.left l.source) (k.taken l.sink);

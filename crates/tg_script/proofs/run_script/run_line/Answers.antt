@@ -1,4 +1,4 @@
 use Rattle.tg_script.proofs.run_script.run_line.Goals as goal
 
-pub returns-clause-line : goal.returns-clause-line
-returns-clause-line g c = (c.answer-answer.result, c.answer-answer.ensures.answer, c.write_reply.ensures)
+pub returns : goal.returns
+returns g c = (c.answer-answer.result, c.answer-answer.ensures, c.write_reply.ensures)

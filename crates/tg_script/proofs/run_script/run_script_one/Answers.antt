@@ -4,7 +4,11 @@ use Rattle.tg_script.proofs.run_script.run_script_one.Goals as goal
 
 pub returns-clause-output : goal.returns-clause-output
 returns-clause-output g c = λ bytes before left taken.
-    let start : Start = record { workers = c.args.settings.workers; limit = c.args.settings.max_vertices; values = c.args.values.items; stock = c.args.stock.items } in
+    let start : Start = record { workers = c.args.settings.workers; limit = c.args.settings.max_vertices; values = c.args.workers.items; stock = c.args.stock.items } in
     let s = g.K.Sink in
-    ran_finished c.run_lines-outcome.result c.finish.result start bytes before (s.taken c.run_lines-outcome.new.sink) (s.taken c.finish.new.sink)
-    (s.failures c.run_lines-outcome.new.sink) (s.failures c.finish.new.sink) (c.run_lines-outcome.ensures.output bytes before left taken) c.finish.ensures
+    let ran = c.run_lines-outcome.ensures.output bytes before left taken in (
+      ran.0,
+      ran.1,
+      ran_finished c.run_lines-outcome.result c.finish.result start bytes before ran.0 (s.taken c.run_lines-outcome.new.sink) (s.taken c.finish.new.sink)
+          (s.failures c.run_lines-outcome.new.sink) (s.failures c.finish.new.sink) ran.2 c.finish.ensures.outcome,
+    )

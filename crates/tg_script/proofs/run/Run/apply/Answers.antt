@@ -3,12 +3,12 @@ use Rattle.tg_script.specs.declared.run.Run.{Run}
 use Rattle.tg_script.proofs.RunLaws.{apply_done, apply_refused}
 use Rattle.tg_script.proofs.run.Run.apply.Goals as goal
 
-pub returns-in-Ok-clause-answer : goal.returns-in-Ok-clause-answer
-returns-in-Ok-clause-answer c =
-    let new : Run = record { store = c.apply.new.self; supply = c.args.self.now.supply } in
+pub returns-in-Ok : goal.returns-in-Ok
+returns-in-Ok g c =
+    let new : Run _ = record { store = c.apply.new.self; supply = c.args.self.now.supply } in
     apply_done c.args.self.now new c.args.worker c.args.command c.in-Ok.reply c.in-Ok.ensures.reply c.in-Ok.ensures.step c.in-Ok.ensures.no_such_worker refl
 
-pub returns-in-Err-clause-answer : goal.returns-in-Err-clause-answer
-returns-in-Err-clause-answer c =
-    let new : Run = record { store = c.apply.new.self; supply = c.args.self.now.supply } in
+pub returns-in-Err : goal.returns-in-Err
+returns-in-Err g c =
+    let new : Run _ = record { store = c.apply.new.self; supply = c.args.self.now.supply } in
     rw c.apply_refusal.ensures (apply_refused c.args.self.now new c.args.worker c.args.command c.in-Err.fault c.in-Err.ensures.no_such_worker c.in-Err.ensures.refused refl)

@@ -4,16 +4,16 @@ use Rattle.tg_script.specs.Supply.{values_left}
 use Rattle.tg_script.proofs.RunLaws.{create_done, create_refused}
 use Rattle.tg_script.proofs.run.Run.create_of.Goals as goal
 
-pub returns-in-Ok-clause-answer : goal.returns-in-Ok-clause-answer
-returns-in-Ok-clause-answer c =
-    let new : Run = record { store = c.create.new.self; supply = c.args.self.now.supply } in
-    create_done c.args.self.now.store new c.args.worker c.args.label c.args.value (values_left c.args.self.now.supply) c.in-Ok.name
+pub returns-in-Ok : goal.returns-in-Ok
+returns-in-Ok g c =
+    let new : Run _ = record { store = c.create.new.self; supply = c.args.self.now.supply } in
+    create_done c.args.self.now.store new c.args.worker c.args.label c.args.draft (values_left c.args.self.now.supply) c.in-Ok.name
     c.in-Ok.ensures.name c.in-Ok.ensures.step c.in-Ok.ensures.no_such_worker refl
 
-pub returns-in-Err-clause-answer : goal.returns-in-Err-clause-answer
-returns-in-Err-clause-answer c =
-    let new : Run = record { store = c.create.new.self; supply = c.put_back.new.self } in
+pub returns-in-Err : goal.returns-in-Err
+returns-in-Err g c =
+    let new : Run _ = record { store = c.create.new.self; supply = c.put_back.new.self } in
     let left = values_left c.args.self.now.supply in
     rw c.create_answer.ensures
-    (create_refused c.args.self.now.store new c.args.worker c.args.label c.args.value left c.in-Err.refused.why c.in-Err.ensures.no_such_worker c.in-Err.ensures.full
-    c.in-Err.ensures.refused (c.put_back.ensures ∙ ap (λ v. v ∷ left) c.in-Err.ensures.value))
+    (create_refused c.args.self.now.store new c.args.worker c.args.label c.args.draft left c.in-Err.refused.why c.in-Err.ensures.no_such_worker c.in-Err.ensures.full
+    c.in-Err.ensures.refused (c.put_back.ensures ∙ ap (λ v. v ∷ left) c.in-Err.ensures.handed_back))
