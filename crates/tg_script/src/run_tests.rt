@@ -12,7 +12,7 @@ use tg_model::Law;
 use tg_payload::{CellPayload, LogPayload, MaxPayload, Payload, PayloadBox, SumPayload};
 
 // Runs the script with these payloads of the workers and in the stock.
-pub(crate) fn run_with<P: Payload>(
+fn run_with<P: Payload>(
     alloc: Global,
     max_vertices: u64,
     workers: Vec<P>,
@@ -31,22 +31,7 @@ pub(crate) fn run_with<P: Payload>(
     Ok(run_in_memory(alloc, script, settings, workers, stock))
 }
 
-// A box of each of these kinds.
-fn boxes_of(alloc: Global, items: &[StockItem]) -> Result<Vec<PayloadBox>, AllocError> {
-    let mut boxes: Vec<PayloadBox> = Vec::new(alloc);
-    for item in items {
-        let payload: PayloadBox = match item {
-            StockItem::Cell => Box::new(alloc, CellPayload::new(0))?,
-            StockItem::Sum => Box::new(alloc, SumPayload::new(0))?,
-            StockItem::Max => Box::new(alloc, MaxPayload::new(0))?,
-            StockItem::Log => Box::new(alloc, LogPayload::new(alloc, 4))?,
-        };
-        boxes.push(payload)?;
-    }
-    Ok(boxes)
-}
-
-// Runs the script with so many workers, and compares what is written and how the run ends.
+// Runs the script with so many workers, who store cells, and compares what is written and how the run ends.
 fn runs(
     rt: &(impl Abort + AllocGlobal),
     workers: u64,
@@ -57,10 +42,21 @@ fn runs(
     outcome: Result<(), ScriptFault>,
 ) -> Result<(), Fail> {
     let alloc = rt.alloc();
-    let cells = vec![in alloc; StockItem::Cell; workers as usize]?;
-    let workers = boxes_of(alloc, cells.as_slice())?;
-    let stock = boxes_of(alloc, read_stock(alloc, stock)?.as_slice())?;
-    let ran = run_with(alloc, max_vertices, workers, stock, script)?;
+    let mut cells: Vec<PayloadBox> = Vec::new(alloc);
+    for _ in 0..workers {
+        cells.push(Box::new(alloc, CellPayload::new(0))?)?;
+    }
+    let mut boxes: Vec<PayloadBox> = Vec::new(alloc);
+    for item in read_stock(alloc, stock)?.as_slice() {
+        let payload: PayloadBox = match item {
+            StockItem::Cell => Box::new(alloc, CellPayload::new(0))?,
+            StockItem::Sum => Box::new(alloc, SumPayload::new(0))?,
+            StockItem::Max => Box::new(alloc, MaxPayload::new(0))?,
+            StockItem::Log => Box::new(alloc, LogPayload::new(alloc, 4))?,
+        };
+        boxes.push(payload)?;
+    }
+    let ran = run_with(alloc, max_vertices, cells, boxes, script)?;
     assert_eq!(rt; ran.written.as_slice(), written);
     assert_eq!(rt; ran.outcome, outcome);
     Ok(())
@@ -212,7 +208,8 @@ fn two_counting_boxes(rt: HostRuntime) -> Result<(), Fail> {
         };
         stock.push(Box::new(alloc, payload)?)?;
     }
-    let workers = boxes_of(alloc, [StockItem::Cell].as_slice())?;
+    let mut workers: Vec<PayloadBox> = Vec::new(alloc);
+    workers.push(Box::new(alloc, CellPayload::new(0))?)?;
     let script = b"0 create rw\n0 create rw\n0 read 1\n";
     let ran = run_with(alloc, 2, workers, stock, script.as_slice())?;
     assert_eq!(rt;

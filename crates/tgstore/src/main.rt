@@ -1,11 +1,12 @@
 //! The program: a script from standard input, replies to standard output.
 //!
 //! The words of the command line are read first (`words`), then the stock and the limits are looked at (`start`), and
-//! only then is input read (`run`). What goes wrong is one line on standard error and a status (`stop`).
+//! only then are boxes made (`boxes`) and input read (`run`). What goes wrong is one line on standard error and a status (`stop`).
 #![tactic(auto)]
 
 ghost use Rattle.tgstore.specs.Ranges.{AreInRange};
 
+mod boxes;
 mod help;
 mod run;
 mod settings;
@@ -74,7 +75,7 @@ fn run_options(rt: &HostRuntime, options: &Options) -> Result<(), Stop>
     } else {
         Pace::Blocks
     };
-    run::run(rt.alloc(), rt.stdin(), rt.stdout(), pace, start)
+    boxes::run_boxed(rt.alloc(), rt.stdin(), rt.stdout(), pace, start)
 }
 
 #[cfg(test)]

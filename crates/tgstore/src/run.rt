@@ -1,7 +1,7 @@
 //! A run between a reader and a writer.
-ghost use Rattle.std.specs.Prelude.{◌≡◌, ◌<◌, IfErr};
+ghost use Rattle.std.specs.Prelude.{◌≡◌, ◌<◌, IfErr, map};
 ghost use Rattle.tgstore.specs.Faults.{status_of};
-ghost use Rattle.tgstore.specs.Starts.{IsReady};
+ghost use Rattle.tgstore.specs.Starts.{IsReady, HasPayloads};
 
 use crate::start::{Start, StartFault};
 use crate::stop::Stop;
@@ -9,7 +9,8 @@ use std::alloc::Global;
 use std::io::{BufReader, BufWriter, LineWriter, Read, Write};
 use std::marker::Brand;
 use std::sync::ledger::{Blank, Ledger};
-use tg_script::{Count, OfRead, OfWrite, run_script_one};
+use tg_payload::Payload;
+use tg_script::{Count, OfRead, OfWrite, drafts_of, run_script_one};
 
 /// How many bytes are read, and how many are written, at once.
 const BLOCK: usize = 65536;
@@ -23,16 +24,27 @@ pub enum Pace {
     Blocks,
 }
 
-/// Runs the reader's script from the start, and writes the replies. Whatever was written is flushed at the end, after
-/// a fault too.
-pub fn run<R: Read + Drop, W: Write + Drop>(
+/// The payloads of a run.
+#[derive(Drop)]
+pub struct Payloads<P: Payload> {
+    /// What each worker stores, by rising name.
+    pub workers: Vec<P>,
+    /// What the vertices that are made store, in order.
+    pub stock: Vec<P>,
+}
+
+/// Runs the reader's script with these payloads, and writes the replies. Whatever was written is flushed at the end,
+/// after a fault too.
+pub fn run<P: Payload, R: Read + Drop, W: Write + Drop>(
     alloc: Global,
     reader: R,
     writer: W,
     pace: Pace,
-    start: Start,
+    start: &Start,
+    payloads: Payloads<P>,
 ) -> Result<(), Stop>
-    requires { IsReady start }
+    requires ready { IsReady start.now }
+    requires payloads { HasPayloads start.now (map P.value payloads.workers.items) (map P.value payloads.stock.items) }
     ensures { IfErr result (λ stop. status_of stop ≡ 1) }
 {
     let Ok(reader) = BufReader::with_capacity(alloc, BLOCK, reader) else {
@@ -43,29 +55,31 @@ pub fn run<R: Read + Drop, W: Write + Drop>(
             let Ok(writer) = LineWriter::new(alloc, writer) else {
                 return Err(Stop::Start(StartFault::OutOfMemory));
             };
-            run_between(alloc, reader, writer, start)
+            run_between(alloc, reader, writer, start, payloads)
         }
         Pace::Blocks => {
             let Ok(writer) = BufWriter::with_capacity(alloc, BLOCK, writer) else {
                 return Err(Stop::Start(StartFault::OutOfMemory));
             };
-            run_between(alloc, reader, writer, start)
+            run_between(alloc, reader, writer, start, payloads)
         }
     }
 }
 
 // Runs over buffers, each count named by a ledger of its own.
-fn run_between<R: Read + Drop, W: Write + Drop>(
+fn run_between<P: Payload, R: Read + Drop, W: Write + Drop>(
     alloc: Global,
     reader: R,
     writer: W,
-    start: Start,
+    start: &Start,
+    payloads: Payloads<P>,
 ) -> Result<(), Stop>
-    requires { IsReady start }
+    requires ready { IsReady start.now }
+    requires payloads { HasPayloads start.now (map P.value payloads.workers.items) (map P.value payloads.stock.items) }
     ensures { IfErr result (λ stop. status_of stop ≡ 1) }
 {
     let (asked, read_failures, write_failures) = (Blank::new(1), Blank::new(1), Blank::new(1));
-    run_counted::<Brand, Brand, Brand, R, W>(
+    run_counted::<Brand, Brand, Brand, P, R, W>(
         alloc,
         asked,
         read_failures,
@@ -73,23 +87,26 @@ fn run_between<R: Read + Drop, W: Write + Drop>(
         reader,
         writer,
         start,
+        payloads,
     )
 }
 
 // Runs where these ledgers name how often the reader is asked and fails, and how often the writer fails.
-fn run_counted<A: Ledger, B: Ledger, C: Ledger, R: Read + Drop, W: Write + Drop>(
+fn run_counted<A: Ledger, B: Ledger, C: Ledger, P: Payload, R: Read + Drop, W: Write + Drop>(
     alloc: Global,
     asked: Blank,
     read_failures: Blank,
     write_failures: Blank,
     reader: R,
     writer: W,
-    start: Start,
+    start: &Start,
+    payloads: Payloads<P>,
 ) -> Result<(), Stop>
     requires asked { (asked.name ≡ A.name) × (asked.parts ≡ A.parts) × (0 < asked.parts) }
     requires read_failures { (read_failures.name ≡ B.name) × (read_failures.parts ≡ B.parts) × (0 < read_failures.parts) }
     requires write_failures { (write_failures.name ≡ C.name) × (write_failures.parts ≡ C.parts) × (0 < write_failures.parts) }
-    requires start { IsReady start }
+    requires ready { IsReady start.now }
+    requires payloads { HasPayloads start.now (map P.value payloads.workers.items) (map P.value payloads.stock.items) }
     ensures { IfErr result (λ stop. status_of stop ≡ 1) }
 {
     let mut source = OfRead {
@@ -98,10 +115,15 @@ fn run_counted<A: Ledger, B: Ledger, C: Ledger, R: Read + Drop, W: Write + Drop>
         failures: Count::<B>::new(read_failures),
     };
     let mut sink = OfWrite::new(writer, Count::<C>::new(write_failures));
-    let Start {
-        settings,
+    let workers = drafts_of(alloc, payloads.workers)?;
+    let stock = drafts_of(alloc, payloads.stock)?;
+    run_script_one(
+        alloc,
+        &mut source,
+        &mut sink,
+        start.settings,
         workers,
         stock,
-    } = start;
-    run_script_one(alloc, &mut source, &mut sink, settings, workers, stock).map_err(Stop::Script)
+    )
+    .map_err(Stop::Script)
 }

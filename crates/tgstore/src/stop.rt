@@ -3,6 +3,7 @@ ghost use Rattle.std.specs.Prelude.{◌≡◌};
 ghost use Rattle.tgstore.specs.Faults.{status_of};
 
 use crate::start::StartFault;
+use std::alloc::{AllocError, AllocFailed};
 use tg_script::ScriptFault;
 use thiserror::Error;
 
@@ -18,6 +19,30 @@ pub enum Stop {
     /// The run met this fault.
     #[error("{0}")]
     Script(ScriptFault),
+}
+
+impl From<AllocError> for Stop {
+    ghost use Rattle.std.specs.Prelude.{◌≡◌};
+    ghost use Rattle.tgstore.specs.declared.start.StartFault.TheVariants.{OutOfMemory};
+    ghost use Rattle.tgstore.specs.declared.stop.Stop.TheVariants.{Start};
+
+    ghost from_gives = { λ _ stop. stop ≡ Start OutOfMemory };
+
+    fn from(_error: AllocError) -> Stop {
+        Stop::Start(StartFault::OutOfMemory)
+    }
+}
+
+impl<T: Drop> From<AllocFailed<T>> for Stop {
+    ghost use Rattle.std.specs.Prelude.{◌≡◌};
+    ghost use Rattle.tgstore.specs.declared.start.StartFault.TheVariants.{OutOfMemory};
+    ghost use Rattle.tgstore.specs.declared.stop.Stop.TheVariants.{Start};
+
+    ghost from_gives = { λ _ stop. stop ≡ Start OutOfMemory };
+
+    fn from(_refused: AllocFailed<T>) -> Stop {
+        Stop::Start(StartFault::OutOfMemory)
+    }
 }
 
 impl Stop {

@@ -1,0 +1,12 @@
+-- The values that the boxes of a stock begin with.
+use Rattle.std.specs.Prelude.{[], ◌∷◌}
+use Rattle.tg_model.specs.declared.law.Law.TheVariants as law
+use Rattle.tg_model.specs.declared.value.Value.{Value}
+use Rattle.tg_script.specs.declared.stock.StockItem.{StockItem}
+use Rattle.tg_script.specs.declared.stock.StockItem.TheVariants.{Cell, Sum, Max, Log}
+
+abbrev pub value_of : StockItem → Value
+value_of Cell = record { law = law.Cell; state = 0 ∷ [] }
+value_of Sum = record { law = law.Sum; state = 0 ∷ [] }
+value_of Max = record { law = law.Max; state = 0 ∷ [] }
+value_of Log = record { law = law.Log 4; state = [] }
