@@ -9,3 +9,4 @@ pub mod KeptCells
 pub mod KeptRows
 pub mod KeptGraph
 pub mod KeptFull
+pub mod StandingLaws

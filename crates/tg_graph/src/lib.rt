@@ -3,6 +3,7 @@
 
 mod cells;
 mod heap;
+pub mod laws;
 mod opening;
 mod rows;
 
