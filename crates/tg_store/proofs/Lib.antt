@@ -1,2 +1,4 @@
+mod DifferenceLaws
 mod PairLaws
+mod PayloadLaws
 mod StandLaws

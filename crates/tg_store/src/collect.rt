@@ -14,7 +14,7 @@ pub enum Kind {
     Full,
 }
 
-// Copies all rows and values into new vectors. Promises the names and the pairs of vertices that an edge joins, and no
+// Copies the rows into new vectors. Promises the names and the pairs of vertices that an edge joins, and no
 // more.
 pub(crate) fn compact(alloc: Global, graph: &Graph) -> Result<Graph, AllocError>
     ensures { IfOk result (λ new. KeepsNamesAndPairs (graph_of graph.now) (graph_of new)) }

@@ -12,8 +12,8 @@ impl Graph {
     ghost use Rattle.tg_model.specs.Plain.{graph_of};
     ghost use Rattle.tg_model.specs.Rules.{unless_held, denial_of};
 
-    // Why a command is denied.
-    pub(super) fn denial(&self, worker: u64, command: &Command) -> Option<Denial>
+    /// Why a command of a worker is denied, or `None` where it is served. Takes no memory.
+    pub fn denial(&self, worker: u64, command: &Command) -> Option<Denial>
         ensures { result ≡ denial_of (graph_of self.now).label worker command.now }
     {
         match *command {

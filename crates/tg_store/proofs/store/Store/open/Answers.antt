@@ -1,0 +1,13 @@
+use Rattle.std.proofs.Common.{◌≡◌, ap}
+use Rattle.tg_store.specs.Faults.{IsFirstDifference}
+use Rattle.tg_store.specs.declared.fault.OpenFault.TheVariants.{PayloadMismatch}
+use Rattle.tg_store.proofs.DifferenceLaws.{one_first}
+use Rattle.tg_store.proofs.store.Store.open.Goals as goal
+
+pub returns-in-Some-clause-mismatch : goal.returns-in-Some-clause-mismatch
+returns-in-Some-clause-mismatch g c =
+    let xs = c.args.opening.values in
+    let ys = c.args.drafts.items in
+    let first : IsFirstDifference xs ys c.in-Some.at = rw (c.values.ensures, c.as_slice.ensures.value) at c.in-Some.ensures in
+    λ at. rw c.open_refused.ensures
+    (λ e. let same : c.in-Some.at ≡ at = cc e in rw (← same) first, λ other. ap PayloadMismatch (one_first xs ys c.in-Some.at at first other))
