@@ -19,7 +19,12 @@ pub struct Copied {
     pub adoption: Adoption,
 }
 
-/// Collects with one thread.
+/// Copies what the roots reach into new blocks, with one thread. The spaces are only read.
+///
+/// A full collection copies exactly the cells in the closure of the roots, all of them to Old, whose new blocks are
+/// numbered from 0; a copy is its original with the places of what it names replaced. The refusals change nothing:
+/// `OutOfMemory` where memory was refused, and `HeapFull` where Old would need more than `space_blocks` blocks, so that
+/// at least 64 times as many cells aren't free.
 pub fn collect_one(
     alloc: Global,
     spaces: &Spaces,

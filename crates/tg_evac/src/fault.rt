@@ -2,13 +2,13 @@
 use std::alloc::{AllocError, AllocFailed};
 use thiserror::Error;
 
-/// Why a collection was refused. Nothing is changed then.
+/// Why a collection was refused; nothing was changed then.
 #[derive(Clone, Copy, PartialEq, Eq, Debug, Error)]
 pub enum CollectFault {
     /// Memory for a growth was refused.
     #[error("out of memory")]
     OutOfMemory,
-    /// The survivors may not fit into the blocks that a space may have.
+    /// A space would need more blocks than the limits give it.
     #[error("heap is full")]
     HeapFull,
 }
@@ -19,8 +19,8 @@ impl<T: Drop> From<AllocFailed<T>> for CollectFault {
 
     ghost from_gives = { λ _ e. e ≡ OutOfMemory };
 
-    fn from(_refused: AllocFailed<T>) -> CollectFault {
-        CollectFault::OutOfMemory
+    fn from(_refused: AllocFailed<T>) -> Self {
+        Self::OutOfMemory
     }
 }
 

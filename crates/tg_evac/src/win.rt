@@ -1,8 +1,10 @@
 //! A cell that was won.
 
-/// A cell that a collection copies, by its flat number, and the word of its new place: a link to it.
+/// A cell that a collection copies, and where to.
 #[derive(Clone, Copy, PartialEq, Eq, Debug)]
 pub struct Win {
+    /// The cell's flat number.
     pub cell: u64,
+    /// Its forwarding word: a link to its new place.
     pub word: u64,
 }
