@@ -134,20 +134,20 @@ module _ (h : SpaceList) (is : IsSpaceList h) (roots : List Root) (sound : AreSo
       let numbers = map (flat_of h) row in
       let long : length numbers ≡ length row = length-map row (flat_of h) in
       let below : All (λ (n : ℕ). n < length (cells_of h)) numbers = (λ k d low.
-          let inside : k < length row = omega arith in
-          subst (λ (n : ℕ). n < length (cells_of h)) (sym (get_or-map (flat_of h) row k p d inside))
-          (flat_inside h is.spaces (get_or row k p) (row_held h p ps object ends k p inside))) in
+      let inside : k < length row = omega arith in
+      subst (λ (n : ℕ). n < length (cells_of h)) (sym (get_or-map (flat_of h) row k p d inside))
+      (flat_inside h is.spaces (get_or row k p) (row_held h p ps object ends k p inside))) in
       let apart : IsDistinct (λ (a b : ℕ). a == b) numbers = IsDistinct-from_apart (λ (a b : ℕ). a == b) numbers (λ i j d less low.
-          let low_j : j < length row = omega arith in
-          let low_i : i < length row = omega arith in
-          let at_i = get_or-map (flat_of h) row i p d low_i in
-          let at_j = get_or-map (flat_of h) row j p d low_j in
-          ⊎_elim
-          (λ t.
-              let same = same_place h is.spaces (get_or row i p) (get_or row j p) (row_held h p ps object ends i p low_i) (row_held h p ps object ends j p low_j) (sym at_i ∙ t.1 ∙ at_j) in
-              let one : i ≡ j = (row_apart p p ps ps object object ends ends i j p low_i low_j same).1 in
-              absurd (omega arith))
-          (λ f. f.0) (eqb_tells (get_or numbers i d) (get_or numbers j d))) in
+      let low_j : j < length row = omega arith in
+      let low_i : i < length row = omega arith in
+      let at_i = get_or-map (flat_of h) row i p d low_i in
+      let at_j = get_or-map (flat_of h) row j p d low_j in
+      ⊎_elim
+      (λ t.
+      let same = same_place h is.spaces (get_or row i p) (get_or row j p) (row_held h p ps object ends i p low_i) (row_held h p ps object ends j p low_j) (sym at_i ∙ t.1 ∙ at_j) in
+      let one : i ≡ j = (row_apart p p ps ps object object ends ends i j p low_i low_j same).1 in
+      absurd (omega arith))
+      (λ f. f.0) (eqb_tells (get_or numbers i d) (get_or numbers j d))) in
       let few = length-le_from_distinct_below numbers (length (cells_of h)) apart (below_from_any numbers (length (cells_of h)) below) in
       omega arith
 

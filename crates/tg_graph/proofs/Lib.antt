@@ -1,3 +1,4 @@
+pub mod StandingLaws
 pub mod Members
 pub mod Places
 pub mod Layouts
@@ -9,4 +10,5 @@ pub mod KeptCells
 pub mod KeptRows
 pub mod KeptGraph
 pub mod KeptFull
-pub mod StandingLaws
+pub mod Walks
+pub mod Finding

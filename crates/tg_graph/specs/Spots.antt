@@ -40,3 +40,8 @@ IsSpotIn h name p qs (Empty cell index) =
     (word_where (refers_to h name) h (p ∷ qs) ≡ None) × (word_where is_empty h (p ∷ qs) ≡ Some (cell, index))
 IsSpotIn h name p qs (Full last) =
     (word_where (refers_to h name) h (p ∷ qs) ≡ None) × (word_where is_empty h (p ∷ qs) ≡ None) × (last_of p qs ≡ last)
+
+-- the empty place, if there is one, or else the last cell
+abbrev pub spot_for_new : Option (Place × ℕ) → Place → Spot
+spot_for_new None last = Full last
+spot_for_new (Some e) last = Empty e.0 e.1

@@ -1,11 +1,11 @@
 //! Walks along rows.
-ghost use Rattle.std.specs.Prelude.{◌≡◌, ◌+◌, ◌==◌, ◌≤◌, ◌++◌, [], length, option_map, position, IfOk, OnOk};
+ghost use Rattle.std.specs.Prelude.{◌≡◌, ◌+◌, ◌<◌, ◌≤◌, ◌++◌, [], length, option_map, position, IfOk, IfSome, OnOk};
 ghost use Rattle.std.specs.Option.{option_or};
 ghost use Rattle.std.specs.List.{All};
 ghost use Rattle.tg_space.specs.SpaceList.{cells_of};
-ghost use Rattle.tg_space.specs.Soundness.{AreSound, IsPointer, IsReference};
+ghost use Rattle.tg_space.specs.Soundness.{AreSound, IsReference};
 ghost use Rattle.tg_graph.specs.Rows.{IsRow, chunks_from, edges_in, link_at, row_words};
-ghost use Rattle.tg_graph.specs.Spots.{IsSpotIn, is_empty, refers_to};
+ghost use Rattle.tg_graph.specs.Spots.{IsSpotIn, is_empty, refers_to, spot_for_new as new_spot};
 
 use std::alloc::{AllocError, Global};
 use tg_rights::Label;
@@ -39,7 +39,7 @@ pub(crate) fn find_spot(spaces: &Spaces, from: Place, name: u64) -> Spot
     let mut empty = None;
     let mut at = from;
     let mut left = spaces.cells();
-    loop {
+    'row: loop {
         let cell = spaces.cell(at);
         let first = first_pointer(cell[0]);
         let words = &cell[first..LINK];
@@ -60,8 +60,9 @@ pub(crate) fn find_spot(spaces: &Spaces, from: Place, name: u64) -> Spot
 
 // The number of the reference to a name among these words.
 fn position_of(spaces: &Spaces, words: &[u64], name: u64) -> Option<usize>
-    requires { All (IsPointer spaces.now.spaces) words.now }
-    ensures { result ≡ position (refers_to spaces.now.spaces name) words.now }
+    requires { All (IsReference spaces.now.spaces) words.now }
+    ensures position { result ≡ position (refers_to spaces.now.spaces name) words.now }
+    ensures inside { IfSome result (λ k. k < length words.now) }
 {
     for (k, word) in words.iter().enumerate() {
         if *word != 0 && spaces.read(place_of(*word), NAME) == name {
@@ -84,12 +85,22 @@ fn first_empty(
     if before.is_some() {
         return before;
     }
-    let k = words.iter().position(|word| *word == 0)?;
+    let k = position_of_empty(words)?;
     Some((cell, first + k))
 }
 
+// The number of the first empty place among these words.
+fn position_of_empty(words: &[u64]) -> Option<usize>
+    ensures position { result ≡ position is_empty words.now }
+    ensures inside { IfSome result (λ k. k < length words.now) }
+{
+    words.iter().position(|word| *word == 0)
+}
+
 // The empty place, if one was found, or else the last cell.
-fn spot_for_new(empty: Option<(Place, usize)>, last: Place) -> Spot {
+fn spot_for_new(empty: Option<(Place, usize)>, last: Place) -> Spot
+    ensures { result ≡ new_spot empty last }
+{
     match empty {
         Some((cell, index)) => Spot::Empty { cell, index },
         None => Spot::Full { last },
@@ -110,7 +121,7 @@ pub(crate) fn edges_of(
     let mut edges = Vec::new(alloc);
     let mut at = from;
     let mut left = spaces.cells();
-    loop {
+    'row: loop {
         let cell = spaces.cell(at);
         let first = first_pointer(cell[0]);
         push_edges(spaces, &cell[first..LINK], &mut edges)?;

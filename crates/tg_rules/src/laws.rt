@@ -7,13 +7,16 @@
 ghost use Rattle.std.specs.Prelude.{◌≡◌, ◌<◌, ◌≤◌, ◌⊎◌, ℕ, List, None, Some};
 ghost use Rattle.tg_rights.specs.RightSet.{RightSet};
 ghost use Rattle.tg_model.specs.Graph.{ProtectionGraph, IsSubject, IsSound, with_rights};
-ghost use Rattle.tg_model.specs.Rules.{denial_of, denied_or, reply_of, labels_after, values_after, with_value, step, answer_of};
+ghost use Rattle.tg_model.specs.Rules.{denial_of, denied_or, reply_of, with_value, step, answer_of};
 ghost use Rattle.tg_model.specs.declared.command.Command.{Command};
 ghost use Rattle.tg_model.specs.declared.command.Deed.TheVariants.{Create, Plain};
 ghost use Rattle.tg_model.specs.declared.law.Law.{Law};
 ghost use Rattle.tg_model.specs.declared.reply.Denial.{Denial};
+ghost use Rattle.tg_model.specs.declared.reply.Reply.{Reply};
+ghost use Rattle.tg_model.specs.declared.reply.Reply.TheVariants.{Denied};
 ghost use Rattle.tg_graph.specs.Content.{Content, IsNamed, IsContent, IsSameContent, OnlyNamedHold};
 ghost use Rattle.tg_graph.specs.Standing.{StandsFor};
+ghost use Rattle.tg_rules.specs.Effect.{IsReplyOn, IsContentAfter};
 
 /// The denial of a subject's command is the same on a content as on the graph that it stands for. And the graph's
 /// answer is that denial or else the reply, computed on the content with the graph's number of vertices ever made.
@@ -24,6 +27,12 @@ pub fn decisions_on_a_content_are_its_graphs()
         StandsFor c g → IsSubject g x →
         answer_of g x (Plain command)
         ≡ denied_or (denial_of c.label x command) (reply_of c.label c.value g.made x command) }
+    ensures served { (c : Content) (g : ProtectionGraph) (x : ℕ) (command : Command) (reply : Reply) →
+        StandsFor c g → IsSubject g x → denial_of c.label x command ≡ None → IsReplyOn c x command reply →
+        answer_of g x (Plain command) ≡ reply }
+    ensures denied { (c : Content) (g : ProtectionGraph) (x : ℕ) (command : Command) (denial : Denial) →
+        StandsFor c g → IsSubject g x → denial_of c.label x command ≡ Some denial →
+        answer_of g x (Plain command) ≡ Denied denial }
 {}
 
 /// A content that is changed as the rules say stands for the next graph: where a command is served, and where a vertex
@@ -31,7 +40,7 @@ pub fn decisions_on_a_content_are_its_graphs()
 pub fn steps_on_a_content_are_its_graphs()
     ensures served { (c new : Content) (g : ProtectionGraph) (x : ℕ) (command : Command) →
         StandsFor c g → IsSubject g x → denial_of c.label x command ≡ None →
-        IsContent new (IsNamed c) (labels_after c.label x command) (values_after c.value command) →
+        IsContentAfter c new x command →
         StandsFor new (step g x (Plain command)) }
     ensures denied { (c new : Content) (g : ProtectionGraph) (x : ℕ) (command : Command) (denial : Denial) →
         StandsFor c g → IsSubject g x → denial_of c.label x command ≡ Some denial →
