@@ -1,14 +1,12 @@
 -- What the layout of a cell says of its words.
-use Rattle.std.proofs.Common.{◌≡◌, ◌≢◌, ℕ, zero, suc, ◌<◌, ◌≤◌, ◌+◌, ◌-◌, ◌*◌, ◌/◌, ◌%◌, ◌^◌, ◌⊎◌, ◌↔◌, ◌&&◌, inl, inr, Bool, true, false, ◌==◌, List, [], ◌∷◌, length, get_or, take, drop, refl, sym, ap, subst, arith, ◌∙◌, ⊎_elim, IsTrue}
+use Rattle.std.proofs.Common.{◌≡◌, ◌≢◌, ℕ, zero, suc, ◌<◌, ◌/◌, ◌^◌, ◌↔◌, ◌&&◌, inl, Bool, true, false, ◌==◌, List, [], ◌∷◌, get_or, take, drop, refl, sym, ap, subst, arith, ◌∙◌, ⊎_elim, IsTrue}
 use Rattle.std.specs.List.{All, list_all}
 use Rattle.std.proofs.lemmas.Bool.Decides.{nat_tests}
 use Rattle.std.proofs.lemmas.List.Elements.{All-nil}
-use Rattle.tg_rights.specs.RightSet.{no_rights}
 use Rattle.tg_word.specs.declared.Place.{Place}
-use Rattle.tg_word.specs.Word.{is_present, place_in, rights_in, word_at, link_to, IsPlace}
+use Rattle.tg_word.specs.Word.{is_present, place_in, rights_in, word_at, IsPlace}
 use Rattle.tg_word.proofs.Packing.{word_at-rights_in, is_place-place_in}
 use Rattle.tg_block.specs.Cells.{kind_of, all_are_zero}
-use Rattle.tg_block.specs.declared.CellKind.{CellKind}
 use Rattle.tg_block.specs.declared.CellKind.TheVariants.{Free, Object, Chunk, Bad}
 use Rattle.tg_space.specs.SpaceList.{SpaceList, IsSpaceList, Holds, cell_at}
 use Rattle.tg_space.specs.Soundness.{AreSound, HasLayout, HasLayoutOf, IsKindAt, IsReference, IsLink, LinksTo, link_of}

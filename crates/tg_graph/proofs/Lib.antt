@@ -1,4 +1,6 @@
 pub mod StandingLaws
+pub mod Walks
+pub mod Finding
 pub mod Members
 pub mod Places
 pub mod Layouts
@@ -10,5 +12,7 @@ pub mod KeptCells
 pub mod KeptRows
 pub mod KeptGraph
 pub mod KeptFull
-pub mod Walks
-pub mod Finding
+pub mod Kept
+pub mod Fresh
+pub mod Written
+pub mod Linked

@@ -1,15 +1,11 @@
 -- The places of a heap's cells, and what sound spaces say of the cell at each.
-use Rattle.std.proofs.Common.{◌≡◌, ◌≢◌, ℕ, zero, suc, ◌<◌, ◌≤◌, ◌+◌, ◌-◌, ◌*◌, ◌/◌, ◌%◌, ◌^◌, ◌⊎◌, ◌↔◌, inl, inr, Bool, true, false, ◌==◌, List, [], ◌∷◌, length, get_or, take, drop, map, refl, sym, ap, subst, arith, ◌∙◌, ⊎_elim, add-one, IsTrue}
-use Rattle.std.specs.List.{All, Contains, flat_map, range_with_len, sum_by}
+use Rattle.std.proofs.Common.{◌≡◌, ◌≢◌, ℕ, zero, suc, ◌<◌, ◌≤◌, ◌+◌, ◌-◌, ◌/◌, ◌%◌, ◌⊎◌, inl, inr, List, [], length, map, sym, ap, subst, arith, ◌∙◌, add-one}
+use Rattle.std.specs.List.{Contains, range_with_len}
 use Rattle.std.proofs.lemmas.Bool.{cases_lt}
-use Rattle.std.proofs.lemmas.Bool.Decides.{nat_tests}
-use Rattle.std.proofs.lemmas.List.{take_all}
 use Rattle.std.proofs.lemmas.List.Elements.{All-nil, All-get_or, All-from_get_or}
 use Rattle.tg_model.proofs.PlainLaws.{is_subject, is_worker}
 use Rattle.tg_word.specs.declared.Place.{Place}
-use Rattle.tg_block.specs.Cells.{kind_of, all_are_zero}
-use Rattle.tg_block.specs.declared.CellKind.TheVariants.{Free, Object, Chunk, Bad}
-use Rattle.tg_space.specs.SpaceList.{SpaceList, BlockList, IsSpace, IsSpaceList, Holds, space_of, cell_at, blocks_before, block_count, flat_of, cells_of}
+use Rattle.tg_space.specs.SpaceList.{SpaceList, IsSpaceList, Holds, space_of, cell_at, blocks_before, block_count, flat_of, cells_of}
 use Rattle.tg_space.specs.Soundness.{AreSound, HasLayout, IsRootIn, link_of}
 use Rattle.tg_space.specs.Targets.{cell_numbered}
 use Rattle.tg_space.specs.declared.spaces.Root.{Root}

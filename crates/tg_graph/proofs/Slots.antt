@@ -1,15 +1,15 @@
 -- Lists of references: what they say of a name, and what one more reference changes.
-use Rattle.std.proofs.Common.{◌≡◌, ◌≢◌, ℕ, zero, suc, ◌⊎◌, inl, inr, Bool, true, false, cond, not, ◌&&◌, ◌==◌, if◌then◌else◌, List, [], ◌∷◌, ◌++◌, length, map, refl, sym, ap, subst, arith, ◌∙◌, ⊎_elim}
+use Rattle.std.proofs.Common.{◌≡◌, ◌≢◌, ℕ, ◌⊎◌, inl, inr, true, false, cond, not, ◌&&◌, ◌==◌, if◌then◌else◌, List, [], ◌∷◌, ◌++◌, map, refl, sym, ap, subst, arith, ◌∙◌, ⊎_elim}
 use Rattle.std.specs.List.{All, IsDistinct, AllByRecursion, filter}
-use Rattle.std.proofs.lemmas.Bool.{cases_Bool, cases_eq}
+use Rattle.std.proofs.lemmas.Bool.{cases_Bool}
 use Rattle.std.proofs.lemmas.Bool.Decides.{nat_tests, eqb_tells}
-use Rattle.std.proofs.lemmas.List.{map-append}
+use Rattle.std.proofs.lemmas.List.{append-nil, map-append}
 use Rattle.std.proofs.lemmas.List.Elements.{All-nil, All-cons, All-head, All-tail, All-append, All-weaker, All-from_recursion, recursion_from_All, filter-append}
 use Rattle.std.proofs.lemmas.Map.Keys.{IsDistinct-head, IsDistinct-tail, IsDistinct-cons}
 use Rattle.tg_rights.specs.RightSet.{RightSet, is_none_held, no_rights}
 use Rattle.tg_word.specs.Word.{rights_in}
 use Rattle.tg_space.specs.SpaceList.{SpaceList}
-use Rattle.tg_space.specs.Soundness.{IsReference, RefersTo}
+use Rattle.tg_space.specs.Soundness.{IsReference}
 use Rattle.tg_graph.specs.Rows.{name_in, names_in, rights_to}
 use Rattle.tg_graph.proofs.Members.{All-left, All-right}
 
@@ -171,3 +171,71 @@ module _ (h : SpaceList) where
         by_name (inl same) =
             rw (same.0) (rights_at name word xs ys (subst (λ (n : ℕ). All (IsOther h n) xs) (sym same.1) (All-left (IsOther h (name_in h word)) xs ys others)) some (sym same.1))
         by_name (inr differ) = rw (differ.0) (rights_skip name word xs ys (λ _ e. differ.1 (sym e)))
+
+-- ---- what a change of one reference does to a list
+
+-- the new references refer to each vertex at most once, and give the old rights but for those over one name
+pub record Puts (h : SpaceList) (old new : List ℕ) (name : ℕ) (rights : RightSet) : Type 0 where
+  pub distinct : IsDistinct (λ a b. a == b) (names_in h new)
+  pub gives : (y : ℕ) → rights_to h y new ≡ (if y == name then rights else rights_to h y old)
+
+module _ (h : SpaceList) (xs ys : List ℕ) (word : ℕ) (some : word ≢ 0) where
+  -- an empty place gets a reference
+  pub puts_filled : All (IsOther h (name_in h word)) (xs ++ 0 ∷ ys) → IsDistinct (λ a b. a == b) (names_in h (xs ++ 0 ∷ ys)) → Puts h (xs ++ 0 ∷ ys) (xs ++ word ∷ ys) (name_in h word) (rights_in word)
+  puts_filled others apart =
+      let fewer = All-append (IsOther h (name_in h word)) xs ys (All-left (IsOther h (name_in h word)) xs (0 ∷ ys) others) (All-tail (IsOther h (name_in h word)) 0 ys (All-right (IsOther h (name_in h word)) xs (0 ∷ ys) others)) in
+      record {
+        distinct = put_distinct h xs ys word some fewer (subst (IsDistinct (λ a b. a == b)) (names_in-zero h xs ys) apart);
+        gives = λ y. put_rights h xs ys word some fewer y ∙ ap (λ (r : RightSet). cond (y == name_in h word) (rights_in word) r) (sym (rights_zero h y xs ys));
+      }
+
+  -- a reference goes
+  pub puts_cleared : IsDistinct (λ a b. a == b) (names_in h (xs ++ word ∷ ys)) → Puts h (xs ++ word ∷ ys) (xs ++ 0 ∷ ys) (name_in h word) no_rights
+  puts_cleared apart = record {
+    distinct = subst (IsDistinct (λ a b. a == b)) (sym (names_in-zero h xs ys)) (taken_distinct h xs ys word some apart);
+    gives = λ y. rights_zero h y xs ys ∙ by_name y (eqb_tells y (name_in h word));
+  }
+    where
+      by_name : (y : ℕ) → (((y == name_in h word) ≡ true) × (y ≡ name_in h word)) ⊎ (((y == name_in h word) ≡ false) × (y ≢ name_in h word)) → rights_to h y (xs ++ ys) ≡ (if y == name_in h word then no_rights else rights_to h y (xs ++ word ∷ ys))
+      by_name y (inl same) =
+          rw (same.0) (rights_none h y (xs ++ ys) (subst (λ (n : ℕ). All (IsOther h n) (xs ++ ys)) (sym same.1) (taken_others h xs ys word some apart)))
+      by_name y (inr differ) = rw (differ.0) (sym (rights_skip h y word xs ys (λ _ e. differ.1 (sym e))))
+
+  -- a reference is replaced by one to the same vertex
+  pub puts_changed : (other : ℕ) → other ≢ 0 → name_in h other ≡ name_in h word → IsDistinct (λ a b. a == b) (names_in h (xs ++ word ∷ ys)) → Puts h (xs ++ word ∷ ys) (xs ++ other ∷ ys) (name_in h other) (rights_in other)
+  puts_changed other some_other same apart =
+      let others = subst (λ (n : ℕ). All (IsOther h n) (xs ++ ys)) (sym same) (taken_others h xs ys word some apart) in
+      record {
+        distinct = put_distinct h xs ys other some_other others (taken_distinct h xs ys word some apart);
+        gives = λ y. put_rights h xs ys other some_other others y ∙ by_name y (eqb_tells y (name_in h other));
+      }
+    where
+      by_name : (y : ℕ) → (((y == name_in h other) ≡ true) × (y ≡ name_in h other)) ⊎ (((y == name_in h other) ≡ false) × (y ≢ name_in h other)) →
+          (if y == name_in h other then rights_in other else rights_to h y (xs ++ ys)) ≡ (if y == name_in h other then rights_in other else rights_to h y (xs ++ word ∷ ys))
+      by_name y (inl same_name) = rw (same_name.0) refl
+      by_name y (inr differ) = rw (differ.0) (sym (rights_skip h y word xs ys (λ _ e. differ.1 (sym e ∙ sym same))))
+
+-- empty places at the end say nothing
+module _ (h : SpaceList) where
+  pub names_empties : (xs zs : List ℕ) → All (λ z. z ≡ 0) zs → names_in h (xs ++ zs) ≡ names_in h xs
+  names_empties xs [] all = ap (names_in h) (append-nil xs)
+  names_empties xs (z ∷ zs) all =
+      ap (λ (w : ℕ). names_in h (xs ++ w ∷ zs)) (All-head (λ w. w ≡ 0) z zs all) ∙ names_in-zero h xs zs ∙ names_empties xs zs (All-tail (λ w. w ≡ 0) z zs all)
+
+  pub rights_empties : (xs zs : List ℕ) → All (λ z. z ≡ 0) zs → (y : ℕ) → rights_to h y (xs ++ zs) ≡ rights_to h y xs
+  rights_empties xs [] all y = ap (rights_to h y) (append-nil xs)
+  rights_empties xs (z ∷ zs) all y =
+      ap (λ (w : ℕ). rights_to h y (xs ++ w ∷ zs)) (All-head (λ w. w ≡ 0) z zs all) ∙ rights_zero h y xs zs ∙ rights_empties xs zs (All-tail (λ w. w ≡ 0) z zs all) y
+
+  others_empties : (name : ℕ) (xs zs : List ℕ) → All (IsOther h name) xs → All (λ z. z ≡ 0) zs → All (IsOther h name) (xs ++ zs)
+  others_empties name xs zs others all =
+      All-append (IsOther h name) xs zs others (All-weaker (λ z. z ≡ 0) (IsOther h name) (λ z e some. absurd (some e)) zs all)
+
+  -- references are put at the end, the first to a new vertex and the rest empty
+  pub puts_appended : (xs zs : List ℕ) (word : ℕ) → word ≢ 0 → All (λ z. z ≡ 0) zs → All (IsOther h (name_in h word)) xs → IsDistinct (λ a b. a == b) (names_in h xs) → Puts h xs (xs ++ word ∷ zs) (name_in h word) (rights_in word)
+  puts_appended xs zs word some all others apart =
+      let others' = others_empties (name_in h word) xs zs others all in
+      record {
+        distinct = put_distinct h xs zs word some others' (subst (IsDistinct (λ a b. a == b)) (sym (names_empties xs zs all)) apart);
+        gives = λ y. put_rights h xs zs word some others' y ∙ ap (λ (r : RightSet). cond (y == name_in h word) (rights_in word) r) (rights_empties xs zs all y);
+      }

@@ -212,10 +212,11 @@ module _ (h : SpaceList) (from at : Place) (left : ℕ) (edges more : List (ℕ 
       let some : link_at h at ≢ 0 = λ e. ne (link ∙ e) in
       let on = row_goes_on h at left collected.row some in
       let rest = rest_goes_on h at left collected.row some in
-      let place : place_in (link_at h at) ≡ next = sym (next_is ∙ ap place_in link) in
-      (on.0,
+      let place : place_in (link_at h at) ≡ next = sym (next_is ∙ ap place_in link) in (
+        on.0,
         subst (λ (q : Place). IsCollected h from q (left - 1) more) place
-        (record { row = on.1; all = here ∙ ap (λ (ps : List Place). more ++ edges_in h (words_of h ps)) rest }))
+            (record { row = on.1; all = here ∙ ap (λ (ps : List Place). more ++ edges_in h (words_of h ps)) rest }),
+      )
 
   pub collect_ends : slice_index words 7 ≡ 0 → more ≡ edges_in h (row_words h from)
   collect_ends zero =

@@ -1,5 +1,8 @@
 //! The graph in the cells: what one change writes.
-ghost use Rattle.std.specs.Prelude.{◌≡◌, ◌+◌, ◌*◌, ◌<◌, ◌≤◌, ◌⊎◌, Err, IfOk, IfErr, IsOk, OnOk, OnErr, length, Some};
+ghost use Rattle.std.specs.Prelude.{◌≡◌, ◌+◌, ◌*◌, ◌<◌, ◌≤◌, ◌⊎◌, false, slice_index, Err, IfOk, IfErr, IfSome, IsOk, OnOk, OnErr, length, Some};
+ghost use Rattle.tg_rights.specs.RightSet.{is_none_held};
+ghost use Rattle.tg_word.specs.Word.{place_in, rights_in};
+ghost use Rattle.tg_space.specs.SpaceList.{Holds, cell_at};
 ghost use Rattle.tg_model.specs.Graph.{with_rights, without_rights};
 ghost use Rattle.tg_model.specs.Rules.{state_of, with_value, written_at};
 ghost use Rattle.tg_payload.specs.Table.{Payloads};
@@ -39,15 +42,26 @@ impl<P: Payload> Cells<P> {
         requires graph { IsGraph self.now.spaces.spaces self.now.payloads }
         requires from { IsKindAt self.now.spaces.spaces Object from }
         ensures rights { rights_found result ≡ (content_in self.now.spaces.spaces self.now.payloads).label (name_at self.now.spaces.spaces from) name }
+        ensures some { IfSome result (λ found. is_none_held found.rights ≡ false) }
+        ensures place { IfSome result (λ found. IsVertexAt self.now.spaces.spaces name found.place) }
     {
-        let Spot::Reference { cell, index } = find_spot(&self.spaces, from, name) else {
-            return None;
-        };
+        match find_spot(&self.spaces, from, name) {
+            Spot::Reference { cell, index } => Some(self.found_at(cell, index)),
+            _ => None,
+        }
+    }
+
+    // What a reference says.
+    fn found_at(&self, cell: Place, index: usize) -> Found
+        requires held { Holds self.now.spaces.spaces cell }
+        requires inside { index < 8 }
+        ensures { let word = slice_index (cell_at self.now.spaces.spaces cell) index in result ≡ record { place = place_in word; rights = rights_in word } }
+    {
         let word = self.spaces.read(cell, index);
-        Some(Found {
+        Found {
             place: place_of(word),
             rights: rights_of(word),
-        })
+        }
     }
 
     /// The edges of an object, by rising name of the target.

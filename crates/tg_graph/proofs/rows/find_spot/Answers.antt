@@ -16,8 +16,8 @@ position_of-requires c =
     references_at h (table_list c.args.spaces.now c.cells-left.ensures.table) [] c.requires.sound c.row.at c.row.invariant.row.held in
     subst (All (IsReference h)) (sym (slice_is h c.row.at c.cell-cell.result c.first_pointer-first.result c.cell-cell.ensures.words c.first_pointer-first.ensures.word)) references
 
-pub returns-then-cell-eq0 : goal.returns-then-cell-eq0
-returns-then-cell-eq0 c =
+pub returns-then-cell-eq0-clause-spot : goal.returns-then-cell-eq0-clause-spot
+returns-then-cell-eq0-clause-spot c =
     let h = c.args.spaces.now.spaces in
     let qs = chunks_from h (length (cells_of h)) (link_at h c.args.from) in
     let ended = search_ends h c.args.name c.args.from c.row.at c.row.left c.row.empty c.first_empty-empty.result c.cell-cell.result c.first_pointer-first.result
