@@ -19,7 +19,7 @@ pointers_are words first long is =
     ap (λ (n : ℕ). take (n - first) (drop first words)) (sym long) ∙ take_rest words first ∙ ap (λ (n : ℕ). drop n words) is
 
 -- an object or a chunk is no free cell
-used_object : (words : List ℕ) → kind_of words ≡ Object → 0 < get_or words 0 0
+pub used_object : (words : List ℕ) → kind_of words ≡ Object → 0 < get_or words 0 0
 used_object words is = by_tests (get_or words 0 0 == 0) refl (all_are_zero words) refl
   where
     by_tests : (z : Bool) → (get_or words 0 0 == 0) ≡ z → (a : Bool) → all_are_zero words ≡ a → 0 < get_or words 0 0
@@ -27,7 +27,7 @@ used_object words is = by_tests (get_or words 0 0 == 0) refl (all_are_zero words
     by_tests true z true a = let e : Free ≡ Object = rw (z, a) at is in absurd cc
     by_tests true z false a = let e : Bad ≡ Object = rw (z, a) at is in absurd cc
 
-used_chunk : (words : List ℕ) → kind_of words ≡ Chunk → 0 < get_or words 0 0
+pub used_chunk : (words : List ℕ) → kind_of words ≡ Chunk → 0 < get_or words 0 0
 used_chunk words is = by_tests (get_or words 0 0 == 0) refl (all_are_zero words) refl
   where
     by_tests : (z : Bool) → (get_or words 0 0 == 0) ≡ z → (a : Bool) → all_are_zero words ≡ a → 0 < get_or words 0 0
@@ -50,7 +50,7 @@ module _ (h : SpaceList) where
 
   module _ (words : List ℕ) (long : length words ≡ 8) where
     -- the words of a cell from one on, up to the link
-    parts : (n m : ℕ) → n + m ≡ 7 → drop n words ≡ take m (drop n words) ++ (link_of words ∷ [])
+    pub parts : (n m : ℕ) → n + m ≡ 7 → drop n words ≡ take m (drop n words) ++ (link_of words ∷ [])
     parts n m sum =
         sym (take-append-drop m (drop n words))
         ∙ ap (λ (xs : List ℕ). take m (drop n words) ++ xs)

@@ -1,12 +1,21 @@
 -- What a full collection leaves: one forwarding word for each cell, and the new blocks of Old.
-use Rattle.std.specs.Prelude.{◌≡◌, ◌≢◌, ◌↔◌, ℕ, ◌<◌, List, [], length, slice_index, slice_index_or}
+use Rattle.std.specs.Prelude.{◌≡◌, ◌≢◌, ◌↔◌, ℕ, ◌+◌, ◌-◌, ◌*◌, ◌<◌, ◌≤◌, List, [], length, slice_index, slice_index_or, not, count_by}
 use Rattle.tg_word.specs.declared.Place.{Place}
 use Rattle.tg_word.specs.Word.{link_to, place_in}
-use Rattle.tg_block.specs.Cells.{cell_of, free_cell}
+use Rattle.tg_block.specs.Cells.{cell_of, free_cell, all_are_zero}
 use Rattle.tg_space.specs.SpaceList.{SpaceList, BlockList, cells_of}
 use Rattle.tg_space.specs.Closure.{IsInClosure}
 use Rattle.tg_space.specs.Targets.{every_space, targets_of, all_root_targets, IsImage}
 use Rattle.tg_space.specs.declared.spaces.Root.{Root}
+
+-- how many cells are not free
+abbrev pub used_cells : SpaceList → ℕ
+used_cells h = count_by (λ words. not (all_are_zero words)) (cells_of h)
+
+-- where a collection by this many helpers may find no room in a space, of whose blocks some are kept: the cells that
+-- may have to go there are more than the blocks that it may get can be sure to hold, as each helper may leave one open
+abbrev pub MayLackRoom : ℕ → ℕ → ℕ → ℕ → Type 0
+MayLackRoom space_blocks helpers kept cells = 64 * (space_blocks + 1 - helpers - kept) ≤ cells
 
 -- the place is in the new blocks of Old
 pub record IsNewPlace (old : BlockList) (p : Place) : Type 0 where

@@ -60,6 +60,11 @@ abbrev pub with_word_at : SpaceList → Place → ℕ → ℕ → SpaceList
 with_word_at h p i word =
     slice_set h p.space (slice_set (space_of h p.space) p.block (with_word (block_of h p.space p.block) p.cell i word))
 
+-- all words of one cell changed
+abbrev pub with_cell_at : SpaceList → Place → List ℕ → SpaceList
+with_cell_at h p words =
+    slice_set h p.space (slice_set (space_of h p.space) p.block (slice_set (block_of h p.space p.block) p.cell words))
+
 -- one more block of free cells at the end of a space
 abbrev pub with_block : SpaceList → ℕ → SpaceList
 with_block h space = slice_set h space (space_of h space ++ free_block ∷ [])

@@ -38,6 +38,7 @@ impl Space {
     pub fn len(&self) -> u64
         ensures blocks { result ≡ length self.now }
         ensures few { result ≤ 2 ^ 20 }
+        ensures whole { IsSpace self.now }
     {
         self.blocks.len() as u64
     }

@@ -1,0 +1,4 @@
+pub mod Claiming
+pub mod Counting
+pub mod Copying
+pub mod Collecting

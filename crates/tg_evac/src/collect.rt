@@ -1,0 +1,61 @@
+//! The collection: claim, then copy.
+ghost use Rattle.std.specs.Prelude.{◌≡◌, ◌≤◌, ◌^◌, [], IfErr, IfOk};
+ghost use Rattle.tg_space.specs.Collection.{IsFullCollection, MayLackRoom, used_cells};
+ghost use Rattle.tg_space.specs.Soundness.{AreSound};
+
+use crate::claims::Claims;
+use crate::copies::copy_won;
+use crate::fault::CollectFault;
+use std::alloc::Global;
+use tg_block::CELLS;
+use tg_space::{Adoption, Kind, Root, Space, Spaces};
+
+/// What a collection hands over.
+#[derive(Drop)]
+pub struct Copied {
+    /// For each cell, by its flat number, the word of its new place: a link to it, or 0 where it wasn't copied.
+    pub forward: Vec<u64>,
+    /// The new blocks.
+    pub adoption: Adoption,
+}
+
+/// Copies what the roots reach into new blocks, with one thread. The spaces are only read.
+///
+/// A full collection copies exactly the cells in the closure of the roots, all of them to Old, whose new blocks are
+/// numbered from 0; a copy is its original with the places of what it names replaced. The refusals change nothing:
+/// `OutOfMemory` where memory was refused, and `HeapFull` where Old would need more than `space_blocks` blocks, so that
+/// at least 64 times as many cells aren't free.
+pub fn collect_one(
+    alloc: Global,
+    spaces: &Spaces,
+    roots: &[Root],
+    kind: Kind,
+) -> Result<Copied, CollectFault>
+    requires { AreSound spaces.now.spaces roots.now }
+    ensures collected { IfOk result (λ copied. kind ≡ Kind.Full → IsFullCollection spaces.now.spaces roots.now copied.forward.items copied.adoption.old) }
+    ensures none_aged { IfOk result (λ copied. kind ≡ Kind.Full → copied.adoption.aged ≡ []) }
+    ensures full { IfErr result (λ fault. fault ≡ CollectFault.HeapFull → kind ≡ Kind.Full → MayLackRoom spaces.now.limits.space_blocks 1 0 (used_cells spaces.now.spaces)) }
+{
+    match kind {
+        Kind::Full => collect_full(alloc, spaces, roots),
+    }
+}
+
+// A full collection.
+fn collect_full(alloc: Global, spaces: &Spaces, roots: &[Root]) -> Result<Copied, CollectFault>
+    requires { AreSound spaces.now.spaces roots.now }
+    ensures collected { IfOk result (λ copied. IsFullCollection spaces.now.spaces roots.now copied.forward.items copied.adoption.old) }
+    ensures none_aged { IfOk result (λ copied. copied.adoption.aged ≡ []) }
+    ensures full { IfErr result (λ fault. fault ≡ CollectFault.HeapFull → MayLackRoom spaces.now.limits.space_blocks 1 0 (used_cells spaces.now.spaces)) }
+{
+    let room = CELLS * spaces.limits().space_blocks() as usize;
+    let mut claims = Claims::new(alloc, spaces.cells() as usize, room)?;
+    claims.trace(spaces, roots)?;
+    let Claims { forward, won, .. } = claims;
+    let old = copy_won(alloc, spaces, &forward, &won)?;
+    let aged = Space::new(alloc);
+    Ok(Copied {
+        forward,
+        adoption: Adoption { aged, old },
+    })
+}

@@ -1,0 +1,5 @@
+pub mod Content
+pub mod Standing
+pub mod Rows
+pub mod Heap
+pub mod Spots

@@ -1,0 +1,24 @@
+-- When a heap's content stands for a graph, and what a collection may drop.
+use Rattle.std.specs.Prelude.{◌≡◌, ◌↔◌, ℕ, ◌<◌}
+use Rattle.tg_model.specs.Graph.{ProtectionGraph, HasEdge, IsReachable}
+use Rattle.tg_model.specs.Walks.{Walk}
+use Rattle.tg_graph.specs.Content.{Content, IsNamed}
+
+-- The content has all that can be reached, it has what its vertices have edges to, and on the names that it has it is the graph.
+pub record StandsFor (c : Content) (g : ProtectionGraph) : Type 0 where
+  pub made : (x : ℕ) → IsNamed c x → x < g.made
+  pub reachable : (x : ℕ) → IsReachable g x → IsNamed c x
+  pub closed : (x y : ℕ) → IsNamed c x → HasEdge g.label x y → IsNamed c y
+  pub labels : (x y : ℕ) → IsNamed c x → c.label x y ≡ g.label x y
+  pub values : (x : ℕ) → IsNamed c x → c.value x ≡ g.value x
+
+-- walks along the content's edges lead to the name from a worker's
+abbrev pub IsReached : Content → ℕ → ℕ → Type 0
+IsReached c workers = Walk (λ x. x < workers) (HasEdge c.label)
+
+-- The new content is the old one with these names alone, and what it has edges to is among them.
+pub record Keeps (old new : Content) (kept : ℕ → Type 0) : Type 0 where
+  pub names : (x : ℕ) → IsNamed new x ↔ (IsNamed old x × kept x)
+  pub closed : (x y : ℕ) → IsNamed new x → HasEdge old.label x y → IsNamed new y
+  pub labels : (x y : ℕ) → IsNamed new x → new.label x y ≡ old.label x y
+  pub values : (x : ℕ) → IsNamed new x → new.value x ≡ old.value x

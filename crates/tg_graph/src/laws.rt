@@ -1,0 +1,25 @@
+//! Laws of contents alone. A function here does nothing: what it ensures is the law.
+//!
+//! The proofs of the crates above cite the lemmas behind them, which stand in `proofs/StandingLaws.antt`.
+ghost use Rattle.std.specs.Prelude.{◌≡◌, ◌↔◌, ℕ};
+ghost use Rattle.std.specs.List.{range_with_len};
+ghost use Rattle.tg_model.specs.Graph.{ProtectionGraph, IsReachable};
+ghost use Rattle.tg_graph.specs.Content.{Content, IsNamed};
+ghost use Rattle.tg_graph.specs.Standing.{StandsFor, IsReached, Keeps};
+
+/// What a collection keeps stands for the graph that the old content stood for, where all that can be reached is
+/// kept. A full collection keeps what can be reached on the content, from the workers: this is what can be reached on
+/// the graph, so it stands for the graph too, and its names are exactly those that can be reached.
+pub fn what_is_kept_stands_for_the_same_graph()
+    ensures kept { (old new : Content) (g : ProtectionGraph) →
+        StandsFor old g → Keeps old new (IsNamed new) → ((x : ℕ) → IsReachable g x → IsNamed new x) →
+        StandsFor new g }
+    ensures reached { (old : Content) (g : ProtectionGraph) (workers x : ℕ) →
+        StandsFor old g → g.subjects ≡ range_with_len 0 workers → IsReached old workers x ↔ IsReachable g x }
+    ensures full { (old new : Content) (g : ProtectionGraph) (workers : ℕ) →
+        StandsFor old g → g.subjects ≡ range_with_len 0 workers → Keeps old new (IsReached old workers) →
+        StandsFor new g }
+    ensures names { (old new : Content) (g : ProtectionGraph) (workers x : ℕ) →
+        StandsFor old g → g.subjects ≡ range_with_len 0 workers → Keeps old new (IsReached old workers) →
+        IsNamed new x ↔ IsReachable g x }
+{}

@@ -1,0 +1,10 @@
+//! The graph in the cells of a heap.
+#![tactic(auto)]
+
+mod cells;
+mod heap;
+pub mod laws;
+mod opening;
+mod rows;
+
+pub use heap::{Found, Heap, HeapRefused, VertexRefused};

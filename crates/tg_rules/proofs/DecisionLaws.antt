@@ -1,0 +1,45 @@
+-- What is decided and answered on a content is what the graph answers for which it stands.
+use Rattle.std.proofs.Common.{◌≡◌, ℕ, ◌<◌, Option, Some, None, refl, sym, ap, ◌∙◌}
+use Rattle.std.specs.List.{All}
+use Rattle.std.proofs.lemmas.List.Elements.{All-contains_itself}
+use Rattle.tg_model.specs.declared.command.Command.{Command}
+use Rattle.tg_model.specs.declared.command.Deed.TheVariants.{Plain}
+use Rattle.tg_model.specs.declared.reply.Denial.{Denial}
+use Rattle.tg_model.specs.declared.reply.Reply.{Reply}
+use Rattle.tg_model.specs.declared.reply.Reply.TheVariants as reply
+use Rattle.tg_model.specs.Graph.{ProtectionGraph, IsSubject}
+use Rattle.tg_model.specs.Rules.{denial_of, denied_or, reply_of, answer_of}
+use Rattle.tg_graph.specs.Content.{Content}
+use Rattle.tg_graph.specs.Standing.{StandsFor}
+use Rattle.tg_graph.proofs.StandingLaws.{answer_of-stands}
+use Rattle.tg_rules.specs.declared.decision.Verdict.TheVariants.{Served, Denied}
+use Rattle.tg_rules.specs.Verdict.{verdict_of}
+use Rattle.tg_rules.specs.Effect.{IsReplyOn}
+
+-- ---- verdicts
+
+pub served-none : (o : Option Denial) → verdict_of o ≡ Served → o ≡ None
+served-none None e = refl
+served-none (Some denial) e = absurd cc
+
+pub denied-some : (o : Option Denial) (denial : Denial) → verdict_of o ≡ Denied denial → o ≡ Some denial
+denied-some None denial e = absurd cc
+denied-some (Some other) denial e = let same : other ≡ denial = cc in ap Some same
+
+-- ---- answers
+
+module _ (c : Content) (g : ProtectionGraph) (stands : StandsFor c g) where
+  pub names_below : All (λ name. name < g.made) c.names
+  names_below k d inside = stands.made _ (All-contains_itself c.names k d inside)
+
+  module _ (x : ℕ) (command : Command) (subject : IsSubject g x) where
+    pub answer-denied : (denial : Denial) → denial_of c.label x command ≡ Some denial → answer_of g x (Plain command) ≡ reply.Denied denial
+    answer-denied denial denied =
+        answer_of-stands c g stands x command subject
+        ∙ ap (λ d. denied_or d (reply_of c.label c.value g.made x command)) denied
+
+    pub answer-served : (answer : Reply) → denial_of c.label x command ≡ None → IsReplyOn c x command answer → answer_of g x (Plain command) ≡ answer
+    answer-served answer none is =
+        answer_of-stands c g stands x command subject
+        ∙ ap (λ d. denied_or d (reply_of c.label c.value g.made x command)) none
+        ∙ sym (is g.made names_below)

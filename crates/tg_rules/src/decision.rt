@@ -1,0 +1,166 @@
+//! Whether a command is served.
+ghost use Rattle.std.specs.Prelude.{◌≡◌, ◌<◌, ◌==◌, false, IfOk, length};
+ghost use Rattle.std.specs.Option.{option_or};
+ghost use Rattle.std.specs.Result.{result_err};
+ghost use Rattle.tg_rights.specs.RightSet.{is_none_held};
+ghost use Rattle.tg_model.specs.Rules.{unless_distinct, unless_held, denial_of};
+ghost use Rattle.tg_graph.specs.Heap.{content_of};
+ghost use Rattle.tg_rules.specs.Verdict.{verdict_of, HasVertex};
+
+use crate::vertex::{Vertex, worker_of};
+use tg_graph::Heap;
+use tg_model::{Cause, Command, Denial, Rule};
+use tg_payload::Payload;
+use tg_rights::{Label, Right, Rights};
+
+/// What is decided of a command.
+#[derive(Clone, Copy, PartialEq, Eq, Debug)]
+pub enum Verdict {
+    /// It is served.
+    Served,
+    /// It is denied, for this reason, and is to change nothing.
+    Denied(Denial),
+}
+
+/// Decides a command of a worker by the rules, on what the heap has. The denial is the first check that fails, in the
+/// order distinctness, the right to use the rule, the rights that are taken or given. A name that no vertex has, or
+/// that was collected, is as good as one without an edge. Takes no memory.
+pub fn decide<P: Payload>(heap: &Heap<P>, worker: u64, command: &Command) -> Verdict
+    requires { worker < length heap.now.workers }
+    ensures { result ≡ verdict_of (denial_of (content_of heap.now).label worker command.now) }
+{
+    match check(heap, worker, command) {
+        Ok(()) => Verdict::Served,
+        Err(denial) => Verdict::Denied(denial),
+    }
+}
+
+// Makes each check of a command.
+fn check<P: Payload>(heap: &Heap<P>, worker: u64, command: &Command) -> Result<(), Denial>
+    requires { worker < length heap.now.workers }
+    ensures { result_err result ≡ denial_of (content_of heap.now).label worker command.now }
+{
+    let worker = worker_of(heap, worker);
+    match *command {
+        Command::Take {
+            via,
+            target,
+            rights,
+        } => check_take(heap, worker, via, target, rights),
+        Command::Grant {
+            via,
+            target,
+            rights,
+        } => check_grant(heap, worker, via, target, rights),
+        Command::Remove { target, rights } => {
+            check_use(heap, Rule::Remove, worker, target, rights.rights())
+        }
+        Command::Read { target } => {
+            check_use(heap, Rule::Read, worker, target, Rights::of(Right::R))
+        }
+        Command::Write { target, .. } => {
+            check_use(heap, Rule::Write, worker, target, Rights::of(Right::W))
+        }
+        Command::List => Ok(()),
+    }
+}
+
+// The checks of a take.
+fn check_take<P: Payload>(
+    heap: &Heap<P>,
+    worker: Vertex,
+    via: u64,
+    target: u64,
+    rights: Label,
+) -> Result<(), Denial>
+    requires { HasVertex heap.now worker }
+    ensures { result_err result ≡ denial_of (content_of heap.now).label worker.name (Command.Take via target rights) }
+{
+    let same = worker.name == via || via == target || worker.name == target;
+    check_distinct(Rule::Take, same)?;
+    let via = check_held(heap, Rule::Take, worker, via, Rights::of(Right::T))?;
+    check_held(heap, Rule::Take, via, target, rights.rights())?;
+    Ok(())
+}
+
+// The checks of a grant.
+fn check_grant<P: Payload>(
+    heap: &Heap<P>,
+    worker: Vertex,
+    via: u64,
+    target: u64,
+    rights: Label,
+) -> Result<(), Denial>
+    requires { HasVertex heap.now worker }
+    ensures { result_err result ≡ denial_of (content_of heap.now).label worker.name (Command.Grant via target rights) }
+{
+    let same = worker.name == via || via == target || worker.name == target;
+    check_distinct(Rule::Grant, same)?;
+    check_held(heap, Rule::Grant, worker, via, Rights::of(Right::G))?;
+    check_held(heap, Rule::Grant, worker, target, rights.rights())?;
+    Ok(())
+}
+
+// The checks of a command that wants only rights of the worker over its target.
+fn check_use<P: Payload>(
+    heap: &Heap<P>,
+    rule: Rule,
+    worker: Vertex,
+    target: u64,
+    rights: Rights,
+) -> Result<(), Denial>
+    requires worker { HasVertex heap.now worker }
+    requires some { is_none_held rights ≡ false }
+    ensures { result_err result ≡ option_or (unless_distinct rule (worker.name == target)) (unless_held (content_of heap.now).label rule worker.name target rights) }
+{
+    check_distinct(rule, worker.name == target)?;
+    check_held(heap, rule, worker, target, rights)?;
+    Ok(())
+}
+
+// Denies a command in which two vertices that must differ are one.
+fn check_distinct(rule: Rule, same: bool) -> Result<(), Denial>
+    ensures { result_err result ≡ unless_distinct rule same }
+{
+    if same {
+        return Err(Denial {
+            rule,
+            cause: Cause::NotDistinct,
+        });
+    }
+    Ok(())
+}
+
+// Denies a command that wants rights of one vertex over another, where they are missing. Else it answers that other.
+fn check_held<P: Payload>(
+    heap: &Heap<P>,
+    rule: Rule,
+    from: Vertex,
+    to: u64,
+    rights: Rights,
+) -> Result<Vertex, Denial>
+    requires from { HasVertex heap.now from }
+    requires some { is_none_held rights ≡ false }
+    ensures denial { result_err result ≡ unless_held (content_of heap.now).label rule from.name to rights }
+    ensures name { IfOk result (λ vertex. vertex.name ≡ to) }
+    ensures vertex { IfOk result (λ vertex. HasVertex heap.now vertex) }
+{
+    match heap.find_edge(from.place, to) {
+        Some(found) if found.rights.contains(rights) => Ok(Vertex {
+            name: to,
+            place: found.place,
+        }),
+        Some(found) => Err(missing(rule, from.name, to, rights.minus(found.rights))),
+        None => Err(missing(rule, from.name, to, rights)),
+    }
+}
+
+// The denial for want of these rights.
+fn missing(rule: Rule, from: u64, to: u64, rights: Rights) -> Denial
+    ensures { result ≡ record { rule = rule; cause = Cause.Missing from to rights } }
+{
+    Denial {
+        rule,
+        cause: Cause::Missing { from, to, rights },
+    }
+}
