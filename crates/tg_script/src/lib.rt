@@ -57,3 +57,4 @@ pub use sink::{Put, Sink, WriteFailed, put_all, put_texts};
 pub use source::{Fetched, Next, Source};
 pub use stock::{MOST_BOXES, StockFault, StockItem, read_stock};
 pub use stream::{OfRead, OfWrite};
+pub use tg_store::Limits;
