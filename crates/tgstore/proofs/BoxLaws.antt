@@ -1,6 +1,25 @@
 -- One box more.
 use Rattle.std.proofs.Common.{◌≡◌, ℕ, ◌+◌, List, [], ◌∷◌, ◌++◌, map, replicate, take, sym, ap, ◌∙◌}
+use Rattle.tg_model.specs.declared.law.Law.TheVariants as law
+use Rattle.tg_model.specs.declared.value.Value.{Value}
+use Rattle.tg_payload.specs.declared.cell.CellPayload.{CellPayload}
+use Rattle.tg_payload.specs.declared.sum.SumPayload.{SumPayload}
+use Rattle.tg_payload.specs.declared.max.MaxPayload.{MaxPayload}
+use Rattle.tg_payload.specs.declared.log.LogPayload.{LogPayload}
 use Rattle.std.proofs.lemmas.List.{map-append, replicate-append-replicate}
+
+-- the value of each kind of payload
+abbrev pub cell_of : CellPayload → Value
+cell_of p = record { law = law.Cell; state = p.last ∷ [] }
+
+abbrev pub sum_of : SumPayload → Value
+sum_of p = record { law = law.Sum; state = p.sum ∷ [] }
+
+abbrev pub max_of : MaxPayload → Value
+max_of p = record { law = law.Max; state = p.greatest ∷ [] }
+
+abbrev pub log_of : LogPayload → Value
+log_of p = record { law = law.Log p.most; state = p.numbers.items }
 
 -- as many as before of one value, and a further one
 pub one_more : {B X : Type 0} (f : B → X) (old new : List B) (b : B) (n : ℕ) (x : X) → new ≡ old ++ b ∷ [] → map f old ≡ replicate n x → f b ≡ x → map f new ≡ replicate (n + 1) x
