@@ -1,8 +1,9 @@
 //! What workers are answered.
-ghost use Rattle.std.specs.Prelude.{◌≡◌, ◌↔◌, IsTrue};
+ghost use Rattle.std.specs.Prelude.{◌≡◌, ◌↔◌, IsTrue, IfOk};
 
 use crate::edge::EdgeList;
 use crate::numbers::Numbers;
+use std::alloc::{AllocError, Global};
 use tg_rights::Rights;
 
 /// The rule by which a command was denied.
@@ -50,6 +51,20 @@ pub enum Reply {
 }
 
 impl Reply {
+    /// The same reply in memory of its own. Answers only want of memory otherwise.
+    pub fn copy(&self, alloc: Global) -> Result<Reply, AllocError>
+        ensures { IfOk result (λ copy. copy ≡ self.now) }
+    {
+        Ok(match self {
+            Reply::Done => Reply::Done,
+            Reply::Name(name) => Reply::Name(*name),
+            Reply::Values(values) => Reply::Values(values.copy(alloc)?),
+            Reply::Edges(edges) => Reply::Edges(edges.copy(alloc)?),
+            Reply::Denied(denial) => Reply::Denied(*denial),
+            Reply::VerticesFull => Reply::VerticesFull,
+        })
+    }
+
     /// Whether two replies are the same.
     pub fn same(&self, other: &Reply) -> bool
         ensures { IsTrue result ↔ (self.now ≡ other.now) }

@@ -18,20 +18,15 @@ use Rattle.tg_script.specs.Running.{IsTold, StandsTold, TellsAll}
 
 -- ---- one line and those behind it
 
-pub told_then : (u v : Option Scene) (l : Line) (a : Answer) (lines : List Line) (wants : ℕ) (text : List ℕ) → Serves u l a v → IsAdmissible v lines wants text → (more : ℕ) × IsAdmissible u (l ∷ lines) more (answer_text a ++ text)
-told_then None v l a lines wants text served rest = (0, tt)
-told_then (Some s) v l a lines wants text (inl answers) rest = (wants, inl (a, v, text, answers, refl, rest))
-told_then (Some s) v l a lines wants text (inr refused) rest =
-    let P : Option Scene → Type 0 = λ x. IsAdmissible x lines wants text in
+pub told_then : (s t : Scene) (l : Line) (a : Answer) (lines : List Line) (wants : ℕ) (text : List ℕ) → Serves s l a t → IsAdmissible t lines wants text → (more : ℕ) × IsAdmissible s (l ∷ lines) more (answer_text a ++ text)
+told_then s t l a lines wants text (inl answers) rest = (wants, inl (a, t, text, answers, refl, rest))
+told_then s t l a lines wants text (inr refused) rest =
+    let P : Scene → Type 0 = λ x. IsAdmissible x lines wants text in
     (wants + 1, inr (refused.0, wants, text, refused.1, refl, ap (λ x. answer_text x ++ text) refused.2, subst P refused.3 rest))
 
-pub told_none : (v : Option Scene) → IsAdmissible v [] 0 []
-told_none None = tt
-told_none (Some s) = (refl, refl)
-
 -- Where the run is: what it shows, what is left, what was written, and that whatever is told from here on is told from the start.
-pub record Under {P : Type 0} (start : Script) (bytes : List ℕ) (t : Option Scene) (first : Line) (before : List ℕ) (s : Script) (r : Run P) (l : Line) (left taken : Option (List ℕ)) : Type 0 where
-  pub scene : Option Scene
+pub record Under {P : Type 0} (start : Script) (bytes : List ℕ) (t : Scene) (first : Line) (before : List ℕ) (s : Script) (r : Run P) (l : Line) (left taken : Option (List ℕ)) : Type 0 where
+  pub scene : Scene
   pub rest : List ℕ
   pub sofar : List ℕ
   pub shows : Shows r scene
@@ -39,7 +34,7 @@ pub record Under {P : Type 0} (start : Script) (bytes : List ℕ) (t : Option Sc
   pub took : taken ≡ Some (before ++ sofar)
   pub goes_on : (lines : List Line) (wants : ℕ) (end : Option ScriptFault) (behind text : List ℕ) → ReadsFrom s rest lines end behind → IsAdmissible scene (l ∷ lines) wants text → IsTold start bytes t first end behind (sofar ++ text)
 
-pub under_first : {P : Type 0} (start : Script) (bytes : List ℕ) (t : Option Scene) (first : Line) (before : List ℕ) (r : Run P) (left taken : Option (List ℕ)) → Shows r t → left ≡ Some bytes → taken ≡ Some before → Under start bytes t first before start r first left taken
+pub under_first : {P : Type 0} (start : Script) (bytes : List ℕ) (t : Scene) (first : Line) (before : List ℕ) (r : Run P) (left taken : Option (List ℕ)) → Shows r t → left ≡ Some bytes → taken ≡ Some before → Under start bytes t first before start r first left taken
 under_first start bytes t first before r left taken shows leaves took = record {
   scene = t;
   rest = bytes;
@@ -57,10 +52,10 @@ wrote_some_known : (taken after : Option (List ℕ)) (known bytes : List ℕ) �
 wrote_some_known taken after known bytes is w = let P : Option (List ℕ) → Type 0 = λ x. WroteSome x bytes after in subst P is w
 
 -- the answer is written, and nothing more is read
-pub under_end : {P : Type 0} (start : Script) (bytes : List ℕ) (t : Option Scene) (first : Line) (before : List ℕ) (s : Script) (r : Run P) (l : Line) (left taken : Option (List ℕ)) (a : Answer) (r' : Run P) (after : Option (List ℕ)) (end : Option ScriptFault) (behind : List ℕ) (h : Under start bytes t first before s r l left taken) → Handles r l a r' → Wrote taken (answer_text a) after → ReadsFrom s h.rest [] end behind → StandsTold start bytes t first before end behind after
+pub under_end : {P : Type 0} (start : Script) (bytes : List ℕ) (t : Scene) (first : Line) (before : List ℕ) (s : Script) (r : Run P) (l : Line) (left taken : Option (List ℕ)) (a : Answer) (r' : Run P) (after : Option (List ℕ)) (end : Option ScriptFault) (behind : List ℕ) (h : Under start bytes t first before s r l left taken) → Handles r l a r' → Wrote taken (answer_text a) after → ReadsFrom s h.rest [] end behind → StandsTold start bytes t first before end behind after
 under_end start bytes t first before s r l left taken a r' after end behind h handles wrote ends =
     let v = handles h.scene h.shows in
-    let k = told_then h.scene v.0 l a [] 0 [] v.2 (told_none v.0) in
+    let k = told_then h.scene v.0 l a [] 0 [] v.2 (refl, refl) in
     let P : List ℕ → Type 0 = λ x. IsTold start bytes t first end behind (h.sofar ++ x) in (
       h.sofar ++ answer_text a,
       wrote_known taken after (before ++ h.sofar) (answer_text a) h.took wrote ∙ ap Some (append_assoc before h.sofar (answer_text a)),
@@ -68,10 +63,10 @@ under_end start bytes t first before s r l left taken a r' after end behind h ha
     )
 
 -- the answer is cut short, and nothing more is read
-pub under_cut : (T : Type 0) {P : Type 0} (start : Script) (bytes : List ℕ) (t : Option Scene) (first : Line) (before : List ℕ) (s : Script) (r : Run P) (l : Line) (left taken : Option (List ℕ)) (a : Answer) (r' : Run P) (after : Option (List ℕ)) → Under start bytes t first before s r l left taken → Handles r l a r' → WroteSome taken (answer_text a) after → (rest : List ℕ) × (left ≡ Some rest) × TellsAll {T = T} start bytes t first before (Err fault.WriteFailed) rest after
+pub under_cut : (T : Type 0) {P : Type 0} (start : Script) (bytes : List ℕ) (t : Scene) (first : Line) (before : List ℕ) (s : Script) (r : Run P) (l : Line) (left taken : Option (List ℕ)) (a : Answer) (r' : Run P) (after : Option (List ℕ)) → Under start bytes t first before s r l left taken → Handles r l a r' → WroteSome taken (answer_text a) after → (rest : List ℕ) × (left ≡ Some rest) × TellsAll {T = T} start bytes t first before (Err fault.WriteFailed) rest after
 under_cut T start bytes t first before s r l left taken a r' after h handles wrote =
     let v = handles h.scene h.shows in
-    let k = told_then h.scene v.0 l a [] 0 [] v.2 (told_none v.0) in
+    let k = told_then h.scene v.0 l a [] 0 [] v.2 (refl, refl) in
     let w = wrote_some_known taken after (before ++ h.sofar) (answer_text a) h.took wrote in
     let P : List ℕ → Type 0 = λ x. IsTold start bytes t first (Some fault.WriteFailed) h.rest (h.sofar ++ x) in (
       h.rest,
@@ -84,7 +79,7 @@ under_cut T start bytes t first before s r l left taken a r' after h handles wro
     )
 
 -- the answer is written, and a further line is read
-pub under_next : {P : Type 0} (start : Script) (bytes : List ℕ) (t : Option Scene) (first : Line) (before : List ℕ) (s : Script) (r : Run P) (l : Line) (left taken : Option (List ℕ)) (a : Answer) (r' : Run P) (after : Option (List ℕ)) (next : Line) (s' : Script) (left' : Option (List ℕ)) → Under start bytes t first before s r l left taken → Handles r l a r' → Wrote taken (answer_text a) after → ((rest : List ℕ) → left ≡ Some rest → (rest' : List ℕ) × (left' ≡ Some rest') × Passes s rest next s' rest') → Under start bytes t first before s' r' next left' after
+pub under_next : {P : Type 0} (start : Script) (bytes : List ℕ) (t : Scene) (first : Line) (before : List ℕ) (s : Script) (r : Run P) (l : Line) (left taken : Option (List ℕ)) (a : Answer) (r' : Run P) (after : Option (List ℕ)) (next : Line) (s' : Script) (left' : Option (List ℕ)) → Under start bytes t first before s r l left taken → Handles r l a r' → Wrote taken (answer_text a) after → ((rest : List ℕ) → left ≡ Some rest → (rest' : List ℕ) × (left' ≡ Some rest') × Passes s rest next s' rest') → Under start bytes t first before s' r' next left' after
 under_next start bytes t first before s r l left taken a r' after next s' left' h handles wrote came =
     let v = handles h.scene h.shows in
     let n = came h.rest h.leaves in
@@ -103,7 +98,7 @@ under_next start bytes t first before s r l left taken a r' after next s' left' 
 
 -- ---- faults
 
-pub tells_fault : (T : Type 0) (f : ScriptFault) (s : Script) (bytes : List ℕ) (t : Option Scene) (first : Line) (before left : List ℕ) (after : Option (List ℕ)) → IsOfReading f → StandsTold s bytes t first before (Some f) left after → TellsAll {T = T} s bytes t first before (Err f) left after
+pub tells_fault : (T : Type 0) (f : ScriptFault) (s : Script) (bytes : List ℕ) (t : Scene) (first : Line) (before left : List ℕ) (after : Option (List ℕ)) → IsOfReading f → StandsTold s bytes t first before (Some f) left after → TellsAll {T = T} s bytes t first before (Err f) left after
 tells_fault T fault.ReadFailed s bytes t first before left after r h = (r, h)
 tells_fault T fault.InputTooLong s bytes t first before left after r h = (r, h)
 tells_fault T (fault.LineTooLong n) s bytes t first before left after r h = (r, h)

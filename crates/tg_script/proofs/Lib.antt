@@ -11,6 +11,7 @@ pub mod OpeningLaws
 pub mod RunLaws
 pub mod CommandLaws
 pub mod RanLaws
+pub mod CountLaws
 pub mod OutputLaws
 pub mod StockLaws
 pub mod StreamLaws

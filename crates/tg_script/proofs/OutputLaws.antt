@@ -1,71 +1,48 @@
 -- The text for the lines of a script is one text.
-use Rattle.std.proofs.Common.{◌≡◌, ◌≢◌, inl, inr, ℕ, List, [], ◌∷◌, ◌++◌, Option, Some, None, refl, sym, ap, ◌∙◌, subst, arith, append_assoc, append-nil}
-use Rattle.std.specs.Prelude.{nat_lt, if◌then◌else◌}
+use Rattle.std.proofs.Common.{◌≡◌, inl, inr, ℕ, List, [], ◌∷◌, ◌++◌, Some, sym, ap, ◌∙◌, subst, arith}
 use Rattle.tg_rights.specs.RightSet.{RightSet}
+use Rattle.tg_model.specs.Graph.{IsReachable}
 use Rattle.tg_model.specs.declared.value.Value.{Value}
-use Rattle.tg_model.specs.declared.command.Deed.TheVariants as deed
-use Rattle.tg_model.specs.Rules.{step}
 use Rattle.tg_script.specs.declared.line.Line.{Line}
 use Rattle.tg_script.specs.declared.line.Line.TheVariants as line
 use Rattle.tg_script.specs.declared.answer.Answer.{Answer}
 use Rattle.tg_script.specs.declared.answer.Answer.TheVariants as told
 use Rattle.tg_script.specs.Texts.{answer_text}
-use Rattle.tg_script.specs.Script.{Scene, Creates, Answers, IsOutput, IsAdmissible, HasNoFull}
+use Rattle.tg_script.specs.Script.{Scene, Creates, Answers, IsOutput, IsAdmissible}
+use Rattle.tg_script.proofs.CountLaws.{count_same}
 
-pub is_output : (lines : List Line) (s : Option Scene) (text : List ℕ) → IsAdmissible s lines 0 text → IsOutput s lines text
-is_output lines None text h = tt
-is_output [] (Some s) text h = h.1
-is_output (l ∷ lines) (Some s) text (inl h) = (h.0, h.1, h.2, h.3, h.4, is_output lines h.1 h.2 h.5)
-is_output (l ∷ lines) (Some s) text (inr h) = absurd (omega (arith, h.4))
+pub is_output : (lines : List Line) (s : Scene) (text : List ℕ) → IsAdmissible s lines 0 text → IsOutput s lines text
+is_output [] s text h = h.1
+is_output (l ∷ lines) s text (inl h) = (h.0, h.1, h.2, h.3, h.4, is_output lines h.1 h.2 h.5)
+is_output (l ∷ lines) s text (inr h) = absurd (omega (arith, h.4))
 
--- two answers to one line are one, and the scenes after it too
-abbrev Agree : Answer → Option Scene → Answer → Option Scene → Type 0
-Agree a t b u = (a ≡ b) × (v : Scene) × (t ≡ Some v) × (u ≡ Some v)
+-- two answers to one line are one, and so are the scenes after it
+abbrev Agree : Answer → Scene → Answer → Scene → Type 0
+Agree a t b u = (a ≡ b) × (t ≡ u)
 
-creates_same : (s : Scene) (x : ℕ) (label : RightSet) (stock : List Value) (a b : Answer) (t u : Option Scene) → Creates s x label stock a t → Creates s x label stock b u → Agree a t b u
-creates_same s x label [] a b t u h k = (h.0 ∙ sym k.0, s, h.1, k.1)
-creates_same s x label (value ∷ rest) a b t u (inl h) (inl k) =
-    (h.1 ∙ sym k.1, record { graph = step s.graph x (deed.Create label value.law value.state); stock = if nat_lt s.graph.made s.graph.limit then rest else s.stock }, h.2, k.2)
+creates_same : (s : Scene) (x : ℕ) (label : RightSet) (stock : List Value) (a b : Answer) (t u : Scene) → Creates s x label stock a t → Creates s x label stock b u → Agree a t b u
+creates_same s x label [] a b t u h k = (h.0 ∙ sym k.0, h.1 ∙ sym k.1)
+creates_same s x label (value ∷ rest) a b t u (inl h) (inl k) = (h.1 ∙ sym k.1, h.2 ∙ sym k.2)
 creates_same s x label (value ∷ rest) a b t u (inl h) (inr k) = absurd (k.0 h.0)
 creates_same s x label (value ∷ rest) a b t u (inr h) (inl k) = absurd (h.0 k.0)
-creates_same s x label (value ∷ rest) a b t u (inr h) (inr k) = (h.1 ∙ sym k.1, s, h.2, k.2)
+creates_same s x label (value ∷ rest) a b t u (inr h) (inr k) = (h.1 ∙ sym k.1, h.2 ∙ sym k.2)
 
-answers_same : (s : Scene) (l : Line) (a b : Answer) (t u : Option Scene) → l ≢ line.Full → Answers s l a t → Answers s l b u → Agree a t b u
-answers_same s (line.Edge e) a b t u other h k = absurd h
-answers_same s (line.Create x label) a b t u other h k = creates_same s x label s.stock a b t u h k
-answers_same s (line.Plain x c) a b t u other (inl h) (inl k) = (h.1 ∙ sym k.1, record { graph = step s.graph x (deed.Plain c); stock = s.stock }, h.2, k.2)
-answers_same s (line.Plain x c) a b t u other (inl h) (inr k) = absurd (k.0 h.0)
-answers_same s (line.Plain x c) a b t u other (inr h) (inl k) = absurd (h.0 k.0)
-answers_same s (line.Plain x c) a b t u other (inr h) (inr k) = (h.1 ∙ sym k.1, s, h.2, k.2)
-answers_same s line.Full a b t u other h k = absurd (other refl)
-answers_same s line.Minor a b t u other h k = absurd h
+answers_same : (s : Scene) (l : Line) (a b : Answer) (t u : Scene) → Answers s l a t → Answers s l b u → Agree a t b u
+answers_same s (line.Edge e) a b t u h k = absurd h
+answers_same s (line.Create x label) a b t u h k = creates_same s x label s.stock a b t u h k
+answers_same s (line.Plain x c) a b t u (inl h) (inl k) = (h.1 ∙ sym k.1, h.2 ∙ sym k.2)
+answers_same s (line.Plain x c) a b t u (inl h) (inr k) = absurd (k.0 h.0)
+answers_same s (line.Plain x c) a b t u (inr h) (inl k) = absurd (h.0 k.0)
+answers_same s (line.Plain x c) a b t u (inr h) (inr k) = (h.1 ∙ sym k.1, h.2 ∙ sym k.2)
+answers_same s line.Full a b t u h k =
+    (h.2 ∙ ap (λ n. told.Collected (Some n)) (count_same (IsReachable s.graph) h.0 k.0 h.1 k.1) ∙ sym k.2, h.3 ∙ sym k.3)
+answers_same s line.Minor a b t u h k = absurd h
 
-pub outputs_same : (lines : List Line) (s : Scene) (text other : List ℕ) → HasNoFull lines → IsOutput (Some s) lines text → IsOutput (Some s) lines other → text ≡ other
-outputs_same [] s text other none h k = h ∙ sym k
-outputs_same (l ∷ lines) s text other none h k =
-    let same = answers_same s l h.0 k.0 h.1 k.1 none.0 h.3 k.3 in
-    let P : Option Scene → Type 0 = λ x. IsOutput x lines h.2 in
-    let Q : Option Scene → Type 0 = λ x. IsOutput x lines k.2 in
+pub outputs_same : (lines : List Line) (s : Scene) (text other : List ℕ) → IsOutput s lines text → IsOutput s lines other → text ≡ other
+outputs_same [] s text other h k = h ∙ sym k
+outputs_same (l ∷ lines) s text other h k =
+    let same = answers_same s l h.0 k.0 h.1 k.1 h.3 k.3 in
+    let P : Scene → Type 0 = λ x. IsOutput x lines h.2 in
     h.4 ∙ ap (λ x. answer_text x ++ h.2) same.0
-    ∙ ap (λ x. answer_text k.0 ++ x) (outputs_same lines same.1 h.2 k.2 none.1 (subst P same.2 h.5) (subst Q same.3 k.5))
+    ∙ ap (λ x. answer_text k.0 ++ x) (outputs_same lines k.1 h.2 k.2 (subst P same.1 h.5) k.5)
     ∙ sym k.4
-
--- what two outputs of lines with a full collection have in common: the text up to and with its answer
-pub front_same : (known : List Line) (s : Scene) (more : List Line) (text other : List ℕ) → HasNoFull known → IsOutput (Some s) (known ++ line.Full ∷ more) text → IsOutput (Some s) (known ++ line.Full ∷ more) other → (front : List ℕ) × (rest : List ℕ) × (others : List ℕ) × IsOutput (Some s) (known ++ line.Full ∷ []) front × (text ≡ front ++ rest) × (other ≡ front ++ others)
-front_same [] s more text other none h k =
-    let a : Answer = told.Collected (Some s.graph.made) in
-    (answer_text a, h.2, k.2, (a, None, [], (refl, refl), sym (append-nil (answer_text a)), tt), h.4 ∙ ap (λ x. answer_text x ++ h.2) h.3.0, k.4 ∙ ap (λ x. answer_text x ++ k.2) k.3.0)
-front_same (l ∷ known) s more text other none h k =
-    let same = answers_same s l h.0 k.0 h.1 k.1 none.0 h.3 k.3 in
-    let lines = known ++ line.Full ∷ more in
-    let P : Option Scene → Type 0 = λ x. IsOutput x lines h.2 in
-    let Q : Option Scene → Type 0 = λ x. IsOutput x lines k.2 in
-    let f = front_same known same.1 more h.2 k.2 none.1 (subst P same.2 h.5) (subst Q same.3 k.5) in
-    let R : Option Scene → Type 0 = λ x. IsOutput x (known ++ line.Full ∷ []) f.0 in (
-      answer_text h.0 ++ f.0,
-      f.1,
-      f.2,
-      (h.0, h.1, f.0, h.3, refl, subst R (sym same.2) f.3),
-      h.4 ∙ ap (λ x. answer_text h.0 ++ x) f.4 ∙ sym (append_assoc (answer_text h.0) f.0 f.1),
-      k.4 ∙ ap (λ x. answer_text x ++ k.2) (sym same.0) ∙ ap (λ x. answer_text h.0 ++ x) f.5 ∙ sym (append_assoc (answer_text h.0) f.0 f.2),
-    )

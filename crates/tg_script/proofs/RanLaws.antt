@@ -41,7 +41,7 @@ commands_of-edges (e ∷ edges) = commands_of-edges edges
 
 edges_output : (start : Start) (s : Script) (bytes : List ℕ) (edges : List Edge) (end : Option ScriptFault) (left : List ℕ) → IsFresh s start.workers → ReadsFrom s bytes (edge_lines edges) end left → IsScriptOutput start bytes end left []
 edges_output start s bytes edges end left fresh h =
-    let P : List Line → Type 0 = λ x. IsAdmissible (Some (scene_of start (edge_lines edges))) x 0 [] in
+    let P : List Line → Type 0 = λ x. IsAdmissible (scene_of start (edge_lines edges)) x 0 [] in
     (edge_lines edges, 0, fresh_reads s start.workers bytes (edge_lines edges) end left fresh h, subst P (sym (commands_of-edges edges)) (refl, refl))
 
 edges_written : (start : Start) (s : Script) (bytes before : List ℕ) (edges : List Edge) (end : Option ScriptFault) (left : List ℕ) (after : Option (List ℕ)) → IsFresh s start.workers → ReadsFrom s bytes (edge_lines edges) end left → after ≡ Some before → IsWritten start bytes before end left after
@@ -103,7 +103,7 @@ unopened start s t bytes rest edges (Some l) f fresh command h stop =
     let lines = edge_lines edges ++ l ∷ [] in
     (lines, fresh_reads s start.workers bytes lines (Some f) rest fresh (behind_all s t bytes rest lines (Some f) rest h (stop t.workers t.lines.room t.count t.opening rest)), one_command edges l command)
 
-pub ran_store_fault : (T : Type 0) (p : Plan) (f : ScriptFault) (start : Start) (s t : Script) (bytes before rest : List ℕ) (edges : List Edge) (first : Option Line) (after : Option (List ℕ)) → p.workers ≡ start.workers → p.limit ≡ start.limit → Opens p (Err f) → IsFresh s start.workers → IfSome first IsCommand → ReadsFirst s bytes edges first t rest → after ≡ Some before → Ran {T = T} start bytes before (Err f) rest after
+pub ran_store_fault : (T : Type 0) (p : Plan) (f : ScriptFault) (start : Start) (s t : Script) (bytes before rest : List ℕ) (edges : List Edge) (first : Option Line) (after : Option (List ℕ)) → p.workers ≡ start.workers → p.limit ≡ start.limit → Opens p start.blocks (Err f) → IsFresh s start.workers → IfSome first IsCommand → ReadsFirst s bytes edges first t rest → after ≡ Some before → Ran {T = T} start bytes before (Err f) rest after
 ran_store_fault T p fault.ReadFailed start s t bytes before rest edges first after workers limit h fresh command reads same = absurd h
 ran_store_fault T p fault.InputTooLong start s t bytes before rest edges first after workers limit h fresh command reads same = absurd h
 ran_store_fault T p (fault.LineTooLong n) start s t bytes before rest edges first after workers limit h fresh command reads same = absurd h
@@ -111,7 +111,8 @@ ran_store_fault T p (fault.BadLine n) start s t bytes before rest edges first af
 ran_store_fault T p fault.WriteFailed start s t bytes before rest edges first after workers limit h fresh command reads same = absurd h
 ran_store_fault T p fault.OutOfMemory start s t bytes before rest edges first after workers limit h fresh command reads same =
     (unopened start s t bytes rest edges first fault.OutOfMemory fresh command reads (λ w r c o b. refl), same)
-ran_store_fault T p fault.HeapFull start s t bytes before rest edges first after workers limit h fresh command reads same = absurd h
+ran_store_fault T p fault.HeapFull start s t bytes before rest edges first after workers limit h fresh command reads same =
+    (omega (arith, h, workers), unopened start s t bytes rest edges first fault.HeapFull fresh command reads (λ w r c o b. refl), same)
 ran_store_fault T p fault.BadLimits start s t bytes before rest edges first after workers limit h fresh command reads same =
     ((λ room. h (omega (arith, room.0, limit), omega (arith, room.1, limit), omega (arith, room.2, workers, limit))), unopened start s t bytes rest edges first fault.BadLimits fresh command reads (λ w r c o b. refl), same)
 
@@ -124,23 +125,23 @@ scene_with start edges = record {
   stock = start.stock;
 }
 
-told_output : (start : Start) (s t : Script) (bytes rest : List ℕ) (edges : List Edge) (l : Line) (end : Option ScriptFault) (left text : List ℕ) → IsFresh s start.workers → IsCommand l → Behind s bytes (edge_lines edges ++ l ∷ []) t rest → IsTold t rest (Some (scene_with start edges)) l end left text → IsScriptOutput start bytes end left text
+told_output : (start : Start) (s t : Script) (bytes rest : List ℕ) (edges : List Edge) (l : Line) (end : Option ScriptFault) (left text : List ℕ) → IsFresh s start.workers → IsCommand l → Behind s bytes (edge_lines edges ++ l ∷ []) t rest → IsTold t rest (scene_with start edges) l end left text → IsScriptOutput start bytes end left text
 told_output start s t bytes rest edges l end left text fresh command behind h =
     let lines = edge_lines edges ++ l ∷ h.0 in
     let P : List Line → Type 0 = λ x. ReadsFrom s bytes x end left in
-    let Q : List Edge → Type 0 = λ x. IsAdmissible (Some (scene_with start x)) (commands_of lines) h.1 text in
-    let R : List Line → Type 0 = λ x. IsAdmissible (Some (scene_with start edges)) x h.1 text in (
+    let Q : List Edge → Type 0 = λ x. IsAdmissible (scene_with start x) (commands_of lines) h.1 text in
+    let R : List Line → Type 0 = λ x. IsAdmissible (scene_with start edges) x h.1 text in (
       lines,
       h.1,
       fresh_reads s start.workers bytes lines end left fresh (subst P (append_assoc (edge_lines edges) (l ∷ []) h.0) (behind h.0 end left h.2)),
       subst Q (sym (edges_of-front edges l h.0 command)) (subst R (sym (commands_of-front edges l h.0 command)) h.3),
     )
 
-told_written : (start : Start) (s t : Script) (bytes rest : List ℕ) (edges : List Edge) (l : Line) (before : List ℕ) (end : Option ScriptFault) (left : List ℕ) (after : Option (List ℕ)) → IsFresh s start.workers → IsCommand l → Behind s bytes (edge_lines edges ++ l ∷ []) t rest → StandsTold t rest (Some (scene_with start edges)) l before end left after → IsWritten start bytes before end left after
+told_written : (start : Start) (s t : Script) (bytes rest : List ℕ) (edges : List Edge) (l : Line) (before : List ℕ) (end : Option ScriptFault) (left : List ℕ) (after : Option (List ℕ)) → IsFresh s start.workers → IsCommand l → Behind s bytes (edge_lines edges ++ l ∷ []) t rest → StandsTold t rest (scene_with start edges) l before end left after → IsWritten start bytes before end left after
 told_written start s t bytes rest edges l before end left after fresh command behind h =
     (h.0, h.1, told_output start s t bytes rest edges l end left h.0 fresh command behind h.2)
 
-pub ran_commands : {T : Type 0} (r : Result T ScriptFault) (start : Start) (s t : Script) (bytes rest : List ℕ) (edges : List Edge) (l : Line) (before left : List ℕ) (after : Option (List ℕ)) → IsFresh s start.workers → HasRoom start → IsCommand l → Behind s bytes (edge_lines edges ++ l ∷ []) t rest → TellsAll t rest (Some (scene_with start edges)) l before r left after → Ran start bytes before r left after
+pub ran_commands : {T : Type 0} (r : Result T ScriptFault) (start : Start) (s t : Script) (bytes rest : List ℕ) (edges : List Edge) (l : Line) (before left : List ℕ) (after : Option (List ℕ)) → IsFresh s start.workers → HasRoom start → IsCommand l → Behind s bytes (edge_lines edges ++ l ∷ []) t rest → TellsAll t rest (scene_with start edges) l before r left after → Ran start bytes before r left after
 ran_commands (Ok done) start s t bytes rest edges l before left after fresh room command behind h = (room, told_written start s t bytes rest edges l before None left after fresh command behind h)
 ran_commands (Err fault.ReadFailed) start s t bytes rest edges l before left after fresh room command behind h = told_written start s t bytes rest edges l before (Some fault.ReadFailed) left after fresh command behind h.1
 ran_commands (Err fault.InputTooLong) start s t bytes rest edges l before left after fresh room command behind h = told_written start s t bytes rest edges l before (Some fault.InputTooLong) left after fresh command behind h.1
@@ -169,7 +170,7 @@ ran_keeps (Err (fault.BadLine n)) start bytes before left mid after h keeps = wr
 ran_keeps (Err fault.WriteFailed) start bytes before left mid after h keeps =
     (h.0, h.1, (h.2.0, h.2.1, h.2.2, keeps_known mid after (before ++ h.2.0) h.2.3 keeps))
 ran_keeps (Err fault.OutOfMemory) start bytes before left mid after h keeps = (h.0, keeps_known mid after before h.1 keeps)
-ran_keeps (Err fault.HeapFull) start bytes before left mid after h keeps = absurd h
+ran_keeps (Err fault.HeapFull) start bytes before left mid after h keeps = (h.0, h.1, keeps_known mid after before h.2 keeps)
 ran_keeps (Err fault.BadLimits) start bytes before left mid after h keeps = (h.0, h.1, keeps_known mid after before h.2 keeps)
 
 -- the whole text was written, but the sink was not finished

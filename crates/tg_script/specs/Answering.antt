@@ -12,8 +12,10 @@ use Rattle.tg_script.specs.declared.answer.Refusal.TheVariants as refusal
 abbrev pub apply_refusal : ApplyFault → Refusal
 apply_refusal apply.NoSuchWorker = refusal.Worker
 apply_refusal apply.OutOfMemory = refusal.Memory
+apply_refusal apply.HeapFull = refusal.Heap
 
 abbrev pub create_answer : CreateFault → Answer
 create_answer create.NoSuchWorker = told.Refused refusal.Worker
 create_answer create.VerticesFull = told.Reply reply.VerticesFull
 create_answer create.OutOfMemory = told.Refused refusal.Memory
+create_answer create.HeapFull = told.Refused refusal.Heap

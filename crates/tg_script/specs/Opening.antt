@@ -1,5 +1,5 @@
 -- What the opening of a run comes to: the edge lines in front of a script, and the store that they make.
-use Rattle.std.specs.Prelude.{ℕ, false, List, [], ◌∷◌, ◌++◌, map, Option, Some, None, Result, Ok, Err}
+use Rattle.std.specs.Prelude.{◌≡◌, ℕ, ◌<◌, false, List, [], ◌∷◌, ◌++◌, map, Option, Some, None, Result, Ok, Err}
 use Rattle.tg_model.specs.declared.edge.Edge.{Edge}
 use Rattle.tg_model.specs.Opened.{Plan, HasLimits, start_of}
 use Rattle.tg_store.specs.Store.{StoreState, StandsFor}
@@ -34,9 +34,11 @@ abbrev pub ReadsEdges : Script → List ℕ → Result Front ScriptFault → Scr
 ReadsEdges s bytes (Ok front) t rest = ReadsFirst s bytes front.edges.items front.first t rest
 ReadsEdges s bytes (Err f) t rest = IsOfEdges f × (edges : List Edge) × ReadsFrom s bytes (edge_lines edges) (Some f) rest
 
--- The store stands for the graph that the plan starts from; or a limit of the plan is out of its range, or memory was wanting.
-abbrev pub Opens : Plan → Result StoreState ScriptFault → Type 0
-Opens p (Ok store) = HasLimits p × StandsFor store (start_of p)
-Opens p (Err fault.BadLimits) = ¬ HasLimits p
-Opens p (Err fault.OutOfMemory) = HasLimits p
-Opens p (Err f) = ⊥
+-- The store stands for the graph that the plan starts from; or a limit of the plan is out of its range, or memory was wanting,
+-- or a block for each worker where the heap may have so many.
+abbrev pub Opens : Plan → ℕ → Result StoreState ScriptFault → Type 0
+Opens p blocks (Ok store) = HasLimits p × StandsFor store (start_of p)
+Opens p blocks (Err fault.BadLimits) = ¬ HasLimits p
+Opens p blocks (Err fault.OutOfMemory) = HasLimits p
+Opens p blocks (Err fault.HeapFull) = blocks < p.workers
+Opens p blocks (Err f) = ⊥

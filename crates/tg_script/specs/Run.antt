@@ -1,5 +1,5 @@
 -- How a run under way stands to a scene, and what is said of the answer to a line.
-use Rattle.std.specs.Prelude.{◌≡◌, ◌⊎◌, List, ◌∷◌, Option, Some, None}
+use Rattle.std.specs.Prelude.{◌≡◌, ◌⊎◌, List, ◌∷◌}
 use Rattle.tg_model.specs.declared.value.Value.{Value}
 use Rattle.tg_store.specs.Store.{StoreState, StandsFor}
 use Rattle.tg_script.specs.declared.line.Line.{Line}
@@ -10,22 +10,20 @@ use Rattle.tg_script.specs.declared.run.Run.{Run}
 use Rattle.tg_script.specs.Supply.{values_left}
 use Rattle.tg_script.specs.Script.{Scene, Answers, MayRefuse}
 
--- The store stands for the scene's graph, and its stock is left. Where no scene is known nothing is said.
-abbrev pub ShowsBy : StoreState → List Value → Option Scene → Type 0
-ShowsBy store values None = Unit {0}
-ShowsBy store values (Some s) = StandsFor store s.graph × (values ≡ s.stock)
+-- the store stands for the scene's graph, and its stock is left
+abbrev pub ShowsBy : StoreState → List Value → Scene → Type 0
+ShowsBy store values s = StandsFor store s.graph × (values ≡ s.stock)
 
-abbrev pub Shows : {P : Type 0} → Run P → Option Scene → Type 0
+abbrev pub Shows : {P : Type 0} → Run P → Scene → Type 0
 Shows r t = ShowsBy r.store (values_left r.supply) t
 
 -- the line is answered, or refused for want with the scene as it was
-abbrev pub Serves : Option Scene → Line → Answer → Option Scene → Type 0
-Serves None l a t = Unit {0}
-Serves (Some s) l a t = Answers s l a t ⊎ ((r : Refusal) × MayRefuse s l r × (a ≡ told.Refused r) × (t ≡ Some s))
+abbrev pub Serves : Scene → Line → Answer → Scene → Type 0
+Serves s l a t = Answers s l a t ⊎ ((r : Refusal) × MayRefuse s l r × (a ≡ told.Refused r) × (t ≡ s))
 
 -- whatever scene was shown, the run now shows one by which the line was served
 abbrev pub HandlesBy : {P : Type 0} → StoreState → List Value → Line → Answer → Run P → Type 0
-HandlesBy store values l a new = (t : Option Scene) → ShowsBy store values t → (u : Option Scene) × Shows new u × Serves t l a u
+HandlesBy store values l a new = (s : Scene) → ShowsBy store values s → (t : Scene) × Shows new t × Serves s l a t
 
 abbrev pub Handles : {P : Type 0} → Run P → Line → Answer → Run P → Type 0
 Handles old l a new = HandlesBy old.store (values_left old.supply) l a new

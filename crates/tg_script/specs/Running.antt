@@ -1,5 +1,5 @@
 -- What a run's answer says of the bytes that were read and of those that were written.
-use Rattle.std.specs.Prelude.{◌≡◌, ◌⊎◌, ℕ, ◌+◌, ◌≤◌, IsOk, List, [], ◌∷◌, ◌++◌, length, Option, Some, None, Result, Ok, Err}
+use Rattle.std.specs.Prelude.{◌≡◌, ◌⊎◌, ℕ, ◌+◌, ◌<◌, ◌≤◌, IsOk, List, [], ◌∷◌, ◌++◌, length, Option, Some, None, Result, Ok, Err}
 use Rattle.tg_script.specs.declared.fault.ScriptFault.{ScriptFault}
 use Rattle.tg_script.specs.declared.fault.ScriptFault.TheVariants as fault
 use Rattle.tg_script.specs.Sinks.{WroteSome, Keeps, Writes}
@@ -28,29 +28,28 @@ HasRoom start = HasLimits (record { workers = start.workers; edges = []; values 
 
 -- What stands in the sink after a run over these bytes, where `before` stood in it, and what is left of them: the text for
 -- all of the script, or for the lines before its first fault. Where the sink failed, a front of the text for the lines that
--- were read; where the store wasn't opened for want of memory or for the limit, nothing more. There is no heap yet that could
--- be full. No byte behind the end of the run is read.
+-- were read; where the store wasn't opened, for want of memory, of a block for each worker, or for the limit, nothing more. No byte behind the end of the run is read.
 abbrev pub Ran : {T : Type 0} → Start → List ℕ → List ℕ → Result T ScriptFault → List ℕ → Option (List ℕ) → Type 0
 Ran start bytes before (Ok done) left after = HasRoom start × IsWritten start bytes before None left after
 Ran start bytes before (Err fault.WriteFailed) left after =
     (text : List ℕ) × IsScriptOutput start bytes (Some fault.WriteFailed) left text × WroteSome (Some before) text after
 Ran start bytes before (Err fault.OutOfMemory) left after = IsUnopened start bytes fault.OutOfMemory left × (after ≡ Some before)
-Ran start bytes before (Err fault.HeapFull) left after = ⊥
+Ran start bytes before (Err fault.HeapFull) left after = (start.blocks < start.workers) × IsUnopened start bytes fault.HeapFull left × (after ≡ Some before)
 Ran start bytes before (Err fault.BadLimits) left after = (¬ HasRoom start) × IsUnopened start bytes fault.BadLimits left × (after ≡ Some before)
 Ran start bytes before (Err f) left after = IsWritten start bytes before (Some f) left after
 
 -- ---- parts of a run
 
 -- the lines behind the first are read so far, and the text is admissible for all of them from the scene
-abbrev pub IsTold : Script → List ℕ → Option Scene → Line → Option ScriptFault → List ℕ → List ℕ → Type 0
+abbrev pub IsTold : Script → List ℕ → Scene → Line → Option ScriptFault → List ℕ → List ℕ → Type 0
 IsTold s bytes t first end left text = (lines : List Line) × (wants : ℕ) × ReadsFrom s bytes lines end left × IsAdmissible t (first ∷ lines) wants text
 
 -- such a text stands behind what was written before
-abbrev pub StandsTold : Script → List ℕ → Option Scene → Line → List ℕ → Option ScriptFault → List ℕ → Option (List ℕ) → Type 0
+abbrev pub StandsTold : Script → List ℕ → Scene → Line → List ℕ → Option ScriptFault → List ℕ → Option (List ℕ) → Type 0
 StandsTold s bytes t first before end left after = (text : List ℕ) × (after ≡ Some (before ++ text)) × IsTold s bytes t first end left text
 
 -- what stands in the sink after the lines from the first on that is no edge line, and what is left behind them
-abbrev pub TellsAll : {T : Type 0} → Script → List ℕ → Option Scene → Line → List ℕ → Result T ScriptFault → List ℕ → Option (List ℕ) → Type 0
+abbrev pub TellsAll : {T : Type 0} → Script → List ℕ → Scene → Line → List ℕ → Result T ScriptFault → List ℕ → Option (List ℕ) → Type 0
 TellsAll s bytes t first before (Ok done) left after = StandsTold s bytes t first before None left after
 TellsAll s bytes t first before (Err fault.WriteFailed) left after =
     (text : List ℕ) × IsTold s bytes t first (Some fault.WriteFailed) left text × WroteSome (Some before) text after

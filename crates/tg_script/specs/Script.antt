@@ -1,12 +1,14 @@
 -- What is written for the lines of a script. Nothing here knows how lines are fetched or replies are put out.
-use Rattle.std.specs.Prelude.{◌≡◌, ◌≢◌, ◌⊎◌, ℕ, ◌+◌, List, [], ◌∷◌, ◌++◌, Option, Some, None, nat_lt, if◌then◌else◌}
+use Rattle.std.specs.Prelude.{◌≡◌, ◌≢◌, ◌⊎◌, ℕ, ◌+◌, ◌<◌, List, [], ◌∷◌, ◌++◌, Option, Some, nat_lt, if◌then◌else◌}
 use Rattle.tg_rights.specs.RightSet.{RightSet}
 use Rattle.tg_model.specs.declared.value.Value.{Value}
 use Rattle.tg_model.specs.declared.edge.Edge.{Edge}
 use Rattle.tg_model.specs.declared.command.Deed.TheVariants as deed
-use Rattle.tg_model.specs.Graph.{ProtectionGraph, IsSubject}
-use Rattle.tg_model.specs.Rules.{step, answer_of}
+use Rattle.tg_model.specs.Graph.{ProtectionGraph, IsSubject, IsReachable}
+use Rattle.tg_model.specs.Rules.{IsAllowed, step, answer_of}
 use Rattle.tg_model.specs.Opened.{start_of}
+use Rattle.tg_rules.specs.Effect.{AddsEdge}
+use Rattle.tg_store.specs.Store.{IsCountOf}
 use Rattle.tg_script.specs.declared.line.Line.{Line}
 use Rattle.tg_script.specs.declared.line.Line.TheVariants as line
 use Rattle.tg_script.specs.declared.answer.Answer.{Answer}
@@ -26,54 +28,52 @@ pub record Scene : Type 0 where
 
 -- The answer to a create line of x and the scene after it, where this stands in the stock. The first value is taken where a
 -- vertex is made.
-abbrev pub Creates : Scene → ℕ → RightSet → List Value → Answer → Option Scene → Type 0
-Creates s x label [] a t = (a ≡ told.Refused refusal.Stock) × (t ≡ Some s)
+abbrev pub Creates : Scene → ℕ → RightSet → List Value → Answer → Scene → Type 0
+Creates s x label [] a t = (a ≡ told.Refused refusal.Stock) × (t ≡ s)
 Creates s x label (value ∷ rest) a t =
     (IsSubject s.graph x × (a ≡ told.Reply (answer_of s.graph x (deed.Create label value.law value.state)))
-    × (t ≡ Some (record { graph = step s.graph x (deed.Create label value.law value.state); stock = if nat_lt s.graph.made s.graph.limit then rest else s.stock })))
-    ⊎ ((¬ IsSubject s.graph x) × (a ≡ told.Refused refusal.Worker) × (t ≡ Some s))
+    × (t ≡ record { graph = step s.graph x (deed.Create label value.law value.state); stock = if nat_lt s.graph.made s.graph.limit then rest else s.stock }))
+    ⊎ ((¬ IsSubject s.graph x) × (a ≡ told.Refused refusal.Worker) × (t ≡ s))
 
--- The answer to a line and the scene after it, where nothing is wanting. Edge lines have no answer, and there is no line for
--- the nurseries yet. A full collection keeps all vertices that were ever made, and what the scene is after it isn't said.
-abbrev pub Answers : Scene → Line → Answer → Option Scene → Type 0
+-- The answer to a line and the scene after it, where nothing is wanting. A full collection answers the number of the
+-- vertices that can be reached, and changes nothing that any other line is answered by. Edge lines have no answer, and there
+-- is no line for the nurseries yet.
+abbrev pub Answers : Scene → Line → Answer → Scene → Type 0
 Answers s (line.Edge edge) a t = ⊥
 Answers s (line.Create x label) a t = Creates s x label s.stock a t
 Answers s (line.Plain x command) a t =
-    (IsSubject s.graph x × (a ≡ told.Reply (answer_of s.graph x (deed.Plain command))) × (t ≡ Some (record s { graph = step s.graph x (deed.Plain command) })))
-    ⊎ ((¬ IsSubject s.graph x) × (a ≡ told.Refused refusal.Worker) × (t ≡ Some s))
-Answers s line.Full a t = (a ≡ told.Collected (Some s.graph.made)) × (t ≡ None)
+    (IsSubject s.graph x × (a ≡ told.Reply (answer_of s.graph x (deed.Plain command))) × (t ≡ record s { graph = step s.graph x (deed.Plain command) }))
+    ⊎ ((¬ IsSubject s.graph x) × (a ≡ told.Refused refusal.Worker) × (t ≡ s))
+Answers s line.Full a t = (n : ℕ) × IsCountOf (IsReachable s.graph) n × (a ≡ told.Collected (Some n)) × (t ≡ s)
 Answers s line.Minor a t = ⊥
 
 -- What may be answered in place of that, with nothing changed: memory may be wanting for each line that reaches the store, one
--- of a worker or a collection. There is no heap and no second thread yet for whose want a line could be refused.
+-- of a worker or a collection; room in the heap for a collection, and for a create, a take or a grant that is allowed. There
+-- is no second thread yet for whose want a line could be refused.
 abbrev pub MayRefuse : Scene → Line → Refusal → Type 0
 MayRefuse s (line.Create x label) refusal.Memory = IsSubject s.graph x × (s.stock ≢ [])
 MayRefuse s (line.Plain x command) refusal.Memory = IsSubject s.graph x
 MayRefuse s line.Full refusal.Memory = Unit {0}
+MayRefuse s (line.Create x label) refusal.Heap = IsSubject s.graph x × (s.stock ≢ []) × (s.graph.made < s.graph.limit)
+MayRefuse s (line.Plain x command) refusal.Heap = IsSubject s.graph x × IsAllowed s.graph x (deed.Plain command) × AddsEdge command
+MayRefuse s line.Full refusal.Heap = Unit {0}
 MayRefuse s l r = ⊥
 
 -- ---- the text for many lines
 
--- The text for the lines, where nothing is wanting. Where the scene isn't known, nothing is said of the text.
-abbrev pub IsOutput : Option Scene → List Line → List ℕ → Type 0
-IsOutput None lines text = Unit {0}
-IsOutput (Some s) [] text = text ≡ []
-IsOutput (Some s) (l ∷ lines) text =
-    (a : Answer) × (t : Option Scene) × (rest : List ℕ) × Answers s l a t × (text ≡ answer_text a ++ rest) × IsOutput t lines rest
+-- The text for the lines, where nothing is wanting.
+abbrev pub IsOutput : Scene → List Line → List ℕ → Type 0
+IsOutput s [] text = text ≡ []
+IsOutput s (l ∷ lines) text =
+    (a : Answer) × (t : Scene) × (rest : List ℕ) × Answers s l a t × (text ≡ answer_text a ++ rest) × IsOutput t lines rest
 
--- no line is a full collection
-abbrev pub HasNoFull : List Line → Type 0
-HasNoFull [] = Unit {0}
-HasNoFull (l ∷ lines) = (l ≢ line.Full) × HasNoFull lines
-
--- The text for the lines, where memory may be wanting, and was for so many of them.
-abbrev pub IsAdmissible : Option Scene → List Line → ℕ → List ℕ → Type 0
-IsAdmissible None lines wants text = Unit {0}
-IsAdmissible (Some s) [] wants text = (wants ≡ 0) × (text ≡ [])
-IsAdmissible (Some s) (l ∷ lines) wants text =
-    ((a : Answer) × (t : Option Scene) × (rest : List ℕ) × Answers s l a t × (text ≡ answer_text a ++ rest) × IsAdmissible t lines wants rest)
+-- The text for the lines, where memory or room may be wanting, and was for so many of them.
+abbrev pub IsAdmissible : Scene → List Line → ℕ → List ℕ → Type 0
+IsAdmissible s [] wants text = (wants ≡ 0) × (text ≡ [])
+IsAdmissible s (l ∷ lines) wants text =
+    ((a : Answer) × (t : Scene) × (rest : List ℕ) × Answers s l a t × (text ≡ answer_text a ++ rest) × IsAdmissible t lines wants rest)
     ⊎ ((r : Refusal) × (fewer : ℕ) × (rest : List ℕ) × MayRefuse s l r × (wants ≡ fewer + 1) × (text ≡ answer_text (told.Refused r) ++ rest)
-    × IsAdmissible (Some s) lines fewer rest)
+    × IsAdmissible s lines fewer rest)
 
 -- ---- the whole of a script
 
@@ -95,10 +95,12 @@ commands_of (line.Plain x command ∷ lines) = line.Plain x command ∷ lines
 commands_of (line.Full ∷ lines) = line.Full ∷ lines
 commands_of (line.Minor ∷ lines) = line.Minor ∷ lines
 
--- what a run is given beside the script: the number of workers, the most vertices, the workers' values, and the stock
+-- what a run is given beside the script: the number of workers, the most vertices, the most blocks of the heap, the workers'
+-- values, and the stock
 pub record Start : Type 0 where
   pub workers : ℕ
   pub limit : ℕ
+  pub blocks : ℕ
   pub values : List Value
   pub stock : List Value
 
@@ -113,4 +115,4 @@ scene_of start lines = record {
 -- bytes are left
 abbrev pub IsScriptOutput : Start → List ℕ → Option ScriptFault → List ℕ → List ℕ → Type 0
 IsScriptOutput start bytes end left text =
-    (lines : List Line) × (wants : ℕ) × ReadsScript start.workers bytes lines end left × IsAdmissible (Some (scene_of start lines)) (commands_of lines) wants text
+    (lines : List Line) × (wants : ℕ) × ReadsScript start.workers bytes lines end left × IsAdmissible (scene_of start lines) (commands_of lines) wants text

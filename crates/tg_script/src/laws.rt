@@ -1,11 +1,10 @@
 //! Laws of the definitions alone. A function here does nothing: what it ensures is the law.
-ghost use Rattle.std.specs.Prelude.{◌≡◌, ℕ, ◌++◌, Bool, List, Option, Some, ◌∷◌, []};
+ghost use Rattle.std.specs.Prelude.{◌≡◌, ℕ, ◌++◌, Bool, List, Option};
 ghost use Rattle.tg_script.specs.declared.line.Line.{Line};
-ghost use Rattle.tg_script.specs.declared.line.Line.TheVariants.{Full};
 ghost use Rattle.tg_script.specs.declared.fault.ScriptFault.{ScriptFault};
 ghost use Rattle.tg_script.specs.Grammar.{LineFits, line_text};
 ghost use Rattle.tg_script.specs.Reading.{Reads, IsOfBytes};
-ghost use Rattle.tg_script.specs.Script.{Scene, IsOutput, IsAdmissible, HasNoFull};
+ghost use Rattle.tg_script.specs.Script.{Scene, IsOutput, IsAdmissible};
 ghost use Rattle.tg_script.specs.declared.stock.StockItem.{StockItem};
 ghost use Rattle.tg_script.specs.Stock.{IsStockText};
 
@@ -31,19 +30,12 @@ pub fn cut_reading_is_a_front()
 
 /// Where nothing was wanting, an admissible text is the output.
 pub fn admissible_without_wants_is_the_output()
-    ensures { (s : Option Scene) (lines : List Line) (text : List ℕ) → IsAdmissible s lines 0 text → IsOutput s lines text }
+    ensures { (s : Scene) (lines : List Line) (text : List ℕ) → IsAdmissible s lines 0 text → IsOutput s lines text }
 {}
 
-/// The output is one text, where no full collection comes.
+/// The output is one text.
 pub fn output_is_deterministic()
-    ensures { (s : Scene) (lines : List Line) (text other : List ℕ) → HasNoFull lines → IsOutput (Some s) lines text → IsOutput (Some s) lines other → text ≡ other }
-{}
-
-/// Where a full collection comes, all outputs have the same text up to and with its answer.
-pub fn outputs_agree_up_to_the_first_full()
-    ensures { (s : Scene) (known more : List Line) (text other : List ℕ) → HasNoFull known →
-        IsOutput (Some s) (known ++ Full ∷ more) text → IsOutput (Some s) (known ++ Full ∷ more) other →
-        (front : List ℕ) × (rest : List ℕ) × (others : List ℕ) × IsOutput (Some s) (known ++ Full ∷ []) front × (text ≡ front ++ rest) × (other ≡ front ++ others) }
+    ensures { (s : Scene) (lines : List Line) (text other : List ℕ) → IsOutput s lines text → IsOutput s lines other → text ≡ other }
 {}
 
 /// The text of a stock has one reading: it names one list of boxes at most.

@@ -56,3 +56,4 @@ pub use sink::{Put, Sink, WriteFailed, put_all, put_texts};
 pub use source::{Next, Source};
 pub use stock::{MOST_BOXES, StockFault, StockItem, read_stock};
 pub use stream::{OfRead, OfWrite};
+pub use tg_store::Limits;

@@ -13,7 +13,7 @@ use crate::source::Source;
 use std::alloc::Global;
 use tg_model::{Edge, MAX_VERTICES, Opening};
 use tg_payload::{Draft, Payload};
-use tg_store::Store;
+use tg_store::{Limits, OpenFault, Store};
 
 /// The edges in front of a script, and the line behind them.
 #[derive(Drop)]
@@ -50,19 +50,20 @@ pub(crate) fn read_edges<S: Source>(
     Ok(Front { edges, first: None })
 }
 
-/// Opens the store with the workers, the edges between them and their payloads. Refused for a limit that is out of its
-/// range, or else for want of memory.
+/// Opens the store with the workers, the edges between them and their payloads. Refused for a number of vertices that
+/// is out of its range, or else for want of memory, or of a block for each worker where the heap may have fewer.
 pub(crate) fn open_store<P: Payload>(
     alloc: Global,
     workers: u64,
     edges: Vec<Edge>,
     drafts: Vec<Draft<P>>,
     max_vertices: u64,
+    limits: Limits,
 ) -> Result<Store<P>, ScriptFault>
     requires workers { (1 ≤ workers) × (workers ≤ 64) }
     requires edges { All (JoinsWorkers workers) edges.items }
     requires drafts { length drafts.items ≡ workers }
-    ensures { let plan : Plan = record { workers = workers; edges = edges.items; values = drafts.items; limit = max_vertices } in Opens plan result }
+    ensures { let plan : Plan = record { workers = workers; edges = edges.items; values = drafts.items; limit = max_vertices } in Opens plan limits.max_blocks result }
 {
     if max_vertices < 1 || MAX_VERTICES < max_vertices || max_vertices < workers {
         return Err(ScriptFault::BadLimits);
@@ -74,8 +75,13 @@ pub(crate) fn open_store<P: Payload>(
     let Ok(opening) = Opening::new(workers, edges, values, max_vertices) else {
         unreachable!()
     };
-    match Store::open(alloc, opening, drafts) {
+    match Store::open(alloc, opening, limits, drafts) {
         Ok(store) => Ok(store),
-        Err(_) => Err(ScriptFault::OutOfMemory),
+        Err(refused) => match refused.why {
+            OpenFault::HeapFull => Err(ScriptFault::HeapFull),
+            OpenFault::OutOfMemory => Err(ScriptFault::OutOfMemory),
+            // The drafts have the values that were copied from them.
+            OpenFault::PayloadMismatch { .. } => unreachable!(),
+        },
     }
 }

@@ -8,7 +8,7 @@ use crate::supply::Supply;
 use tg_model::{Command, Reply};
 use tg_payload::{Draft, Payload};
 use tg_rights::Label;
-use tg_store::{ApplyFault, CreateFault, CreateRefused, Kind, Store};
+use tg_store::{ApplyFault, CollectFault, CreateFault, CreateRefused, Kind, Store};
 
 /// The store, and the payloads for the vertices that are still to be made.
 #[derive(Drop)]
@@ -22,7 +22,7 @@ impl<P: Payload> Run<P> {
     ghost use Rattle.tg_script.specs.Opening.{IsCommand};
     ghost use Rattle.tg_script.specs.Run.{Handles, HandlesWith};
 
-    /// What a line is answered. No line fails: where memory is wanting, that is the answer.
+    /// What a line is answered. No line fails: where memory or room is wanting, that is the answer.
     pub(crate) fn answer(&mut self, line: Line) -> Answer
         requires { IsCommand line }
         ensures { Handles self.old line result self.new }
@@ -49,7 +49,8 @@ impl<P: Payload> Run<P> {
     {
         match self.store.collect(Kind::Full) {
             Ok(kept) => Answer::Collected(Some(kept)),
-            Err(_) => Answer::Refused(Refusal::Memory),
+            Err(CollectFault::OutOfMemory) => Answer::Refused(Refusal::Memory),
+            Err(CollectFault::HeapFull) => Answer::Refused(Refusal::Heap),
         }
     }
 
@@ -85,6 +86,7 @@ fn apply_refusal(fault: ApplyFault) -> Refusal
     match fault {
         ApplyFault::NoSuchWorker => Refusal::Worker,
         ApplyFault::OutOfMemory => Refusal::Memory,
+        ApplyFault::HeapFull => Refusal::Heap,
     }
 }
 
@@ -95,5 +97,6 @@ fn create_answer(fault: CreateFault) -> Answer
         CreateFault::NoSuchWorker => Answer::Refused(Refusal::Worker),
         CreateFault::VerticesFull => Answer::Reply(Reply::VerticesFull),
         CreateFault::OutOfMemory => Answer::Refused(Refusal::Memory),
+        CreateFault::HeapFull => Answer::Refused(Refusal::Heap),
     }
 }

@@ -21,14 +21,17 @@ use std::alloc::Global;
 use std::marker::Brand;
 use std::sync::ledger::{Blank, Ledger};
 use tg_payload::{Draft, Payload};
+use tg_store::Limits;
 
 /// What a run is given beside its script and its payloads.
-#[derive(Clone, Copy, PartialEq, Eq, Debug)]
+#[derive(Clone, Copy, Debug)]
 pub struct Settings {
     /// The number of workers, from 1 to 64.
     pub workers: u64,
     /// The most vertices that may ever be made, from 1 to 2^24 and not below the number of workers.
     pub max_vertices: u64,
+    /// How many blocks the heap may have.
+    pub limits: Limits,
 }
 
 /// Runs the script, with one payload for each worker, by rising name, and a stock of payloads for the vertices that the
@@ -47,7 +50,7 @@ pub fn run_script_one<P: Payload, S: Source, K: Sink>(
 ) -> Result<(), ScriptFault>
     requires number { (1 ≤ settings.workers) × (settings.workers ≤ 64) }
     requires workers { length workers.items ≡ settings.workers }
-    ensures output { let start : Start = record { workers = settings.workers; limit = settings.max_vertices; values = workers.items; stock = stock.items } in
+    ensures output { let start : Start = record { workers = settings.workers; limit = settings.max_vertices; blocks = settings.limits.max_blocks; values = workers.items; stock = stock.items } in
         (bytes before : List ℕ) → S.left source.old ≡ Some bytes → K.taken sink.old ≡ Some before →
         (left : List ℕ) × (S.left source.new ≡ Some left) × Ran start bytes before result left (K.taken sink.new) }
     ensures asked { S.asked source.new ≤ S.asked source.old + 1048577 }
@@ -77,7 +80,7 @@ pub fn run_in_memory<P: Payload>(
 ) -> InMemory
     requires number { (1 ≤ settings.workers) × (settings.workers ≤ 64) }
     requires workers { length workers.items ≡ settings.workers }
-    ensures { let start : Start = record { workers = settings.workers; limit = settings.max_vertices; values = workers.items; stock = stock.items } in
+    ensures { let start : Start = record { workers = settings.workers; limit = settings.max_vertices; blocks = settings.limits.max_blocks; values = workers.items; stock = stock.items } in
         (left : List ℕ) × Ran start script.now [] result.outcome left (Some result.written.items) }
 {
     let (asked, failures) = (Blank::new(1), Blank::new(1));
@@ -98,7 +101,7 @@ fn run_counted<P: Payload, A: Ledger, F: Ledger>(
     requires workers { length workers.items ≡ settings.workers }
     requires asked { (asked.name ≡ A.name) × (asked.parts ≡ A.parts) × (0 < asked.parts) }
     requires failures { (failures.name ≡ F.name) × (failures.parts ≡ F.parts) × (0 < failures.parts) }
-    ensures { let start : Start = record { workers = settings.workers; limit = settings.max_vertices; values = workers.items; stock = stock.items } in
+    ensures { let start : Start = record { workers = settings.workers; limit = settings.max_vertices; blocks = settings.limits.max_blocks; values = workers.items; stock = stock.items } in
         (left : List ℕ) × Ran start script.now [] result.outcome left (Some result.written.items) }
 {
     let mut source = Bytes::new(script, Count::<A>::new(asked));
@@ -136,7 +139,7 @@ fn run_lines<P: Payload, S: Source, K: Sink>(
 ) -> Result<(), ScriptFault>
     requires number { (1 ≤ settings.workers) × (settings.workers ≤ 64) }
     requires workers { length workers.items ≡ settings.workers }
-    ensures output { let start : Start = record { workers = settings.workers; limit = settings.max_vertices; values = workers.items; stock = stock.items } in
+    ensures output { let start : Start = record { workers = settings.workers; limit = settings.max_vertices; blocks = settings.limits.max_blocks; values = workers.items; stock = stock.items } in
         (bytes before : List ℕ) → S.left source.old ≡ Some bytes → K.taken sink.old ≡ Some before →
         (left : List ℕ) × (S.left source.new ≡ Some left) × Ran start bytes before result left (K.taken sink.new) }
     ensures asked { S.asked source.new ≤ S.asked source.old + 1048577 }
@@ -152,6 +155,7 @@ fn run_lines<P: Payload, S: Source, K: Sink>(
         edges,
         workers,
         settings.max_vertices,
+        settings.limits,
     )?;
     let Some(first) = first else {
         return Ok(());
@@ -171,7 +175,7 @@ fn run_commands<P: Payload, S: Source, K: Sink>(
 ) -> Result<(), ScriptFault>
     requires command { IsCommand first }
     requires opening { script.old.opening ≡ false }
-    ensures written { (t : Option Scene) (rest before : List ℕ) → Shows run.old t → S.left source.old ≡ Some rest → K.taken sink.old ≡ Some before →
+    ensures written { (t : Scene) (rest before : List ℕ) → Shows run.old t → S.left source.old ≡ Some rest → K.taken sink.old ≡ Some before →
         (left : List ℕ) × (S.left source.new ≡ Some left) × TellsAll script.old rest t first before result left (K.taken sink.new) }
     ensures asked { S.asked source.new ≤ S.asked source.old + script.old.lines.room + 1 }
     ensures read_failed { S.failures source.new ≡ S.failures source.old + read_failures result }

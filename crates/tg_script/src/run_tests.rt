@@ -2,7 +2,9 @@
 ghost use Rattle.std.specs.Prelude.{[], ◌∷◌};
 ghost use Rattle.tg_model.specs.declared.law.Law.TheVariants.{Cell};
 
-use crate::{InMemory, ScriptFault, Settings, StockItem, drafts_of, read_stock, run_in_memory};
+use crate::{
+    InMemory, Limits, ScriptFault, Settings, StockItem, drafts_of, read_stock, run_in_memory,
+};
 use std::alloc::{AllocError, Global};
 use std::process::Abort;
 use std::sync::Arc;
@@ -15,6 +17,7 @@ use tg_payload::{CellPayload, LogPayload, MaxPayload, Payload, PayloadBox, SumPa
 fn run_with<P: Payload>(
     alloc: Global,
     max_vertices: u64,
+    limits: Limits,
     workers: Vec<P>,
     stock: Vec<P>,
     script: &[u8],
@@ -22,6 +25,7 @@ fn run_with<P: Payload>(
     let settings = Settings {
         workers: workers.len() as u64,
         max_vertices,
+        limits,
     };
     if settings.workers < 1 || 64 < settings.workers {
         return Err(AllocError);
@@ -41,7 +45,30 @@ fn runs(
     written: &[u8],
     outcome: Result<(), ScriptFault>,
 ) -> Result<(), Fail> {
-    let alloc = rt.alloc();
+    let limits = limits_of(4096)?;
+    let ran = ran_in(rt.alloc(), workers, max_vertices, limits, stock, script)?;
+    assert_eq!(rt; ran.written.as_slice(), written);
+    assert_eq!(rt; ran.outcome, outcome);
+    Ok(())
+}
+
+// A heap of so many blocks.
+fn limits_of(blocks: u64) -> Result<Limits, Fail> {
+    match Limits::new(blocks, 1 << 20) {
+        Ok(limits) => Ok(limits),
+        Err(_) => Err(Fail::from("limits that are out of their range")),
+    }
+}
+
+// Runs the script with so many workers, who store cells.
+fn ran_in(
+    alloc: Global,
+    workers: u64,
+    max_vertices: u64,
+    limits: Limits,
+    stock: &[u8],
+    script: &[u8],
+) -> Result<InMemory, Fail> {
     let mut cells: Vec<PayloadBox> = Vec::new(alloc);
     for _ in 0..workers {
         cells.push(Box::new(alloc, CellPayload::new(0))?)?;
@@ -56,10 +83,7 @@ fn runs(
         };
         boxes.push(payload)?;
     }
-    let ran = run_with(alloc, max_vertices, cells, boxes, script)?;
-    assert_eq!(rt; ran.written.as_slice(), written);
-    assert_eq!(rt; ran.outcome, outcome);
-    Ok(())
+    Ok(run_with(alloc, max_vertices, limits, cells, boxes, script)?)
 }
 
 #[test]
@@ -71,13 +95,6 @@ fn empty_script(rt: HostRuntime) -> Result<(), Fail> {
 fn create_then_list(rt: HostRuntime) -> Result<(), Fail> {
     let script = b"0 create rw\n0 list\n";
     runs(&rt, 1, 1_000_000, b"c", script, b"ok 1\nok 1:rw\n", Ok(()))
-}
-
-#[test]
-fn grant_then_denied_write(rt: HostRuntime) -> Result<(), Fail> {
-    let script = b"edge 0 1 tg\n0 create rw\n0 grant 1 2 r\n1 read 2\n1 write 2 7\n";
-    let written = b"ok 2\nok\nok 0\ndenied write 1->2 w\n";
-    runs(&rt, 2, 1_000_000, b"c", script, written, Ok(()))
 }
 
 #[test]
@@ -152,10 +169,69 @@ fn edge_lines_unite(rt: HostRuntime) -> Result<(), Fail> {
     runs(&rt, 2, 1_000_000, b"", script, b"ok 1:rw\n", Ok(()))
 }
 
+// Rights that were granted stand after a collection of the whole heap, and those that were not are still denied.
 #[test]
-fn weak_collection_counts_all_names(rt: HostRuntime) -> Result<(), Fail> {
-    let script = b"0 create r\n0 remove 1 r\nfull\n";
-    runs(&rt, 1, 1_000_000, b"c", script, b"ok 1\nok\nok 2\n", Ok(()))
+fn grant_survives_a_full_collection(rt: HostRuntime) -> Result<(), Fail> {
+    let script =
+        b"edge 0 1 tg\n0 create rw\n0 grant 1 2 r\n1 read 2\n1 write 2 7\nfull\n1 write 2 7\n1 list\n";
+    let written = b"ok 2\nok\nok 0\ndenied write 1->2 w\nok 3\ndenied write 1->2 w\nok 2:r\n";
+    runs(&rt, 2, 1_000_000, b"c", script, written, Ok(()))
+}
+
+// What nobody reaches is collected. Its name is not used again.
+#[test]
+fn removed_vertex_is_collected(rt: HostRuntime) -> Result<(), Fail> {
+    let script = b"0 create rw\n0 remove 1 rw\n0 list\nfull\n0 read 1\n0 create r\n";
+    let written = b"ok 1\nok\nok\nok 1\ndenied read 0->1 r\nok 2\n";
+    runs(&rt, 1, 1_000_000, b"c2", script, written, Ok(()))
+}
+
+// One edge among ten is given up, and the next takes its place.
+#[test]
+fn ten_edges_and_a_hole(rt: HostRuntime) -> Result<(), Fail> {
+    let script =
+        b"0 create r\n0 create r\n0 create r\n0 create r\n0 create r\n0 create r\n0 create r\n0 create r\n0 create r\n0 create r\n0 remove 4 r\n0 create w\n0 list\nfull\n";
+    let written =
+        b"ok 1\nok 2\nok 3\nok 4\nok 5\nok 6\nok 7\nok 8\nok 9\nok 10\nok\nok 11\nok 1:r 2:r 3:r 5:r 6:r 7:r 8:r 9:r 10:r 11:w\nok 11\n";
+    runs(&rt, 1, 1_000_000, b"c11", script, written, Ok(()))
+}
+
+// 109 edges fill a block; after 64 of them are removed the heap has room again, once it was collected.
+#[test]
+fn exact_fit_of_one_block(rt: HostRuntime) -> Result<(), Fail> {
+    let alloc = rt.alloc();
+    let (mut script, mut written) = (String::new(alloc), String::new(alloc));
+    for name in 1..110u64 {
+        script.push_str("0 create r\n")?;
+        written.push_str(format!(in alloc; "ok {name}\n")?.as_str())?;
+    }
+    script.push_str("0 create r\n")?;
+    written.push_str("refused heap\n")?;
+    for name in 1..65u64 {
+        script.push_str(format!(in alloc; "0 remove {name} r\n")?.as_str())?;
+        written.push_str("ok\n")?;
+    }
+    script.push_str("full\n0 create rw\n0 write 110 5\n0 write 110 5\n0 read 110\n0 create r\n")?;
+    written.push_str("ok 46\nok 110\nok\nok\nok 10\nrefused stock\n")?;
+    let ran = ran_in(alloc, 1, 1_000_000, limits_of(2)?, b"c109s", script.as_bytes())?;
+    assert_eq!(rt; ran.written.as_slice(), written.as_bytes());
+    assert_eq!(rt; ran.outcome, Ok(()));
+    Ok(())
+}
+
+#[test]
+fn grant_needs_the_granters_own_right(rt: HostRuntime) -> Result<(), Fail> {
+    let script = b"edge 0 1 g\n0 create rw\n0 grant 1 2 rt\n0 grant 1 2 w\n1 list\n";
+    let written = b"ok 2\ndenied grant 0->2 t\nok\nok 2:w\n";
+    runs(&rt, 2, 1_000_000, b"c", script, written, Ok(()))
+}
+
+#[test]
+fn no_block_for_the_third_worker(rt: HostRuntime) -> Result<(), Fail> {
+    let ran = ran_in(rt.alloc(), 3, 1_000_000, limits_of(2)?, b"", b"")?;
+    assert_eq!(rt; ran.written.as_slice(), b"".as_slice());
+    assert_eq!(rt; ran.outcome, Err(ScriptFault::HeapFull));
+    Ok(())
 }
 
 // A payload that counts its drops.
@@ -211,7 +287,7 @@ fn two_counting_boxes(rt: HostRuntime) -> Result<(), Fail> {
     let mut workers: Vec<PayloadBox> = Vec::new(alloc);
     workers.push(Box::new(alloc, CellPayload::new(0))?)?;
     let script = b"0 create rw\n0 create rw\n0 read 1\n";
-    let ran = run_with(alloc, 2, workers, stock, script.as_slice())?;
+    let ran = run_with(alloc, 2, limits_of(4096)?, workers, stock, script.as_slice())?;
     assert_eq!(rt;
         ran.written.as_slice(),
         b"ok 1\nrefused vertices\nok 1\n".as_slice()

@@ -1,7 +1,7 @@
 //! Runs between a reader and a writer of which one fails in mid-stream or takes a byte at a time.
 ghost use Rattle.std.specs.Prelude.{◌≡◌, ◌<◌};
 
-use crate::{Count, OfRead, OfWrite, ScriptFault, Settings, drafts_of, run_script_one};
+use crate::{Count, Limits, OfRead, OfWrite, ScriptFault, Settings, drafts_of, run_script_one};
 use std::alloc::{AllocError, Global};
 use std::io;
 use std::io::{ErrorKind, Read, Write};
@@ -79,9 +79,13 @@ fn run_counted<A: Ledger, B: Ledger, C: Ledger>(
         failures: Count::<B>::new(read_failures),
     };
     let mut sink = OfWrite::new(writer, Count::<C>::new(write_failures));
+    let Ok(limits) = Limits::new(4096, 1 << 20) else {
+        return Err(AllocError);
+    };
     let settings = Settings {
         workers: 1,
         max_vertices: 1_000_000,
+        limits,
     };
     let workers = drafts_of(alloc, vec![in alloc; CellPayload::new(0)]?)?;
     let stock = drafts_of(alloc, vec![in alloc; CellPayload::new(0)]?)?;

@@ -1,4 +1,2 @@
 mod DifferenceLaws
-mod PairLaws
-mod PayloadLaws
-mod StandLaws
+pub mod StandLaws

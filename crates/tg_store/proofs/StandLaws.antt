@@ -1,51 +1,81 @@
--- What a store's rows say of the graph that it stands for, and what becomes of it by a deed.
-use Rattle.std.proofs.Common.{◌≡◌, ℕ, ◌<◌, ◌++◌, ◌∷◌, [], List, length, refl, sym, ap, subst, Bool, false, Result, Ok, Err, OnOk, is_err, arith, length-append}
-use Rattle.std.specs.Prelude.{slice_get}
-use Rattle.std.specs.List.{Contains, range_with_len}
-use Rattle.std.proofs.lemmas.Bool.{lt-ltb}
-use Rattle.tg_rights.specs.RightSet.{RightSet}
-use Rattle.tg_model.specs.declared.value.Value.{Value}
-use Rattle.tg_model.specs.declared.command.Deed.TheVariants.{Create}
-use Rattle.tg_model.specs.declared.law.Law.{Law}
-use Rattle.tg_model.specs.Graph.{ProtectionGraph, IsSubject, with_rights}
-use Rattle.tg_model.specs.Rules.{step, with_value}
-use Rattle.tg_model.proofs.PlainLaws.{is_subject, is_worker, same_graph, slice_get-push}
-use Rattle.tg_store.specs.Store.{StoreState, StandsFor}
+-- What becomes of the journal and of the graph of a store by each call.
+use Rattle.std.proofs.Common.{◌≡◌, ◌↔◌, ℕ, ◌<◌, ◌++◌, ◌∷◌, [], List, length, refl, sym, ap, subst, ◌∙◌, arith}
+use Rattle.tg_model.specs.declared.command.Deed.{Deed}
+use Rattle.tg_model.specs.declared.reply.Reply.{Reply}
+use Rattle.tg_model.specs.Graph.{ProtectionGraph, IsSubject}
+use Rattle.tg_model.specs.Opened.{Plan, IsPlan, start_of}
+use Rattle.tg_model.specs.Rules.{step, answer_of, DeedFits}
+use Rattle.tg_journal.specs.declared.entry.Entry.{Entry}
+use Rattle.tg_journal.specs.History.{IsLegal, graph_after}
+use Rattle.tg_journal.proofs.HistoryLaws.{IsLegal-push, graph_after-push, graph_after-limit, workers-opened}
+use Rattle.tg_graph.specs.Heap.{HeapState, content_of}
+use Rattle.tg_graph.specs.Standing as standing
+use Rattle.tg_graph.proofs.StandingLaws as content
+use Rattle.tg_store.specs.Store.{StoreState, StandsFor, IsFaithful, Enters, IsUnchanged, graph_of_store}
 
-subjects_of : (s : StoreState) (g : ProtectionGraph) → StandsFor s g → range_with_len 0 s.rows.workers ≡ g.subjects
-subjects_of s g stands = ap (λ (h : ProtectionGraph). h.subjects) stands
+-- ---- the same journal
 
-pub worker_is_subject : (s : StoreState) (g : ProtectionGraph) (x : ℕ) → StandsFor s g → x < s.rows.workers → IsSubject g x
-worker_is_subject s g x stands below =
-    subst (λ (xs : List ℕ). Contains xs x) (subjects_of s g stands) (is_subject s.rows.workers x below)
+same_graph : (old new : StoreState) → new.opening ≡ old.opening → new.entries ≡ old.entries → graph_of_store new ≡ graph_of_store old
+same_graph old new opening entries = λ i. graph_after (start_of (opening i)) (entries i)
 
-pub subject_is_worker : (s : StoreState) (g : ProtectionGraph) (x : ℕ) → StandsFor s g → IsSubject g x → x < s.rows.workers
-subject_is_worker s g x stands subject =
-    is_worker s.rows.workers x (subst (λ (xs : List ℕ). Contains xs x) (sym (subjects_of s g stands)) subject)
+-- a store that is unchanged stands for the same graph
+pub StandsFor-unchanged : (old new : StoreState) (g : ProtectionGraph) → StandsFor old g → IsUnchanged old new → StandsFor new g
+StandsFor-unchanged old new g stands unchanged = same_graph old new unchanged.opening unchanged.entries ∙ stands
 
-pub made_of : (s : StoreState) (g : ProtectionGraph) → StandsFor s g → length s.rows.values ≡ g.made
-made_of s g stands = ap (λ (h : ProtectionGraph). h.made) stands
+-- where opening and journal are the same, and the heap still stands for the graph
+pub IsFaithful-kept : (old new : StoreState) → IsFaithful old → new.opening ≡ old.opening → new.entries ≡ old.entries → standing.StandsFor (content_of new.heap) (graph_of_store old) → length new.heap.workers ≡ length old.heap.workers → IsFaithful new
+IsFaithful-kept old new faithful opening entries stands workers = record {
+  plan = subst IsPlan (sym opening) faithful.plan;
+  legal = rw (opening, entries) faithful.legal;
+  stands = subst (standing.StandsFor (content_of new.heap)) (sym (same_graph old new opening entries)) stands;
+  workers = workers ∙ faithful.workers ∙ sym (ap (λ (p : Plan). p.workers) opening);
+}
 
-pub limit_of : (s : StoreState) (g : ProtectionGraph) → StandsFor s g → s.rows.limit ≡ g.limit
-limit_of s g stands = ap (λ (h : ProtectionGraph). h.limit) stands
+pub IsFaithful-unchanged : (old new : StoreState) → IsFaithful old → IsUnchanged old new → IsFaithful new
+IsFaithful-unchanged old new faithful unchanged =
+    IsFaithful-kept old new faithful unchanged.opening unchanged.entries
+    (content.StandsFor-unchanged old.heap new.heap (graph_of_store old) faithful.stands unchanged.heap)
+    (ap length unchanged.heap.workers)
 
--- ---- the graph of rows, with other values
+-- ---- one more entry
 
--- the graph whose vertices have these values instead
-abbrev pub holding : ProtectionGraph → List Value → ProtectionGraph
-holding g values = record g { made = length values; value = slice_get values }
+module _ (old new : StoreState) (worker : ℕ) (deed : Deed) (reply : Reply) (opening : new.opening ≡ old.opening) (entry : Enters old new worker deed reply) where
 
--- a vertex with one more value
-pub created-holding : (g : ProtectionGraph) (values : List Value) (x : ℕ) (label : RightSet) (law : Law) (state : List ℕ) (value : Value) → length values ≡ g.made → g.made < g.limit → holding (step g x (Create label law state)) (values ++ value ∷ []) ≡ step (holding g values) x (Create label value.law value.state)
-created-holding g values x label law state value made below =
-    let also : length values < g.limit = omega arith in
-    rw (lt-ltb g.made g.limit below, lt-ltb (length values) g.limit also)
-    (same_graph (with_rights g.label x g.made label) (with_rights g.label x (length values) label)
-    (slice_get (values ++ value ∷ [])) (with_value (slice_get values) (length values) value)
-    refl (length-append values (value ∷ [])) refl
-    (λ a b. ap (λ n. with_rights g.label x n label a b) (sym made)) (slice_get-push values value))
+  -- the store then stands for the graph after the deed
+  pub graph-entered : graph_of_store new ≡ step (graph_of_store old) worker deed
+  graph-entered =
+      let pushed : graph_of_store new ≡ graph_after (start_of old.opening) (old.entries ++ record { worker = worker; deed = deed; reply = reply } ∷ []) = λ i. graph_after (start_of (opening i)) (entry i) in
+      pushed ∙ graph_after-push (start_of old.opening) old.entries (record { worker = worker; deed = deed; reply = reply })
 
--- what is promised of a result that isn't an error
-pub OnOk-held : {T E : Type 0} {A : Type 0} (r : Result T E) {b : Bool} → b ≡ is_err r → b ≡ false → OnOk r A → A
-OnOk-held (Ok x) test none held = held
-OnOk-held (Err e) test none held = cc
+  pub StandsFor-entered : (g : ProtectionGraph) → StandsFor old g → StandsFor new (step g worker deed)
+  StandsFor-entered g stands = graph-entered ∙ ap (λ h. step h worker deed) stands
+
+  -- and is faithful, where the reply is that graph's and the heap stands for the next
+  pub IsFaithful-entered : IsFaithful old → IsSubject (graph_of_store old) worker → DeedFits deed → reply ≡ answer_of (graph_of_store old) worker deed → standing.StandsFor (content_of new.heap) (step (graph_of_store old) worker deed) → length new.heap.workers ≡ length old.heap.workers → IsFaithful new
+  IsFaithful-entered faithful subject fits is stands workers = record {
+    plan = subst IsPlan (sym opening) faithful.plan;
+    legal = rw (opening, entry) (IsLegal-push (start_of old.opening) old.entries (record { worker = worker; deed = deed; reply = reply }) faithful.legal (record { subject = subject; fits = fits; reply = is }));
+    stands = subst (standing.StandsFor (content_of new.heap)) (sym graph-entered) stands;
+    workers = workers ∙ faithful.workers ∙ sym (ap (λ (p : Plan). p.workers) opening);
+  }
+
+-- ---- no entry yet
+
+pub IsFaithful-start : (s : StoreState) → IsPlan s.opening → s.entries ≡ [] → standing.StandsFor (content_of s.heap) (start_of s.opening) → length s.heap.workers ≡ s.opening.workers → IsFaithful s
+IsFaithful-start s plan none stands workers = record {
+  plan = plan;
+  legal = rw none tt;
+  stands = rw none stands;
+  workers = workers;
+}
+
+-- ---- workers and the limit
+
+module _ (s : StoreState) (faithful : IsFaithful s) where
+  pub subject-is_worker : (x : ℕ) → IsSubject (graph_of_store s) x ↔ (x < length s.heap.workers)
+  subject-is_worker x =
+      let P : ℕ → Type 0 = λ n. IsSubject (graph_of_store s) x ↔ (x < n) in
+      subst P (sym faithful.workers) (workers-opened s.opening s.entries x)
+
+  pub limit_of : (graph_of_store s).limit ≡ s.opening.limit
+  limit_of = graph_after-limit (start_of s.opening) s.entries

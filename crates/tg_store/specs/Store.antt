@@ -1,28 +1,66 @@
--- What a store is to its callers: an opening, and rows and values that stand for a protection graph.
-use Rattle.std.specs.Prelude.{◌≡◌, ◌↔◌, ℕ, List}
-use Rattle.tg_model.specs.Graph.{ProtectionGraph, HasEdge}
-use Rattle.tg_model.specs.Opened.{Plan}
-use Rattle.tg_model.specs.Plain.{PlainGraph, graph_of, label_of}
-use Rattle.tg_model.specs.declared.triple.Triple.{Triple}
+-- What a store is to its callers: an opening, the journal of what was decided since, and a heap. What holds of every store.
+use Rattle.std.specs.Prelude.{◌≡◌, ◌↔◌, ℕ, ◌==◌, List, [], ◌∷◌, ◌++◌, length}
+use Rattle.std.specs.List.{Contains, IsDistinct}
+use Rattle.tg_model.specs.declared.command.Deed.{Deed}
+use Rattle.tg_model.specs.declared.reply.Reply.{Reply}
+use Rattle.tg_model.specs.Graph.{ProtectionGraph}
+use Rattle.tg_model.specs.Opened.{Plan, IsPlan, start_of}
+use Rattle.tg_journal.specs.declared.entry.Entry.{Entry}
+use Rattle.tg_journal.specs.History.{IsLegal, graph_after}
+use Rattle.tg_graph.specs.Heap as graph
+use Rattle.tg_graph.specs.Heap.{HeapState, content_of}
+use Rattle.tg_graph.specs.Standing as standing
 
--- What a store holds. The opening is the one that it was opened with.
+-- What a store holds: the opening that it was opened with, the entries of its journal, oldest first, and its heap.
 pub record StoreState : Type 0 where
   pub opening : Plan
-  pub rows : PlainGraph
+  pub entries : List Entry
+  pub heap : HeapState
 
--- The store stands for the graph that has its workers, its limit, and of each name its row and its value. It is the
--- word by which all calls of a store are told; each store stands for exactly one graph.
+-- the graph that was never collected: the opening's, after the deeds of all entries
+abbrev pub graph_of_store : StoreState → ProtectionGraph
+graph_of_store s = graph_after (start_of s.opening) s.entries
+
+-- The store stands for that graph, and for no other. It is the word by which all calls of a store are told.
 abbrev pub StandsFor : StoreState → ProtectionGraph → Type 0
-StandsFor s g = graph_of s.rows ≡ g
+StandsFor s g = graph_of_store s ≡ g
 
--- The names of the second graph, and the pairs of vertices that an edge joins, are those of the first. What rights
--- an edge has, and what the vertices store, is not said.
-pub record KeepsNamesAndPairs (g h : ProtectionGraph) : Type 0 where
-  pub subjects : h.subjects ≡ g.subjects
-  pub made : h.made ≡ g.made
-  pub limit : h.limit ≡ g.limit
-  pub pairs : (x y : ℕ) → HasEdge h.label x y ↔ HasEdge g.label x y
+-- What holds of every store: its journal is a legal history of its opening, and its heap, which has the opening's
+-- workers, stands for the graph after it.
+pub record IsFaithful (s : StoreState) : Type 0 where
+  pub plan : IsPlan s.opening
+  pub legal : IsLegal (start_of s.opening) s.entries
+  pub stands : standing.StandsFor (content_of s.heap) (graph_of_store s)
+  pub workers : length s.heap.workers ≡ s.opening.workers
 
--- an edge joins the same pairs of vertices by either list of references
-abbrev pub HaveSamePairs : List Triple → List Triple → Type 0
-HaveSamePairs old new = (x y : ℕ) → HasEdge (label_of new) x y ↔ HasEdge (label_of old) x y
+-- the same, and so many vertices were ever made
+pub record IsStore (s : StoreState) (made : ℕ) : Type 0 where
+  pub faithful : IsFaithful s
+  pub is_made : made ≡ (graph_of_store s).made
+
+-- ---- what a call does
+
+-- exactly this entry was added to the journal
+abbrev pub Enters : StoreState → StoreState → ℕ → Deed → Reply → Type 0
+Enters old new worker deed reply = new.entries ≡ old.entries ++ (record { worker = worker; deed = deed; reply = reply }) ∷ []
+
+-- exactly this entry was added to the journal, and nothing else changed
+pub record OnlyEnters (old new : StoreState) (worker : ℕ) (deed : Deed) (reply : Reply) : Type 0 where
+  pub entry : Enters old new worker deed reply
+  pub opening : new.opening ≡ old.opening
+  pub heap : new.heap ≡ old.heap
+
+-- the two stores are the same but for room for more payloads
+pub record IsUnchanged (old new : StoreState) : Type 0 where
+  pub opening : new.opening ≡ old.opening
+  pub entries : new.entries ≡ old.entries
+  pub heap : graph.IsUnchanged old.heap new.heap
+
+-- ---- counts
+
+-- there are exactly so many numbers of which this holds: a list has each of them, once, and no other
+pub record IsCountOf (which : ℕ → Type 0) (count : ℕ) : Type 0 where
+  pub each : List ℕ
+  pub once : IsDistinct (λ a b. a == b) each
+  pub exactly : (x : ℕ) → Contains each x ↔ which x
+  pub number : length each ≡ count

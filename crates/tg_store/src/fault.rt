@@ -1,9 +1,10 @@
 //! Why calls of a store are refused, with what they hand back.
-ghost use Rattle.std.specs.Prelude.{◌≡◌};
-
 use std::alloc::AllocError;
-use tg_model::{ModelFault, Opening};
+use tg_graph::VertexRefused;
+use tg_model::Opening;
 use tg_payload::{Draft, Payload};
+use tg_rules::PerformFault;
+use tg_space::AllocateFault;
 use thiserror::Error;
 
 /// Why a store was not opened.
@@ -13,9 +14,12 @@ pub enum OpenFault {
     /// of a draft is another; or else the smaller of the number of drafts and that of values, which differ.
     #[error("draft {at} does not have the opening's value, or is one too many or too few")]
     PayloadMismatch { at: u64 },
-    /// There was no memory for the rows and payloads.
+    /// There was no memory for the cells and payloads.
     #[error("out of memory")]
     OutOfMemory,
+    /// Each worker needs a block, and the heap may have fewer.
+    #[error("heap full")]
+    HeapFull,
 }
 
 /// A store was not opened. The opening and the drafts are handed back.
@@ -32,12 +36,15 @@ pub enum ApplyFault {
     /// The one who asks is no worker.
     #[error("no such worker")]
     NoSuchWorker,
-    /// There was no memory for the reply or the next row, or a payload's own write had none.
+    /// There was no memory for the reply, the entry or a block, or a payload's own write had none.
     #[error("out of memory")]
     OutOfMemory,
+    /// The nursery of the worker has no cell left for a reference, and gets no more blocks.
+    #[error("heap full")]
+    HeapFull,
 }
 
-/// Why no vertex was made. The store is as it was.
+/// Why no vertex was made. The store is as it was, but that `VerticesFull` has an entry in the journal.
 #[derive(Clone, Copy, PartialEq, Eq, Debug, Error)]
 pub enum CreateFault {
     /// The one who asks is no worker.
@@ -46,9 +53,12 @@ pub enum CreateFault {
     /// As many vertices were made as may be.
     #[error("no more vertices may be made")]
     VerticesFull,
-    /// There was no memory for the row or the payload's place.
+    /// There was no memory for the entry, the payload's place or a block.
     #[error("out of memory")]
     OutOfMemory,
+    /// The nursery of the worker has too few cells left, and gets no more blocks.
+    #[error("heap full")]
+    HeapFull,
 }
 
 /// No vertex was made. The draft of what it was to store is handed back.
@@ -58,22 +68,17 @@ pub struct CreateRefused<P: Payload> {
     pub why: CreateFault,
 }
 
-/// Why nothing was collected. The store is as it was.
-#[derive(Clone, Copy, PartialEq, Eq, Debug, Error)]
-pub enum CollectFault {
-    /// There was no memory for the copies.
-    #[error("out of memory")]
-    OutOfMemory,
-}
-
-impl From<AllocError> for CollectFault {
+impl From<AllocateFault> for OpenFault {
     ghost use Rattle.std.specs.Prelude.{◌≡◌};
-    ghost use Rattle.tg_store.specs.declared.fault.CollectFault.TheVariants.{OutOfMemory};
+    ghost use Rattle.tg_store.specs.Faults.{open_fault_of};
 
-    ghost from_gives = { λ _ e. e ≡ OutOfMemory };
+    ghost from_gives = { λ fault e. e ≡ open_fault_of fault };
 
-    fn from(_error: AllocError) -> CollectFault {
-        CollectFault::OutOfMemory
+    fn from(fault: AllocateFault) -> OpenFault {
+        match fault {
+            AllocateFault::OutOfMemory => OpenFault::OutOfMemory,
+            AllocateFault::HeapFull => OpenFault::HeapFull,
+        }
     }
 }
 
@@ -88,16 +93,45 @@ impl From<AllocError> for ApplyFault {
     }
 }
 
-impl From<ModelFault> for ApplyFault {
-    ghost use Rattle.tg_store.specs.Faults.{apply_fault_of};
+impl From<PerformFault> for ApplyFault {
     ghost use Rattle.std.specs.Prelude.{◌≡◌};
+    ghost use Rattle.tg_store.specs.Faults.{apply_fault_of};
 
     ghost from_gives = { λ fault e. e ≡ apply_fault_of fault };
 
-    fn from(fault: ModelFault) -> ApplyFault {
+    fn from(fault: PerformFault) -> ApplyFault {
         match fault {
-            ModelFault::NoSuchWorker => ApplyFault::NoSuchWorker,
-            ModelFault::OutOfMemory => ApplyFault::OutOfMemory,
+            PerformFault::OutOfMemory => ApplyFault::OutOfMemory,
+            PerformFault::HeapFull => ApplyFault::HeapFull,
+        }
+    }
+}
+
+impl From<AllocateFault> for CreateFault {
+    ghost use Rattle.std.specs.Prelude.{◌≡◌};
+    ghost use Rattle.tg_store.specs.Faults.{create_fault_of};
+
+    ghost from_gives = { λ fault e. e ≡ create_fault_of fault };
+
+    fn from(fault: AllocateFault) -> CreateFault {
+        match fault {
+            AllocateFault::OutOfMemory => CreateFault::OutOfMemory,
+            AllocateFault::HeapFull => CreateFault::HeapFull,
+        }
+    }
+}
+
+impl<P: Payload> From<VertexRefused<P>> for CreateRefused<P> {
+    ghost use Rattle.std.specs.Prelude.{◌≡◌};
+    ghost use Rattle.tg_store.specs.Faults.{create_fault_of};
+
+    ghost from_gives = { λ refused e. e ≡ record { draft = refused.draft; why = create_fault_of refused.why } };
+
+    fn from(refused: VertexRefused<P>) -> CreateRefused<P> {
+        let VertexRefused { draft, why } = refused;
+        CreateRefused {
+            draft,
+            why: CreateFault::from(why),
         }
     }
 }

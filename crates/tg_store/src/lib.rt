@@ -1,30 +1,42 @@
-//! The store: a protection graph that takes commands, and objects with payloads of the caller's own.
+//! The store: a protection graph in a heap that takes commands, and objects with payloads of the caller's own.
 //!
-//! A store is opened with an [`Opening`](tg_model::Opening), which says who its workers are, and a draft of the payload
-//! of each. From then on each call is told by the protection graph that the store stands for (`StandsFor`):
-//! [`Store::apply`] answers what the rules answer on that graph, and then the store stands for the next graph by the
-//! rules; so does [`Store::create`]. A call that is refused leaves the store as it was, and hands back what it was
-//! handed. Callers need no more than this, and nothing of how rows are kept.
+//! A store is opened with an [`Opening`](tg_model::Opening), which says who its workers are, a draft of the payload of
+//! each, and how many blocks its heap may have. From then on it keeps a journal: each command that is decided, served
+//! or denied, has one entry with its reply, and so has each create that makes a vertex or finds that no more may be
+//! made. The graph that a store stands for (`StandsFor`) is that of its opening after the deeds of its journal, and
+//! each call is told by it: [`Store::apply`] answers what the rules answer on that graph, and then the store stands for
+//! the next graph by the rules; so does [`Store::create`].
+//!
+//! ```text
+//!     opening --deeds of the journal--> graph        what every reply is told by; no collection enters it
+//!                                         |
+//!                                     stands for
+//!                                         |
+//!     heap    --commands, collections--> content     the cells that there are: all that can be reached, and no other rights
+//! ```
+//!
+//! The heap has the cells and payloads of all vertices that can be reached, and maybe of some that can't. What it has
+//! agrees with the graph, and that is the promise of every store (`IsFaithful`, told by [`Store::journal`]): the journal
+//! is a legal history of the opening, and the heap stands for the graph after it. [`Store::collect`] changes what the
+//! heap has, and neither the journal nor the graph: afterwards the heap has exactly what can be reached, and the
+//! payloads of all other vertices were dropped.
+//!
+//! A call that is refused leaves the store as it was, and hands back what it was handed; only a create for which there
+//! are too many vertices makes an entry too. Room for the entry comes first, and so does the copy of the reply; what a
+//! command needs of the heap comes next; the change and the entry come last and can't be refused.
 //!
 //! A store is generic in its payloads, and a box of a payload is a payload (`tg_payload`): so payloads of several kinds
-//! stand side by side in boxes, and the store makes none. Each payload stays in the store until the store is dropped.
-//! Only a read or a write that the rules allow reaches it.
-//!
-//! Inside, who holds which rights stands in the plain vectors of [`Graph`](tg_model::Graph), whose own values are not
-//! looked at, and the payloads stand in a table, with the key of each vertex beside it. A collection copies the rows into new
-//! vectors, and drops no vertex. Its promise is weak: the names and the pairs of vertices that an edge joins are as
-//! before, and nothing is said of the rights on the edges or of the values. So what is promised of replies holds
-//! until the first collection.
+//! stand side by side in boxes, and the store makes none. Only a read or a write that the rules allow reaches one.
 #![tactic(auto)]
 
-mod collect;
+mod answer;
+mod census;
 mod fault;
 pub mod laws;
-mod payload_list;
 mod store;
-#[cfg(test)]
-mod tests;
 
-pub use collect::Kind;
-pub use fault::{ApplyFault, CollectFault, CreateFault, CreateRefused, OpenFault, OpenRefused};
+pub use census::Census;
+pub use fault::{ApplyFault, CreateFault, CreateRefused, OpenFault, OpenRefused};
 pub use store::Store;
+pub use tg_evac::CollectFault;
+pub use tg_space::{Kind, Limits};

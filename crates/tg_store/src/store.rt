@@ -1,77 +1,93 @@
 //! The store and its calls.
-ghost use Rattle.std.specs.Prelude.{◌≡◌, ◌↔◌, ◌≤◌, ℕ, [], Err, IfOk, IfErr, IsErrAnd, OnOk, OnErr, MatchOption};
-ghost use Rattle.tg_model.specs.Plain.{graph_of};
+ghost use Rattle.std.specs.Prelude.{◌≡◌, ◌≢◌, ◌↔◌, ◌≤◌, ◌<◌, ◌+◌, ℕ, [], Err, Ok, Some, IfOk, IfErr, IsErrAnd, OnOk, OnErr, MatchOption, length};
 ghost use Rattle.tg_model.specs.Rules.{step};
 ghost use Rattle.tg_store.specs.Faults.{IsFirstDifference};
 
-use crate::collect::{Kind, compact};
-use crate::fault::{ApplyFault, CollectFault, CreateFault, CreateRefused, OpenFault, OpenRefused};
-use crate::payload_list::PayloadList;
-use std::alloc::Global;
+use crate::answer::{Answer, answer_command};
+use crate::census::Census;
+use crate::fault::{ApplyFault, CreateFault, CreateRefused, OpenFault, OpenRefused};
+use std::alloc::{AllocError, Global};
 use std::marker::Model;
-use tg_model::{Command, Deed, Denial, Graph, Law, ModelFault, Numbers, Opening, Reply, Value};
+use tg_evac::{CollectFault, Copied, collect_one};
+use tg_graph::{Heap, HeapRefused};
+use tg_journal::{Entry, Journal};
+use tg_model::{Command, Deed, Opening, Reply, Value};
 use tg_payload::{Draft, Payload};
 use tg_rights::Label;
+use tg_space::{Kind, Limits};
 
 /// An object store with access control, over payloads that its callers hand in. Contracts see it as a `StoreState`,
-/// and tell each call by the protection graph that this stands for. A payload leaves a store only with the store.
+/// and tell each call by the protection graph that this stands for: that of its opening, after the deeds of its journal.
+/// No collection enters it.
 #[derive(Drop)]
 pub struct Store<P: Payload> {
     alloc: Global,
     opening: Opening,
-    // Who holds which rights over whom. The values in it are not looked at.
-    rows: Graph,
-    payloads: PayloadList<P>,
+    // How many vertices were ever made, which is the name of the next.
+    made: u64,
+    heap: Heap<P>,
+    journal: Journal,
 }
 
 impl<P: Payload> Model for Store<P> {
-    ghost use Rattle.std.specs.Prelude.{◌≡◌, length};
-    ghost use Rattle.tg_store.specs.Store.{StoreState};
+    ghost use Rattle.std.specs.Prelude.{◌≡◌};
+    ghost use Rattle.tg_store.specs.Store.{StoreState, IsStore};
 
     ghost Value = { StoreState };
 
-    ghost view = { λ a. record { opening = a.opening; rows = record a.rows { values = a.payloads.values } } };
+    ghost view = { λ a. record { opening = a.opening; entries = a.journal.entries; heap = a.heap } };
 
-    ghost invariant = { λ a. length a.payloads.values ≡ length a.rows.values };
+    ghost invariant = { λ a. IsStore (record { opening = a.opening; entries = a.journal.entries; heap = a.heap }) a.made };
 }
 
 impl<P: Payload> Store<P> {
-    ghost use Rattle.tg_model.specs.Graph.{ProtectionGraph, IsSubject};
+    ghost use Rattle.tg_model.specs.Graph.{ProtectionGraph, IsSubject, IsReachable};
     ghost use Rattle.tg_model.specs.Opened.{start_of};
-    ghost use Rattle.tg_model.specs.Rules.{step, answer_of, denial_of};
-    ghost use Rattle.tg_store.specs.Store.{StandsFor, KeepsNamesAndPairs};
+    ghost use Rattle.tg_model.specs.Rules.{IsAllowed, step, answer_of};
+    ghost use Rattle.tg_model.specs.declared.reply.Denial.{Denial};
+    ghost use Rattle.tg_space.specs.Collection.{MayLackRoom, used_cells};
+    ghost use Rattle.tg_space.specs.SpaceList.{block_count, space_of};
+    ghost use Rattle.tg_payload.specs.Table.{count};
+    ghost use Rattle.tg_graph.specs.Content.{IsNamed};
+    ghost use Rattle.tg_graph.specs.Heap.{IsOutOfCells, content_of};
+    ghost use Rattle.tg_rules.specs.Effect.{AddsEdge};
+    ghost use Rattle.tg_store.specs.Store.{Enters, IsCountOf, IsFaithful, IsUnchanged, OnlyEnters, StandsFor};
 
-    /// A store that starts from the opening, with the payloads of the drafts, one for each worker. `PayloadMismatch` is
-    /// answered exactly where the drafts' laws and states aren't the opening's, with the first such place; else
+    /// A store that starts from the opening, with the payloads of the drafts, one for each worker, and with no entry in
+    /// its journal. `PayloadMismatch` is answered exactly where the drafts' laws and states aren't the opening's, with
+    /// the first such place; `HeapFull` only where the heap may have fewer blocks than there are workers; else
     /// `OutOfMemory` alone. The opening and the drafts are then handed back as they were.
     pub fn open(
         alloc: Global,
         opening: Opening,
+        limits: Limits,
         drafts: Vec<Draft<P>>,
     ) -> Result<Store<P>, OpenRefused<P>>
         ensures start { IfOk result (λ store. StandsFor store (start_of opening)) }
         ensures opening { IfOk result (λ store. store.opening ≡ opening) }
+        ensures no_entry { IfOk result (λ store. store.entries ≡ []) }
+        ensures limits { IfOk result (λ store. store.heap.table.limits ≡ limits) }
         ensures mismatch { (at : ℕ) → IsErrAnd result (λ refused. refused.why ≡ OpenFault.PayloadMismatch at) ↔ IsFirstDifference opening.values drafts.items at }
+        ensures full { IfErr result (λ refused. refused.why ≡ OpenFault.HeapFull → limits.max_blocks < opening.workers) }
         ensures handed_back { IfErr result (λ refused. (refused.opening ≡ opening) × (refused.drafts.items ≡ drafts.items)) }
     {
         if let Some(at) = first_difference(opening.values(), drafts.as_slice()) {
             let why = OpenFault::PayloadMismatch { at };
             return open_refused(opening, drafts, why);
         }
-        let mut payloads = PayloadList::new(alloc);
-        if payloads.reserve(drafts.len() as u64).is_err() {
-            return open_refused(opening, drafts, OpenFault::OutOfMemory);
+        match Heap::open(alloc, &opening, limits, drafts) {
+            Ok(heap) => Ok(Store {
+                alloc,
+                made: opening.workers(),
+                opening,
+                heap,
+                journal: Journal::new(alloc),
+            }),
+            Err(refused) => {
+                let HeapRefused { drafts, why } = refused;
+                open_refused(opening, drafts, OpenFault::from(why))
+            }
         }
-        let Ok(rows) = Graph::open(alloc, &opening) else {
-            return open_refused(opening, drafts, OpenFault::OutOfMemory);
-        };
-        payloads.extend(drafts);
-        Ok(Store {
-            alloc,
-            opening,
-            rows,
-            payloads,
-        })
     }
 
     /// The opening, as it was handed in. Takes no memory.
@@ -81,123 +97,152 @@ impl<P: Payload> Store<P> {
         &self.opening
     }
 
+    /// What was decided since the store was opened. What holds of every store is told here: the journal is a legal
+    /// history of the opening, and the heap stands for the graph after it. Takes no memory.
+    pub fn journal(&self) -> &Journal
+        ensures entries { result.now.entries ≡ self.now.entries }
+        ensures faithful { IsFaithful self.now }
+    {
+        &self.journal
+    }
+
+    /// How many vertices, payloads and blocks the heap has. Takes no memory.
+    pub fn census(&self) -> Census
+        ensures vertices { result.vertices ≡ length (content_of self.now.heap).names }
+        ensures payloads { result.payloads ≡ count self.now.heap.payloads }
+        ensures blocks { result.blocks ≡ block_count self.now.heap.table.spaces }
+    {
+        Census {
+            vertices: self.heap.vertices(),
+            payloads: self.heap.payloads().len(),
+            blocks: self.heap.spaces().blocks(),
+        }
+    }
+
     /// Takes a command of a worker. The reply is that of the rules on the graph that the store stands for, and then
-    /// the store stands for the graph after the command; a denial is a reply. `NoSuchWorker` is answered exactly where
-    /// no worker has the name, and looked for first; else `OutOfMemory` alone. After a fault the store is as it was.
+    /// the store stands for the graph after the command; exactly the entry of the command with its reply was added to
+    /// the journal. A denial is a reply, and changes nothing else.
+    ///
+    /// `NoSuchWorker` is answered exactly where no worker has the name, and looked for first; `HeapFull` only where the
+    /// command is allowed, needs a cell for a reference, and the nursery of the worker has none left and gets no more
+    /// blocks; else `OutOfMemory` alone. After a fault the store is as it was, with no entry.
     pub fn apply(&mut self, worker: u64, command: Command) -> Result<Reply, ApplyFault>
+        ensures entry { IfOk result (λ reply. Enters self.old self.new worker (Deed.Plain command) reply) }
         ensures reply { (g : ProtectionGraph) → StandsFor self.old g → IfOk result (λ reply. reply ≡ answer_of g worker (Deed.Plain command)) }
         ensures step { (g : ProtectionGraph) → StandsFor self.old g → OnOk result (StandsFor self.new (step g worker (Deed.Plain command))) }
+        ensures denied { (denial : Denial) → result ≡ Ok (Reply.Denied denial) → OnlyEnters self.old self.new worker (Deed.Plain command) (Reply.Denied denial) }
         ensures no_such_worker { (g : ProtectionGraph) → StandsFor self.old g → (result ≡ Err ApplyFault.NoSuchWorker) ↔ (¬ IsSubject g worker) }
-        ensures refused { OnErr result (self.new ≡ self.old) }
+        ensures full { (g : ProtectionGraph) → StandsFor self.old g → result ≡ Err ApplyFault.HeapFull →
+            IsAllowed g worker (Deed.Plain command) × AddsEdge command × IsOutOfCells self.old.heap.table (worker + 2) 1 }
+        ensures refused { OnErr result (IsUnchanged self.old self.new) }
         ensures opening { self.new.opening ≡ self.old.opening }
     {
-        match command {
-            Command::Read { target } => self.read(worker, target),
-            Command::Write { target, value } => self.write(worker, target, value),
-            _ => Ok(self.rows.apply(worker, &Deed::Plain(command))?),
-        }
-    }
-
-    // Takes a read of a worker.
-    fn read(&self, worker: u64, target: u64) -> Result<Reply, ApplyFault>
-        ensures reply { (g : ProtectionGraph) → StandsFor self.now g → IfOk result (λ reply. reply ≡ answer_of g worker (Deed.Plain (Command.Read target))) }
-        ensures no_such_worker { (g : ProtectionGraph) → StandsFor self.now g → (result ≡ Err ApplyFault.NoSuchWorker) ↔ (¬ IsSubject g worker) }
-    {
-        match self.denial(worker, &Command::Read { target })? {
-            Some(denial) => Ok(Reply::Denied(denial)),
-            None => Ok(Reply::Values(self.payloads.read(target)?)),
-        }
-    }
-
-    // Takes a write of a worker.
-    fn write(&mut self, worker: u64, target: u64, value: u64) -> Result<Reply, ApplyFault>
-        ensures reply { (g : ProtectionGraph) → StandsFor self.old g → IfOk result (λ reply. reply ≡ answer_of g worker (Deed.Plain (Command.Write target value))) }
-        ensures step { (g : ProtectionGraph) → StandsFor self.old g → OnOk result (StandsFor self.new (step g worker (Deed.Plain (Command.Write target value)))) }
-        ensures no_such_worker { (g : ProtectionGraph) → StandsFor self.old g → (result ≡ Err ApplyFault.NoSuchWorker) ↔ (¬ IsSubject g worker) }
-        ensures refused { OnErr result (self.new ≡ self.old) }
-        ensures opening { self.new.opening ≡ self.old.opening }
-    {
-        if let Some(denial) = self.denial(worker, &Command::Write { target, value })? {
-            return Ok(Reply::Denied(denial));
-        }
-        self.payloads.write(target, value)?;
-        Ok(Reply::Done)
-    }
-
-    // Why a command of a worker is denied.
-    fn denial(&self, worker: u64, command: &Command) -> Result<Option<Denial>, ApplyFault>
-        ensures denial { (g : ProtectionGraph) → StandsFor self.now g → IfOk result (λ denial. denial ≡ denial_of g.label worker command.now) }
-        ensures no_such_worker { (g : ProtectionGraph) → StandsFor self.now g → (result ≡ Err ApplyFault.NoSuchWorker) ↔ (¬ IsSubject g worker) }
-    {
-        if worker >= self.rows.workers() {
+        if worker >= self.heap.workers() {
             return Err(ApplyFault::NoSuchWorker);
         }
-        Ok(self.rows.denial(worker, command))
+        self.journal.reserve()?;
+        let Answer { reply, copy } = answer_command(self.alloc, &mut self.heap, worker, &command)?;
+        self.journal.push(Entry {
+            worker,
+            deed: Deed::Plain(command),
+            reply: copy,
+        });
+        Ok(reply)
     }
 
     /// Makes a vertex that stores the draft's payload, over which the worker has the rights of the label. Answers its
-    /// name. `NoSuchWorker` is answered exactly where no worker has the name, and else `VerticesFull` exactly where as
-    /// many vertices were made as may be; else `OutOfMemory` alone. After a fault the store is as it was, and the draft
-    /// is handed back.
+    /// name, by the graph that the store stands for; exactly the entry of the create with that name was added to the
+    /// journal, and then the store stands for the next graph.
+    ///
+    /// `NoSuchWorker` is answered exactly where no worker has the name, and looked for first; `VerticesFull` only where
+    /// as many vertices were made as may be, and then no other answer than it and `OutOfMemory`; `HeapFull` only where
+    /// a vertex may be made and the nursery of the worker has too few cells left and gets no more blocks; else
+    /// `OutOfMemory` alone. After a fault the draft is handed back and the store is as it was; but `VerticesFull` has an
+    /// entry.
     pub fn create(
         &mut self,
         worker: u64,
         label: Label,
         draft: Draft<P>,
     ) -> Result<u64, CreateRefused<P>>
+        ensures entry { IfOk result (λ name. Enters self.old self.new worker (Deed.Create label draft.law draft.state) (Reply.Name name)) }
         ensures name { (g : ProtectionGraph) → StandsFor self.old g → IfOk result (λ name. answer_of g worker (Deed.Create label draft.law draft.state) ≡ Reply.Name name) }
         ensures step { (g : ProtectionGraph) → StandsFor self.old g → OnOk result (StandsFor self.new (step g worker (Deed.Create label draft.law draft.state))) }
+        ensures stored { IfOk result (λ name. IsNamed (content_of self.new.heap) name × ((content_of self.new.heap).value name ≡ Some draft)) }
         ensures no_such_worker { (g : ProtectionGraph) → StandsFor self.old g → IsErrAnd result (λ refused. refused.why ≡ CreateFault.NoSuchWorker) ↔ (¬ IsSubject g worker) }
-        ensures full { (g : ProtectionGraph) → StandsFor self.old g → IsErrAnd result (λ refused. refused.why ≡ CreateFault.VerticesFull) ↔ (IsSubject g worker × (g.limit ≤ g.made)) }
+        ensures no_more { (g : ProtectionGraph) → StandsFor self.old g → IfErr result (λ refused. refused.why ≡ CreateFault.VerticesFull → IsSubject g worker × (g.limit ≤ g.made)) }
+        ensures no_more_entry { IfErr result (λ refused. refused.why ≡ CreateFault.VerticesFull →
+            OnlyEnters self.old self.new worker (Deed.Create label draft.law draft.state) Reply.VerticesFull) }
+        ensures full { (g : ProtectionGraph) → StandsFor self.old g → IfErr result (λ refused. refused.why ≡ CreateFault.HeapFull →
+            IsAllowed g worker (Deed.Create label draft.law draft.state) × IsOutOfCells self.old.heap.table (worker + 2) 2) }
+        ensures refused { IfErr result (λ refused. refused.why ≢ CreateFault.VerticesFull → IsUnchanged self.old self.new) }
+        ensures same_graph { (g : ProtectionGraph) → StandsFor self.old g → OnErr result (StandsFor self.new g) }
         ensures handed_back { IfErr result (λ refused. refused.draft ≡ draft) }
-        ensures refused { OnErr result (self.new ≡ self.old) }
         ensures opening { self.new.opening ≡ self.old.opening }
     {
-        if worker >= self.rows.workers() {
+        if worker >= self.heap.workers() {
             return create_refused(draft, CreateFault::NoSuchWorker);
         }
-        let name = self.rows.made();
-        if name >= self.rows.max_vertices() {
+        let Ok(deed) = deed_to_enter(self.alloc, &mut self.journal, label, draft.value()) else {
+            return create_refused(draft, CreateFault::OutOfMemory);
+        };
+        let name = self.made;
+        if name >= self.opening.max_vertices() {
+            self.journal.push(Entry {
+                worker,
+                deed,
+                reply: Reply::VerticesFull,
+            });
             return create_refused(draft, CreateFault::VerticesFull);
         }
-        if self.payloads.reserve(1).is_err() {
-            return create_refused(draft, CreateFault::OutOfMemory);
-        }
-        if add_vertex(self.alloc, &mut self.rows, worker, label).is_err() {
-            return create_refused(draft, CreateFault::OutOfMemory);
-        }
-        self.payloads.push(draft);
+        self.heap.new_vertex(worker, name, label, draft)?;
+        self.journal.push(Entry {
+            worker,
+            deed,
+            reply: Reply::Name(name),
+        });
+        self.made += 1;
         Ok(name)
     }
 
-    /// Copies the rows into new memory and gives up the old. Answers how many vertices there are, which is how many
-    /// were ever made. The names, and the pairs of vertices that an edge joins, are as before. Refused only for want of
-    /// memory, and the store is then as it was.
+    /// Copies the cells that the workers' rows reach into new blocks of Old, and gives up all others with their
+    /// payloads. Answers how many vertices the heap then has: these are exactly those that can be reached on the graph
+    /// that the store stands for, which stays as it was, as does the journal.
+    ///
+    /// `HeapFull` is answered only where the cells in use may not fit into the blocks that a space may have, and else
+    /// `OutOfMemory` alone; the store is then as it was.
     pub fn collect(&mut self, kind: Kind) -> Result<u64, CollectFault>
-        ensures made { (g : ProtectionGraph) → StandsFor self.old g → IfOk result (λ number. number ≡ g.made) }
-        ensures kept { (g h : ProtectionGraph) → StandsFor self.old g → StandsFor self.new h → KeepsNamesAndPairs g h }
+        ensures number { IfOk result (λ number. number ≡ length (content_of self.new.heap).names) }
+        ensures names { (g : ProtectionGraph) → StandsFor self.old g → OnOk result ((x : ℕ) → IsNamed (content_of self.new.heap) x ↔ IsReachable g x) }
+        ensures reachable { (g : ProtectionGraph) → StandsFor self.old g → IfOk result (IsCountOf (IsReachable g)) }
+        ensures only_old { OnOk result ((space : ℕ) → space ≢ 0 → space_of self.new.heap.table.spaces space ≡ []) }
+        ensures entries { self.new.entries ≡ self.old.entries }
+        ensures full { result ≡ Err CollectFault.HeapFull → MayLackRoom self.old.heap.table.limits.space_blocks 1 0 (used_cells self.old.heap.table.spaces) }
         ensures refused { OnErr result (self.new ≡ self.old) }
         ensures opening { self.new.opening ≡ self.old.opening }
     {
-        match kind {
-            Kind::Full => self.rows = compact(self.alloc, &self.rows)?,
-        }
-        Ok(self.rows.made())
+        let roots = self.heap.roots()?;
+        let copied = collect_one(self.alloc, self.heap.spaces(), &roots, kind)?;
+        let Copied { forward, adoption } = copied;
+        let left = self.heap.settle(&forward, adoption)?;
+        Ok(left)
     }
 }
 
-// Makes a vertex in the rows, whose values are not looked at.
-fn add_vertex(alloc: Global, rows: &mut Graph, worker: u64, label: Label) -> Result<(), ModelFault>
-    ensures added { OnOk result (graph_of rows.new ≡ step (graph_of rows.old) worker (Deed.Create label (Law.Log 1) [])) }
-    ensures refused { OnErr result (rows.new ≡ rows.old) }
+// The deed of a create, with a copy of the value's state, once the journal has room for its entry.
+fn deed_to_enter(
+    alloc: Global,
+    journal: &mut Journal,
+    label: Label,
+    value: &Value,
+) -> Result<Deed, AllocError>
+    ensures deed { IfOk result (λ deed. deed ≡ Deed.Create label value.now.law value.now.state) }
+    ensures room { OnOk result (0 < journal.new.spare) }
+    ensures entries { journal.new.entries ≡ journal.old.entries }
 {
-    let deed = Deed::Create {
-        label,
-        law: Law::Log(1),
-        state: Numbers::from_vec(Vec::new(alloc)),
-    };
-    rows.apply(worker, &deed)?;
-    Ok(())
+    journal.reserve()?;
+    let Value { law, state } = value.copy(alloc)?;
+    Ok(Deed::Create { label, law, state })
 }
 
 // The first place where a draft's law or state isn't that of the value; or else the smaller of the two numbers.

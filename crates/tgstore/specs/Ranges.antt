@@ -7,3 +7,4 @@ use Rattle.tg_script.specs.declared.run_script.Settings.{Settings}
 pub record AreInRange (s : Settings) : Type 0 where
   pub workers : (1 ≤ s.workers) × (s.workers ≤ MAX_WORKERS)
   pub vertices : (1 ≤ s.max_vertices) × (s.max_vertices ≤ MAX_VERTICES)
+  pub blocks : (1 ≤ s.limits.max_blocks) × (s.limits.max_blocks ≤ 65536)

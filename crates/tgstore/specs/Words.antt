@@ -19,7 +19,8 @@ number_rule name = record (option_rule name) { parser = Some (Unsigned 0 1844674
 -- the options that there are
 abbrev pub command_line : App
 command_line =
-    with_rule (with_rule (with_rule (new_app (codes "tgstore")) (number_rule (codes "workers"))) (number_rule (codes "vertices"))) (option_rule (codes "stock"))
+    with_rule (with_rule (with_rule (with_rule (new_app (codes "tgstore")) (number_rule (codes "workers"))) (number_rule (codes "vertices"))) (number_rule (codes "blocks")))
+    (option_rule (codes "stock"))
 
 -- the number that a text writes, or this one where there is no text
 abbrev pub number_or : ℕ → Option (List ℕ) → ℕ
@@ -33,8 +34,10 @@ number_said name default words = number_or default (one_of name (matches_of comm
 abbrev pub text_said : List ℕ → List (List ℕ) → List ℕ
 text_said name words = unwrap_or (first_of name (matches_of command_line words)) []
 
--- the options are those of the words
+-- the options are those of the words; no space has more than 1,048,576 blocks
 pub record AreSaid (words : List (List ℕ)) (o : Options) : Type 0 where
   pub workers : o.settings.workers ≡ number_said (codes "workers") 2 words
   pub vertices : o.settings.max_vertices ≡ number_said (codes "vertices") 1000000 words
+  pub blocks : o.settings.limits.max_blocks ≡ number_said (codes "blocks") 4096 words
+  pub space_blocks : o.settings.limits.space_blocks ≡ 1048576
   pub stock : o.stock.now ≡ text_said (codes "stock") words

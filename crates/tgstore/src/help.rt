@@ -12,6 +12,9 @@ pub const WORKERS: &str =
 pub const VERTICES: &str = "How many vertices may ever be made, from 1 to 16777216. The workers
 are vertices, so it may not be below their number [default: 1000000]";
 
+pub const BLOCKS: &str = "How many blocks of 128 cells the heap may have, from 1 to 65536. Each
+worker needs one [default: 4096]";
+
 pub const STOCK: &str = "The boxes that creates take, first to last, as letters: c keeps the last
 value that was written, s the sum of all, m the greatest, l the last four;
 a number after a letter stands for so many boxes of it [default: none]";
@@ -28,12 +31,12 @@ pub const MANUAL: &str = "Script:
   X read Y             X, with r over Y, is shown what Y stores
   X write Y V          X, with w over Y, writes V to Y
   X list               X is shown its edges
-  full                 collects, and answers how many vertices are left
+  full                 collects, and answers how many vertices can be reached
 
 Replies:
   ok                   with what was asked for after it: a name, values, edges as NAME:RIGHTS
   denied ..            the rule, and the rights that were missing on an edge X->Y
-  refused ..           memory, vertices, worker or stock: what there was too little of
+  refused ..           memory, heap, vertices, worker or stock: what there was too little of
 
 Exit status:
   0  the whole script was run

@@ -5,36 +5,45 @@ use crate::stop::Stop;
 use crate::words::options;
 use std::alloc::Global;
 use std::test::Fail;
-use tg_script::Settings;
+use tg_script::{Limits, Settings};
 
 const FAULT_END: &str = "\n\nUsage: tgstore [OPTIONS]\n\nFor more information, try '--help'.\n";
 
 #[test]
 fn words_that_are_accepted(rt: HostRuntime) -> Result<(), Fail> {
     let alloc = rt.alloc();
-    let cases: [(&[&str], u64, u64, &str); 4] = [
-        (&["tgstore"], 2, 1_000_000, ""),
+    let cases: [(&[&str], u64, u64, u64, &str); 4] = [
+        (&["tgstore"], 2, 1_000_000, 4096, ""),
         (
             &["tgstore", "--workers", "1", "--stock", "c"],
             1,
             1_000_000,
+            4096,
             "c",
         ),
         (
             &["tgstore", "--vertices=16777216", "--workers=64"],
             64,
             16_777_216,
+            4096,
             "",
         ),
-        (&["tgstore", "--workers", "2", "--vertices", "1"], 2, 1, ""),
+        (
+            &["tgstore", "--vertices", "1", "--blocks", "65536"],
+            2,
+            1,
+            65_536,
+            "",
+        ),
     ];
-    for (words, workers, vertices, stock) in cases {
+    for (words, workers, vertices, blocks, stock) in cases {
         let read = match options(alloc, words) {
             Ok(read) => read,
             Err(_) => return Err(Fail::from("words that are not accepted")),
         };
         assert_eq!(rt; read.settings.workers, workers);
         assert_eq!(rt; read.settings.max_vertices, vertices);
+        assert_eq!(rt; read.settings.limits.max_blocks(), blocks);
         assert!(rt; read.stock == stock, "{}", read.stock);
     }
     Ok(())
@@ -65,6 +74,10 @@ fn sixty_five_workers(rt: HostRuntime) -> Result<(), Fail> {
             ["tgstore", "--vertices", "16777217"],
             "error: invalid value '16777217' for '--vertices <N>': 16777217 is not in 1..=16777216",
         ),
+        (
+            ["tgstore", "--blocks", "65537"],
+            "error: invalid value '65537' for '--blocks <N>': 65537 is not in 1..=65536",
+        ),
     ];
     for (words, start) in cases {
         let text = text_of(alloc, words.as_slice())?;
@@ -79,8 +92,8 @@ fn words_that_name_no_option(rt: HostRuntime) -> Result<(), Fail> {
     let alloc = rt.alloc();
     let cases: [(&[&str], &str); 5] = [
         (
-            &["tgstore", "--blocks", "5"],
-            "error: unexpected argument '--blocks' found",
+            &["tgstore", "--threads", "5"],
+            "error: unexpected argument '--threads' found",
         ),
         (
             &["tgstore", "script"],
@@ -129,11 +142,15 @@ fn help_is_status_0(rt: HostRuntime) -> Result<(), Fail> {
 #[test]
 fn vertices_below_workers(rt: HostRuntime) -> Result<(), Fail> {
     let alloc = rt.alloc();
+    let Ok(limits) = Limits::new(1, 1) else {
+        return Err(Fail::from("no limits"));
+    };
     let cases = [("", "bad limits"), ("c0", "bad stock"), ("x", "bad stock")];
     for (stock, line) in cases {
         let settings = Settings {
             workers: 2,
             max_vertices: 1,
+            limits,
         };
         let Err(fault) = prepare(alloc, &Options { settings, stock }) else {
             return Err(Fail::from("it is prepared"));

@@ -11,15 +11,23 @@ use clap::{Arg, ArgAction, ArgMatches, Command, Error};
 use std::alloc::Global;
 use std::convert::AsStr;
 use tg_model::{MAX_VERTICES, MAX_WORKERS};
-use tg_script::Settings;
+use tg_script::{Limits, Settings};
 
 const DEFAULT_WORKERS: u64 = 2;
 
 const DEFAULT_VERTICES: u64 = 1_000_000;
 
+const DEFAULT_BLOCKS: u64 = 4096;
+
+/// The most blocks that a heap may be given.
+const MOST_BLOCKS: u64 = 65_536;
+
+/// The most blocks of one space.
+const MOST_SPACE_BLOCKS: u64 = 1_048_576;
+
 /// Reads the words, the first of which is the program's name: the options that they say, and the defaults of those that
-/// they don't. `Ok` only where each number is in its range: workers from 1 to 64, vertices from 1 to 2^24. An `Err` is the
-/// text for the user, of the help as of a fault, or want of memory.
+/// they don't. `Ok` only where each number is in its range: workers from 1 to 64, vertices from 1 to 2^24,
+/// blocks from 1 to 65,536. An `Err` is the text for the user, of the help as of a fault, or want of memory.
 pub fn options<'a, S: AsStr>(alloc: Global, words: &'a [S]) -> Result<Options<'a>, Error>
     ensures said { IfOk result (AreSaid (map S.text words.entry.now)) }
     ensures in_range { IfOk result (λ o. AreInRange o.settings) }
@@ -43,11 +51,32 @@ pub fn options<'a, S: AsStr>(alloc: Global, words: &'a [S]) -> Result<Options<'a
             DEFAULT_VERTICES,
             MAX_VERTICES,
         )?,
+        limits: limits_of(number(
+            alloc,
+            &mut command,
+            &matches,
+            "blocks",
+            DEFAULT_BLOCKS,
+            MOST_BLOCKS,
+        )?),
     };
     Ok(Options {
         settings,
         stock: matches.get_str("stock").unwrap_or(""),
     })
+}
+
+// The limits of a heap that may have so many blocks.
+fn limits_of(blocks: u64) -> Limits
+    requires { (1 ≤ blocks) × (blocks ≤ 65536) }
+    ensures blocks { result.max_blocks ≡ blocks }
+    ensures space_blocks { result.space_blocks ≡ 1048576 }
+{
+    // Both numbers are in their ranges.
+    let Ok(limits) = Limits::new(blocks, MOST_SPACE_BLOCKS) else {
+        unreachable!()
+    };
+    limits
 }
 
 // The command line.
@@ -60,6 +89,7 @@ fn command<'a>(alloc: Global) -> Result<Command<'a>, Error>
         .after_help(help::MANUAL)
         .arg(number_arg(alloc, "workers", help::WORKERS))?
         .arg(number_arg(alloc, "vertices", help::VERTICES))?
+        .arg(number_arg(alloc, "blocks", help::BLOCKS))?
         .arg(stock_arg(alloc))?;
     Ok(command)
 }

@@ -12,7 +12,7 @@ invariant-lines g l =
     record {
       command : IsCommand l.line;
       opening : l.script.opening ≡ false;
-      under : (t : Option Scene) (rest before : List ℕ) → Shows l.fn.run t → s.left l.fn.source ≡ Some rest → k.taken l.fn.sink ≡ Some before →
+      under : (t : Scene) (rest before : List ℕ) → Shows l.fn.run t → s.left l.fn.source ≡ Some rest → k.taken l.fn.sink ≡ Some before →
           Under l.fn.script rest t l.fn.first before l.script l.run l.line (s.left l.source) (k.taken l.sink);
       read : s.failures l.source ≡ s.failures l.fn.source;
       wrote : k.failures l.sink ≡ k.failures l.fn.sink;

@@ -7,7 +7,7 @@ use Rattle.tg_script.proofs.run_script.run_lines.Goals as goal
 
 pub returns-in_err-front-clause-output : goal.returns-in_err-front-clause-output
 returns-in_err-front-clause-output g c = λ bytes before left taken.
-    let start : Start = record { workers = c.args.settings.workers; limit = c.args.settings.max_vertices; values = c.args.workers.items; stock = c.args.stock.items } in
+    let start : Start = record { workers = c.args.settings.workers; limit = c.args.settings.max_vertices; blocks = c.args.settings.limits.max_blocks; values = c.args.workers.items; stock = c.args.stock.items } in
     let fresh : IsFresh c.new-script.result c.args.settings.workers = record { workers = c.new-script.ensures.workers; room = c.new-script.ensures.room; count = c.new-script.ensures.count; opening = c.new-script.ensures.opening } in
     let p = err_from_is_err_and c.from_residual.result c.from_residual.ensures.1 in
     let n = c.in_err-front.ensures.bytes bytes left in
@@ -16,7 +16,7 @@ returns-in_err-front-clause-output g c = λ bytes before left taken.
 
 pub returns-in_err-store-clause-output : goal.returns-in_err-store-clause-output
 returns-in_err-store-clause-output g c = λ bytes before left taken.
-    let start : Start = record { workers = c.args.settings.workers; limit = c.args.settings.max_vertices; values = c.args.workers.items; stock = c.args.stock.items } in
+    let start : Start = record { workers = c.args.settings.workers; limit = c.args.settings.max_vertices; blocks = c.args.settings.limits.max_blocks; values = c.args.workers.items; stock = c.args.stock.items } in
     let plan : Plan = record { workers = c.args.settings.workers; edges = c.in_ok-front.front.edges.items; values = c.args.workers.items; limit = c.args.settings.max_vertices } in
     let fresh : IsFresh c.new-script.result c.args.settings.workers = record { workers = c.new-script.ensures.workers; room = c.new-script.ensures.room; count = c.new-script.ensures.count; opening = c.new-script.ensures.opening } in
     let p = err_from_is_err_and c.from_residual-in_err-store.result c.from_residual-in_err-store.ensures.1 in
@@ -31,7 +31,7 @@ returns-in_err-store-clause-output g c = λ bytes before left taken.
 
 pub returns-in_default-clause-output : goal.returns-in_default-clause-output
 returns-in_default-clause-output g c = λ bytes before left taken.
-    let start : Start = record { workers = c.args.settings.workers; limit = c.args.settings.max_vertices; values = c.args.workers.items; stock = c.args.stock.items } in
+    let start : Start = record { workers = c.args.settings.workers; limit = c.args.settings.max_vertices; blocks = c.args.settings.limits.max_blocks; values = c.args.workers.items; stock = c.args.stock.items } in
     let fresh : IsFresh c.new-script.result c.args.settings.workers = record { workers = c.new-script.ensures.workers; room = c.new-script.ensures.room; count = c.new-script.ensures.count; opening = c.new-script.ensures.opening } in
     let read = c.in_ok-front.ensures.bytes bytes left in
     let reads = rw c.in_default.is at read in
@@ -40,13 +40,13 @@ returns-in_default-clause-output g c = λ bytes before left taken.
 
 pub returns-clause-output : goal.returns-clause-output
 returns-clause-output g c = λ bytes before left taken.
-    let start : Start = record { workers = c.args.settings.workers; limit = c.args.settings.max_vertices; values = c.args.workers.items; stock = c.args.stock.items } in
+    let start : Start = record { workers = c.args.settings.workers; limit = c.args.settings.max_vertices; blocks = c.args.settings.limits.max_blocks; values = c.args.workers.items; stock = c.args.stock.items } in
     let fresh : IsFresh c.new-script.result c.args.settings.workers = record { workers = c.new-script.ensures.workers; room = c.new-script.ensures.room; count = c.new-script.ensures.count; opening = c.new-script.ensures.opening } in
     let edges = c.in_ok-front.front.edges.items in
     let read = c.in_ok-front.ensures.bytes bytes left in
     let b = rw c.in-Some.is at read in
     let command = rw c.in-Some.is at c.in_ok-front.ensures.first in
-    let told = c.run_commands.ensures.written (Some (scene_with start edges)) b.0 before (c.in_ok-store.ensures.1, c.new-supply.ensures) b.1 taken in (
+    let told = c.run_commands.ensures.written (scene_with start edges) b.0 before (c.in_ok-store.ensures.1, c.new-supply.ensures) b.1 taken in (
       told.0,
       told.1,
       ran_commands c.run_commands.result start c.new-script.result c.read_edges.new.script bytes b.0 edges c.in-Some.first before told.0 (g.K.Sink.taken c.run_commands.new.sink)

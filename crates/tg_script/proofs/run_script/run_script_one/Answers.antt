@@ -4,7 +4,7 @@ use Rattle.tg_script.proofs.run_script.run_script_one.Goals as goal
 
 pub returns-clause-output : goal.returns-clause-output
 returns-clause-output g c = λ bytes before left taken.
-    let start : Start = record { workers = c.args.settings.workers; limit = c.args.settings.max_vertices; values = c.args.workers.items; stock = c.args.stock.items } in
+    let start : Start = record { workers = c.args.settings.workers; limit = c.args.settings.max_vertices; blocks = c.args.settings.limits.max_blocks; values = c.args.workers.items; stock = c.args.stock.items } in
     let s = g.K.Sink in
     let ran = c.run_lines-outcome.ensures.output bytes before left taken in (
       ran.0,

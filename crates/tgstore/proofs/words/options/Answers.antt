@@ -22,6 +22,8 @@ returns-clause-said g c =
     record {
       workers = c.in_ok-number.ensures.said ∙ ap (number_or 2) (one_text-rows found (codes "workers") ∙ ap (one_of (codes "workers")) rows);
       vertices = c.in_ok-number-2.ensures.said ∙ ap (number_or 1000000) (one_text-rows found (codes "vertices") ∙ ap (one_of (codes "vertices")) rows);
+      blocks = c.limits_of.ensures.blocks ∙ c.in_ok-number-3.ensures.said ∙ ap (number_or 4096) (one_text-rows found (codes "blocks") ∙ ap (one_of (codes "blocks")) rows);
+      space_blocks = c.limits_of.ensures.space_blocks;
       stock = ap (λ s. s.now) c.unwrap_or.ensures ∙ now_or c.get_str.result _
           ∙ ap (λ t. unwrap_or t []) (c.get_str.ensures ∙ first_value-rows found (codes "stock") ∙ ap (first_of (codes "stock")) rows);
     }

@@ -1,0 +1,10 @@
+use Rattle.tg_script.proofs.run.Run.answer.Goals as goal
+
+pub returns-in-Create : goal.returns-in-Create
+returns-in-Create g c = rw c.in-Create.is c.create.ensures
+
+pub returns-in-Plain : goal.returns-in-Plain
+returns-in-Plain g c = rw c.in-Plain.is c.apply.ensures
+
+pub returns-in-Full : goal.returns-in-Full
+returns-in-Full g c = rw c.in-Full.is c.collect.ensures

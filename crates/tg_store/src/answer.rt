@@ -1,0 +1,145 @@
+//! How a command is answered on the heap, before anything is entered in the journal.
+ghost use Rattle.std.specs.Prelude.{◌≡◌, ◌≢◌, ◌↔◌, ◌<◌, ◌+◌, None, Err, Some, IsTrue, IfOk, OnOk, OnErr, length};
+ghost use Rattle.tg_model.specs.Graph.{ProtectionGraph, IsSubject};
+ghost use Rattle.tg_model.specs.Rules.{answer_of, denial_of, step};
+ghost use Rattle.tg_model.specs.declared.command.Deed.TheVariants.{Plain};
+ghost use Rattle.tg_graph.specs.Heap.{IsOutOfCells, IsUnchanged, content_of};
+ghost use Rattle.tg_graph.specs.Standing.{StandsFor};
+ghost use Rattle.tg_rules.specs.Effect.{AddsEdge, OnlyLooks};
+
+use crate::fault::ApplyFault;
+use std::alloc::Global;
+use tg_graph::Heap;
+use tg_model::{Command, Denial, Reply};
+use tg_payload::Payload;
+use tg_rules::{Verdict, decide, perform};
+
+// A reply twice: for the one who asked, and for the journal.
+#[derive(Drop)]
+pub(crate) struct Answer {
+    pub(crate) reply: Reply,
+    pub(crate) copy: Reply,
+}
+
+// Decides a command of a worker, and performs it where it is served. For each graph that the heap stands for the
+// reply is that graph's, and then the heap stands for the graph after the command. Where it is refused, the heap is
+// as it was.
+pub(crate) fn answer_command<P: Payload>(
+    alloc: Global,
+    heap: &mut Heap<P>,
+    worker: u64,
+    command: &Command,
+) -> Result<Answer, ApplyFault>
+    requires { worker < length heap.old.workers }
+    ensures copy { IfOk result (λ answer. answer.copy ≡ answer.reply) }
+    ensures reply { (g : ProtectionGraph) → StandsFor (content_of heap.old) g → IsSubject g worker →
+        IfOk result (λ answer. answer.reply ≡ answer_of g worker (Plain command.now)) }
+    ensures step { (g : ProtectionGraph) → StandsFor (content_of heap.old) g → IsSubject g worker →
+        OnOk result (StandsFor (content_of heap.new) (step g worker (Plain command.now))) }
+    ensures denied { (denial : Denial) → denial_of (content_of heap.old).label worker command.now ≡ Some denial → heap.new ≡ heap.old }
+    ensures workers { heap.new.workers ≡ heap.old.workers }
+    ensures refused { OnErr result (IsUnchanged heap.old heap.new) }
+    ensures worker { result ≢ Err ApplyFault.NoSuchWorker }
+    ensures full { result ≡ Err ApplyFault.HeapFull → (denial_of (content_of heap.old).label worker command.now ≡ None)
+        × AddsEdge command.now × IsOutOfCells heap.old.table (worker + 2) 1 }
+{
+    match decide(heap, worker, command) {
+        Verdict::Served => serve(alloc, heap, worker, command),
+        Verdict::Denied(denial) => Ok(denied(&denial)),
+    }
+}
+
+// The reply to a command that is denied.
+fn denied(denial: &Denial) -> Answer
+    ensures reply { result.reply ≡ Reply.Denied denial.now }
+    ensures copy { result.copy ≡ Reply.Denied denial.now }
+{
+    Answer {
+        reply: Reply::Denied(*denial),
+        copy: Reply::Denied(*denial),
+    }
+}
+
+// Performs a command that is served.
+fn serve<P: Payload>(
+    alloc: Global,
+    heap: &mut Heap<P>,
+    worker: u64,
+    command: &Command,
+) -> Result<Answer, ApplyFault>
+    requires worker { worker < length heap.old.workers }
+    requires served { denial_of (content_of heap.old).label worker command.now ≡ None }
+    ensures copy { IfOk result (λ answer. answer.copy ≡ answer.reply) }
+    ensures reply { (g : ProtectionGraph) → StandsFor (content_of heap.old) g → IsSubject g worker →
+        IfOk result (λ answer. answer.reply ≡ answer_of g worker (Plain command.now)) }
+    ensures step { (g : ProtectionGraph) → StandsFor (content_of heap.old) g → IsSubject g worker →
+        OnOk result (StandsFor (content_of heap.new) (step g worker (Plain command.now))) }
+    ensures workers { heap.new.workers ≡ heap.old.workers }
+    ensures refused { OnErr result (IsUnchanged heap.old heap.new) }
+    ensures worker { result ≢ Err ApplyFault.NoSuchWorker }
+    ensures full { result ≡ Err ApplyFault.HeapFull → AddsEdge command.now × IsOutOfCells heap.old.table (worker + 2) 1 }
+{
+    if only_looks(command) {
+        look(alloc, heap, worker, command)
+    } else {
+        change(heap, worker, command)
+    }
+}
+
+// Performs a command that changes nothing. Its reply is copied, which may be refused.
+fn look<P: Payload>(
+    alloc: Global,
+    heap: &mut Heap<P>,
+    worker: u64,
+    command: &Command,
+) -> Result<Answer, ApplyFault>
+    requires worker { worker < length heap.old.workers }
+    requires served { denial_of (content_of heap.old).label worker command.now ≡ None }
+    requires looks { OnlyLooks command.now }
+    ensures copy { IfOk result (λ answer. answer.copy ≡ answer.reply) }
+    ensures reply { (g : ProtectionGraph) → StandsFor (content_of heap.old) g → IsSubject g worker →
+        IfOk result (λ answer. answer.reply ≡ answer_of g worker (Plain command.now)) }
+    ensures step { (g : ProtectionGraph) → StandsFor (content_of heap.old) g → IsSubject g worker →
+        OnOk result (StandsFor (content_of heap.new) (step g worker (Plain command.now))) }
+    ensures workers { heap.new.workers ≡ heap.old.workers }
+    ensures refused { OnErr result (IsUnchanged heap.old heap.new) }
+    ensures worker { result ≢ Err ApplyFault.NoSuchWorker }
+    ensures full { result ≢ Err ApplyFault.HeapFull }
+{
+    let reply = perform(heap, worker, command)?;
+    let copy = reply.copy(alloc)?;
+    Ok(Answer { reply, copy })
+}
+
+// Performs a command whose reply says no more than that it is done.
+fn change<P: Payload>(
+    heap: &mut Heap<P>,
+    worker: u64,
+    command: &Command,
+) -> Result<Answer, ApplyFault>
+    requires worker { worker < length heap.old.workers }
+    requires served { denial_of (content_of heap.old).label worker command.now ≡ None }
+    requires changes { ¬ OnlyLooks command.now }
+    ensures copy { IfOk result (λ answer. answer.copy ≡ answer.reply) }
+    ensures reply { (g : ProtectionGraph) → StandsFor (content_of heap.old) g → IsSubject g worker →
+        IfOk result (λ answer. answer.reply ≡ answer_of g worker (Plain command.now)) }
+    ensures step { (g : ProtectionGraph) → StandsFor (content_of heap.old) g → IsSubject g worker →
+        OnOk result (StandsFor (content_of heap.new) (step g worker (Plain command.now))) }
+    ensures workers { heap.new.workers ≡ heap.old.workers }
+    ensures refused { OnErr result (IsUnchanged heap.old heap.new) }
+    ensures worker { result ≢ Err ApplyFault.NoSuchWorker }
+    ensures full { result ≡ Err ApplyFault.HeapFull → AddsEdge command.now × IsOutOfCells heap.old.table (worker + 2) 1 }
+{
+    let _done = perform(heap, worker, command)?;
+    Ok(Answer {
+        reply: Reply::Done,
+        copy: Reply::Done,
+    })
+}
+
+// Whether the command changes nothing where it is served.
+fn only_looks(command: &Command) -> bool
+    ensures { IsTrue result ↔ OnlyLooks command.now }
+{
+    matches!(command, Command::Read { .. } | Command::List)
+}
