@@ -1,2 +1,4 @@
+mod AnswerLaws
+mod CreateLaws
 mod DifferenceLaws
 pub mod StandLaws
