@@ -1,6 +1,6 @@
 -- Steps of a change, one after the other: room is made, a vertex is placed, a value is written.
 use Rattle.std.proofs.Common.{◌≡◌, ◌≢◌, ◌↔◌, ℕ, ◌+◌, ◌*◌, ◌<◌, ◌≤◌, ◌⊎◌, inl, inr, ◌==◌, not, ◌&&◌, Bool, true, false, cond, List, [], ◌∷◌, length, get_or, set, drop, Option, Some, None, IsSome, refl, sym, ap, subst, arith, ◌∙◌, ⊎_elim, option_map}
-use Rattle.std.specs.Prelude.{nat_lt, position, slice_index}
+use Rattle.std.specs.Prelude.{nat_lt, position, slice_index, slice_index_or}
 use Rattle.std.specs.List.{All, position_or_len}
 use Rattle.std.specs.Option.{option_or}
 use Rattle.std.proofs.lemmas.Bool.{cases_eq}
@@ -33,7 +33,7 @@ use Rattle.tg_graph.proofs.Finding.{words_are_references}
 use Rattle.tg_graph.proofs.Fresh.{block_added, block_stays, fresh_same, fresh_stays, vertex_at, vertex_placed}
 use Rattle.tg_graph.proofs.Kept.{Becomes, Stays, chain_stays, name_stays}
 use Rattle.tg_graph.proofs.Linked.{value_written}
-use Rattle.tg_graph.proofs.Lookups.{label_is, name_of_vertex, value_at}
+use Rattle.tg_graph.proofs.Lookups.{label_is, name_of_vertex, value_at, value_is}
 use Rattle.tg_graph.proofs.Members.{All-left, All-right}
 use Rattle.tg_graph.proofs.Changes.{list_written}
 use Rattle.tg_graph.proofs.Putting.{can_put, put_becomes}
@@ -293,3 +293,100 @@ module _ (t grown : SpaceTable) (payloads : Payloads) (table : IsSpaceTable t) (
       let label = with_rights c0.label (name_at t.spaces from) (name_at t.spaces to) rights in
       subst (λ (x : SpaceTable). ChangesTo t x payloads (IsNamed c0) label c0.value) (sym is)
       (changes t (table_put grown space spot rights to) payloads (IsNamed c0) label c0.value whole (put_spaces grown space spot rights to ∙ room.spaces) (put_limits grown space spot rights to ∙ room.limits))
+
+-- ---- a new vertex
+
+-- room for more payloads changes nothing
+pub graph_entries : (h : SpaceList) (payloads new : Payloads) → new.entries ≡ payloads.entries → IsGraph h payloads → IsGraph h new
+graph_entries h payloads new same graph = record {
+  sound = graph.sound;
+  ends = graph.ends;
+  targets = graph.targets;
+  names = graph.names;
+  keys = graph.keys;
+  payloads_used = λ key.
+      let entry_same : entry new key ≡ entry payloads key = ap (λ (es : List (Option Value)). slice_index_or es key None) same in (
+        λ some. (graph.payloads_used key).0 (subst (λ (o : Option Value). IsSome o) entry_same some),
+        λ at. subst (λ (o : Option Value). IsSome o) (sym entry_same) ((graph.payloads_used key).1 at),
+      );
+}
+
+becomes_entries : (h after : SpaceList) (payloads new : Payloads) (named : ℕ → Type 0) (label : ℕ → ℕ → RightSet) (value : ℕ → Option Value) → new.entries ≡ payloads.entries → Becomes h after payloads named label value → Becomes h after new named label value
+becomes_entries h after payloads new named label value same becomes = record {
+  graph = graph_entries after payloads new same becomes.graph;
+  content = record {
+    names = becomes.content.names;
+    labels = becomes.content.labels;
+    values = λ x.
+        ap (λ (es : List (Option Value)). let p : Payloads = record { entries = es; spare = new.spare } in (content_in after p).value x) same
+        ∙ becomes.content.values x;
+  };
+  vertices = becomes.vertices;
+}
+
+module _ (t grown placed : SpaceTable) (payloads reserved filled : Payloads) (table : IsSpaceTable t) (table_grown : IsSpaceTable grown) (table_placed : IsSpaceTable placed) (graph : IsGraph t.spaces payloads)
+    (space cells : ℕ) (low : space < length t.spaces) (made : grown ≡ room_made_for t space cells) (same : reserved.entries ≡ payloads.entries)
+    (from : Place) (object : IsKindAt t.spaces Object from) (name : ℕ) (spot : Spot) (found : IsSpotIn t.spaces name from (chunks_from t.spaces (length (cells_of t.spaces)) (link_at t.spaces from)) spot) where
+  made_room : Grown t grown payloads
+  made_room = room_grows t grown payloads space cells table table_grown graph low made
+
+  pub grown_graph : IsGraph grown.spaces reserved
+  grown_graph = graph_entries grown.spaces payloads reserved same made_room.becomes.graph
+
+  pub still_fresh : (IsNamed (content_in t.spaces payloads) name → ⊥) → IsNamed (content_in grown.spaces reserved) name → ⊥
+  still_fresh fresh named = fresh ((made_room.becomes.content.names name).0 named)
+
+  pub as_many_spaces : length grown.spaces ≡ length t.spaces
+  as_many_spaces = made_room.spaces
+
+  module _ (value : Value)
+      (step : ChangesTo grown placed filled (λ x. IsNamed (content_in grown.spaces reserved) x ⊎ (x ≡ name)) (content_in grown.spaces reserved).label (with_value (content_in grown.spaces reserved).value name value))
+      (rows : KeepsRows grown.spaces placed.spaces) (q : Place) (vertex : IsVertexAt placed.spaces name q)
+      (used : placed.used ≡ set grown.used space (used_of grown space + 1)) (blocks : length (space_of placed.spaces space) ≡ length (space_of grown.spaces space))
+      (enough : HasLeft grown space cells) (counted : cells ≡ 1 + cells_for spot) where
+    object_grown : IsKindAt grown.spaces Object from
+    object_grown = made_room.rows.objects from object
+
+    object_placed : IsKindAt placed.spaces Object from
+    object_placed = rows.objects from object_grown
+
+    found_placed : IsSpotIn placed.spaces name from (chunks_from placed.spaces (length (cells_of placed.spaces)) (link_at placed.spaces from)) spot
+    found_placed =
+        spot_stays grown.spaces placed.spaces reserved (table_list grown table_grown) grown_graph rows from object_grown name spot
+        (spot_stays t.spaces grown.spaces payloads (table_list t table) graph made_room.rows from object name spot found)
+
+    left_over : HasLeft placed space (cells_for spot)
+    left_over =
+        let long : space < length grown.used = omega (arith, table_grown.counted, made_room.spaces, low) in
+        let more : used_of placed space ≡ used_of grown space + 1 = ap (λ (us : List ℕ). slice_index us space) used ∙ get_or-set_same grown.used space (used_of grown space + 1) 0 long in
+        omega (arith, more, blocks, enough, counted)
+
+    pub placed_can : CanPut placed space spot
+    placed_can = can_put placed table_placed filled step.graph from object_placed name spot found_placed space left_over
+
+    pub vertex_made : (rights : RightSet) → is_none_held rights ≡ false → 2 ≤ space → (after : SpaceTable) → after ≡ table_put placed space spot rights q →
+        ChangesTo t after filled (λ x. IsNamed (content_in t.spaces payloads) x ⊎ (x ≡ name)) (with_rights (content_in t.spaces payloads).label (name_at t.spaces from) name rights) (with_value (content_in t.spaces payloads).value name value)
+    vertex_made rights some young after is =
+        let c0 = content_in t.spaces payloads in
+        let c1 = content_in grown.spaces reserved in
+        let c2 = content_in placed.spaces filled in
+        let named1 = λ (x : ℕ). IsNamed c1 x ⊎ (x ≡ name) in
+        let named = λ (x : ℕ). IsNamed c0 x ⊎ (x ≡ name) in
+        let values = with_value c0.value name value in
+        let first = becomes_entries t.spaces grown.spaces payloads reserved (IsNamed c0) c0.label c0.value same made_room.becomes in
+        let value_same : c1.value ≡ c0.value = value_is c1 (IsNamed c0) c0.label c0.value first.content in
+        let both = becomes_then t.spaces grown.spaces placed.spaces reserved filled (IsNamed c0) named1 named c0.label c1.label c0.label c0.value (with_value c1.value name value) values first
+        (becomes_from grown placed filled named1 c1.label (with_value c1.value name value) step)
+        (λ x. (⊎_elim (λ n. inl ((first.content.names x).0 n)) (λ e. inr e), ⊎_elim (λ n. inl ((first.content.names x).1 n)) (λ e. inr e)))
+        first.content.labels (λ x. ap (λ (f : ℕ → Option Value). with_value f name value x) value_same) in
+        let put = put_becomes placed table_placed filled step.graph from object_placed name spot found_placed space left_over
+        (young, omega (arith, low, made_room.spaces, step.spaces)) q vertex.object vertex.named rights some in
+        let label_same : c2.label ≡ c0.label = label_is c2 named c0.label values both.content in
+        let from_same : name_at placed.spaces from ≡ name_at t.spaces from = rows.names from object_grown ∙ made_room.rows.names from object in
+        let label = with_rights c0.label (name_at t.spaces from) name rights in
+        let all = becomes_then t.spaces placed.spaces (table_put placed space spot rights q).spaces filled filled named (IsNamed c2) named c0.label (with_rights c2.label (name_at placed.spaces from) name rights) label values c2.value values
+        both put both.content.names
+        (λ x y. ap (λ (l : ℕ → ℕ → RightSet). with_rights l (name_at placed.spaces from) name rights x y) label_same ∙ ap (λ n. with_rights c0.label n name rights x y) from_same)
+        both.content.values in
+        subst (λ (x : SpaceTable). ChangesTo t x filled named label values) (sym is)
+        (changes t (table_put placed space spot rights q) filled named label values all (put_spaces placed space spot rights q ∙ step.spaces ∙ made_room.spaces) (put_limits placed space spot rights q ∙ step.limits ∙ made_room.limits))

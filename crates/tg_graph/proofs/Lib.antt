@@ -3,6 +3,7 @@ pub mod Finding
 pub mod Listing
 pub mod Putting
 pub mod Growing
+pub mod Heaps
 pub mod Members
 pub mod Places
 pub mod Layouts
