@@ -1,3 +1,4 @@
+pub mod StandingLaws
 pub mod Walks
 pub mod Finding
 pub mod Listing
