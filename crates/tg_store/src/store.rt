@@ -225,8 +225,8 @@ impl<P: Payload> Store<P> {
         let roots = self.heap.roots(self.alloc)?;
         let copied = collect_one(self.alloc, self.heap.spaces(), &roots, kind)?;
         let Copied { forward, adoption } = copied;
-        let left = self.heap.settle(kind, forward, adoption)?;
-        Ok(left)
+        self.heap.settle(kind, forward, adoption)?;
+        Ok(self.heap.vertices())
     }
 }
 

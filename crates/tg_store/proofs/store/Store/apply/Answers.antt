@@ -55,9 +55,11 @@ returns-in_err-reply-clause-full g c =
     let here : StandsFor old graph = ap graph_of_store c.self.view_is ∙ stands in
     let subject : IsSubject (graph_of_store old) c.args.worker = subject_here old c.self.invariant.faithful (graph_of_store old) c.args.worker refl below in
     let full = c.in_err-reply.ensures.full (cc (same, given.1, given.2)) in
-    let allowed = permitted (content_of old.heap) (graph_of_store old) c.self.invariant.faithful.stands c.args.worker c.args.command subject full.0 in
-    (subst (λ (h : ProtectionGraph). Permits h.label c.args.worker c.args.command) here allowed, full.1,
-    subst (λ (s : StoreState). IsOutOfCells s.heap.table (c.args.worker + 2) 1) c.self.view_is full.2)
+    let allowed = permitted (content_of old.heap) (graph_of_store old) c.self.invariant.faithful.stands c.args.worker c.args.command subject full.0 in (
+      subst (λ (h : ProtectionGraph). Permits h.label c.args.worker c.args.command) here allowed,
+      full.1,
+      subst (λ (s : StoreState). IsOutOfCells s.heap.table (c.args.worker + 2) 1) c.self.view_is full.2,
+    )
 
 pub invariant_of-self-2 : goal.invariant_of-self-2
 invariant_of-self-2 g c =

@@ -112,8 +112,10 @@ returns-in_err-new_vertex-clause-full g c =
     λ graph stands.
     let here : StandsFor old graph = ap graph_of_store c.self.view_is ∙ stands in
     rw (given.1, given.2)
-    (λ e. (subst (λ (h : ProtectionGraph). h.made < h.limit) here room,
-    subst (λ (s : StoreState). IsOutOfCells s.heap.table (c.args.worker + 2) 2) c.self.view_is (c.in_err-new_vertex.ensures.full (create.heap_full _ e))))
+    (λ e. (
+      subst (λ (h : ProtectionGraph). h.made < h.limit) here room,
+      subst (λ (s : StoreState). IsOutOfCells s.heap.table (c.args.worker + 2) 2) c.self.view_is (c.in_err-new_vertex.ensures.full (create.heap_full _ e)),
+    ))
 
 pub invariant_of-self-2 : goal.invariant_of-self-2
 invariant_of-self-2 g c =
