@@ -250,3 +250,57 @@ fn one_block_a_space(rt: HostRuntime) -> Result<(), Fail> {
     assert_eq!(rt; census, counts);
     Ok(())
 }
+
+// Makes a vertex for each of three payloads, lets each have an edge to the next in turn, and gives up all rights over
+// them. Answers how many were dropped before a full collection, what it answers, and how many were dropped then.
+fn dropped_by_a_collection<P: Payload>(
+    alloc: Global,
+    worker: P,
+    payloads: Vec<P>,
+    drops: &AtomicU64,
+) -> Option<(u64, u64, u64)> {
+    let mut store = open_one(alloc, worker, 4)?.ok()?;
+    let read = Label::new(Rights::of(Right::R))?;
+    let label = Label::new(Rights::of(Right::R).union(Rights::of(Right::G)))?;
+    for payload in payloads {
+        let draft = Draft::new(alloc, payload).ok()?;
+        let _name = store.create(0, label, draft).ok()?;
+    }
+    for via in 1..4 {
+        let grant = Command::Grant {
+            via,
+            target: via % 3 + 1,
+            rights: read,
+        };
+        let _done = store.apply(0, grant).ok()?;
+    }
+    for target in 1..4 {
+        let remove = Command::Remove {
+            target,
+            rights: label,
+        };
+        let _done = store.apply(0, remove).ok()?;
+    }
+    let before = drops.load(Ordering::SeqCst);
+    let left = store.collect(Kind::Full).ok()?;
+    Some((before, left, drops.load(Ordering::SeqCst)))
+}
+
+#[test]
+fn cycle_of_dead_boxes(rt: HostRuntime) -> Result<(), Fail> {
+    let alloc = rt.alloc();
+    let drops = Arc::new(alloc, AtomicU64::new(0))?;
+    let mut payloads = Vec::new(alloc);
+    for number in 0..3 {
+        let counting = CountingPayload {
+            number,
+            drops: drops.clone()?,
+        };
+        let counting: PayloadBox = Box::new(alloc, counting)?;
+        payloads.push(counting)?;
+    }
+    let worker: PayloadBox = Box::new(alloc, CellPayload::new(0))?;
+    let seen = dropped_by_a_collection(alloc, worker, payloads, &drops).ok_or("a refusal")?;
+    assert_eq!(rt; seen, (0, 1, 3));
+    Ok(())
+}
