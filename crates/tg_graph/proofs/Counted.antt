@@ -1,5 +1,5 @@
 -- A heap has as many payloads as objects.
-use Rattle.std.proofs.Common.{◌≡◌, ℕ, zero, suc, ◌<◌, ◌≤◌, ◌+◌, ◌⊎◌, Bool, true, false, List, [], ◌∷◌, ◌++◌, length, get_or, map, Option, None, IsSome, is_some, eqb, cond, ◌||◌, refl, sym, ap, subst, arith, ◌∙◌, inl, inr, ⊎_elim}
+use Rattle.std.proofs.Common.{◌≡◌, ℕ, zero, suc, ◌<◌, ◌≤◌, ◌+◌, ◌⊎◌, Bool, true, false, List, [], ◌∷◌, ◌++◌, length, get_or, map, Option, None, IsSome, is_some, eqb, ◌==◌, cond, ◌||◌, refl, sym, ap, subst, arith, ◌∙◌, inl, inr, ⊎_elim}
 use Rattle.std.specs.List.{All, Contains, IsDistinct, count_by, filter, flat_map, list_any, range_with_len}
 use Rattle.std.proofs.lemmas.Bool.{cases_Bool, cases_lt, eqb-true, eq-eqb}
 use Rattle.std.proofs.lemmas.Bool.Decides.{eqb_tells}
@@ -171,3 +171,9 @@ payloads_counted h payloads is graph =
     let le = fewer keys (used_keys payloads) once (λ key has. let (p, among, at) = Contains-from_map (key_at h) (objects_of h) key has in key_used payloads key ((graph.payloads_used key).1 (p, kind_from_objects h is p among, at))) in
     let ge = fewer (used_keys payloads) keys (once-used_keys payloads) (λ key has. let (p, object, at) = (graph.payloads_used key).0 (used_key payloads key has) in subst (λ (k : ℕ). Contains keys k) at (Contains-map (key_at h) (objects_of h) p (objects_from_kind h is p object))) in
     omega (arith, length-used_keys payloads, length-map (objects_of h) (key_at h), length-map (objects_of h) (name_at h))
+
+-- no name stands twice
+pub names_once : (h : SpaceList) (payloads : Payloads) → IsSpaceList h → IsGraph h payloads → IsDistinct (λ a b. a == b) (map (name_at h) (objects_of h))
+names_once h payloads is graph =
+    distinct_from_once (map (name_at h) (objects_of h))
+    (once-map (name_at h) (objects_of h) (λ p q a b e. graph.names p q (kind_from_objects h is p a) (kind_from_objects h is q b) e) (once-objects h))

@@ -1,6 +1,6 @@
 //! The heap of one store.
-ghost use Rattle.std.specs.Prelude.{◌≡◌, ◌↔◌, ◌+◌, ◌<◌, ◌⊎◌, ℕ, Err, IfOk, IfErr, IfSome, IsSome, OnOk, OnErr, length, slice_get, Some};
-ghost use Rattle.std.specs.List.{All};
+ghost use Rattle.std.specs.Prelude.{◌==◌, ◌≡◌, ◌↔◌, ◌+◌, ◌<◌, ◌⊎◌, ℕ, Err, IfOk, IfErr, IfSome, IsSome, OnOk, OnErr, length, slice_get, Some};
+ghost use Rattle.std.specs.List.{All, IsDistinct};
 ghost use Rattle.tg_model.specs.Graph.{HasEdge, listing_of, with_rights, without_rights};
 ghost use Rattle.tg_model.specs.Opened.{start_of};
 ghost use Rattle.tg_model.specs.Rules.{state_of, with_value, written_at};
@@ -106,9 +106,10 @@ impl<P: Payload> Heap<P> {
         self.workers[worker as usize]
     }
 
-    /// How many vertices the heap has. Takes no memory.
+    /// How many vertices the heap has. No name is counted twice. Takes no memory.
     pub fn vertices(&self) -> u64
-        ensures { result ≡ length (content_of self.now).names }
+        ensures number { result ≡ length (content_of self.now).names }
+        ensures once { IsDistinct (λ a b. a == b) (content_of self.now).names }
     {
         let _ = self.cells.spaces.blocks();
         self.cells.payloads.len()
