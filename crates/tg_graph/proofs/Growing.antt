@@ -288,7 +288,7 @@ module _ (t grown : SpaceTable) (payloads : Payloads) (table : IsSpaceTable t) (
       let whole = becomes_then t.spaces grown.spaces (table_put grown space spot rights to).spaces payloads payloads (IsNamed c0) (IsNamed c1) (IsNamed c0) c0.label
       (with_rights c1.label (name_at grown.spaces from) name rights) (with_rights c0.label (name_at t.spaces from) (name_at t.spaces to) rights) c0.value c1.value c0.value room.becomes put room.becomes.content.names
       (λ x y. ap (λ (l : ℕ → ℕ → RightSet). with_rights l (name_at grown.spaces from) name rights x y) label_same
-          ∙ ap (λ n. with_rights c0.label n name rights x y) (room.rows.names from object) ∙ ap (λ n. with_rights c0.label (name_at t.spaces from) n rights x y) named)
+      ∙ ap (λ n. with_rights c0.label n name rights x y) (room.rows.names from object) ∙ ap (λ n. with_rights c0.label (name_at t.spaces from) n rights x y) named)
       room.becomes.content.values in
       let label = with_rights c0.label (name_at t.spaces from) (name_at t.spaces to) rights in
       subst (λ (x : SpaceTable). ChangesTo t x payloads (IsNamed c0) label c0.value) (sym is)

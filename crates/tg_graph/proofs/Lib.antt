@@ -5,6 +5,7 @@ pub mod Listing
 pub mod Putting
 pub mod Growing
 pub mod Heaps
+pub mod Openings
 pub mod Members
 pub mod Places
 pub mod Layouts

@@ -157,7 +157,7 @@ module _ (t : SpaceTable) (table : IsSpaceTable t) (payloads : Payloads) (graph 
           relabel t.spaces (with_word_at t.spaces q i new) payloads (IsNamed (content_in t.spaces payloads)) (with_label label (name_at t.spaces p) (name_in t.spaces new) (rights_in new))
           (with_rights label (name_at t.spaces p) name rights) (content_in t.spaces payloads).value
           (λ a b. ap (λ n. with_label label (name_at t.spaces p) n (rights_in new) a b) new_name
-              ∙ with_label-union label (name_at t.spaces p) name rights (rights_in new) (new_rights ∙ ap (λ r. union r rights) (sym was)) a b)
+          ∙ with_label-union label (name_at t.spaces p) name rights (rights_in new) (new_rights ∙ ap (λ r. union r rights) (sym was)) a b)
           (slot_changed t.spaces payloads is graph p q i object reference.cell (reference.from, reference.to) new reference.some new_refers same_place)
 
       filled_becomes : (q : Place) (i : ℕ) → word_where (refers_to t.spaces name) t.spaces (row_of t.spaces p) ≡ None → word_where is_empty t.spaces (row_of t.spaces p) ≡ Some (q, i) → Result (with_word_at t.spaces q i word)
@@ -214,7 +214,7 @@ module _ (t : SpaceTable) (table : IsSpaceTable t) (payloads : Payloads) (graph 
             relabel t.spaces (with_word_at t.spaces q i 0) payloads (IsNamed (content_in t.spaces payloads)) (with_label label (name_at t.spaces p) (name_in t.spaces old) no_rights)
             fewer (content_in t.spaces payloads).value
             (λ a b. ap (λ n. with_label label (name_at t.spaces p) n no_rights a b) reference.named
-                ∙ with_label-minus label (name_at t.spaces p) name rights no_rights (sym (none_held-same (minus (rights_in old) rights) none) ∙ ap (λ r. minus r rights) (sym was)) a b)
+            ∙ with_label-minus label (name_at t.spaces p) name rights no_rights (sym (none_held-same (minus (rights_in old) rights) none) ∙ ap (λ r. minus r rights) (sym was)) a b)
             (slot_cleared t.spaces payloads is graph p q i object reference.cell (reference.from, reference.to) reference.some)
         by_test false some =
             let label = (content_in t.spaces payloads).label in
@@ -232,7 +232,7 @@ module _ (t : SpaceTable) (table : IsSpaceTable t) (payloads : Payloads) (graph 
             relabel t.spaces (with_word_at t.spaces q i new) payloads (IsNamed (content_in t.spaces payloads)) (with_label label (name_at t.spaces p) (name_in t.spaces new) (rights_in new))
             fewer (content_in t.spaces payloads).value
             (λ a b. ap (λ n. with_label label (name_at t.spaces p) n (rights_in new) a b) new_name
-                ∙ with_label-minus label (name_at t.spaces p) name rights (rights_in new) (new_rights ∙ ap (λ r. minus r rights) (sym was)) a b)
+            ∙ with_label-minus label (name_at t.spaces p) name rights (rights_in new) (new_rights ∙ ap (λ r. minus r rights) (sym was)) a b)
             (slot_changed t.spaces payloads is graph p q i object reference.cell (reference.from, reference.to) new reference.some new_refers same_place)
 
 -- where there are no rights, none are taken

@@ -4,4 +4,5 @@ pub mod Rows
 pub mod Heap
 pub mod Spots
 pub mod Steps
+pub mod Opened
 pub mod Kept

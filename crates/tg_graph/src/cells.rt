@@ -13,6 +13,7 @@ ghost use Rattle.tg_nursery.specs.Allocation.{HasFewerLeft, HasLeft, room_made_f
 ghost use Rattle.tg_graph.specs.Content.{IsNamed};
 ghost use Rattle.tg_graph.specs.Heap.{IsGraph, IsOutOfCells, content_in, rights_found};
 ghost use Rattle.tg_graph.specs.Rows.{IsVertexAt, name_at};
+ghost use Rattle.tg_graph.specs.Opened.{TakesOneCell};
 ghost use Rattle.tg_graph.specs.Steps.{ChangesTo, KeepsRows};
 
 use crate::heap::{Found, VertexRefused};
@@ -121,6 +122,7 @@ impl<P: Payload> Cells<P> {
         ensures refused { OnErr result (self.new.spaces ≡ self.old.spaces) }
         ensures full { result ≡ Err AllocateFault.HeapFull → IsOutOfCells self.old.spaces (worker + 2) 1 }
         ensures had_room { HasLeft self.old.spaces (worker + 2) 1 → IsOk result }
+        ensures one_cell { OnOk result (TakesOneCell self.old.spaces self.new.spaces (worker + 2)) }
     {
         let name = self.spaces.read(to, NAME);
         let spot = find_spot(&self.spaces, from, name);

@@ -1,15 +1,39 @@
 //! Opening a heap.
-// NOTE from the lead (delete at merge): helper `opening` proves this file (and Heap::open) in /work/wt/opening; leave it, and do the rest.
-ghost use Rattle.std.specs.Prelude.{◌≡◌, ◌<◌, IfErr};
+ghost use Rattle.std.specs.Prelude.{◌≡◌, ◌≢◌, ◌+◌, ◌<◌, ◌≤◌, ℕ, Some, false, true, [], length, slice_get, slice_index_or, slice_set, Err, IfErr, IfOk, OnOk, vec_capacity};
+ghost use Rattle.std.specs.List.{All};
+ghost use Rattle.tg_rights.specs.RightSet.{is_none_held, no_rights, union};
+ghost use Rattle.tg_model.specs.Graph.{with_rights};
+ghost use Rattle.tg_model.specs.Opened.{JoinsWorkers, label_in};
+ghost use Rattle.tg_word.specs.declared.Place.{Place};
+ghost use Rattle.tg_block.specs.declared.CellKind.TheVariants.{Object};
+ghost use Rattle.tg_space.specs.SpaceList.{space_of};
+ghost use Rattle.tg_space.specs.SpaceTable.{AreLimits, IsSpaceTable, no_blocks, used_of};
+ghost use Rattle.tg_space.specs.Soundness.{IsKindAt};
+ghost use Rattle.tg_nursery.specs.Allocation.{HasLeft};
+ghost use Rattle.tg_graph.specs.Content.{IsNamed};
+ghost use Rattle.tg_graph.specs.Heap.{IsGraph, content_in};
+ghost use Rattle.tg_graph.specs.Rows.{IsVertexAt, name_at};
+ghost use Rattle.tg_graph.specs.Steps.{ChangesTo};
+ghost use Rattle.tg_graph.specs.Opened.{HasBlocks, IsOpened, TakesOneCell, no_labels, with_row};
 
 use crate::cells::Cells;
 use crate::heap::HeapRefused;
 use std::alloc::{AllocError, Global};
-use tg_model::Opening;
-use tg_nursery::{AllocateFault, reserve};
+use tg_model::{Edge, Opening};
+use tg_nursery::AllocateFault;
 use tg_payload::{Draft, Payload, PayloadTable};
+use tg_rights::Rights;
 use tg_space::{Limits, Spaces};
 use tg_word::Place;
+
+// What an opening fills, with room for all of it.
+#[derive(Drop)]
+struct Room<P: Payload> {
+    cells: Cells<P>,
+    places: Vec<Place>,
+    // The rights of one worker over each.
+    row: Vec<Rights>,
+}
 
 /// The cells of the graph that an opening starts from, and where its workers are. All growth comes first.
 pub(crate) fn opened<P: Payload>(
@@ -19,64 +43,200 @@ pub(crate) fn opened<P: Payload>(
     drafts: Vec<Draft<P>>,
 ) -> Result<(Cells<P>, Vec<Place>), HeapRefused<P>>
     requires { drafts.items ≡ opening.now.values }
+    ensures opened { IfOk result (λ parts. IsOpened parts.0.spaces parts.0.payloads parts.1.items opening.now.workers limits (label_in opening.now.edges) opening.now.values) }
+    ensures workers { IfOk result (λ parts. length parts.1.items ≡ opening.now.workers) }
     ensures handed_back { IfErr result (λ refused. refused.drafts.items ≡ drafts.items) }
+    ensures full { IfErr result (λ refused. refused.why ≡ AllocateFault.HeapFull → limits.max_blocks < opening.now.workers) }
 {
-    let (mut cells, mut workers) = match with_room(alloc, opening.workers(), limits) {
-        Ok(empty) => empty,
+    let mut room = match with_room(alloc, opening.workers(), limits) {
+        Ok(room) => room,
         Err(why) => return Err(HeapRefused { drafts, why }),
     };
-    place_workers(&mut cells, &mut workers, drafts);
-    for edge in opening.edges() {
-        let from = workers[edge.from as usize];
-        let to = workers[edge.to as usize];
-        cells
-            .add_edge(edge.from, from, to, edge.label.rights())
-            .unwrap();
-    }
-    Ok((cells, workers))
+    place_workers(&mut room.cells, &mut room.places, drafts);
+    add_edges(
+        &mut room.cells,
+        &room.places,
+        &mut room.row,
+        opening.edges(),
+    );
+    Ok((room.cells, room.places))
 }
 
-// Cells with no vertex, where each nursery has a block, and room for the payloads and the places of the workers.
+// Room for the graph of so many workers: cells with no vertex, where each nursery has a block.
 fn with_room<P: Payload>(
     alloc: Global,
     workers: u64,
     limits: Limits,
-) -> Result<(Cells<P>, Vec<Place>), AllocateFault> {
-    let Ok((mut cells, places)) = empty_cells(alloc, workers, limits) else {
+) -> Result<Room<P>, AllocateFault>
+    requires some { 1 ≤ workers }
+    requires few { workers ≤ 64 }
+    ensures blocks { IfOk result (λ room. HasBlocks room.cells.spaces workers limits) }
+    ensures table { IfOk result (λ room. IsSpaceTable room.cells.spaces) }
+    ensures payloads { IfOk result (λ room. room.cells.payloads.entries ≡ []) }
+    ensures spare { IfOk result (λ room. workers ≤ room.cells.payloads.spare) }
+    ensures places { IfOk result (λ room. room.places.items ≡ []) }
+    ensures capacity { IfOk result (λ room. workers ≤ vec_capacity room.places) }
+    ensures row { IfOk result (λ room. length room.row.items ≡ workers) }
+    ensures full { IfErr result (λ why. why ≡ AllocateFault.HeapFull → limits.max_blocks < workers) }
+{
+    if limits.max_blocks() < workers {
+        return Err(AllocateFault::HeapFull);
+    }
+    let Ok(mut room) = empty_room(alloc, workers, limits) else {
         return Err(AllocateFault::OutOfMemory);
     };
-    for worker in 0..workers {
-        reserve(&mut cells.spaces, worker, 1)?;
-    }
-    Ok((cells, places))
+    add_blocks(&mut room.cells.spaces, workers)?;
+    Ok(room)
 }
 
-// Cells with no vertex and no block, and room for the payloads and the places of the workers.
-fn empty_cells<P: Payload>(
+// Room for so many payloads, places and rights, and spaces with no block.
+fn empty_room<P: Payload>(
     alloc: Global,
     workers: u64,
     limits: Limits,
-) -> Result<(Cells<P>, Vec<Place>), AllocError> {
+) -> Result<Room<P>, AllocError>
+    requires some { 1 ≤ workers }
+    requires few { workers ≤ 64 }
+    ensures spaces { IfOk result (λ room. room.cells.spaces ≡ no_blocks workers limits) }
+    ensures payloads { IfOk result (λ room. room.cells.payloads.entries ≡ []) }
+    ensures spare { IfOk result (λ room. workers ≤ room.cells.payloads.spare) }
+    ensures places { IfOk result (λ room. room.places.items ≡ []) }
+    ensures capacity { IfOk result (λ room. workers ≤ vec_capacity room.places) }
+    ensures row { IfOk result (λ room. length room.row.items ≡ workers) }
+{
     let spaces = Spaces::new(alloc, workers, limits)?;
     let mut payloads = PayloadTable::new(alloc);
     payloads.reserve(workers)?;
     let places = Vec::with_capacity(alloc, workers as usize)?;
+    let row = vec![in alloc; Rights::empty(); workers as usize]?;
     let cells = Cells {
         alloc,
         spaces,
         payloads,
     };
-    Ok((cells, places))
+    Ok(Room { cells, places, row })
+}
+
+// Gives each nursery its first block.
+fn add_blocks(spaces: &mut Spaces, workers: u64) -> Result<(), AllocateFault>
+    requires some { 1 ≤ workers }
+    requires few { workers ≤ 64 }
+    requires limits { AreLimits spaces.old.limits }
+    requires empty { spaces.old ≡ no_blocks workers spaces.old.limits }
+    requires allowed { workers ≤ spaces.old.limits.max_blocks }
+    ensures blocks { OnOk result (HasBlocks spaces.new workers spaces.old.limits) }
+    ensures table { OnOk result (IsSpaceTable spaces.new) }
+    ensures full { result ≢ Err AllocateFault.HeapFull }
+{
+    for worker in 0..workers {
+        spaces.add_block(worker + 2)?;
+    }
+    Ok(())
 }
 
 // Puts the object of each worker into its nursery.
-fn place_workers<P: Payload>(
-    cells: &mut Cells<P>,
-    workers: &mut Vec<Place>,
-    drafts: Vec<Draft<P>>,
-) {
-    for (draft, worker) in drafts.into_iter().zip(0..) {
-        let place = cells.place_vertex(worker, worker, draft);
-        workers.push(place).unwrap();
+fn place_workers<P: Payload>(cells: &mut Cells<P>, places: &mut Vec<Place>, drafts: Vec<Draft<P>>)
+    requires blocks { HasBlocks cells.old.spaces (length drafts.items) cells.old.spaces.limits }
+    requires table { IsSpaceTable cells.old.spaces }
+    requires few { length drafts.items ≤ 64 }
+    requires payloads { cells.old.payloads.entries ≡ [] }
+    requires spare { length drafts.items ≤ cells.old.payloads.spare }
+    requires places { places.old.items ≡ [] }
+    requires capacity { length drafts.items ≤ vec_capacity places.old }
+    ensures opened { IsOpened cells.new.spaces cells.new.payloads places.new.items (length drafts.items) cells.old.spaces.limits no_labels drafts.items }
+    ensures count { length places.new.items ≡ length drafts.items }
+    ensures unused { (x : ℕ) → used_of cells.new.spaces (x + 2) ≤ 1 }
+{
+    for draft in drafts {
+        let name = places.len() as u64;
+        let place = cells.place_vertex(name, name, draft);
+        places.push(place).unwrap();
     }
+}
+
+// Adds these edges, worker by worker: two of one pair make one reference.
+fn add_edges<P: Payload>(cells: &mut Cells<P>, places: &[Place], row: &mut [Rights], edges: &[Edge])
+    requires few { length places.now ≤ 64 }
+    requires row { length row.old ≡ length places.now }
+    requires edges { All (JoinsWorkers (length places.now)) edges.now }
+    requires graph { IsGraph cells.old.spaces.spaces cells.old.payloads }
+    requires spaces { length cells.old.spaces.spaces ≡ length places.now + 2 }
+    requires vertices { (x : ℕ) (p : Place) → slice_get places.now x ≡ Some p → IsVertexAt cells.old.spaces.spaces x p }
+    requires labels { (x y : ℕ) → (content_in cells.old.spaces.spaces cells.old.payloads).label x y ≡ no_rights }
+    requires unused { (x : ℕ) → used_of cells.old.spaces (x + 2) ≤ 1 }
+    requires blocks { (x : ℕ) → x < length places.now → 1 ≤ length (space_of cells.old.spaces.spaces (x + 2)) }
+    ensures added { let content = content_in cells.old.spaces.spaces cells.old.payloads in
+        ChangesTo cells.old.spaces cells.new.spaces cells.old.payloads (IsNamed content) (label_in edges.now) content.value }
+    ensures payloads { cells.new.payloads ≡ cells.old.payloads }
+    ensures blocks { (space : ℕ) → length (space_of cells.old.spaces.spaces space) ≤ length (space_of cells.new.spaces.spaces space) }
+{
+    for from in 0..places.len() as u64 {
+        read_row(edges, from, row);
+        add_row(cells, from, places, row);
+    }
+}
+
+// Reads the rights of one vertex over each off the edges.
+fn read_row(edges: &[Edge], from: u64, row: &mut [Rights])
+    requires { All (JoinsWorkers (length row.old)) edges.now }
+    ensures { (y : ℕ) → slice_index_or row.new y no_rights ≡ label_in edges.now from y }
+{
+    row.fill(Rights::empty());
+    for edge in edges {
+        if edge.from == from {
+            unite(row, edge.to, edge.label.rights());
+        }
+    }
+}
+
+// Adds rights over one vertex to a row.
+fn unite(row: &mut [Rights], to: u64, rights: Rights)
+    requires { to < length row.old }
+    ensures { row.new ≡ slice_set row.old to (union (slice_index_or row.old to no_rights) rights) }
+{
+    let to = to as usize;
+    row[to] = row[to].union(rights);
+}
+
+// Adds the edges of one worker, in whose nursery only its object is.
+fn add_row<P: Payload>(cells: &mut Cells<P>, from: u64, places: &[Place], row: &[Rights])
+    requires from { from < length places.now }
+    requires few { length places.now ≤ 64 }
+    requires row { length row.now ≡ length places.now }
+    requires no_loop { slice_index_or row.now from no_rights ≡ no_rights }
+    requires graph { IsGraph cells.old.spaces.spaces cells.old.payloads }
+    requires spaces { length cells.old.spaces.spaces ≡ length places.now + 2 }
+    requires vertices { (x : ℕ) (p : Place) → slice_get places.now x ≡ Some p → IsVertexAt cells.old.spaces.spaces x p }
+    requires labels { (y : ℕ) → (content_in cells.old.spaces.spaces cells.old.payloads).label from y ≡ no_rights }
+    requires unused { used_of cells.old.spaces (from + 2) ≤ 1 }
+    requires block { 1 ≤ length (space_of cells.old.spaces.spaces (from + 2)) }
+    ensures added { let content = content_in cells.old.spaces.spaces cells.old.payloads in
+        ChangesTo cells.old.spaces cells.new.spaces cells.old.payloads (IsNamed content) (with_row content.label from row.now) content.value }
+    ensures payloads { cells.new.payloads ≡ cells.old.payloads }
+    ensures others { (space : ℕ) → space ≢ from + 2 → used_of cells.new.spaces space ≡ used_of cells.old.spaces space }
+    ensures blocks { (space : ℕ) → length (space_of cells.old.spaces.spaces space) ≤ length (space_of cells.new.spaces.spaces space) }
+{
+    for (to, rights) in row.iter().enumerate() {
+        add_some(cells, from, places[from as usize], places[to], *rights);
+    }
+}
+
+// Gives one object rights over another, if there are any. There is room for them.
+fn add_some<P: Payload>(cells: &mut Cells<P>, worker: u64, from: Place, to: Place, rights: Rights)
+    requires worker { worker + 2 < length cells.old.spaces.spaces }
+    requires graph { IsGraph cells.old.spaces.spaces cells.old.payloads }
+    requires from { IsKindAt cells.old.spaces.spaces Object from }
+    requires to { IsKindAt cells.old.spaces.spaces Object to }
+    requires room { is_none_held rights ≡ false → HasLeft cells.old.spaces (worker + 2) 1 }
+    ensures added { let content = content_in cells.old.spaces.spaces cells.old.payloads in
+        ChangesTo cells.old.spaces cells.new.spaces cells.old.payloads (IsNamed content)
+        (with_rights content.label (name_at cells.old.spaces.spaces from) (name_at cells.old.spaces.spaces to) rights) content.value }
+    ensures payloads { cells.new.payloads ≡ cells.old.payloads }
+    ensures one_cell { TakesOneCell cells.old.spaces cells.new.spaces (worker + 2) }
+    ensures nothing { is_none_held rights ≡ true → cells.new.spaces ≡ cells.old.spaces }
+{
+    if rights.is_empty() {
+        return;
+    }
+    cells.add_edge(worker, from, to, rights).unwrap();
 }

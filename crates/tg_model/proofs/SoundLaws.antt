@@ -34,9 +34,9 @@ not_both a x y apart =
     ] refl
 
 -- labels on edges that join two different vertices below n
-record Joined (n : ℕ) (label : ℕ → ℕ → RightSet) : Type 0 where
-  ends : (a b : ℕ) → HasEdge label a b → (a < n) × (b < n)
-  no_loop : (a : ℕ) → label a a ≡ no_rights
+pub record Joined (n : ℕ) (label : ℕ → ℕ → RightSet) : Type 0 where
+  pub ends : (a b : ℕ) → HasEdge label a b → (a < n) × (b < n)
+  pub no_loop : (a : ℕ) → label a a ≡ no_rights
 
 module _ (n : ℕ) (label : ℕ → ℕ → RightSet) (joined : Joined n label) where
   joined_more : (x y : ℕ) (rights : RightSet) → (is_none_held rights ≡ false → (x < n) × (y < n)) → x ≢ y → Joined n (with_rights label x y rights)
@@ -170,7 +170,7 @@ joins_added workers edge edges joins rest = record {
   no_loop = λ a. cond-false ((a == edge.from) && (a == edge.to)) _ _ (not_both a edge.from edge.to joins.0) ∙ rest.no_loop a;
 }
 
-joined_in : (workers : ℕ) (edges : List Edge) → All (JoinsWorkers workers) edges → Joined workers (label_in edges)
+pub joined_in : (workers : ℕ) (edges : List Edge) → All (JoinsWorkers workers) edges → Joined workers (label_in edges)
 joined_in workers [] all = record { ends = λ a b edge. absurd (true≢false edge); no_loop = λ a. refl }
 joined_in workers (edge ∷ edges) all =
     joins_added workers edge edges (All-head (JoinsWorkers workers) edge edges all) (joined_in workers edges (All-tail (JoinsWorkers workers) edge edges all))

@@ -52,9 +52,10 @@ impl Limits {
         })
     }
 
-    /// How many blocks all spaces together may have, from 1 to 65,536.
+    /// How many blocks all spaces together may have, from 1 to 65,536. What holds of all limits is told here.
     pub fn max_blocks(self) -> u64
         ensures value { result ≡ self.max_blocks }
+        ensures limits { AreLimits self }
         ensures least { 1 ≤ result }
         ensures most { result ≤ 65536 }
     {

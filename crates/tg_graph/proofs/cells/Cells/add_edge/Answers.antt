@@ -1,4 +1,7 @@
-use Rattle.std.proofs.Common.{◌+◌, arith}
+use Rattle.std.proofs.Common.{◌+◌, arith, subst, sym}
+use Rattle.tg_space.specs.SpaceTable.{SpaceTable}
+use Rattle.tg_graph.specs.Opened.{TakesOneCell}
+use Rattle.tg_graph.proofs.Openings.{takes_one_cell}
 use Rattle.tg_graph.proofs.Growing.{added_can, added_changes}
 use Rattle.tg_graph.proofs.cells.Cells.add_edge.Goals as goal
 
@@ -14,3 +17,11 @@ returns-clause-added g c =
     added_changes c.args.self.now.spaces c.reserve.new.spaces c.args.self.now.payloads c.find_spot-spot.ensures.table made.table c.requires.graph (c.args.worker + 2) c.cells.result c.requires.worker made.exact
     c.args.from c.requires.from c.read-name.result c.find_spot-spot.result c.find_spot-spot.ensures.spot made.room c.cells.ensures
     c.args.to c.requires.to c.read-name.ensures c.args.rights c.requires.some (omega arith) c.put.new.spaces c.put.ensures
+
+pub returns-clause-one_cell : goal.returns-clause-one_cell
+returns-clause-one_cell g c =
+    let made = c.in_ok-reserve.ensures in
+    let can = added_can c.args.self.now.spaces c.reserve.new.spaces c.args.self.now.payloads c.find_spot-spot.ensures.table made.table c.requires.graph (c.args.worker + 2) c.cells.result c.requires.worker made.exact
+    c.args.from c.requires.from c.read-name.result c.find_spot-spot.result c.find_spot-spot.ensures.spot made.room c.cells.ensures in
+    subst (λ (x : SpaceTable). TakesOneCell c.args.self.now.spaces x (c.args.worker + 2)) (sym c.put.ensures)
+    (takes_one_cell c.args.self.now.spaces c.reserve.new.spaces (c.args.worker + 2) c.cells.result c.find_spot-spot.result c.args.rights c.args.to c.requires.worker made.exact made.table (omega arith) can)

@@ -29,8 +29,8 @@ returns-clause-written g c =
     IfOk-weaker c.write.result (λ _. Updates payloads new word (option_map (written c.args.number) (entry payloads word)))
     (λ _. ChangesTo t t new (IsNamed content) content.label values)
     (λ _ updates.
-        changes t t new (IsNamed content) content.label values
-        (written_becomes h payloads new (table_list t c.cell-cell.ensures.table) c.requires.graph c.args.at c.requires.at c.args.number
-        (subst (λ k. Updates payloads new k (option_map (written c.args.number) (entry payloads k))) key updates))
-        refl refl)
+    changes t t new (IsNamed content) content.label values
+    (written_becomes h payloads new (table_list t c.cell-cell.ensures.table) c.requires.graph c.args.at c.requires.at c.args.number
+    (subst (λ k. Updates payloads new k (option_map (written c.args.number) (entry payloads k))) key updates))
+    refl refl)
     c.write.ensures.written

@@ -16,8 +16,8 @@ invariant_of-self g c =
     let label = with_rights content.label (name_of s c.args.from) (name_of s c.args.to) c.rights.result in
     either_way c.add_edge.result c.add_edge.ensures.added c.add_edge.ensures.refused
     (λ added.
-        let to = subst (λ p. ChangesTo s.table new.spaces p (IsNamed content) label content.value) (sym c.add_edge.ensures.payloads) added in
-        well_formed_after s new.spaces new.payloads (IsNamed content) label content.value to c.self.invariant)
+    let to = subst (λ p. ChangesTo s.table new.spaces p (IsNamed content) label content.value) (sym c.add_edge.ensures.payloads) added in
+    well_formed_after s new.spaces new.payloads (IsNamed content) label content.value to c.self.invariant)
     (λ same. well_formed_same s new.spaces new.payloads c.self.invariant same c.add_edge.ensures.payloads)
 
 pub returns-clause-added : goal.returns-clause-added
@@ -30,10 +30,10 @@ returns-clause-added g c =
     let Added : HeapState → Type 0 = λ x. IsContent (content_of after) (IsNamed (content_of x)) (with_rights (content_of x).label (name_of x c.args.from) (name_of x c.args.to) c.args.label) (content_of x).value in
     IfOk-weaker c.add_edge.result (λ _. ChangesTo s.table new.spaces s.payloads (IsNamed content) label content.value) (λ _. Added c.args.self.now)
     (λ _ added.
-        let to = subst (λ p. ChangesTo s.table new.spaces p (IsNamed content) label content.value) (sym c.add_edge.ensures.payloads) added in
-        let here = subst (λ r. IsContent (content_of after) (IsNamed content) (with_rights content.label (name_of s c.args.from) (name_of s c.args.to) r) content.value) c.rights.ensures.same
-        (content_after s new.spaces new.payloads (IsNamed content) label content.value to) in
-        subst Added c.self.view_is here)
+    let to = subst (λ p. ChangesTo s.table new.spaces p (IsNamed content) label content.value) (sym c.add_edge.ensures.payloads) added in
+    let here = subst (λ r. IsContent (content_of after) (IsNamed content) (with_rights content.label (name_of s c.args.from) (name_of s c.args.to) r) content.value) c.rights.ensures.same
+    (content_after s new.spaces new.payloads (IsNamed content) label content.value to) in
+    subst Added c.self.view_is here)
     c.add_edge.ensures.added
 
 pub returns-clause-kept : goal.returns-clause-kept
@@ -45,6 +45,6 @@ returns-clause-kept g c =
     let label = with_rights content.label (name_of s c.args.from) (name_of s c.args.to) c.rights.result in
     IfOk-weaker c.add_edge.result (λ _. ChangesTo s.table new.spaces s.payloads (IsNamed content) label content.value) (λ _. KeepsPlaces c.args.self.now after)
     (λ _ added.
-        let to = subst (λ p. ChangesTo s.table new.spaces p (IsNamed content) label content.value) (sym c.add_edge.ensures.payloads) added in
-        subst (λ (x : HeapState). KeepsPlaces x after) c.self.view_is (places_kept s new.spaces new.payloads (IsNamed content) label content.value to))
+    let to = subst (λ p. ChangesTo s.table new.spaces p (IsNamed content) label content.value) (sym c.add_edge.ensures.payloads) added in
+    subst (λ (x : HeapState). KeepsPlaces x after) c.self.view_is (places_kept s new.spaces new.payloads (IsNamed content) label content.value to))
     c.add_edge.ensures.added

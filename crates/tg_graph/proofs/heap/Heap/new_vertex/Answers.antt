@@ -44,9 +44,9 @@ returns-clause-made g c =
     λ x n r. IsContent (content_of after) (λ y. IsNamed (content_of x) y ⊎ (y ≡ c.args.name)) (with_rights (content_of x).label n c.args.name r) (with_value (content_of x).value c.args.name c.args.draft) in
     IfOk-weaker c.new_vertex.result (λ _. ChangesTo s.table new.spaces new.payloads named label values) (λ _. Made c.args.self.now c.args.worker c.args.label)
     (λ _ to.
-        let here : Made s (name_of s from) c.rights.result = content_after s new.spaces new.payloads named label values to in
-        let by_worker : Made s c.args.worker c.rights.result = subst (λ n. Made s n c.rights.result) vertex.named here in
-        subst (λ (x : HeapState). Made x c.args.worker c.args.label) c.self.view_is (subst (λ r. Made s c.args.worker r) c.rights.ensures.same by_worker))
+    let here : Made s (name_of s from) c.rights.result = content_after s new.spaces new.payloads named label values to in
+    let by_worker : Made s c.args.worker c.rights.result = subst (λ n. Made s n c.rights.result) vertex.named here in
+    subst (λ (x : HeapState). Made x c.args.worker c.args.label) c.self.view_is (subst (λ r. Made s c.args.worker r) c.rights.ensures.same by_worker))
     c.new_vertex.ensures.made
 
 pub returns-clause-kept : goal.returns-clause-kept

@@ -1,0 +1,18 @@
+use Rattle.std.proofs.Common.{◌≡◌, ◌+◌, ◌<◌, ◌≤◌, ℕ, length}
+use Rattle.tg_word.specs.declared.Place.{Place}
+use Rattle.tg_block.specs.Cells.{free_cell}
+use Rattle.tg_space.specs.SpaceList.{Holds, block_count, cell_at, space_of}
+use Rattle.tg_space.specs.SpaceTable.{IsSpaceTable}
+use Rattle.tg_graph.proofs.opening.add_blocks.Given as goal
+
+abbrev pub invariant-loop-worker : goal.invariant-loop-worker
+invariant-loop-worker l = record {
+  table : 0 < l.worker → IsSpaceTable l.spaces;
+  spaces : length l.spaces.spaces ≡ l.workers + 2;
+  used : l.spaces.used ≡ l.initial.spaces.used;
+  limits : l.spaces.limits ≡ l.initial.spaces.limits;
+  done : (x : ℕ) → x < l.worker → 1 ≤ length (space_of l.spaces.spaces (x + 2));
+  left : (x : ℕ) → l.worker ≤ x → length (space_of l.spaces.spaces (x + 2)) ≡ 0;
+  count : block_count l.spaces.spaces ≤ l.worker;
+  free : (p : Place) → Holds l.spaces.spaces p → cell_at l.spaces.spaces p ≡ free_cell;
+}

@@ -1,0 +1,51 @@
+use Rattle.std.proofs.Common.{◌≡◌, ◌≢◌, ◌∙◌, ◌+◌, ◌≤◌, ℕ, length, ap, sym, subst, arith}
+use Rattle.tg_model.specs.Opened.{label_in}
+use Rattle.tg_payload.specs.Table.{Payloads}
+use Rattle.tg_graph.specs.Content.{IsNamed}
+use Rattle.tg_graph.specs.Heap.{content_in}
+use Rattle.tg_graph.specs.Opened.{labels_before, with_row}
+use Rattle.tg_graph.specs.Steps.{ChangesTo}
+use Rattle.tg_graph.proofs.Openings.{changes_more, changes_relabel, labels_before-all, labels_before-more, row_no_loop}
+use Rattle.tg_graph.proofs.opening.add_edges.Goals as goal
+
+pub add_row-requires-clause-no_loop : goal.add_row-requires-clause-no_loop
+add_row-requires-clause-no_loop g c =
+    c.read_row.ensures c.loop-from.from ∙ row_no_loop c.args.edges.now (length c.args.places.now) c.loop-from.from c.requires.edges
+
+pub add_row-requires-clause-vertices : goal.add_row-requires-clause-vertices
+add_row-requires-clause-vertices g c = λ x p at. c.loop-from.invariant.added.vertices x p (c.requires.vertices x p at)
+
+pub loop-from-preserved : goal.loop-from-preserved
+loop-from-preserved g c =
+    let t0 = c.args.cells.now.spaces in
+    let t1 = c.loop-from.cells.spaces in
+    let t2 = c.add_row.new.cells.spaces in
+    let payloads = c.args.cells.now.payloads in
+    let before = c.loop-from.invariant in
+    let step = c.add_row.ensures in
+    let from = c.loop-from.from in
+    let edges = c.args.edges.now in
+    let row = c.read_row.new.row in
+    let Step : Payloads → Type 0 = λ s. ChangesTo t1 t2 s (IsNamed (content_in t1.spaces s)) (with_row (content_in t1.spaces s).label from row) (content_in t1.spaces s).value in
+    let here : Step payloads = subst Step before.payloads step.added in
+    record {
+      added = changes_more t0 t1 t2 payloads (labels_before edges from) (labels_before edges (from + 1)) (λ l. with_row l from row) before.added here (labels_before-more edges from row c.read_row.ensures);
+      payloads = step.payloads ∙ before.payloads;
+      unused = λ x past.
+          let few = before.unused x (omega arith) in
+          let other : x + 2 ≢ from + 2 = λ e. omega arith in
+          let same = step.others (x + 2) other in
+          omega arith;
+      blocks = λ space. let a = before.blocks space in let b = step.blocks space in omega arith;
+    }
+
+pub returns-clause-added : goal.returns-clause-added
+returns-clause-added g c =
+    let t0 = c.args.cells.now.spaces in
+    let payloads = c.args.cells.now.payloads in
+    let content = content_in t0.spaces payloads in
+    let edges = c.args.edges.now in
+    let workers = length c.args.places.now in
+    let whole : c.loop-from.from ≡ workers = omega (arith, c.loop-from-test.false, c.loop-from.auto.from-end) in
+    changes_relabel t0 c.loop-from.cells.spaces payloads (IsNamed content) (labels_before edges c.loop-from.from) (label_in edges) content.value
+    (λ a b. ap (λ n. labels_before edges n a b) whole ∙ labels_before-all edges workers c.requires.edges a b) c.loop-from.invariant.added

@@ -1,0 +1,24 @@
+use Rattle.std.proofs.Common.{◌≡◌, ◌∙◌, List, Some, length, ap, sym, subst}
+use Rattle.std.specs.Prelude.{slice_get}
+use Rattle.tg_model.specs.declared.value.Value.{Value}
+use Rattle.tg_model.specs.Opened.{label_in}
+use Rattle.tg_word.specs.declared.Place.{Place}
+use Rattle.tg_graph.proofs.Openings.{edges_opened, opened_same}
+use Rattle.tg_graph.proofs.opening.opened.Goals as goal
+
+pub add_edges-requires-clause-vertices : goal.add_edges-requires-clause-vertices
+add_edges-requires-clause-vertices g c =
+    λ x p at. c.place_workers.ensures.opened.vertices x p (subst (λ (ps : List Place). slice_get ps x ≡ Some p) c.deref.ensures.value at)
+
+pub returns-clause-opened : goal.returns-clause-opened
+returns-clause-opened g c =
+    let placed = c.place_workers.new.cells in
+    let added = c.add_edges.new.cells in
+    let places = c.place_workers.new.places.items in
+    let workers = length c.args.drafts.items in
+    let limits = c.in-Ok.room.cells.spaces.limits in
+    let edges = c.edges.result.now in
+    let values = c.args.drafts.items in
+    let opened = edges_opened placed.spaces added.spaces placed.payloads places workers limits (label_in edges) values c.place_workers.ensures.opened c.add_edges.ensures.added c.add_edges.ensures.blocks in
+    opened_same added.spaces placed.payloads added.payloads places workers c.args.opening.now.workers limits c.args.limits edges c.args.opening.now.edges values c.args.opening.now.values
+    c.add_edges.ensures.payloads (ap (λ (vs : List Value). length vs) c.requires ∙ c.workers.ensures.plan.values.0) c.in-Ok.ensures.blocks.limits_kept c.edges.ensures c.requires opened

@@ -1,0 +1,61 @@
+use Rattle.std.proofs.Common.{◌≡◌, ◌≢◌, ◌∙◌, ◌+◌, ◌≤◌, ℕ, List, length, get_or, set, ap, sym, subst, arith, ⊎_elim, if◌then◌else◌, [], ◌++◌, ◌∷◌}
+use Rattle.std.specs.Prelude.{is_ok}
+use Rattle.std.proofs.lemmas.Bool.{cases_eq}
+use Rattle.std.proofs.lemmas.List.{length_push, get_or-set_other}
+use Rattle.tg_word.specs.declared.Place.{Place}
+use Rattle.tg_space.specs.SpaceTable.{used_of}
+use Rattle.tg_graph.specs.Opened.{IsOpened, no_labels}
+use Rattle.tg_graph.proofs.Openings.{nothing_opened, one_more_opened, used_more}
+use Rattle.tg_graph.proofs.opening.place_workers.Goals as goal
+
+pub place_vertex-place-requires-clause-fresh : goal.place_vertex-place-requires-clause-fresh
+place_vertex-place-requires-clause-fresh g c =
+    λ named. let low = (c.loop-draft.invariant.opened.content.names c.len-name.result).0 named in omega (arith, low, c.len-name.ensures)
+
+pub loop-draft-init : goal.loop-draft-init
+loop-draft-init g c =
+    let t = c.args.cells.now.spaces in
+    let payloads = c.args.cells.now.payloads in
+    let workers = length c.args.drafts.items in
+    record {
+      opened = subst (λ (ps : List Place). IsOpened t payloads ps workers t.limits no_labels []) (sym c.requires.places)
+          (nothing_opened t payloads workers t.limits c.requires.blocks c.requires.table c.requires.payloads);
+      count = ap (λ (ps : List Place). length ps) c.requires.places;
+      table = c.requires.table;
+      used = λ x. let e = c.requires.blocks.unused (x + 2) in omega arith;
+      unused = λ x high. c.requires.blocks.unused (x + 2);
+      spare = let e = c.requires.spare in omega arith;
+      capacity = c.requires.capacity;
+    }
+
+pub loop-draft-preserved : goal.loop-draft-preserved
+loop-draft-preserved g c =
+    let before = c.loop-draft.invariant in
+    let step = c.place_vertex-place.ensures in
+    let t = c.loop-draft.cells.spaces in
+    let after = c.place_vertex-place.new.self.spaces in
+    let places = c.loop-draft.places.items in
+    let place = c.place_vertex-place.result in
+    let name = c.len-name.result in
+    let yielded = c.loop-draft.yielded in
+    let draft = c.in-Some.draft in
+    let pushed : c.push.new.self.items ≡ places ++ place ∷ [] =
+    subst (λ r. c.push.new.self.items ≡ (if is_ok r then places ++ place ∷ [] else places)) c.unwrap.ensures c.push.ensures.items in
+    let long : length (yielded ++ draft ∷ []) ≡ length yielded + 1 = length_push yielded draft in
+    let named : name ≡ length places = c.len-name.ensures in
+    let count = before.count in
+    let used_is = λ (x : ℕ). ap (λ (us : List ℕ). get_or us (x + 2) 0) step.used in
+    let other = λ (x : ℕ) (ne : x + 2 ≢ name + 2). used_is x ∙ get_or-set_other t.used (name + 2) (x + 2) (used_of t (name + 2) + 1) 0 ne in
+    record {
+      opened = one_more_opened t after c.loop-draft.cells.payloads c.place_vertex-place.new.self.payloads places c.push.new.self.items (length c.args.drafts.items) c.args.cells.now.spaces.limits yielded draft place name
+          before.opened before.count named step.placed step.vertex step.blocks pushed;
+      count = let e = ap (λ (ps : List Place). length ps) pushed in let more = length_push places place in omega (arith, e, more, long, count);
+      table = step.table;
+      used = λ x. ⊎_elim
+          (λ same. let e = used_is x in let more = used_more t.used (name + 2) (x + 2) in let none = before.unused x (omega (arith, same, named, count)) in omega (arith, e, more, none))
+          (λ ne. let e = other x ne in let few = before.used x in omega (arith, e, few))
+          (cases_eq (x + 2) (name + 2));
+      unused = λ x high. let ne : x + 2 ≢ name + 2 = λ same. omega (arith, same, high, long, named, count) in other x ne ∙ before.unused x (omega (arith, high, long));
+      spare = let a = before.spare in let b = step.spare_left in omega (arith, a, b, long);
+      capacity = let a = before.capacity in let b = c.push.ensures.capacity in omega (arith, a, b);
+    }

@@ -1,0 +1,28 @@
+use Rattle.std.proofs.Common.{◌≡◌, ◌≢◌, ◌∙◌, ◌<◌, inl, inr, sym, ap, subst, arith, set, length}
+use Rattle.std.specs.Prelude.{slice_index_or}
+use Rattle.std.proofs.lemmas.List.Elements.{All-get_or}
+use Rattle.tg_rights.specs.RightSet.{no_rights, union}
+use Rattle.tg_model.specs.Opened.{JoinsWorkers}
+use Rattle.tg_graph.proofs.Openings.{row_step}
+use Rattle.tg_graph.proofs.opening.read_row.Goals as goal
+use Rattle.tg_graph.proofs.opening.read_row.Goals.{then-edge-from, else-edge-from}
+
+pub loop-edge-preserved : goal.loop-edge-preserved
+loop-edge-preserved c =
+    λ y.
+    let edges = c.args.edges.now in
+    let edge = c.edge-item.result in
+    let row = c.loop-edge.row in
+    let k = c.loop-edge.edge-index in
+    let asked : JoinsWorkers (length c.args.row.now) edge =
+    subst (JoinsWorkers (length c.args.row.now)) (sym c.edge-item.is) (All-get_or (JoinsWorkers (length c.args.row.now)) edges k edge c.loop-edge-test.true c.requires) in
+    row_step edges c.args.from k edge row c.if-edge-from.row y c.loop-edge-test.true c.edge-item.is
+    (elim c.if-edge-from.branch [
+      | then-edge-from w ↦ inl (
+        sym w.if-edge-from.true,
+        let low = asked.2 in let long = c.loop-edge.auto.row in omega arith,
+        w.row-is ∙ w.unite.ensures ∙ ap (λ r. set row edge.to (union (slice_index_or row edge.to no_rights) r)) w.rights.ensures.same,
+      )
+      | else-edge-from w ↦ inr (λ e. w.if-edge-from.false (sym e), w.row-is)
+    ])
+    (c.loop-edge.invariant y)

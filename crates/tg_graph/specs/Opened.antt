@@ -1,0 +1,50 @@
+-- What an opening has made of its cells on the way.
+use Rattle.std.specs.Prelude.{◌≡◌, ◌≢◌, ℕ, ◌+◌, ◌<◌, ◌≤◌, ◌==◌, nat_lt, if◌then◌else◌, List, length, slice_get, slice_index_or, Some}
+use Rattle.tg_rights.specs.RightSet.{RightSet, no_rights}
+use Rattle.tg_model.specs.declared.edge.Edge.{Edge}
+use Rattle.tg_model.specs.declared.value.Value.{Value}
+use Rattle.tg_model.specs.Opened.{label_in}
+use Rattle.tg_word.specs.declared.Place.{Place}
+use Rattle.tg_block.specs.Cells.{free_cell}
+use Rattle.tg_space.specs.SpaceList.{Holds, cell_at, space_of}
+use Rattle.tg_space.specs.SpaceTable.{SpaceTable, BlockLimits, used_of}
+use Rattle.tg_payload.specs.Table.{Payloads}
+use Rattle.tg_graph.specs.Content.{IsContent}
+use Rattle.tg_graph.specs.Rows.{IsVertexAt}
+use Rattle.tg_graph.specs.Heap.{IsGraph, content_in}
+
+-- Each nursery has a block, no cell was handed out, and all are free.
+pub record HasBlocks (t : SpaceTable) (workers : ℕ) (limits : BlockLimits) : Type 0 where
+  pub spaces : length t.spaces ≡ workers + 2
+  pub limits_kept : t.limits ≡ limits
+  pub blocks : (x : ℕ) → x < workers → 1 ≤ length (space_of t.spaces (x + 2))
+  pub unused : (space : ℕ) → used_of t space ≡ 0
+  pub free : (p : Place) → Holds t.spaces p → cell_at t.spaces p ≡ free_cell
+
+-- The first workers are at these places and have these values, and the labels between them are these. Each nursery has
+-- a block.
+pub record IsOpened (t : SpaceTable) (payloads : Payloads) (places : List Place) (workers : ℕ) (limits : BlockLimits) (label : ℕ → ℕ → RightSet) (values : List Value) : Type 0 where
+  pub graph : IsGraph t.spaces payloads
+  pub content : IsContent (content_in t.spaces payloads) (λ x. x < length places) label (slice_get values)
+  pub vertices : (x : ℕ) (p : Place) → slice_get places x ≡ Some p → IsVertexAt t.spaces x p
+  pub spaces : length t.spaces ≡ workers + 2
+  pub limits_kept : t.limits ≡ limits
+  pub blocks : (x : ℕ) → x < workers → 1 ≤ length (space_of t.spaces (x + 2))
+
+-- no rights of anyone over anyone
+abbrev pub no_labels : ℕ → ℕ → RightSet
+no_labels x y = no_rights
+
+-- the rights of one vertex over each other are these
+abbrev pub with_row : (ℕ → ℕ → RightSet) → ℕ → List RightSet → ℕ → ℕ → RightSet
+with_row label x row a b = if a == x then slice_index_or row b no_rights else label a b
+
+-- what the edges give the first of the workers, and nobody else anything
+abbrev pub labels_before : List Edge → ℕ → ℕ → ℕ → RightSet
+labels_before edges n a b = if nat_lt a n then label_in edges a b else no_rights
+
+-- at most one more cell of a nursery is used, and no block is lost
+pub record TakesOneCell (old new : SpaceTable) (space : ℕ) : Type 0 where
+  pub here : used_of new space ≤ used_of old space + 1
+  pub others : (other : ℕ) → other ≢ space → used_of new other ≡ used_of old other
+  pub blocks : (other : ℕ) → length (space_of old.spaces other) ≤ length (space_of new.spaces other)
