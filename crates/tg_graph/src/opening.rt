@@ -3,7 +3,7 @@ ghost use Rattle.std.specs.Prelude.{◌≡◌, ◌≢◌, ◌+◌, ◌<◌, ◌�
 ghost use Rattle.std.specs.List.{All};
 ghost use Rattle.tg_rights.specs.RightSet.{is_none_held, no_rights, union};
 ghost use Rattle.tg_model.specs.Graph.{with_rights};
-ghost use Rattle.tg_model.specs.Opened.{JoinsWorkers, label_in};
+ghost use Rattle.tg_model.specs.Opened.{IsPlan, JoinsWorkers, label_in};
 ghost use Rattle.tg_word.specs.declared.Place.{Place};
 ghost use Rattle.tg_block.specs.declared.CellKind.TheVariants.{Object};
 ghost use Rattle.tg_space.specs.SpaceList.{space_of};
@@ -45,6 +45,7 @@ pub(crate) fn opened<P: Payload>(
     requires { drafts.items ≡ opening.now.values }
     ensures opened { IfOk result (λ parts. IsOpened parts.0.spaces parts.0.payloads parts.1.items opening.now.workers limits (label_in opening.now.edges) opening.now.values) }
     ensures workers { IfOk result (λ parts. length parts.1.items ≡ opening.now.workers) }
+    ensures plan { IsPlan opening.now }
     ensures handed_back { IfErr result (λ refused. refused.drafts.items ≡ drafts.items) }
     ensures full { IfErr result (λ refused. refused.why ≡ AllocateFault.HeapFull → limits.max_blocks < opening.now.workers) }
 {
@@ -70,7 +71,7 @@ fn with_room<P: Payload>(
 ) -> Result<Room<P>, AllocateFault>
     requires some { 1 ≤ workers }
     requires few { workers ≤ 64 }
-    ensures blocks { IfOk result (λ room. HasBlocks room.cells.spaces workers limits) }
+    ensures ready { IfOk result (λ room. HasBlocks room.cells.spaces workers limits) }
     ensures table { IfOk result (λ room. IsSpaceTable room.cells.spaces) }
     ensures payloads { IfOk result (λ room. room.cells.payloads.entries ≡ []) }
     ensures spare { IfOk result (λ room. workers ≤ room.cells.payloads.spare) }

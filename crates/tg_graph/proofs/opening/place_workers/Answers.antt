@@ -42,7 +42,7 @@ loop-draft-preserved g c =
     let pushed : c.push.new.self.items ≡ places ++ place ∷ [] =
     subst (λ r. c.push.new.self.items ≡ (if is_ok r then places ++ place ∷ [] else places)) c.unwrap.ensures c.push.ensures.items in
     let long : length (yielded ++ draft ∷ []) ≡ length yielded + 1 = length_push yielded draft in
-    let named : name ≡ length places = c.len-name.ensures in
+    let named : name ≡ length places = omega (arith, c.len-name.ensures) in
     let count = before.count in
     let used_is = λ (x : ℕ). ap (λ (us : List ℕ). get_or us (x + 2) 0) step.used in
     let other = λ (x : ℕ) (ne : x + 2 ≢ name + 2). used_is x ∙ get_or-set_other t.used (name + 2) (x + 2) (used_of t (name + 2) + 1) 0 ne in
