@@ -1,7 +1,7 @@
 -- The reply to a served command, computed on the content of a heap, is that of the graph that it stands for.
-use Rattle.std.proofs.Common.{◌≡◌, ℕ, ◌<◌, List, None, Some, refl, sym, ap, ◌∙◌, get_or}
+use Rattle.std.proofs.Common.{◌≡◌, ℕ, ◌<◌, None, Some, refl, sym, ap, ◌∙◌, get_or}
 use Rattle.std.proofs.lemmas.List.{get_or_default}
-use Rattle.std.specs.List.{All, Contains}
+use Rattle.std.specs.List.{All}
 use Rattle.tg_rights.specs.RightSet.{RightSet}
 use Rattle.tg_model.specs.declared.value.Value.{Value}
 use Rattle.std.specs.Prelude.{Option}
@@ -13,7 +13,7 @@ use Rattle.tg_model.specs.declared.reply.Reply.TheVariants.{Done, Denied}
 use Rattle.tg_model.specs.declared.reply.Denial.{Denial}
 use Rattle.tg_model.specs.Graph.{ProtectionGraph, IsSubject}
 use Rattle.tg_model.specs.Rules.{Permits, answer_of, denial_of, denied_or, reply_of, effect, step, unless_denied}
-use Rattle.tg_graph.specs.Content.{Content, IsNamed}
+use Rattle.tg_graph.specs.Content.{Content}
 use Rattle.tg_graph.specs.Standing.{StandsFor}
 use Rattle.tg_graph.proofs.StandingLaws.{answer_of-stands, denial_of-stands, StandsFor-denied, IsSameContent-self}
 use Rattle.tg_model.proofs.AllowedLaws.{permits-no_denial}

@@ -1,5 +1,5 @@
 -- What a full collection leaves of a store.
-use Rattle.std.proofs.Common.{◌≡◌, ◌↔◌, ◌==◌, ℕ, List, length, refl, sym, ap, subst, ◌∙◌}
+use Rattle.std.proofs.Common.{◌≡◌, ◌↔◌, ◌==◌, ℕ, length, refl, sym, ap, subst, ◌∙◌}
 use Rattle.std.specs.List.{IsDistinct, range_with_len}
 use Rattle.tg_model.specs.Graph.{ProtectionGraph, IsReachable}
 use Rattle.tg_model.specs.Opened.{start_of}
@@ -8,10 +8,10 @@ use Rattle.tg_journal.proofs.HistoryLaws.{graph_after-subjects}
 use Rattle.tg_space.specs.declared.spaces.Kind.{Kind}
 use Rattle.tg_space.specs.declared.spaces.Kind.TheVariants.{Full}
 use Rattle.tg_graph.specs.Content.{IsNamed}
-use Rattle.tg_graph.specs.Heap.{HeapState, content_of}
+use Rattle.tg_graph.specs.Heap.{content_of}
 use Rattle.tg_graph.specs.Standing.{IsReached, Keeps}
 use Rattle.tg_graph.proofs.StandingLaws as content
-use Rattle.tg_store.specs.Store.{StoreState, StandsFor, IsCountOf, IsFaithful, IsStore, graph_of_store}
+use Rattle.tg_store.specs.Store.{StoreState, StandsFor, IsCountOf, IsStore, graph_of_store}
 use Rattle.tg_store.proofs.StandLaws.{IsFaithful-kept}
 
 -- there are no other collections

@@ -1,14 +1,13 @@
 -- What a create comes to: where no more vertices may be made, and where one is.
-use Rattle.std.proofs.Common.{◌≡◌, ◌⊎◌, inl, inr, ℕ, ◌<◌, ◌≤◌, ◌+◌, ◌==◌, List, Some, length, refl, sym, ap, subst, ◌∙◌, arith}
+use Rattle.std.proofs.Common.{◌≡◌, ◌⊎◌, inr, ℕ, ◌<◌, ◌≤◌, ◌+◌, ◌==◌, Some, length, refl, sym, ap, subst, ◌∙◌, arith}
 use Rattle.std.proofs.lemmas.Bool.{cond-true, eq-eqb}
 use Rattle.tg_rights.specs.RightSet.{RightSet}
 use Rattle.tg_model.specs.declared.value.Value.{Value}
 use Rattle.tg_model.specs.declared.command.Deed.{Deed}
 use Rattle.tg_model.specs.declared.command.Deed.TheVariants.{Create}
-use Rattle.tg_model.specs.declared.reply.Reply.{Reply}
 use Rattle.tg_model.specs.declared.reply.Reply.TheVariants.{Name, VerticesFull}
 use Rattle.tg_model.specs.Graph.{ProtectionGraph, IsSubject, with_rights}
-use Rattle.tg_model.specs.Opened.{ValueFits, start_of}
+use Rattle.tg_model.specs.Opened.{ValueFits}
 use Rattle.tg_model.specs.Rules.{answer_of, step, with_value}
 use Rattle.tg_model.proofs.AllowedLaws.{answer-created, answer-full, step-created, step-not_allowed}
 use Rattle.tg_journal.proofs.HistoryLaws.{IsSound-opened}

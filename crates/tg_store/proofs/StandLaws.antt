@@ -1,14 +1,13 @@
 -- What becomes of the journal and of the graph of a store by each call.
-use Rattle.std.proofs.Common.{◌≡◌, ◌↔◌, ℕ, ◌<◌, ◌≤◌, ◌++◌, ◌∷◌, [], List, length, refl, sym, ap, subst, ◌∙◌, arith}
+use Rattle.std.proofs.Common.{◌≡◌, ◌↔◌, ℕ, ◌<◌, ◌≤◌, ◌++◌, ◌∷◌, [], length, sym, ap, subst, ◌∙◌, arith}
 use Rattle.tg_model.specs.declared.command.Deed.{Deed}
 use Rattle.tg_model.specs.declared.reply.Reply.{Reply}
 use Rattle.tg_model.specs.Graph.{ProtectionGraph, IsSubject}
 use Rattle.tg_model.specs.Opened.{Plan, IsPlan, start_of}
 use Rattle.tg_model.specs.Rules.{step, answer_of, DeedFits}
-use Rattle.tg_journal.specs.declared.entry.Entry.{Entry}
-use Rattle.tg_journal.specs.History.{IsLegal, graph_after}
+use Rattle.tg_journal.specs.History.{graph_after}
 use Rattle.tg_journal.proofs.HistoryLaws.{IsLegal-push, graph_after-push, graph_after-limit, workers-opened}
-use Rattle.tg_graph.specs.Heap.{HeapState, content_of}
+use Rattle.tg_graph.specs.Heap.{content_of}
 use Rattle.tg_graph.specs.Standing as standing
 use Rattle.tg_graph.proofs.StandingLaws as content
 use Rattle.tg_store.specs.Store.{StoreState, StandsFor, IsFaithful, Enters, IsUnchanged, graph_of_store, IsStore}

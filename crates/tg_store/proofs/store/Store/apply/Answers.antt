@@ -1,5 +1,5 @@
 -- What is decided and changed on the heap is the graph's, and exactly that is entered.
-use Rattle.std.proofs.Common.{◌≡◌, ◌<◌, ◌≤◌, ◌+◌, ◌∙◌, ◌++◌, ◌∷◌, [], Err, Ok, length, refl, sym, ap, subst, arith}
+use Rattle.std.proofs.Common.{◌≡◌, ◌<◌, ◌≤◌, ◌+◌, ◌∙◌, ◌++◌, ◌∷◌, [], length, refl, sym, ap, subst, arith}
 use Rattle.std.proofs.lemmas.Result.{err_from_is_err_and}
 use Rattle.tg_model.specs.declared.command.Deed.TheVariants.{Plain}
 use Rattle.tg_model.specs.declared.reply.Reply.{Reply}
@@ -7,7 +7,6 @@ use Rattle.tg_model.specs.declared.reply.Reply.TheVariants.{Denied}
 use Rattle.tg_model.specs.Graph.{ProtectionGraph, IsSubject}
 use Rattle.tg_model.specs.Rules.{Permits, answer_of}
 use Rattle.tg_graph.specs.Heap.{IsOutOfCells, content_of}
-use Rattle.tg_store.specs.declared.fault.ApplyFault.TheVariants.{NoSuchWorker, HeapFull}
 use Rattle.tg_store.specs.Store.{StoreState, Enters, IsUnchanged, OnlyEnters, StandsFor, graph_of_store}
 use Rattle.tg_store.proofs.AnswerLaws.{denial-answered, made-plain, permitted}
 use Rattle.tg_store.proofs.StandLaws.{IsStore-unchanged, IsStore-entered, StandsFor-entered, subject_here, no_subject}

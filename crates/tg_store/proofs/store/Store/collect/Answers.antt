@@ -1,7 +1,5 @@
 -- The heap then has exactly what can be reached, and stands for the same graph.
-use Rattle.std.proofs.Common.{◌≡◌, ◌∙◌, refl, ap}
-use Rattle.tg_graph.specs.Heap.{content_of}
-use Rattle.tg_graph.specs.Standing.{IsReached, Keeps}
+use Rattle.std.proofs.Common.{◌∙◌, refl, ap}
 use Rattle.tg_store.specs.Store.{StoreState, StandsFor, graph_of_store}
 use Rattle.tg_store.proofs.CollectLaws.{IsStore-collected, counted_left, names_left, only_full}
 use Rattle.tg_store.proofs.store.Store.collect.Goals as goal
