@@ -2,7 +2,6 @@
 use Rattle.std.proofs.Common.{◌≡◌, ◌≢◌, ℕ, ◌+◌, ◌-◌, ◌≤◌, Bool, List, [], ◌∷◌, ◌++◌, length, Option, Some, None, sym, ap, ◌∙◌, subst, arith, length-append, append_assoc}
 use Rattle.tg_script.specs.declared.line.Line.{Line}
 use Rattle.tg_script.specs.declared.fault.ScriptFault.{ScriptFault}
-use Rattle.tg_script.specs.declared.fault.ScriptFault.TheVariants as fault
 use Rattle.tg_script.specs.declared.source.Fetched.{Fetched}
 use Rattle.tg_script.specs.declared.source.Fetched.TheVariants as fetched
 use Rattle.tg_script.specs.declared.script.Script.{Script}

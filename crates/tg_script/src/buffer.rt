@@ -5,7 +5,7 @@ use std::marker::Model;
 
 /// Room for a line of at most 256 bytes, kept in place. Contracts see it as the bytes.
 #[derive(Drop)]
-pub struct LineBuffer {
+pub(crate) struct LineBuffer {
     room: [u8; 256],
     len: usize,
 }
@@ -22,7 +22,7 @@ impl Model for LineBuffer {
 
 impl LineBuffer {
     /// A buffer with no bytes.
-    pub fn new() -> LineBuffer
+    pub(crate) fn new() -> LineBuffer
         ensures { result ≡ [] }
     {
         LineBuffer {
@@ -32,28 +32,28 @@ impl LineBuffer {
     }
 
     /// How many bytes there are, at most 256.
-    pub fn len(&self) -> usize
+    pub(crate) fn len(&self) -> usize
         ensures { result ≡ length self.now }
     {
         self.as_slice().len()
     }
 
     /// The bytes, in the order in which they were pushed.
-    pub fn as_slice(&self) -> &[u8]
+    pub(crate) fn as_slice(&self) -> &[u8]
         ensures { result.now ≡ self.now }
     {
         &self.room[..self.len]
     }
 
     /// Lets all bytes go.
-    pub fn clear(&mut self)
+    pub(crate) fn clear(&mut self)
         ensures { self.new ≡ [] }
     {
         self.len = 0;
     }
 
     /// Puts a byte behind the others, of which there are fewer than 256.
-    pub fn push(&mut self, byte: u8)
+    pub(crate) fn push(&mut self, byte: u8)
         requires { length self.old < 256 }
         ensures { self.new ≡ self.old ++ byte ∷ [] }
     {

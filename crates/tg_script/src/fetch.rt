@@ -16,14 +16,14 @@ pub const MOST_LINE_BYTES: usize = 256;
 
 /// How far the lines of a source were read.
 #[derive(Drop)]
-pub struct Lines {
+pub(crate) struct Lines {
     /// How many bytes may still come, at most [`MOST_BYTES`].
-    pub room: u32,
+    pub(crate) room: u32,
 }
 
 impl Lines {
     /// All lines are left, and [`MOST_BYTES`] bytes may come.
-    pub fn new() -> Lines
+    pub(crate) fn new() -> Lines
         ensures { result.room ≡ 1048576 }
     {
         Lines { room: MOST_BYTES }
@@ -33,7 +33,7 @@ impl Lines {
     /// the first fault, looked for at each byte in this order: the source failed, more bytes came than may, the line
     /// has more than [`MOST_LINE_BYTES`]; or the input ended within a line. The source is asked once for each byte of
     /// the line and for what ended it, and not again. Takes no memory.
-    pub fn next_line<S: Source>(&mut self, source: &mut S, line: &mut LineBuffer) -> Fetched
+    pub(crate) fn next_line<S: Source>(&mut self, source: &mut S, line: &mut LineBuffer) -> Fetched
         ensures bytes { FetchesKnown self.old.room (S.left source.old) result line.new (S.left source.new) }
         ensures room { result ≡ Fetched.Line → self.new.room + length line.new + 1 ≡ self.old.room }
         ensures shrinks { self.new.room ≤ self.old.room }

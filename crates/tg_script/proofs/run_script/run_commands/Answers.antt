@@ -1,4 +1,4 @@
-use Rattle.std.proofs.Common.{refl, arith, Some, None}
+use Rattle.std.proofs.Common.{refl, ◌+◌, arith, Some, None}
 use Rattle.std.proofs.lemmas.Result.{err_from_is_err_and}
 use Rattle.tg_script.proofs.CommandLaws.{under_first, under_end, under_cut, under_next, tells_fault, next_command}
 use Rattle.tg_script.proofs.run_script.run_commands.Goals as goal
@@ -11,9 +11,9 @@ lines-init g c =
       command = c.requires.command;
       opening = c.requires.opening;
       under = λ t rest before shows left taken. under_first c.args.script.now rest t c.args.first before c.args.run.now (s.left c.args.source.now) (k.taken c.args.sink.now) shows left taken;
-      read = refl;
-      wrote = refl;
-      asked = refl;
+      read = refl {a = s.failures c.args.source.now};
+      wrote = refl {a = k.failures c.args.sink.now};
+      asked = refl {a = s.asked c.args.source.now + c.args.script.now.lines.room};
     }
 
 pub returns-in_default-clause-written : goal.returns-in_default-clause-written
