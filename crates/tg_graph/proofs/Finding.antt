@@ -13,18 +13,19 @@ use Rattle.tg_block.specs.declared.CellKind.TheVariants.{Object}
 use Rattle.tg_payload.specs.Table.{Payloads}
 use Rattle.tg_rights.specs.RightSet.{no_rights}
 use Rattle.tg_word.specs.declared.Place.{Place}
-use Rattle.tg_word.specs.Word.{rights_in}
+use Rattle.tg_word.specs.Word.{place_in, rights_in}
 use Rattle.tg_space.specs.SpaceList.{SpaceList, IsSpaceList, Holds, cell_at, cells_of}
 use Rattle.tg_space.specs.Soundness.{IsKindAt, IsReference, RefersTo}
 use Rattle.tg_space.specs.Targets.{first_pointer}
 use Rattle.tg_graph.specs.Rows.{IsChain, IsRow, chunks_from, link_at, name_at, name_in, references_of, rights_to, row_of, row_words}
+use Rattle.tg_graph.specs.Content.{IsNamed}
 use Rattle.tg_graph.specs.Heap.{IsGraph, content_in}
 use Rattle.tg_graph.specs.Spots.{IsSpotIn, is_empty, last_of, refers_to, word_in_cell, word_of_cell, word_where}
 use Rattle.tg_graph.specs.declared.rows.Spot.{Spot}
 use Rattle.tg_graph.specs.declared.rows.Spot.TheVariants.{Reference, Empty, Full}
-use Rattle.tg_graph.proofs.Chains.{row_held}
+use Rattle.tg_graph.proofs.Chains.{row_held, row_references}
 use Rattle.tg_graph.proofs.Layouts.{references_at}
-use Rattle.tg_graph.proofs.Lookups.{label_at}
+use Rattle.tg_graph.proofs.Lookups.{label_at, name_of_vertex}
 use Rattle.tg_graph.proofs.Places.{cell_long}
 use Rattle.tg_graph.proofs.Members.{Contains-here, Contains-more}
 use Rattle.tg_graph.proofs.Slots.{IsOther, rights_none}
@@ -71,7 +72,7 @@ module _ (h : SpaceList) (name : ℕ) where
       let t : refers_to h name word ≡ true = rw a (rw b refl) in
       cc
 
-  referring : (word : ℕ) → refers_to h name word ≡ true → (word ≢ 0) × (name_in h word ≡ name)
+  pub referring : (word : ℕ) → refers_to h name word ≡ true → (word ≢ 0) × (name_in h word ≡ name)
   referring word passes = by_tests (word == 0) (name_in h word == name) refl refl
     where
       by_tests : (a b : Bool) → (word == 0) ≡ a → (name_in h word == name) ≡ b → (word ≢ 0) × (name_in h word ≡ name)
@@ -211,3 +212,12 @@ module _ (h : SpaceList) (payloads : Payloads) (is : IsSpaceList h) (graph : IsG
   -- no reference was found
   pub none_refers : (name : ℕ) → word_where (refers_to h name) h (row_of h p) ≡ None → (content_in h payloads).label (name_at h p) name ≡ no_rights
   none_refers name none = label_is_read name ∙ rights_none h name (row_words h p) (others_where h name (row_of h p) none)
+
+  pub words_are_references : All (IsReference h) (row_words h p)
+  words_are_references = row_references h is [] graph.sound p object (graph.ends p object)
+
+  -- the vertex to which a word of the row refers is one of the content
+  pub target_named : (word : ℕ) → Contains (row_words h p) word → word ≢ 0 → IsNamed (content_in h payloads) (name_in h word)
+  target_named word has some =
+      let refers : RefersTo h word = ⊎_elim (λ z. absurd (some z)) (λ refers. refers) (All-contains (IsReference h) (row_words h p) word words_are_references has) in
+      name_of_vertex h payloads is (name_in h word) (place_in word) (record { object = refers.object; named = refl })

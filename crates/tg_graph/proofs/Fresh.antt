@@ -34,7 +34,7 @@ row_used h p ps object ends q free =
 -- ---- one more block
 
 module _ (h : SpaceList) (payloads : Payloads) (is : IsSpaceList h) (graph : IsGraph h payloads) (space : ℕ) (low : space < length h) (spaces : IsSpaceList (with_block h space)) where
-  block_stays : Stays h (with_block h space)
+  pub block_stays : Stays h (with_block h space)
   block_stays = record {
     objects = λ p object. let kept = kept-with_block h space low p object.held in record { held = kept.0; is = ap kind_of kept.1 ∙ object.is };
     chunks = λ p chunk. let kept = kept-with_block h space low p chunk.held in record { held = kept.0; is = ap kind_of kept.1 ∙ chunk.is };

@@ -1,5 +1,5 @@
 -- The cells that a collection keeps: each stands at its new place, or where it was, with its references and its link moved.
-use Rattle.std.proofs.Common.{◌≡◌, ◌≢◌, ℕ, ◌<◌, ◌≤◌, ◌+◌, ◌-◌, ◌^◌, ◌/◌, ◌⊎◌, ◌==◌, Bool, true, false, List, [], ◌∷◌, ◌++◌, length, get_or, take, drop, map, refl, sym, ap, subst, arith, ◌∙◌, inl, inr, lit<, ⊎_elim, min, if◌then◌else◌, IsTrue}
+use Rattle.std.proofs.Common.{◌≡◌, ◌≢◌, ℕ, ◌<◌, ◌≤◌, ◌+◌, ◌-◌, ◌^◌, ◌/◌, ◌⊎◌, ◌==◌, Bool, true, false, List, [], length, get_or, take, drop, map, refl, sym, ap, subst, arith, ◌∙◌, inl, inr, lit<, ⊎_elim, if◌then◌else◌, IsTrue}
 use Rattle.std.specs.List.{All, Contains}
 use Rattle.std.proofs.lemmas.List.{get_or_append_left, get_or-append_right, get_or-take, get_or-drop, get_or-map, length-take, length-take-le, length-drop, drop_at, take-map, length-map}
 use Rattle.std.proofs.lemmas.List.Elements.{All-get_or, All-take, All-from_get_or, Contains-get_or}
@@ -7,11 +7,11 @@ use Rattle.std.proofs.lemmas.Bool.Decides.{nat_tests, eqb_tells}
 use Rattle.tg_rights.specs.RightSet.{is_none_held}
 use Rattle.tg_word.specs.declared.Place.{Place}
 use Rattle.tg_word.specs.Word.{IsPlace, word_at, place_in, rights_in, is_present}
-use Rattle.tg_word.proofs.Packing.{place_in-word_at, rights_in-word_at, is_present-word_at, word_at-rights_in, word_at-above_zero}
-use Rattle.tg_block.specs.Cells.{IsBlock, kind_of, all_are_zero, free_cell}
+use Rattle.tg_word.proofs.Packing.{place_in-word_at, rights_in-word_at, is_present-word_at, word_at-above_zero}
+use Rattle.tg_block.specs.Cells.{kind_of, free_cell}
 use Rattle.tg_block.specs.declared.CellKind.{CellKind}
-use Rattle.tg_block.specs.declared.CellKind.TheVariants.{Free, Object, Chunk, Bad}
-use Rattle.tg_space.specs.SpaceList.{SpaceList, BlockList, IsSpace, IsSpaceList, Holds, space_of, cell_at, flat_of}
+use Rattle.tg_block.specs.declared.CellKind.TheVariants.{Object, Chunk, Bad}
+use Rattle.tg_space.specs.SpaceList.{SpaceList, IsSpace, IsSpaceList, Holds, cell_at, flat_of}
 use Rattle.tg_space.specs.Targets.{first_pointer, pointers_of, moved_word, image_of}
 use Rattle.tg_space.specs.Soundness.{AreSound, HasLayout, HasLayoutOf, IsKindAt, IsReference, RefersTo, IsLink, LinksTo, IsPointer, NamesCell, link_of}
 use Rattle.tg_space.proofs.Pointing.{pointers_from_layout}

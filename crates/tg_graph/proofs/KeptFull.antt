@@ -1,10 +1,10 @@
 -- A full collection keeps the cells that the roots reach.
-use Rattle.std.proofs.Common.{◌≡◌, ◌≢◌, ℕ, zero, suc, ◌<◌, ◌≤◌, ◌+◌, ◌⊎◌, ◌==◌, Bool, true, false, List, [], ◌∷◌, length, get_or, map, refl, sym, ap, subst, arith, ◌∙◌, inl, inr, ⊎_elim}
+use Rattle.std.proofs.Common.{◌≡◌, ◌≢◌, ℕ, zero, suc, ◌<◌, ◌⊎◌, ◌==◌, true, false, List, [], ◌∷◌, length, get_or, map, refl, sym, ap, subst, arith, ◌∙◌, inl, inr, ⊎_elim}
 use Rattle.std.specs.List.{All, Contains}
-use Rattle.std.proofs.lemmas.Bool.{cases_eq, cases_lt}
+use Rattle.std.proofs.lemmas.Bool.{cases_eq}
 use Rattle.std.proofs.lemmas.Bool.Decides.{eqb_tells}
 use Rattle.std.proofs.lemmas.List.Elements.{All-contains}
-use Rattle.tg_model.specs.Walks.{Walk, Walk-within, begins, goes}
+use Rattle.tg_model.specs.Walks.{Walk-within, goes}
 use Rattle.tg_word.specs.declared.Place.{Place}
 use Rattle.tg_word.specs.Word.{IsPlace, link_to, place_in}
 use Rattle.tg_word.proofs.Packing.{place_in-word_at, word_at-above_zero}
@@ -13,13 +13,14 @@ use Rattle.tg_block.specs.Cells.{cell_of, free_cell}
 use Rattle.tg_block.specs.declared.CellKind.TheVariants.{Object}
 use Rattle.tg_space.specs.SpaceList.{SpaceList, BlockList, IsSpaceList, Holds, space_of, cell_at, cells_of, flat_of}
 use Rattle.tg_space.specs.Closure.{IsInClosure}
-use Rattle.tg_space.specs.Targets.{every_space, target_in, named_by, targets_of, root_targets_of, all_root_targets, pointers_of, cell_numbered, image_of}
+use Rattle.tg_space.specs.Targets.{every_space, target_in, named_by, targets_of, root_targets_of, all_root_targets, pointers_of, image_of}
 use Rattle.tg_space.specs.Soundness.{AreSound, IsKindAt, IsPointer, NamesCell}
 use Rattle.tg_space.specs.Collection.{IsFullCollection, IsForwarded, IsNewPlace, new_cell, new_place}
 use Rattle.tg_space.specs.declared.spaces.Root.{Root}
 use Rattle.tg_space.specs.declared.spaces.Root.TheVariants.{Row}
 use Rattle.tg_space.proofs.Flat.{flat_inside, get_or-flat_of, same_place}
 use Rattle.tg_space.proofs.Pointing.{pointers_from_layout}
+use Rattle.tg_graph.specs.Kept.{IsCopiedFrom}
 use Rattle.tg_graph.proofs.Members.{Contains-cases, Contains-here, Contains-none, Contains-flat_map, Contains-from_flat_map, Contains-map, Contains-from_map}
 use Rattle.tg_graph.proofs.Places.{NumberedPlace, cell_long, layout_at, place_numbered}
 use Rattle.tg_graph.proofs.Layouts.{object_tagged}
@@ -119,10 +120,6 @@ module _ (h : SpaceList) (whole : IsSpaceList h) (sound : AreSound h []) where
 
 -- ---- what a full collection moves
 
--- the cell at a place was copied
-abbrev pub IsCopiedFrom : SpaceList → List ℕ → Place → Type 0
-IsCopiedFrom h forward p = Holds h p × (get_or forward (flat_of h p) 0 ≢ 0)
-
 -- a number below n at which a list has a word, or none
 found_below : (words : List ℕ) (word n : ℕ) → ((c : ℕ) × (c < n) × (get_or words c 0 ≡ word)) ⊎ ((c : ℕ) → c < n → get_or words c 0 ≢ word)
 found_below words word zero = inr (λ c low. absurd (omega arith))
@@ -146,7 +143,7 @@ pub record HasOnlyOld (after : SpaceList) (old : BlockList) : Type 0 where
 module _ (h after : SpaceList) (whole : IsSpaceList h) (whole_after : IsSpaceList after) (sound : AreSound h []) (workers : List Place) (objects : All (IsKindAt h Object) workers)
     (forward : List ℕ) (old : BlockList) (is : IsFullCollection h (rows_at workers) forward old) (only : HasOnlyOld after old) where
   forwarded : (p : Place) → IsCopiedFrom h forward p → IsForwarded h forward (flat_of h p)
-  forwarded p keep = (flat_inside h whole.spaces p keep.0, keep.1)
+  forwarded p keep = (flat_inside h whole.spaces p keep.held, keep.some)
 
   -- the new blocks, in place
   held_new : (q : Place) → IsNewPlace old q → Holds after q
@@ -171,32 +168,32 @@ module _ (h after : SpaceList) (whole : IsSpaceList h) (whole_after : IsSpaceLis
       ap (λ (blocks : BlockList). cell_of (get_or blocks q.block []) q.cell) (ap (space_of after) new.space ∙ only.is_old)
 
   pub full_in_rows : (p : Place) → IsCopiedFrom h forward p → IsInRows h workers (flat_of h p)
-  full_in_rows p keep = (is.reached (flat_of h p) (flat_inside h whole.spaces p keep.0)).0 keep.1
+  full_in_rows p keep = (is.reached (flat_of h p) (flat_inside h whole.spaces p keep.held)).0 keep.some
 
   pub copied_in_rows : (p : Place) → Holds h p → IsInRows h workers (flat_of h p) → IsCopiedFrom h forward p
-  copied_in_rows p held reached = (held, (is.reached (flat_of h p) (flat_inside h whole.spaces p held)).1 reached)
+  copied_in_rows p held reached = record { held = held; some = (is.reached (flat_of h p) (flat_inside h whole.spaces p held)).1 reached }
 
   pub full_moves : Moves every_space h after (new_place forward) (IsCopiedFrom h forward)
   full_moves = record {
     whole = whole;
     whole_after = whole_after;
     sound = sound;
-    held = λ p keep. keep.0;
+    held = λ p keep. keep.held;
     used = λ p keep.
         let cell = in_use h whole sound workers objects (flat_of h p) (full_in_rows p keep) in
-        let one : cell.place ≡ p = same_place h whole.spaces cell.place p cell.held keep.0 cell.at in
+        let one : cell.place ≡ p = same_place h whole.spaces cell.place p cell.held keep.held cell.at in
         subst (λ (q : Place). 0 < get_or (cell_at h q) 0 0) one cell.used;
     closed = λ p keep word among some.
-        copied_in_rows (place_in word) (target_held h whole sound p keep.0 word among some).held
-        (goes (full_in_rows p keep) (next_reached h whole sound p keep.0 word among some));
+        copied_in_rows (place_in word) (target_held h whole sound p keep.held word among some).held
+        (goes (full_in_rows p keep) (next_reached h whole sound p keep.held word among some));
     stands = λ p keep. held_new (new_place forward (flat_of h p)) (is.placed (flat_of h p) (forwarded p keep));
     copied = λ p keep.
         cell_new (new_place forward (flat_of h p)) (is.placed (flat_of h p) (forwarded p keep))
         ∙ is.copied (flat_of h p) (forwarded p keep)
-        ∙ ap (image_of every_space h (new_place forward)) (get_or-flat_of h whole.spaces p keep.0);
+        ∙ ap (image_of every_space h (new_place forward)) (get_or-flat_of h whole.spaces p keep.held);
     apart = λ p q keep_p keep_q same.
         let words : get_or forward (flat_of h p) 0 ≡ get_or forward (flat_of h q) 0 = is.words (flat_of h p) (forwarded p keep_p) ∙ ap link_to same ∙ sym (is.words (flat_of h q) (forwarded q keep_q)) in
-        same_place h whole.spaces p q keep_p.0 keep_q.0 (is.apart (flat_of h p) (flat_of h q) (forwarded p keep_p) (flat_inside h whole.spaces q keep_q.0) words);
+        same_place h whole.spaces p q keep_p.held keep_q.held (is.apart (flat_of h p) (flat_of h q) (forwarded p keep_p) (flat_inside h whole.spaces q keep_q.held) words);
     rest = λ q holds. by_search q (new_held q holds) holds (found_below forward (link_to q) (length (cells_of h)));
   }
     where
@@ -204,7 +201,7 @@ module _ (h after : SpaceList) (whole : IsSpaceList h) (whole_after : IsSpaceLis
       found q inside c is_link at =
           let here : get_or forward (flat_of h at.place) 0 ≡ link_to q = ap (λ (n : ℕ). get_or forward n 0) at.is ∙ is_link in
           let high = word_at-above_zero no_rights q inside in
-          (at.place, (at.held, λ z. let none : link_to q ≡ 0 = sym here ∙ z in omega arith), ap place_in here ∙ place_in-word_at no_rights q inside)
+          (at.place, record { held = at.held; some = λ z. let none : link_to q ≡ 0 = sym here ∙ z in omega arith }, ap place_in here ∙ place_in-word_at no_rights q inside)
 
       by_search : (q : Place) → IsNewPlace old q → Holds after q → ((c : ℕ) × (c < length (cells_of h)) × (get_or forward c 0 ≡ link_to q)) ⊎ ((c : ℕ) → c < length (cells_of h) → get_or forward c 0 ≢ link_to q) →
           (cell_at after q ≡ free_cell) ⊎ ((p : Place) × IsCopiedFrom h forward p × (new_place forward (flat_of h p) ≡ q))

@@ -1,27 +1,27 @@
 -- A collection that keeps what is named leaves the cells of a graph: that of the kept objects, with their labels and values.
-use Rattle.std.proofs.Common.{◌≡◌, ◌≢◌, ℕ, ◌<◌, ◌≤◌, ◌⊎◌, ◌↔◌, ◌==◌, ◌&&◌, not, Bool, true, false, cond, List, [], ◌∷◌, length, get_or, Option, Some, None, IsSome, refl, sym, ap, subst, arith, ◌∙◌, inl, inr, ⊎_elim}
-use Rattle.std.specs.List.{All, Contains, IsDistinct}
+use Rattle.std.proofs.Common.{◌≡◌, ◌≢◌, ℕ, ◌⊎◌, ◌↔◌, ◌==◌, ◌&&◌, not, Bool, true, false, List, [], ◌∷◌, length, Option, IsSome, refl, sym, ap, subst, arith, ◌∙◌, inl, inr, ⊎_elim}
+use Rattle.std.specs.List.{Contains, IsDistinct}
 use Rattle.std.proofs.lemmas.Bool.{cases_Bool, and_parts}
-use Rattle.std.proofs.lemmas.Bool.Decides.{eqb_tells, nat_tests}
+use Rattle.std.proofs.lemmas.Bool.Decides.{nat_tests}
 use Rattle.std.proofs.lemmas.List.Elements.{All-contains}
-use Rattle.tg_rights.specs.RightSet.{RightSet, is_none_held, no_rights}
+use Rattle.tg_rights.specs.RightSet.{is_none_held}
 use Rattle.tg_model.specs.Graph.{HasEdge}
 use Rattle.tg_model.specs.declared.value.Value.{Value}
 use Rattle.tg_word.specs.declared.Place.{Place}
-use Rattle.tg_word.specs.Word.{place_in, rights_in}
+use Rattle.tg_word.specs.Word.{place_in}
 use Rattle.tg_block.specs.Cells.{kind_of, free_cell}
-use Rattle.tg_block.specs.declared.CellKind.{CellKind}
-use Rattle.tg_block.specs.declared.CellKind.TheVariants.{Free, Object, Chunk}
-use Rattle.tg_space.specs.SpaceList.{SpaceList, Holds, cell_at, cells_of}
+use Rattle.tg_block.specs.declared.CellKind.TheVariants.{Free, Object}
+use Rattle.tg_space.specs.SpaceList.{SpaceList, cell_at, cells_of}
 use Rattle.tg_space.specs.Soundness.{IsKindAt, IsReference, RefersTo}
 use Rattle.tg_payload.specs.Table.{Payloads, entry}
-use Rattle.tg_graph.specs.Content.{Content, IsNamed}
+use Rattle.tg_graph.specs.Content.{IsNamed}
 use Rattle.tg_graph.specs.Standing.{Keeps}
 use Rattle.tg_graph.specs.Rows.{IsChain, IsVertexAt, chunks_from, key_at, link_at, name_at, name_in, names_in, rights_to, row_words}
 use Rattle.tg_graph.specs.Heap.{IsGraph, content_in}
+use Rattle.tg_graph.specs.Kept.{KeepsPayloads}
 use Rattle.tg_graph.proofs.Members.{Contains-here, Contains-more}
 use Rattle.tg_graph.proofs.Lookups.{vertex_of_name, name_of_vertex, label_at, value_at}
-use Rattle.tg_graph.proofs.KeptCells.{Moves, IsKeptWord, moved_place, is_copied, kept_kind, name_kept, key_kept, kind_at_after, sound_after}
+use Rattle.tg_graph.proofs.KeptCells.{Moves, IsKeptWord, moved_place, is_copied, name_kept, key_kept, kind_at_after, sound_after}
 use Rattle.tg_graph.proofs.KeptRows.{IsKeptRow, row_kept}
 
 -- a word that gives a name some rights
@@ -44,11 +44,6 @@ rights_given h name (w ∷ words) e = by_test (cases_Bool (not (w == 0) && (name
     by_test (inr f) again =
         let rest = again (rw f at e) in
         record { word = rest.word; among = Contains-more w words rest.word rest.among; some = rest.some; named = rest.named }
-
--- The payloads after a collection: those of the kept objects, and no other.
-pub record KeepsPayloads (h : SpaceList) (kept : Place → Type 0) (payloads left : Payloads) : Type 0 where
-  pub same : (p : Place) → kept p → IsKindAt h Object p → entry left (key_at h p) ≡ entry payloads (key_at h p)
-  pub none_else : (key : ℕ) → IsSome (entry left key) → (p : Place) × kept p × IsKindAt h Object p × (key_at h p ≡ key)
 
 module _ {from : ℕ → Bool} {h after : SpaceList} {to : ℕ → Place} {kept : Place → Type 0} (move : Moves from h after to kept) (payloads left : Payloads) (graph : IsGraph h payloads) (keeps : KeepsPayloads h kept payloads left) where
   -- where an object of `after` was

@@ -1,8 +1,7 @@
 -- The rows of kept objects: the same cells in the same order, moved, with the same names and rights in their references.
-use Rattle.std.proofs.Common.{◌≡◌, ◌≢◌, ℕ, ◌<◌, ◌≤◌, ◌⊎◌, ◌==◌, ◌&&◌, not, Bool, true, false, cond, List, [], ◌∷◌, ◌++◌, length, map, refl, sym, ap, subst, arith, ◌∙◌, inl, inr, ⊎_elim}
+use Rattle.std.proofs.Common.{◌≡◌, ◌≢◌, ℕ, ◌==◌, ◌&&◌, not, Bool, true, false, cond, List, [], ◌∷◌, ◌++◌, length, map, refl, sym, ap, subst, ◌∙◌, ⊎_elim}
 use Rattle.std.specs.List.{All, flat_map}
-use Rattle.std.proofs.lemmas.List.{map-append, length-map}
-use Rattle.std.proofs.lemmas.List.Concat.{flat_map-append}
+use Rattle.std.proofs.lemmas.List.{map-append}
 use Rattle.std.proofs.lemmas.List.Elements.{All-nil, All-cons, All-append, All-head, All-tail}
 use Rattle.std.proofs.lemmas.Bool.Decides.{eqb_tells}
 use Rattle.tg_rights.specs.RightSet.{RightSet}
@@ -17,7 +16,7 @@ use Rattle.tg_graph.specs.Rows.{IsChain, chunks_from, link_at, name_at, name_in,
 use Rattle.tg_graph.proofs.Layouts.{references_at}
 use Rattle.tg_graph.proofs.Chains.{chain_whole}
 use Rattle.tg_graph.proofs.Slots.{names_in-some}
-use Rattle.tg_graph.proofs.KeptCells.{Moves, IsKeptWord, IsMovedWord, moved_place, is_copied, kind_at_after, link_kept, name_kept, references_kept, sound_after}
+use Rattle.tg_graph.proofs.KeptCells.{Moves, IsKeptWord, moved_place, is_copied, kind_at_after, link_kept, name_kept, references_kept, sound_after}
 
 -- the references of these cells
 abbrev pub words_of : SpaceList → List Place → List ℕ

@@ -3,3 +3,5 @@ pub mod Standing
 pub mod Rows
 pub mod Heap
 pub mod Spots
+pub mod Steps
+pub mod Kept

@@ -1,6 +1,6 @@
 //! The heap of one store.
-ghost use Rattle.std.specs.Prelude.{◌≡◌, ◌↔◌, ◌+◌, ◌<◌, ◌⊎◌, ℕ, Err, IfOk, IfErr, IfSome, IsSome, OnOk, OnErr, length, slice_get, Some};
-ghost use Rattle.std.specs.List.{All};
+ghost use Rattle.std.specs.Prelude.{◌==◌, ◌≡◌, ◌↔◌, ◌+◌, ◌<◌, ◌⊎◌, ℕ, Err, IfOk, IfErr, IfSome, IsSome, OnOk, OnErr, length, slice_get, Some};
+ghost use Rattle.std.specs.List.{All, IsDistinct};
 ghost use Rattle.tg_model.specs.Graph.{HasEdge, listing_of, with_rights, without_rights};
 ghost use Rattle.tg_model.specs.Opened.{start_of};
 ghost use Rattle.tg_model.specs.Rules.{state_of, with_value, written_at};
@@ -50,8 +50,8 @@ pub struct VertexRefused<P: Payload> {
 /// between them and their values. A vertex is named to most calls by the place of its object.
 #[derive(Drop)]
 pub struct Heap<P: Payload> {
-    cells: Cells<P>,
-    workers: Vec<Place>,
+    pub(crate) cells: Cells<P>,
+    pub(crate) workers: Vec<Place>,
 }
 
 impl<P: Payload> Model for Heap<P> {
@@ -106,10 +106,12 @@ impl<P: Payload> Heap<P> {
         self.workers[worker as usize]
     }
 
-    /// How many vertices the heap has. Takes no memory.
+    /// How many vertices the heap has. No name is counted twice. Takes no memory.
     pub fn vertices(&self) -> u64
-        ensures { result ≡ length (content_of self.now).names }
+        ensures number { result ≡ length (content_of self.now).names }
+        ensures once { IsDistinct (λ a b. a == b) (content_of self.now).names }
     {
+        let _ = self.cells.spaces.blocks();
         self.cells.payloads.len()
     }
 
@@ -188,7 +190,7 @@ impl<P: Payload> Heap<P> {
         ensures refused { OnErr result (self.new ≡ self.old) }
         ensures full { result ≡ Err AllocateFault.HeapFull → IsOutOfCells self.old.table (worker + 2) 1 }
     {
-        self.cells.add_edge(worker, from, to, label)
+        self.cells.add_edge(worker, from, to, label.rights())
     }
 
     /// Takes rights over the vertex with a name from the vertex at a place. A reference that has none left leaves an
@@ -199,7 +201,7 @@ impl<P: Payload> Heap<P> {
             (without_rights (content_of self.old).label (name_of self.old from) name label) (content_of self.old).value }
         ensures kept { KeepsPlaces self.old self.new }
     {
-        self.cells.drop_rights(from, name, label);
+        self.cells.drop_rights(from, name, label.rights());
     }
 
     /// Makes a vertex with a name that none has, which stores the draft's payload, and gives a worker rights over it.
@@ -225,11 +227,7 @@ impl<P: Payload> Heap<P> {
         ensures full { IfErr result (λ refused. refused.why ≡ AllocateFault.HeapFull → IsOutOfCells self.old.table (worker + 2) 2) }
     {
         let from = self.workers[worker as usize];
-        if let Err(why) = self.cells.make_room(worker, from, name) {
-            return Err(VertexRefused { draft, why });
-        }
-        let place = self.cells.place_vertex(worker, name, draft);
-        self.cells.add_edge(worker, from, place, label).unwrap();
-        Ok(())
+        self.cells
+            .new_vertex(worker, from, name, label.rights(), draft)
     }
 }

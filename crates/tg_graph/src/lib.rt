@@ -5,6 +5,8 @@ mod cells;
 mod heap;
 pub mod laws;
 mod opening;
+mod references;
 mod rows;
+mod settle;
 
 pub use heap::{Found, Heap, HeapRefused, VertexRefused};

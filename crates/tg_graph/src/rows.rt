@@ -6,7 +6,7 @@ ghost use Rattle.tg_space.specs.SpaceList.{cells_of};
 ghost use Rattle.tg_space.specs.SpaceTable.{IsSpaceTable};
 ghost use Rattle.tg_space.specs.Soundness.{AreSound, IsReference};
 ghost use Rattle.tg_graph.specs.Rows.{IsRow, chunks_from, edges_in, link_at, row_words};
-ghost use Rattle.tg_graph.specs.Spots.{IsSpotIn, is_empty, refers_to, spot_for_new as new_spot};
+ghost use Rattle.tg_graph.specs.Spots.{IsSpotIn, cells_for, is_empty, refers_to, spot_for_new as new_spot};
 
 use std::alloc::{AllocError, Global};
 use tg_rights::Label;
@@ -28,6 +28,18 @@ pub(crate) enum Spot {
     Empty { cell: Place, index: usize },
     /// There is no reference to the name, nor an empty place, and this is the last cell of the row.
     Full { last: Place },
+}
+
+impl Spot {
+    /// How many cells a new reference takes.
+    pub(crate) fn cells(self) -> u64
+        ensures { result ≡ cells_for self }
+    {
+        match self {
+            Spot::Full { .. } => 1,
+            _ => 0,
+        }
+    }
 }
 
 /// Finds where the reference to a name stands in the row of an object, or else the first empty place in chain order,
@@ -118,7 +130,8 @@ pub(crate) fn edges_of(
 ) -> Result<Vec<(u64, Label)>, AllocError>
     requires sound { AreSound spaces.now.spaces [] }
     requires row { IsRow spaces.now.spaces from }
-    ensures { IfOk result (λ edges. edges.items ≡ edges_in spaces.now.spaces (row_words spaces.now.spaces from)) }
+    ensures table { OnOk result (IsSpaceTable spaces.now) }
+    ensures edges { IfOk result (λ edges. edges.items ≡ edges_in spaces.now.spaces (row_words spaces.now.spaces from)) }
 {
     let mut edges = Vec::new(alloc);
     let mut at = from;

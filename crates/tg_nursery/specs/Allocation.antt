@@ -36,6 +36,10 @@ pub record Allocates (old new : SpaceTable) (space : ℕ) (p : Place) : Type 0 w
 abbrev pub HasFewerLeft : SpaceTable → ℕ → ℕ → Type 0
 HasFewerLeft t space cells = 64 * length (space_of t.spaces space) < used_of t space + cells
 
+-- so many cells of a nursery are left
+abbrev pub HasLeft : SpaceTable → ℕ → ℕ → Type 0
+HasLeft t space cells = used_of t space + cells ≤ 64 * length (space_of t.spaces space)
+
 -- the table with one more block in a nursery that has fewer cells left, and else as it is
 abbrev pub room_made_for : SpaceTable → ℕ → ℕ → SpaceTable
 room_made_for t space cells =

@@ -14,10 +14,10 @@
 //! left, and that a fresh cell was allocated.
 #![tactic(auto)]
 
-ghost use Rattle.std.specs.Prelude.{◌≡◌, ◌<◌, ◌≤◌, ◌+◌, ◌*◌, ◌↔◌, Err, IfOk, OnOk, OnErr, length};
+ghost use Rattle.std.specs.Prelude.{◌≡◌, ◌<◌, ◌≤◌, ◌+◌, ◌*◌, ◌↔◌, Err, IfOk, IsOk, OnOk, OnErr, length};
 ghost use Rattle.tg_space.specs.SpaceList.{space_of};
-ghost use Rattle.tg_space.specs.SpaceTable.{IsFull, place_in_space, used_of, with_one_used};
-ghost use Rattle.tg_nursery.specs.Allocation.{Allocates, HasFewerLeft, IsUsedUp, room_made, room_made_for};
+ghost use Rattle.tg_space.specs.SpaceTable.{IsFull, IsSpaceTable, place_in_space, used_of, with_one_used};
+ghost use Rattle.tg_nursery.specs.Allocation.{Allocates, HasFewerLeft, HasLeft, IsUsedUp, room_made, room_made_for};
 
 pub use tg_space::AllocateFault;
 use tg_space::Spaces;
@@ -55,7 +55,9 @@ pub fn reserve(spaces: &mut Spaces, worker: u64, cells: u64) -> Result<(), Alloc
     requires few_cells { cells ≤ 64 }
     requires nursery { worker + 2 < length spaces.old.spaces }
     ensures exact { OnOk result (spaces.new ≡ room_made_for spaces.old (worker + 2) cells) }
-    ensures room { OnOk result (used_of spaces.new (worker + 2) + cells ≤ 64 * length (space_of spaces.new.spaces (worker + 2))) }
+    ensures table { OnOk result (IsSpaceTable spaces.new) }
+    ensures room { OnOk result (HasLeft spaces.new (worker + 2) cells) }
+    ensures had_room { HasLeft spaces.old (worker + 2) cells → IsOk result }
     ensures refused { OnErr result (spaces.new ≡ spaces.old) }
     ensures full { (result ≡ Err AllocateFault.HeapFull) ↔ (HasFewerLeft spaces.old (worker + 2) cells × IsFull spaces.old (worker + 2)) }
 {

@@ -1,6 +1,7 @@
 //! All spaces of a heap.
 ghost use Rattle.std.specs.Prelude.{◌≡◌, ◌<◌, ◌≤◌, ◌+◌, ◌*◌, ◌^◌, ◌∷◌, ◌↔◌, ℕ, [], length, replicate, slice_index, slice_index_or, slice_set, Err, IfOk, OnOk, OnErr, IsOk, IsTrue};
 ghost use Rattle.tg_block.specs.Cells.{free_cell, cell_of};
+ghost use Rattle.tg_word.specs.Word.{IsPlace};
 ghost use Rattle.tg_space.specs.SpaceList.{Holds, IsSpace, IsSpaceList, block_count, blocks_before, cell_at, cells_of, flat_of, space_of, with_block, with_cell_at, with_word_at};
 ghost use Rattle.tg_space.specs.Targets.{first_pointer as first_pointer_of};
 ghost use Rattle.tg_space.specs.SpaceTable.{BlockLimits, IsFull, IsHandedOut, IsNursery, IsPrefixCount, IsSpaceTable, no_blocks, place_in_space, used_of, with_one_used, with_only_old, with_spaces};
@@ -183,6 +184,7 @@ impl Spaces {
         ensures words { result ≡ cell_at self.now.spaces place }
         ensures numbered { result ≡ slice_index_or (cells_of self.now.spaces) (flat_of self.now.spaces place) [] }
         ensures whole { length result ≡ 8 }
+        ensures table { IsSpaceTable self.now }
     {
         self.spaces[place.space as usize].cell(place.block, place.cell)
     }
@@ -244,6 +246,8 @@ impl Spaces {
         ensures held { Holds self.old.spaces result }
         ensures free { cell_at self.old.spaces result ≡ free_cell }
         ensures counted { self.new ≡ with_one_used self.old space }
+        ensures handed_out { IsHandedOut self.new result }
+        ensures in_range { IsPlace result }
     {
         let used = self.used[space as usize];
         self.used[space as usize] = used + 1;
@@ -268,6 +272,7 @@ impl Spaces {
     pub fn add_block(&mut self, space: u64) -> Result<(), AllocateFault>
         requires { space < length self.old.spaces }
         ensures added { OnOk result (self.new ≡ with_spaces self.old (with_block self.old.spaces space)) }
+        ensures table { OnOk result (IsSpaceTable self.new) }
         ensures refused { OnErr result (self.new ≡ self.old) }
         ensures full { (result ≡ Err AllocateFault.HeapFull) ↔ IsFull self.old space }
     {
@@ -290,6 +295,7 @@ impl Spaces {
         ensures adopted { OnOk result (self.new ≡ with_only_old self.old adoption.old) }
         ensures refused { OnErr result (self.new ≡ self.old) }
         ensures full { kind ≡ Kind.Full → IsOk result }
+        ensures table { OnOk result (IsSpaceTable self.new) }
     {
         match kind {
             Kind::Full => self.keep_only_old(adoption.old),
@@ -299,7 +305,8 @@ impl Spaces {
 
     // Old is these blocks, and every other space has none.
     fn keep_only_old(&mut self, old: Space)
-        ensures { self.new ≡ with_only_old self.old old }
+        ensures adopted { self.new ≡ with_only_old self.old old }
+        ensures table { IsSpaceTable self.new }
     {
         empty_all(self.alloc, &mut self.spaces);
         self.spaces[0] = old;

@@ -1,2 +1,5 @@
+mod AnswerLaws
+mod CollectLaws
+mod CreateLaws
 mod DifferenceLaws
 pub mod StandLaws

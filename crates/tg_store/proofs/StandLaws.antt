@@ -1,5 +1,5 @@
 -- What becomes of the journal and of the graph of a store by each call.
-use Rattle.std.proofs.Common.{◌≡◌, ◌↔◌, ℕ, ◌<◌, ◌++◌, ◌∷◌, [], List, length, refl, sym, ap, subst, ◌∙◌, arith}
+use Rattle.std.proofs.Common.{◌≡◌, ◌↔◌, ℕ, ◌<◌, ◌≤◌, ◌++◌, ◌∷◌, [], List, length, refl, sym, ap, subst, ◌∙◌, arith}
 use Rattle.tg_model.specs.declared.command.Deed.{Deed}
 use Rattle.tg_model.specs.declared.reply.Reply.{Reply}
 use Rattle.tg_model.specs.Graph.{ProtectionGraph, IsSubject}
@@ -11,7 +11,7 @@ use Rattle.tg_journal.proofs.HistoryLaws.{IsLegal-push, graph_after-push, graph_
 use Rattle.tg_graph.specs.Heap.{HeapState, content_of}
 use Rattle.tg_graph.specs.Standing as standing
 use Rattle.tg_graph.proofs.StandingLaws as content
-use Rattle.tg_store.specs.Store.{StoreState, StandsFor, IsFaithful, Enters, IsUnchanged, graph_of_store}
+use Rattle.tg_store.specs.Store.{StoreState, StandsFor, IsFaithful, Enters, IsUnchanged, graph_of_store, IsStore}
 
 -- ---- the same journal
 
@@ -37,10 +37,15 @@ IsFaithful-unchanged old new faithful unchanged =
     (content.StandsFor-unchanged old.heap new.heap (graph_of_store old) faithful.stands unchanged.heap)
     (ap length unchanged.heap.workers)
 
+pub IsStore-unchanged : (old new : StoreState) (made : ℕ) → IsStore old made → IsUnchanged old new → IsStore new made
+IsStore-unchanged old new made is unchanged = record {
+  faithful = IsFaithful-unchanged old new is.faithful unchanged;
+  is_made = is.is_made ∙ ap (λ g. g.made) (sym (same_graph old new unchanged.opening unchanged.entries));
+}
+
 -- ---- one more entry
 
 module _ (old new : StoreState) (worker : ℕ) (deed : Deed) (reply : Reply) (opening : new.opening ≡ old.opening) (entry : Enters old new worker deed reply) where
-
   -- the store then stands for the graph after the deed
   pub graph-entered : graph_of_store new ≡ step (graph_of_store old) worker deed
   graph-entered =
@@ -57,6 +62,12 @@ module _ (old new : StoreState) (worker : ℕ) (deed : Deed) (reply : Reply) (op
     legal = rw (opening, entry) (IsLegal-push (start_of old.opening) old.entries (record { worker = worker; deed = deed; reply = reply }) faithful.legal (record { subject = subject; fits = fits; reply = is }));
     stands = subst (standing.StandsFor (content_of new.heap)) (sym graph-entered) stands;
     workers = workers ∙ faithful.workers ∙ sym (ap (λ (p : Plan). p.workers) opening);
+  }
+
+  pub IsStore-entered : (made : ℕ) → IsFaithful old → IsSubject (graph_of_store old) worker → DeedFits deed → reply ≡ answer_of (graph_of_store old) worker deed → standing.StandsFor (content_of new.heap) (step (graph_of_store old) worker deed) → length new.heap.workers ≡ length old.heap.workers → made ≡ (step (graph_of_store old) worker deed).made → IsStore new made
+  IsStore-entered made faithful subject fits is stands workers next = record {
+    faithful = IsFaithful-entered faithful subject fits is stands workers;
+    is_made = next ∙ ap (λ g. g.made) (sym graph-entered);
   }
 
 -- ---- no entry yet
@@ -79,3 +90,10 @@ module _ (s : StoreState) (faithful : IsFaithful s) where
 
   pub limit_of : (graph_of_store s).limit ≡ s.opening.limit
   limit_of = graph_after-limit (start_of s.opening) s.entries
+
+  pub subject_here : (g : ProtectionGraph) (x : ℕ) → StandsFor s g → x < length s.heap.workers → IsSubject g x
+  subject_here g x stands below = subst (λ h. IsSubject h x) stands ((subject-is_worker x).1 below)
+
+  pub no_subject : (g : ProtectionGraph) (x : ℕ) → StandsFor s g → length s.heap.workers ≤ x → IsSubject g x → ⊥
+  no_subject g x stands high subject =
+      let below = (subject-is_worker x).0 (subst (λ h. IsSubject h x) (sym stands) subject) in omega (arith, below, high)

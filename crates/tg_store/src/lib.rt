@@ -34,6 +34,8 @@ mod census;
 mod fault;
 pub mod laws;
 mod store;
+#[cfg(test)]
+mod tests;
 
 pub use census::Census;
 pub use fault::{ApplyFault, CreateFault, CreateRefused, OpenFault, OpenRefused};

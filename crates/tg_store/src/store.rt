@@ -213,19 +213,20 @@ impl<P: Payload> Store<P> {
     /// `OutOfMemory` alone; the store is then as it was.
     pub fn collect(&mut self, kind: Kind) -> Result<u64, CollectFault>
         ensures number { IfOk result (λ number. number ≡ length (content_of self.new.heap).names) }
-        ensures names { (g : ProtectionGraph) → StandsFor self.old g → OnOk result ((x : ℕ) → IsNamed (content_of self.new.heap) x ↔ IsReachable g x) }
-        ensures reachable { (g : ProtectionGraph) → StandsFor self.old g → IfOk result (IsCountOf (IsReachable g)) }
-        ensures only_old { OnOk result ((space : ℕ) → space ≢ 0 → space_of self.new.heap.table.spaces space ≡ []) }
+        ensures names { (g : ProtectionGraph) → StandsFor self.old g → OnOk result (kind ≡ Kind.Full → (x : ℕ) → IsNamed (content_of self.new.heap) x ↔ IsReachable g x) }
+        ensures reachable { (g : ProtectionGraph) → StandsFor self.old g → IfOk result (λ number. kind ≡ Kind.Full → IsCountOf (IsReachable g) number) }
+        ensures only_old { OnOk result (kind ≡ Kind.Full → (space : ℕ) → space ≢ 0 → space_of self.new.heap.table.spaces space ≡ []) }
         ensures entries { self.new.entries ≡ self.old.entries }
-        ensures full { result ≡ Err CollectFault.HeapFull → MayLackRoom self.old.heap.table.limits.space_blocks 1 0 (used_cells self.old.heap.table.spaces) }
+        ensures full { result ≡ Err CollectFault.HeapFull → kind ≡ Kind.Full →
+            MayLackRoom self.old.heap.table.limits.space_blocks 1 0 (used_cells self.old.heap.table.spaces) }
         ensures refused { OnErr result (self.new ≡ self.old) }
         ensures opening { self.new.opening ≡ self.old.opening }
     {
-        let roots = self.heap.roots()?;
+        let roots = self.heap.roots(self.alloc)?;
         let copied = collect_one(self.alloc, self.heap.spaces(), &roots, kind)?;
         let Copied { forward, adoption } = copied;
-        let left = self.heap.settle(&forward, adoption)?;
-        Ok(left)
+        self.heap.settle(kind, forward, adoption)?;
+        Ok(self.heap.vertices())
     }
 }
 

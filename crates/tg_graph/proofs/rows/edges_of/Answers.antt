@@ -15,8 +15,8 @@ push_edges-requires c =
     references_at h (table_list c.args.spaces.now c.cells-left.ensures.table) [] c.requires.sound c.row.at c.row.invariant.row.held in
     subst (All (IsReference h)) (sym (slice_is h c.row.at c.cell-cell.result c.first_pointer-first.result c.cell-cell.ensures.words c.first_pointer-first.ensures.word)) references
 
-pub returns-then-cell-eq0 : goal.returns-then-cell-eq0
-returns-then-cell-eq0 c =
+pub returns-then-cell-eq0-clause-edges : goal.returns-then-cell-eq0-clause-edges
+returns-then-cell-eq0-clause-edges c =
     let h = c.args.spaces.now.spaces in
     collect_ends h c.args.from c.row.at c.row.left c.row.edges.items c.push_edges.new.edges.items c.cell-cell.result c.first_pointer-first.result
     c.cell-cell.ensures.words c.first_pointer-first.ensures.word c.row.invariant c.in_ok-push_edges.ensures c.if-cell-eq0.true

@@ -29,3 +29,18 @@ invariant_of-self-2 c =
       subst (λ (xs : List ℕ). IsPrefixCount xs (set t.spaces space c.add_block.new.self)) (sym kept)
           (subst (λ (h : SpaceList). IsPrefixCount counts h) c.deref.ensures.value c.count_blocks.ensures),
     )
+
+pub returns-clause-table : goal.returns-clause-table
+returns-clause-table c =
+    let inside = c.self.inside in
+    let space = c.args.space in
+    let t : SpaceTable = record { spaces = inside.spaces.items; used = inside.used.items; limits = inside.limits } in
+    let same : t ≡ c.args.self.now = c.self.view_is in
+    let low : space < length t.spaces = subst (λ (x : SpaceTable). space < length x.spaces) (sym same) c.requires in
+    let before : c.index_mut-grown.result.now ≡ space_of t.spaces space =
+    get_or_read t.spaces space c.index_mut-grown.result.now low c.index_mut-grown.ensures.value [] in
+    let changed : set t.spaces space c.add_block.new.self ≡ with_block t.spaces space =
+    ap (set t.spaces space) (c.in-Ok.ensures.added ∙ ap (λ (s : BlockList). s ++ free_block ∷ []) before) in
+    let whole : All IsSpace (with_block t.spaces space) =
+    subst (λ (h : SpaceList). All IsSpace h) changed (All-set IsSpace t.spaces space c.add_block.new.self c.in-Ok.ensures.whole c.self.invariant.0.blocks) in
+    subst (λ (h : SpaceList). IsSpaceTable (with_spaces t h)) (sym changed) (table_grown t space c.self.invariant.0 low whole)

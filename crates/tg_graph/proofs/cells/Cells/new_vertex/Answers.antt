@@ -1,0 +1,38 @@
+use Rattle.std.proofs.Common.{◌+◌, arith, ap, sym}
+use Rattle.tg_graph.proofs.Growing.{as_many_spaces, grown_graph, placed_can, still_fresh, vertex_made}
+use Rattle.tg_graph.proofs.cells.Cells.new_vertex.Goals as goal
+
+pub place_vertex-to-requires-clause-graph : goal.place_vertex-to-requires-clause-graph
+place_vertex-to-requires-clause-graph g c =
+    let made = c.in_default.ensures in
+    let grown = c.make_room.new.self in
+    grown_graph c.args.self.now.spaces grown.spaces grown.spaces c.args.self.now.payloads grown.payloads grown.payloads c.find_spot-spot.ensures.table made.table made.table c.requires.graph (c.args.worker + 2) (1 + c.cells.result) c.requires.worker made.spaces made.payloads
+    c.args.from c.requires.from c.args.name c.find_spot-spot.result c.find_spot-spot.ensures.spot
+
+pub place_vertex-to-requires-clause-fresh : goal.place_vertex-to-requires-clause-fresh
+place_vertex-to-requires-clause-fresh g c =
+    let made = c.in_default.ensures in
+    let grown = c.make_room.new.self in
+    still_fresh c.args.self.now.spaces grown.spaces grown.spaces c.args.self.now.payloads grown.payloads grown.payloads c.find_spot-spot.ensures.table made.table made.table c.requires.graph (c.args.worker + 2) (1 + c.cells.result) c.requires.worker made.spaces made.payloads
+    c.args.from c.requires.from c.args.name c.find_spot-spot.result c.find_spot-spot.ensures.spot c.requires.fresh
+
+pub put-requires-clause-can : goal.put-requires-clause-can
+put-requires-clause-can g c =
+    let made = c.in_default.ensures in
+    let grown = c.make_room.new.self in
+    let placed = c.place_vertex-to.new.self in
+    let step = c.place_vertex-to.ensures in
+    placed_can c.args.self.now.spaces grown.spaces placed.spaces c.args.self.now.payloads grown.payloads placed.payloads c.find_spot-spot.ensures.table made.table step.table c.requires.graph (c.args.worker + 2) (1 + c.cells.result) c.requires.worker made.spaces made.payloads
+    c.args.from c.requires.from c.args.name c.find_spot-spot.result c.find_spot-spot.ensures.spot
+    c.args.draft step.placed step.rows c.place_vertex-to.result step.vertex step.used (step.blocks (c.args.worker + 2)) made.left (ap (λ n. 1 + n) c.cells.ensures)
+
+pub returns-clause-made : goal.returns-clause-made
+returns-clause-made g c =
+    let made = c.in_default.ensures in
+    let grown = c.make_room.new.self in
+    let placed = c.place_vertex-to.new.self in
+    let step = c.place_vertex-to.ensures in
+    vertex_made c.args.self.now.spaces grown.spaces placed.spaces c.args.self.now.payloads grown.payloads placed.payloads c.find_spot-spot.ensures.table made.table step.table c.requires.graph (c.args.worker + 2) (1 + c.cells.result) c.requires.worker made.spaces made.payloads
+    c.args.from c.requires.from c.args.name c.find_spot-spot.result c.find_spot-spot.ensures.spot
+    c.args.draft step.placed step.rows c.place_vertex-to.result step.vertex step.used (step.blocks (c.args.worker + 2)) made.left (ap (λ n. 1 + n) c.cells.ensures)
+    c.args.rights c.requires.some (omega arith) c.put.new.spaces c.put.ensures

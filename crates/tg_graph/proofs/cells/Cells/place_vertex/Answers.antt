@@ -1,0 +1,31 @@
+use Rattle.std.proofs.Common.{◌∙◌, ◌+◌, ap, arith, subst}
+use Rattle.tg_space.specs.SpaceList.{with_cell_at}
+use Rattle.tg_space.specs.SpaceTable.{SpaceTable, IsHandedOut, with_spaces}
+use Rattle.tg_graph.specs.Steps.{vertex_words}
+use Rattle.tg_graph.proofs.Growing.{VertexStep, vertex_step}
+use Rattle.tg_graph.proofs.cells.Cells.place_vertex.Given.{Over}
+use Rattle.tg_graph.proofs.cells.Cells.place_vertex.Goals as goal
+
+step : (g : Over) (c : goal.After-write_cell g) →
+    VertexStep c.args.self.now.spaces c.write_cell.new.self c.args.self.now.payloads c.insert.new.self c.hand_out-place.result c.args.name c.args.draft
+step g c =
+    let t = c.args.self.now.spaces in
+    let q = c.hand_out-place.result in
+    let words = vertex_words c.args.name c.in-Ok.key in
+    let handed = c.hand_out-place.ensures in
+    vertex_step t c.write_cell.new.self c.args.self.now.payloads c.insert.new.self (c.args.worker + 2) q c.args.name c.in-Ok.key c.args.draft
+    c.requires.table c.requires.graph (omega arith, c.requires.nursery) c.requires.left handed.held handed.free
+    (subst (λ (x : SpaceTable). IsHandedOut x q) handed.counted handed.handed_out) c.requires.fresh c.in-Ok.ensures.fresh c.in-Ok.ensures.inserted
+    (c.write_cell.ensures ∙ ap (λ (x : SpaceTable). with_spaces x (with_cell_at x.spaces q words)) handed.counted)
+
+pub returns-clause-placed : goal.returns-clause-placed
+returns-clause-placed g c = (step g c).placed
+
+pub returns-clause-vertex : goal.returns-clause-vertex
+returns-clause-vertex g c = (step g c).vertex
+
+pub returns-clause-rows : goal.returns-clause-rows
+returns-clause-rows g c = (step g c).rows
+
+pub returns-clause-table : goal.returns-clause-table
+returns-clause-table g c = (step g c).table

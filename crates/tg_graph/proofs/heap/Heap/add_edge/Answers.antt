@@ -1,0 +1,50 @@
+use Rattle.std.proofs.Common.{◌≡◌, ap, subst, sym, ◌∙◌, refl}
+use Rattle.std.proofs.lemmas.Result.{IfOk-weaker}
+use Rattle.tg_model.specs.Graph.{with_rights, without_rights}
+use Rattle.tg_model.specs.Rules.{with_value, written_at}
+use Rattle.tg_graph.specs.Content.{IsContent, IsNamed}
+use Rattle.tg_graph.specs.Heap.{HeapState, KeepsPlaces, content_of, name_of}
+use Rattle.tg_graph.specs.Steps.{ChangesTo}
+use Rattle.tg_graph.proofs.Heaps.{content_after, either_way, heap_with, places_kept, well_formed_after, well_formed_same}
+use Rattle.tg_graph.proofs.heap.Heap.add_edge.Goals as goal
+
+pub invariant_of-self : goal.invariant_of-self
+invariant_of-self g c =
+    let s : HeapState = record { table = c.self.inside.cells.spaces; payloads = c.self.inside.cells.payloads; workers = c.self.inside.workers.items } in
+    let content = content_of s in
+    let new = c.add_edge.new.self in
+    let label = with_rights content.label (name_of s c.args.from) (name_of s c.args.to) c.rights.result in
+    either_way c.add_edge.result c.add_edge.ensures.added c.add_edge.ensures.refused
+    (λ added.
+        let to = subst (λ p. ChangesTo s.table new.spaces p (IsNamed content) label content.value) (sym c.add_edge.ensures.payloads) added in
+        well_formed_after s new.spaces new.payloads (IsNamed content) label content.value to c.self.invariant)
+    (λ same. well_formed_same s new.spaces new.payloads c.self.invariant same c.add_edge.ensures.payloads)
+
+pub returns-clause-added : goal.returns-clause-added
+returns-clause-added g c =
+    let s : HeapState = record { table = c.self.inside.cells.spaces; payloads = c.self.inside.cells.payloads; workers = c.self.inside.workers.items } in
+    let content = content_of s in
+    let new = c.add_edge.new.self in
+    let after = heap_with s new.spaces new.payloads in
+    let label = with_rights content.label (name_of s c.args.from) (name_of s c.args.to) c.rights.result in
+    let Added : HeapState → Type 0 = λ x. IsContent (content_of after) (IsNamed (content_of x)) (with_rights (content_of x).label (name_of x c.args.from) (name_of x c.args.to) c.args.label) (content_of x).value in
+    IfOk-weaker c.add_edge.result (λ _. ChangesTo s.table new.spaces s.payloads (IsNamed content) label content.value) (λ _. Added c.args.self.now)
+    (λ _ added.
+        let to = subst (λ p. ChangesTo s.table new.spaces p (IsNamed content) label content.value) (sym c.add_edge.ensures.payloads) added in
+        let here = subst (λ r. IsContent (content_of after) (IsNamed content) (with_rights content.label (name_of s c.args.from) (name_of s c.args.to) r) content.value) c.rights.ensures.same
+        (content_after s new.spaces new.payloads (IsNamed content) label content.value to) in
+        subst Added c.self.view_is here)
+    c.add_edge.ensures.added
+
+pub returns-clause-kept : goal.returns-clause-kept
+returns-clause-kept g c =
+    let s : HeapState = record { table = c.self.inside.cells.spaces; payloads = c.self.inside.cells.payloads; workers = c.self.inside.workers.items } in
+    let content = content_of s in
+    let new = c.add_edge.new.self in
+    let after = heap_with s new.spaces new.payloads in
+    let label = with_rights content.label (name_of s c.args.from) (name_of s c.args.to) c.rights.result in
+    IfOk-weaker c.add_edge.result (λ _. ChangesTo s.table new.spaces s.payloads (IsNamed content) label content.value) (λ _. KeepsPlaces c.args.self.now after)
+    (λ _ added.
+        let to = subst (λ p. ChangesTo s.table new.spaces p (IsNamed content) label content.value) (sym c.add_edge.ensures.payloads) added in
+        subst (λ (x : HeapState). KeepsPlaces x after) c.self.view_is (places_kept s new.spaces new.payloads (IsNamed content) label content.value to))
+    c.add_edge.ensures.added

@@ -1,0 +1,49 @@
+-- The places before the loop's are those to which their cells were copied, and the others are still the old ones.
+use Rattle.std.proofs.Common.{◌≡◌, ℕ, ◌<◌, ◌≤◌, ◌+◌, ◌-◌, List, ◌++◌, length, get_or, set, take, drop, map, sym, ap, subst, arith, ◌∙◌}
+use Rattle.std.proofs.lemmas.List.{append-nil, drop_all, get_or-append_right, get_or-drop, get_or_default, length-map, length-take-le, take_all}
+use Rattle.std.proofs.lemmas.List.Edits.{map_over_more}
+use Rattle.tg_word.specs.declared.Place.{Place}
+use Rattle.tg_word.specs.Word.{place_in}
+use Rattle.tg_space.specs.SpaceList.{Holds}
+use Rattle.tg_graph.specs.Kept.{copied_to}
+use Rattle.tg_graph.proofs.settle.follow.Goals as goal
+
+still_at : (f : Place → Place) (xs ys : List Place) (i : ℕ) (d : Place) → ys ≡ map f (take i xs) ++ drop i xs → i < length xs → get_or ys i d ≡ get_or xs i d
+still_at f xs ys i d is low =
+    let long : length (map f (take i xs)) ≡ i = length-map (take i xs) f ∙ length-take-le i xs (omega arith) in
+    let back : i + (i - i) ≡ i = omega arith in
+    ap (λ (zs : List Place). get_or zs i d) is
+    ∙ get_or-append_right (map f (take i xs)) (drop i xs) i i d long (omega arith)
+    ∙ get_or-drop i xs (i - i) d
+    ∙ ap (λ (k : ℕ). get_or xs k d) back
+
+pub flat-requires : goal.flat-requires
+flat-requires c =
+    let h = c.args.spaces.now.spaces in
+    let d : Place = record { space = 0; block = 0; cell = 0 } in
+    let same = still_at (copied_to h c.args.forward.now) c.args.places.now c.loop-place.places c.loop-place.place-index d c.loop-place.invariant c.loop-place-test.true in
+    subst (Holds h) (sym same) (c.requires.held c.loop-place.place-index d c.loop-place-test.true)
+
+pub loop-place-preserved : goal.loop-place-preserved
+loop-place-preserved c =
+    let h = c.args.spaces.now.spaces in
+    let forward = c.args.forward.now in
+    let d : Place = record { space = 0; block = 0; cell = 0 } in
+    let ys = c.loop-place.places in
+    let i = c.loop-place.place-index in
+    let x = get_or ys i d in
+    let low : i < length ys = omega arith in
+    let to : c.place_of.result ≡ copied_to h forward x = c.place_of.ensures ∙ ap (λ (n : ℕ). place_in (get_or forward n 0)) c.flat.ensures.flat in
+    ap (λ (place : Place). set ys i place) to
+    ∙ map_over_more (copied_to h forward) c.args.places.now ys i x c.loop-place-test.true c.loop-place.invariant (get_or_default ys i d x low)
+
+pub returns : goal.returns
+returns c =
+    let f = copied_to c.args.spaces.now.spaces c.args.forward.now in
+    let xs = c.args.places.now in
+    let i = c.loop-place.place-index in
+    let past : length xs ≤ i = c.loop-place-test.false in
+    c.loop-place.invariant
+    ∙ ap (λ (zs : List Place). map f zs ++ drop i xs) (take_all i xs past)
+    ∙ ap (λ (zs : List Place). map f xs ++ zs) (drop_all i xs past)
+    ∙ append-nil (map f xs)

@@ -1,0 +1,89 @@
+-- The reply to a served command, computed on the content of a heap, is that of the graph that it stands for.
+use Rattle.std.proofs.Common.{◌≡◌, ℕ, ◌<◌, List, None, Some, refl, sym, ap, ◌∙◌, get_or}
+use Rattle.std.proofs.lemmas.List.{get_or_default}
+use Rattle.std.specs.List.{All, Contains}
+use Rattle.tg_rights.specs.RightSet.{RightSet}
+use Rattle.tg_model.specs.declared.value.Value.{Value}
+use Rattle.std.specs.Prelude.{Option}
+use Rattle.tg_model.specs.declared.command.Command.{Command}
+use Rattle.tg_model.specs.declared.command.Command.TheVariants.{Take, Grant, Remove, Read, Write, List as Listing}
+use Rattle.tg_model.specs.declared.command.Deed.TheVariants.{Plain}
+use Rattle.tg_model.specs.declared.reply.Reply.{Reply}
+use Rattle.tg_model.specs.declared.reply.Reply.TheVariants.{Done, Denied}
+use Rattle.tg_model.specs.declared.reply.Denial.{Denial}
+use Rattle.tg_model.specs.Graph.{ProtectionGraph, IsSubject}
+use Rattle.tg_model.specs.Rules.{Permits, answer_of, denial_of, denied_or, reply_of, effect, step, unless_denied}
+use Rattle.tg_graph.specs.Content.{Content, IsNamed}
+use Rattle.tg_graph.specs.Standing.{StandsFor}
+use Rattle.tg_graph.proofs.StandingLaws.{answer_of-stands, denial_of-stands, StandsFor-denied, IsSameContent-self}
+use Rattle.tg_model.proofs.AllowedLaws.{permits-no_denial}
+use Rattle.tg_rules.specs.Effect.{IsReplyOn, OnlyLooks}
+use Rattle.tg_rules.specs.Verdict.{verdict_of}
+use Rattle.tg_rules.specs.declared.decision.Verdict.TheVariants as verdict
+
+-- a command that changes something is answered that it is done
+pub reply_of-done : (label : ℕ → ℕ → RightSet) (value : ℕ → Option Value) (n x : ℕ) (command : Command) → (OnlyLooks command → ⊥) → reply_of label value n x command ≡ Done
+reply_of-done label value n x (Take y z rights) changes = refl
+reply_of-done label value n x (Grant y z rights) changes = refl
+reply_of-done label value n x (Remove y rights) changes = refl
+reply_of-done label value n x (Read y) changes = absurd (changes tt)
+reply_of-done label value n x (Write y v) changes = refl
+reply_of-done label value n x Listing changes = absurd (changes tt)
+
+module _ (c : Content) (g : ProtectionGraph) (stands : StandsFor c g) (x : ℕ) (command : Command) (subject : IsSubject g x) (none : denial_of c.label x command ≡ None) where
+  -- all names are below the number of vertices ever made
+  below_made : All (λ name. name < g.made) c.names
+  below_made k d low = stands.made (get_or c.names k d) (k, low, get_or_default c.names k (get_or c.names k d) d low)
+
+  answered : answer_of g x (Plain command) ≡ reply_of c.label c.value g.made x command
+  answered = answer_of-stands c g stands x command subject ∙ ap (λ d. denied_or d (reply_of c.label c.value g.made x command)) none
+
+  pub reply-served : (reply : Reply) → IsReplyOn c x command reply → reply ≡ answer_of g x (Plain command)
+  reply-served reply is = is g.made below_made ∙ sym answered
+
+  pub permitted : Permits g.label x command
+  permitted = permits-no_denial g.label x command (sym (denial_of-stands c g stands x command subject) ∙ none)
+
+  pub done-served : (OnlyLooks command → ⊥) → Done ≡ answer_of g x (Plain command)
+  done-served changes = sym (answered ∙ reply_of-done c.label c.value g.made x command changes)
+
+-- ---- where a command is denied
+
+-- what was decided
+pub denial-verdict : (o : Option Denial) (denial : Denial) → verdict.Denied denial ≡ verdict_of o → o ≡ Some denial
+denial-verdict None denial e = absurd (cc e)
+denial-verdict (Some d) denial e = let same : denial ≡ d = cc e in ap Some (sym same)
+
+module _ (c : Content) (g : ProtectionGraph) (stands : StandsFor c g) (x : ℕ) (command : Command) (subject : IsSubject g x) (denial : Denial) (denied : denial_of c.label x command ≡ Some denial) where
+  pub reply-denied : Denied denial ≡ answer_of g x (Plain command)
+  reply-denied = sym (answer_of-stands c g stands x command subject ∙ ap (λ d. denied_or d (reply_of c.label c.value g.made x command)) denied)
+
+  pub step-denied_stands : StandsFor c (step g x (Plain command))
+  step-denied_stands = StandsFor-denied c c g stands x subject command denial denied (IsSameContent-self c)
+
+-- the reply to a command that is served is no denial
+not_denied : (label : ℕ → ℕ → RightSet) (value : ℕ → Option Value) (n x : ℕ) (command : Command) (denial : Denial) → Denied denial ≡ reply_of label value n x command → ⊥
+not_denied label value n x (Take y z rights) denial e = cc
+not_denied label value n x (Grant y z rights) denial e = cc
+not_denied label value n x (Remove y rights) denial e = cc
+not_denied label value n x (Read y) denial e = cc
+not_denied label value n x (Write y v) denial e = cc
+not_denied label value n x Listing denial e = cc
+
+from_denied : (o : Option Denial) (reply : Reply) (denial : Denial) → (Denied denial ≡ reply → ⊥) → Denied denial ≡ denied_or o reply → o ≡ Some denial
+from_denied None reply denial none e = absurd (none e)
+from_denied (Some d) reply denial none e = let same : denial ≡ d = cc e in ap Some (sym same)
+
+-- where a denial is answered, it is that of the content
+pub denial-answered : (c : Content) (g : ProtectionGraph) (x : ℕ) (command : Command) (denial : Denial) → StandsFor c g → IsSubject g x → Denied denial ≡ answer_of g x (Plain command) → denial_of c.label x command ≡ Some denial
+denial-answered c g x command denial stands subject e =
+    denial_of-stands c g stands x command subject
+    ∙ from_denied (denial_of g.label x command) (reply_of g.label g.value g.made x command) denial (not_denied g.label g.value g.made x command denial) e
+
+made_either : (o : Option Denial) (g : ProtectionGraph) (x : ℕ) (command : Command) → (unless_denied o g (effect g x command)).made ≡ g.made
+made_either None g x command = refl
+made_either (Some denial) g x command = refl
+
+-- a command makes no vertex
+pub made-plain : (g : ProtectionGraph) (x : ℕ) (command : Command) → (step g x (Plain command)).made ≡ g.made
+made-plain g x command = made_either (denial_of g.label x command) g x command

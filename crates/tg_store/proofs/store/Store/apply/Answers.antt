@@ -1,0 +1,126 @@
+-- What is decided and changed on the heap is the graph's, and exactly that is entered.
+use Rattle.std.proofs.Common.{◌≡◌, ◌<◌, ◌≤◌, ◌+◌, ◌∙◌, ◌++◌, ◌∷◌, [], Err, Ok, length, refl, sym, ap, subst, arith}
+use Rattle.std.proofs.lemmas.Result.{err_from_is_err_and}
+use Rattle.tg_model.specs.declared.command.Deed.TheVariants.{Plain}
+use Rattle.tg_model.specs.declared.reply.Reply.{Reply}
+use Rattle.tg_model.specs.declared.reply.Reply.TheVariants.{Denied}
+use Rattle.tg_model.specs.Graph.{ProtectionGraph, IsSubject}
+use Rattle.tg_model.specs.Rules.{Permits, answer_of}
+use Rattle.tg_graph.specs.Heap.{IsOutOfCells, content_of}
+use Rattle.tg_store.specs.declared.fault.ApplyFault.TheVariants.{NoSuchWorker, HeapFull}
+use Rattle.tg_store.specs.Store.{StoreState, Enters, IsUnchanged, OnlyEnters, StandsFor, graph_of_store}
+use Rattle.tg_store.proofs.AnswerLaws.{denial-answered, made-plain, permitted}
+use Rattle.tg_store.proofs.StandLaws.{IsStore-unchanged, IsStore-entered, StandsFor-entered, subject_here, no_subject}
+use Rattle.tg_store.proofs.store.Store.apply.Goals as goal
+
+pub returns-then-worker-workers-clause-no_such_worker : goal.returns-then-worker-workers-clause-no_such_worker
+returns-then-worker-workers-clause-no_such_worker g c =
+    let old : StoreState = record { opening = c.self.inside.opening; entries = c.self.inside.journal.entries; heap = c.self.inside.heap } in
+    let high : length old.heap.workers ≤ c.args.worker = omega arith in
+    λ graph stands.
+    let here : StandsFor old graph = ap graph_of_store c.self.view_is ∙ stands in
+    (λ _ subject. no_subject old c.self.invariant.faithful graph c.args.worker here high subject, λ _. refl)
+
+pub returns-in_err-reserve-clause-no_such_worker : goal.returns-in_err-reserve-clause-no_such_worker
+returns-in_err-reserve-clause-no_such_worker g c =
+    let old : StoreState = record { opening = c.self.inside.opening; entries = c.self.inside.journal.entries; heap = c.self.inside.heap } in
+    let below : c.args.worker < length old.heap.workers = omega arith in
+    let given = err_from_is_err_and c.from_residual.result c.from_residual.ensures.1 in
+    λ graph stands.
+    let here : StandsFor old graph = ap graph_of_store c.self.view_is ∙ stands in
+    (λ same _. let f : ⊥ = cc (same, given.1, given.2) in f, λ none. absurd (none (subject_here old c.self.invariant.faithful graph c.args.worker here below)))
+
+pub invariant_of-self-in_err-reply : goal.invariant_of-self-in_err-reply
+invariant_of-self-in_err-reply g c =
+    let old : StoreState = record { opening = c.self.inside.opening; entries = c.self.inside.journal.entries; heap = c.self.inside.heap } in
+    let new : StoreState = record { opening = c.self.inside.opening; entries = c.reserve.new.self.entries; heap = c.answer_command.new.heap } in
+    let unchanged : IsUnchanged old new = record { opening = refl; entries = c.reserve.ensures.entries; heap = c.in_err-reply.ensures.refused } in
+    IsStore-unchanged old new c.self.inside.made c.self.invariant unchanged
+
+pub returns-in_err-reply-clause-no_such_worker : goal.returns-in_err-reply-clause-no_such_worker
+returns-in_err-reply-clause-no_such_worker g c =
+    let old : StoreState = record { opening = c.self.inside.opening; entries = c.self.inside.journal.entries; heap = c.self.inside.heap } in
+    let below : c.args.worker < length old.heap.workers = omega arith in
+    let given = err_from_is_err_and c.from_residual-in_err-reply.result c.from_residual-in_err-reply.ensures.1 in
+    λ graph stands.
+    let here : StandsFor old graph = ap graph_of_store c.self.view_is ∙ stands in
+    (λ same _. c.in_err-reply.ensures.worker (cc (same, given.1, given.2)), λ none. absurd (none (subject_here old c.self.invariant.faithful graph c.args.worker here below)))
+
+pub returns-in_err-reply-clause-full : goal.returns-in_err-reply-clause-full
+returns-in_err-reply-clause-full g c =
+    let old : StoreState = record { opening = c.self.inside.opening; entries = c.self.inside.journal.entries; heap = c.self.inside.heap } in
+    let below : c.args.worker < length old.heap.workers = omega arith in
+    let given = err_from_is_err_and c.from_residual-in_err-reply.result c.from_residual-in_err-reply.ensures.1 in
+    λ graph stands same.
+    let here : StandsFor old graph = ap graph_of_store c.self.view_is ∙ stands in
+    let subject : IsSubject (graph_of_store old) c.args.worker = subject_here old c.self.invariant.faithful (graph_of_store old) c.args.worker refl below in
+    let full = c.in_err-reply.ensures.full (cc (same, given.1, given.2)) in
+    let allowed = permitted (content_of old.heap) (graph_of_store old) c.self.invariant.faithful.stands c.args.worker c.args.command subject full.0 in (
+      subst (λ (h : ProtectionGraph). Permits h.label c.args.worker c.args.command) here allowed,
+      full.1,
+      subst (λ (s : StoreState). IsOutOfCells s.heap.table (c.args.worker + 2) 1) c.self.view_is full.2,
+    )
+
+pub invariant_of-self-2 : goal.invariant_of-self-2
+invariant_of-self-2 g c =
+    let old : StoreState = record { opening = c.self.inside.opening; entries = c.self.inside.journal.entries; heap = c.self.inside.heap } in
+    let new : StoreState = record { opening = c.self.inside.opening; entries = c.push.new.self.entries; heap = c.answer_command.new.heap } in
+    let graph : ProtectionGraph = graph_of_store old in
+    let below : c.args.worker < length old.heap.workers = omega arith in
+    let subject : IsSubject graph c.args.worker = subject_here old c.self.invariant.faithful graph c.args.worker refl below in
+    let stands = c.self.invariant.faithful.stands in
+    let copy : Reply = c.in_ok-reply.field-0.copy in
+    let entry : Enters old new c.args.worker (Plain c.args.command) copy =
+    c.push.ensures.entries ∙ ap (λ es. es ++ (record { worker = c.args.worker; deed = Plain c.args.command; reply = copy }) ∷ []) c.reserve.ensures.entries in
+    IsStore-entered old new c.args.worker (Plain c.args.command) copy refl entry c.self.inside.made c.self.invariant.faithful subject tt
+    (c.in_ok-reply.ensures.copy ∙ c.in_ok-reply.ensures.reply graph stands subject)
+    (c.in_ok-reply.ensures.step graph stands subject)
+    (ap length c.answer_command.ensures.workers)
+    (c.self.invariant.is_made ∙ sym (made-plain graph c.args.worker c.args.command))
+
+pub returns-clause-reply : goal.returns-clause-reply
+returns-clause-reply g c =
+    let old : StoreState = record { opening = c.self.inside.opening; entries = c.self.inside.journal.entries; heap = c.self.inside.heap } in
+    let graph : ProtectionGraph = graph_of_store old in
+    let below : c.args.worker < length old.heap.workers = omega arith in
+    let subject : IsSubject graph c.args.worker = subject_here old c.self.invariant.faithful graph c.args.worker refl below in
+    λ other stands.
+    let here : StandsFor old other = ap graph_of_store c.self.view_is ∙ stands in
+    c.in_ok-reply.ensures.reply graph c.self.invariant.faithful.stands subject ∙ ap (λ h. answer_of h c.args.worker (Plain c.args.command)) here
+
+pub returns-clause-step : goal.returns-clause-step
+returns-clause-step g c =
+    let old : StoreState = record { opening = c.self.inside.opening; entries = c.self.inside.journal.entries; heap = c.self.inside.heap } in
+    let new : StoreState = record { opening = c.self.inside.opening; entries = c.push.new.self.entries; heap = c.answer_command.new.heap } in
+    let copy : Reply = c.in_ok-reply.field-0.copy in
+    let entry : Enters old new c.args.worker (Plain c.args.command) copy =
+    c.push.ensures.entries ∙ ap (λ es. es ++ (record { worker = c.args.worker; deed = Plain c.args.command; reply = copy }) ∷ []) c.reserve.ensures.entries in
+    λ other stands.
+    let here : StandsFor old other = ap graph_of_store c.self.view_is ∙ stands in
+    StandsFor-entered old new c.args.worker (Plain c.args.command) copy refl entry other here
+
+pub returns-clause-denied : goal.returns-clause-denied
+returns-clause-denied g c =
+    let old : StoreState = record { opening = c.self.inside.opening; entries = c.self.inside.journal.entries; heap = c.self.inside.heap } in
+    let new : StoreState = record { opening = c.self.inside.opening; entries = c.push.new.self.entries; heap = c.answer_command.new.heap } in
+    let graph : ProtectionGraph = graph_of_store old in
+    let below : c.args.worker < length old.heap.workers = omega arith in
+    let subject : IsSubject graph c.args.worker = subject_here old c.self.invariant.faithful graph c.args.worker refl below in
+    let stands = c.self.invariant.faithful.stands in
+    λ denial same.
+    let is : c.in_ok-reply.field-0.reply ≡ Denied denial = cc same in
+    let denied = denial-answered (content_of old.heap) graph c.args.worker c.args.command denial stands subject (sym is ∙ c.in_ok-reply.ensures.reply graph stands subject) in
+    let copy : c.in_ok-reply.field-0.copy ≡ Denied denial = c.in_ok-reply.ensures.copy ∙ is in
+    let entry : Enters old new c.args.worker (Plain c.args.command) (Denied denial) =
+    c.push.ensures.entries ∙ ap (λ es. es ++ (record { worker = c.args.worker; deed = Plain c.args.command; reply = c.in_ok-reply.field-0.copy }) ∷ []) c.reserve.ensures.entries
+    ∙ ap (λ (r : Reply). old.entries ++ (record { worker = c.args.worker; deed = Plain c.args.command; reply = r }) ∷ []) copy in
+    let only : OnlyEnters old new c.args.worker (Plain c.args.command) (Denied denial) = record { entry = entry; opening = refl; heap = c.answer_command.ensures.denied denial denied } in
+    subst (λ (s : StoreState). OnlyEnters s new c.args.worker (Plain c.args.command) (Denied denial)) c.self.view_is only
+
+pub returns-clause-no_such_worker : goal.returns-clause-no_such_worker
+returns-clause-no_such_worker g c =
+    let old : StoreState = record { opening = c.self.inside.opening; entries = c.self.inside.journal.entries; heap = c.self.inside.heap } in
+    let below : c.args.worker < length old.heap.workers = omega arith in
+    λ graph stands.
+    let here : StandsFor old graph = ap graph_of_store c.self.view_is ∙ stands in
+    (λ same _. let f : ⊥ = cc same in f, λ none. absurd (none (subject_here old c.self.invariant.faithful graph c.args.worker here below)))

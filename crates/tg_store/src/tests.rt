@@ -1,0 +1,306 @@
+//! Boxes in a store, through generic code.
+ghost use Rattle.std.specs.Prelude.{◌∷◌, []};
+ghost use Rattle.tg_model.specs.declared.law.Law.TheVariants.{Cell};
+
+use super::*;
+use std::alloc::{AllocError, Global};
+use std::sync::Arc;
+use std::sync::atomic::{AtomicU64, Ordering};
+use std::test::Fail;
+use tg_model::{Command, Law, Numbers, Opening, Reply, Value};
+use tg_payload::{CellPayload, Draft, LogPayload, Payload, PayloadBox, SumPayload};
+use tg_rights::{Label, Right, Rights};
+
+// A payload that counts its drops.
+struct CountingPayload {
+    number: u64,
+    drops: Arc<AtomicU64>,
+}
+
+impl Drop for CountingPayload {
+    fn drop(self) {
+        self.drops.fetch_add(1, Ordering::SeqCst);
+        let CountingPayload {
+            number: _,
+            drops: _,
+        } = self;
+    }
+}
+
+impl Payload for CountingPayload {
+    ghost value = { λ p. record { law = Cell; state = p.number ∷ [] } };
+
+    fn law(&self) -> Law {
+        Law::Cell
+    }
+
+    fn len(&self) -> usize {
+        1
+    }
+
+    fn at(&self, _i: usize) -> u64 {
+        self.number
+    }
+
+    fn write(&mut self, number: u64) -> Result<(), AllocError> {
+        self.number = number;
+        Ok(())
+    }
+}
+
+// A cell with the number.
+fn cell_of(alloc: Global, number: u64) -> Option<Value> {
+    let mut state = Vec::new(alloc);
+    state.push(number).ok()?;
+    Some(Value {
+        law: Law::Cell,
+        state: Numbers::from_vec(state),
+    })
+}
+
+// An opening of one worker, who stores a cell with the number.
+fn opening_of_one(alloc: Global, number: u64, max_vertices: u64) -> Option<Opening> {
+    let mut values = Vec::new(alloc);
+    values.push(cell_of(alloc, number)?).ok()?;
+    Opening::new(1, Vec::new(alloc), values, max_vertices).ok()
+}
+
+// Opens a store of one worker, who is to store a cell with 0.
+fn open_one<P: Payload>(
+    alloc: Global,
+    payload: P,
+    max_vertices: u64,
+) -> Option<Result<Store<P>, OpenRefused<P>>> {
+    let opening = opening_of_one(alloc, 0, max_vertices)?;
+    let mut drafts = Vec::new(alloc);
+    let draft = Draft::new(alloc, payload).ok()?;
+    drafts.push(draft).ok()?;
+    let limits = Limits::new(4, 4).ok()?;
+    Some(Store::open(alloc, opening, limits, drafts))
+}
+
+// Why the payload isn't taken for a cell with 0, and the first number of the draft that comes back.
+fn refused_draft<P: Payload>(alloc: Global, payload: P) -> Option<(OpenFault, u64)> {
+    match open_one(alloc, payload, 1)? {
+        Ok(_) => None,
+        Err(refused) => {
+            let OpenRefused { drafts, why, .. } = refused;
+            let state = drafts.first()?.value().state.as_slice().first()?;
+            Some((why, *state))
+        }
+    }
+}
+
+#[test]
+fn mismatched_draft(rt: HostRuntime) -> Result<(), Fail> {
+    let alloc = rt.alloc();
+    let cell: PayloadBox = Box::new(alloc, CellPayload::new(1))?;
+    let (why, number) = refused_draft(alloc, cell).ok_or("a store")?;
+    assert_eq!(rt; why, OpenFault::PayloadMismatch { at: 0 });
+    assert_eq!(rt; number, 1);
+    Ok(())
+}
+
+// Makes a vertex for each of the two payloads in a store with room for one. Answers why the second is refused, and how
+// many were dropped before its draft, before the store, and at the end.
+fn dropped_in_turn<P: Payload>(
+    alloc: Global,
+    workers: P,
+    first: P,
+    second: P,
+    drops: &AtomicU64,
+) -> Option<(CreateFault, u64, u64, u64)> {
+    let mut store = open_one(alloc, workers, 2)?.ok()?;
+    let label = Label::new(Rights::of(Right::R))?;
+    let first = Draft::new(alloc, first).ok()?;
+    let second = Draft::new(alloc, second).ok()?;
+    let _name = store.create(0, label, first).ok()?;
+    let CreateRefused { draft, why } = store.create(0, label, second).err()?;
+    let before = drops.load(Ordering::SeqCst);
+    drop(draft);
+    let between = drops.load(Ordering::SeqCst);
+    drop(store);
+    Some((why, before, between, drops.load(Ordering::SeqCst)))
+}
+
+#[test]
+fn two_counting_boxes(rt: HostRuntime) -> Result<(), Fail> {
+    let alloc = rt.alloc();
+    let drops = Arc::new(alloc, AtomicU64::new(0))?;
+    let first = CountingPayload {
+        number: 1,
+        drops: drops.clone()?,
+    };
+    let second = CountingPayload {
+        number: 2,
+        drops: drops.clone()?,
+    };
+    let workers: PayloadBox = Box::new(alloc, CellPayload::new(0))?;
+    let first: PayloadBox = Box::new(alloc, first)?;
+    let second: PayloadBox = Box::new(alloc, second)?;
+    let seen = dropped_in_turn(alloc, workers, first, second, &drops).ok_or("a refusal")?;
+    assert_eq!(rt; seen, (CreateFault::VerticesFull, 0, 1, 2));
+    Ok(())
+}
+
+// What is read of the payload in a store once the worker wrote two numbers to it.
+fn read_after<P: Payload>(
+    alloc: Global,
+    workers: P,
+    payload: P,
+    numbers: (u64, u64),
+) -> Option<Reply> {
+    let mut store = open_one(alloc, workers, 2)?.ok()?;
+    let label = Label::new(Rights::of(Right::R).union(Rights::of(Right::W)))?;
+    let draft = Draft::new(alloc, payload).ok()?;
+    let target = store.create(0, label, draft).ok()?;
+    let (first, second) = numbers;
+    let write = Command::Write {
+        target,
+        value: first,
+    };
+    let _done = store.apply(0, write).ok()?;
+    let write = Command::Write {
+        target,
+        value: second,
+    };
+    let _done = store.apply(0, write).ok()?;
+    store.apply(0, Command::Read { target }).ok()
+}
+
+#[test]
+fn log_and_sum_payloads(rt: HostRuntime) -> Result<(), Fail> {
+    let alloc = rt.alloc();
+    let workers: PayloadBox = Box::new(alloc, CellPayload::new(0))?;
+    let log: PayloadBox = Box::new(alloc, LogPayload::new(alloc, 4))?;
+    let read = read_after(alloc, workers, log, (1, 2)).ok_or("no reply")?;
+    assert_eq!(rt; numbers_of(&read).ok_or("no numbers")?, [1, 2].as_slice());
+    let workers: PayloadBox = Box::new(alloc, CellPayload::new(0))?;
+    let sum: PayloadBox = Box::new(alloc, SumPayload::new(0))?;
+    let read = read_after(alloc, workers, sum, (u64::MAX, 1)).ok_or("no reply")?;
+    assert_eq!(rt; numbers_of(&read).ok_or("no numbers")?, [0].as_slice());
+    Ok(())
+}
+
+// The numbers of the reply to a read.
+fn numbers_of(reply: &Reply) -> Option<&[u64]> {
+    match reply {
+        Reply::Values(state) => Some(state.as_slice()),
+        _ => None,
+    }
+}
+
+// A store of two workers, who store cells with 0, with four blocks in all and one in each space.
+fn open_two<P: Payload>(alloc: Global, first: P, second: P) -> Option<Store<P>> {
+    let mut values = Vec::new(alloc);
+    values.push(cell_of(alloc, 0)?).ok()?;
+    values.push(cell_of(alloc, 0)?).ok()?;
+    let opening = Opening::new(2, Vec::new(alloc), values, 1000).ok()?;
+    let mut drafts = Vec::new(alloc);
+    drafts.push(Draft::new(alloc, first).ok()?).ok()?;
+    drafts.push(Draft::new(alloc, second).ok()?).ok()?;
+    let limits = Limits::new(4, 1).ok()?;
+    Store::open(alloc, opening, limits, drafts).ok()
+}
+
+// Makes vertices for the payloads until one is refused. Answers the last name, why the next is refused, why a full
+// collection then is, and the census.
+fn filled<P: Payload>(
+    alloc: Global,
+    workers: (P, P),
+    payloads: Vec<P>,
+) -> Option<(u64, CreateFault, CollectFault, Census)> {
+    let (first, second) = workers;
+    let mut store = open_two(alloc, first, second)?;
+    let label = Label::new(Rights::of(Right::R))?;
+    let mut last = 1;
+    for payload in payloads {
+        let draft = Draft::new(alloc, payload).ok()?;
+        match store.create(0, label, draft) {
+            Ok(name) => last = name,
+            Err(refused) => {
+                let CreateRefused { draft: _, why } = refused;
+                let fault = store.collect(Kind::Full).err()?;
+                return Some((last, why, fault, store.census()));
+            }
+        }
+    }
+    None
+}
+
+#[test]
+fn one_block_a_space(rt: HostRuntime) -> Result<(), Fail> {
+    let alloc = rt.alloc();
+    let mut payloads = Vec::new(alloc);
+    for _ in 0..55 {
+        let cell: PayloadBox = Box::new(alloc, CellPayload::new(0))?;
+        payloads.push(cell)?;
+    }
+    let first: PayloadBox = Box::new(alloc, CellPayload::new(0))?;
+    let second: PayloadBox = Box::new(alloc, CellPayload::new(0))?;
+    let (last, why, fault, census) = filled(alloc, (first, second), payloads).ok_or("no refusal")?;
+    assert_eq!(rt; last, 55);
+    assert_eq!(rt; why, CreateFault::HeapFull);
+    assert_eq!(rt; fault, CollectFault::HeapFull);
+    let counts = Census {
+        vertices: 56,
+        payloads: 56,
+        blocks: 2,
+    };
+    assert_eq!(rt; census, counts);
+    Ok(())
+}
+
+// Makes a vertex for each of three payloads, lets each have an edge to the next in turn, and gives up all rights over
+// them. Answers how many were dropped before a full collection, what it answers, and how many were dropped then.
+fn dropped_by_a_collection<P: Payload>(
+    alloc: Global,
+    worker: P,
+    payloads: Vec<P>,
+    drops: &AtomicU64,
+) -> Option<(u64, u64, u64)> {
+    let mut store = open_one(alloc, worker, 4)?.ok()?;
+    let read = Label::new(Rights::of(Right::R))?;
+    let label = Label::new(Rights::of(Right::R).union(Rights::of(Right::G)))?;
+    for payload in payloads {
+        let draft = Draft::new(alloc, payload).ok()?;
+        let _name = store.create(0, label, draft).ok()?;
+    }
+    for via in 1..4 {
+        let grant = Command::Grant {
+            via,
+            target: via % 3 + 1,
+            rights: read,
+        };
+        let _done = store.apply(0, grant).ok()?;
+    }
+    for target in 1..4 {
+        let remove = Command::Remove {
+            target,
+            rights: label,
+        };
+        let _done = store.apply(0, remove).ok()?;
+    }
+    let before = drops.load(Ordering::SeqCst);
+    let left = store.collect(Kind::Full).ok()?;
+    Some((before, left, drops.load(Ordering::SeqCst)))
+}
+
+#[test]
+fn cycle_of_dead_boxes(rt: HostRuntime) -> Result<(), Fail> {
+    let alloc = rt.alloc();
+    let drops = Arc::new(alloc, AtomicU64::new(0))?;
+    let mut payloads = Vec::new(alloc);
+    for number in 0..3 {
+        let counting = CountingPayload {
+            number,
+            drops: drops.clone()?,
+        };
+        let counting: PayloadBox = Box::new(alloc, counting)?;
+        payloads.push(counting)?;
+    }
+    let worker: PayloadBox = Box::new(alloc, CellPayload::new(0))?;
+    let seen = dropped_by_a_collection(alloc, worker, payloads, &drops).ok_or("a refusal")?;
+    assert_eq!(rt; seen, (0, 1, 3));
+    Ok(())
+}
