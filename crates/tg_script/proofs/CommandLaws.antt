@@ -1,6 +1,6 @@
 -- The lines that are no edge lines, one after the other.
 use mathlib.Core.Bool.{false≢true}
-use Rattle.std.proofs.Common.{◌≡◌, inl, inr, ℕ, ◌+◌, false, List, [], ◌∷◌, ◌++◌, Option, Some, None, Err, refl, sym, ap, ◌∙◌, subst, append_assoc, append-nil}
+use Rattle.std.proofs.Common.{◌≡◌, inl, inr, ℕ, ◌+◌, false, List, [], ◌∷◌, ◌++◌, Option, Some, Err, refl, sym, ap, ◌∙◌, subst, append_assoc, append-nil}
 use Rattle.tg_script.specs.declared.line.Line.{Line}
 use Rattle.tg_script.specs.declared.line.Line.TheVariants as line
 use Rattle.tg_script.specs.declared.answer.Answer.{Answer}

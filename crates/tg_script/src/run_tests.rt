@@ -213,7 +213,14 @@ fn exact_fit_of_one_block(rt: HostRuntime) -> Result<(), Fail> {
     }
     script.push_str("full\n0 create rw\n0 write 110 5\n0 write 110 5\n0 read 110\n0 create r\n")?;
     written.push_str("ok 46\nok 110\nok\nok\nok 10\nrefused stock\n")?;
-    let ran = ran_in(alloc, 1, 1_000_000, limits_of(2)?, b"c109s", script.as_bytes())?;
+    let ran = ran_in(
+        alloc,
+        1,
+        1_000_000,
+        limits_of(2)?,
+        b"c109s",
+        script.as_bytes(),
+    )?;
     assert_eq!(rt; ran.written.as_slice(), written.as_bytes());
     assert_eq!(rt; ran.outcome, Ok(()));
     Ok(())
@@ -287,7 +294,14 @@ fn two_counting_boxes(rt: HostRuntime) -> Result<(), Fail> {
     let mut workers: Vec<PayloadBox> = Vec::new(alloc);
     workers.push(Box::new(alloc, CellPayload::new(0))?)?;
     let script = b"0 create rw\n0 create rw\n0 read 1\n";
-    let ran = run_with(alloc, 2, limits_of(4096)?, workers, stock, script.as_slice())?;
+    let ran = run_with(
+        alloc,
+        2,
+        limits_of(4096)?,
+        workers,
+        stock,
+        script.as_slice(),
+    )?;
     assert_eq!(rt;
         ran.written.as_slice(),
         b"ok 1\nrefused vertices\nok 1\n".as_slice()

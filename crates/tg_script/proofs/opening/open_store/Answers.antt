@@ -1,4 +1,4 @@
-use Rattle.std.proofs.Common.{ap, ◌∙◌, ℕ, List, arith, length}
+use Rattle.std.proofs.Common.{ap, ◌∙◌, List, arith, length}
 use Rattle.std.specs.Prelude.{slice_get}
 use Rattle.tg_model.specs.declared.value.Value.{Value}
 use Rattle.tg_model.specs.Opened.{Plan}

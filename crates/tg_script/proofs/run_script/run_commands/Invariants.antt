@@ -1,4 +1,4 @@
-use Rattle.std.proofs.Common.{◌≡◌, ◌+◌, ℕ, List, Option, Some, false}
+use Rattle.std.proofs.Common.{◌≡◌, ◌+◌, ℕ, List, Some, false}
 use Rattle.tg_script.specs.Opening.{IsCommand}
 use Rattle.tg_script.specs.Run.{Shows}
 use Rattle.tg_script.specs.Script.{Scene}

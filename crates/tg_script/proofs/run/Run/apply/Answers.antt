@@ -12,7 +12,7 @@ pub returns-in-Err : goal.returns-in-Err
 returns-in-Err g c =
     let new : Run _ = record { store = c.apply.new.self; supply = c.args.self.now.supply } in
     rw c.apply_refusal.ensures (
-      apply_refused c.args.self.now new c.args.worker c.args.command c.in-Err.fault c.in-Err.ensures.no_such_worker
-          (λ h stands is. let f = c.in-Err.ensures.full h stands is in (f.0, f.1))
-          c.in-Err.ensures.refused refl
+    apply_refused c.args.self.now new c.args.worker c.args.command c.in-Err.fault c.in-Err.ensures.no_such_worker
+    (λ h stands is. let f = c.in-Err.ensures.full h stands is in (f.0, f.1))
+    c.in-Err.ensures.refused refl
     )

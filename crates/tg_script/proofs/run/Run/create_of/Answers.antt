@@ -16,7 +16,7 @@ returns-in-Err g c =
     let left = values_left c.args.self.now.supply in
     rw c.create_answer.ensures
     (
-      create_refused c.args.self.now.store new c.args.worker c.args.label c.args.draft left c.in-Err.refused.why c.in-Err.ensures.no_such_worker c.in-Err.ensures.no_more
-          (λ h stands is. (c.in-Err.ensures.full h stands is).0)
-          c.in-Err.ensures.same_graph (c.put_back.ensures ∙ ap (λ v. v ∷ left) c.in-Err.ensures.handed_back)
+    create_refused c.args.self.now.store new c.args.worker c.args.label c.args.draft left c.in-Err.refused.why c.in-Err.ensures.no_such_worker c.in-Err.ensures.no_more
+    (λ h stands is. (c.in-Err.ensures.full h stands is).0)
+    c.in-Err.ensures.same_graph (c.put_back.ensures ∙ ap (λ v. v ∷ left) c.in-Err.ensures.handed_back)
     )
