@@ -26,6 +26,7 @@ use Rattle.tg_graph.specs.Content.{IsContent}
 use Rattle.tg_graph.specs.Standing.{Keeps}
 use Rattle.tg_graph.specs.Rows.{IsChain, IsVertexAt, chunks_from, key_at, link_at, name_at, name_in, names_in, object_named, references_of, rights_to, row_of, row_words}
 use Rattle.tg_graph.specs.Heap.{IsGraph, content_in}
+use Rattle.tg_graph.specs.Collected.{IsKept, IsKeptName, KeepsPayloads, collected, copy_place}
 use Rattle.tg_graph.proofs.Members.{Contains-flat_map, Contains-here, option_cases}
 use Rattle.tg_graph.proofs.Places.{cell_long, layout_at, links_apart, place_numbered}
 use Rattle.tg_graph.proofs.Layouts.{KindCases, is_free, is_object, is_chunk, is_bad, kind_cases, chunk_tagged, free_zero, link_some, object_tagged, references_at, references_of_chunk, references_of_object, same_link}
@@ -33,28 +34,6 @@ use Rattle.tg_graph.proofs.Lookups.{label_at, name_of_vertex, named_from_vertex,
 use Rattle.tg_graph.proofs.Kept.{Shows, ShowsRow, shown_content, shown_graph, words_of}
 use Rattle.tg_graph.proofs.Written.{first_range}
 use Rattle.tg_graph.proofs.Linked.{held_place}
-
--- the cell was copied
-abbrev pub IsKept : SpaceList → List ℕ → Place → Type 0
-IsKept h forward p = get_or forward (flat_of h p) 0 ≢ 0
-
--- the object with this name was copied
-abbrev pub IsKeptName : SpaceList → List ℕ → ℕ → Type 0
-IsKeptName h forward x = (p : Place) × IsVertexAt h x p × IsKept h forward p
-
--- where the copy of a cell is
-abbrev pub copy_place : SpaceList → List ℕ → Place → Place
-copy_place h forward p = new_place forward (flat_of h p)
-
--- the spaces after a full collection
-abbrev pub collected : SpaceList → BlockList → SpaceList
-collected h old = old ∷ replicate (length h - 1) []
-
--- the payloads of the objects that were copied, and no others
-pub record KeepsPayloads (h : SpaceList) (forward : List ℕ) (payloads new : Payloads) : Type 0 where
-  pub kept : (p : Place) → IsKindAt h Object p → IsKept h forward p → entry new (key_at h p) ≡ entry payloads (key_at h p)
-  pub dropped : (p : Place) → IsKindAt h Object p → get_or forward (flat_of h p) 0 ≡ 0 → entry new (key_at h p) ≡ None
-  pub unused : (key : ℕ) → entry payloads key ≡ None → entry new key ≡ None
 
 -- the references among words
 abbrev filter_some : List ℕ → List ℕ

@@ -1,9 +1,8 @@
 -- Rights given to a row and taken from it, in the words of the graph.
-use Rattle.std.proofs.Common.{◌≡◌, ◌≢◌, ℕ, ◌<◌, ◌≤◌, ◌⊎◌, ◌==◌, ◌&&◌, ◌||◌, inl, inr, Bool, true, false, cond, not, if◌then◌else◌, List, [], ◌∷◌, ◌++◌, get_or, Option, refl, sym, ap, subst, arith, ◌∙◌, ⊎_elim}
+use Rattle.std.proofs.Common.{◌≡◌, ◌≢◌, ℕ, ◌⊎◌, ◌==◌, ◌&&◌, ◌||◌, inl, inr, Bool, true, false, cond, not, if◌then◌else◌, List, [], ◌∷◌, ◌++◌, get_or, Option, refl, sym, ap, subst, ◌∙◌, ⊎_elim}
 use Rattle.std.specs.List.{All, Contains, IsDistinct}
 use Rattle.std.proofs.lemmas.Bool.{cases_Bool}
 use Rattle.std.proofs.lemmas.Bool.Decides.{eqb_tells}
-use Rattle.std.proofs.lemmas.List.{get_or_default}
 use Rattle.std.proofs.lemmas.List.Elements.{All-head}
 use Rattle.tg_rights.specs.RightSet.{RightSet, is_none_held, minus, no_rights, union}
 use Rattle.tg_model.specs.declared.value.Value.{Value}
@@ -12,16 +11,15 @@ use Rattle.tg_word.specs.declared.Place.{Place}
 use Rattle.tg_word.specs.Word.{IsPlace, link_to, place_in, rights_in, word_at}
 use Rattle.tg_word.proofs.Packing.{is_present-word_at, place_in-word_at, rights_in-word_at}
 use Rattle.tg_block.specs.declared.CellKind.TheVariants.{Free, Object}
-use Rattle.tg_space.specs.SpaceList.{SpaceList, IsSpaceList, Holds, cell_at, cells_of, with_cell_at, with_word_at}
-use Rattle.tg_space.specs.Soundness.{AreSound, IsKindAt, IsReference, RefersTo}
+use Rattle.tg_space.specs.SpaceList.{SpaceList, IsSpaceList, cell_at, with_cell_at, with_word_at}
+use Rattle.tg_space.specs.Soundness.{IsKindAt, IsReference, RefersTo}
 use Rattle.tg_payload.specs.Table.{Payloads}
-use Rattle.tg_graph.specs.Content.{Content, IsContent, IsNamed}
-use Rattle.tg_graph.specs.Rows.{IsVertexAt, chunks_from, link_at, name_at, name_in, names_in, rights_to, row_of, row_words}
+use Rattle.tg_graph.specs.Content.{IsContent, IsNamed}
+use Rattle.tg_graph.specs.Rows.{link_at, name_at, name_in, names_in, rights_to, row_of, row_words}
 use Rattle.tg_graph.specs.Heap.{IsGraph, content_in}
 use Rattle.tg_graph.proofs.Members.{All-left, All-right}
 use Rattle.tg_graph.proofs.Lookups.{label_at, label_is, value_is}
-use Rattle.tg_graph.proofs.Chains.{row_held, row_references}
-use Rattle.tg_graph.proofs.Layouts.{references_at}
+use Rattle.tg_graph.proofs.Chains.{row_references}
 use Rattle.tg_graph.proofs.Slots.{IsOther, rights_at, rights_none, taken_others}
 use Rattle.tg_graph.proofs.Kept.{Becomes, with_label, with_label-minus, with_label-union}
 use Rattle.tg_graph.proofs.Fresh.{chunk_words}
@@ -29,12 +27,6 @@ use Rattle.tg_graph.proofs.Linked.{chunk_added, held_place}
 use Rattle.tg_graph.proofs.Written.{IsSlot, slot_changed, slot_cleared, slot_filled, InRow, slot_in_row}
 
 -- ---- sets of rights
-
-union_none : (s : RightSet) → union no_rights s ≡ s
-union_none s = refl
-
-minus_none : (s : RightSet) → minus no_rights s ≡ no_rights
-minus_none s = refl
 
 -- a set with more rights has some
 union_some : (a b : RightSet) → is_none_held a ≡ false → is_none_held (union a b) ≡ false

@@ -28,7 +28,8 @@ use Rattle.tg_graph.proofs.Places.{cell_long}
 use Rattle.tg_graph.proofs.Layouts.{apart_kinds, link_some}
 use Rattle.tg_graph.proofs.Lookups.{label_at}
 use Rattle.tg_graph.proofs.Chains.{chain_chunks, row_references}
-use Rattle.tg_graph.proofs.Collected.{IsKept, IsKeptName, KeepsPayloads, collected, content_collected, copy_place, graph_collected, kept_closed, vertex_collected}
+use Rattle.tg_graph.specs.Collected.{IsKept, IsKeptName, KeepsPayloads, collected, copy_place, heap_collected}
+use Rattle.tg_graph.proofs.Collected.{content_collected, graph_collected, kept_closed, vertex_collected}
 
 -- ---- lists
 
@@ -265,14 +266,6 @@ module _ (h : SpaceList) (payloads : Payloads) (is : IsSpaceList h) (graph : IsG
         (vertex_collected h payloads is graph roots forward old full spaces new keeps x at.0 vertex (subst (IsKept h forward) same kept.2))
 
 -- ---- the heap after a full collection
-
--- the heap with these blocks in Old and nothing else
-abbrev pub heap_collected : HeapState → List ℕ → BlockList → Payloads → HeapState
-heap_collected s forward old new = record {
-  table = with_only_old s.table old;
-  payloads = new;
-  workers = map (copy_place s.table.spaces forward) s.workers;
-}
 
 module _ (s : HeapState) (is : IsSpaceList s.table.spaces) (well_formed : IsWellFormed s) (forward : List ℕ) (old : BlockList) (full : IsFullCollection s.table.spaces (roots_of s) forward old) (spaces : IsSpaceList (collected s.table.spaces old)) (new : Payloads)
     (keeps : KeepsPayloads s.table.spaces forward s.payloads new) where

@@ -2,3 +2,4 @@ pub mod Content
 pub mod Standing
 pub mod Rows
 pub mod Heap
+pub mod Collected

@@ -1,2 +1,4 @@
 //! The graph in the cells of a heap.
 #![tactic(auto)]
+
+pub mod collection_laws;
