@@ -1,3 +1,7 @@
+pub mod Walks
+pub mod Finding
+pub mod Listing
+pub mod Putting
 pub mod Members
 pub mod Places
 pub mod Layouts
@@ -11,4 +15,3 @@ pub mod Written
 pub mod Linked
 pub mod Collected
 pub mod Reaching
-pub mod Edges

@@ -48,12 +48,6 @@ record Replaces (old new : List ℕ) (was is : ℕ) : Type 0 where
   of_old : old ≡ before ++ was ∷ rest
   of_new : new ≡ before ++ is ∷ rest
 
--- a word among others
-pub record InRow (words : List ℕ) (word : ℕ) : Type 0 where
-  pub before : List ℕ
-  pub rest : List ℕ
-  pub is : words ≡ before ++ word ∷ rest
-
 -- one word from the first reference on is set
 module _ (words : List ℕ) (long : length words ≡ 8) (i word : ℕ) (low : first_pointer (get_or words 0 0) ≤ i) (high : i < 8) where
   abbrev first : ℕ
@@ -320,12 +314,6 @@ module _ (h : SpaceList) (payloads : Payloads) (is : IsSpaceList h) (graph : IsG
       replaced.of_new all (subst (λ (ws : List ℕ). Puts h ws (xs ++ word ∷ ys) name rights) (sym replaced.of_old) (puts xs ys replaced.of_old))
 
 module _ (h : SpaceList) (payloads : Payloads) (is : IsSpaceList h) (graph : IsGraph h payloads) (p q : Place) (i : ℕ) (object : IsKindAt h Object p) (has : Contains (row_of h p) q) (slot : IsSlot h q i) where
-  -- the word is one of the row's
-  pub slot_in_row : InRow (row_words h p) (get_or (cell_at h q) i 0)
-  slot_in_row =
-      let replaced = row_replaced h payloads is graph p q i 0 object has slot (inl refl) in
-      record { before = replaced.before; rest = replaced.rest; is = replaced.of_old }
-
   -- a reference isn't the empty word
   reference_some : (word : ℕ) → RefersTo h word → word ≢ 0
   reference_some word refers e = let no : false ≡ true = subst (λ (w : ℕ). is_present w ≡ true) e refers.present in absurd cc

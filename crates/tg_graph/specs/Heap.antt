@@ -6,11 +6,13 @@ use Rattle.tg_model.specs.declared.value.Value.{Value}
 use Rattle.tg_word.specs.declared.Place.{Place}
 use Rattle.tg_block.specs.declared.CellKind.TheVariants.{Object}
 use Rattle.tg_space.specs.SpaceList.{SpaceList, cells_of}
-use Rattle.tg_space.specs.SpaceTable.{SpaceTable}
+use Rattle.tg_space.specs.SpaceTable.{SpaceTable, IsFull}
+use Rattle.tg_nursery.specs.Allocation.{HasFewerLeft}
 use Rattle.tg_space.specs.Soundness.{AreSound, IsKindAt}
 use Rattle.tg_space.specs.declared.spaces.Root.{Root}
 use Rattle.tg_space.specs.declared.spaces.Root.TheVariants.{Row}
 use Rattle.tg_payload.specs.Table.{Payloads, entry}
+use Rattle.tg_graph.specs.declared.heap.Found.{Found}
 use Rattle.tg_graph.specs.Content.{Content}
 use Rattle.tg_graph.specs.Rows.{IsChain, IsVertexAt, chunks_from, key_at, link_at, name_at, names_in, object_named, objects_of, rights_to, row_words}
 
@@ -74,3 +76,28 @@ pub record IsUnchanged (old new : HeapState) : Type 0 where
   pub table : new.table ≡ old.table
   pub entries : new.payloads.entries ≡ old.payloads.entries
   pub workers : new.workers ≡ old.workers
+
+-- ---- what a call finds, and what it keeps
+
+-- the place names an object of the heap
+abbrev pub IsObject : HeapState → Place → Type 0
+IsObject s p = IsKindAt s.table.spaces Object p
+
+abbrev pub name_of : HeapState → Place → ℕ
+name_of s p = name_at s.table.spaces p
+
+-- the rights that were found, none where nothing was
+abbrev pub rights_found : Option Found → RightSet
+rights_found None = no_rights
+rights_found (Some found) = found.rights
+
+-- workers, limits and the places of vertices are as they were
+pub record KeepsPlaces (old new : HeapState) : Type 0 where
+  pub workers : new.workers ≡ old.workers
+  pub limits : new.table.limits ≡ old.table.limits
+  pub vertices : (x : ℕ) (p : Place) → IsVertexAt old.table.spaces x p → IsVertexAt new.table.spaces x p
+
+-- fewer cells of the nursery than this many are left, and it gets no more blocks
+pub record IsOutOfCells (t : SpaceTable) (space cells : ℕ) : Type 0 where
+  pub few_left : HasFewerLeft t space cells
+  pub full : IsFull t space

@@ -1,7 +1,7 @@
 -- What the cells of a heap say: which vertices there are, and the row of references of each.
 use Rattle.std.specs.Prelude.{◌≡◌, ◌≢◌, ℕ, zero, suc, ◌-◌, ◌&&◌, ◌==◌, not, Bool, if◌then◌else◌, List, [], ◌∷◌, Option, Some, None, length, take, drop, map, slice_index}
 use Rattle.std.specs.List.{filter, find, flat_map, range_with_len}
-use Rattle.tg_rights.specs.RightSet.{RightSet, no_rights}
+use Rattle.tg_rights.specs.RightSet.{RightSet, is_none_held, no_rights}
 use Rattle.tg_word.specs.declared.Place.{Place}
 use Rattle.tg_word.specs.Word.{place_in, rights_in}
 use Rattle.tg_block.specs.Cells.{object_tag}
@@ -84,3 +84,12 @@ names_in h words = map (name_in h) (filter (λ word. not (word == 0)) words)
 abbrev pub rights_to : SpaceList → ℕ → List ℕ → RightSet
 rights_to h name [] = no_rights
 rights_to h name (word ∷ words) = if not (word == 0) && (name_in h word == name) then rights_in word else rights_to h name words
+
+-- an object, whose row ends
+pub record IsRow (h : SpaceList) (p : Place) : Type 0 where
+  pub object : IsKindAt h Object p
+  pub ends : IsChain h (link_at h p) (chunks_from h (length (cells_of h)) (link_at h p))
+
+-- the edges that these references make, in their order: the name of each target with the rights
+abbrev pub edges_in : SpaceList → List ℕ → List (ℕ × RightSet)
+edges_in h words = map (λ word. (name_in h word, rights_in word)) (filter (λ word. not (is_none_held (rights_in word))) words)

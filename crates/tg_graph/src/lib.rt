@@ -1,4 +1,11 @@
 //! The graph in the cells of a heap.
 #![tactic(auto)]
 
+mod cells;
 pub mod collection_laws;
+mod heap;
+mod opening;
+mod references;
+mod rows;
+
+pub use heap::{Found, Heap, HeapRefused, VertexRefused};

@@ -1,5 +1,5 @@
 -- What an allocation does.
-use Rattle.std.specs.Prelude.{◌≡◌, ◌≤◌, ◌+◌, ◌*◌, ◌⊎◌, ℕ, nat_lt, if◌then◌else◌, length, slice_set}
+use Rattle.std.specs.Prelude.{◌≡◌, ◌≤◌, ◌+◌, ◌*◌, ◌⊎◌, ℕ, ◌<◌, nat_lt, if◌then◌else◌, length, slice_set}
 use Rattle.tg_word.specs.declared.Place.{Place}
 use Rattle.tg_block.specs.Cells.{free_cell}
 use Rattle.tg_space.specs.SpaceList.{Holds, cell_at, space_of, with_block}
@@ -29,3 +29,19 @@ pub record Allocates (old new : SpaceTable) (space : ℕ) (p : Place) : Type 0 w
   -- one more cell of this nursery is handed out
   pub counted : new.used ≡ slice_set old.used space (used_of old space + 1)
   pub limits : new.limits ≡ old.limits
+
+-- ---- room for several cells
+
+-- fewer cells of a nursery than this many are left
+abbrev pub HasFewerLeft : SpaceTable → ℕ → ℕ → Type 0
+HasFewerLeft t space cells = 64 * length (space_of t.spaces space) < used_of t space + cells
+
+-- so many cells of a nursery are left
+abbrev pub HasLeft : SpaceTable → ℕ → ℕ → Type 0
+HasLeft t space cells = used_of t space + cells ≤ 64 * length (space_of t.spaces space)
+
+-- the table with one more block in a nursery that has fewer cells left, and else as it is
+abbrev pub room_made_for : SpaceTable → ℕ → ℕ → SpaceTable
+room_made_for t space cells =
+    if nat_lt (64 * length (space_of t.spaces space)) (used_of t space + cells) then with_spaces t (with_block t.spaces space)
+    else t

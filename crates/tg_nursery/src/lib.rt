@@ -14,10 +14,10 @@
 //! left, and that a fresh cell was allocated.
 #![tactic(auto)]
 
-ghost use Rattle.std.specs.Prelude.{◌≡◌, ◌<◌, ◌≤◌, ◌+◌, ◌*◌, ◌↔◌, Err, IfOk, OnOk, OnErr, length};
+ghost use Rattle.std.specs.Prelude.{◌≡◌, ◌<◌, ◌≤◌, ◌+◌, ◌*◌, ◌↔◌, Err, IfOk, IsOk, OnOk, OnErr, length};
 ghost use Rattle.tg_space.specs.SpaceList.{space_of};
 ghost use Rattle.tg_space.specs.SpaceTable.{IsFull, place_in_space, used_of, with_one_used};
-ghost use Rattle.tg_nursery.specs.Allocation.{Allocates, IsUsedUp, room_made};
+ghost use Rattle.tg_nursery.specs.Allocation.{Allocates, HasFewerLeft, HasLeft, IsUsedUp, room_made, room_made_for};
 
 pub use tg_space::AllocateFault;
 use tg_space::Spaces;
@@ -43,6 +43,28 @@ pub fn allocate(spaces: &mut Spaces, worker: u64) -> Result<Place, AllocateFault
     let space = worker + 2;
     make_room(spaces, space)?;
     Ok(spaces.hand_out(space))
+}
+
+/// Makes room for so many cells in a worker's nursery, at most 64, which `Spaces::hand_out` then gives one by one.
+///
+/// The nursery gets one more block where it has fewer cells left, and nothing else changes. The refusals change
+/// nothing: `HeapFull` where a block is needed, and all spaces together have `max_blocks` or more or the nursery has
+/// `space_blocks`; `OutOfMemory` where memory for it was refused.
+pub fn reserve(spaces: &mut Spaces, worker: u64, cells: u64) -> Result<(), AllocateFault>
+    requires few { worker < 64 }
+    requires few_cells { cells ≤ 64 }
+    requires nursery { worker + 2 < length spaces.old.spaces }
+    ensures exact { OnOk result (spaces.new ≡ room_made_for spaces.old (worker + 2) cells) }
+    ensures room { OnOk result (HasLeft spaces.new (worker + 2) cells) }
+    ensures had_room { HasLeft spaces.old (worker + 2) cells → IsOk result }
+    ensures refused { OnErr result (spaces.new ≡ spaces.old) }
+    ensures full { (result ≡ Err AllocateFault.HeapFull) ↔ (HasFewerLeft spaces.old (worker + 2) cells × IsFull spaces.old (worker + 2)) }
+{
+    let nursery = worker + 2;
+    if spaces.used(nursery) + cells <= 64 * spaces.len(nursery) {
+        return Ok(());
+    }
+    spaces.add_block(nursery)
 }
 
 // Adds a block where every cell of the nursery was handed out.

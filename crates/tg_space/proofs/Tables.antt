@@ -5,11 +5,11 @@ use Rattle.std.proofs.lemmas.List.{get_or-set_same, get_or-set_other, length-set
 use Rattle.std.proofs.lemmas.List.Elements.{All-get_or}
 use Rattle.std.proofs.lemmas.Bool.{cases_eq, cases_lt}
 use Rattle.tg_word.specs.declared.Place.{Place}
-use Rattle.tg_block.specs.Cells.{IsBlock, free_cell, free_block, cell_of, with_word}
-use Rattle.tg_space.specs.SpaceList.{SpaceList, BlockList, IsSpace, IsSpaceList, Holds, space_of, block_of, cell_at, blocks_before, block_count, with_word_at, with_block, flat_of, cells_of}
+use Rattle.tg_block.specs.Cells.{IsBlock, free_cell, free_block, cell_of}
+use Rattle.tg_space.specs.SpaceList.{SpaceList, BlockList, IsSpace, IsSpaceList, Holds, space_of, block_of, cell_at, blocks_before, block_count, with_cell_at, with_word_at, with_block, flat_of, cells_of}
 use Rattle.tg_space.specs.SpaceTable.{SpaceTable, IsSpaceTable, IsPrefixCount, IsHandedOut, used_of, number_in_space, with_spaces}
 use Rattle.tg_space.proofs.Flat.{before_more, before_few, blocks_all, flat_inside, length-cells_of}
-use Rattle.tg_space.proofs.Writing.{kept_cell}
+use Rattle.tg_space.proofs.Writing.{other_cell}
 
 -- two lists of spaces with as many blocks in each space
 pub record SameShape (a b : SpaceList) : Type 0 where
@@ -50,28 +50,32 @@ block_whole h p is holds =
     let long : length (block_of h p.space p.block) ≡ 64 = (All-get_or IsBlock (space_of h p.space) p.block [] holds.block blocks).0 in
     omega (arith, holds.cell)
 
--- a write keeps the shape
-pub shape_written : (h : SpaceList) (p : Place) (i word : ℕ) → Holds h p → SameShape h (with_word_at h p i word)
-shape_written h p i word holds = record {
+-- a write of a cell keeps the shape
+pub shape_cell : (h : SpaceList) (p : Place) (words : List ℕ) → Holds h p → SameShape h (with_cell_at h p words)
+shape_cell h p words holds = record {
   long = length-set h p.space new_space;
   blocks = λ space. by_space space (cases_eq space p.space);
 }
   where
     new_space : BlockList
-    new_space = set (space_of h p.space) p.block (with_word (block_of h p.space p.block) p.cell i word)
+    new_space = set (space_of h p.space) p.block (set (block_of h p.space p.block) p.cell words)
 
     by_space : (space : ℕ) → (space ≡ p.space) ⊎ (space ≢ p.space) → length (space_of (set h p.space new_space) space) ≡ length (space_of h space)
     by_space space (inl same) =
         ap (λ (s : ℕ). length (space_of (set h p.space new_space) s)) same
         ∙ ap (λ (blocks : BlockList). length blocks) (get_or-set_same h p.space new_space [] holds.space)
-        ∙ length-set (space_of h p.space) p.block (with_word (block_of h p.space p.block) p.cell i word)
+        ∙ length-set (space_of h p.space) p.block (set (block_of h p.space p.block) p.cell words)
         ∙ ap (λ (s : ℕ). length (space_of h s)) (sym same)
     by_space space (inr other) = ap (λ (blocks : BlockList). length blocks) (get_or-set_other h p.space space new_space [] other)
 
+-- and so does one of a word
+pub shape_written : (h : SpaceList) (p : Place) (i word : ℕ) → Holds h p → SameShape h (with_word_at h p i word)
+shape_written h p i word = shape_cell h p (set (cell_at h p) i word)
+
 -- a write to a cell that was handed out keeps a table of spaces
-pub table_written : (t : SpaceTable) (p : Place) (i word : ℕ) → IsSpaceTable t → Holds t.spaces p → IsHandedOut t p → All IsSpace (with_word_at t.spaces p i word) → IsSpaceTable (with_spaces t (with_word_at t.spaces p i word))
-table_written t p i word is holds handed whole =
-    let shape = shape_written t.spaces p i word holds in
+pub table_cell : (t : SpaceTable) (p : Place) (words : List ℕ) → IsSpaceTable t → Holds t.spaces p → IsHandedOut t p → All IsSpace (with_cell_at t.spaces p words) → IsSpaceTable (with_spaces t (with_cell_at t.spaces p words))
+table_cell t p words is holds handed whole =
+    let shape = shape_cell t.spaces p words holds in
     record {
       enough = omega (arith, shape.long, is.enough);
       few = omega (arith, shape.long, is.few);
@@ -79,12 +83,15 @@ table_written t p i word is holds handed whole =
       counted = is.counted ∙ sym shape.long;
       within = λ space inside. omega (arith, shape.blocks space, is.within space (omega (arith, shape.long)));
       fresh = λ q held young unused.
-          let before = same_holds t.spaces (with_word_at t.spaces p i word) shape q held in
+          let before = same_holds t.spaces (with_cell_at t.spaces p words) shape q held in
           let apart : q ≢ p = λ same.
           let used_q : number_in_space q < used_of t q.space = subst (λ (r : Place). number_in_space r < used_of t r.space) (sym same) (handed (subst (λ (r : Place). 2 ≤ r.space) same young)) in
           omega arith in
-          kept_cell t.spaces p i word holds q apart ∙ is.fresh q before young unused;
+          other_cell t.spaces p words holds q apart ∙ is.fresh q before young unused;
     }
+
+pub table_written : (t : SpaceTable) (p : Place) (i word : ℕ) → IsSpaceTable t → Holds t.spaces p → IsHandedOut t p → All IsSpace (with_word_at t.spaces p i word) → IsSpaceTable (with_spaces t (with_word_at t.spaces p i word))
+table_written t p i word = table_cell t p (set (cell_at t.spaces p) i word)
 
 pub table_list : (t : SpaceTable) → IsSpaceTable t → IsSpaceList t.spaces
 table_list t is = record { few = is.few; spaces = is.blocks }

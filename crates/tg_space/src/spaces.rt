@@ -1,7 +1,8 @@
 //! All spaces of a heap.
 ghost use Rattle.std.specs.Prelude.{◌≡◌, ◌<◌, ◌≤◌, ◌+◌, ◌*◌, ◌^◌, ◌∷◌, ◌↔◌, ℕ, [], length, replicate, slice_index, slice_index_or, slice_set, Err, IfOk, OnOk, OnErr, IsOk, IsTrue};
 ghost use Rattle.tg_block.specs.Cells.{free_cell, cell_of};
-ghost use Rattle.tg_space.specs.SpaceList.{Holds, IsSpace, IsSpaceList, block_count, blocks_before, cell_at, cells_of, flat_of, space_of, with_block, with_word_at};
+ghost use Rattle.tg_word.specs.Word.{IsPlace};
+ghost use Rattle.tg_space.specs.SpaceList.{Holds, IsSpace, IsSpaceList, block_count, blocks_before, cell_at, cells_of, flat_of, space_of, with_block, with_cell_at, with_word_at};
 ghost use Rattle.tg_space.specs.Targets.{first_pointer as first_pointer_of};
 ghost use Rattle.tg_space.specs.SpaceTable.{BlockLimits, IsFull, IsHandedOut, IsNursery, IsPrefixCount, IsSpaceTable, no_blocks, place_in_space, used_of, with_one_used, with_only_old, with_spaces};
 
@@ -165,6 +166,17 @@ impl Spaces {
         space.set_word(place.block, place.cell, i, word);
     }
 
+    /// Sets all words of a cell. Where the cell is in a nursery, it was handed out.
+    #[inline]
+    pub fn write_cell(&mut self, place: Place, words: [u64; WORDS])
+        requires held { Holds self.old.spaces place }
+        requires handed_out { IsHandedOut self.old place }
+        ensures { self.new ≡ with_spaces self.old (with_cell_at self.old.spaces place words) }
+    {
+        let space = &mut self.spaces[place.space as usize];
+        space.set_cell(place.block, place.cell, words);
+    }
+
     /// The words of a cell.
     #[inline]
     pub fn cell(&self, place: Place) -> [u64; WORDS]
@@ -172,6 +184,7 @@ impl Spaces {
         ensures words { result ≡ cell_at self.now.spaces place }
         ensures numbered { result ≡ slice_index_or (cells_of self.now.spaces) (flat_of self.now.spaces place) [] }
         ensures whole { length result ≡ 8 }
+        ensures table { IsSpaceTable self.now }
     {
         self.spaces[place.space as usize].cell(place.block, place.cell)
     }
@@ -233,6 +246,8 @@ impl Spaces {
         ensures held { Holds self.old.spaces result }
         ensures free { cell_at self.old.spaces result ≡ free_cell }
         ensures counted { self.new ≡ with_one_used self.old space }
+        ensures handed_out { IsHandedOut self.new result }
+        ensures in_range { IsPlace result }
     {
         let used = self.used[space as usize];
         self.used[space as usize] = used + 1;

@@ -1,7 +1,7 @@
 //! Packing a slot into a word, and reading a word.
 ghost use Rattle.std.specs.Prelude.{◌≡◌, ◌<◌, ◌^◌, ◌/◌, ◌%◌, ◌↔◌, ℕ, None, Some, IfSome};
 ghost use Rattle.tg_rights.specs.RightSet.{RightSet};
-ghost use Rattle.tg_word.specs.Word.{IsInRange, IsOffLayout, IsPlace, field_of, word_of, word_at, slot_of, place_in};
+ghost use Rattle.tg_word.specs.Word.{IsInRange, IsOffLayout, IsPlace, field_of, word_of, word_at, slot_of, place_in, rights_in};
 
 use crate::{
     BLOCK_AT, BLOCK_WIDTH, CELL_AT, CELL_WIDTH, PRESENT_AT, Place, RIGHTS_WIDTH, SPACE_AT,
@@ -60,6 +60,16 @@ pub fn place_of(word: u64) -> Place
         block: field(word, BLOCK_AT, BLOCK_WIDTH),
         cell: field(word, CELL_AT, CELL_WIDTH),
     }
+}
+
+/// The rights in a word that is known to hold a reference; none in the empty word.
+///
+/// It looks at no other bits.
+#[inline]
+pub fn rights_of(word: u64) -> Rights
+    ensures { result ≡ rights_in word }
+{
+    Rights::from_bits(field(word, 0, RIGHTS_WIDTH) as u8).unwrap()
 }
 
 // The field of a word that begins at a bit.

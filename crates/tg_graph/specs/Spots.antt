@@ -1,0 +1,101 @@
+-- Where the reference to a name stands in a row, or where it may be put.
+use Rattle.std.specs.Prelude.{◌≡◌, ℕ, ◌+◌, ◌<◌, ◌&&◌, if◌then◌else◌, ◌==◌, not, Bool, List, [], ◌∷◌, Option, Some, None, length, option_map, position, slice_get, slice_index}
+use Rattle.std.specs.Option.{option_or}
+use Rattle.tg_rights.specs.RightSet.{RightSet, is_none_held, minus, union}
+use Rattle.tg_word.specs.declared.Place.{Place}
+use Rattle.tg_word.specs.Word.{IsPlace, link_to, place_in, rights_in, word_at}
+use Rattle.tg_block.specs.Cells.{chunk_tag}
+use Rattle.tg_space.specs.SpaceList.{SpaceList, Holds, cell_at, with_cell_at, with_word_at}
+use Rattle.tg_space.specs.SpaceTable.{SpaceTable, IsHandedOut, place_in_space, used_of, with_one_used, with_spaces}
+use Rattle.tg_nursery.specs.Allocation.{HasLeft}
+use Rattle.tg_space.specs.Targets.{first_pointer}
+use Rattle.tg_graph.specs.Rows.{name_in, references_of, row_of}
+use Rattle.tg_graph.specs.declared.rows.Spot.{Spot}
+use Rattle.tg_graph.specs.declared.rows.Spot.TheVariants.{Reference, Empty, Full}
+
+-- the word is a reference to the vertex with this name
+abbrev pub refers_to : SpaceList → ℕ → ℕ → Bool
+refers_to h name word = not (word == 0) && (name_in h word == name)
+
+abbrev pub is_empty : ℕ → Bool
+is_empty word = word == 0
+
+-- a reference of a cell by its number, as the place of a word
+abbrev pub word_of_cell : SpaceList → Place → ℕ → Place × ℕ
+word_of_cell h q k = (q, first_pointer (slice_index (cell_at h q) 0) + k)
+
+-- the first reference of a cell that passes the test
+abbrev pub word_in_cell : (ℕ → Bool) → SpaceList → Place → Option (Place × ℕ)
+word_in_cell test h q = option_map (word_of_cell h q) (position test (references_of (cell_at h q)))
+
+-- the first reference of these cells that passes the test
+abbrev pub word_where : (ℕ → Bool) → SpaceList → List Place → Option (Place × ℕ)
+word_where test h [] = None
+word_where test h (q ∷ qs) = option_or (word_in_cell test h q) (word_where test h qs)
+
+-- the last of these cells
+abbrev pub last_of : Place → List Place → Place
+last_of p [] = p
+last_of p (q ∷ qs) = last_of q qs
+
+-- Of a row, the reference to the name; or else its first empty place; or else its last cell.
+abbrev pub IsSpotIn : SpaceList → ℕ → Place → List Place → Spot → Type 0
+IsSpotIn h name p qs (Reference cell index) = word_where (refers_to h name) h (p ∷ qs) ≡ Some (cell, index)
+IsSpotIn h name p qs (Empty cell index) =
+    (word_where (refers_to h name) h (p ∷ qs) ≡ None) × (word_where is_empty h (p ∷ qs) ≡ Some (cell, index))
+IsSpotIn h name p qs (Full last) =
+    (word_where (refers_to h name) h (p ∷ qs) ≡ None) × (word_where is_empty h (p ∷ qs) ≡ None) × (last_of p qs ≡ last)
+
+-- the empty place, if there is one, or else the last cell
+abbrev pub spot_for_new : Option (Place × ℕ) → Place → Spot
+spot_for_new None last = Full last
+spot_for_new (Some e) last = Empty e.0 e.1
+
+-- ---- what is written
+
+-- how many cells a new reference takes
+abbrev pub cells_for : Spot → ℕ
+cells_for (Reference cell index) = 0
+cells_for (Empty cell index) = 0
+cells_for (Full last) = 1
+
+-- a chunk with one reference
+abbrev pub chunk_words : ℕ → List ℕ
+chunk_words word = chunk_tag ∷ word ∷ 0 ∷ 0 ∷ 0 ∷ 0 ∷ 0 ∷ 0 ∷ []
+
+-- a word written
+abbrev pub word_put : SpaceTable → Place → ℕ → ℕ → SpaceTable
+word_put t cell index word = with_spaces t (with_word_at t.spaces cell index word)
+
+-- the reference with more rights, and with fewer: the empty word where none is left
+abbrev pub widened : ℕ → RightSet → ℕ
+widened word rights = word_at (union (rights_in word) rights) (place_in word)
+
+abbrev pub narrowed : ℕ → RightSet → ℕ
+narrowed word rights =
+    if is_none_held (minus (rights_in word) rights) then 0 else word_at (minus (rights_in word) rights) (place_in word)
+
+-- the next cell of a nursery is a chunk with this reference, to which the last cell of a row links
+abbrev pub chunk_put : SpaceTable → ℕ → Place → ℕ → SpaceTable
+chunk_put t space last word =
+    let chunk = place_in_space space (used_of t space) in
+    with_spaces (with_one_used t space) (with_word_at (with_cell_at t.spaces chunk (chunk_words word)) last 7 (link_to chunk))
+
+-- The table once rights over the object at a place were put where they go: the reference gets them too, or else the
+-- empty place gets a reference with them, or else a new chunk from this nursery.
+abbrev pub table_put : SpaceTable → ℕ → Spot → RightSet → Place → SpaceTable
+table_put t space (Reference cell index) rights to = word_put t cell index (widened (slice_index (cell_at t.spaces cell) index) rights)
+table_put t space (Empty cell index) rights to = word_put t cell index (word_at rights to)
+table_put t space (Full last) rights to = chunk_put t space last (word_at rights to)
+
+-- a word of a cell may be written
+pub record CanWrite (t : SpaceTable) (cell : Place) (index : ℕ) : Type 0 where
+  pub held : Holds t.spaces cell
+  pub inside : index < 8
+  pub handed_out : IsHandedOut t cell
+
+-- rights may be put where they go
+abbrev pub CanPut : SpaceTable → ℕ → Spot → Type 0
+CanPut t space (Reference cell index) = CanWrite t cell index × IsPlace (place_in (slice_index (cell_at t.spaces cell) index))
+CanPut t space (Empty cell index) = CanWrite t cell index
+CanPut t space (Full last) = CanWrite t last 7 × HasLeft t space 1

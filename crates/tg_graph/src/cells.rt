@@ -1,0 +1,221 @@
+//! The graph in the cells: what one change writes.
+ghost use Rattle.std.specs.Prelude.{◌≡◌, ◌+◌, ◌<◌, ◌≤◌, ◌⊎◌, ℕ, false, length, slice_index, slice_set, Err, IfErr, IfOk, IfSome, IsOk, OnErr, OnOk};
+ghost use Rattle.std.specs.List.{All};
+ghost use Rattle.tg_rights.specs.RightSet.{is_none_held};
+ghost use Rattle.tg_word.specs.Word.{place_in, rights_in};
+ghost use Rattle.tg_model.specs.Graph.{listing_of, with_rights, without_rights};
+ghost use Rattle.tg_model.specs.Rules.{state_of, with_value, written_at};
+ghost use Rattle.tg_block.specs.declared.CellKind.TheVariants.{Object};
+ghost use Rattle.tg_space.specs.SpaceList.{Holds, cell_at, space_of};
+ghost use Rattle.tg_space.specs.SpaceTable.{IsFull, used_of};
+ghost use Rattle.tg_space.specs.Soundness.{IsKindAt};
+ghost use Rattle.tg_nursery.specs.Allocation.{HasFewerLeft, HasLeft, room_made_for};
+ghost use Rattle.tg_graph.specs.Content.{IsNamed};
+ghost use Rattle.tg_graph.specs.Heap.{IsGraph, IsOutOfCells, content_in, rights_found};
+ghost use Rattle.tg_graph.specs.Rows.{IsVertexAt, name_at};
+ghost use Rattle.tg_graph.specs.Steps.{ChangesTo, KeepsRows};
+
+use crate::heap::{Found, VertexRefused};
+use crate::references::{narrow, put};
+use crate::rows::{NAME, Spot, edges_of, find_spot};
+use std::alloc::{AllocError, Global};
+use tg_block::OBJECT_TAG;
+use tg_model::{EdgeList, Numbers};
+use tg_nursery::{AllocateFault, reserve};
+use tg_payload::{Draft, Payload, PayloadTable};
+use tg_rights::Rights;
+use tg_space::Spaces;
+use tg_word::{Place, place_of, rights_of};
+
+/// The word of an object that is the key of its payload.
+const KEY: usize = 2;
+
+/// The cells of all spaces, and what the objects among them store.
+#[derive(Drop)]
+pub(crate) struct Cells<P: Payload> {
+    pub(crate) alloc: Global,
+    pub(crate) spaces: Spaces,
+    pub(crate) payloads: PayloadTable<P>,
+}
+
+impl<P: Payload> Cells<P> {
+    /// The reference in the row of an object to the vertex with a name.
+    pub(crate) fn find_edge(&self, from: Place, name: u64) -> Option<Found>
+        requires graph { IsGraph self.now.spaces.spaces self.now.payloads }
+        requires from { IsKindAt self.now.spaces.spaces Object from }
+        ensures rights { rights_found result ≡ (content_in self.now.spaces.spaces self.now.payloads).label (name_at self.now.spaces.spaces from) name }
+        ensures some { IfSome result (λ found. is_none_held found.rights ≡ false) }
+        ensures place { IfSome result (λ found. IsVertexAt self.now.spaces.spaces name found.place) }
+    {
+        match find_spot(&self.spaces, from, name) {
+            Spot::Reference { cell, index } => Some(self.found_at(cell, index)),
+            _ => None,
+        }
+    }
+
+    // What a reference says.
+    fn found_at(&self, cell: Place, index: usize) -> Found
+        requires held { Holds self.now.spaces.spaces cell }
+        requires inside { index < 8 }
+        ensures { let word = slice_index (cell_at self.now.spaces.spaces cell) index in result ≡ record { place = place_in word; rights = rights_in word } }
+    {
+        let word = self.spaces.read(cell, index);
+        Found {
+            place: place_of(word),
+            rights: rights_of(word),
+        }
+    }
+
+    /// The edges of an object, by rising name of the target.
+    pub(crate) fn row(&self, from: Place) -> Result<EdgeList, AllocError>
+        requires graph { IsGraph self.now.spaces.spaces self.now.payloads }
+        requires from { IsKindAt self.now.spaces.spaces Object from }
+        ensures { let content = content_in self.now.spaces.spaces self.now.payloads in
+            IfOk result (λ edges. (n : ℕ) → All (λ x. x < n) content.names → edges ≡ listing_of content.label n (name_at self.now.spaces.spaces from)) }
+    {
+        let mut edges = edges_of(self.alloc, &self.spaces, from)?;
+        edges.sort_unstable_by_key(|edge| edge.0);
+        Ok(EdgeList::from_vec(edges))
+    }
+
+    /// The state that an object stores.
+    pub(crate) fn state(&self, at: Place) -> Result<Numbers, AllocError>
+        requires graph { IsGraph self.now.spaces.spaces self.now.payloads }
+        requires at { IsKindAt self.now.spaces.spaces Object at }
+        ensures { IfOk result (λ state. state ≡ state_of ((content_in self.now.spaces.spaces self.now.payloads).value (name_at self.now.spaces.spaces at))) }
+    {
+        let cell = self.spaces.cell(at);
+        self.payloads.read(cell[KEY])
+    }
+
+    /// Writes a number to what an object stores. Where it is refused, nothing is changed.
+    pub(crate) fn write(&mut self, at: Place, number: u64) -> Result<(), AllocError>
+        requires graph { IsGraph self.old.spaces.spaces self.old.payloads }
+        requires at { IsKindAt self.old.spaces.spaces Object at }
+        ensures written { let content = content_in self.old.spaces.spaces self.old.payloads in
+            OnOk result (ChangesTo self.old.spaces self.new.spaces self.new.payloads (IsNamed content) content.label (written_at content.value (name_at self.old.spaces.spaces at) number)) }
+        ensures spaces { self.new.spaces ≡ self.old.spaces }
+        ensures refused { OnErr result (self.new.payloads ≡ self.old.payloads) }
+    {
+        let cell = self.spaces.cell(at);
+        self.payloads.write(cell[KEY], number)
+    }
+
+    /// Gives one object rights over another. Growth comes first: where it is refused, nothing is changed.
+    pub(crate) fn add_edge(
+        &mut self,
+        worker: u64,
+        from: Place,
+        to: Place,
+        rights: Rights,
+    ) -> Result<(), AllocateFault>
+        requires worker { worker + 2 < length self.old.spaces.spaces }
+        requires graph { IsGraph self.old.spaces.spaces self.old.payloads }
+        requires from { IsKindAt self.old.spaces.spaces Object from }
+        requires to { IsKindAt self.old.spaces.spaces Object to }
+        requires some { is_none_held rights ≡ false }
+        ensures added { let content = content_in self.old.spaces.spaces self.old.payloads in
+            OnOk result (ChangesTo self.old.spaces self.new.spaces self.old.payloads (IsNamed content)
+            (with_rights content.label (name_at self.old.spaces.spaces from) (name_at self.old.spaces.spaces to) rights) content.value) }
+        ensures payloads { self.new.payloads ≡ self.old.payloads }
+        ensures refused { OnErr result (self.new.spaces ≡ self.old.spaces) }
+        ensures full { result ≡ Err AllocateFault.HeapFull → IsOutOfCells self.old.spaces (worker + 2) 1 }
+        ensures had_room { HasLeft self.old.spaces (worker + 2) 1 → IsOk result }
+    {
+        let name = self.spaces.read(to, NAME);
+        let spot = find_spot(&self.spaces, from, name);
+        reserve(&mut self.spaces, worker, spot.cells())?;
+        put(&mut self.spaces, worker, spot, to, rights);
+        Ok(())
+    }
+
+    /// Takes rights over a vertex from an object. A reference that has none left becomes the empty word.
+    pub(crate) fn drop_rights(&mut self, from: Place, name: u64, rights: Rights)
+        requires graph { IsGraph self.old.spaces.spaces self.old.payloads }
+        requires from { IsKindAt self.old.spaces.spaces Object from }
+        ensures dropped { let content = content_in self.old.spaces.spaces self.old.payloads in
+            ChangesTo self.old.spaces self.new.spaces self.old.payloads (IsNamed content)
+            (without_rights content.label (name_at self.old.spaces.spaces from) name rights) content.value }
+        ensures payloads { self.new.payloads ≡ self.old.payloads }
+    {
+        if let Spot::Reference { cell, index } = find_spot(&self.spaces, from, name) {
+            narrow(&mut self.spaces, cell, index, rights);
+        }
+    }
+
+    /// Makes an object with a name that none has, and gives another one rights over it. Growth comes first, that of the
+    /// spaces last: where it is refused, there may be room for one more payload, and else nothing is changed.
+    pub(crate) fn new_vertex(
+        &mut self,
+        worker: u64,
+        from: Place,
+        name: u64,
+        rights: Rights,
+        draft: Draft<P>,
+    ) -> Result<(), VertexRefused<P>>
+        requires worker { worker + 2 < length self.old.spaces.spaces }
+        requires graph { IsGraph self.old.spaces.spaces self.old.payloads }
+        requires from { IsKindAt self.old.spaces.spaces Object from }
+        requires some { is_none_held rights ≡ false }
+        requires fresh { ¬ IsNamed (content_in self.old.spaces.spaces self.old.payloads) name }
+        ensures made { let content = content_in self.old.spaces.spaces self.old.payloads in
+            OnOk result (ChangesTo self.old.spaces self.new.spaces self.new.payloads (λ x. IsNamed content x ⊎ (x ≡ name))
+            (with_rights content.label (name_at self.old.spaces.spaces from) name rights) (with_value content.value name draft)) }
+        ensures handed_back { IfErr result (λ refused. refused.draft ≡ draft) }
+        ensures spaces { OnErr result (self.new.spaces ≡ self.old.spaces) }
+        ensures payloads { OnErr result (self.new.payloads.entries ≡ self.old.payloads.entries) }
+        ensures full { IfErr result (λ refused. refused.why ≡ AllocateFault.HeapFull → IsOutOfCells self.old.spaces (worker + 2) 2) }
+    {
+        let spot = find_spot(&self.spaces, from, name);
+        if let Err(why) = self.make_room(worker, 1 + spot.cells()) {
+            return Err(VertexRefused { draft, why });
+        }
+        let to = self.place_vertex(worker, name, draft);
+        put(&mut self.spaces, worker, spot, to, rights);
+        Ok(())
+    }
+
+    // Makes room for one payload, and then for so many cells of a nursery.
+    fn make_room(&mut self, worker: u64, cells: u64) -> Result<(), AllocateFault>
+        requires few { worker < 64 }
+        requires few_cells { cells ≤ 64 }
+        requires nursery { worker + 2 < length self.old.spaces.spaces }
+        ensures payloads { self.new.payloads.entries ≡ self.old.payloads.entries }
+        ensures spare { OnOk result (0 < self.new.payloads.spare) }
+        ensures spaces { OnOk result (self.new.spaces ≡ room_made_for self.old.spaces (worker + 2) cells) }
+        ensures left { OnOk result (HasLeft self.new.spaces (worker + 2) cells) }
+        ensures refused { OnErr result (self.new.spaces ≡ self.old.spaces) }
+        ensures full { result ≡ Err AllocateFault.HeapFull → HasFewerLeft self.old.spaces (worker + 2) cells × IsFull self.old.spaces (worker + 2) }
+    {
+        let Ok(()) = self.payloads.reserve(1) else {
+            return Err(AllocateFault::OutOfMemory);
+        };
+        reserve(&mut self.spaces, worker, cells)
+    }
+
+    /// Puts an object with a name that none has into the next cell of a nursery. There is room for it.
+    pub(crate) fn place_vertex(&mut self, worker: u64, name: u64, draft: Draft<P>) -> Place
+        requires few { worker < 64 }
+        requires nursery { worker + 2 < length self.old.spaces.spaces }
+        requires graph { IsGraph self.old.spaces.spaces self.old.payloads }
+        requires fresh { ¬ IsNamed (content_in self.old.spaces.spaces self.old.payloads) name }
+        requires spare { 0 < self.old.payloads.spare }
+        requires left { HasLeft self.old.spaces (worker + 2) 1 }
+        ensures placed { let content = content_in self.old.spaces.spaces self.old.payloads in
+            ChangesTo self.old.spaces self.new.spaces self.new.payloads (λ x. IsNamed content x ⊎ (x ≡ name)) content.label (with_value content.value name draft) }
+        ensures vertex { IsVertexAt self.new.spaces.spaces name result }
+        ensures rows { KeepsRows self.old.spaces.spaces self.new.spaces.spaces }
+        ensures used { self.new.spaces.used ≡ slice_set self.old.spaces.used (worker + 2) (used_of self.old.spaces (worker + 2) + 1) }
+        ensures blocks { (space : ℕ) → length (space_of self.new.spaces.spaces space) ≡ length (space_of self.old.spaces.spaces space) }
+        ensures spare_left { self.old.payloads.spare ≤ self.new.payloads.spare + 1 }
+    {
+        let key = match self.payloads.insert(draft) {
+            Ok(key) => key,
+            Err(_) => unreachable!(),
+        };
+        let place = self.spaces.hand_out(worker + 2);
+        self.spaces
+            .write_cell(place, [OBJECT_TAG, name, key, 0, 0, 0, 0, 0]);
+        place
+    }
+}

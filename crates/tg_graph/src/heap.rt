@@ -1,0 +1,231 @@
+//! The heap of one store.
+ghost use Rattle.std.specs.Prelude.{◌≡◌, ◌↔◌, ◌+◌, ◌<◌, ◌⊎◌, ℕ, Err, IfOk, IfErr, IfSome, IsSome, OnOk, OnErr, length, slice_get, Some};
+ghost use Rattle.std.specs.List.{All};
+ghost use Rattle.tg_model.specs.Graph.{HasEdge, listing_of, with_rights, without_rights};
+ghost use Rattle.tg_model.specs.Opened.{start_of};
+ghost use Rattle.tg_model.specs.Rules.{state_of, with_value, written_at};
+ghost use Rattle.tg_space.specs.SpaceTable.{IsSpaceTable};
+ghost use Rattle.tg_graph.specs.Content.{IsContent, IsNamed};
+ghost use Rattle.tg_graph.specs.Heap.{IsObject, IsOutOfCells, IsUnchanged, IsWellFormed, KeepsPlaces, content_of, name_of, rights_found};
+ghost use Rattle.tg_graph.specs.Rows.{IsVertexAt};
+ghost use Rattle.tg_graph.specs.Standing.{StandsFor};
+
+use crate::cells::Cells;
+use crate::opening::opened;
+use std::alloc::{AllocError, Global};
+use std::marker::Model;
+use tg_model::{EdgeList, Numbers, Opening};
+use tg_nursery::AllocateFault;
+use tg_payload::{Draft, Payload, PayloadTable};
+use tg_rights::{Label, Rights};
+use tg_space::{Limits, Spaces};
+use tg_word::Place;
+
+/// A reference that was found in a row.
+#[derive(Clone, Copy, PartialEq, Eq, Debug)]
+pub struct Found {
+    /// Where its target is.
+    pub place: Place,
+    /// The rights over the target, at least one.
+    pub rights: Rights,
+}
+
+/// No heap was opened. The drafts come back as they were, and the rest is dropped.
+#[derive(Drop)]
+pub struct HeapRefused<P: Payload> {
+    pub drafts: Vec<Draft<P>>,
+    pub why: AllocateFault,
+}
+
+/// No vertex was made. The draft comes back as it was.
+#[derive(Drop)]
+pub struct VertexRefused<P: Payload> {
+    pub draft: Draft<P>,
+    pub why: AllocateFault,
+}
+
+/// The cells of a graph, what its vertices store, and where its workers are.
+///
+/// Contracts see it as a `HeapState`, and speak of its content: the names of the vertices that it has, the labels
+/// between them and their values. A vertex is named to most calls by the place of its object.
+#[derive(Drop)]
+pub struct Heap<P: Payload> {
+    cells: Cells<P>,
+    workers: Vec<Place>,
+}
+
+impl<P: Payload> Model for Heap<P> {
+    ghost use Rattle.tg_graph.specs.Heap.{HeapState, IsWellFormed};
+
+    ghost Value = { HeapState };
+
+    ghost view = { λ a. record { table = a.cells.spaces; payloads = a.cells.payloads; workers = a.workers.items } };
+
+    ghost invariant = { λ a. IsWellFormed (record { table = a.cells.spaces; payloads = a.cells.payloads; workers = a.workers.items }) };
+}
+
+impl<P: Payload> Heap<P> {
+    /// The heap of the graph that an opening starts from. The drafts are those of the workers, by rising name, with the
+    /// opening's values. Each worker's object lies in the nursery of that worker, and so do the chunks of its row.
+    ///
+    /// Where memory is refused (`OutOfMemory`), or there may be fewer blocks than there are workers (`HeapFull`), the
+    /// drafts come back as they were.
+    pub fn open(
+        alloc: Global,
+        opening: &Opening,
+        limits: Limits,
+        drafts: Vec<Draft<P>>,
+    ) -> Result<Heap<P>, HeapRefused<P>>
+        requires { drafts.items ≡ opening.now.values }
+        ensures stands { IfOk result (λ heap. StandsFor (content_of heap) (start_of opening.now)) }
+        ensures workers { IfOk result (λ heap. length heap.workers ≡ opening.now.workers) }
+        ensures limits { IfOk result (λ heap. heap.table.limits ≡ limits) }
+        ensures handed_back { IfErr result (λ refused. refused.drafts.items ≡ drafts.items) }
+        ensures full { IfErr result (λ refused. refused.why ≡ AllocateFault.HeapFull → limits.max_blocks < opening.now.workers) }
+    {
+        let (cells, workers) = opened(alloc, opening, limits, drafts)?;
+        Ok(Heap { cells, workers })
+    }
+
+    /// How many workers there are. They are named 0, 1, 2, .. What holds of every heap is told here. Takes no memory.
+    pub fn workers(&self) -> u64
+        ensures number { result ≡ length self.now.workers }
+        ensures well_formed { IsWellFormed self.now }
+        ensures table { IsSpaceTable self.now.table }
+    {
+        let _ = self.cells.spaces.blocks();
+        self.workers.len() as u64
+    }
+
+    /// Where the object of a worker is. Takes no memory.
+    pub fn worker_place(&self, worker: u64) -> Place
+        requires { worker < length self.now.workers }
+        ensures place { slice_get self.now.workers worker ≡ Some result }
+        ensures vertex { IsVertexAt self.now.table.spaces worker result }
+    {
+        self.workers[worker as usize]
+    }
+
+    /// How many vertices the heap has. Takes no memory.
+    pub fn vertices(&self) -> u64
+        ensures { result ≡ length (content_of self.now).names }
+    {
+        self.cells.payloads.len()
+    }
+
+    /// The cells. Takes no memory.
+    pub fn spaces(&self) -> &Spaces
+        ensures { result.now ≡ self.now.table }
+    {
+        &self.cells.spaces
+    }
+
+    /// The payloads, each under the key of its object. Takes no memory.
+    pub fn payloads(&self) -> &PayloadTable<P>
+        ensures { result.now ≡ self.now.payloads }
+    {
+        &self.cells.payloads
+    }
+
+    /// The rights of the vertex at a place over the vertex with a name, and where that one is; `None` exactly where
+    /// there are none. It walks the row once, up to the reference, and takes no memory.
+    pub fn find_edge(&self, from: Place, name: u64) -> Option<Found>
+        requires { IsObject self.now from }
+        ensures rights { rights_found result ≡ (content_of self.now).label (name_of self.now from) name }
+        ensures some { IsSome result ↔ HasEdge (content_of self.now).label (name_of self.now from) name }
+        ensures place { IfSome result (λ found. IsVertexAt self.now.table.spaces name found.place) }
+    {
+        self.cells.find_edge(from, name)
+    }
+
+    /// The edges of the vertex at a place, by rising name of the target. Sorts once. Answers only want of memory
+    /// otherwise.
+    pub fn row(&self, from: Place) -> Result<EdgeList, AllocError>
+        requires { IsObject self.now from }
+        ensures { IfOk result (λ edges. (n : ℕ) → All (λ x. x < n) (content_of self.now).names → edges ≡ listing_of (content_of self.now).label n (name_of self.now from)) }
+    {
+        self.cells.row(from)
+    }
+
+    /// The state of the vertex at a place. Answers only want of memory otherwise.
+    pub fn state(&self, at: Place) -> Result<Numbers, AllocError>
+        requires { IsObject self.now at }
+        ensures { IfOk result (λ state. state ≡ state_of ((content_of self.now).value (name_of self.now at))) }
+    {
+        self.cells.state(at)
+    }
+
+    /// Writes a number to the vertex at a place. Where that is refused, for want of memory alone, nothing is changed.
+    pub fn write(&mut self, at: Place, number: u64) -> Result<(), AllocError>
+        requires { IsObject self.old at }
+        ensures written { OnOk result (IsContent (content_of self.new) (IsNamed (content_of self.old)) (content_of self.old).label
+            (written_at (content_of self.old).value (name_of self.old at) number)) }
+        ensures kept { OnOk result (KeepsPlaces self.old self.new) }
+        ensures refused { OnErr result (self.new ≡ self.old) }
+    {
+        self.cells.write(at, number)
+    }
+
+    /// Gives the vertex at one place rights over the vertex at another. Where the row has a reference to it, that gets
+    /// the rights too; else the first empty place of the row gets a new reference, or a new chunk from the nursery of
+    /// a worker.
+    ///
+    /// It is refused where a chunk is needed and memory for its block was refused (`OutOfMemory`), or the nursery is
+    /// used up and gets no more blocks (`HeapFull`); then nothing is changed.
+    pub fn add_edge(
+        &mut self,
+        worker: u64,
+        from: Place,
+        to: Place,
+        label: Label,
+    ) -> Result<(), AllocateFault>
+        requires worker { worker < length self.old.workers }
+        requires from { IsObject self.old from }
+        requires to { IsObject self.old to }
+        ensures added { OnOk result (IsContent (content_of self.new) (IsNamed (content_of self.old))
+            (with_rights (content_of self.old).label (name_of self.old from) (name_of self.old to) label) (content_of self.old).value) }
+        ensures kept { OnOk result (KeepsPlaces self.old self.new) }
+        ensures refused { OnErr result (self.new ≡ self.old) }
+        ensures full { result ≡ Err AllocateFault.HeapFull → IsOutOfCells self.old.table (worker + 2) 1 }
+    {
+        self.cells.add_edge(worker, from, to, label.rights())
+    }
+
+    /// Takes rights over the vertex with a name from the vertex at a place. A reference that has none left leaves an
+    /// empty place, and chunks stay. Takes no memory.
+    pub fn drop_rights(&mut self, from: Place, name: u64, label: Label)
+        requires { IsObject self.old from }
+        ensures dropped { IsContent (content_of self.new) (IsNamed (content_of self.old))
+            (without_rights (content_of self.old).label (name_of self.old from) name label) (content_of self.old).value }
+        ensures kept { KeepsPlaces self.old self.new }
+    {
+        self.cells.drop_rights(from, name, label.rights());
+    }
+
+    /// Makes a vertex with a name that none has, which stores the draft's payload, and gives a worker rights over it.
+    /// All growth comes before any change, that of the blocks last.
+    ///
+    /// It is refused where memory was (`OutOfMemory`), and where the nursery of the worker has too few cells left and
+    /// gets no more blocks (`HeapFull`). Then the draft comes back, and nothing is changed but that there may be room
+    /// for one more payload.
+    pub fn new_vertex(
+        &mut self,
+        worker: u64,
+        name: u64,
+        label: Label,
+        draft: Draft<P>,
+    ) -> Result<(), VertexRefused<P>>
+        requires worker { worker < length self.old.workers }
+        requires fresh { ¬ IsNamed (content_of self.old) name }
+        ensures made { OnOk result (IsContent (content_of self.new) (λ x. IsNamed (content_of self.old) x ⊎ (x ≡ name))
+            (with_rights (content_of self.old).label worker name label) (with_value (content_of self.old).value name draft)) }
+        ensures kept { OnOk result (KeepsPlaces self.old self.new) }
+        ensures handed_back { IfErr result (λ refused. refused.draft ≡ draft) }
+        ensures refused { OnErr result (IsUnchanged self.old self.new) }
+        ensures full { IfErr result (λ refused. refused.why ≡ AllocateFault.HeapFull → IsOutOfCells self.old.table (worker + 2) 2) }
+    {
+        let from = self.workers[worker as usize];
+        self.cells
+            .new_vertex(worker, from, name, label.rights(), draft)
+    }
+}

@@ -1,0 +1,78 @@
+//! What a change of a row writes.
+ghost use Rattle.std.specs.Prelude.{◌≡◌, ◌+◌, ◌<◌, length, slice_index};
+ghost use Rattle.tg_rights.specs.RightSet.{is_none_held};
+ghost use Rattle.tg_word.specs.Word.{IsPlace, place_in, word_at};
+ghost use Rattle.tg_space.specs.SpaceList.{cell_at};
+ghost use Rattle.tg_nursery.specs.Allocation.{HasLeft};
+ghost use Rattle.tg_graph.specs.Spots.{CanPut, CanWrite, chunk_put, narrowed, table_put, widened, word_put};
+
+use crate::rows::{LINK, Spot};
+use tg_block::CHUNK_TAG;
+use tg_rights::Rights;
+use tg_space::Spaces;
+use tg_word::{Place, Slot, pack, place_of, rights_of};
+
+/// Puts rights over the object at a place where they go in a row: the reference gets them too, or else the empty place
+/// gets a reference with them, or else a new chunk from the nursery of a worker, which has a cell left for it.
+pub(crate) fn put(spaces: &mut Spaces, worker: u64, spot: Spot, to: Place, rights: Rights)
+    requires few { worker < 64 }
+    requires nursery { worker + 2 < length spaces.old.spaces }
+    requires can { CanPut spaces.old (worker + 2) spot }
+    requires to { IsPlace to }
+    ensures { spaces.new ≡ table_put spaces.old (worker + 2) spot rights to }
+{
+    let word = reference_to(to, rights);
+    match spot {
+        Spot::Reference { cell, index } => widen(spaces, cell, index, rights),
+        Spot::Empty { cell, index } => spaces.write(cell, index, word),
+        Spot::Full { last } => extend(spaces, worker, last, word),
+    }
+}
+
+// Adds rights to a reference.
+fn widen(spaces: &mut Spaces, cell: Place, index: usize, rights: Rights)
+    requires can { CanWrite spaces.old cell index }
+    requires place { IsPlace (place_in (slice_index (cell_at spaces.old.spaces cell) index)) }
+    ensures { spaces.new ≡ word_put spaces.old cell index (widened (slice_index (cell_at spaces.old.spaces cell) index) rights) }
+{
+    let word = spaces.read(cell, index);
+    let rights = rights_of(word).union(rights);
+    spaces.write(cell, index, reference_to(place_of(word), rights));
+}
+
+/// Takes rights off a reference, which becomes the empty word where it has none left.
+pub(crate) fn narrow(spaces: &mut Spaces, cell: Place, index: usize, rights: Rights)
+    requires can { CanWrite spaces.old cell index }
+    requires place { IsPlace (place_in (slice_index (cell_at spaces.old.spaces cell) index)) }
+    ensures { spaces.new ≡ word_put spaces.old cell index (narrowed (slice_index (cell_at spaces.old.spaces cell) index) rights) }
+{
+    let word = spaces.read(cell, index);
+    let rights = rights_of(word).minus(rights);
+    let left = if rights.is_empty() {
+        0
+    } else {
+        reference_to(place_of(word), rights)
+    };
+    spaces.write(cell, index, left);
+}
+
+// Links the last cell of a row to a new chunk with this reference.
+fn extend(spaces: &mut Spaces, worker: u64, last: Place, word: u64)
+    requires few { worker < 64 }
+    requires nursery { worker + 2 < length spaces.old.spaces }
+    requires last { CanWrite spaces.old last 7 }
+    requires left { HasLeft spaces.old (worker + 2) 1 }
+    ensures { spaces.new ≡ chunk_put spaces.old (worker + 2) last word }
+{
+    let chunk = spaces.hand_out(worker + 2);
+    spaces.write_cell(chunk, [CHUNK_TAG, word, 0, 0, 0, 0, 0, 0]);
+    spaces.write(last, LINK, reference_to(chunk, Rights::empty()));
+}
+
+// The word of a reference.
+fn reference_to(place: Place, rights: Rights) -> u64
+    requires { IsPlace place }
+    ensures { result ≡ word_at rights place }
+{
+    pack(Slot::To { rights, place })
+}

@@ -1,0 +1,166 @@
+//! Walks along rows.
+ghost use Rattle.std.specs.Prelude.{◌≡◌, ◌+◌, ◌<◌, ◌≤◌, ◌++◌, [], length, option_map, position, IfOk, IfSome, OnOk};
+ghost use Rattle.std.specs.Option.{option_or};
+ghost use Rattle.std.specs.List.{All};
+ghost use Rattle.tg_space.specs.SpaceList.{cells_of};
+ghost use Rattle.tg_space.specs.SpaceTable.{IsSpaceTable};
+ghost use Rattle.tg_space.specs.Soundness.{AreSound, IsReference};
+ghost use Rattle.tg_graph.specs.Rows.{IsRow, chunks_from, edges_in, link_at, row_words};
+ghost use Rattle.tg_graph.specs.Spots.{IsSpotIn, cells_for, is_empty, refers_to, spot_for_new as new_spot};
+
+use std::alloc::{AllocError, Global};
+use tg_rights::Label;
+use tg_space::{Spaces, first_pointer};
+use tg_word::{Place, place_of, rights_of};
+
+/// The word of an object or a chunk that links to the next chunk.
+pub(crate) const LINK: usize = 7;
+
+/// The word of an object that is its name.
+pub(crate) const NAME: usize = 1;
+
+/// Where the reference to a name stands in a row, or where it may be put.
+#[derive(Clone, Copy, PartialEq, Eq, Debug)]
+pub(crate) enum Spot {
+    /// The reference is this word of this cell.
+    Reference { cell: Place, index: usize },
+    /// There is no reference to the name, and this word of this cell is the first empty place.
+    Empty { cell: Place, index: usize },
+    /// There is no reference to the name, nor an empty place, and this is the last cell of the row.
+    Full { last: Place },
+}
+
+impl Spot {
+    /// How many cells a new reference takes.
+    pub(crate) fn cells(self) -> u64
+        ensures { result ≡ cells_for self }
+    {
+        match self {
+            Spot::Full { .. } => 1,
+            _ => 0,
+        }
+    }
+}
+
+/// Finds where the reference to a name stands in the row of an object, or else the first empty place in chain order,
+/// or else the last cell. It walks the chain once, up to the reference if there is one.
+pub(crate) fn find_spot(spaces: &Spaces, from: Place, name: u64) -> Spot
+    requires sound { AreSound spaces.now.spaces [] }
+    requires row { IsRow spaces.now.spaces from }
+    ensures table { IsSpaceTable spaces.now }
+    ensures spot { IsSpotIn spaces.now.spaces name from (chunks_from spaces.now.spaces (length (cells_of spaces.now.spaces)) (link_at spaces.now.spaces from)) result }
+{
+    let mut empty = None;
+    let mut at = from;
+    let mut left = spaces.cells();
+    'row: loop {
+        let cell = spaces.cell(at);
+        let first = first_pointer(cell[0]);
+        let words = &cell[first..LINK];
+        if let Some(k) = position_of(spaces, words, name) {
+            return Spot::Reference {
+                cell: at,
+                index: first + k,
+            };
+        }
+        empty = first_empty(empty, at, first, words);
+        if cell[LINK] == 0 {
+            return spot_for_new(empty, at);
+        }
+        at = place_of(cell[LINK]);
+        left -= 1;
+    }
+}
+
+// The number of the reference to a name among these words.
+fn position_of(spaces: &Spaces, words: &[u64], name: u64) -> Option<usize>
+    requires { All (IsReference spaces.now.spaces) words.now }
+    ensures position { result ≡ position (refers_to spaces.now.spaces name) words.now }
+    ensures inside { IfSome result (λ k. k < length words.now) }
+{
+    for (k, word) in words.iter().enumerate() {
+        if *word != 0 && spaces.read(place_of(*word), NAME) == name {
+            return Some(k);
+        }
+    }
+    None
+}
+
+// The empty place that was found before, or else the first among the words of a cell.
+fn first_empty(
+    before: Option<(Place, usize)>,
+    cell: Place,
+    first: usize,
+    words: &[u64],
+) -> Option<(Place, usize)>
+    requires { first + length words.now ≤ 8 }
+    ensures { result ≡ option_or before (option_map (λ k. (cell, first + k)) (position is_empty words.now)) }
+{
+    if before.is_some() {
+        return before;
+    }
+    let k = position_of_empty(words)?;
+    Some((cell, first + k))
+}
+
+// The number of the first empty place among these words.
+fn position_of_empty(words: &[u64]) -> Option<usize>
+    ensures position { result ≡ position is_empty words.now }
+    ensures inside { IfSome result (λ k. k < length words.now) }
+{
+    words.iter().position(|word| *word == 0)
+}
+
+// The empty place, if one was found, or else the last cell.
+fn spot_for_new(empty: Option<(Place, usize)>, last: Place) -> Spot
+    ensures { result ≡ new_spot empty last }
+{
+    match empty {
+        Some((cell, index)) => Spot::Empty { cell, index },
+        None => Spot::Full { last },
+    }
+}
+
+/// The references of the row of an object: the name of each target with the label, in chain order. Answers only want
+/// of memory otherwise.
+pub(crate) fn edges_of(
+    alloc: Global,
+    spaces: &Spaces,
+    from: Place,
+) -> Result<Vec<(u64, Label)>, AllocError>
+    requires sound { AreSound spaces.now.spaces [] }
+    requires row { IsRow spaces.now.spaces from }
+    ensures table { OnOk result (IsSpaceTable spaces.now) }
+    ensures edges { IfOk result (λ edges. edges.items ≡ edges_in spaces.now.spaces (row_words spaces.now.spaces from)) }
+{
+    let mut edges = Vec::new(alloc);
+    let mut at = from;
+    let mut left = spaces.cells();
+    'row: loop {
+        let cell = spaces.cell(at);
+        let first = first_pointer(cell[0]);
+        push_edges(spaces, &cell[first..LINK], &mut edges)?;
+        if cell[LINK] == 0 {
+            return Ok(edges);
+        }
+        at = place_of(cell[LINK]);
+        left -= 1;
+    }
+}
+
+// Puts the edges of these references at the end.
+fn push_edges(
+    spaces: &Spaces,
+    words: &[u64],
+    edges: &mut Vec<(u64, Label)>,
+) -> Result<(), AllocError>
+    requires { All (IsReference spaces.now.spaces) words.now }
+    ensures { OnOk result (edges.new.items ≡ edges.old.items ++ edges_in spaces.now.spaces words.now) }
+{
+    for word in words {
+        if let Some(label) = Label::new(rights_of(*word)) {
+            edges.push((spaces.read(place_of(*word), NAME), label))?;
+        }
+    }
+    Ok(())
+}
