@@ -15,3 +15,4 @@ pub mod Written
 pub mod Linked
 pub mod Collected
 pub mod Reaching
+pub mod Dropping
