@@ -13,7 +13,6 @@ use Rattle.tg_word.specs.Word.{place_in}
 use Rattle.tg_block.specs.declared.CellKind.TheVariants.{Object, Chunk}
 use Rattle.tg_space.specs.SpaceList.{SpaceList, BlockList, IsSpaceList, Holds, cell_at, cells_of, flat_of}
 use Rattle.tg_space.specs.Soundness.{IsKindAt, IsReference, RefersTo, LinksTo, link_of}
-use Rattle.tg_space.specs.SpaceTable.{with_only_old}
 use Rattle.tg_space.specs.Targets.{all_root_targets, cell_numbered, every_space, first_pointer, named_by, pointers_of, root_targets_of, target_in, targets_of}
 use Rattle.tg_space.specs.Collection.{IsFullCollection}
 use Rattle.tg_space.specs.declared.spaces.Root.{Root}
