@@ -1,11 +1,10 @@
 -- A full collection keeps the graph on the objects that it copies.
-use Rattle.std.proofs.Common.{◌≡◌, ◌≢◌, ◌↔◌, ℕ, zero, suc, ◌<◌, ◌≤◌, ◌+◌, ◌-◌, ◌^◌, ◌⊎◌, ◌==◌, ◌&&◌, inl, inr, Bool, true, false, cond, not, if◌then◌else◌, List, [], ◌∷◌, ◌++◌, length, get_or, take, drop, map, replicate, Option, Some, None, IsSome, refl, sym, ap, subst, arith, ◌∙◌, ⊎_elim, lit<, min}
-use Rattle.std.specs.List.{All, Contains, IsDistinct, filter, flat_map}
-use Rattle.std.proofs.lemmas.Bool.{cases_eq, cases_lt}
+use Rattle.std.proofs.Common.{◌≡◌, ◌≢◌, ℕ, zero, suc, ◌<◌, ◌≤◌, ◌+◌, ◌-◌, ◌⊎◌, ◌==◌, ◌&&◌, inl, inr, Bool, true, false, cond, not, if◌then◌else◌, List, [], ◌∷◌, ◌++◌, length, get_or, take, drop, map, replicate, Option, Some, None, IsSome, refl, sym, ap, subst, arith, ◌∙◌, ⊎_elim, lit<, min}
+use Rattle.std.specs.List.{All, Contains, IsDistinct, filter}
+use Rattle.std.proofs.lemmas.Bool.{cases_eq}
 use Rattle.std.proofs.lemmas.Bool.Decides.{eqb_tells}
 use Rattle.std.proofs.lemmas.List.{append-nil, get_or_append_left, get_or-append_right, get_or-take, get_or-drop, get_or-map, get_or_default, length-take, length-take-le, length-drop, drop_all, drop_at, take_all, take-map, map-append}
-use Rattle.std.proofs.lemmas.List.Concat.{flat_map-append}
-use Rattle.std.proofs.lemmas.List.Elements.{All-nil, All-cons, All-head, All-tail, All-map, All-weaker, All-get_or, All-append, Contains-get_or}
+use Rattle.std.proofs.lemmas.List.Elements.{All-nil, All-cons, All-head, All-tail, All-map, All-get_or, All-append, Contains-get_or}
 use Rattle.tg_rights.specs.RightSet.{RightSet, is_none_held, no_rights}
 use Rattle.tg_model.specs.declared.value.Value.{Value}
 use Rattle.tg_model.specs.Graph.{HasEdge}
@@ -14,49 +13,27 @@ use Rattle.tg_word.specs.declared.Place.{Place}
 use Rattle.tg_word.specs.Word.{IsPlace, is_present, link_to, place_in, rights_in, word_at}
 use Rattle.tg_word.proofs.Packing.{is_present-word_at, place_in-word_at, rights_in-word_at, word_at-above_zero}
 use Rattle.tg_block.specs.Cells.{cell_of, free_cell, kind_of}
-use Rattle.tg_block.specs.declared.CellKind.TheVariants.{Free, Object, Chunk, Bad}
+use Rattle.tg_block.specs.declared.CellKind.TheVariants.{Free, Object, Chunk}
 use Rattle.tg_space.specs.SpaceList.{SpaceList, BlockList, IsSpace, IsSpaceList, Holds, space_of, cell_at, cells_of, flat_of}
-use Rattle.tg_space.specs.Soundness.{AreSound, HasLayout, HasLayoutOf, IsKindAt, IsReference, RefersTo, IsLink, LinksTo, IsPointer, NamesCell, link_of}
+use Rattle.tg_space.specs.Soundness.{HasLayout, HasLayoutOf, IsKindAt, IsReference, RefersTo, IsLink, LinksTo, IsPointer, NamesCell, link_of}
 use Rattle.tg_space.specs.Targets.{cell_numbered, every_space, first_pointer, image_of, moved_word, named_by, pointers_of, target_in, targets_of}
 use Rattle.tg_space.specs.Collection.{IsFullCollection, IsForwarded, IsNewPlace, new_cell, new_place}
 use Rattle.tg_space.specs.declared.spaces.Root.{Root}
 use Rattle.tg_space.proofs.Flat.{flat_inside, get_or-flat_of, same_place}
 use Rattle.tg_space.proofs.Pointing.{pointers_sound}
 use Rattle.tg_payload.specs.Table.{Payloads, entry}
-use Rattle.tg_graph.specs.Content.{Content, IsContent, IsNamed}
+use Rattle.tg_graph.specs.Content.{IsContent}
 use Rattle.tg_graph.specs.Standing.{Keeps}
 use Rattle.tg_graph.specs.Rows.{IsChain, IsVertexAt, chunks_from, key_at, link_at, name_at, name_in, names_in, object_named, references_of, rights_to, row_of, row_words}
 use Rattle.tg_graph.specs.Heap.{IsGraph, content_in}
+use Rattle.tg_graph.specs.Collected.{IsKept, IsKeptName, KeepsPayloads, collected, copy_place}
 use Rattle.tg_graph.proofs.Members.{Contains-flat_map, Contains-here, option_cases}
 use Rattle.tg_graph.proofs.Places.{cell_long, layout_at, links_apart, place_numbered}
 use Rattle.tg_graph.proofs.Layouts.{KindCases, is_free, is_object, is_chunk, is_bad, kind_cases, chunk_tagged, free_zero, link_some, object_tagged, references_at, references_of_chunk, references_of_object, same_link}
-use Rattle.tg_graph.proofs.Lookups.{label_at, name_of_vertex, named_from_vertex, value_at, vertex_from_named, vertex_of_name}
-use Rattle.tg_graph.proofs.Slots.{IsOther, others_from_none}
+use Rattle.tg_graph.proofs.Lookups.{label_at, name_of_vertex, named_from_vertex, value_at, vertex_from_named}
 use Rattle.tg_graph.proofs.Kept.{Shows, ShowsRow, shown_content, shown_graph, words_of}
 use Rattle.tg_graph.proofs.Written.{first_range}
 use Rattle.tg_graph.proofs.Linked.{held_place}
-
--- the cell was copied
-abbrev pub IsKept : SpaceList → List ℕ → Place → Type 0
-IsKept h forward p = get_or forward (flat_of h p) 0 ≢ 0
-
--- the object with this name was copied
-abbrev pub IsKeptName : SpaceList → List ℕ → ℕ → Type 0
-IsKeptName h forward x = (p : Place) × IsVertexAt h x p × IsKept h forward p
-
--- where the copy of a cell is
-abbrev pub copy_place : SpaceList → List ℕ → Place → Place
-copy_place h forward p = new_place forward (flat_of h p)
-
--- the spaces after a full collection
-abbrev pub collected : SpaceList → BlockList → SpaceList
-collected h old = old ∷ replicate (length h - 1) []
-
--- the payloads of the objects that were copied, and no others
-pub record KeepsPayloads (h : SpaceList) (forward : List ℕ) (payloads new : Payloads) : Type 0 where
-  pub kept : (p : Place) → IsKindAt h Object p → IsKept h forward p → entry new (key_at h p) ≡ entry payloads (key_at h p)
-  pub dropped : (p : Place) → IsKindAt h Object p → get_or forward (flat_of h p) 0 ≡ 0 → entry new (key_at h p) ≡ None
-  pub unused : (key : ℕ) → entry payloads key ≡ None → entry new key ≡ None
 
 -- the references among words
 abbrev filter_some : List ℕ → List ℕ
@@ -195,13 +172,13 @@ module _ (h : SpaceList) (payloads : Payloads) (is : IsSpaceList h) (graph : IsG
       let place = new_is_place r new in
       ⊎_elim
       (λ found.
-          let at = place_numbered h is found.0 found.1 in
-          let word : get_or forward (flat_of h at.place) 0 ≡ link_to r = ap (λ c. get_or forward c 0) at.is ∙ found.2 in
-          inr (record {
-            from = at.place;
-            kept = (at.held, (λ z. let none : link_to r ≡ 0 = sym word ∙ z in let some = word_at-above_zero no_rights r place in omega arith));
-            is_copy = ap place_in word ∙ place_in-word_at no_rights r place;
-          }))
+      let at = place_numbered h is found.0 found.1 in
+      let word : get_or forward (flat_of h at.place) 0 ≡ link_to r = ap (λ c. get_or forward c 0) at.is ∙ found.2 in
+      inr (record {
+        from = at.place;
+        kept = (at.held, (λ z. let none : link_to r ≡ 0 = sym word ∙ z in let some = word_at-above_zero no_rights r place in omega arith));
+        is_copy = ap place_in word ∙ place_in-word_at no_rights r place;
+      }))
       (λ none. inl (new_words r new ∙ full.rest r new none)) (found_below (λ c. get_or forward c 0) (link_to r) (length (cells_of h)))
 
   -- ---- what a copied cell names is copied
@@ -316,14 +293,14 @@ module _ (h : SpaceList) (payloads : Payloads) (is : IsSpaceList h) (graph : IsG
       ⊎_elim
       (λ z. inl (moved_zero word z))
       (λ (refers : RefersTo h word).
-          let some : word ≢ 0 = λ e. let no : false ≡ true = subst (λ (w : ℕ). is_present w ≡ true) e refers.present in absurd cc in
-          let keep = both.1 some in
-          let m = word_moved word some keep in
-          inr (record {
-            present = m.present;
-            rights = ap is_none_held m.rights ∙ refers.rights;
-            object = subst (IsKindAt after Object) (sym m.place) (object_copied (place_in word) keep.1 refers.object);
-          }))
+      let some : word ≢ 0 = λ e. let no : false ≡ true = subst (λ (w : ℕ). is_present w ≡ true) e refers.present in absurd cc in
+      let keep = both.1 some in
+      let m = word_moved word some keep in
+      inr (record {
+        present = m.present;
+        rights = ap is_none_held m.rights ∙ refers.rights;
+        object = subst (IsKindAt after Object) (sym m.place) (object_copied (place_in word) keep.1 refers.object);
+      }))
       both.0
 
   link_is_copied : (word : ℕ) → IsLink h word → KeepsTarget word → IsLink after (moved word)
@@ -331,14 +308,14 @@ module _ (h : SpaceList) (payloads : Payloads) (is : IsSpaceList h) (graph : IsG
       ⊎_elim
       (λ z. inl (moved_zero word z))
       (λ (links : LinksTo h word).
-          let some : word ≢ 0 = λ e. let no : false ≡ true = subst (λ (w : ℕ). is_present w ≡ true) e links.present in absurd cc in
-          let keep = keeps some in
-          let m = word_moved word some keep in
-          inr (record {
-            present = m.present;
-            rights = m.rights ∙ links.rights;
-            chunk = subst (IsKindAt after Chunk) (sym m.place) (chunk_copied (place_in word) keep.1 links.chunk);
-          }))
+      let some : word ≢ 0 = λ e. let no : false ≡ true = subst (λ (w : ℕ). is_present w ≡ true) e links.present in absurd cc in
+      let keep = keeps some in
+      let m = word_moved word some keep in
+      inr (record {
+        present = m.present;
+        rights = m.rights ∙ links.rights;
+        chunk = subst (IsKindAt after Chunk) (sym m.place) (chunk_copied (place_in word) keep.1 links.chunk);
+      }))
       link
 
   all_copied : (p : Place) → Kept p → All (IsReference after) (references_of (cell_at after (to p)))
@@ -540,9 +517,9 @@ module _ (h : SpaceList) (payloads : Payloads) (is : IsSpaceList h) (graph : IsG
       ⊎_elim
       (λ free. let one : Free ≡ Object = ap kind_of (sym free) ∙ object.is in absurd cc)
       (λ (copy : CopyOf r).
-          let p = copy.from in
-          let tag : get_or (cell_at h p) 0 0 ≡ 1 = sym (tag_copied p copy.kept) ∙ ap (λ (s : Place). get_or (cell_at after s) 0 0) copy.is_copy ∙ (object_tagged (cell_at after r)).0 object.is in
-          record { from = p; kept = copy.kept.1; object = record { held = copy.kept.0; is = (object_tagged (cell_at h p)).1 tag }; is_copy = copy.is_copy })
+      let p = copy.from in
+      let tag : get_or (cell_at h p) 0 0 ≡ 1 = sym (tag_copied p copy.kept) ∙ ap (λ (s : Place). get_or (cell_at after s) 0 0) copy.is_copy ∙ (object_tagged (cell_at after r)).0 object.is in
+      record { from = p; kept = copy.kept.1; object = record { held = copy.kept.0; is = (object_tagged (cell_at h p)).1 tag }; is_copy = copy.is_copy })
       (copies r object.held)
 
   name_of_copy : (r : Place) (copy : ObjectCopy r) → name_at after r ≡ name_at h copy.from

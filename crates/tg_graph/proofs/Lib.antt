@@ -25,3 +25,4 @@ pub mod KeptFull
 pub mod KeptReached
 pub mod KeptHeap
 pub mod Counted
+pub mod Dropping

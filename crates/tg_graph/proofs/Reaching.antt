@@ -1,36 +1,34 @@
 -- The objects that a full collection copies are those that the workers reach.
-use Rattle.std.proofs.Common.{◌≡◌, ◌≢◌, ◌↔◌, ℕ, zero, suc, ◌<◌, ◌≤◌, ◌+◌, ◌-◌, ◌⊎◌, ◌==◌, ◌&&◌, inl, inr, Bool, true, false, cond, not, List, [], ◌∷◌, length, get_or, take, drop, map, Option, Some, None, slice_get, refl, sym, ap, subst, arith, ◌∙◌, ⊎_elim}
+use Rattle.std.proofs.Common.{◌≡◌, ◌≢◌, ◌↔◌, ℕ, zero, suc, ◌<◌, ◌≤◌, ◌+◌, ◌-◌, ◌⊎◌, ◌==◌, inl, inr, Bool, true, false, cond, List, [], ◌∷◌, length, get_or, drop, map, replicate, Some, slice_get, refl, sym, ap, subst, arith, ◌∙◌, ⊎_elim}
 use Rattle.std.specs.List.{All, Contains}
 use Rattle.std.proofs.lemmas.Bool.{cases_lt}
 use Rattle.std.proofs.lemmas.Bool.Decides.{eqb_tells}
-use Rattle.std.proofs.lemmas.List.{get_or-take, get_or-drop, get_or_default, length-drop, length-take-le}
-use Rattle.std.proofs.lemmas.List.Elements.{All-contains, All-head, All-tail, Contains-get_or}
-use Rattle.tg_rights.specs.RightSet.{RightSet, is_none_held}
+use Rattle.std.proofs.lemmas.List.{get_or-take, get_or-drop, get_or_default, length-drop, length-map, length-replicate, length-take-le}
+use Rattle.std.proofs.lemmas.List.Elements.{All-contains, All-head, All-tail}
+use Rattle.tg_rights.specs.RightSet.{is_none_held}
 use Rattle.tg_model.specs.Graph.{HasEdge}
-use Rattle.tg_model.specs.Walks.{Walk, Walk-within, begins, goes}
+use Rattle.tg_model.specs.Walks.{Walk-within, begins, goes}
 use Rattle.tg_word.specs.declared.Place.{Place}
-use Rattle.tg_word.specs.Word.{is_present, place_in, rights_in}
+use Rattle.tg_word.specs.Word.{place_in}
 use Rattle.tg_block.specs.declared.CellKind.TheVariants.{Object, Chunk}
 use Rattle.tg_space.specs.SpaceList.{SpaceList, BlockList, IsSpaceList, Holds, cell_at, cells_of, flat_of}
-use Rattle.tg_space.specs.Soundness.{AreSound, IsKindAt, IsReference, RefersTo, IsPointer, NamesCell, LinksTo, link_of}
-use Rattle.tg_space.specs.Closure.{IsInClosure}
+use Rattle.tg_space.specs.Soundness.{IsKindAt, IsReference, RefersTo, LinksTo, link_of}
 use Rattle.tg_space.specs.Targets.{all_root_targets, cell_numbered, every_space, first_pointer, named_by, pointers_of, root_targets_of, target_in, targets_of}
 use Rattle.tg_space.specs.Collection.{IsFullCollection}
 use Rattle.tg_space.specs.declared.spaces.Root.{Root}
 use Rattle.tg_space.specs.declared.spaces.Root.TheVariants.{Row}
 use Rattle.tg_space.proofs.Flat.{flat_inside, get_or-flat_of, same_place}
 use Rattle.tg_payload.specs.Table.{Payloads}
-use Rattle.tg_graph.specs.Content.{Content}
-use Rattle.tg_graph.specs.Standing.{IsReached}
+use Rattle.tg_graph.specs.Standing.{IsReached, Keeps}
 use Rattle.tg_graph.specs.Rows.{IsChain, IsVertexAt, chunks_from, link_at, name_at, name_in, references_of, rights_to, row_of, row_words}
-use Rattle.tg_graph.specs.Heap.{IsGraph, content_in}
+use Rattle.tg_graph.specs.Heap.{HeapState, IsGraph, IsWellFormed, content_in, content_of, roots_of}
 use Rattle.tg_graph.proofs.Members.{Contains-cases, Contains-flat_map, Contains-from_flat_map, Contains-from_map, Contains-here, Contains-map, Contains-more, Contains-none}
-use Rattle.tg_graph.proofs.Places.{cell_long, place_numbered}
-use Rattle.tg_graph.proofs.Layouts.{apart_kinds, link_some, references_at}
+use Rattle.tg_graph.proofs.Places.{cell_long}
+use Rattle.tg_graph.proofs.Layouts.{apart_kinds, link_some}
 use Rattle.tg_graph.proofs.Lookups.{label_at}
-use Rattle.tg_graph.proofs.Chains.{chain_chunks, row_held, row_references}
-use Rattle.tg_graph.proofs.Written.{first_range}
-use Rattle.tg_graph.proofs.Collected.{IsKept, IsKeptName, collected, kept_closed}
+use Rattle.tg_graph.proofs.Chains.{chain_chunks, row_references}
+use Rattle.tg_graph.specs.Collected.{IsKept, IsKeptName, KeepsPayloads, collected, copy_place, heap_collected}
+use Rattle.tg_graph.proofs.Collected.{content_collected, graph_collected, kept_closed, vertex_collected}
 
 -- ---- lists
 
@@ -48,10 +46,20 @@ module _ {X : Type 0} where
       (λ rest. let at = slice_get-from_Contains ys x rest in let low = at.1 in (suc at.0, omega arith, at.2))
       (Contains-cases y ys x has)
 
+  slice_get-low : (xs : List X) (i : ℕ) (x : X) → slice_get xs i ≡ Some x → i < length xs
+  slice_get-low [] i x e = absurd cc
+  slice_get-low (y ∷ ys) zero x e = omega arith
+  slice_get-low (y ∷ ys) (suc i) x e = let low = slice_get-low ys i x e in omega arith
+
   slice_get-inside : (xs : List X) (i : ℕ) → i < length xs → (x : X) × (slice_get xs i ≡ Some x)
   slice_get-inside [] i low = absurd (omega arith)
   slice_get-inside (y ∷ ys) zero low = (y, refl)
   slice_get-inside (y ∷ ys) (suc i) low = slice_get-inside ys i (omega arith)
+
+slice_get-from_map : {X Y : Type 0} (f : X → Y) (xs : List X) (i : ℕ) (y : Y) → slice_get (map f xs) i ≡ Some y → (x : X) × (slice_get xs i ≡ Some x) × (f x ≡ y)
+slice_get-from_map f [] i y e = absurd cc
+slice_get-from_map f (x ∷ xs) zero y e = (x, refl, let same : f x ≡ y = cc in same)
+slice_get-from_map f (x ∷ xs) (suc i) y e = slice_get-from_map f xs i y e
 
 -- a pointer of a cell is one of its references, or its link
 pointer_cases : (words : List ℕ) → length words ≡ 8 → (word : ℕ) → Contains (pointers_of words) word → Contains (references_of words) word ⊎ (link_of words ≡ word)
@@ -95,8 +103,8 @@ next_in_row h p [] ends q has some =
 next_in_row h p (s ∷ rs) ends q has some =
     ⊎_elim
     (λ same.
-        let to : place_in (link_at h q) ≡ s = ap (λ (r : Place). place_in (link_at h r)) (sym same) ∙ ends.1 in
-        subst (Contains (p ∷ s ∷ rs)) (sym to) (Contains-more p (s ∷ rs) s (Contains-here s rs)))
+    let to : place_in (link_at h q) ≡ s = ap (λ (r : Place). place_in (link_at h r)) (sym same) ∙ ends.1 in
+    subst (Contains (p ∷ s ∷ rs)) (sym to) (Contains-more p (s ∷ rs) s (Contains-here s rs)))
     (λ rest. Contains-more p (s ∷ rs) (place_in (link_at h q)) (next_in_row h s rs ends.3 q rest some)) (Contains-cases p (s ∷ rs) q has)
 
 module _ (h : SpaceList) (payloads : Payloads) (is : IsSpaceList h) (graph : IsGraph h payloads) (workers : List Place) (vertices : (x : ℕ) (p : Place) → slice_get workers x ≡ Some p → IsVertexAt h x p)
@@ -144,13 +152,17 @@ module _ (h : SpaceList) (payloads : Payloads) (is : IsSpaceList h) (graph : IsG
       let at = slice_get-from_Contains workers p in_workers.1 in
       let vertex = vertices at.0 p at.2 in
       let target : Contains (flat_of h p ∷ []) c = subst (λ (r : Root). Contains (root_targets_of every_space h r) c) (sym in_workers.2) in_root.2 in
-      let number : flat_of h p ≡ c = ⊎_elim (λ same. same) (λ none. absurd (Contains-none c none)) (Contains-cases (flat_of h p) [] c target) in
-      (p, vertex.object.held, number, record {
-        owner = p;
-        object = vertex.object;
-        inside = Contains-here p (chunks_from h (length (cells_of h)) (link_at h p));
-        reached = begins (subst (λ (n : ℕ). n < length workers) (sym vertex.named) at.1);
-      })
+      let number : flat_of h p ≡ c = ⊎_elim (λ same. same) (λ none. absurd (Contains-none c none)) (Contains-cases (flat_of h p) [] c target) in (
+        p,
+        vertex.object.held,
+        number,
+        record {
+          owner = p;
+          object = vertex.object;
+          inside = Contains-here p (chunks_from h (length (cells_of h)) (link_at h p));
+          reached = begins (subst (λ (n : ℕ). n < length workers) (sym vertex.named) at.1);
+        },
+      )
 
   -- a pointer of an owned cell leads to an owned cell
   owned_target : (p : Place) → Holds h p → InReachedRow p → (word : ℕ) → Contains (pointers_of (cell_at h p)) word → word ≢ 0 → Holds h (place_in word) × InReachedRow (place_in word)
@@ -166,13 +178,15 @@ module _ (h : SpaceList) (payloads : Payloads) (is : IsSpaceList h) (graph : IsG
           let in_row : Contains (row_words h owned.owner) word = Contains-flat_map (λ q. references_of (cell_at h q)) (row_of h owned.owner) p word owned.inside in_references in
           let refers : RefersTo h word = ⊎_elim (λ z. absurd (some z)) (λ r. r) (All-contains (IsReference h) (row_words h owned.owner) word references in_row) in
           let edge : HasEdge (content_in h payloads).label (name_at h owned.owner) (name_in h word) =
-          ap is_none_held (label_at h payloads is graph (name_at h owned.owner) owned.owner (record { object = owned.object; named = refl }) (name_in h word)) ∙ rights_of_reference h (row_words h owned.owner) references word in_row some in
-          (refers.object.held, record {
-            owner = place_in word;
-            object = refers.object;
-            inside = Contains-here (place_in word) (chunks_from h (length (cells_of h)) (link_at h (place_in word)));
-            reached = goes owned.reached edge;
-          })
+          ap is_none_held (label_at h payloads is graph (name_at h owned.owner) owned.owner (record { object = owned.object; named = refl }) (name_in h word)) ∙ rights_of_reference h (row_words h owned.owner) references word in_row some in (
+            refers.object.held,
+            record {
+              owner = place_in word;
+              object = refers.object;
+              inside = Contains-here (place_in word) (chunks_from h (length (cells_of h)) (link_at h (place_in word)));
+              reached = goes owned.reached edge;
+            },
+          )
       by_case (inr is_link) =
           let some_link : link_at h p ≢ 0 = λ z. some (sym is_link ∙ z) in
           let links : LinksTo h (link_at h p) = link_some h is [] graph.sound p held some_link in
@@ -216,10 +230,55 @@ module _ (h : SpaceList) (payloads : Payloads) (is : IsSpaceList h) (graph : IsG
       let inside : Contains (row_of h owned.3.owner) p = subst (Contains (row_of h owned.3.owner)) same owned.3.inside in
       let chunks = chunks_from h (length (cells_of h)) (link_at h owned.3.owner) in
       let is_owner : owned.3.owner ≡ p = ⊎_elim (λ e. e)
-          (λ rest. absurd (apart_kinds h p vertex.object (All-contains (IsKindAt h Chunk) chunks p (chain_chunks h chunks (link_at h owned.3.owner) (graph.ends owned.3.owner owned.3.object)) rest)))
-          (Contains-cases owned.3.owner chunks p inside) in
+      (λ rest. absurd (apart_kinds h p vertex.object (All-contains (IsKindAt h Chunk) chunks p (chain_chunks h chunks (link_at h owned.3.owner) (graph.ends owned.3.owner owned.3.object)) rest)))
+      (Contains-cases owned.3.owner chunks p inside) in
       subst Reached (ap (name_at h) is_owner ∙ vertex.named) owned.3.reached
 
   -- a full collection from the workers' rows copies the objects of the names that the workers reach
   pub kept_is_reached : (x : ℕ) → IsKeptName h forward x ↔ IsReached (content_in h payloads) (length workers) x
   kept_is_reached x = (kept_reached x, reached_kept x)
+
+  module _ (new : Payloads) (keeps : KeepsPayloads h forward payloads new) where
+    -- the content is the old one on the names that the workers reach
+    pub reached_collected : Keeps (content_in h payloads) (content_in (collected h old) new) (IsReached (content_in h payloads) (length workers))
+    reached_collected =
+        let content = content_collected h payloads is graph roots forward old full spaces new keeps in
+        record {
+          names = λ x. (
+            λ named. let both = (content.names x).0 named in (both.0, kept_reached x both.1),
+            λ both. (content.names x).1 (both.0, reached_kept x both.1),
+          );
+          closed = content.closed;
+          labels = content.labels;
+          values = content.values;
+        }
+
+    -- each worker is where its object was copied to
+    pub workers_collected : (x : ℕ) (p : Place) → slice_get (map (copy_place h forward) workers) x ≡ Some p → IsVertexAt (collected h old) x p
+    workers_collected x p found =
+        let at = slice_get-from_map (copy_place h forward) workers x p found in
+        let vertex = vertices x at.0 at.1 in
+        let inside : x < length workers = slice_get-low workers x at.0 at.1 in
+        let kept = worker_kept x inside in
+        let same : kept.0 ≡ at.0 = graph.names kept.0 at.0 kept.1.object vertex.object (kept.1.named ∙ sym vertex.named) in
+        subst (IsVertexAt (collected h old) x) at.2
+        (vertex_collected h payloads is graph roots forward old full spaces new keeps x at.0 vertex (subst (IsKept h forward) same kept.2))
+
+-- ---- the heap after a full collection
+
+module _ (s : HeapState) (is : IsSpaceList s.table.spaces) (well_formed : IsWellFormed s) (forward : List ℕ) (old : BlockList) (full : IsFullCollection s.table.spaces (roots_of s) forward old) (spaces : IsSpaceList (collected s.table.spaces old)) (new : Payloads)
+    (keeps : KeepsPayloads s.table.spaces forward s.payloads new) where
+  pub well_formed_collected : IsWellFormed (heap_collected s forward old new)
+  well_formed_collected =
+      let long : length (replicate (length s.table.spaces - 1) (let none : BlockList = [] in none)) ≡ length s.table.spaces - 1 = length-replicate (length s.table.spaces - 1) [] in
+      let same : length (map (copy_place s.table.spaces forward) s.workers) ≡ length s.workers = length-map s.workers (copy_place s.table.spaces forward) in
+      let before = well_formed.nurseries in
+      record {
+        graph = graph_collected s.table.spaces s.payloads is well_formed.graph (roots_of s) forward old full spaces new keeps;
+        workers = workers_collected s.table.spaces s.payloads is well_formed.graph s.workers well_formed.workers forward old full spaces new keeps;
+        nurseries = omega arith;
+      }
+
+  pub content_reached : Keeps (content_of s) (content_of (heap_collected s forward old new)) (IsReached (content_of s) (length s.workers))
+  content_reached =
+      reached_collected s.table.spaces s.payloads is well_formed.graph s.workers well_formed.workers forward old full spaces new keeps

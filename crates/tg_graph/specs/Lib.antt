@@ -6,3 +6,4 @@ pub mod Spots
 pub mod Steps
 pub mod Opened
 pub mod Kept
+pub mod Collected

@@ -2,6 +2,7 @@
 #![tactic(auto)]
 
 mod cells;
+pub mod collection_laws;
 mod heap;
 mod opening;
 mod references;
