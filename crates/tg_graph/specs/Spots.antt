@@ -1,5 +1,5 @@
 -- Where the reference to a name stands in a row, or where it may be put.
-use Rattle.std.specs.Prelude.{◌≡◌, ℕ, ◌+◌, ◌<◌, ◌&&◌, if◌then◌else◌, ◌==◌, not, Bool, List, [], ◌∷◌, Option, Some, None, length, option_map, position, slice_get, slice_index}
+use Rattle.std.specs.Prelude.{◌≡◌, ℕ, ◌+◌, ◌<◌, ◌&&◌, if◌then◌else◌, ◌==◌, not, Bool, List, [], ◌∷◌, Option, Some, None, length, option_map, position, slice_index}
 use Rattle.std.specs.Option.{option_or}
 use Rattle.tg_rights.specs.RightSet.{RightSet, is_none_held, minus, union}
 use Rattle.tg_word.specs.declared.Place.{Place}

@@ -1,9 +1,8 @@
 use Rattle.tg_rights.specs.RightSet.{RightSet}
 use Rattle.tg_graph.specs.Spots.{IsPutInRow}
-use Rattle.std.proofs.Common.{◌+◌, ◌≡◌, ap, subst, sym, ◌∙◌, refl}
+use Rattle.std.proofs.Common.{◌+◌, subst, sym}
 use Rattle.std.proofs.lemmas.Result.{IfOk-weaker}
-use Rattle.tg_model.specs.Graph.{with_rights, without_rights}
-use Rattle.tg_model.specs.Rules.{with_value, written_at}
+use Rattle.tg_model.specs.Graph.{with_rights}
 use Rattle.tg_graph.specs.Content.{IsContent, IsNamed}
 use Rattle.tg_graph.specs.Heap.{HeapState, KeepsPlaces, content_of, name_of}
 use Rattle.tg_graph.specs.Steps.{ChangesTo}
