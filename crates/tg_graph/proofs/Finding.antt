@@ -1,9 +1,8 @@
 -- What the place of a word in a row says of the rights over a name.
-use Rattle.std.proofs.Common.{◌≡◌, ◌≢◌, ℕ, zero, suc, ◌+◌, ◌-◌, ◌<◌, ◌≤◌, ◌⊎◌, inl, inr, ◌==◌, Bool, true, false, cond, List, [], ◌∷◌, ◌++◌, Option, Some, None, length, get_or, take, drop, refl, sym, ap, subst, arith, ◌∙◌, ⊎_elim, option_map}
+use Rattle.std.proofs.Common.{◌≡◌, ◌≢◌, ℕ, zero, suc, ◌+◌, ◌-◌, ◌<◌, ◌≤◌, ◌==◌, Bool, true, false, cond, List, [], ◌∷◌, ◌++◌, Option, Some, None, length, get_or, drop, refl, sym, ap, subst, arith, ◌∙◌, ⊎_elim, option_map}
 use Rattle.std.specs.Prelude.{nat_lt, position, slice_index}
 use Rattle.std.specs.List.{All, Contains, position_or_len}
 use Rattle.std.specs.Option.{option_or}
-use Rattle.std.proofs.lemmas.Bool.{cases_Bool}
 use Rattle.std.proofs.lemmas.Bool.Decides.{nat_tests}
 use Rattle.std.proofs.lemmas.List.{get_or-take, get_or-drop, get_or_default, length-take, length-drop}
 use Rattle.std.proofs.lemmas.List.Elements.{All-nil, All-append, All-contains, All-weaker}
@@ -20,7 +19,7 @@ use Rattle.tg_space.specs.Targets.{first_pointer}
 use Rattle.tg_graph.specs.Rows.{IsChain, IsRow, chunks_from, link_at, name_at, name_in, references_of, rights_to, row_of, row_words}
 use Rattle.tg_graph.specs.Content.{IsNamed}
 use Rattle.tg_graph.specs.Heap.{IsGraph, content_in}
-use Rattle.tg_graph.specs.Spots.{IsSpotIn, is_empty, last_of, refers_to, word_in_cell, word_of_cell, word_where}
+use Rattle.tg_graph.specs.Spots.{IsSpotIn, is_empty, last_of, refers_to, word_of_cell, word_where}
 use Rattle.tg_graph.specs.declared.rows.Spot.{Spot}
 use Rattle.tg_graph.specs.declared.rows.Spot.TheVariants.{Reference, Empty, Full}
 use Rattle.tg_graph.proofs.Chains.{row_held, row_references}

@@ -1,10 +1,10 @@
 -- Steps of a change, one after the other: room is made, a vertex is placed, a value is written.
-use Rattle.std.proofs.Common.{◌≡◌, ◌≢◌, ◌↔◌, ℕ, ◌+◌, ◌*◌, ◌<◌, ◌≤◌, ◌⊎◌, inl, inr, ◌==◌, not, ◌&&◌, Bool, true, false, cond, List, [], ◌∷◌, length, get_or, set, drop, Option, Some, None, IsSome, refl, sym, ap, subst, arith, ◌∙◌, ⊎_elim, option_map}
+use Rattle.std.proofs.Common.{◌≡◌, ◌≢◌, ◌↔◌, ℕ, ◌+◌, ◌*◌, ◌<◌, ◌≤◌, ◌⊎◌, inl, inr, ◌==◌, not, ◌&&◌, Bool, true, false, cond, List, [], ◌∷◌, length, set, drop, Option, Some, None, IsSome, refl, sym, ap, subst, arith, ◌∙◌, ⊎_elim, option_map}
 use Rattle.std.specs.Prelude.{nat_lt, position, slice_index, slice_index_or}
 use Rattle.std.specs.List.{All, position_or_len}
 use Rattle.std.specs.Option.{option_or}
 use Rattle.std.proofs.lemmas.Bool.{cases_eq}
-use Rattle.std.proofs.lemmas.Bool.Decides.{nat_tests, eqb_tells}
+use Rattle.std.proofs.lemmas.Bool.Decides.{eqb_tells}
 use Rattle.std.proofs.lemmas.List.{length-set, get_or-set_same, get_or-set_other}
 use Rattle.std.proofs.lemmas.List.Elements.{All-head, All-tail, All-weaker}
 use Rattle.tg_rights.specs.RightSet.{RightSet, is_none_held}
@@ -21,7 +21,7 @@ use Rattle.tg_space.specs.Targets.{first_pointer}
 use Rattle.tg_space.proofs.Tables.{kept-with_block, table_cell, table_list}
 use Rattle.tg_nursery.specs.Allocation.{HasLeft, room_made_for}
 use Rattle.tg_payload.specs.Table.{Payloads, Updates, entry}
-use Rattle.tg_graph.specs.Content.{IsContent, IsNamed}
+use Rattle.tg_graph.specs.Content.{IsNamed}
 use Rattle.tg_graph.specs.Heap.{IsGraph, content_in}
 use Rattle.tg_graph.specs.Rows.{IsChain, IsVertexAt, chunks_from, key_at, link_at, name_at, name_in, references_of, row_of, row_words}
 use Rattle.tg_graph.specs.Spots.{CanPut, IsSpotIn, cells_for, is_empty, last_of, refers_to, table_put, word_in_cell, word_of_cell, word_where}
@@ -31,7 +31,7 @@ use Rattle.tg_graph.specs.declared.rows.Spot.TheVariants.{Reference, Empty, Full
 use Rattle.tg_graph.proofs.Chains.{chain_same, row_held}
 use Rattle.tg_graph.proofs.Finding.{words_are_references}
 use Rattle.tg_graph.proofs.Fresh.{block_added, block_stays, fresh_same, fresh_stays, vertex_at, vertex_placed}
-use Rattle.tg_graph.proofs.Kept.{Becomes, Stays, chain_stays, name_stays}
+use Rattle.tg_graph.proofs.Kept.{Becomes, Stays, chain_stays}
 use Rattle.tg_graph.proofs.Linked.{value_written}
 use Rattle.tg_graph.proofs.Lookups.{label_is, name_of_vertex, value_at, value_is}
 use Rattle.tg_graph.proofs.Members.{All-left, All-right}

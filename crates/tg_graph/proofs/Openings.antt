@@ -1,13 +1,13 @@
 -- What the steps of an opening make of its cells.
-use Rattle.std.proofs.Common.{◌≡◌, ◌≢◌, ◌↔◌, ℕ, zero, suc, ◌+◌, ◌*◌, ◌/◌, ◌%◌, ◌<◌, ◌≤◌, ◌⊎◌, inl, inr, ◌==◌, ◌&&◌, Bool, true, false, cond, if◌then◌else◌, List, [], ◌∷◌, ◌++◌, length, get_or, set, take, drop, Option, Some, None, IsSome, refl, sym, ap, subst, arith, ◌∙◌, ⊎_elim, drop-cons, length-take, add-one}
+use Rattle.std.proofs.Common.{◌≡◌, ◌≢◌, ◌↔◌, ℕ, suc, ◌+◌, ◌*◌, ◌<◌, ◌≤◌, ◌⊎◌, inl, inr, ◌==◌, ◌&&◌, Bool, true, false, cond, if◌then◌else◌, List, [], ◌∷◌, ◌++◌, length, get_or, set, take, drop, Option, Some, None, IsSome, refl, sym, ap, subst, arith, ◌∙◌, ⊎_elim, drop-cons, length-take, add-one}
 use Rattle.std.specs.Prelude.{nat_lt, slice_get, slice_index, slice_index_or}
-use Rattle.std.specs.List.{All, Contains}
+use Rattle.std.specs.List.{All}
 use Rattle.std.proofs.lemmas.Bool.{cases_Bool, cases_eq, cases_lt}
 use Rattle.std.proofs.lemmas.Bool.Decides.{nat_tests, eqb_tells}
 use Rattle.std.proofs.lemmas.List.{get_or-set_same, get_or-set_other, get_or-take, get_or_past, get_or_read, get_or_append_left, get_or_push, length-set, length_push}
 use Rattle.std.proofs.lemmas.Option.{get_or_from_slice_get, slice_get-get_or, slice_get_within}
 use Rattle.tg_rights.specs.RightSet.{RightSet, is_none_held, no_rights, union}
-use Rattle.tg_rights.specs.RightLaws.{none_held-same, union_assoc, union_none}
+use Rattle.tg_rights.specs.RightLaws.{none_held-same, union_assoc}
 use Rattle.tg_model.specs.declared.edge.Edge.{Edge}
 use Rattle.tg_model.specs.declared.value.Value.{Value}
 use Rattle.tg_model.specs.Graph.{with_rights}
@@ -15,35 +15,34 @@ use Rattle.tg_model.specs.Opened.{IsPlan, JoinsWorkers, Plan, label_in, start_of
 use Rattle.tg_model.specs.Rules.{with_value}
 use Rattle.tg_model.proofs.PlainLaws.{slice_get-push}
 use Rattle.tg_model.proofs.ReachLaws.{lt-IsReachable}
-use Rattle.tg_model.proofs.SoundLaws.{IsSound-start_of, Joined, joined_in}
+use Rattle.tg_model.proofs.SoundLaws.{IsSound-start_of, joined_in}
 use Rattle.tg_word.specs.declared.Place.{Place}
 use Rattle.tg_word.specs.Word.{link_to, word_at}
-use Rattle.tg_block.specs.Cells.{free_cell, kind_of}
-use Rattle.tg_block.specs.declared.CellKind.{CellKind}
+use Rattle.tg_block.specs.Cells.{kind_of}
 use Rattle.tg_block.specs.declared.CellKind.TheVariants.{Free, Object}
-use Rattle.tg_space.specs.SpaceList.{SpaceList, Holds, IsSpaceList, cell_at, space_of, with_block, with_cell_at, with_word_at}
-use Rattle.tg_space.specs.SpaceTable.{SpaceTable, BlockLimits, IsNursery, IsSpaceTable, place_in_space, used_of, with_one_used, with_spaces}
+use Rattle.tg_space.specs.SpaceList.{Holds, IsSpaceList, cell_at, space_of, with_block, with_cell_at}
+use Rattle.tg_space.specs.SpaceTable.{SpaceTable, BlockLimits, IsSpaceTable, place_in_space, used_of, with_spaces}
 use Rattle.tg_space.specs.Soundness.{AreSound, HasLayout, IsKindAt}
 use Rattle.tg_space.proofs.Tables.{holds_same, length-with_block, shape_cell, shape_written, table_list}
-use Rattle.tg_nursery.specs.Allocation.{HasLeft, room_made_for}
+use Rattle.tg_nursery.specs.Allocation.{room_made_for}
 use Rattle.tg_payload.specs.Table.{Payloads, entry}
-use Rattle.tg_graph.specs.Content.{IsContent, IsNamed}
-use Rattle.tg_graph.specs.Heap.{IsGraph, content_in}
+use Rattle.tg_graph.specs.Content.{IsNamed}
+use Rattle.tg_graph.specs.Heap.{content_in}
 use Rattle.tg_graph.specs.Opened.{HasBlocks, IsOpened, TakesOneCell, labels_before, no_labels, with_row}
-use Rattle.tg_graph.specs.Rows.{IsVertexAt, link_at, name_at}
+use Rattle.tg_graph.specs.Rows.{IsVertexAt}
 use Rattle.tg_graph.specs.Spots.{CanPut, chunk_words, table_put, widened}
 use Rattle.tg_graph.specs.Standing.{StandsFor}
 use Rattle.tg_graph.specs.Steps.{ChangesTo}
 use Rattle.tg_graph.specs.declared.rows.Spot.{Spot}
 use Rattle.tg_graph.specs.declared.rows.Spot.TheVariants.{Reference, Empty, Full}
 use Rattle.tg_graph.proofs.Growing.{becomes_from, becomes_then, changes}
-use Rattle.tg_graph.proofs.Lookups.{IsRead, content_from, label_is, value_is}
+use Rattle.tg_graph.proofs.Lookups.{content_from, label_is, value_is}
 use Rattle.tg_graph.proofs.Places.{sound_from_places}
 
 -- ---- edges, read into a row
 
 -- one more edge
-pub row_step : (edges : List Edge) (from k : ℕ) (edge : Edge) (row after : List RightSet) (y : ℕ) → k < length edges → edge ≡ get_or edges k edge  →
+pub row_step : (edges : List Edge) (from k : ℕ) (edge : Edge) (row after : List RightSet) (y : ℕ) → k < length edges → edge ≡ get_or edges k edge →
     ((from ≡ edge.from) × (edge.to < length row) × (after ≡ set row edge.to (union (slice_index_or row edge.to no_rights) edge.label))) ⊎ ((from ≢ edge.from) × (after ≡ row)) →
     union (slice_index_or row y no_rights) (label_in (drop k edges) from y) ≡ label_in edges from y →
     union (slice_index_or after y no_rights) (label_in (drop (k + 1) edges) from y) ≡ label_in edges from y

@@ -1,5 +1,5 @@
 -- What rights that are put into a row, or taken from it, make of a graph.
-use Rattle.std.proofs.Common.{◌≡◌, ◌≢◌, ℕ, ◌+◌, ◌*◌, ◌/◌, ◌%◌, ◌<◌, ◌≤◌, ◌⊎◌, inl, inr, ◌==◌, ◌||◌, Bool, true, false, cond, List, [], ◌∷◌, length, get_or, Option, Some, None, IsSome, refl, sym, ap, subst, arith, ◌∙◌, ⊎_elim}
+use Rattle.std.proofs.Common.{◌≡◌, ◌≢◌, ℕ, ◌<◌, ◌≤◌, ◌⊎◌, inl, inr, ◌==◌, ◌||◌, Bool, true, false, cond, List, length, Option, Some, None, refl, sym, ap, subst, arith, ◌∙◌}
 use Rattle.std.specs.Prelude.{slice_index}
 use Rattle.std.specs.List.{All, Contains}
 use Rattle.std.proofs.lemmas.Bool.{cases_Bool, cases_lt}
@@ -7,24 +7,24 @@ use Rattle.std.proofs.lemmas.Bool.Decides.{eqb_tells}
 use Rattle.std.proofs.lemmas.List.Elements.{All-contains}
 use Rattle.tg_rights.specs.declared.Right.{Right}
 use Rattle.tg_rights.specs.RightSet.{RightSet, has, is_none_held, minus, no_rights, union}
-use Rattle.tg_rights.specs.RightLaws.{has-none_held, has-no_rights, has-union, none_held-same, none_union, same-none_held, same_rights}
+use Rattle.tg_rights.specs.RightLaws.{has-none_held, has-no_rights, has-union, none_held-same, same-none_held, same_rights}
 use Rattle.tg_model.specs.declared.value.Value.{Value}
 use Rattle.tg_model.specs.Graph.{with_rights, without_rights}
 use Rattle.tg_word.specs.declared.Place.{Place}
 use Rattle.tg_word.specs.Word.{IsPlace, place_in, rights_in, word_at}
 use Rattle.tg_word.proofs.Packing.{is_present-word_at, place_in-word_at, rights_in-word_at}
-use Rattle.tg_block.specs.Cells.{free_cell, kind_of}
+use Rattle.tg_block.specs.Cells.{kind_of}
 use Rattle.tg_block.specs.declared.CellKind.TheVariants.{Free, Object}
 use Rattle.tg_space.specs.SpaceList.{SpaceList, Holds, IsSpaceList, cell_at, cells_of, with_word_at}
-use Rattle.tg_space.specs.SpaceTable.{SpaceTable, IsHandedOut, IsNursery, IsSpaceTable, number_in_space, place_in_space, used_of}
+use Rattle.tg_space.specs.SpaceTable.{SpaceTable, IsNursery, IsSpaceTable, number_in_space, place_in_space, used_of}
 use Rattle.tg_space.specs.Soundness.{IsKindAt, RefersTo}
 use Rattle.tg_space.proofs.Tables.{table_list}
 use Rattle.tg_nursery.specs.Allocation.{HasLeft}
 use Rattle.tg_payload.specs.Table.{Payloads}
-use Rattle.tg_graph.specs.Content.{IsContent, IsNamed}
+use Rattle.tg_graph.specs.Content.{IsNamed}
 use Rattle.tg_graph.specs.Heap.{IsGraph, content_in}
 use Rattle.tg_graph.specs.Rows.{chunks_from, link_at, name_at, name_in, row_of, row_words}
-use Rattle.tg_graph.specs.Spots.{CanPut, CanWrite, IsSpotIn, cells_for, is_empty, last_of, narrowed, refers_to, table_put, widened, word_put, word_where}
+use Rattle.tg_graph.specs.Spots.{CanPut, CanWrite, IsSpotIn, cells_for, is_empty, last_of, narrowed, refers_to, table_put, widened, word_where}
 use Rattle.tg_graph.specs.declared.rows.Spot.{Spot}
 use Rattle.tg_graph.specs.declared.rows.Spot.TheVariants.{Reference, Empty, Full}
 use Rattle.tg_graph.proofs.Layouts.{present_place}
@@ -33,7 +33,7 @@ use Rattle.tg_graph.proofs.Kept.{Becomes, with_label, with_label-minus, with_lab
 use Rattle.tg_graph.proofs.Fresh.{row_used}
 use Rattle.tg_graph.proofs.Written.{slot_changed, slot_cleared, slot_filled}
 use Rattle.tg_graph.proofs.Linked.{chunk_added, held_place}
-use Rattle.tg_graph.proofs.Finding.{IsReferenceTo, cell_held, empty_found, found_refers, label_is_read, last_ends, none_found, none_refers, others_where, reference_found}
+use Rattle.tg_graph.proofs.Finding.{IsReferenceTo, cell_held, empty_found, found_refers, label_is_read, last_ends, none_refers, others_where, reference_found}
 
 -- ---- rights
 

@@ -1,5 +1,5 @@
 -- Walks along rows, cell by cell.
-use Rattle.std.proofs.Common.{◌≡◌, ◌≢◌, ℕ, ◌+◌, ◌-◌, ◌<◌, ◌≤◌, ◌⊎◌, inl, inr, ◌==◌, not, ◌&&◌, Bool, true, false, List, [], ◌∷◌, ◌++◌, Option, Some, None, length, get_or, take, drop, refl, sym, ap, subst, arith, ◌∙◌, ⊎_elim, option_map, map, append_assoc, append-nil}
+use Rattle.std.proofs.Common.{◌≡◌, ◌≢◌, ℕ, ◌+◌, ◌-◌, ◌<◌, ◌≤◌, ◌⊎◌, inl, inr, ◌==◌, not, Bool, true, false, List, [], ◌∷◌, ◌++◌, Option, Some, None, length, get_or, take, drop, refl, sym, ap, subst, arith, ◌∙◌, ⊎_elim, option_map, map, append_assoc, append-nil}
 use Rattle.std.specs.Prelude.{nat_lt, position, slice_index}
 use Rattle.std.specs.List.{filter, flat_map, position_or_len}
 use Rattle.std.specs.Option.{option_or}
@@ -11,9 +11,7 @@ use Rattle.tg_rights.specs.RightSet.{RightSet, is_none_held}
 use Rattle.std.proofs.lemmas.List.Sums.{position_or_len_is}
 use Rattle.tg_word.specs.declared.Place.{Place}
 use Rattle.tg_word.specs.Word.{place_in, rights_in}
-use Rattle.tg_block.specs.declared.CellKind.TheVariants.{Object, Chunk}
 use Rattle.tg_space.specs.SpaceList.{SpaceList, Holds, cell_at, cells_of}
-use Rattle.tg_space.specs.Soundness.{IsKindAt}
 use Rattle.tg_space.specs.Targets.{first_pointer}
 use Rattle.tg_graph.specs.Rows.{IsChain, IsRow, chunks_from, edges_in, link_at, name_in, references_of, row_of, row_words}
 use Rattle.tg_graph.specs.Spots.{IsSpotIn, is_empty, last_of, refers_to, spot_for_new, word_in_cell, word_of_cell, word_where}

@@ -1,5 +1,5 @@
 -- What the cells of a heap say: which vertices there are, and the row of references of each.
-use Rattle.std.specs.Prelude.{◌≡◌, ◌≢◌, ℕ, zero, suc, ◌-◌, ◌&&◌, ◌==◌, not, Bool, if◌then◌else◌, List, [], ◌∷◌, Option, Some, None, length, take, drop, map, slice_index}
+use Rattle.std.specs.Prelude.{◌≡◌, ◌≢◌, ℕ, zero, suc, ◌-◌, ◌&&◌, ◌==◌, not, Bool, if◌then◌else◌, List, [], ◌∷◌, Option, length, take, drop, map, slice_index}
 use Rattle.std.specs.List.{filter, find, flat_map, range_with_len}
 use Rattle.tg_rights.specs.RightSet.{RightSet, is_none_held, no_rights}
 use Rattle.tg_word.specs.declared.Place.{Place}

@@ -1,15 +1,15 @@
 -- Where the reference to a name stands in a row, or where it may be put.
-use Rattle.std.specs.Prelude.{◌≡◌, ℕ, ◌+◌, ◌<◌, ◌&&◌, if◌then◌else◌, ◌==◌, not, Bool, List, [], ◌∷◌, Option, Some, None, length, option_map, position, slice_get, slice_index}
+use Rattle.std.specs.Prelude.{◌≡◌, ℕ, ◌+◌, ◌<◌, ◌&&◌, if◌then◌else◌, ◌==◌, not, Bool, List, [], ◌∷◌, Option, Some, None, length, option_map, position, slice_index}
 use Rattle.std.specs.Option.{option_or}
 use Rattle.tg_rights.specs.RightSet.{RightSet, is_none_held, minus, union}
 use Rattle.tg_word.specs.declared.Place.{Place}
 use Rattle.tg_word.specs.Word.{IsPlace, link_to, place_in, rights_in, word_at}
 use Rattle.tg_block.specs.Cells.{chunk_tag}
-use Rattle.tg_space.specs.SpaceList.{SpaceList, Holds, cell_at, with_cell_at, with_word_at}
+use Rattle.tg_space.specs.SpaceList.{SpaceList, Holds, cell_at, cells_of, with_cell_at, with_word_at}
 use Rattle.tg_space.specs.SpaceTable.{SpaceTable, IsHandedOut, place_in_space, used_of, with_one_used, with_spaces}
-use Rattle.tg_nursery.specs.Allocation.{HasLeft}
+use Rattle.tg_nursery.specs.Allocation.{HasLeft, room_made_for}
 use Rattle.tg_space.specs.Targets.{first_pointer}
-use Rattle.tg_graph.specs.Rows.{name_in, references_of, row_of}
+use Rattle.tg_graph.specs.Rows.{chunks_from, link_at, name_at, name_in, references_of}
 use Rattle.tg_graph.specs.declared.rows.Spot.{Spot}
 use Rattle.tg_graph.specs.declared.rows.Spot.TheVariants.{Reference, Empty, Full}
 
@@ -51,6 +51,10 @@ abbrev pub spot_for_new : Option (Place × ℕ) → Place → Spot
 spot_for_new None last = Full last
 spot_for_new (Some e) last = Empty e.0 e.1
 
+-- the same, of the row of the object at a place
+abbrev pub IsSpotFor : SpaceList → ℕ → Place → Spot → Type 0
+IsSpotFor h name p spot = IsSpotIn h name p (chunks_from h (length (cells_of h)) (link_at h p)) spot
+
 -- ---- what is written
 
 -- how many cells a new reference takes
@@ -87,6 +91,12 @@ abbrev pub table_put : SpaceTable → ℕ → Spot → RightSet → Place → Sp
 table_put t space (Reference cell index) rights to = word_put t cell index (widened (slice_index (cell_at t.spaces cell) index) rights)
 table_put t space (Empty cell index) rights to = word_put t cell index (word_at rights to)
 table_put t space (Full last) rights to = chunk_put t space last (word_at rights to)
+
+-- Rights over the object at a place were put where they go in the row of another: nothing else was written, and there is
+-- a new block only where a chunk needed one.
+abbrev pub IsPutInRow : SpaceTable → SpaceTable → ℕ → Place → Place → RightSet → Type 0
+IsPutInRow old new space from to rights =
+    (spot : Spot) × IsSpotFor old.spaces (name_at old.spaces to) from spot × (new ≡ table_put (room_made_for old space (cells_for spot)) space spot rights to)
 
 -- a word of a cell may be written
 pub record CanWrite (t : SpaceTable) (cell : Place) (index : ℕ) : Type 0 where

@@ -14,6 +14,7 @@ ghost use Rattle.tg_graph.specs.Content.{IsNamed};
 ghost use Rattle.tg_graph.specs.Heap.{IsGraph, IsOutOfCells, content_in, rights_found};
 ghost use Rattle.tg_graph.specs.Rows.{IsVertexAt, name_at};
 ghost use Rattle.tg_graph.specs.Opened.{TakesOneCell};
+ghost use Rattle.tg_graph.specs.Spots.{IsPutInRow};
 ghost use Rattle.tg_graph.specs.Steps.{ChangesTo, KeepsRows};
 
 use crate::heap::{Found, VertexRefused};
@@ -122,6 +123,7 @@ impl<P: Payload> Cells<P> {
         ensures refused { OnErr result (self.new.spaces ≡ self.old.spaces) }
         ensures full { result ≡ Err AllocateFault.HeapFull → IsOutOfCells self.old.spaces (worker + 2) 1 }
         ensures had_room { HasLeft self.old.spaces (worker + 2) 1 → IsOk result }
+        ensures placed { OnOk result (IsPutInRow self.old.spaces self.new.spaces (worker + 2) from to rights) }
         ensures one_cell { OnOk result (TakesOneCell self.old.spaces self.new.spaces (worker + 2)) }
     {
         let name = self.spaces.read(to, NAME);

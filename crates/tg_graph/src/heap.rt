@@ -8,6 +8,7 @@ ghost use Rattle.tg_space.specs.SpaceTable.{IsSpaceTable};
 ghost use Rattle.tg_graph.specs.Content.{IsContent, IsNamed};
 ghost use Rattle.tg_graph.specs.Heap.{IsObject, IsOutOfCells, IsUnchanged, IsWellFormed, KeepsPlaces, content_of, name_of, rights_found};
 ghost use Rattle.tg_graph.specs.Rows.{IsVertexAt};
+ghost use Rattle.tg_graph.specs.Spots.{IsPutInRow};
 ghost use Rattle.tg_graph.specs.Standing.{StandsFor};
 
 use crate::cells::Cells;
@@ -186,6 +187,7 @@ impl<P: Payload> Heap<P> {
         requires to { IsObject self.old to }
         ensures added { OnOk result (IsContent (content_of self.new) (IsNamed (content_of self.old))
             (with_rights (content_of self.old).label (name_of self.old from) (name_of self.old to) label) (content_of self.old).value) }
+        ensures placed { OnOk result (IsPutInRow self.old.table self.new.table (worker + 2) from to label) }
         ensures kept { OnOk result (KeepsPlaces self.old self.new) }
         ensures refused { OnErr result (self.new ≡ self.old) }
         ensures full { result ≡ Err AllocateFault.HeapFull → IsOutOfCells self.old.table (worker + 2) 1 }
@@ -226,7 +228,7 @@ impl<P: Payload> Heap<P> {
         ensures refused { OnErr result (IsUnchanged self.old self.new) }
         ensures full { IfErr result (λ refused. refused.why ≡ AllocateFault.HeapFull → IsOutOfCells self.old.table (worker + 2) 2) }
     {
-        let from = self.workers[worker as usize];
+        let from = self.worker_place(worker);
         self.cells
             .new_vertex(worker, from, name, label.rights(), draft)
     }

@@ -169,7 +169,7 @@ fn add_edges<P: Payload>(cells: &mut Cells<P>, places: &[Place], row: &mut [Righ
     ensures added { let content = content_in cells.old.spaces.spaces cells.old.payloads in
         ChangesTo cells.old.spaces cells.new.spaces cells.old.payloads (IsNamed content) (label_in edges.now) content.value }
     ensures payloads { cells.new.payloads ≡ cells.old.payloads }
-    ensures blocks { (space : ℕ) → length (space_of cells.old.spaces.spaces space) ≤ length (space_of cells.new.spaces.spaces space) }
+    ensures block_counts { (space : ℕ) → length (space_of cells.old.spaces.spaces space) ≤ length (space_of cells.new.spaces.spaces space) }
 {
     for from in 0..places.len() as u64 {
         read_row(edges, from, row);

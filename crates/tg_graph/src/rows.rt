@@ -6,7 +6,7 @@ ghost use Rattle.tg_space.specs.SpaceList.{cells_of};
 ghost use Rattle.tg_space.specs.SpaceTable.{IsSpaceTable};
 ghost use Rattle.tg_space.specs.Soundness.{AreSound, IsReference};
 ghost use Rattle.tg_graph.specs.Rows.{IsRow, chunks_from, edges_in, link_at, row_words};
-ghost use Rattle.tg_graph.specs.Spots.{IsSpotIn, cells_for, is_empty, refers_to, spot_for_new as new_spot};
+ghost use Rattle.tg_graph.specs.Spots.{IsSpotFor, cells_for, is_empty, refers_to, spot_for_new as new_spot};
 
 use std::alloc::{AllocError, Global};
 use tg_rights::Label;
@@ -48,7 +48,7 @@ pub(crate) fn find_spot(spaces: &Spaces, from: Place, name: u64) -> Spot
     requires sound { AreSound spaces.now.spaces [] }
     requires row { IsRow spaces.now.spaces from }
     ensures table { IsSpaceTable spaces.now }
-    ensures spot { IsSpotIn spaces.now.spaces name from (chunks_from spaces.now.spaces (length (cells_of spaces.now.spaces)) (link_at spaces.now.spaces from)) result }
+    ensures spot { IsSpotFor spaces.now.spaces name from result }
 {
     let mut empty = None;
     let mut at = from;

@@ -1,4 +1,4 @@
-use Rattle.std.proofs.Common.{◌≡◌, ◌≢◌, ◌∙◌, ◌+◌, ◌≤◌, ℕ, length, ap, sym, subst, arith}
+use Rattle.std.proofs.Common.{◌≡◌, ◌≢◌, ◌∙◌, ◌+◌, length, ap, subst, arith}
 use Rattle.tg_model.specs.Opened.{label_in}
 use Rattle.tg_payload.specs.Table.{Payloads}
 use Rattle.tg_graph.specs.Content.{IsNamed}

@@ -1,4 +1,4 @@
-use Rattle.std.proofs.Common.{◌≡◌, ◌+◌, ◌<◌, ◌≤◌, ℕ, length}
+use Rattle.std.proofs.Common.{◌≡◌, ◌+◌, ◌≤◌, ℕ, length}
 use Rattle.tg_space.specs.SpaceList.{space_of}
 use Rattle.tg_space.specs.SpaceTable.{used_of}
 use Rattle.tg_graph.specs.Content.{IsNamed}

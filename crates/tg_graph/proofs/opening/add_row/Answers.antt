@@ -1,4 +1,4 @@
-use Rattle.std.proofs.Common.{◌≡◌, ◌≢◌, ◌∙◌, ◌+◌, ◌<◌, ◌≤◌, ◌⊎◌, ℕ, Some, length, take, ap, sym, subst, arith, ⊎_elim, true}
+use Rattle.std.proofs.Common.{◌≡◌, ◌∙◌, ◌+◌, ◌<◌, ℕ, Some, length, take, ap, subst, arith, ⊎_elim}
 use Rattle.std.specs.Prelude.{slice_get, slice_index_or}
 use Rattle.std.proofs.lemmas.Bool.{cases_lt}
 use Rattle.std.proofs.lemmas.List.{get_or_read}
@@ -10,7 +10,7 @@ use Rattle.tg_space.specs.SpaceTable.{SpaceTable, used_of}
 use Rattle.tg_graph.specs.Content.{IsNamed}
 use Rattle.tg_graph.specs.Heap.{content_in}
 use Rattle.tg_graph.specs.Opened.{with_row}
-use Rattle.tg_graph.specs.Rows.{IsVertexAt, name_at}
+use Rattle.tg_graph.specs.Rows.{name_at}
 use Rattle.tg_graph.specs.Steps.{ChangesTo}
 use Rattle.tg_graph.proofs.Openings.{changes_more, with_row-more}
 use Rattle.tg_graph.proofs.opening.add_row.Goals as goal
@@ -67,9 +67,9 @@ loop-to-preserved g c =
           ⊎_elim
           (λ earlier. let few = before.used_past earlier in omega (arith, used, few))
           (λ later.
-              let same : to ≡ from = omega (arith, past, later) in
-              let none : r ≡ no_rights = get_or_read row to r inside c.index-row-to.is no_rights ∙ ap (λ n. slice_index_or row n no_rights) same ∙ c.requires.no_loop in
-              let kept : used_of t2 (from + 2) ≡ used_of t1 (from + 2) = ap (λ (x : SpaceTable). used_of x (from + 2)) (step.nothing (ap is_none_held none)) in
-              omega (arith, kept, used_before))
+          let same : to ≡ from = omega (arith, past, later) in
+          let none : r ≡ no_rights = get_or_read row to r inside c.index-row-to.is no_rights ∙ ap (λ n. slice_index_or row n no_rights) same ∙ c.requires.no_loop in
+          let kept : used_of t2 (from + 2) ≡ used_of t1 (from + 2) = ap (λ (x : SpaceTable). used_of x (from + 2)) (step.nothing (ap is_none_held none)) in
+          omega (arith, kept, used_before))
           (cases_lt from to);
     }

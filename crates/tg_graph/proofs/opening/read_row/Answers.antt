@@ -1,4 +1,4 @@
-use Rattle.std.proofs.Common.{◌≡◌, ◌≢◌, ◌∙◌, ◌<◌, inl, inr, sym, ap, subst, arith, set, length}
+use Rattle.std.proofs.Common.{◌∙◌, inl, inr, sym, ap, subst, arith, set, length}
 use Rattle.std.specs.Prelude.{slice_index_or}
 use Rattle.std.proofs.lemmas.List.Elements.{All-get_or}
 use Rattle.tg_rights.specs.RightSet.{no_rights, union}

@@ -1,4 +1,4 @@
-use Rattle.std.proofs.Common.{◌≡◌, ℕ, length, drop}
+use Rattle.std.proofs.Common.{◌≡◌, ℕ, drop}
 use Rattle.std.specs.Prelude.{slice_index_or}
 use Rattle.tg_rights.specs.RightSet.{no_rights, union}
 use Rattle.tg_model.specs.Opened.{label_in}

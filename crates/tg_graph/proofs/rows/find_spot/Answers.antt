@@ -1,4 +1,4 @@
-use Rattle.std.proofs.Common.{◌≡◌, ◌∙◌, sym, subst, [], length}
+use Rattle.std.proofs.Common.{◌∙◌, sym, subst, [], length}
 use Rattle.std.specs.List.{All}
 use Rattle.tg_space.specs.SpaceList.{cell_at, cells_of}
 use Rattle.tg_space.specs.Soundness.{IsReference}

@@ -1,4 +1,4 @@
-use Rattle.std.proofs.Common.{◌≡◌, ◌∙◌, arith, sym, subst, refl, length}
+use Rattle.std.proofs.Common.{arith, sym, subst, refl, length}
 use Rattle.std.specs.Prelude.{slice_index}
 use Rattle.std.proofs.lemmas.List.{length-set}
 use Rattle.tg_space.specs.SpaceList.{cell_at, cells_of}

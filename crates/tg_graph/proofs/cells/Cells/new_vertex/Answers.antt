@@ -1,5 +1,5 @@
-use Rattle.std.proofs.Common.{◌+◌, arith, ap, sym}
-use Rattle.tg_graph.proofs.Growing.{as_many_spaces, grown_graph, placed_can, still_fresh, vertex_made}
+use Rattle.std.proofs.Common.{◌+◌, arith, ap}
+use Rattle.tg_graph.proofs.Growing.{grown_graph, placed_can, still_fresh, vertex_made}
 use Rattle.tg_graph.proofs.cells.Cells.new_vertex.Goals as goal
 
 pub place_vertex-to-requires-clause-graph : goal.place_vertex-to-requires-clause-graph

@@ -1,4 +1,4 @@
-use Rattle.std.proofs.Common.{◌≡◌, ◌∙◌, ℕ, List, ap, sym, subst, refl, get_or, Option, option_map, OnOk}
+use Rattle.std.proofs.Common.{◌≡◌, ℕ, List, ap, sym, subst, refl, get_or, option_map}
 use Rattle.std.proofs.lemmas.Result.{IfOk-weaker}
 use Rattle.tg_model.specs.Rules.{written, written_at}
 use Rattle.tg_payload.specs.Table.{Updates, entry}

@@ -1,7 +1,8 @@
-use Rattle.std.proofs.Common.{◌≡◌, ap, subst, sym, ◌∙◌, refl}
+use Rattle.tg_rights.specs.RightSet.{RightSet}
+use Rattle.tg_graph.specs.Spots.{IsPutInRow}
+use Rattle.std.proofs.Common.{◌+◌, subst, sym}
 use Rattle.std.proofs.lemmas.Result.{IfOk-weaker}
-use Rattle.tg_model.specs.Graph.{with_rights, without_rights}
-use Rattle.tg_model.specs.Rules.{with_value, written_at}
+use Rattle.tg_model.specs.Graph.{with_rights}
 use Rattle.tg_graph.specs.Content.{IsContent, IsNamed}
 use Rattle.tg_graph.specs.Heap.{HeapState, KeepsPlaces, content_of, name_of}
 use Rattle.tg_graph.specs.Steps.{ChangesTo}
@@ -48,3 +49,11 @@ returns-clause-kept g c =
     let to = subst (λ p. ChangesTo s.table new.spaces p (IsNamed content) label content.value) (sym c.add_edge.ensures.payloads) added in
     subst (λ (x : HeapState). KeepsPlaces x after) c.self.view_is (places_kept s new.spaces new.payloads (IsNamed content) label content.value to))
     c.add_edge.ensures.added
+
+pub returns-clause-placed : goal.returns-clause-placed
+returns-clause-placed g c =
+    let s : HeapState = record { table = c.self.inside.cells.spaces; payloads = c.self.inside.cells.payloads; workers = c.self.inside.workers.items } in
+    let new = c.add_edge.new.self.spaces in
+    let Placed : HeapState → RightSet → Type 0 = λ x r. IsPutInRow x.table new (c.args.worker + 2) c.args.from c.args.to r in
+    IfOk-weaker c.add_edge.result (λ _. Placed s c.rights.result) (λ _. Placed c.args.self.now c.args.label)
+    (λ _ placed. subst (λ (x : HeapState). Placed x c.args.label) c.self.view_is (subst (λ r. Placed s r) c.rights.ensures.same placed)) c.add_edge.ensures.placed

@@ -1,11 +1,9 @@
-use Rattle.std.proofs.Common.{◌≡◌, ap, subst, sym, ◌∙◌, refl}
-use Rattle.std.proofs.lemmas.Result.{IfOk-weaker}
-use Rattle.tg_model.specs.Graph.{with_rights, without_rights}
-use Rattle.tg_model.specs.Rules.{with_value, written_at}
+use Rattle.std.proofs.Common.{subst, sym}
+use Rattle.tg_model.specs.Graph.{without_rights}
 use Rattle.tg_graph.specs.Content.{IsContent, IsNamed}
 use Rattle.tg_graph.specs.Heap.{HeapState, KeepsPlaces, content_of, name_of}
 use Rattle.tg_graph.specs.Steps.{ChangesTo}
-use Rattle.tg_graph.proofs.Heaps.{content_after, either_way, heap_with, places_kept, well_formed_after, well_formed_same}
+use Rattle.tg_graph.proofs.Heaps.{content_after, heap_with, places_kept, well_formed_after}
 use Rattle.tg_graph.proofs.heap.Heap.drop_rights.Goals as goal
 
 pub invariant_of-self : goal.invariant_of-self

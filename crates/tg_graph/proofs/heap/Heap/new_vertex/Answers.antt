@@ -1,20 +1,20 @@
-use Rattle.std.proofs.Common.{◌≡◌, ◌<◌, ◌⊎◌, ℕ, length, ap, subst, sym}
+use Rattle.std.proofs.Common.{◌≡◌, ◌⊎◌, ℕ, subst, sym}
 use Rattle.std.proofs.lemmas.Result.{IfOk-weaker}
 use Rattle.tg_rights.specs.RightSet.{RightSet}
 use Rattle.tg_model.specs.Graph.{with_rights}
 use Rattle.tg_model.specs.Rules.{with_value}
+use Rattle.tg_block.specs.declared.CellKind.TheVariants.{Object}
+use Rattle.tg_space.specs.Soundness.{IsKindAt}
 use Rattle.tg_graph.specs.Content.{IsContent, IsNamed}
 use Rattle.tg_graph.specs.Heap.{HeapState, KeepsPlaces, content_of, name_of}
 use Rattle.tg_graph.specs.Rows.{IsVertexAt}
 use Rattle.tg_graph.specs.Steps.{ChangesTo}
-use Rattle.tg_graph.proofs.Heaps.{both_errors, content_after, either_way, heap_with, places_kept, well_formed_after, well_formed_roomy, worker_vertex}
+use Rattle.tg_graph.proofs.Heaps.{both_errors, content_after, either_way, heap_with, places_kept, well_formed_after, well_formed_roomy}
 use Rattle.tg_graph.proofs.heap.Heap.new_vertex.Goals as goal
 
 pub new_vertex-requires-clause-from : goal.new_vertex-requires-clause-from
 new_vertex-requires-clause-from g c =
-    let s : HeapState = record { table = c.self.inside.cells.spaces; payloads = c.self.inside.cells.payloads; workers = c.self.inside.workers.items } in
-    let low : c.args.worker < length s.workers = subst (λ (x : HeapState). c.args.worker < length x.workers) (sym c.self.view_is) c.requires.worker in
-    (worker_vertex s c.self.invariant c.args.worker c.index-from.result.now low c.index-from.ensures).object
+    subst (λ (x : HeapState). IsKindAt x.table.spaces Object c.worker_place-from.result) (sym c.self.view_is) c.worker_place-from.ensures.vertex.object
 
 pub invariant_of-self : goal.invariant_of-self
 invariant_of-self g c =
@@ -22,7 +22,7 @@ invariant_of-self g c =
     let content = content_of s in
     let new = c.new_vertex.new.self in
     let named = λ (x : ℕ). IsNamed content x ⊎ (x ≡ c.args.name) in
-    let label = with_rights content.label (name_of s c.index-from.result.now) c.args.name c.rights.result in
+    let label = with_rights content.label (name_of s c.worker_place-from.result) c.args.name c.rights.result in
     let values = with_value content.value c.args.name c.args.draft in
     either_way c.new_vertex.result c.new_vertex.ensures.made (both_errors (new.spaces ≡ s.table) (new.payloads.entries ≡ s.payloads.entries) c.new_vertex.result c.new_vertex.ensures.spaces c.new_vertex.ensures.payloads)
     (λ to. well_formed_after s new.spaces new.payloads named label values to c.self.invariant)
@@ -34,12 +34,11 @@ returns-clause-made g c =
     let content = content_of s in
     let new = c.new_vertex.new.self in
     let after = heap_with s new.spaces new.payloads in
-    let from = c.index-from.result.now in
+    let from = c.worker_place-from.result in
     let named = λ (x : ℕ). IsNamed content x ⊎ (x ≡ c.args.name) in
     let label = with_rights content.label (name_of s from) c.args.name c.rights.result in
     let values = with_value content.value c.args.name c.args.draft in
-    let low : c.args.worker < length s.workers = subst (λ (x : HeapState). c.args.worker < length x.workers) (sym c.self.view_is) c.requires.worker in
-    let vertex = worker_vertex s c.self.invariant c.args.worker from low c.index-from.ensures in
+    let vertex = subst (λ (x : HeapState). IsVertexAt x.table.spaces c.args.worker from) (sym c.self.view_is) c.worker_place-from.ensures.vertex in
     let Made : HeapState → ℕ → RightSet → Type 0 =
     λ x n r. IsContent (content_of after) (λ y. IsNamed (content_of x) y ⊎ (y ≡ c.args.name)) (with_rights (content_of x).label n c.args.name r) (with_value (content_of x).value c.args.name c.args.draft) in
     IfOk-weaker c.new_vertex.result (λ _. ChangesTo s.table new.spaces new.payloads named label values) (λ _. Made c.args.self.now c.args.worker c.args.label)
@@ -56,7 +55,7 @@ returns-clause-kept g c =
     let new = c.new_vertex.new.self in
     let after = heap_with s new.spaces new.payloads in
     let named = λ (x : ℕ). IsNamed content x ⊎ (x ≡ c.args.name) in
-    let label = with_rights content.label (name_of s c.index-from.result.now) c.args.name c.rights.result in
+    let label = with_rights content.label (name_of s c.worker_place-from.result) c.args.name c.rights.result in
     let values = with_value content.value c.args.name c.args.draft in
     IfOk-weaker c.new_vertex.result (λ _. ChangesTo s.table new.spaces new.payloads named label values) (λ _. KeepsPlaces c.args.self.now after)
     (λ _ to. subst (λ (x : HeapState). KeepsPlaces x after) c.self.view_is (places_kept s new.spaces new.payloads named label values to))

@@ -1,7 +1,6 @@
-use Rattle.std.proofs.Common.{◌≡◌, ap, subst, sym, ◌∙◌, refl}
+use Rattle.std.proofs.Common.{subst}
 use Rattle.std.proofs.lemmas.Result.{IfOk-weaker}
-use Rattle.tg_model.specs.Graph.{with_rights, without_rights}
-use Rattle.tg_model.specs.Rules.{with_value, written_at}
+use Rattle.tg_model.specs.Rules.{written_at}
 use Rattle.tg_graph.specs.Content.{IsContent, IsNamed}
 use Rattle.tg_graph.specs.Heap.{HeapState, KeepsPlaces, content_of, name_of}
 use Rattle.tg_graph.specs.Steps.{ChangesTo}
