@@ -1,0 +1,200 @@
+//! The story of the caretaker and the visitor.
+//!
+//! No rule takes a right from the one who holds it: a worker gives up its own. So what the caretaker hands on comes
+//! back when the visitor gives it up; and from the moment when the caretaker gives up its own right, it can't be handed
+//! on again.
+ghost use Rattle.std.specs.Prelude.{◌≡◌, IfErr};
+
+use crate::stop::Stop;
+use crate::tell::tell_reply;
+use std::alloc::Global;
+use tg_journal::{AuditFault, audit};
+use tg_model::{Command, Edge, Opening, Reply, Value};
+use tg_payload::{Draft, Payload};
+use tg_rights::{Label, Rights};
+use tg_store::{Kind, Limits, Store};
+
+// The workers. They are named 0, 1, 2, .., and so are vertices from then on.
+const WORKERS: u64 = 2;
+
+const CARETAKER: u64 = 0;
+
+const VISITOR: u64 = 1;
+
+// At most 10 vertices may ever be made, workers included.
+const MOST_VERTICES: u64 = 10;
+
+// At most 8 blocks of 64 cells stand in the heap, and at most 4 in one space of it.
+const MOST_BLOCKS: u64 = 8;
+
+const MOST_BLOCKS_OF_A_SPACE: u64 = 4;
+
+/// What the workers and the document store.
+#[derive(Drop)]
+pub struct Boxes<P: Payload> {
+    pub caretaker: P,
+    pub visitor: P,
+    pub document: P,
+}
+
+/// Opens a store, tells the story in it, and audits its journal. Each step is a line on standard output.
+pub fn run_story<P: Payload, R: Print + AllocGlobal>(rt: &R, boxes: Boxes<P>) -> Result<(), Stop> {
+    let alloc = rt.alloc();
+    let mut store = open_store(alloc, boxes.caretaker, boxes.visitor)?;
+    let document = hand_on(rt, &mut store, boxes.document)?;
+    visit(rt, &mut store, document)?;
+    take_back(rt, &mut store, document)?;
+    audit_own(alloc, &store)?;
+    println!(rt; "audit ok, {} entries", store.journal().len())?;
+    Ok(())
+}
+
+// A store with two workers, in which the caretaker may hand rights on to the visitor.
+fn open_store<P: Payload>(alloc: Global, caretaker: P, visitor: P) -> Result<Store<P>, Stop> {
+    let caretaker = Draft::new(alloc, caretaker)?;
+    let visitor = Draft::new(alloc, visitor)?;
+    let mut values = Vec::new(alloc);
+    values.push(caretaker.value().copy(alloc)?)?;
+    values.push(visitor.value().copy(alloc)?)?;
+    let mut drafts = Vec::new(alloc);
+    drafts.push(caretaker)?;
+    drafts.push(visitor)?;
+    let mut edges = Vec::new(alloc);
+    edges.push(Edge {
+        from: CARETAKER,
+        to: VISITOR,
+        label: label("g")?,
+    })?;
+    let opening = Opening::new(WORKERS, edges, values, MOST_VERTICES)?;
+    let limits = Limits::new(MOST_BLOCKS, MOST_BLOCKS_OF_A_SPACE)?;
+    Ok(Store::open(alloc, opening, limits, drafts)?)
+}
+
+// The caretaker makes the document, and hands the right to read it on to the visitor.
+fn hand_on<P: Payload, R: Print + AllocGlobal>(
+    rt: &R,
+    store: &mut Store<P>,
+    document: P,
+) -> Result<u64, Stop> {
+    let draft = Draft::new(rt.alloc(), document)?;
+    let name = store.create(CARETAKER, label("rw")?, draft)?;
+    tell_reply(rt, "caretaker makes a document", &Reply::Name(name))?;
+    ask(
+        rt,
+        store,
+        CARETAKER,
+        "caretaker hands r on",
+        hand_to_visitor(name)?,
+    )?;
+    Ok(name)
+}
+
+// The visitor reads the document, before and after a collection and a write of the caretaker.
+fn visit<P: Payload, R: Print>(rt: &R, store: &mut Store<P>, document: u64) -> Result<(), Stop> {
+    ask(rt, store, VISITOR, "visitor reads", read(document))?;
+    collect(rt, store)?;
+    ask(rt, store, VISITOR, "visitor reads", read(document))?;
+    ask(
+        rt,
+        store,
+        CARETAKER,
+        "caretaker writes 2",
+        write(document, 2),
+    )?;
+    ask(rt, store, VISITOR, "visitor reads", read(document))?;
+    ask(rt, store, VISITOR, "visitor writes 2", write(document, 2))
+}
+
+// The visitor gives the right back, and then the caretaker gives up its own: no one can read the document or hand it
+// on, and the next collection drops it.
+fn take_back<P: Payload, R: Print>(
+    rt: &R,
+    store: &mut Store<P>,
+    document: u64,
+) -> Result<(), Stop> {
+    ask(
+        rt,
+        store,
+        VISITOR,
+        "visitor gives r back",
+        give_up(document, "r")?,
+    )?;
+    collect(rt, store)?;
+    ask(rt, store, VISITOR, "visitor reads", read(document))?;
+    ask(
+        rt,
+        store,
+        CARETAKER,
+        "caretaker gives up rw",
+        give_up(document, "rw")?,
+    )?;
+    ask(
+        rt,
+        store,
+        CARETAKER,
+        "caretaker hands r on",
+        hand_to_visitor(document)?,
+    )?;
+    collect(rt, store)?;
+    ask(rt, store, VISITOR, "visitor reads", read(document))
+}
+
+// Puts a command of the worker to the store, and prints the reply. A denial is a reply.
+fn ask<P: Payload, R: Print>(
+    rt: &R,
+    store: &mut Store<P>,
+    worker: u64,
+    words: &str,
+    command: Command,
+) -> Result<(), Stop> {
+    let reply = store.apply(worker, command)?;
+    tell_reply(rt, words, &reply)
+}
+
+// Collects, and prints how many vertices are left.
+fn collect<P: Payload, R: Print>(rt: &R, store: &mut Store<P>) -> Result<(), Stop> {
+    let left = store.collect(Kind::Full)?;
+    println!(rt; "full collection: {left} vertices are left")?;
+    Ok(())
+}
+
+// Replays the store's own journal from its opening. As the journal of a store is always a legal history, the replay can
+// fail for want of memory alone.
+fn audit_own<P: Payload>(alloc: Global, store: &Store<P>) -> Result<(), AuditFault>
+    ensures { IfErr result (λ fault. fault ≡ AuditFault.OutOfMemory) }
+{
+    audit(alloc, store.opening(), store.journal().entries())
+}
+
+fn read(target: u64) -> Command {
+    Command::Read { target }
+}
+
+fn write(target: u64, value: u64) -> Command {
+    Command::Write { target, value }
+}
+
+// The right to read the target, for the visitor too.
+fn hand_to_visitor(target: u64) -> Result<Command, Stop> {
+    Ok(Command::Grant {
+        via: VISITOR,
+        target,
+        rights: label("r")?,
+    })
+}
+
+// The rights of these letters over the target, which are then no longer those of the one who asks.
+fn give_up(target: u64, letters: &str) -> Result<Command, Stop> {
+    Ok(Command::Remove {
+        target,
+        rights: label(letters)?,
+    })
+}
+
+// The label of these letters.
+fn label(letters: &str) -> Result<Label, Stop> {
+    match Rights::read_text(letters.as_bytes()) {
+        Some(rights) => Label::new(rights).ok_or(Stop::BadLabel),
+        None => Err(Stop::BadLabel),
+    }
+}
