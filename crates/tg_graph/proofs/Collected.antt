@@ -24,14 +24,14 @@ use Rattle.tg_space.proofs.Pointing.{pointers_sound}
 use Rattle.tg_payload.specs.Table.{Payloads, entry}
 use Rattle.tg_graph.specs.Content.{IsContent}
 use Rattle.tg_graph.specs.Standing.{Keeps}
-use Rattle.tg_graph.specs.Rows.{IsChain, IsVertexAt, chunks_from, key_at, link_at, name_at, name_in, names_in, object_named, references_of, rights_to, row_of, row_words}
+use Rattle.tg_graph.specs.Rows.{IsChain, IsVertexAt, chunks_from, key_at, link_at, name_at, name_in, names_in, object_named, references_of, rights_to, row_of, row_words, words_of}
 use Rattle.tg_graph.specs.Heap.{IsGraph, content_in}
 use Rattle.tg_graph.specs.Collected.{IsKept, IsKeptName, KeepsPayloads, collected, copy_place}
 use Rattle.tg_graph.proofs.Members.{Contains-flat_map, Contains-here, option_cases}
 use Rattle.tg_graph.proofs.Places.{cell_long, layout_at, links_apart, place_numbered}
 use Rattle.tg_graph.proofs.Layouts.{KindCases, is_free, is_object, is_chunk, is_bad, kind_cases, chunk_tagged, free_zero, link_some, object_tagged, references_at, references_of_chunk, references_of_object, same_link}
 use Rattle.tg_graph.proofs.Lookups.{label_at, name_of_vertex, named_from_vertex, value_at, vertex_from_named}
-use Rattle.tg_graph.proofs.Kept.{Shows, ShowsRow, shown_content, shown_graph, words_of}
+use Rattle.tg_graph.proofs.Kept.{Shows, ShowsRow, shown_content, shown_graph}
 use Rattle.tg_graph.proofs.Written.{first_range}
 use Rattle.tg_graph.proofs.Linked.{held_place}
 
