@@ -18,6 +18,8 @@ use Rattle.tg_payload.specs.Table.{Payloads, Updates, entry}
 use Rattle.tg_graph.specs.Content.{IsNamed}
 use Rattle.tg_graph.specs.Rows.{IsChain, IsVertexAt, chunks_from, key_at, link_at, name_at, names_in, references_of, rights_to, row_of}
 use Rattle.tg_graph.specs.Heap.{IsGraph, content_in}
+use Rattle.tg_graph.specs.Spots.{chunk_words}
+use Rattle.tg_graph.specs.Steps.{vertex_words}
 use Rattle.tg_graph.proofs.Places.{layout_at}
 use Rattle.tg_graph.proofs.Lookups.{label_nowhere, name_of_vertex, value_at, value_nowhere, vertex_of_name}
 use Rattle.tg_graph.proofs.Chains.{chain_chunks, row_held}
@@ -136,10 +138,6 @@ module _ (h : SpaceList) (payloads : Payloads) (is : IsSpaceList h) (graph : IsG
 
 -- ---- a chunk
 
--- a chunk with one reference
-abbrev pub chunk_words : ℕ → List ℕ
-chunk_words word = chunk_tag ∷ word ∷ 0 ∷ 0 ∷ 0 ∷ 0 ∷ 0 ∷ 0 ∷ []
-
 module _ (h : SpaceList) (payloads : Payloads) (is : IsSpaceList h) (graph : IsGraph h payloads) (q : Place) (word : ℕ) (free : IsKindAt h Free q) (refers : IsReference h word) where
   chunk_layout : HasLayout (with_cell_at h q (chunk_words word)) (chunk_words word)
   chunk_layout =
@@ -165,10 +163,6 @@ module _ (h : SpaceList) (payloads : Payloads) (is : IsSpaceList h) (graph : IsG
       (fresh_links h payloads is graph q free (chunk_words word) refl) (fresh_rows h payloads is graph q free (chunk_words word)) (λ x y none. label_nowhere h payloads is x none y)
 
 -- ---- a vertex
-
--- an object with an empty row
-abbrev pub vertex_words : ℕ → ℕ → List ℕ
-vertex_words name key = object_tag ∷ name ∷ key ∷ 0 ∷ 0 ∷ 0 ∷ 0 ∷ 0 ∷ []
 
 module _ (h : SpaceList) (payloads : Payloads) (is : IsSpaceList h) (graph : IsGraph h payloads) (q : Place) (name key : ℕ) (new : Payloads) (value : Value)
     (free : IsKindAt h Free q) (fresh : (p : Place) → IsVertexAt h name p → ⊥) (unused : entry payloads key ≡ None) (updates : Updates payloads new key (Some value)) where

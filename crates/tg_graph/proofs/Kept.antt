@@ -13,7 +13,7 @@ use Rattle.tg_space.specs.SpaceList.{SpaceList, IsSpaceList, Holds, cell_at, cel
 use Rattle.tg_space.specs.Soundness.{AreSound, HasLayout, HasLayoutOf, IsKindAt, IsReference, RefersTo, IsLink, LinksTo, link_of}
 use Rattle.tg_payload.specs.Table.{Payloads, entry}
 use Rattle.tg_graph.specs.Content.{IsContent, IsNamed}
-use Rattle.tg_graph.specs.Rows.{IsChain, IsVertexAt, chunks_from, key_at, link_at, name_at, name_in, names_in, references_of, rights_to, row_of, row_words}
+use Rattle.tg_graph.specs.Rows.{IsChain, IsVertexAt, chunks_from, key_at, link_at, name_at, name_in, names_in, references_of, rights_to, row_of, row_words, words_of}
 use Rattle.tg_graph.specs.Heap.{IsGraph, content_in}
 use Rattle.tg_graph.proofs.Places.{sound_from_places, links_apart}
 use Rattle.tg_graph.proofs.Layouts.{KindCases, is_free, is_object, is_chunk, is_bad, kind_cases}
@@ -44,9 +44,6 @@ module _ (label : ℕ → ℕ → RightSet) (x y : ℕ) (rights set : RightSet) 
   with_label-minus is = at_pair (λ r. minus r rights) is
 
 -- ---- what a graph says, row by row
-
-abbrev pub words_of : SpaceList → List Place → List ℕ
-words_of h cells = flat_map (λ q. references_of (cell_at h q)) cells
 
 -- the row of the object at a place ends, has at most one reference to each vertex, and gives these rights
 pub record ShowsRow (h : SpaceList) (p : Place) (rights : ℕ → RightSet) : Type 0 where

@@ -12,15 +12,11 @@ use Rattle.tg_block.specs.declared.CellKind.TheVariants.{Object, Chunk}
 use Rattle.tg_space.specs.SpaceList.{SpaceList, cell_at, cells_of}
 use Rattle.tg_space.specs.Targets.{moved_word}
 use Rattle.tg_space.specs.Soundness.{IsKindAt, IsReference, RefersTo}
-use Rattle.tg_graph.specs.Rows.{IsChain, chunks_from, link_at, name_at, name_in, names_in, references_of, rights_to, row_of, row_words}
+use Rattle.tg_graph.specs.Rows.{IsChain, chunks_from, link_at, name_at, name_in, names_in, references_of, rights_to, row_of, row_words, words_of}
 use Rattle.tg_graph.proofs.Layouts.{references_at}
 use Rattle.tg_graph.proofs.Chains.{chain_whole}
 use Rattle.tg_graph.proofs.Slots.{names_in-some}
 use Rattle.tg_graph.proofs.KeptCells.{Moves, IsKeptWord, moved_place, is_copied, kind_at_after, link_kept, name_kept, references_kept, sound_after}
-
--- the references of these cells
-abbrev pub words_of : SpaceList → List Place → List ℕ
-words_of h ps = flat_map (λ q. references_of (cell_at h q)) ps
 
 module _ {from : ℕ → Bool} {h after : SpaceList} {to : ℕ → Place} {kept : Place → Type 0} (move : Moves from h after to kept) where
   -- a chain that begins with a kept cell, link by link

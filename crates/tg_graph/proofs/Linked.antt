@@ -19,8 +19,9 @@ use Rattle.tg_space.specs.Soundness.{IsKindAt, IsReference, RefersTo, IsLink, Li
 use Rattle.tg_space.specs.Targets.{first_pointer}
 use Rattle.tg_payload.specs.Table.{Payloads, Updates, entry}
 use Rattle.tg_graph.specs.Content.{IsNamed}
-use Rattle.tg_graph.specs.Rows.{IsChain, chunks_from, key_at, link_at, name_at, name_in, references_of, row_of, row_words}
+use Rattle.tg_graph.specs.Rows.{IsChain, chunks_from, key_at, link_at, name_at, name_in, references_of, row_of, row_words, words_of}
 use Rattle.tg_graph.specs.Heap.{IsGraph, content_in}
+use Rattle.tg_graph.specs.Spots.{chunk_words}
 use Rattle.tg_graph.proofs.Members.{Contains-cases, Contains-none}
 use Rattle.tg_graph.proofs.Places.{cell_long, layout_at, links_apart}
 use Rattle.tg_graph.proofs.Layouts.{RowCell, apart_kinds, link_some, object_tagged, chunk_tagged, references_at}
@@ -28,8 +29,8 @@ use Rattle.tg_graph.proofs.Lookups.{label_at, label_is, label_nowhere, name_of_v
 use Rattle.tg_graph.proofs.Chains.{chain_chunks, chain_whole, row_held, row_references}
 use Rattle.tg_graph.proofs.Changes.{cell_kept, cell_written, holds_written, list_written, same_or_other}
 use Rattle.tg_graph.proofs.Slots.{IsOther, puts_appended}
-use Rattle.tg_graph.proofs.Kept.{Becomes, Shows, Stays, chain_stays, flat_map_same, name_stays, one_row, reference_stays, shown_content, shown_graph, with_label, words_of}
-use Rattle.tg_graph.proofs.Fresh.{chunk_placed, chunk_words, fresh_same, fresh_stays, row_used}
+use Rattle.tg_graph.proofs.Kept.{Becomes, Shows, Stays, chain_stays, flat_map_same, name_stays, one_row, reference_stays, shown_content, shown_graph, with_label}
+use Rattle.tg_graph.proofs.Fresh.{chunk_placed, fresh_same, fresh_stays, row_used}
 use Rattle.tg_graph.proofs.Written.{here, held_before, link_set, outside_rows, references_same, there, was_row, word_back, word_layouts, word_spaces, word_stays}
 
 -- the link to a place that spaces can have

@@ -13,7 +13,7 @@ use Rattle.tg_word.specs.declared.Place.{Place}
 use Rattle.tg_word.specs.Word.{place_in, rights_in}
 use Rattle.tg_space.specs.SpaceList.{SpaceList, Holds, cell_at, cells_of}
 use Rattle.tg_space.specs.Targets.{first_pointer}
-use Rattle.tg_graph.specs.Rows.{IsChain, IsRow, chunks_from, edges_in, link_at, name_in, references_of, row_of, row_words}
+use Rattle.tg_graph.specs.Rows.{IsChain, IsRow, chunks_from, edges_in, link_at, name_in, references_of, row_of, row_words, words_of}
 use Rattle.tg_graph.specs.Spots.{IsSpotIn, is_empty, last_of, refers_to, spot_for_new, word_in_cell, word_of_cell, word_where}
 use Rattle.tg_graph.proofs.Layouts.{object_tagged, chunk_tagged}
 use Rattle.tg_graph.proofs.Chains.{chain_none, chain_step}
@@ -177,10 +177,6 @@ edges_in-append h xs ys =
     let test : ℕ → Bool = λ word. not (is_none_held (rights_in word)) in
     let edge : ℕ → ℕ × RightSet = λ word. (name_in h word, rights_in word) in
     ap (map edge) (filter-append test xs ys) ∙ map-append edge (filter test xs) (filter test ys)
-
--- the references of these cells
-abbrev pub words_of : SpaceList → List Place → List ℕ
-words_of h ps = flat_map (λ q. references_of (cell_at h q)) ps
 
 pub edges_of_cell : (h : SpaceList) (at : Place) (ps : List Place) → edges_in h (words_of h (at ∷ ps)) ≡ edges_in h (references_of (cell_at h at)) ++ edges_in h (words_of h ps)
 edges_of_cell h at ps =

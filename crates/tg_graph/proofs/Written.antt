@@ -16,7 +16,7 @@ use Rattle.tg_space.specs.Soundness.{HasLayout, HasLayoutOf, IsKindAt, IsReferen
 use Rattle.tg_space.specs.Targets.{first_pointer}
 use Rattle.tg_payload.specs.Table.{Payloads}
 use Rattle.tg_graph.specs.Content.{IsNamed}
-use Rattle.tg_graph.specs.Rows.{IsChain, chunks_from, link_at, name_at, name_in, names_in, references_of, row_of, row_words}
+use Rattle.tg_graph.specs.Rows.{IsChain, chunks_from, link_at, name_at, name_in, names_in, references_of, row_of, row_words, words_of}
 use Rattle.tg_graph.specs.Heap.{IsGraph, content_in}
 use Rattle.tg_graph.proofs.Members.{All-left, All-right}
 use Rattle.tg_graph.proofs.Places.{cell_long, layout_at}
@@ -24,7 +24,7 @@ use Rattle.tg_graph.proofs.Layouts.{KindCases, RowCell, is_free, is_object, is_c
 use Rattle.tg_graph.proofs.Chains.{row_apart, row_held, row_references}
 use Rattle.tg_graph.proofs.Changes.{cell_kept, cell_written, holds_written, list_written, same_or_other}
 use Rattle.tg_graph.proofs.Slots.{IsOther, Puts, puts_changed, puts_cleared, puts_filled}
-use Rattle.tg_graph.proofs.Kept.{Becomes, ShowsRow, Stays, chain_stays, flat_map_same, layout_stays, link_stays, links_stay, one_row, reference_stays, row_stays, with_label, words_of}
+use Rattle.tg_graph.proofs.Kept.{Becomes, ShowsRow, Stays, chain_stays, flat_map_same, layout_stays, link_stays, links_stay, one_row, reference_stays, row_stays, with_label}
 
 -- ---- one word of a cell
 

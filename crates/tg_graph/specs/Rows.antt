@@ -68,9 +68,13 @@ IsChain h link (p ∷ ps) = (link ≢ 0) × (place_in link ≡ p) × IsKindAt h 
 abbrev pub row_of : SpaceList → Place → List Place
 row_of h p = p ∷ chunks_from h (length (cells_of h)) (link_at h p)
 
--- the references of a row, in chain order; the empty places are among them
+-- the references of these cells; the empty places are among them
+abbrev pub words_of : SpaceList → List Place → List ℕ
+words_of h cells = flat_map (λ q. references_of (cell_at h q)) cells
+
+-- the references of a row, in chain order
 abbrev pub row_words : SpaceList → Place → List ℕ
-row_words h p = flat_map (λ q. references_of (cell_at h q)) (row_of h p)
+row_words h p = words_of h (row_of h p)
 
 -- the name to which a reference refers
 abbrev pub name_in : SpaceList → ℕ → ℕ
