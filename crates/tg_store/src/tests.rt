@@ -7,8 +7,8 @@ use std::alloc::{AllocError, Global};
 use std::sync::Arc;
 use std::sync::atomic::{AtomicU64, Ordering};
 use std::test::Fail;
-use tg_model::{Command, Law, Numbers, Opening, Reply, Value};
-use tg_payload::{CellPayload, Draft, LogPayload, Payload, PayloadBox, SumPayload};
+use tg_model::{Command, Law, Numbers, Opening, Value};
+use tg_payload::{CellPayload, Draft, Payload, PayloadBox};
 use tg_rights::{Label, Right, Rights};
 
 // A payload that counts its drops.
@@ -141,53 +141,6 @@ fn two_counting_boxes(rt: HostRuntime) -> Result<(), Fail> {
     let seen = dropped_in_turn(alloc, workers, first, second, &drops).ok_or("a refusal")?;
     assert_eq!(rt; seen, (CreateFault::VerticesFull, 0, 1, 2));
     Ok(())
-}
-
-// What is read of the payload in a store once the worker wrote two numbers to it.
-fn read_after<P: Payload>(
-    alloc: Global,
-    workers: P,
-    payload: P,
-    numbers: (u64, u64),
-) -> Option<Reply> {
-    let mut store = open_one(alloc, workers, 2)?.ok()?;
-    let label = Label::new(Rights::of(Right::R).union(Rights::of(Right::W)))?;
-    let draft = Draft::new(alloc, payload).ok()?;
-    let target = store.create(0, label, draft).ok()?;
-    let (first, second) = numbers;
-    let write = Command::Write {
-        target,
-        value: first,
-    };
-    let _done = store.apply(0, write).ok()?;
-    let write = Command::Write {
-        target,
-        value: second,
-    };
-    let _done = store.apply(0, write).ok()?;
-    store.apply(0, Command::Read { target }).ok()
-}
-
-#[test]
-fn log_and_sum_payloads(rt: HostRuntime) -> Result<(), Fail> {
-    let alloc = rt.alloc();
-    let workers: PayloadBox = Box::new(alloc, CellPayload::new(0))?;
-    let log: PayloadBox = Box::new(alloc, LogPayload::new(alloc, 4))?;
-    let read = read_after(alloc, workers, log, (1, 2)).ok_or("no reply")?;
-    assert_eq!(rt; numbers_of(&read).ok_or("no numbers")?, [1, 2].as_slice());
-    let workers: PayloadBox = Box::new(alloc, CellPayload::new(0))?;
-    let sum: PayloadBox = Box::new(alloc, SumPayload::new(0))?;
-    let read = read_after(alloc, workers, sum, (u64::MAX, 1)).ok_or("no reply")?;
-    assert_eq!(rt; numbers_of(&read).ok_or("no numbers")?, [0].as_slice());
-    Ok(())
-}
-
-// The numbers of the reply to a read.
-fn numbers_of(reply: &Reply) -> Option<&[u64]> {
-    match reply {
-        Reply::Values(state) => Some(state.as_slice()),
-        _ => None,
-    }
 }
 
 // A store of two workers, who store cells with 0, with four blocks in all and one in each space.
