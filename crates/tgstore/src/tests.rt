@@ -12,38 +12,34 @@ const FAULT_END: &str = "\n\nUsage: tgstore [OPTIONS]\n\nFor more information, t
 #[test]
 fn words_that_are_accepted(rt: HostRuntime) -> Result<(), Fail> {
     let alloc = rt.alloc();
-    let cases: [(&[&str], u64, u64, u64, &str); 4] = [
-        (&["tgstore"], 2, 1_000_000, 4096, ""),
+    let cases: [(&[&str], u64, u64, &str); 4] = [
+        (&["tgstore"], 2, 1_000_000, ""),
         (
             &["tgstore", "--workers", "1", "--stock", "c"],
             1,
             1_000_000,
-            4096,
             "c",
         ),
         (
             &["tgstore", "--vertices=16777216", "--workers=64"],
             64,
             16_777_216,
-            4096,
             "",
         ),
         (
             &["tgstore", "--vertices", "1", "--blocks", "65536"],
             2,
             1,
-            65_536,
             "",
         ),
     ];
-    for (words, workers, vertices, blocks, stock) in cases {
+    for (words, workers, vertices, stock) in cases {
         let read = match options(alloc, words) {
             Ok(read) => read,
             Err(_) => return Err(Fail::from("words that are not accepted")),
         };
         assert_eq!(rt; read.settings.workers, workers);
         assert_eq!(rt; read.settings.max_vertices, vertices);
-        assert_eq!(rt; read.settings.limits.max_blocks(), blocks);
         assert!(rt; read.stock == stock, "{}", read.stock);
     }
     Ok(())
