@@ -1,7 +1,7 @@
 #!/bin/sh
 # run.sh: bytes copied a second by full collections of a live heap of 35,008 cells, tree-like and random, beside a bare copier in C
-# (copier.c) and memcpy. It copies the crates that it needs, and the program beside it (`main.rt.in`, a name that the gate passes
-# over), into a temporary folder, and proves, builds and runs it there. The two take turns; a number is the best of five.
+# (copier.c) and memcpy. It copies the crates that it needs, and the program and proofs beside it (`*.in`, names that the gate
+# passes over), into a temporary folder, and proves, builds and runs it there. The two take turns; a number is the best of five.
 # It wants cc and awk.
 set -eu
 here=$(cd "$(dirname "$0")" && pwd)
@@ -16,7 +16,10 @@ for name in tg_rights tg_model tg_word tg_block tg_space tg_evac; do
 done
 echo 'copies: tg_evac tg_space tg_block tg_word tg_rights' >> "$build/crates.txt"
 cp "$here/main.rt.in" "$build/crates/copies/src/main.rt"
-cp -r "$here/proofs" "$build/crates/copies/proofs"
+mkdir -p "$build/crates/copies/proofs/are_plain"
+for name in Answers Invariants; do
+    cp "$here/$name.antt.in" "$build/crates/copies/proofs/are_plain/$name.antt"
+done
 cc -O2 -o "$build/copier" "$here/copier.c"
 (cd "$build/crates/copies" && rt run) > "$build/built" 2>&1 || { cat "$build/built"; exit 1; }
 for round in 1 2 3 4 5; do
