@@ -203,3 +203,23 @@ table_grown t space is low whole =
       within = λ s inside. omega (arith, is.within s (omega (arith, long)), length-with_block t.spaces space low s);
       fresh = λ p held young unused. ⊎_elim (λ old. old.1 ∙ is.fresh p old.0 young unused) (λ free. free) (cell_at-with_block t.spaces space low p held);
     }
+
+-- a nursery collection's new blocks are put in place
+pub table_adopted : (t : SpaceTable) (aged old : BlockList) → IsSpaceTable t → All IsSpace (adopted Nursery t.spaces aged old) → IsSpaceTable (with_adopted t Nursery aged old)
+table_adopted t aged old table whole = record {
+  enough = omega (arith, long, table.enough);
+  few = omega (arith, long, table.few);
+  blocks = whole;
+  counted = length-replicate (length t.spaces) 0 ∙ sym long;
+  within = λ space low. rw (unused space) (omega arith);
+  fresh = λ p holds nursery past. absurd (no_block p holds nursery);
+}
+  where
+    long : length (adopted Nursery t.spaces aged old) ≡ length t.spaces
+    long = let rest : length (replicate {X = BlockList} (length t.spaces - 2) []) ≡ length t.spaces - 2 = length-replicate (length t.spaces - 2) [] in let enough = table.enough in omega arith
+
+    unused : (space : ℕ) → used_of (with_adopted t Nursery aged old) space ≡ 0
+    unused space = ⊎_elim (λ low. get_or-replicate (length t.spaces) space 0 0 low) (λ past. get_or_past (replicate (length t.spaces) 0) space 0 (rw (length-replicate (length t.spaces) 0) past)) (cases_lt space (length t.spaces))
+
+    no_block : (p : Place) → Holds (adopted Nursery t.spaces aged old) p → 2 ≤ p.space → ⊥
+    no_block p holds nursery = absurd cc

@@ -1,5 +1,5 @@
 //! One space.
-ghost use Rattle.std.specs.Prelude.{◌≡◌, ◌<◌, ◌≤◌, ◌^◌, ◌+◌, ◌++◌, ◌∷◌, [], length, slice_index, slice_index_or, slice_set, OnOk, OnErr};
+ghost use Rattle.std.specs.Prelude.{◌≡◌, ◌<◌, ◌≤◌, ◌^◌, ◌+◌, ◌++◌, ◌∷◌, [], length, slice_index, slice_index_or, slice_set, vec_capacity, OnOk, OnErr};
 ghost use Rattle.tg_block.specs.Cells.{cell_of, with_word, free_block};
 ghost use Rattle.tg_space.specs.SpaceList.{IsSpace};
 
@@ -113,9 +113,17 @@ impl Space {
         ensures refused { OnErr result (self.new ≡ self.old) }
     {
         self.blocks.reserve(other.blocks.len())?;
-        for block in other.blocks {
-            self.blocks.push(block)?;
-        }
+        push_all(&mut self.blocks, other.blocks);
         Ok(())
+    }
+}
+
+// Puts blocks behind others, where there is room for them.
+fn push_all(blocks: &mut Vec<Block>, more: Vec<Block>)
+    requires { length blocks.old.items + length more.items ≤ vec_capacity blocks.old }
+    ensures { blocks.new.items ≡ blocks.old.items ++ more.items }
+{
+    for block in more {
+        blocks.push(block).unwrap();
     }
 }

@@ -1,10 +1,11 @@
 //! All spaces of a heap.
 ghost use Rattle.std.specs.Prelude.{◌≡◌, ◌<◌, ◌≤◌, ◌+◌, ◌*◌, ◌^◌, ◌∷◌, ◌↔◌, ℕ, [], length, replicate, slice_index, slice_index_or, slice_set, Err, IfOk, OnOk, OnErr, IsOk, IsTrue};
+ghost use Rattle.std.specs.List.{All};
 ghost use Rattle.tg_block.specs.Cells.{free_cell, cell_of};
 ghost use Rattle.tg_word.specs.Word.{IsPlace};
 ghost use Rattle.tg_space.specs.SpaceList.{Holds, IsSpace, IsSpaceList, block_count, blocks_before, cell_at, cells_of, flat_of, space_of, with_block, with_cell_at, with_word_at};
 ghost use Rattle.tg_space.specs.Targets.{first_pointer as first_pointer_of, from_space};
-ghost use Rattle.tg_space.specs.SpaceTable.{BlockLimits, IsFull, IsHandedOut, IsNursery, IsPrefixCount, IsSpaceTable, kept_blocks, no_blocks, place_in_space, used_of, with_adopted, with_one_used, with_spaces};
+ghost use Rattle.tg_space.specs.SpaceTable.{adopted, BlockLimits, IsFull, IsHandedOut, IsNursery, IsPrefixCount, IsSpaceTable, kept_blocks, no_blocks, place_in_space, used_of, with_adopted, with_one_used, with_spaces};
 
 use crate::limits::Limits;
 use crate::space::Space;
@@ -332,9 +333,7 @@ impl Spaces {
         ensures refused { OnErr result (self.new ≡ self.old) }
         ensures table { OnOk result (IsSpaceTable self.new) }
     {
-        self.spaces[0].append(old)?;
-        empty_all(self.alloc, &mut self.spaces[1..]);
-        self.spaces[1] = aged;
+        put_behind(self.alloc, &mut self.spaces, aged, old)?;
         self.used.fill(0);
         count_blocks(&self.spaces, &mut self.starts);
         Ok(())
@@ -361,6 +360,25 @@ fn empty_spaces(alloc: Global, count: usize) -> Result<Vec<Space>, AllocError>
         spaces.push(Space::new(alloc))?;
     }
     Ok(spaces)
+}
+
+// Old is followed by these blocks, Aged is the other ones, and every nursery has none.
+fn put_behind(
+    alloc: Global,
+    spaces: &mut [Space],
+    aged: Space,
+    old: Space,
+) -> Result<(), AllocError>
+    requires enough { 2 ≤ length spaces.old }
+    requires room { length (space_of spaces.old 0) + length old ≤ 2 ^ 20 }
+    ensures adopted { OnOk result (spaces.new ≡ adopted Kind.Nursery spaces.old aged old) }
+    ensures whole { OnOk result (All IsSpace spaces.new) }
+    ensures refused { OnErr result (spaces.new ≡ spaces.old) }
+{
+    spaces[0].append(old)?;
+    empty_all(alloc, &mut spaces[1..]);
+    spaces[1] = aged;
+    Ok(())
 }
 
 // Takes every block out of these spaces.
