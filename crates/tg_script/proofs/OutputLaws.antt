@@ -3,11 +3,11 @@ use Rattle.std.proofs.Common.{◌≡◌, inl, inr, ℕ, List, [], ◌∷◌, ◌
 use Rattle.tg_rights.specs.RightSet.{RightSet}
 use Rattle.tg_model.specs.Graph.{IsReachable}
 use Rattle.tg_model.specs.declared.value.Value.{Value}
-use Rattle.tg_script.specs.declared.line.Line.{Line}
-use Rattle.tg_script.specs.declared.line.Line.TheVariants as line
-use Rattle.tg_script.specs.declared.answer.Answer.{Answer}
-use Rattle.tg_script.specs.declared.answer.Answer.TheVariants as told
-use Rattle.tg_script.specs.Texts.{answer_text}
+use Rattle.tg_text.specs.declared.line.Line.{Line}
+use Rattle.tg_text.specs.declared.line.Line.TheVariants as line
+use Rattle.tg_text.specs.declared.answer.Answer.{Answer}
+use Rattle.tg_text.specs.declared.answer.Answer.TheVariants as told
+use Rattle.tg_text.specs.Texts.{answer_text}
 use Rattle.tg_script.specs.Script.{Scene, Creates, Answers, IsOutput, IsAdmissible}
 use Rattle.tg_script.proofs.CountLaws.{count_same}
 

@@ -4,10 +4,10 @@ use Rattle.tg_store.specs.declared.fault.ApplyFault.{ApplyFault}
 use Rattle.tg_store.specs.declared.fault.ApplyFault.TheVariants as apply
 use Rattle.tg_store.specs.declared.fault.CreateFault.{CreateFault}
 use Rattle.tg_store.specs.declared.fault.CreateFault.TheVariants as create
-use Rattle.tg_script.specs.declared.answer.Answer.{Answer}
-use Rattle.tg_script.specs.declared.answer.Answer.TheVariants as told
-use Rattle.tg_script.specs.declared.answer.Refusal.{Refusal}
-use Rattle.tg_script.specs.declared.answer.Refusal.TheVariants as refusal
+use Rattle.tg_text.specs.declared.answer.Answer.{Answer}
+use Rattle.tg_text.specs.declared.answer.Answer.TheVariants as told
+use Rattle.tg_text.specs.declared.answer.Refusal.{Refusal}
+use Rattle.tg_text.specs.declared.answer.Refusal.TheVariants as refusal
 
 abbrev pub apply_refusal : ApplyFault → Refusal
 apply_refusal apply.NoSuchWorker = refusal.Worker

@@ -9,15 +9,15 @@ use Rattle.tg_model.specs.Rules.{IsAllowed, step, answer_of}
 use Rattle.tg_model.specs.Opened.{start_of}
 use Rattle.tg_rules.specs.Effect.{AddsEdge}
 use Rattle.tg_store.specs.Store.{IsCountOf}
-use Rattle.tg_script.specs.declared.line.Line.{Line}
-use Rattle.tg_script.specs.declared.line.Line.TheVariants as line
-use Rattle.tg_script.specs.declared.answer.Answer.{Answer}
-use Rattle.tg_script.specs.declared.answer.Answer.TheVariants as told
-use Rattle.tg_script.specs.declared.answer.Refusal.{Refusal}
-use Rattle.tg_script.specs.declared.answer.Refusal.TheVariants as refusal
-use Rattle.tg_script.specs.declared.fault.ScriptFault.{ScriptFault}
-use Rattle.tg_script.specs.Reading.{ReadsScript}
-use Rattle.tg_script.specs.Texts.{answer_text}
+use Rattle.tg_text.specs.declared.line.Line.{Line}
+use Rattle.tg_text.specs.declared.line.Line.TheVariants as line
+use Rattle.tg_text.specs.declared.answer.Answer.{Answer}
+use Rattle.tg_text.specs.declared.answer.Answer.TheVariants as told
+use Rattle.tg_text.specs.declared.answer.Refusal.{Refusal}
+use Rattle.tg_text.specs.declared.answer.Refusal.TheVariants as refusal
+use Rattle.tg_text.specs.declared.fault.ScriptFault.{ScriptFault}
+use Rattle.tg_text.specs.Reading.{ReadsScript}
+use Rattle.tg_text.specs.Texts.{answer_text}
 
 -- ---- the answer to one line
 

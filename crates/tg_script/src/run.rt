@@ -2,13 +2,12 @@
 ghost use Rattle.std.specs.Prelude.{◌≡◌};
 ghost use Rattle.tg_script.specs.Answering.{apply_refusal, create_answer};
 
-use crate::answer::{Answer, Refusal};
-use crate::line::Line;
 use crate::supply::Supply;
 use tg_model::{Command, Reply};
 use tg_payload::{Draft, Payload};
 use tg_rights::Label;
 use tg_store::{ApplyFault, CollectFault, CreateFault, CreateRefused, Kind, Store};
+use tg_text::{Answer, Line, Refusal};
 
 /// The store, and the payloads for the vertices that are still to be made.
 #[derive(Drop)]
