@@ -1,15 +1,15 @@
 -- The lines that are no edge lines, one after the other.
 use mathlib.Core.Bool.{false≢true}
 use Rattle.std.proofs.Common.{◌≡◌, inl, inr, ℕ, ◌+◌, false, List, [], ◌∷◌, ◌++◌, Option, Some, Err, refl, sym, ap, ◌∙◌, subst, append_assoc, append-nil}
-use Rattle.tg_script.specs.declared.line.Line.{Line}
-use Rattle.tg_script.specs.declared.line.Line.TheVariants as line
-use Rattle.tg_script.specs.declared.answer.Answer.{Answer}
-use Rattle.tg_script.specs.declared.fault.ScriptFault.{ScriptFault}
-use Rattle.tg_script.specs.declared.fault.ScriptFault.TheVariants as fault
+use Rattle.tg_text.specs.declared.line.Line.{Line}
+use Rattle.tg_text.specs.declared.line.Line.TheVariants as line
+use Rattle.tg_text.specs.declared.answer.Answer.{Answer}
+use Rattle.tg_text.specs.declared.fault.ScriptFault.{ScriptFault}
+use Rattle.tg_text.specs.declared.fault.ScriptFault.TheVariants as fault
 use Rattle.tg_script.specs.declared.script.Script.{Script}
 use Rattle.tg_script.specs.declared.run.Run.{Run}
-use Rattle.tg_script.specs.Texts.{answer_text}
-use Rattle.tg_script.specs.Sinks.{Wrote, WroteSome}
+use Rattle.tg_text.specs.Texts.{answer_text}
+use Rattle.tg_text.specs.Sinks.{Wrote, WroteSome}
 use Rattle.tg_script.specs.Script.{Scene, IsAdmissible}
 use Rattle.tg_script.specs.Lines.{ReadsFrom, Passes, Follows, IsOfReading}
 use Rattle.tg_script.specs.Opening.{IsCommand}
@@ -114,4 +114,4 @@ next_command s (line.Edge edge) t closed f = absurd (false≢true (sym closed �
 next_command s (line.Create x label) t closed f = (tt, f.opening)
 next_command s (line.Plain x c) t closed f = (tt, f.opening)
 next_command s line.Full t closed f = (tt, f.opening)
-next_command s line.Minor t closed f = absurd f.stands
+next_command s line.Minor t closed f = (tt, f.opening)

@@ -1,11 +1,3 @@
-pub mod PieceLaws
-pub mod NumberLaws
-pub mod LabelLaws
-pub mod GrammarLaws
-pub mod ReadLaws
-pub mod FetchLaws
-pub mod ReadingLaws
-pub mod SinkLaws
 pub mod LinesLaws
 pub mod OpeningLaws
 pub mod RunLaws
@@ -13,5 +5,3 @@ pub mod CommandLaws
 pub mod RanLaws
 pub mod CountLaws
 pub mod OutputLaws
-pub mod StockLaws
-pub mod StreamLaws

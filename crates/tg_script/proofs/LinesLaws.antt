@@ -1,13 +1,13 @@
 -- How the next line of a script stands to what is read of its bytes.
 use Rattle.std.proofs.Common.{◌≡◌, ◌≢◌, ℕ, ◌+◌, ◌-◌, ◌≤◌, Bool, List, [], ◌∷◌, ◌++◌, length, Option, Some, None, sym, ap, ◌∙◌, subst, arith, length-append, append_assoc}
-use Rattle.tg_script.specs.declared.line.Line.{Line}
-use Rattle.tg_script.specs.declared.fault.ScriptFault.{ScriptFault}
-use Rattle.tg_script.specs.declared.source.Fetched.{Fetched}
-use Rattle.tg_script.specs.declared.source.Fetched.TheVariants as fetched
+use Rattle.tg_text.specs.declared.line.Line.{Line}
+use Rattle.tg_text.specs.declared.fault.ScriptFault.{ScriptFault}
+use Rattle.tg_text.specs.declared.source.Fetched.{Fetched}
+use Rattle.tg_text.specs.declared.source.Fetched.TheVariants as fetched
 use Rattle.tg_script.specs.declared.script.Script.{Script}
-use Rattle.tg_script.specs.Fetching.{IsOneLine, Fetches, FetchesKnown}
-use Rattle.tg_script.specs.Grammar.{line_text}
-use Rattle.tg_script.specs.Reading.{Ends, Reads, opening_after}
+use Rattle.tg_text.specs.Fetching.{IsOneLine, Fetches, FetchesKnown}
+use Rattle.tg_text.specs.Grammar.{line_text}
+use Rattle.tg_text.specs.Reading.{Ends, Reads, opening_after}
 use Rattle.tg_script.specs.Lines.{ReadsFrom, Passes, Behind}
 
 one_more : (text : List ℕ) (byte : ℕ) → IsOneLine text → byte ≢ 10 → IsOneLine (text ++ byte ∷ [])

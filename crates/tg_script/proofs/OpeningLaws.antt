@@ -2,10 +2,10 @@
 use mathlib.Core.Bool.{true≢false}
 use Rattle.std.proofs.Common.{◌≡◌, inl, inr, ◌<◌, length, arith, ℕ, true, false, cond, List, [], ◌∷◌, ◌++◌, Option, Some, Result, Ok, Err, refl, sym, ap, ◌∙◌, subst, append-nil}
 use Rattle.tg_model.specs.declared.edge.Edge.{Edge}
-use Rattle.tg_script.specs.declared.line.Line.{Line}
-use Rattle.tg_script.specs.declared.line.Line.TheVariants as line
-use Rattle.tg_script.specs.declared.fault.ScriptFault.{ScriptFault}
-use Rattle.tg_script.specs.declared.fault.ScriptFault.TheVariants as fault
+use Rattle.tg_text.specs.declared.line.Line.{Line}
+use Rattle.tg_text.specs.declared.line.Line.TheVariants as line
+use Rattle.tg_text.specs.declared.fault.ScriptFault.{ScriptFault}
+use Rattle.tg_text.specs.declared.fault.ScriptFault.TheVariants as fault
 use Rattle.tg_script.specs.declared.script.Script.{Script}
 use Rattle.std.specs.List.{All}
 use Rattle.std.specs.Result.{is_ok, is_err}
@@ -68,7 +68,7 @@ command_taken s (line.Edge edge) t f other = absurd (other edge refl)
 command_taken s (line.Create x label) t f other = (tt, f.opening)
 command_taken s (line.Plain x command) t f other = (tt, f.opening)
 command_taken s line.Full t f other = (tt, f.opening)
-command_taken s line.Minor t f other = absurd f.stands
+command_taken s line.Minor t f other = (tt, f.opening)
 
 pub joined : (workers : ℕ) (s : Script) (edges more : List Edge) (edge : Edge) → s.workers ≡ workers → All (JoinsWorkers workers) edges → JoinsWorkers s.workers edge → more ≡ edges ++ edge ∷ [] → All (JoinsWorkers workers) more
 joined workers s edges more edge same all here is =

@@ -4,13 +4,13 @@ use Rattle.std.specs.Prelude.{IsOk, IfSome}
 use Rattle.std.proofs.Common.{◌≡◌, inl, inr, ℕ, ◌≤◌, Bool, true, false, List, [], ◌∷◌, ◌++◌, length, Option, Some, None, Result, Ok, Err, refl, sym, ap, ◌∙◌, subst, arith, append_assoc, append-nil}
 use Rattle.tg_model.specs.declared.edge.Edge.{Edge}
 use Rattle.tg_model.specs.Opened.{Plan, start_of}
-use Rattle.tg_script.specs.declared.line.Line.{Line}
-use Rattle.tg_script.specs.declared.line.Line.TheVariants as line
-use Rattle.tg_script.specs.declared.fault.ScriptFault.{ScriptFault}
-use Rattle.tg_script.specs.declared.fault.ScriptFault.TheVariants as fault
+use Rattle.tg_text.specs.declared.line.Line.{Line}
+use Rattle.tg_text.specs.declared.line.Line.TheVariants as line
+use Rattle.tg_text.specs.declared.fault.ScriptFault.{ScriptFault}
+use Rattle.tg_text.specs.declared.fault.ScriptFault.TheVariants as fault
 use Rattle.tg_script.specs.declared.script.Script.{Script}
-use Rattle.tg_script.specs.Sinks.{Keeps}
-use Rattle.tg_script.specs.Reading.{Reads, ReadsScript}
+use Rattle.tg_text.specs.Sinks.{Keeps}
+use Rattle.tg_text.specs.Reading.{Reads, ReadsScript}
 use Rattle.tg_script.specs.Script.{Scene, IsAdmissible, Start, edges_of, commands_of, scene_of, IsScriptOutput}
 use Rattle.tg_script.specs.Lines.{ReadsFrom, Behind}
 use Rattle.tg_script.specs.Opening.{IsCommand, edge_lines, ReadsFirst, ReadsEdges, Opens}

@@ -1,10 +1,3 @@
-pub mod Sources
-pub mod Sinks
-pub mod Fetching
-pub mod Grammar
-pub mod Words
-pub mod Reading
-pub mod Texts
 pub mod Script
 pub mod Running
 pub mod Lines
@@ -12,5 +5,3 @@ pub mod Opening
 pub mod Supply
 pub mod Answering
 pub mod Run
-pub mod Stock
-pub mod StockWords

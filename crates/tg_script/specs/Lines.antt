@@ -1,11 +1,11 @@
 -- What comes of the next line of a script, and what that says of how its bytes are read.
 use Rattle.std.specs.Prelude.{◌≡◌, ℕ, ◌+◌, List, [], ◌∷◌, ◌++◌, Option, Some, None, Result, Ok, Err}
-use Rattle.tg_script.specs.declared.line.Line.{Line}
-use Rattle.tg_script.specs.declared.fault.ScriptFault.{ScriptFault}
-use Rattle.tg_script.specs.declared.fault.ScriptFault.TheVariants as fault
+use Rattle.tg_text.specs.declared.line.Line.{Line}
+use Rattle.tg_text.specs.declared.fault.ScriptFault.{ScriptFault}
+use Rattle.tg_text.specs.declared.fault.ScriptFault.TheVariants as fault
 use Rattle.tg_script.specs.declared.script.Script.{Script}
-use Rattle.tg_script.specs.Grammar.{LineFits, line_text}
-use Rattle.tg_script.specs.Reading.{Reads, MayStand, IsBadText, IsOfBytes, opening_after}
+use Rattle.tg_text.specs.Grammar.{LineFits, line_text}
+use Rattle.tg_text.specs.Reading.{Reads, MayStand, IsBadText, IsOfBytes, opening_after}
 
 -- the bytes are these lines, and then the fault, or the end, and these bytes are left
 abbrev pub ReadsFrom : Script → List ℕ → List Line → Option ScriptFault → List ℕ → Type 0

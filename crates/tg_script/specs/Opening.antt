@@ -3,13 +3,13 @@ use Rattle.std.specs.Prelude.{ℕ, ◌<◌, false, List, [], ◌∷◌, ◌++◌
 use Rattle.tg_model.specs.declared.edge.Edge.{Edge}
 use Rattle.tg_model.specs.Opened.{Plan, HasLimits, start_of}
 use Rattle.tg_store.specs.Store.{StoreState, StandsFor}
-use Rattle.tg_script.specs.declared.line.Line.{Line}
-use Rattle.tg_script.specs.declared.line.Line.TheVariants as line
-use Rattle.tg_script.specs.declared.fault.ScriptFault.{ScriptFault}
-use Rattle.tg_script.specs.declared.fault.ScriptFault.TheVariants as fault
+use Rattle.tg_text.specs.declared.line.Line.{Line}
+use Rattle.tg_text.specs.declared.line.Line.TheVariants as line
+use Rattle.tg_text.specs.declared.fault.ScriptFault.{ScriptFault}
+use Rattle.tg_text.specs.declared.fault.ScriptFault.TheVariants as fault
 use Rattle.tg_script.specs.declared.script.Script.{Script}
 use Rattle.tg_script.specs.declared.opening.Front.{Front}
-use Rattle.tg_script.specs.Reading.{MayStand}
+use Rattle.tg_text.specs.Reading.{MayStand}
 use Rattle.tg_script.specs.Lines.{ReadsFrom, Behind, IsOfReading}
 
 -- a line that may stand behind the edges

@@ -1,17 +1,17 @@
 -- What a run's answer says of the bytes that were read and of those that were written.
 use Rattle.std.specs.Prelude.{◌≡◌, ◌⊎◌, ℕ, ◌+◌, ◌<◌, ◌≤◌, IsOk, List, [], ◌∷◌, ◌++◌, length, Option, Some, None, Result, Ok, Err}
-use Rattle.tg_script.specs.declared.fault.ScriptFault.{ScriptFault}
-use Rattle.tg_script.specs.declared.fault.ScriptFault.TheVariants as fault
-use Rattle.tg_script.specs.Sinks.{WroteSome, Keeps, Writes}
+use Rattle.tg_text.specs.declared.fault.ScriptFault.{ScriptFault}
+use Rattle.tg_text.specs.declared.fault.ScriptFault.TheVariants as fault
+use Rattle.tg_text.specs.Sinks.{WroteSome, Keeps, Writes}
 use Rattle.tg_model.specs.Opened.{HasLimits}
-use Rattle.tg_script.specs.declared.line.Line.{Line}
+use Rattle.tg_text.specs.declared.line.Line.{Line}
 use Rattle.tg_script.specs.declared.script.Script.{Script}
-use Rattle.tg_script.specs.declared.answer.Answer.{Answer}
+use Rattle.tg_text.specs.declared.answer.Answer.{Answer}
 use Rattle.tg_script.specs.declared.run.Run.{Run}
-use Rattle.tg_script.specs.Texts.{answer_text}
+use Rattle.tg_text.specs.Texts.{answer_text}
 use Rattle.tg_script.specs.Run.{Handles}
 use Rattle.tg_script.specs.Lines.{ReadsFrom, IsOfReading}
-use Rattle.tg_script.specs.Reading.{ReadsScript}
+use Rattle.tg_text.specs.Reading.{ReadsScript}
 use Rattle.tg_script.specs.Script.{Scene, IsAdmissible, Start, IsScriptOutput, commands_of}
 
 -- the text for the script, read up to this fault or to its end, stands behind what was written before

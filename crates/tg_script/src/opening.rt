@@ -6,14 +6,12 @@ ghost use Rattle.tg_script.specs.Lines.{read_failures, write_failures};
 ghost use Rattle.tg_script.specs.Opening.{ReadsEdges, IsCommand, Opens};
 
 use crate::drafts::values_of;
-use crate::fault::ScriptFault;
-use crate::line::Line;
 use crate::script::Script;
-use crate::source::Source;
 use std::alloc::Global;
 use tg_model::{Edge, MAX_VERTICES, Opening};
 use tg_payload::{Draft, Payload};
 use tg_store::{Limits, OpenFault, Store};
+use tg_text::{Line, ScriptFault, Source};
 
 /// The edges in front of a script, and the line behind them.
 #[derive(Drop)]

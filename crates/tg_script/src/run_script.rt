@@ -6,22 +6,16 @@ ghost use Rattle.tg_script.specs.Run.{Shows};
 ghost use Rattle.tg_script.specs.Running.{Ran, TellsAll, Finishes, RunsLine};
 ghost use Rattle.tg_script.specs.Script.{Scene, Start};
 
-use crate::count::Count;
-use crate::fault::ScriptFault;
-use crate::line::Line;
-use crate::memory::{Bytes, Written};
 use crate::opening::{Front, open_store, read_edges};
-use crate::reply::write_reply;
 use crate::run::Run;
 use crate::script::Script;
-use crate::sink::{Sink, WriteFailed};
-use crate::source::Source;
 use crate::supply::Supply;
 use std::alloc::Global;
 use std::marker::Brand;
 use std::sync::ledger::{Blank, Ledger};
 use tg_payload::{Draft, Payload};
 use tg_store::Limits;
+use tg_text::{Bytes, Count, Line, ScriptFault, Sink, Source, WriteFailed, Written, write_reply};
 
 /// What a run is given beside its script and its payloads.
 #[derive(Clone, Copy, Debug)]

@@ -1,14 +1,9 @@
 //! A script that is read line by line, with the first fault in it.
 ghost use Rattle.std.specs.Prelude.{◌≡◌, ◌+◌, ◌<◌, ◌≤◌, ◌↔◌, ℕ, List, Some, Ok, true, IsTrue, IfSome, IfNone};
-ghost use Rattle.tg_script.specs.Grammar.{LineFits, line_text};
-ghost use Rattle.tg_script.specs.Reading.{MayStand, IsBadText, opening_after};
+ghost use Rattle.tg_text.specs.Grammar.{LineFits, line_text};
+ghost use Rattle.tg_text.specs.Reading.{MayStand, IsBadText, opening_after};
 
-use crate::buffer::LineBuffer;
-use crate::fault::ScriptFault;
-use crate::fetch::Lines;
-use crate::line::Line;
-use crate::read::read_line;
-use crate::source::{Fetched, Source};
+use tg_text::{Fetched, Line, LineBuffer, Lines, ScriptFault, Source, read_line};
 
 /// A script, as far as it was read.
 #[derive(Drop)]
@@ -28,7 +23,7 @@ pub(crate) struct Script {
 
 impl Script {
     ghost use Rattle.std.specs.Prelude.{◌≡◌, ◌+◌, ◌<◌, ◌≤◌, ℕ, List, Some, Ok, true, IfOk, IfSome};
-    ghost use Rattle.tg_script.specs.Reading.{MayStand, opening_after};
+    ghost use Rattle.tg_text.specs.Reading.{MayStand, opening_after};
     ghost use Rattle.tg_script.specs.Lines.{NextLine, TakesLine, Follows, read_failures, write_failures};
 
     /// No line was read.
@@ -104,8 +99,7 @@ fn may_stand(line: &Line, workers: u64, opening: bool) -> bool
 {
     match line {
         Line::Edge(edge) => opening && edge.joins_workers(workers),
-        Line::Create { .. } | Line::Plain { .. } | Line::Full => true,
-        Line::Minor => false,
+        Line::Create { .. } | Line::Plain { .. } | Line::Full | Line::Minor => true,
     }
 }
 

@@ -2,8 +2,8 @@
 use Rattle.std.specs.Prelude.{[], ◌∷◌}
 use Rattle.tg_model.specs.declared.law.Law.TheVariants as law
 use Rattle.tg_model.specs.declared.value.Value.{Value}
-use Rattle.tg_script.specs.declared.stock.StockItem.{StockItem}
-use Rattle.tg_script.specs.declared.stock.StockItem.TheVariants.{Cell, Sum, Max, Log}
+use Rattle.tg_text.specs.declared.stock.StockItem.{StockItem}
+use Rattle.tg_text.specs.declared.stock.StockItem.TheVariants.{Cell, Sum, Max, Log}
 
 abbrev pub value_of : StockItem → Value
 value_of Cell = record { law = law.Cell; state = 0 ∷ [] }

@@ -1,7 +1,7 @@
 -- How faults are told, and the statuses of the program.
 use Rattle.std.specs.Prelude.{ℕ}
-use Rattle.tg_script.specs.declared.stock.StockFault.{StockFault}
-use Rattle.tg_script.specs.declared.stock.StockFault.TheVariants as stock
+use Rattle.tg_text.specs.declared.stock.StockFault.{StockFault}
+use Rattle.tg_text.specs.declared.stock.StockFault.TheVariants as stock
 use Rattle.tgstore.specs.declared.start.StartFault.{StartFault}
 use Rattle.tgstore.specs.declared.start.StartFault.TheVariants as start
 use Rattle.tgstore.specs.declared.stop.Stop.{Stop}

@@ -2,9 +2,9 @@
 use Rattle.std.specs.Prelude.{◌≡◌, ◌<◌, ◌≤◌, ℕ, List, map, replicate}
 use Rattle.tg_model.specs.declared.opening.TheConstants.{MAX_WORKERS}
 use Rattle.tg_model.specs.declared.value.Value.{Value}
-use Rattle.tg_script.specs.declared.stock.StockItem.{StockItem}
-use Rattle.tg_script.specs.declared.stock.StockItem.TheVariants.{Cell}
-use Rattle.tg_script.specs.Stock.{IsStockText}
+use Rattle.tg_text.specs.declared.stock.StockItem.{StockItem}
+use Rattle.tg_text.specs.declared.stock.StockItem.TheVariants.{Cell}
+use Rattle.tg_text.specs.Stock.{IsStockText}
 use Rattle.tg_script.specs.declared.run_script.Settings.{Settings}
 use Rattle.tgstore.specs.Boxes.{value_of}
 use Rattle.tgstore.specs.declared.start.Start.{Start}

@@ -1,6 +1,6 @@
 //! What a run starts from, and what is wrong with it before any input is read.
 ghost use Rattle.std.specs.Prelude.{◌≡◌, IfOk, IfErr};
-ghost use Rattle.tg_script.specs.Stock.{IsStockText};
+ghost use Rattle.tg_text.specs.Stock.{IsStockText};
 ghost use Rattle.tgstore.specs.Ranges.{AreInRange};
 ghost use Rattle.tgstore.specs.Starts.{HasRoom, IsReady, IsStartFault};
 

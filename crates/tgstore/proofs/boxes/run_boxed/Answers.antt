@@ -1,7 +1,7 @@
 use Rattle.std.proofs.Common.{refl, ap, ◌∙◌, ◌≡◌, ◌++◌, ◌∷◌, [], take}
 use Rattle.tg_payload.specs.contracts.payload.BoxDynPayloadSendPayload.TheImpl.{value-value}
-use Rattle.tg_script.specs.declared.stock.StockItem.{StockItem}
-use Rattle.tg_script.specs.declared.stock.StockItem.TheVariants.{Cell, Sum, Max, Log}
+use Rattle.tg_text.specs.declared.stock.StockItem.{StockItem}
+use Rattle.tg_text.specs.declared.stock.StockItem.TheVariants.{Cell, Sum, Max, Log}
 use Rattle.tgstore.specs.Boxes.{value_of}
 use Rattle.tgstore.proofs.BoxLaws.{cell_of, sum_of, max_of, log_of, one_more, next_one}
 use Rattle.tgstore.proofs.boxes.run_boxed.OwnLists.{own-1, lawful-own-1, at-1-1, at-1-2, at-1-3, at-1-4}

@@ -1,6 +1,6 @@
 use Rattle.std.proofs.Common.{◌≡◌, map, replicate, take}
 use Rattle.tg_payload.specs.contracts.payload.BoxDynPayloadSendPayload.TheImpl.{value-value}
-use Rattle.tg_script.specs.declared.stock.StockItem.TheVariants.{Cell}
+use Rattle.tg_text.specs.declared.stock.StockItem.TheVariants.{Cell}
 use Rattle.tgstore.specs.Boxes.{value_of}
 use Rattle.tgstore.proofs.boxes.run_boxed.OwnLists.{own-1, lawful-own-1}
 use Rattle.tgstore.proofs.boxes.run_boxed.Hidden.{sends-own-1}

@@ -1,6 +1,6 @@
 use Rattle.std.proofs.Common.{refl}
 use Rattle.tg_script.proofs.LinesLaws.{too_long, fetches_known}
-use Rattle.tg_script.specs.declared.source.Fetched.TheVariants.{LineTooLong}
+use Rattle.tg_text.specs.declared.source.Fetched.TheVariants.{LineTooLong}
 use Rattle.tg_script.proofs.script.Script.next.Goals as goal
 
 pub returns-in-LineTooLong-clause-bytes : goal.returns-in-LineTooLong-clause-bytes

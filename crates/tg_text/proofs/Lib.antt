@@ -1,0 +1,10 @@
+pub mod PieceLaws
+pub mod NumberLaws
+pub mod LabelLaws
+pub mod GrammarLaws
+pub mod ReadLaws
+pub mod FetchLaws
+pub mod ReadingLaws
+pub mod SinkLaws
+pub mod StockLaws
+pub mod StreamLaws

@@ -1,0 +1,72 @@
+//! The lines of a source, byte by byte.
+//!
+//! The source is asked for one byte at a time, and never for a byte behind the first fault: that is why a fault is
+//! looked for at each byte, and not when a line is whole. Bytes of a line lie in one buffer, which serves all lines.
+ghost use Rattle.std.specs.Prelude.{◌≡◌, ◌+◌, ◌-◌, ◌<◌, ◌≤◌, length};
+ghost use Rattle.tg_text.specs.Fetching.{FetchesKnown, failures_of};
+
+use crate::buffer::LineBuffer;
+use crate::source::{Fetched, Next, Source};
+
+/// The most bytes that a script may have, line feeds included.
+pub const MOST_BYTES: u32 = 1_048_576;
+
+/// The most bytes that a line may have, without its line feed.
+pub const MOST_LINE_BYTES: usize = 256;
+
+/// How far the lines of a source were read.
+#[derive(Drop)]
+pub struct Lines {
+    /// How many bytes may still come, at most [`MOST_BYTES`].
+    pub room: u32,
+}
+
+impl Lines {
+    /// All lines are left, and [`MOST_BYTES`] bytes may come.
+    pub fn new() -> Lines
+        ensures { result.room ≡ 1048576 }
+    {
+        Lines { room: MOST_BYTES }
+    }
+
+    /// Reads the next line into the buffer, without its line feed, and says what came of it: a line, no more bytes, or
+    /// the first fault, looked for at each byte in this order: the source failed, more bytes came than may, the line
+    /// has more than [`MOST_LINE_BYTES`]; or the input ended within a line. The source is asked once for each byte of
+    /// the line and for what ended it, and not again. Takes no memory.
+    pub fn next_line<S: Source>(&mut self, source: &mut S, line: &mut LineBuffer) -> Fetched
+        ensures bytes { FetchesKnown self.old.room (S.left source.old) result line.new (S.left source.new) }
+        ensures room { result ≡ Fetched.Line → self.new.room + length line.new + 1 ≡ self.old.room }
+        ensures shrinks { self.new.room ≤ self.old.room }
+        ensures failures { S.failures source.new ≡ S.failures source.old + failures_of result }
+        ensures asked { S.asked source.new + self.new.room ≤ S.asked source.old + self.old.room + 1 }
+        ensures asked_of_line { result ≡ Fetched.Line → S.asked source.new + self.new.room ≡ S.asked source.old + self.old.room }
+    {
+        line.clear();
+        for _ in 0..257u32 {
+            match source.next() {
+                Next::Failed => return Fetched::Failed,
+                Next::End => {
+                    return if line.len() == 0 {
+                        Fetched::End
+                    } else {
+                        Fetched::Unfinished
+                    };
+                }
+                Next::Byte(byte) => {
+                    if self.room == 0 {
+                        return Fetched::InputTooLong;
+                    }
+                    if byte != b'\n' && line.len() == MOST_LINE_BYTES {
+                        return Fetched::LineTooLong;
+                    }
+                    self.room -= 1;
+                    if byte == b'\n' {
+                        return Fetched::Line;
+                    }
+                    line.push(byte);
+                }
+            }
+        }
+        unreachable!()
+    }
+}
