@@ -24,8 +24,8 @@ module _ (old new : StoreState) (made : ℕ) (is : IsStore old made) where
   -- what is kept stands for the same graph
   stands_kept : (kind : Kind) → KeepsReached kind (content_of old.heap) (content_of new.heap) (length old.heap.workers) → content_stands.StandsFor (content_of new.heap) (graph_of_store old)
   stands_kept Full keeps = content.StandsFor-full_collection (content_of old.heap) (content_of new.heap) (graph_of_store old) is.faithful.stands (length old.heap.workers) workers_subjects keeps
-  stands_kept Nursery (kept, keeps, all) =
-      content.StandsFor-kept (content_of old.heap) (content_of new.heap) (graph_of_store old) is.faithful.stands kept keeps
+  stands_kept Nursery (keeps, all) =
+      content.StandsFor-kept (content_of old.heap) (content_of new.heap) (graph_of_store old) is.faithful.stands (IsNamed (content_of new.heap)) keeps
       (λ x reach. all x (content.IsReached-IsReachable (content_of old.heap) (graph_of_store old) is.faithful.stands (length old.heap.workers) workers_subjects x reach))
 
   pub IsStore-collected : (kind : Kind) → KeepsReached kind (content_of old.heap) (content_of new.heap) (length old.heap.workers) → new.opening ≡ old.opening → new.entries ≡ old.entries → length new.heap.workers ≡ length old.heap.workers → IsStore new made
