@@ -47,6 +47,7 @@ impl<P: Payload> Store<P> {
     ghost use Rattle.tg_model.specs.declared.reply.Denial.{Denial};
     ghost use Rattle.tg_space.specs.Collection.{MayLackRoom, used_cells};
     ghost use Rattle.tg_space.specs.SpaceList.{block_count, space_of};
+    ghost use Rattle.tg_space.specs.SpaceTable.{kept_blocks};
     ghost use Rattle.tg_payload.specs.Table.{count};
     ghost use Rattle.tg_graph.specs.Content.{IsNamed};
     ghost use Rattle.tg_graph.specs.Heap.{IsOutOfCells, content_of};
@@ -205,27 +206,36 @@ impl<P: Payload> Store<P> {
         Ok(name)
     }
 
-    /// Copies the cells that the workers' rows reach into new blocks of Old, and gives up all others with their
-    /// payloads. Answers how many vertices the heap then has: these are exactly those that can be reached on the graph
-    /// that the store stands for, which stays as it was, as does the journal.
+    /// Collects the heap with one thread, and answers how many vertices it then has. The journal stays as it is, and so
+    /// does the graph that the store stands for: a vertex that can be reached on it is kept, with its labels and its
+    /// payload. What isn't kept is given up with its payload.
     ///
-    /// `HeapFull` is answered only where the cells in use may not fit into the blocks that a space may have, and else
-    /// `OutOfMemory` alone; the store is then as it was.
+    /// A full collection moves all cells that the workers' rows reach to Old, and keeps exactly the vertices that can be
+    /// reached. A nursery collection moves the younger cells alone, to Aged or to Old, and keeps all cells of Old: it
+    /// costs what is young, and may keep vertices that nobody reaches. After either no nursery has a block.
+    ///
+    /// `HeapFull` is answered only where the cells in use that would be moved may not fit into the blocks that a space may
+    /// have, and else `OutOfMemory` alone; the store is then as it was.
     pub fn collect(&mut self, kind: Kind) -> Result<u64, CollectFault>
         ensures number { IfOk result (λ number. number ≡ length (content_of self.new.heap).names) }
         ensures names { (g : ProtectionGraph) → StandsFor self.old g → OnOk result (kind ≡ Kind.Full → (x : ℕ) → IsNamed (content_of self.new.heap) x ↔ IsReachable g x) }
         ensures reachable { (g : ProtectionGraph) → StandsFor self.old g → IfOk result (λ number. kind ≡ Kind.Full → IsCountOf (IsReachable g) number) }
         ensures only_old { OnOk result (kind ≡ Kind.Full → (space : ℕ) → space ≢ 0 → space_of self.new.heap.table.spaces space ≡ []) }
+        ensures no_nursery { OnOk result ((space : ℕ) → 2 ≤ space → space_of self.new.heap.table.spaces space ≡ []) }
         ensures entries { self.new.entries ≡ self.old.entries }
-        ensures full { result ≡ Err CollectFault.HeapFull → kind ≡ Kind.Full →
-            MayLackRoom self.old.heap.table.limits.space_blocks 1 0 (used_cells self.old.heap.table.spaces) }
+        ensures full { result ≡ Err CollectFault.HeapFull →
+            MayLackRoom self.old.heap.table.limits.space_blocks 1 (kept_blocks kind self.old.heap.table.spaces) (used_cells kind self.old.heap.table.spaces) }
         ensures refused { OnErr result (self.new ≡ self.old) }
         ensures opening { self.new.opening ≡ self.old.opening }
     {
-        let roots = self.heap.roots(self.alloc)?;
+        let roots = self.heap.roots(self.alloc, kind)?;
         let copied = collect_one(self.alloc, self.heap.spaces(), &roots, kind)?;
-        let Copied { forward, adoption } = copied;
-        self.heap.settle(kind, forward, adoption)?;
+        let Copied {
+            forward,
+            adoption,
+            remembered,
+        } = copied;
+        self.heap.settle(kind, forward, adoption, remembered)?;
         Ok(self.heap.vertices())
     }
 }

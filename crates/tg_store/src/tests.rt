@@ -156,13 +156,13 @@ fn open_two<P: Payload>(alloc: Global, first: P, second: P) -> Option<Store<P>> 
     Store::open(alloc, opening, limits, drafts).ok()
 }
 
-// Makes vertices for the payloads until one is refused. Answers the last name, why the next is refused, why a full
-// collection then is, and the census.
+// Makes vertices for the payloads until one is refused. Answers the last name, why the next is refused, why a
+// collection of either kind then is, and the census.
 fn filled<P: Payload>(
     alloc: Global,
     workers: (P, P),
     payloads: Vec<P>,
-) -> Option<(u64, CreateFault, CollectFault, Census)> {
+) -> Option<(u64, CreateFault, [CollectFault; 2], Census)> {
     let (first, second) = workers;
     let mut store = open_two(alloc, first, second)?;
     let label = Label::new(Rights::of(Right::R))?;
@@ -173,8 +173,9 @@ fn filled<P: Payload>(
             Ok(name) => last = name,
             Err(refused) => {
                 let CreateRefused { draft: _, why } = refused;
-                let fault = store.collect(Kind::Full).err()?;
-                return Some((last, why, fault, store.census()));
+                let full = store.collect(Kind::Full).err()?;
+                let nursery = store.collect(Kind::Nursery).err()?;
+                return Some((last, why, [full, nursery], store.census()));
             }
         }
     }
@@ -191,10 +192,11 @@ fn one_block_a_space(rt: HostRuntime) -> Result<(), Fail> {
     }
     let first: PayloadBox = Box::new(alloc, CellPayload::new(0))?;
     let second: PayloadBox = Box::new(alloc, CellPayload::new(0))?;
-    let (last, why, fault, census) = filled(alloc, (first, second), payloads).ok_or("no refusal")?;
+    let (last, why, faults, census) = filled(alloc, (first, second), payloads).ok_or("no refusal")?;
     assert_eq!(rt; last, 55);
     assert_eq!(rt; why, CreateFault::HeapFull);
-    assert_eq!(rt; fault, CollectFault::HeapFull);
+    assert_eq!(rt; faults[0], CollectFault::HeapFull);
+    assert_eq!(rt; faults[1], CollectFault::HeapFull);
     let counts = Census {
         vertices: 56,
         payloads: 56,
@@ -205,13 +207,14 @@ fn one_block_a_space(rt: HostRuntime) -> Result<(), Fail> {
 }
 
 // Makes a vertex for each of three payloads, lets each have an edge to the next in turn, and gives up all rights over
-// them. Answers how many were dropped before a full collection, what it answers, and how many were dropped then.
+// them. Answers how many were dropped before any collection, what a nursery collection and a full one then answer, and
+// how many were dropped by both.
 fn dropped_by_a_collection<P: Payload>(
     alloc: Global,
     worker: P,
     payloads: Vec<P>,
     drops: &AtomicU64,
-) -> Option<(u64, u64, u64)> {
+) -> Option<(u64, u64, u64, u64)> {
     let mut store = open_one(alloc, worker, 4)?.ok()?;
     let read = Label::new(Rights::of(Right::R))?;
     let label = Label::new(Rights::of(Right::R).union(Rights::of(Right::G)))?;
@@ -235,8 +238,9 @@ fn dropped_by_a_collection<P: Payload>(
         let _done = store.apply(0, remove).ok()?;
     }
     let before = drops.load(Ordering::SeqCst);
+    let young = store.collect(Kind::Nursery).ok()?;
     let left = store.collect(Kind::Full).ok()?;
-    Some((before, left, drops.load(Ordering::SeqCst)))
+    Some((before, young, left, drops.load(Ordering::SeqCst)))
 }
 
 #[test]
@@ -254,6 +258,6 @@ fn cycle_of_dead_boxes(rt: HostRuntime) -> Result<(), Fail> {
     }
     let worker: PayloadBox = Box::new(alloc, CellPayload::new(0))?;
     let seen = dropped_by_a_collection(alloc, worker, payloads, &drops).ok_or("a refusal")?;
-    assert_eq!(rt; seen, (0, 1, 3));
+    assert_eq!(rt; seen, (0, 1, 1, 3));
     Ok(())
 }
