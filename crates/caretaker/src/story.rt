@@ -3,12 +3,14 @@
 //! No rule takes a right from the one who holds it: a worker gives up its own. So what the caretaker hands on comes
 //! back when the visitor gives it up; and from the moment when the caretaker gives up its own right, it can't be handed
 //! on again.
-ghost use Rattle.std.specs.Prelude.{◌≡◌, IfErr};
+ghost use Rattle.std.specs.Prelude.{◌≡◌, IfErr, IfOk, OnOk, length};
+ghost use Rattle.tg_journal.specs.History.{IsAuditFault, IsLegal};
+ghost use Rattle.tg_model.specs.Opened.{start_of};
 
 use crate::stop::Stop;
 use crate::tell::tell_reply;
 use std::alloc::Global;
-use tg_journal::{AuditFault, audit};
+use tg_journal::{AuditFault, Entry, audit};
 use tg_model::{Command, Edge, Opening, Reply, Value};
 use tg_payload::{Draft, Payload};
 use tg_rights::{Label, Rights};
@@ -44,8 +46,8 @@ pub fn run_story<P: Payload, R: Print + AllocGlobal>(rt: &R, boxes: Boxes<P>) ->
     let document = hand_on(rt, &mut store, boxes.document)?;
     visit(rt, &mut store, document)?;
     take_back(rt, &mut store, document)?;
-    audit_own(alloc, &store)?;
-    println!(rt; "audit ok, {} entries", store.journal().len())?;
+    let entries = audit_own(alloc, &store)?;
+    println!(rt; "audit ok, {entries} entries")?;
     Ok(())
 }
 
@@ -158,12 +160,24 @@ fn collect<P: Payload, R: Print>(rt: &R, store: &mut Store<P>) -> Result<(), Sto
     Ok(())
 }
 
-// Replays the store's own journal from its opening. As the journal of a store is always a legal history, the replay can
-// fail for want of memory alone.
-fn audit_own<P: Payload>(alloc: Global, store: &Store<P>) -> Result<(), AuditFault>
-    ensures { IfErr result (λ fault. fault ≡ AuditFault.OutOfMemory) }
+// Audits the store's own journal, and answers how many entries it has. As the journal of a store is always a legal
+// history, the audit can fail for want of memory alone.
+fn audit_own<P: Payload>(alloc: Global, store: &Store<P>) -> Result<u64, AuditFault>
+    ensures count { IfOk result (λ count. count ≡ length store.now.entries) }
+    ensures fault { IfErr result (λ fault. fault ≡ AuditFault.OutOfMemory) }
 {
-    audit(alloc, store.opening(), store.journal().entries())
+    count_audited(alloc, store.opening(), store.journal().entries())
+}
+
+// Replays entries, whoever they come from, from an opening. Answers how many there are only where they are a legal
+// history of it; a fault is that of the audit, which says of a bad entry that it is the first.
+fn count_audited(alloc: Global, opening: &Opening, entries: &[Entry]) -> Result<u64, AuditFault>
+    ensures count { IfOk result (λ count. count ≡ length entries.now) }
+    ensures legal { OnOk result (IsLegal (start_of opening.now) entries.now) }
+    ensures fault { IfErr result (IsAuditFault (start_of opening.now) entries.now) }
+{
+    audit(alloc, opening, entries)?;
+    Ok(entries.len() as u64)
 }
 
 fn read(target: u64) -> Command {

@@ -55,7 +55,7 @@ impl Model for Graph {
 }
 
 impl Graph {
-    ghost use Rattle.tg_model.specs.Plain.{PlainGraph, graph_of};
+    ghost use Rattle.tg_model.specs.Plain.{graph_of};
     ghost use Rattle.tg_model.specs.Opened.{start_of};
 
     /// The graph that an opening starts from. Answers only want of memory otherwise.
@@ -74,33 +74,13 @@ impl Graph {
         for value in opening.values() {
             values.push(value.copy(alloc)?)?;
         }
-        Ok(Graph::from_parts(
+        Ok(Graph {
             alloc,
-            opening.workers(),
-            opening.max_vertices(),
+            workers: opening.workers(),
+            max_vertices: opening.max_vertices(),
             triples,
             values,
-        ))
-    }
-
-    /// The graph of these parts: the number of workers, the most vertices that may ever be made, the triples, and the
-    /// value of each vertex by rising name.
-    pub fn from_parts(
-        alloc: Global,
-        workers: u64,
-        max_vertices: u64,
-        triples: Vec<Triple>,
-        values: Vec<Value>,
-    ) -> Graph
-        ensures { let parts : PlainGraph = record { workers = workers; limit = max_vertices; triples = triples.items; values = values.items } in result ≡ parts }
-    {
-        Graph {
-            alloc,
-            workers,
-            max_vertices,
-            triples,
-            values,
-        }
+        })
     }
 
     /// The number of workers. They are named 0, 1, 2, ..
@@ -115,13 +95,6 @@ impl Graph {
         ensures { result ≡ self.now.limit }
     {
         self.max_vertices
-    }
-
-    /// The triples, in no order that matters.
-    pub fn triples(&self) -> &[Triple]
-        ensures { result.now ≡ self.now.triples }
-    {
-        self.triples.as_slice()
     }
 
     /// What each vertex stores, by rising name.

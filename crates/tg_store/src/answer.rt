@@ -38,6 +38,7 @@ pub(crate) fn answer_command<P: Payload>(
         OnOk result (StandsFor (content_of heap.new) (step g worker (Plain command.now))) }
     ensures denied { (denial : Denial) → denial_of (content_of heap.old).label worker command.now ≡ Some denial → heap.new ≡ heap.old }
     ensures workers { heap.new.workers ≡ heap.old.workers }
+    ensures limits { heap.new.table.limits ≡ heap.old.table.limits }
     ensures refused { OnErr result (IsUnchanged heap.old heap.new) }
     ensures worker { result ≢ Err ApplyFault.NoSuchWorker }
     ensures full { result ≡ Err ApplyFault.HeapFull → (denial_of (content_of heap.old).label worker command.now ≡ None)
@@ -75,6 +76,7 @@ fn serve<P: Payload>(
     ensures step { (g : ProtectionGraph) → StandsFor (content_of heap.old) g → IsSubject g worker →
         OnOk result (StandsFor (content_of heap.new) (step g worker (Plain command.now))) }
     ensures workers { heap.new.workers ≡ heap.old.workers }
+    ensures limits { heap.new.table.limits ≡ heap.old.table.limits }
     ensures refused { OnErr result (IsUnchanged heap.old heap.new) }
     ensures worker { result ≢ Err ApplyFault.NoSuchWorker }
     ensures full { result ≡ Err ApplyFault.HeapFull → AddsEdge command.now × IsOutOfCells heap.old.table (worker + 2) 1 }
@@ -102,6 +104,7 @@ fn look<P: Payload>(
     ensures step { (g : ProtectionGraph) → StandsFor (content_of heap.old) g → IsSubject g worker →
         OnOk result (StandsFor (content_of heap.new) (step g worker (Plain command.now))) }
     ensures workers { heap.new.workers ≡ heap.old.workers }
+    ensures limits { heap.new.table.limits ≡ heap.old.table.limits }
     ensures refused { OnErr result (IsUnchanged heap.old heap.new) }
     ensures worker { result ≢ Err ApplyFault.NoSuchWorker }
     ensures full { result ≢ Err ApplyFault.HeapFull }
@@ -126,6 +129,7 @@ fn change<P: Payload>(
     ensures step { (g : ProtectionGraph) → StandsFor (content_of heap.old) g → IsSubject g worker →
         OnOk result (StandsFor (content_of heap.new) (step g worker (Plain command.now))) }
     ensures workers { heap.new.workers ≡ heap.old.workers }
+    ensures limits { heap.new.table.limits ≡ heap.old.table.limits }
     ensures refused { OnErr result (IsUnchanged heap.old heap.new) }
     ensures worker { result ≢ Err ApplyFault.NoSuchWorker }
     ensures full { result ≡ Err ApplyFault.HeapFull → AddsEdge command.now × IsOutOfCells heap.old.table (worker + 2) 1 }

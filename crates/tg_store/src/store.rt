@@ -137,6 +137,7 @@ impl<P: Payload> Store<P> {
             IsAllowed g worker (Deed.Plain command) × AddsEdge command × IsOutOfCells self.old.heap.table (worker + 2) 1 }
         ensures refused { OnErr result (IsUnchanged self.old self.new) }
         ensures opening { self.new.opening ≡ self.old.opening }
+        ensures limits { self.new.heap.table.limits ≡ self.old.heap.table.limits }
     {
         if worker >= self.heap.workers() {
             return Err(ApplyFault::NoSuchWorker);
@@ -180,6 +181,7 @@ impl<P: Payload> Store<P> {
         ensures same_graph { (g : ProtectionGraph) → StandsFor self.old g → OnErr result (StandsFor self.new g) }
         ensures handed_back { IfErr result (λ refused. refused.draft ≡ draft) }
         ensures opening { self.new.opening ≡ self.old.opening }
+        ensures limits { self.new.heap.table.limits ≡ self.old.heap.table.limits }
     {
         if worker >= self.heap.workers() {
             return create_refused(draft, CreateFault::NoSuchWorker);
@@ -227,6 +229,7 @@ impl<P: Payload> Store<P> {
             MayLackRoom self.old.heap.table.limits.space_blocks 1 (kept_blocks kind self.old.heap.table.spaces) (used_cells kind self.old.heap.table.spaces) }
         ensures refused { OnErr result (self.new ≡ self.old) }
         ensures opening { self.new.opening ≡ self.old.opening }
+        ensures limits { self.new.heap.table.limits ≡ self.old.heap.table.limits }
     {
         let roots = self.heap.roots(self.alloc, kind)?;
         let copied = collect_one(self.alloc, self.heap.spaces(), &roots, kind)?;

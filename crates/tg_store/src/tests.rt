@@ -7,7 +7,8 @@ use std::alloc::{AllocError, Global};
 use std::sync::Arc;
 use std::sync::atomic::{AtomicU64, Ordering};
 use std::test::Fail;
-use tg_model::{Command, Law, Numbers, Opening, Value};
+use tg_journal::{AuditFault, Entry, audit};
+use tg_model::{Command, Deed, Law, Numbers, Opening, Reply, Value};
 use tg_payload::{CellPayload, Draft, Payload, PayloadBox};
 use tg_rights::{Label, Right, Rights};
 
@@ -144,11 +145,11 @@ fn two_counting_boxes(rt: HostRuntime) -> Result<(), Fail> {
 }
 
 // A store of two workers, who store cells with 0, with four blocks in all and one in each space.
-fn open_two<P: Payload>(alloc: Global, first: P, second: P) -> Option<Store<P>> {
+fn open_two<P: Payload>(alloc: Global, first: P, second: P, max_vertices: u64) -> Option<Store<P>> {
     let mut values = Vec::new(alloc);
     values.push(cell_of(alloc, 0)?).ok()?;
     values.push(cell_of(alloc, 0)?).ok()?;
-    let opening = Opening::new(2, Vec::new(alloc), values, 1000).ok()?;
+    let opening = Opening::new(2, Vec::new(alloc), values, max_vertices).ok()?;
     let mut drafts = Vec::new(alloc);
     drafts.push(Draft::new(alloc, first).ok()?).ok()?;
     drafts.push(Draft::new(alloc, second).ok()?).ok()?;
@@ -164,7 +165,7 @@ fn filled<P: Payload>(
     payloads: Vec<P>,
 ) -> Option<(u64, CreateFault, [CollectFault; 2], Census)> {
     let (first, second) = workers;
-    let mut store = open_two(alloc, first, second)?;
+    let mut store = open_two(alloc, first, second, 1000)?;
     let label = Label::new(Rights::of(Right::R))?;
     let mut last = 1;
     for payload in payloads {
@@ -259,5 +260,84 @@ fn cycle_of_dead_boxes(rt: HostRuntime) -> Result<(), Fail> {
     let worker: PayloadBox = Box::new(alloc, CellPayload::new(0))?;
     let seen = dropped_by_a_collection(alloc, worker, payloads, &drops).ok_or("a refusal")?;
     assert_eq!(rt; seen, (0, 1, 1, 3));
+    Ok(())
+}
+
+// What the worker is answered who makes a vertex that stores a cell with 0.
+fn create_cell(
+    alloc: Global,
+    store: &mut Store<CellPayload>,
+    worker: u64,
+) -> Option<Result<u64, CreateFault>> {
+    let label = Label::new(Rights::of(Right::R))?;
+    let draft = Draft::new(alloc, CellPayload::new(0)).ok()?;
+    let made = store.create(worker, label, draft);
+    Some(made.map_err(|refused| refused.why))
+}
+
+// A store in which three vertices may be made, and both workers made one; what the second is answered.
+fn filled_by_two(alloc: Global) -> Option<(Store<CellPayload>, Result<u64, CreateFault>)> {
+    let mut store = open_two(alloc, CellPayload::new(0), CellPayload::new(0), 3)?;
+    let Ok(2) = create_cell(alloc, &mut store, 0)? else {
+        return None;
+    };
+    let second = create_cell(alloc, &mut store, 1)?;
+    Some((store, second))
+}
+
+#[test]
+fn vertex_limit_and_unknown_worker(rt: HostRuntime) -> Result<(), Fail> {
+    let (mut store, second) = filled_by_two(rt.alloc()).ok_or("no vertex")?;
+    assert_eq!(rt; second, Err(CreateFault::VerticesFull));
+    let Ok(Reply::Edges(edges)) = store.apply(1, Command::List) else {
+        return Err(Fail::from("no listing"));
+    };
+    assert!(rt; edges.as_slice().is_empty());
+    let unknown = store.apply(7, Command::List);
+    assert!(rt; matches!(unknown, Err(ApplyFault::NoSuchWorker)));
+    assert_eq!(rt; store.journal().len(), 3);
+    Ok(())
+}
+
+// The entries of a journal, but for one whose reply is another.
+fn with_altered(alloc: Global, entries: &[Entry], altered: u64) -> Option<Vec<Entry>> {
+    let mut copies = Vec::new(alloc);
+    for (at, entry) in entries.iter().enumerate() {
+        let deed = match &entry.deed {
+            Deed::Create { label, law, state } => Deed::Create {
+                label: *label,
+                law: *law,
+                state: state.copy(alloc).ok()?,
+            },
+            Deed::Plain(command) => Deed::Plain(*command),
+        };
+        let reply = if at as u64 == altered {
+            Reply::Name(9)
+        } else {
+            entry.reply.copy(alloc).ok()?
+        };
+        let worker = entry.worker;
+        copies
+            .push(Entry {
+                worker,
+                deed,
+                reply,
+            })
+            .ok()?;
+    }
+    Some(copies)
+}
+
+#[test]
+fn altered_journal(rt: HostRuntime) -> Result<(), Fail> {
+    let alloc = rt.alloc();
+    let (store, _) = filled_by_two(alloc).ok_or("no vertex")?;
+    let entries = store.journal().entries();
+    assert_eq!(rt; audit(alloc, store.opening(), entries), Ok(()));
+    for at in 0..2 {
+        let altered = with_altered(alloc, entries, at).ok_or("memory")?;
+        let outcome = audit(alloc, store.opening(), &altered);
+        assert_eq!(rt; outcome, Err(AuditFault::BadEntry { at }));
+    }
     Ok(())
 }
