@@ -9,13 +9,13 @@ use Rattle.tg_text.specs.Fetching.{IsOneLine}
 use Rattle.tg_text.specs.Grammar.{line_text, LineFits}
 
 -- Where so many workers are, and edges may still come or not: edges stand before all other lines, and join two
--- different workers. There are no generations yet, so a line for the nurseries stands nowhere.
+-- different workers.
 abbrev pub MayStand : ℕ → Bool → Line → Type 0
 MayStand workers opening (Edge edge) = (opening ≡ true) × (edge.from ≢ edge.to) × (edge.from < workers) × (edge.to < workers)
 MayStand workers opening (Create x label) = Unit {0}
 MayStand workers opening (Plain x command) = Unit {0}
 MayStand workers opening Full = Unit {0}
-MayStand workers opening Minor = ⊥
+MayStand workers opening Minor = Unit {0}
 
 -- whether edges may still come after a line
 abbrev pub opening_after : Bool → Line → Bool
