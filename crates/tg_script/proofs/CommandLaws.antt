@@ -114,4 +114,4 @@ next_command s (line.Edge edge) t closed f = absurd (falseâ‰¢true (sym closed âˆ
 next_command s (line.Create x label) t closed f = (tt, f.opening)
 next_command s (line.Plain x c) t closed f = (tt, f.opening)
 next_command s line.Full t closed f = (tt, f.opening)
-next_command s line.Minor t closed f = absurd f.stands
+next_command s line.Minor t closed f = (tt, f.opening)

@@ -68,7 +68,7 @@ command_taken s (line.Edge edge) t f other = absurd (other edge refl)
 command_taken s (line.Create x label) t f other = (tt, f.opening)
 command_taken s (line.Plain x command) t f other = (tt, f.opening)
 command_taken s line.Full t f other = (tt, f.opening)
-command_taken s line.Minor t f other = absurd f.stands
+command_taken s line.Minor t f other = (tt, f.opening)
 
 pub joined : (workers : ℕ) (s : Script) (edges more : List Edge) (edge : Edge) → s.workers ≡ workers → All (JoinsWorkers workers) edges → JoinsWorkers s.workers edge → more ≡ edges ++ edge ∷ [] → All (JoinsWorkers workers) more
 joined workers s edges more edge same all here is =

@@ -36,7 +36,7 @@ answers_same s (line.Plain x c) a b t u (inr h) (inl k) = absurd (h.0 k.0)
 answers_same s (line.Plain x c) a b t u (inr h) (inr k) = (h.1 ∙ sym k.1, h.2 ∙ sym k.2)
 answers_same s line.Full a b t u h k =
     (h.2 ∙ ap (λ n. told.Collected (Some n)) (count_same (IsReachable s.graph) h.0 k.0 h.1 k.1) ∙ sym k.2, h.3 ∙ sym k.3)
-answers_same s line.Minor a b t u h k = absurd h
+answers_same s line.Minor a b t u h k = (h.0 ∙ sym k.0, h.1 ∙ sym k.1)
 
 pub outputs_same : (lines : List Line) (s : Scene) (text other : List ℕ) → IsOutput s lines text → IsOutput s lines other → text ≡ other
 outputs_same [] s text other h k = h ∙ sym k

@@ -1,6 +1,6 @@
 -- Each line is answered by the scene that the run shows.
 use mathlib.Core.Bool.{true≢false}
-use Rattle.std.proofs.Common.{◌≡◌, inl, inr, ◌↔◌, ℕ, ◌<◌, ◌≤◌, nat_lt, Bool, true, false, cond, eqb, List, [], ◌∷◌, Some, Result, Ok, Err, refl, sym, ap, ◌∙◌, subst, arith}
+use Rattle.std.proofs.Common.{◌≡◌, inl, inr, ◌↔◌, ℕ, ◌<◌, ◌≤◌, nat_lt, Bool, true, false, cond, eqb, List, [], ◌∷◌, Some, None, Result, Ok, Err, refl, sym, ap, ◌∙◌, subst, arith}
 use Rattle.std.specs.List.{list_any}
 use Rattle.std.proofs.lemmas.Bool.{ltb-true}
 use Rattle.std.proofs.lemmas.Map.Views.{Contains-from_any, list_any-from_Contains}
@@ -15,6 +15,8 @@ use Rattle.tg_model.specs.declared.reply.Reply.TheVariants as reply
 use Rattle.tg_model.specs.Graph.{ProtectionGraph, IsSubject, IsReachable}
 use Rattle.tg_model.specs.Rules.{IsAllowed, step, answer_of}
 use Rattle.tg_rules.specs.Effect.{AddsEdge}
+use Rattle.tg_evac.specs.declared.fault.CollectFault.{CollectFault}
+use Rattle.tg_evac.specs.declared.fault.CollectFault.TheVariants as collect
 use Rattle.tg_store.specs.declared.fault.ApplyFault.{ApplyFault}
 use Rattle.tg_store.specs.declared.fault.ApplyFault.TheVariants as apply
 use Rattle.tg_store.specs.declared.fault.CreateFault.{CreateFault}
@@ -26,7 +28,7 @@ use Rattle.tg_text.specs.declared.answer.Refusal.TheVariants as refusal
 use Rattle.tg_script.specs.declared.run.Run.{Run}
 use Rattle.tg_script.specs.Supply.{values_left}
 use Rattle.tg_script.specs.Script.{Scene, Creates}
-use Rattle.tg_script.specs.Answering.{apply_refusal, create_answer}
+use Rattle.tg_script.specs.Answering.{apply_refusal, collect_refusal, create_answer}
 use Rattle.tg_script.specs.Run.{Shows, HandlesBy, Handles}
 
 -- ---- who is a subject, and which graph a store stands for
@@ -77,12 +79,19 @@ pub collect_done : {P : Type 0} (old new : Run P) (kept : ℕ) → ((g : Protect
 collect_done old new kept counts opening entries supply s shown =
     (s, same_scene old new s opening entries (ap values_left supply) shown, inl (kept, counts s.graph shown.0, refl, refl))
 
-pub collect_unserved : {P : Type 0} (old new : Run P) → new.store.opening ≡ old.store.opening → new.store.entries ≡ old.store.entries → new.supply ≡ old.supply → Handles old line.Full (told.Refused refusal.Memory) new
-collect_unserved old new opening entries supply s shown =
+pub collect_refused : {P : Type 0} (old new : Run P) (fault : CollectFault) → new.store.opening ≡ old.store.opening → new.store.entries ≡ old.store.entries → new.supply ≡ old.supply → Handles old line.Full (told.Refused (collect_refusal fault)) new
+collect_refused old new collect.OutOfMemory opening entries supply s shown =
     (s, same_scene old new s opening entries (ap values_left supply) shown, inr (refusal.Memory, tt, refl, refl))
+collect_refused old new collect.HeapFull opening entries supply s shown =
+    (s, same_scene old new s opening entries (ap values_left supply) shown, inr (refusal.Heap, tt, refl, refl))
 
-pub collect_full : {P : Type 0} (old new : Run P) → new.store.opening ≡ old.store.opening → new.store.entries ≡ old.store.entries → new.supply ≡ old.supply → Handles old line.Full (told.Refused refusal.Heap) new
-collect_full old new opening entries supply s shown =
+pub minor_done : {P : Type 0} (old new : Run P) → new.store.opening ≡ old.store.opening → new.store.entries ≡ old.store.entries → new.supply ≡ old.supply → Handles old line.Minor (told.Collected None) new
+minor_done old new opening entries supply s shown = (s, same_scene old new s opening entries (ap values_left supply) shown, inl (refl, refl))
+
+pub minor_refused : {P : Type 0} (old new : Run P) (fault : CollectFault) → new.store.opening ≡ old.store.opening → new.store.entries ≡ old.store.entries → new.supply ≡ old.supply → Handles old line.Minor (told.Refused (collect_refusal fault)) new
+minor_refused old new collect.OutOfMemory opening entries supply s shown =
+    (s, same_scene old new s opening entries (ap values_left supply) shown, inr (refusal.Memory, tt, refl, refl))
+minor_refused old new collect.HeapFull opening entries supply s shown =
     (s, same_scene old new s opening entries (ap values_left supply) shown, inr (refusal.Heap, tt, refl, refl))
 
 -- ---- vertices

@@ -1,4 +1,6 @@
 -- How a fault of the store is told.
+use Rattle.tg_evac.specs.declared.fault.CollectFault.{CollectFault}
+use Rattle.tg_evac.specs.declared.fault.CollectFault.TheVariants as collect
 use Rattle.tg_model.specs.declared.reply.Reply.TheVariants as reply
 use Rattle.tg_store.specs.declared.fault.ApplyFault.{ApplyFault}
 use Rattle.tg_store.specs.declared.fault.ApplyFault.TheVariants as apply
@@ -19,3 +21,7 @@ create_answer create.NoSuchWorker = told.Refused refusal.Worker
 create_answer create.VerticesFull = told.Reply reply.VerticesFull
 create_answer create.OutOfMemory = told.Refused refusal.Memory
 create_answer create.HeapFull = told.Refused refusal.Heap
+
+abbrev pub collect_refusal : CollectFault → Refusal
+collect_refusal collect.OutOfMemory = refusal.Memory
+collect_refusal collect.HeapFull = refusal.Heap

@@ -1,5 +1,5 @@
 -- What is written for the lines of a script. Nothing here knows how lines are fetched or replies are put out.
-use Rattle.std.specs.Prelude.{◌≡◌, ◌≢◌, ◌⊎◌, ℕ, ◌+◌, ◌<◌, List, [], ◌∷◌, ◌++◌, Option, Some, nat_lt, if◌then◌else◌}
+use Rattle.std.specs.Prelude.{◌≡◌, ◌≢◌, ◌⊎◌, ℕ, ◌+◌, ◌<◌, List, [], ◌∷◌, ◌++◌, Option, Some, None, nat_lt, if◌then◌else◌}
 use Rattle.tg_rights.specs.RightSet.{RightSet}
 use Rattle.tg_model.specs.declared.value.Value.{Value}
 use Rattle.tg_model.specs.declared.edge.Edge.{Edge}
@@ -36,8 +36,8 @@ Creates s x label (value ∷ rest) a t =
     ⊎ ((¬ IsSubject s.graph x) × (a ≡ told.Refused refusal.Worker) × (t ≡ s))
 
 -- The answer to a line and the scene after it, where nothing is wanting. A full collection answers the number of the
--- vertices that can be reached, and changes nothing that any other line is answered by. Edge lines have no answer, and there
--- is no line for the nurseries yet.
+-- vertices that can be reached, a collection of the nurseries no number, and neither changes anything that another line is
+-- answered by. Edge lines have no answer.
 abbrev pub Answers : Scene → Line → Answer → Scene → Type 0
 Answers s (line.Edge edge) a t = ⊥
 Answers s (line.Create x label) a t = Creates s x label s.stock a t
@@ -45,7 +45,7 @@ Answers s (line.Plain x command) a t =
     (IsSubject s.graph x × (a ≡ told.Reply (answer_of s.graph x (deed.Plain command))) × (t ≡ record s { graph = step s.graph x (deed.Plain command) }))
     ⊎ ((¬ IsSubject s.graph x) × (a ≡ told.Refused refusal.Worker) × (t ≡ s))
 Answers s line.Full a t = (n : ℕ) × IsCountOf (IsReachable s.graph) n × (a ≡ told.Collected (Some n)) × (t ≡ s)
-Answers s line.Minor a t = ⊥
+Answers s line.Minor a t = (a ≡ told.Collected None) × (t ≡ s)
 
 -- What may be answered in place of that, with nothing changed: memory may be wanting for each line that reaches the store, one
 -- of a worker or a collection; room in the heap for a collection, and for a create, a take or a grant that is allowed. There
@@ -54,9 +54,11 @@ abbrev pub MayRefuse : Scene → Line → Refusal → Type 0
 MayRefuse s (line.Create x label) refusal.Memory = IsSubject s.graph x × (s.stock ≢ [])
 MayRefuse s (line.Plain x command) refusal.Memory = IsSubject s.graph x
 MayRefuse s line.Full refusal.Memory = Unit {0}
+MayRefuse s line.Minor refusal.Memory = Unit {0}
 MayRefuse s (line.Create x label) refusal.Heap = IsSubject s.graph x × (s.stock ≢ []) × (s.graph.made < s.graph.limit)
 MayRefuse s (line.Plain x command) refusal.Heap = IsSubject s.graph x × IsAllowed s.graph x (deed.Plain command) × AddsEdge command
 MayRefuse s line.Full refusal.Heap = Unit {0}
+MayRefuse s line.Minor refusal.Heap = Unit {0}
 MayRefuse s l r = ⊥
 
 -- ---- the text for many lines

@@ -1,6 +1,6 @@
 //! A run under way: the store and the stock, and how each line is answered.
 ghost use Rattle.std.specs.Prelude.{◌≡◌};
-ghost use Rattle.tg_script.specs.Answering.{apply_refusal, create_answer};
+ghost use Rattle.tg_script.specs.Answering.{apply_refusal, collect_refusal, create_answer};
 
 use crate::supply::Supply;
 use tg_model::{Command, Reply};
@@ -29,8 +29,9 @@ impl<P: Payload> Run<P> {
         match line {
             Line::Create { worker, label } => self.create(worker, label),
             Line::Plain { worker, command } => self.apply(worker, command),
-            Line::Full => self.collect(),
-            Line::Edge(_) | Line::Minor => unreachable!(),
+            Line::Full => self.collect_all(),
+            Line::Minor => self.collect_nurseries(),
+            Line::Edge(_) => unreachable!(),
         }
     }
 
@@ -43,13 +44,22 @@ impl<P: Payload> Run<P> {
         }
     }
 
-    fn collect(&mut self) -> Answer
+    fn collect_all(&mut self) -> Answer
         ensures { Handles self.old Line.Full result self.new }
     {
         match self.store.collect(Kind::Full) {
             Ok(kept) => Answer::Collected(Some(kept)),
-            Err(CollectFault::OutOfMemory) => Answer::Refused(Refusal::Memory),
-            Err(CollectFault::HeapFull) => Answer::Refused(Refusal::Heap),
+            Err(fault) => Answer::Refused(collect_refusal(fault)),
+        }
+    }
+
+    // How many vertices the heap then has isn't told: the graph doesn't say it.
+    fn collect_nurseries(&mut self) -> Answer
+        ensures { Handles self.old Line.Minor result self.new }
+    {
+        match self.store.collect(Kind::Nursery) {
+            Ok(_) => Answer::Collected(None),
+            Err(fault) => Answer::Refused(collect_refusal(fault)),
         }
     }
 
@@ -86,6 +96,15 @@ fn apply_refusal(fault: ApplyFault) -> Refusal
         ApplyFault::NoSuchWorker => Refusal::Worker,
         ApplyFault::OutOfMemory => Refusal::Memory,
         ApplyFault::HeapFull => Refusal::Heap,
+    }
+}
+
+fn collect_refusal(fault: CollectFault) -> Refusal
+    ensures { result ≡ collect_refusal fault }
+{
+    match fault {
+        CollectFault::OutOfMemory => Refusal::Memory,
+        CollectFault::HeapFull => Refusal::Heap,
     }
 }
 

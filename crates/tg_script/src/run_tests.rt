@@ -178,6 +178,14 @@ fn grant_survives_a_full_collection(rt: HostRuntime) -> Result<(), Fail> {
     runs(&rt, 2, 1_000_000, b"c", script, written, Ok(()))
 }
 
+#[test]
+fn minor_answers_no_number_and_changes_nothing(rt: HostRuntime) -> Result<(), Fail> {
+    let script =
+        b"0 create r\n0 create r\n0 create r\n0 create r\nfull\n0 create w\nminor\n0 list\n0 read 1\n";
+    let written = b"ok 1\nok 2\nok 3\nok 4\nok 5\nok 5\nok\nok 1:r 2:r 3:r 4:r 5:w\nok 0\n";
+    runs(&rt, 1, 1_000_000, b"c5", script, written, Ok(()))
+}
+
 // What nobody reaches is collected. Its name is not used again.
 #[test]
 fn removed_vertex_is_collected(rt: HostRuntime) -> Result<(), Fail> {

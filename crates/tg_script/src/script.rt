@@ -99,8 +99,7 @@ fn may_stand(line: &Line, workers: u64, opening: bool) -> bool
 {
     match line {
         Line::Edge(edge) => opening && edge.joins_workers(workers),
-        Line::Create { .. } | Line::Plain { .. } | Line::Full => true,
-        Line::Minor => false,
+        Line::Create { .. } | Line::Plain { .. } | Line::Full | Line::Minor => true,
     }
 }
 

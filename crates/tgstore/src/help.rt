@@ -32,6 +32,7 @@ pub const MANUAL: &str = "Script:
   X write Y V          X, with w over Y, writes V to Y
   X list               X is shown its edges
   full                 collects, and answers how many vertices can be reached
+  minor                collects among the newest objects alone, and answers no number
 
 Replies:
   ok                   with what was asked for after it: a name, values, edges as NAME:RIGHTS

@@ -7,4 +7,7 @@ pub returns-in-Plain : goal.returns-in-Plain
 returns-in-Plain g c = rw c.in-Plain.is c.apply.ensures
 
 pub returns-in-Full : goal.returns-in-Full
-returns-in-Full g c = rw c.in-Full.is c.collect.ensures
+returns-in-Full g c = rw c.in-Full.is c.collect_all.ensures
+
+pub returns-in-Minor : goal.returns-in-Minor
+returns-in-Minor g c = rw c.in-Minor.is c.collect_nurseries.ensures
