@@ -178,12 +178,23 @@ fn grant_survives_a_full_collection(rt: HostRuntime) -> Result<(), Fail> {
     runs(&rt, 2, 1_000_000, b"c", script, written, Ok(()))
 }
 
+// A new vertex is young, and its maker's row is old by then.
 #[test]
-fn minor_answers_no_number_and_changes_nothing(rt: HostRuntime) -> Result<(), Fail> {
+fn old_row_and_a_young_vertex(rt: HostRuntime) -> Result<(), Fail> {
     let script =
         b"0 create r\n0 create r\n0 create r\n0 create r\nfull\n0 create w\nminor\n0 list\n0 read 1\n";
     let written = b"ok 1\nok 2\nok 3\nok 4\nok 5\nok 5\nok\nok 1:r 2:r 3:r 4:r 5:w\nok 0\n";
     runs(&rt, 1, 1_000_000, b"c5", script, written, Ok(()))
+}
+
+// The third of the nursery collections sends vertex 2 to Aged from the worker's row, so the old cell of vertex 1 stays
+// remembered; were it forgotten, the fourth would lose what it names.
+#[test]
+fn old_cell_stays_remembered(rt: HostRuntime) -> Result<(), Fail> {
+    let script =
+        b"0 create tg\nminor\nminor\n0 create r\n0 grant 1 2 r\nminor\n0 remove 2 r\nminor\n0 take 1 2 r\n0 read 2\nfull\n";
+    let written = b"ok 1\nok\nok\nok 2\nok\nok\nok\nok\nok\nok 0\nok 3\n";
+    runs(&rt, 1, 1_000_000, b"c2", script, written, Ok(()))
 }
 
 // What nobody reaches is collected. Its name is not used again.

@@ -341,3 +341,80 @@ fn altered_journal(rt: HostRuntime) -> Result<(), Fail> {
     }
     Ok(())
 }
+
+// The next number of a sequence that looks random, below 2^31.
+fn draw(seed: &mut u64) -> u64 {
+    *seed = seed
+        .wrapping_mul(6_364_136_223_846_793_005)
+        .wrapping_add(1_442_695_040_888_963_407);
+    *seed >> 33
+}
+
+// Some command over the first eight vertices.
+fn some_command(seed: &mut u64) -> Option<Command> {
+    let via = draw(seed) % 8;
+    let target = draw(seed) % 8;
+    let rights = Label::new(Rights::from_bits((draw(seed) % 16) as u8)?)?;
+    Some(match draw(seed) % 6 {
+        0 => Command::Take {
+            via,
+            target,
+            rights,
+        },
+        1 => Command::Grant {
+            via,
+            target,
+            rights,
+        },
+        2 => Command::Remove { target, rights },
+        3 => Command::Read { target },
+        4 => Command::Write { target, value: via },
+        _ => Command::List,
+    })
+}
+
+// Collects, or makes a vertex, or lets a worker command something.
+fn take_step(alloc: Global, store: &mut Store<CellPayload>, seed: &mut u64) -> Option<()> {
+    let worker = draw(seed) % 2;
+    match draw(seed) % 12 {
+        0 => {
+            let _left = store.collect(Kind::Full).ok()?;
+        }
+        1 | 2 => {
+            let _left = store.collect(Kind::Nursery).ok()?;
+        }
+        3 => {
+            let label = Label::new(Rights::from_bits(15)?)?;
+            let draft = Draft::new(alloc, CellPayload::new(0)).ok()?;
+            let _name = store.create(worker, label, draft).ok()?;
+        }
+        _ => {
+            if let Some(command) = some_command(seed) {
+                let _reply = store.apply(worker, command).ok()?;
+            }
+        }
+    }
+    Some(())
+}
+
+// A store after so many steps, with collections of both kinds at random moments.
+fn after_steps(alloc: Global, steps: u64, seed: &mut u64) -> Option<Store<CellPayload>> {
+    let mut store = open_two(alloc, CellPayload::new(0), CellPayload::new(0), 1000)?;
+    for _ in 0..steps {
+        take_step(alloc, &mut store, seed)?;
+    }
+    Some(store)
+}
+
+// The audit replays the journal on the plain graph, which no collection enters.
+#[test]
+fn random_commands_between_collections(rt: HostRuntime) -> Result<(), Fail> {
+    let alloc = rt.alloc();
+    let mut seed = 1;
+    for _ in 0..20 {
+        let store = after_steps(alloc, 400, &mut seed).ok_or("a refusal")?;
+        let outcome = audit(alloc, store.opening(), store.journal().entries());
+        assert_eq!(rt; outcome, Ok(()));
+    }
+    Ok(())
+}
