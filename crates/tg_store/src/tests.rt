@@ -144,8 +144,14 @@ fn two_counting_boxes(rt: HostRuntime) -> Result<(), Fail> {
     Ok(())
 }
 
-// A store of two workers, who store cells with 0, with four blocks in all and one in each space.
-fn open_two<P: Payload>(alloc: Global, first: P, second: P, max_vertices: u64) -> Option<Store<P>> {
+// A store of two workers, who store cells with 0.
+fn open_two<P: Payload>(
+    alloc: Global,
+    payloads: (P, P),
+    max_vertices: u64,
+    limits: Limits,
+) -> Option<Store<P>> {
+    let (first, second) = payloads;
     let mut values = Vec::new(alloc);
     values.push(cell_of(alloc, 0)?).ok()?;
     values.push(cell_of(alloc, 0)?).ok()?;
@@ -153,7 +159,6 @@ fn open_two<P: Payload>(alloc: Global, first: P, second: P, max_vertices: u64) -
     let mut drafts = Vec::new(alloc);
     drafts.push(Draft::new(alloc, first).ok()?).ok()?;
     drafts.push(Draft::new(alloc, second).ok()?).ok()?;
-    let limits = Limits::new(4, 1).ok()?;
     Store::open(alloc, opening, limits, drafts).ok()
 }
 
@@ -164,8 +169,8 @@ fn filled<P: Payload>(
     workers: (P, P),
     payloads: Vec<P>,
 ) -> Option<(u64, CreateFault, [CollectFault; 2], Census)> {
-    let (first, second) = workers;
-    let mut store = open_two(alloc, first, second, 1000)?;
+    let limits = Limits::new(4, 1).ok()?;
+    let mut store = open_two(alloc, workers, 1000, limits)?;
     let label = Label::new(Rights::of(Right::R))?;
     let mut last = 1;
     for payload in payloads {
@@ -277,7 +282,9 @@ fn create_cell(
 
 // A store in which three vertices may be made, and both workers made one; what the second is answered.
 fn filled_by_two(alloc: Global) -> Option<(Store<CellPayload>, Result<u64, CreateFault>)> {
-    let mut store = open_two(alloc, CellPayload::new(0), CellPayload::new(0), 3)?;
+    let cells = (CellPayload::new(0), CellPayload::new(0));
+    let limits = Limits::new(4, 1).ok()?;
+    let mut store = open_two(alloc, cells, 3, limits)?;
     let Ok(2) = create_cell(alloc, &mut store, 0)? else {
         return None;
     };
@@ -399,7 +406,9 @@ fn take_step(alloc: Global, store: &mut Store<CellPayload>, seed: &mut u64) -> O
 
 // A store after so many steps, with collections of both kinds at random moments.
 fn after_steps(alloc: Global, steps: u64, seed: &mut u64) -> Option<Store<CellPayload>> {
-    let mut store = open_two(alloc, CellPayload::new(0), CellPayload::new(0), 1000)?;
+    let cells = (CellPayload::new(0), CellPayload::new(0));
+    let limits = Limits::new(64, 16).ok()?;
+    let mut store = open_two(alloc, cells, 1000, limits)?;
     for _ in 0..steps {
         take_step(alloc, &mut store, seed)?;
     }
