@@ -1,30 +1,20 @@
 #!/bin/sh
 # run.sh: bytes copied a second by full collections of a live heap of 35,008 cells, tree-like and random, beside a bare copier in C
-# (copier.c) and memcpy. It copies the crates that it needs, and the program and proofs beside it (`*.in`, names that the gate
-# passes over), into a temporary folder, and proves, builds and runs it there. The two take turns; a number is the best of five.
-# It wants cc and awk.
+# (copier.c) and memcpy. It proves, builds and runs the program and proofs beside it (`*.in`), with the crates that it needs,
+# in a temporary folder. The two take turns; a number is the best of five. It wants cc and awk.
 set -eu
 here=$(cd "$(dirname "$0")" && pwd)
-top=$(cd "$here/../.." && pwd)
-build=$(mktemp -d)
-trap 'rm -rf "$build"' EXIT INT TERM
-mkdir -p "$build/crates/copies/src"
-cp "$top/HANDLES" "$build/"
-for name in tg_rights tg_model tg_word tg_block tg_space tg_evac; do
-    cp -r "$top/crates/$name" "$build/crates/$name"
-    grep "^$name:" "$top/crates.txt" >> "$build/crates.txt"
-done
-echo 'copies: tg_evac tg_space tg_block tg_word tg_rights' >> "$build/crates.txt"
-cp "$here/main.rt.in" "$build/crates/copies/src/main.rt"
-mkdir -p "$build/crates/copies/proofs/are_plain"
+. "$here/../temporary.sh"
+take_crates copies tg_rights tg_model tg_word tg_block tg_space tg_evac
+mkdir -p "$program/proofs/are_plain"
 for name in Answers Invariants; do
-    cp "$here/$name.antt.in" "$build/crates/copies/proofs/are_plain/$name.antt"
+    cp "$here/$name.antt.in" "$program/proofs/are_plain/$name.antt"
 done
 cc -O2 -o "$build/copier" "$here/copier.c"
-(cd "$build/crates/copies" && rt run) > "$build/built" 2>&1 || { cat "$build/built"; exit 1; }
+(cd "$program" && rt run) > "$build/built" 2>&1 || { cat "$build/built"; exit 1; }
 for round in 1 2 3 4 5; do
     "$build/copier" | sed 's/^/C /'
-    "$build/crates/copies/out/copies" | sed 's/^/ours /'
+    "$program/out/copies" | sed 's/^/ours /'
 done | awk '
     { at = $1 " " $2; if (!(at in best) || $4 < best[at]) best[at] = $4; cells = $3 }
     function rate(at) { return best[at] ? cells * 64 / best[at] * 1000 : 0 }
