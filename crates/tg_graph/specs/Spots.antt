@@ -1,5 +1,5 @@
 -- Where the reference to a name stands in a row, or where it may be put.
-use Rattle.std.specs.Prelude.{◌≡◌, ℕ, ◌+◌, ◌<◌, ◌&&◌, if◌then◌else◌, ◌==◌, not, Bool, List, [], ◌∷◌, Option, Some, None, length, option_map, position, slice_index}
+use Rattle.std.specs.Prelude.{◌≡◌, ℕ, ◌+◌, ◌<◌, ◌&&◌, if◌then◌else◌, ◌==◌, not, Bool, true, List, [], ◌∷◌, Option, Some, None, length, option_map, position, slice_index}
 use Rattle.std.specs.Option.{option_or}
 use Rattle.tg_rights.specs.RightSet.{RightSet, is_none_held, minus, union}
 use Rattle.tg_word.specs.declared.Place.{Place}
@@ -8,7 +8,7 @@ use Rattle.tg_block.specs.Cells.{chunk_tag}
 use Rattle.tg_space.specs.SpaceList.{SpaceList, Holds, cell_at, cells_of, with_cell_at, with_word_at}
 use Rattle.tg_space.specs.SpaceTable.{SpaceTable, IsHandedOut, place_in_space, used_of, with_one_used, with_spaces}
 use Rattle.tg_nursery.specs.Allocation.{HasLeft, room_made_for}
-use Rattle.tg_space.specs.Targets.{first_pointer}
+use Rattle.tg_space.specs.Targets.{first_pointer, young_spaces}
 use Rattle.tg_graph.specs.Rows.{name_at, name_in, references_of}
 use Rattle.tg_space.specs.Rows.{chunks_from, link_at}
 use Rattle.tg_graph.specs.declared.rows.Spot.{Spot}
@@ -63,6 +63,17 @@ abbrev pub cells_for : Spot → ℕ
 cells_for (Reference cell index) = 0
 cells_for (Empty cell index) = 0
 cells_for (Full last) = 1
+
+-- the cell, if it is in Old and the answer is wanted
+abbrev pub old_cell_if : Bool → Place → Option Place
+old_cell_if wanted cell = if wanted && not (young_spaces cell.space) then Some cell else None
+
+-- The cell of Old that names a young one once a reference was put here, if there is one: the reference may name a young
+-- cell, and a link to a new chunk always does.
+abbrev pub note_for : Spot → Bool → Option Place
+note_for (Reference cell index) young = None
+note_for (Empty cell index) young = old_cell_if young cell
+note_for (Full last) young = old_cell_if true last
 
 -- a chunk with one reference
 abbrev pub chunk_words : ℕ → List ℕ

@@ -18,6 +18,7 @@ use std::marker::Model;
 use tg_model::{EdgeList, Numbers, Opening};
 use tg_nursery::AllocateFault;
 use tg_payload::{Draft, Payload, PayloadTable};
+use tg_remember::Remembered;
 use tg_rights::{Label, Rights};
 use tg_space::{Limits, Spaces};
 use tg_word::Place;
@@ -121,6 +122,13 @@ impl<P: Payload> Heap<P> {
         ensures { result.now ≡ self.now.table }
     {
         &self.cells.spaces
+    }
+
+    /// The cells of Old that are remembered, in the order in which they were noted. Takes no memory.
+    pub fn remembered(&self) -> &Remembered
+        ensures { result.now.places ≡ self.now.remembered }
+    {
+        &self.cells.remembered
     }
 
     /// The payloads, each under the key of its object. Takes no memory.
