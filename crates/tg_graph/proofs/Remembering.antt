@@ -16,7 +16,8 @@ use Rattle.tg_space.specs.SpaceList.{SpaceList, IsSpaceList, Holds, cell_at, cel
 use Rattle.tg_space.specs.SpaceTable.{SpaceTable, IsNursery, IsSpaceTable, place_in_space, used_of, with_spaces}
 use Rattle.tg_space.specs.Soundness.{IsKindAt, IsOldCell}
 use Rattle.tg_space.specs.Generations.{AreRemembered, NamesYoung}
-use Rattle.tg_space.specs.Targets.{first_pointer, pointers_of}
+use Rattle.tg_space.specs.Targets.{first_pointer, from_space, pointers_of}
+use Rattle.tg_space.specs.declared.spaces.Kind.TheVariants.{Nursery}
 use Rattle.tg_space.specs.Rows.{chunks_from, link_at, row_of}
 use Rattle.tg_space.proofs.Tables.{cell_at-with_block, kept-with_block, table_list}
 use Rattle.tg_nursery.specs.Allocation.{HasLeft, room_made_for}
@@ -138,6 +139,15 @@ noted_cell wanted cell p same = by_tests wanted (cell.space == 0) refl same
     by_tests true false test at = absurd cc
     by_tests false b test at = absurd cc
 
+pub is_young : (space : ℕ) → space ≢ 0 → from_space Nursery space ≡ true
+is_young space far = let test : (space == 0) ≡ false = grind (arith, nat_tests) in ap not test
+
+-- a reference takes at most one cell
+pub cells_few : (spot : Spot) → cells_for spot ≤ 1
+cells_few (Reference q i) = omega arith
+cells_few (Empty q i) = omega arith
+cells_few (Full last) = omega arith
+
 old_noted : (wanted : Bool) (cell : Place) → wanted ≡ true → cell.space ≡ 0 → old_cell_if wanted cell ≡ Some cell
 old_noted wanted cell is old = let test : (cell.space == 0) ≡ true = grind (arith, nat_tests) in rw (is, test) refl
 
@@ -185,6 +195,26 @@ module _ (t : SpaceTable) (table : IsSpaceTable t) (payloads : Payloads) (graph 
       (λ r old. (noted r).1 (inl old))
       (λ r new. ⊎_elim (λ old. inl old) (λ at. inr (noted_cell wanted q r at)) ((noted r).0 new))
       (λ old young. inr ((noted q).1 (inr (old_noted wanted q (tells young) old))))
+
+  -- where Old has no block, nothing is noted
+  pub nothing_noted : length (space_of t.spaces 0) ≡ 0 → (name : ℕ) (spot : Spot) (young : Bool) → IsSpotIn t.spaces name p (chunks_from t.spaces (length (cells_of t.spaces)) (link_at t.spaces p)) spot → note_for spot young ≡ None
+  nothing_noted none name spot young found = by_spot spot found
+    where
+      not_old : (q : Place) → Holds t.spaces q → (wanted : Bool) → old_cell_if wanted q ≡ None
+      not_old q held wanted = by_tests wanted (q.space == 0) refl
+        where
+          by_tests : (w b : Bool) → (q.space == 0) ≡ b → cond (w && not (not b)) (Some q) None ≡ None
+          by_tests true true test =
+              let old : q.space ≡ 0 = grind (arith, nat_tests) in
+              let low : q.block < length (space_of t.spaces 0) = subst (λ s. q.block < length (space_of t.spaces s)) old held.block in
+              absurd (omega (arith, low, none))
+          by_tests true false test = refl
+          by_tests false b test = refl
+
+      by_spot : (spot : Spot) → IsSpotIn t.spaces name p (chunks_from t.spaces (length (cells_of t.spaces)) (link_at t.spaces p)) spot → note_for spot young ≡ None
+      by_spot (Reference q i) here = refl
+      by_spot (Empty q i) here = not_old q (held_in_row q (empty_found t.spaces p q i here.1).cell) young
+      by_spot (Full last) here = not_old last (held_in_row last (subst (Contains (row_of t.spaces p)) here.2 (last_ends t.spaces p qs (graph.ends p object)).0)) true
 
   -- ---- rights are taken
 
