@@ -82,6 +82,15 @@ remembered_step h after places later before more new kept named = record {
   all = λ p cell names. ⊎_elim (λ was. more p (before.all p (record { held = was.0; space = cell.space }) was.1)) (λ has. has) (named p cell names);
 }
 
+-- where Old has no block, nothing is remembered
+pub nothing_remembered : (h : SpaceList) → length (space_of h 0) ≡ 0 → AreRemembered h []
+nothing_remembered h none = record {
+  cells = λ p has. absurd (Contains-none p has);
+  all = λ p cell names.
+      let low : p.block < length (space_of h 0) = subst (λ s. p.block < length (space_of h s)) cell.space cell.held.block in
+      absurd (omega (arith, low, none));
+}
+
 -- a cell outside Old is written
 pub remembered_young : (h : SpaceList) → IsSpaceList h → (q : Place) → Holds h q → q.space ≢ 0 → (words : List ℕ) (places : List Place) → AreRemembered h places → AreRemembered (with_cell_at h q words) places
 remembered_young h is q held young words places before =
