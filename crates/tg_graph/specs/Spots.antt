@@ -7,6 +7,7 @@ use Rattle.tg_word.specs.Word.{IsPlace, link_to, place_in, rights_in, word_at}
 use Rattle.tg_block.specs.Cells.{chunk_tag}
 use Rattle.tg_space.specs.SpaceList.{SpaceList, Holds, cell_at, cells_of, with_cell_at, with_word_at}
 use Rattle.tg_space.specs.SpaceTable.{SpaceTable, IsHandedOut, place_in_space, used_of, with_one_used, with_spaces}
+use Rattle.tg_remember.specs.Notes.{noted}
 use Rattle.tg_nursery.specs.Allocation.{HasLeft, room_made_for}
 use Rattle.tg_space.specs.Targets.{first_pointer, young_spaces}
 use Rattle.tg_graph.specs.Rows.{name_at, name_in, references_of}
@@ -75,6 +76,11 @@ note_for (Reference cell index) young = None
 note_for (Empty cell index) young = old_cell_if young cell
 note_for (Full last) young = old_cell_if true last
 
+-- the places once this cell was noted, if there is one
+abbrev pub with_note : List Place → Option Place → List Place
+with_note places None = places
+with_note places (Some cell) = noted places cell
+
 -- a chunk with one reference
 abbrev pub chunk_words : ℕ → List ℕ
 chunk_words word = chunk_tag ∷ word ∷ 0 ∷ 0 ∷ 0 ∷ 0 ∷ 0 ∷ 0 ∷ []
@@ -104,11 +110,13 @@ table_put t space (Reference cell index) rights to = word_put t cell index (wide
 table_put t space (Empty cell index) rights to = word_put t cell index (word_at rights to)
 table_put t space (Full last) rights to = chunk_put t space last (word_at rights to)
 
--- Rights over the object at a place were put where they go in the row of another: nothing else was written, and there is
--- a new block only where a chunk needed one.
-abbrev pub IsPutInRow : SpaceTable → SpaceTable → ℕ → Place → Place → RightSet → Type 0
-IsPutInRow old new space from to rights =
-    (spot : Spot) × IsSpotFor old.spaces (name_at old.spaces to) from spot × (new ≡ table_put (room_made_for old space (cells_for spot)) space spot rights to)
+-- Rights over the object at a place were put where they go in the row of another: nothing else was written, there is a
+-- new block only where a chunk needed one, and the written cell is noted where it is in Old and then names a young one.
+pub record IsPutInRow (old new : SpaceTable) (places later : List Place) (space : ℕ) (from to : Place) (rights : RightSet) : Type 0 where
+  pub spot : Spot
+  pub found : IsSpotFor old.spaces (name_at old.spaces to) from spot
+  pub put : new ≡ table_put (room_made_for old space (cells_for spot)) space spot rights to
+  pub noted : later ≡ with_note places (note_for spot (young_spaces to.space))
 
 -- a word of a cell may be written
 pub record CanWrite (t : SpaceTable) (cell : Place) (index : ℕ) : Type 0 where

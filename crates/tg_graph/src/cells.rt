@@ -16,7 +16,7 @@ ghost use Rattle.tg_graph.specs.Content.{IsNamed};
 ghost use Rattle.tg_graph.specs.Heap.{IsGraph, IsOutOfCells, content_in, rights_found};
 ghost use Rattle.tg_graph.specs.Rows.{IsVertexAt, name_at};
 ghost use Rattle.tg_graph.specs.Opened.{TakesOneCell};
-ghost use Rattle.tg_graph.specs.Spots.{IsPutInRow};
+ghost use Rattle.tg_graph.specs.Spots.{IsPutInRow, with_note};
 ghost use Rattle.tg_graph.specs.Steps.{ChangesTo, KeepsRows};
 
 use crate::heap::{Found, VertexRefused};
@@ -128,7 +128,7 @@ impl<P: Payload> Cells<P> {
         ensures refused { OnErr result (self.new.spaces ≡ self.old.spaces) }
         ensures full { result ≡ Err AllocateFault.HeapFull → IsOutOfCells self.old.spaces (worker + 2) 1 }
         ensures had_room { HasLeft self.old.spaces (worker + 2) 1 → length (space_of self.old.spaces.spaces 0) ≡ 0 → IsOk result }
-        ensures placed { OnOk result (IsPutInRow self.old.spaces self.new.spaces (worker + 2) from to rights) }
+        ensures placed { OnOk result (IsPutInRow self.old.spaces self.new.spaces self.old.remembered.places self.new.remembered.places (worker + 2) from to rights) }
         ensures one_cell { OnOk result (TakesOneCell self.old.spaces self.new.spaces (worker + 2)) }
         ensures remembered { AreRemembered self.old.spaces.spaces self.old.remembered.places → AreRemembered self.new.spaces.spaces self.new.remembered.places }
         ensures places { OnErr result (self.new.remembered.places ≡ self.old.remembered.places) }
@@ -292,7 +292,8 @@ fn reserve_note(remembered: &mut Remembered, note: Option<Place>) -> Result<(), 
 // Remembers a cell, if there is one. There is room for it.
 fn remember(remembered: &mut Remembered, note: Option<Place>)
     requires { IfSome note (λ _. 0 < remembered.old.spare) }
-    ensures { (q : Place) → Contains remembered.new.places q ↔ (Contains remembered.old.places q ⊎ (note ≡ Some q)) }
+    ensures noted { remembered.new.places ≡ with_note remembered.old.places note }
+    ensures members { (q : Place) → Contains remembered.new.places q ↔ (Contains remembered.old.places q ⊎ (note ≡ Some q)) }
 {
     if let Some(cell) = note {
         remembered.note(cell);

@@ -1,8 +1,8 @@
 use Rattle.std.proofs.Common.{◌≡◌, ◌∙◌, Some, inl, inr, ⊎_elim, ap, sym}
 use Rattle.tg_graph.proofs.cells.remember.Goals as goal
 
-pub returns-in-Some : goal.returns-in-Some
-returns-in-Some c =
+pub returns-in-Some-clause-members : goal.returns-in-Some-clause-members
+returns-in-Some-clause-members c =
     λ q.
     let cell = c.in-Some.cell in
     let members = c.note.ensures.members q in (

@@ -1,6 +1,6 @@
 use Rattle.std.proofs.Common.{◌≡◌, ◌≢◌, ◌∙◌, ◌+◌, List, Option, true, false, ap, arith, subst, sym}
 use Rattle.tg_nursery.specs.Allocation.{room_made_for}
-use Rattle.tg_graph.specs.Spots.{IsSpotFor, cells_for, table_put}
+use Rattle.tg_graph.specs.Spots.{IsSpotFor, cells_for, note_for, table_put, with_note}
 use Rattle.tg_space.specs.SpaceTable.{SpaceTable}
 use Rattle.tg_graph.specs.Opened.{TakesOneCell}
 use Rattle.tg_graph.proofs.Openings.{takes_one_cell}
@@ -35,11 +35,14 @@ returns-clause-placed g c =
     let t = c.args.self.now.spaces in
     let spot = c.find_spot-spot.result in
     let space = c.args.worker + 2 in
-    let made : c.make_room.new.self.spaces ≡ room_made_for t space (cells_for spot) = c.in_ok-make_room.ensures.spaces ∙ ap (room_made_for t space) c.cells.ensures in (
-      spot,
-      subst (λ n. IsSpotFor t.spaces n c.args.from spot) c.read-name.ensures c.find_spot-spot.ensures.spot,
-      c.put.ensures ∙ ap (λ (x : SpaceTable). table_put x space spot c.args.rights c.args.to) made,
-    )
+    let made : c.make_room.new.self.spaces ≡ room_made_for t space (cells_for spot) = c.in_ok-make_room.ensures.spaces ∙ ap (room_made_for t space) c.cells.ensures in
+    record {
+      spot = spot;
+      found = subst (λ n. IsSpotFor t.spaces n c.args.from spot) c.read-name.ensures c.find_spot-spot.ensures.spot;
+      put = c.put.ensures ∙ ap (λ (x : SpaceTable). table_put x space spot c.args.rights c.args.to) made;
+      noted = c.remember.ensures.noted ∙ ap (λ (ps : List Place). with_note ps c.note-note.result) c.make_room.ensures.remembered
+          ∙ ap (with_note c.args.self.now.remembered.places) (c.note-note.ensures ∙ ap (note_for spot) c.moves.ensures);
+    }
 
 pub returns-clause-remembered : goal.returns-clause-remembered
 returns-clause-remembered g c =
@@ -50,7 +53,7 @@ returns-clause-remembered g c =
     let tells : c.args.to.space ≢ 0 → young ≡ true = λ far. c.moves.ensures ∙ is_young c.args.to.space far in
     let places = c.args.self.now.remembered.places in
     let later = c.remember.new.remembered.places in
-    let noted = subst (λ (o : Option Place). AreNoted places later o) c.note-note.ensures (subst (λ (ps : List Place). AreNoted ps later c.note-note.result) c.make_room.ensures.remembered c.remember.ensures) in
+    let noted = subst (λ (o : Option Place). AreNoted places later o) c.note-note.ensures (subst (λ (ps : List Place). AreNoted ps later c.note-note.result) c.make_room.ensures.remembered c.remember.ensures.members) in
     added_remembered t c.make_room.new.self.spaces c.args.self.now.payloads c.find_spot-spot.ensures.table made.table c.requires.graph (c.args.worker + 2) c.cells.result c.requires.worker made.spaces
     c.args.from c.requires.from c.read-name.result c.find_spot-spot.result c.find_spot-spot.ensures.spot made.left c.cells.ensures
     (omega arith) c.args.to c.requires.to c.args.rights young tells c.args.self.now.remembered.places c.remember.new.remembered.places noted c.put.new.spaces c.put.ensures before

@@ -51,7 +51,7 @@ returns-clause-remembered g c =
     let later = c.remember.new.remembered.places in
     let kept : grown.remembered.places ≡ places = made.remembered in
     let placed_kept : placed.remembered.places ≡ places = ap (λ (r : Notes). r.places) step.notes ∙ kept in
-    let noted = subst (λ (o : Option Place). AreNoted places later o) c.note-note.ensures (subst (λ (ps : List Place). AreNoted ps later c.note-note.result) placed_kept c.remember.ensures) in
+    let noted = subst (λ (o : Option Place). AreNoted places later o) c.note-note.ensures (subst (λ (ps : List Place). AreNoted ps later c.note-note.result) placed_kept c.remember.ensures.members) in
     vertex_remembered c.args.self.now.spaces grown.spaces placed.spaces c.args.self.now.payloads grown.payloads placed.payloads c.find_spot-spot.ensures.table made.table step.table c.requires.graph (c.args.worker + 2) (1 + c.cells.result) c.requires.worker made.spaces made.payloads
     c.args.from c.requires.from c.args.name c.find_spot-spot.result c.find_spot-spot.ensures.spot
     c.args.draft step.placed step.rows c.place_vertex-to.result step.vertex step.used (step.blocks (c.args.worker + 2)) made.left (ap (λ n. 1 + n) c.cells.ensures)

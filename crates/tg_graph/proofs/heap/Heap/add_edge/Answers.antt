@@ -53,7 +53,7 @@ returns-clause-kept g c =
 pub returns-clause-placed : goal.returns-clause-placed
 returns-clause-placed g c =
     let s : HeapState = record { table = c.self.inside.cells.spaces; payloads = c.self.inside.cells.payloads; workers = c.self.inside.workers.items; remembered = c.self.inside.cells.remembered.places } in
-    let new = c.add_edge.new.self.spaces in
-    let Placed : HeapState → RightSet → Type 0 = λ x r. IsPutInRow x.table new (c.args.worker + 2) c.args.from c.args.to r in
+    let new = c.add_edge.new.self in
+    let Placed : HeapState → RightSet → Type 0 = λ x r. IsPutInRow x.table new.spaces x.remembered new.remembered.places (c.args.worker + 2) c.args.from c.args.to r in
     IfOk-weaker c.add_edge.result (λ _. Placed s c.rights.result) (λ _. Placed c.args.self.now c.args.label)
     (λ _ placed. subst (λ (x : HeapState). Placed x c.args.label) c.self.view_is (subst (λ r. Placed s r) c.rights.ensures.same placed)) c.add_edge.ensures.placed
