@@ -17,6 +17,8 @@ pub mod KeptCells
 pub mod KeptRows
 pub mod KeptGraph
 pub mod KeptFull
+pub mod KeptTargets
+pub mod KeptAdopted
 pub mod Kept
 pub mod Fresh
 pub mod Written
