@@ -19,6 +19,7 @@ pub mod KeptGraph
 pub mod KeptFull
 pub mod KeptTargets
 pub mod KeptAdopted
+pub mod KeptMoves
 pub mod Kept
 pub mod Fresh
 pub mod Written
