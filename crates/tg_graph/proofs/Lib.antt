@@ -16,7 +16,6 @@ pub mod Changes
 pub mod KeptCells
 pub mod KeptRows
 pub mod KeptGraph
-pub mod KeptFull
 pub mod KeptTargets
 pub mod KeptAdopted
 pub mod KeptMoves

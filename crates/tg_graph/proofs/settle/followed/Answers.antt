@@ -1,2 +1,2 @@
-use Rattle.tg_graph.proofs.KeptMoves.{collection_moves}
+use Rattle.tg_graph.proofs.KeptHeap.{left_by}
 use Rattle.tg_graph.proofs.settle.followed.Goals as goal
