@@ -63,32 +63,39 @@ module _ (s : HeapState) (is : IsWellFormed s) where
   roots_sound kind = record { cells = is.graph.sound.cells; links = is.graph.sound.links; roots_held = roots_held kind }
 
   -- no row is a remembered cell
-  no_row : (p : Place) → Contains (map (λ q. Row q) s.workers) (Remembered p) → ⊥
+  pub no_row : (p : Place) → Contains (map (λ q. Row q) s.workers) (Remembered p) → ⊥
   no_row p has =
       let row = Contains-from_map (λ (q : Place). Row q) s.workers (Remembered p) has in
       let no : Row row.0 ≡ Remembered p = row.2 in
       absurd cc
 
+  -- the remembered cells among the roots of a nursery collection
+  pub remembered_root : (p : Place) → Contains (roots_of Nursery s) (Remembered p) ↔ Contains s.remembered p
+  remembered_root p = (
+    λ has. ⊎_elim
+        (λ row. absurd (no_row p row))
+        (λ noted.
+        let cell = Contains-from_map (λ (q : Place). Remembered q) s.remembered (Remembered p) noted in
+        let same : Remembered cell.0 ≡ Remembered p = cell.2 in
+        let at : cell.0 ≡ p = cc in
+        subst (λ (q : Place). Contains s.remembered q) at cell.1)
+        (Contains-append_cases (map (λ q. Row q) s.workers) (map (λ q. Remembered q) s.remembered) (Remembered p) has),
+    λ has. Contains-append_right (map (λ q. Row q) s.workers) (map (λ q. Remembered q) s.remembered) (Remembered p)
+        (Contains-map (λ (q : Place). Remembered q) s.remembered p has),
+  )
+
   roots_stay : (kind : Kind) (p : Place) → Contains (roots_of kind s) (Remembered p) → IsOldCell h p × (from_space kind p.space ≡ false)
   roots_stay Full p has = absurd (no_row p has)
   roots_stay Nursery p has =
-      ⊎_elim
-      (λ row. absurd (no_row p row))
-      (λ noted.
-      let cell = Contains-from_map (λ (q : Place). Remembered q) s.remembered (Remembered p) noted in
-      let same : Remembered cell.0 ≡ Remembered p = cell.2 in
-      let at : cell.0 ≡ p = cc in
-      let old = is.remembered.cells p (subst (λ (q : Place). Contains s.remembered q) at cell.1) in
-      (old, ap (λ (space : ℕ). from_space Nursery space) old.space))
-      (Contains-append_cases (map (λ q. Row q) s.workers) (map (λ q. Remembered q) s.remembered) (Remembered p) has)
+      let old = is.remembered.cells p ((remembered_root p).0 has) in
+      (old, ap (λ (space : ℕ). from_space Nursery space) old.space)
 
   roots_all : (kind : Kind) (p : Place) → Holds h p → from_space kind p.space ≡ false → (word : ℕ) → Contains (pointers_of (cell_at h p)) word → from_space kind (place_in word).space ≡ true → Contains (roots_of kind s) (Remembered p)
   roots_all Full p held stays word among moves = let no : true ≡ false = stays in absurd cc
   roots_all Nursery p held stays word among moves =
       let young : (place_in word).space ≢ 0 = λ z. let no : false ≡ true = sym (ap (λ (space : ℕ). from_space Nursery space) z) ∙ moves in absurd cc in
       let noted = is.remembered.all p (record { held = held; space = old_stays p.space stays }) (word, among, young) in
-      Contains-append_right (map (λ q. Row q) s.workers) (map (λ q. Remembered q) s.remembered) (Remembered p)
-      (Contains-map (λ (q : Place). Remembered q) s.remembered p noted)
+      (remembered_root p).1 noted
 
   pub heap_rooted : (kind : Kind) → AreRooted (from_space kind) h (roots_of kind s)
   heap_rooted kind = record { held = roots_held kind; stay = roots_stay kind; all = roots_all kind }

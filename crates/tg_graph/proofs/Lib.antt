@@ -25,4 +25,6 @@ pub mod Written
 pub mod Linked
 pub mod KeptReached
 pub mod KeptHeap
+pub mod KeptDropped
+pub mod KeptWritten
 pub mod Counted

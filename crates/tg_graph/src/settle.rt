@@ -186,7 +186,8 @@ fn dead_keys(alloc: Global, spaces: &Spaces, forward: &[u64]) -> Result<Vec<u64>
     ensures table { IsSpaceTable spaces.now }
 {
     let mut keys = Vec::new(alloc);
-    for number in CELLS as u64 * spaces.len(0)..spaces.cells() {
+    let cells = spaces.cells();
+    for number in CELLS as u64 * spaces.len(0)..cells {
         if let Some(key) = dead_key(spaces, forward, number) {
             keys.push(key)?;
         }
