@@ -35,7 +35,7 @@ use tg_word::{Place, place_of, rights_of};
 /// The word of an object that is the key of its payload.
 pub(crate) const KEY: usize = 2;
 
-/// The cells of all spaces, and what the objects among them store.
+/// The cells of all spaces, what the objects among them store, and which cells of Old are remembered.
 #[derive(Drop)]
 pub(crate) struct Cells<P: Payload> {
     pub(crate) alloc: Global,
@@ -108,7 +108,8 @@ impl<P: Payload> Cells<P> {
         self.payloads.write(cell[KEY], number)
     }
 
-    /// Gives one object rights over another. Growth comes first: where it is refused, nothing is changed.
+    /// Gives one object rights over another, and notes the written cell if it has to be remembered. Growth comes first,
+    /// that of the spaces last: where it is refused, there may be room for one more note, and else nothing is changed.
     pub(crate) fn add_edge(
         &mut self,
         worker: u64,
@@ -142,7 +143,8 @@ impl<P: Payload> Cells<P> {
         Ok(())
     }
 
-    /// Takes rights over a vertex from an object. A reference that has none left becomes the empty word.
+    /// Takes rights over a vertex from an object. A reference that has none left becomes the empty word. What is
+    /// remembered stays.
     pub(crate) fn drop_rights(&mut self, from: Place, name: u64, rights: Rights)
         requires graph { IsGraph self.old.spaces.spaces self.old.payloads }
         requires from { IsKindAt self.old.spaces.spaces Object from }
@@ -158,8 +160,9 @@ impl<P: Payload> Cells<P> {
         }
     }
 
-    /// Makes an object with a name that none has, and gives another one rights over it. Growth comes first, that of the
-    /// spaces last: where it is refused, there may be room for one more payload, and else nothing is changed.
+    /// Makes an object with a name that none has, gives another one rights over it, and notes the written cell if it has
+    /// to be remembered. Growth comes first, that of the spaces last: where it is refused, there may be room for one more
+    /// payload and one more note, and else nothing is changed.
     pub(crate) fn new_vertex(
         &mut self,
         worker: u64,

@@ -183,7 +183,8 @@ impl<P: Payload> Heap<P> {
     /// a worker. A cell of Old that names a young one then is remembered.
     ///
     /// It is refused where memory for the block of a chunk, or for the note of a cell, was refused (`OutOfMemory`), or
-    /// where a chunk is needed and the nursery is used up and gets no more blocks (`HeapFull`); then nothing is changed.
+    /// where a chunk is needed and the nursery is used up and gets no more blocks (`HeapFull`). Then nothing is changed but
+    /// that there may be room for one more note.
     pub fn add_edge(
         &mut self,
         worker: u64,
