@@ -17,6 +17,7 @@ use Rattle.tg_space.specs.Soundness.{AreSound, HasLayout, HasLayoutOf, IsKindAt,
 use Rattle.tg_space.specs.Rows.{link_of, link_at}
 use Rattle.tg_space.proofs.Pointing.{pointers_from_layout}
 use Rattle.tg_graph.specs.Rows.{name_at, key_at, references_of}
+use Rattle.tg_graph.specs.Kept.{moved_place}
 use Rattle.tg_graph.proofs.Places.{cell_long, layout_at, links_apart, sound_from_places}
 use Rattle.tg_graph.proofs.Layouts.{KindCases, is_free, is_object, is_chunk, is_bad, kind_cases, object_tagged, chunk_tagged, free_zero, references_of_object, references_of_chunk, references_at, link_held, present_word, same_link}
 
@@ -71,10 +72,6 @@ module _ (from : ℕ → Bool) (h : SpaceList) (to : ℕ → Place) (words : Lis
       kind_from_tag (image_of from h to words) still ∙ ap kind_of_tag tag_moved ∙ sym (kind_from_tag words used)
 
 -- ---- moved words
-
--- where a collection has the cell of a place: those of from-space are moved
-abbrev pub moved_place : (ℕ → Bool) → SpaceList → (ℕ → Place) → Place → Place
-moved_place from h to p = if from p.space then to (flat_of h p) else p
 
 -- the moved word names the new place, with the same rights
 pub record IsMovedWord (from : ℕ → Bool) (h : SpaceList) (to : ℕ → Place) (word : ℕ) : Type 0 where

@@ -19,10 +19,10 @@ use Rattle.tg_graph.specs.Standing.{Keeps}
 use Rattle.tg_graph.specs.Rows.{IsChain, IsVertexAt, key_at, name_at, name_in, names_in, rights_to, row_words}
 use Rattle.tg_space.specs.Rows.{chunks_from, link_at}
 use Rattle.tg_graph.specs.Heap.{IsGraph, content_in}
-use Rattle.tg_graph.specs.Kept.{KeepsPayloads}
+use Rattle.tg_graph.specs.Kept.{KeepsPayloads, moved_place}
 use Rattle.tg_graph.proofs.Members.{Contains-here, Contains-more}
 use Rattle.tg_graph.proofs.Lookups.{vertex_of_name, name_of_vertex, label_at, value_at}
-use Rattle.tg_graph.proofs.KeptCells.{Moves, IsKeptWord, moved_place, is_copied, name_kept, key_kept, kind_at_after, sound_after}
+use Rattle.tg_graph.proofs.KeptCells.{Moves, IsKeptWord, is_copied, name_kept, key_kept, kind_at_after, sound_after}
 use Rattle.tg_graph.proofs.KeptRows.{IsKeptRow, row_kept}
 
 -- a word that gives a name some rights

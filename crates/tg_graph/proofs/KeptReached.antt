@@ -1,5 +1,5 @@
--- A full collection keeps exactly the vertices to which walks along edges lead from the workers.
-use Rattle.std.proofs.Common.{◌≡◌, ◌≢◌, ◌↔◌, ℕ, ◌<◌, ◌≤◌, ◌+◌, ◌-◌, ◌⊎◌, ◌++◌, Bool, true, false, List, [], ◌∷◌, length, get_or, Option, Some, refl, sym, ap, subst, arith, ◌∙◌, inl, inr, ⊎_elim}
+-- What a collection keeps is what walks along edges reach from the workers: all of it, and after a full collection nothing else.
+use Rattle.std.proofs.Common.{◌≡◌, ◌≢◌, ◌↔◌, ℕ, ◌<◌, ◌≤◌, ◌+◌, ◌-◌, ◌⊎◌, ◌++◌, Bool, true, false, List, [], ◌∷◌, length, get_or, map, Option, Some, refl, sym, ap, subst, arith, ◌∙◌, inl, inr, ⊎_elim}
 use Rattle.std.specs.List.{All, Contains, slice_get}
 use Rattle.std.proofs.lemmas.Bool.{cases_Bool}
 use Rattle.std.proofs.lemmas.List.{get_or_default}
@@ -11,19 +11,20 @@ use Rattle.tg_model.specs.Walks.{Walk-within, begins, goes}
 use Rattle.tg_word.specs.declared.Place.{Place}
 use Rattle.tg_word.specs.Word.{place_in}
 use Rattle.tg_block.specs.declared.CellKind.TheVariants.{Object, Chunk}
-use Rattle.tg_space.specs.SpaceList.{SpaceList, BlockList, IsSpaceList, Holds, cell_at, cells_of, flat_of}
-use Rattle.tg_space.specs.Targets.{every_space, first_pointer, pointers_of, targets_of, all_root_targets}
+use Rattle.tg_space.specs.SpaceList.{SpaceList, IsSpaceList, Holds, cell_at, cells_of, flat_of}
+use Rattle.tg_space.specs.Targets.{every_space, first_pointer, pointers_of, root_targets_of, targets_of, all_root_targets}
 use Rattle.tg_space.specs.Soundness.{IsKindAt, IsReference, RefersTo}
+use Rattle.tg_space.specs.Closure.{IsInClosure}
+use Rattle.tg_space.specs.declared.spaces.Root.{Root}
+use Rattle.tg_space.specs.declared.spaces.Root.TheVariants.{Row}
 use Rattle.tg_space.specs.Rows.{link_of, chunks_from, link_at, row_of}
-use Rattle.tg_space.specs.Collection.{IsFullCollection}
 use Rattle.tg_space.proofs.Flat.{same_place}
 use Rattle.tg_space.proofs.Pointing.{parts}
 use Rattle.tg_payload.specs.Table.{Payloads}
 use Rattle.tg_graph.specs.Standing.{IsReached}
 use Rattle.tg_graph.specs.Rows.{IsChain, IsVertexAt, name_at, name_in, object_named, references_of, rights_to, row_words}
 use Rattle.tg_graph.specs.Heap.{IsGraph, content_in, label_from}
-use Rattle.tg_graph.specs.Kept.{IsCopiedFrom}
-use Rattle.tg_graph.proofs.Members.{Contains-cases, Contains-here, Contains-more, Contains-none, Contains-flat_map, option_cases}
+use Rattle.tg_graph.proofs.Members.{Contains-cases, Contains-here, Contains-more, Contains-none, Contains-flat_map, Contains-from_flat_map, Contains-from_map, option_cases}
 use Rattle.tg_graph.proofs.Places.{cell_long}
 use Rattle.tg_graph.proofs.Layouts.{object_tagged, chunk_tagged, apart_kinds, references_at}
 use Rattle.tg_graph.proofs.Lookups.{label_at, vertex_from_named}
@@ -32,7 +33,7 @@ use Rattle.tg_graph.proofs.Chains.{chain_chunks, row_held, row_references}
 use Rattle.tg_graph.proofs.KeptCells.{Moves, IsKeptWord}
 use Rattle.tg_graph.proofs.KeptRows.{IsKeptRow, row_kept}
 use Rattle.tg_graph.proofs.KeptGraph.{GivesRights, rights_given}
-use Rattle.tg_graph.proofs.KeptFull.{NamesNumber, IsInRows, HasOnlyOld, copied_in_rows, full_in_rows, full_moves, next_of, root_of_worker, rows_at, worker_of_root}
+use Rattle.tg_graph.proofs.KeptTargets.{NamesNumber, next_of}
 
 -- ---- edges and pointers
 
@@ -45,6 +46,21 @@ worker_objects h workers are k d low = (are.at k (get_or workers k d) (slice_get
 
 pub worker_numbered : (h : SpaceList) (workers : List Place) (p : Place) → AreWorkers h workers → Contains workers p → (x : ℕ) × (x < length workers) × IsVertexAt h x p
 worker_numbered h workers p are (k, low, e) = (k, low, are.at k p (slice_get-get_or workers k p low ∙ ap Some e))
+
+-- the rows at these places, as roots
+abbrev pub rows_at : List Place → List Root
+rows_at workers = map (λ p. Row p) workers
+
+module _ (h : SpaceList) (workers : List Place) where
+  worker_of_root : (number : ℕ) → Contains (all_root_targets every_space h (rows_at workers)) number → (p : Place) × Contains workers p × (flat_of h p ≡ number)
+  worker_of_root number has =
+      let piece = Contains-from_flat_map (root_targets_of every_space h) (rows_at workers) number has in
+      let row = Contains-from_map (λ (p : Place). Row p) workers piece.0 piece.1 in
+      let one : Contains (flat_of h row.0 ∷ []) number = subst (λ (root : Root). Contains (root_targets_of every_space h root) number) (sym row.2) piece.2 in
+      (row.0, row.1, ⊎_elim (λ e. e) (λ none. absurd (Contains-none number none)) (Contains-cases (flat_of h row.0) [] number one))
+
+  abbrev pub IsInRows : ℕ → Type 0
+  IsInRows = IsInClosure (all_root_targets every_space h (rows_at workers)) (targets_of every_space h)
 
 -- the next chunk of a row is in it
 row_next : (h : SpaceList) (o : Place) (ps : List Place) → IsChain h (link_at h o) ps → (p : Place) → Contains (o ∷ ps) p → link_at h p ≢ 0 → Contains ps (place_in (link_at h p))
@@ -135,7 +151,7 @@ module _ (h : SpaceList) (payloads : Payloads) (whole : IsSpaceList h) (graph : 
               at = root.2;
             }
 
-        by_pointer : (row : (n : ℕ) × IsInReachedRow n) (target : ℕ) → (named : NamesNumber h (pointers_of (cell_at h row.1.cell)) target) → Contains (references_of (cell_at h row.1.cell)) named.word ⊎ (link_at h row.1.cell ≡ named.word) → IsInReachedRow target
+        by_pointer : (row : (n : ℕ) × IsInReachedRow n) (target : ℕ) → (named : NamesNumber every_space h (pointers_of (cell_at h row.1.cell)) target) → Contains (references_of (cell_at h row.1.cell)) named.word ⊎ (link_at h row.1.cell ≡ named.word) → IsInReachedRow target
         by_pointer (n, row) target named (inl reference) =
             let held = row_cell_held row.vertex row.cell row.object row.among in
             let is : IsReference h named.word = All-contains (IsReference h) (references_of (cell_at h row.cell)) named.word (references_at h whole [] graph.sound row.cell held) reference in
@@ -162,7 +178,7 @@ module _ (h : SpaceList) (payloads : Payloads) (whole : IsSpaceList h) (graph : 
 
         next : (number target : ℕ) → IsInReachedRow number → Contains (targets_of every_space h number) target → IsInReachedRow target
         next number target row has =
-            let named : NamesNumber h (pointers_of (cell_at h row.cell)) target = next_of h whole graph.sound row.cell (row_cell_held row.vertex row.cell row.object row.among) target (subst (λ (n : ℕ). Contains (targets_of every_space h n) target) (sym row.at) has) in
+            let named : NamesNumber every_space h (pointers_of (cell_at h row.cell)) target = next_of every_space h whole graph.sound row.cell (row_cell_held row.vertex row.cell row.object row.among) target (subst (λ (n : ℕ). Contains (targets_of every_space h n) target) (sym row.at) has) in
             by_pointer (number, row) target named (pointer_cases row.vertex row.cell row.object row.among named.word named.among)
 
     -- an object that the rows of the workers reach is a reached vertex
@@ -194,15 +210,3 @@ module _ {from : ℕ → Bool} {h after : SpaceList} {to : ℕ → Place} {kept 
           let is : IsReference h given.word = All-contains (IsReference h) (row_words h at.0) given.word row.references given.among in
           let refers : RefersTo h given.word = ⊎_elim (λ z. absurd (given.some z)) (λ r. r) is in
           subst kept (graph.names (place_in given.word) p refers.object vertex.object (given.named ∙ sym vertex.named)) target.0
-
--- a full collection keeps what is reached, and nothing else
-module _ (h after : SpaceList) (payloads : Payloads) (whole : IsSpaceList h) (whole_after : IsSpaceList after) (graph : IsGraph h payloads) (workers : List Place) (are : AreWorkers h workers)
-    (forward : List ℕ) (old : BlockList) (is : IsFullCollection h (rows_at workers) forward old) (only : HasOnlyOld after old) where
-  pub kept_is_reached : (x : ℕ) (p : Place) → IsVertexAt h x p → IsCopiedFrom h forward p ↔ IsReached (content_in h payloads) (length workers) x
-  kept_is_reached x p vertex =
-      let objects = worker_objects h workers are in
-      let move = full_moves h after whole whole_after graph.sound workers objects forward old is only in
-      let copied : All (IsCopiedFrom h forward) workers = λ k d low. copied_in_rows h after whole whole_after graph.sound workers objects forward old is only (get_or workers k d) (objects k d low).held (begins (root_of_worker h workers (get_or workers k d) (k, low, get_or_default workers k (get_or workers k d) d low))) in (
-        λ keep. vertex_reached h payloads whole graph workers are x p vertex (full_in_rows h after whole whole_after graph.sound workers objects forward old is only p keep),
-        λ reached. reached_kept move payloads graph workers are copied x reached p vertex,
-      )

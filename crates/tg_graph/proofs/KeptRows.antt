@@ -14,10 +14,11 @@ use Rattle.tg_space.specs.Targets.{moved_word}
 use Rattle.tg_space.specs.Soundness.{IsKindAt, IsReference, RefersTo}
 use Rattle.tg_graph.specs.Rows.{IsChain, name_at, name_in, names_in, references_of, rights_to, row_words, words_of}
 use Rattle.tg_space.specs.Rows.{chunks_from, link_at, row_of}
+use Rattle.tg_graph.specs.Kept.{moved_place}
 use Rattle.tg_graph.proofs.Layouts.{references_at}
 use Rattle.tg_graph.proofs.Chains.{chain_whole}
 use Rattle.tg_graph.proofs.Slots.{names_in-some}
-use Rattle.tg_graph.proofs.KeptCells.{Moves, IsKeptWord, moved_place, is_copied, kind_at_after, link_kept, name_kept, references_kept, sound_after}
+use Rattle.tg_graph.proofs.KeptCells.{Moves, IsKeptWord, is_copied, kind_at_after, link_kept, name_kept, references_kept, sound_after}
 
 module _ {from : ℕ → Bool} {h after : SpaceList} {to : ℕ → Place} {kept : Place → Type 0} (move : Moves from h after to kept) where
   -- a chain that begins with a kept cell, link by link

@@ -3,6 +3,7 @@ pub mod Walks
 pub mod Finding
 pub mod Listing
 pub mod Putting
+pub mod Remembering
 pub mod Growing
 pub mod Heaps
 pub mod Openings
@@ -16,11 +17,15 @@ pub mod Changes
 pub mod KeptCells
 pub mod KeptRows
 pub mod KeptGraph
-pub mod KeptFull
+pub mod KeptTargets
+pub mod KeptAdopted
+pub mod KeptMoves
 pub mod Kept
 pub mod Fresh
 pub mod Written
 pub mod Linked
 pub mod KeptReached
 pub mod KeptHeap
+pub mod KeptDropped
+pub mod KeptWritten
 pub mod Counted

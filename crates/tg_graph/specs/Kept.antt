@@ -1,23 +1,98 @@
--- What a collection keeps.
-use Rattle.std.specs.Prelude.{◌≡◌, ◌≢◌, ℕ, List, IsSome, slice_index}
+-- What a collection keeps of a heap, and what is written and dropped once nothing more can be refused.
+use Rattle.std.specs.Prelude.{◌≡◌, ◌≢◌, ◌↔◌, ℕ, ◌<◌, ◌≤◌, ◌⊎◌, if◌then◌else◌, Bool, true, List, [], Option, None, IsSome, length, slice_index}
+use Rattle.std.specs.List.{Contains}
 use Rattle.tg_word.specs.declared.Place.{Place}
 use Rattle.tg_block.specs.declared.CellKind.TheVariants.{Object}
-use Rattle.tg_space.specs.SpaceList.{SpaceList, Holds, flat_of}
+use Rattle.tg_space.specs.SpaceList.{SpaceList, Holds, cell_at, flat_of, space_of}
+use Rattle.tg_space.specs.SpaceTable.{SpaceTable}
 use Rattle.tg_space.specs.Soundness.{IsKindAt}
+use Rattle.tg_space.specs.Targets.{from_space, image_of, young_spaces}
 use Rattle.tg_space.specs.Collection.{new_place}
+use Rattle.tg_space.specs.declared.spaces.Kind.{Kind}
+use Rattle.tg_space.specs.declared.spaces.Kind.TheVariants.{Full}
 use Rattle.tg_payload.specs.Table.{Payloads, entry}
+use Rattle.tg_graph.specs.declared.settle.Rewritten.{Rewritten}
+use Rattle.tg_space.specs.Generations.{AreNeeded}
 use Rattle.tg_graph.specs.Rows.{key_at}
+use Rattle.tg_graph.specs.Heap.{HeapState, content_of}
+use Rattle.tg_graph.specs.Standing.{KeepsReached}
 
--- the cell at a place was copied: its forwarding word isn't empty
-pub record IsCopiedFrom (h : SpaceList) (forward : List ℕ) (p : Place) : Type 0 where
+-- ---- cells
+
+-- where a collection has the cell of a place: those of from-space are moved
+abbrev pub moved_place : (ℕ → Bool) → SpaceList → (ℕ → Place) → Place → Place
+moved_place from h to p = if from p.space then to (flat_of h p) else p
+
+-- the cell at a place isn't free, and it was copied if it is in from-space
+pub record IsKept (kind : Kind) (h : SpaceList) (forward : List ℕ) (p : Place) : Type 0 where
   pub held : Holds h p
-  pub some : slice_index forward (flat_of h p) ≢ 0
+  pub used : 0 < slice_index (cell_at h p) 0
+  pub copied : from_space kind p.space ≡ true → slice_index forward (flat_of h p) ≢ 0
 
--- the place to which it was copied
-abbrev pub copied_to : SpaceList → List ℕ → Place → Place
-copied_to h forward p = new_place forward (flat_of h p)
+-- what the cell of Old at a place is to be, with its references and its link moved
+abbrev pub rewritten_at : SpaceList → List ℕ → Place → Rewritten
+rewritten_at h forward p =
+    record { place = p; words = image_of young_spaces h (new_place forward) (cell_at h p) }
+
+-- one of these cells is at the place, and has its words
+pub record HasWritten (after : SpaceList) (cells : List Rewritten) (p : Place) : Type 0 where
+  pub cell : Rewritten
+  pub among : Contains cells cell
+  pub at : cell.place ≡ p
+  pub words : cell_at after p ≡ cell.words
+
+-- none of these cells is at the place, which has the words that it had
+pub record HasStayed (h after : SpaceList) (cells : List Rewritten) (p : Place) : Type 0 where
+  pub apart : (cell : Rewritten) → Contains cells cell → cell.place ≢ p
+  pub words : cell_at after p ≡ cell_at h p
+
+-- these cells of Old were written, and no other was
+pub record AreWritten (old new : SpaceTable) (cells : List Rewritten) : Type 0 where
+  pub limits : new.limits ≡ old.limits
+  pub long : length new.spaces ≡ length old.spaces
+  pub others : (space : ℕ) → space ≢ 0 → space_of new.spaces space ≡ space_of old.spaces space
+  pub held : (p : Place) → Holds new.spaces p ↔ Holds old.spaces p
+  pub written : (p : Place) → HasWritten new.spaces cells p ⊎ HasStayed old.spaces new.spaces cells p
+
+-- ---- payloads
+
+-- each key is that of one object
+abbrev pub HaveKeysApart : SpaceList → Type 0
+HaveKeysApart h =
+    (p q : Place) → IsKindAt h Object p → IsKindAt h Object q → key_at h p ≡ key_at h q → p ≡ q
 
 -- the payloads of the kept objects are left, and no other
 pub record KeepsPayloads (h : SpaceList) (kept : Place → Type 0) (payloads left : Payloads) : Type 0 where
   pub same : (p : Place) → kept p → IsKindAt h Object p → entry left (key_at h p) ≡ entry payloads (key_at h p)
   pub none_else : (key : ℕ) → IsSome (entry left key) → (p : Place) × kept p × IsKindAt h Object p × (key_at h p ≡ key)
+
+-- the key is that of an object with this number, which wasn't copied
+pub record IsDeadAt (h : SpaceList) (forward : List ℕ) (number key : ℕ) : Type 0 where
+  pub place : Place
+  pub object : IsKindAt h Object place
+  pub at : flat_of h place ≡ number
+  pub uncopied : slice_index forward number ≡ 0
+  pub key_is : key_at h place ≡ key
+
+-- the key is that of an object in from-space which wasn't copied
+pub record IsDeadKey (kind : Kind) (h : SpaceList) (forward : List ℕ) (key : ℕ) : Type 0 where
+  pub number : ℕ
+  pub dead : IsDeadAt h forward number key
+  pub moves : from_space kind dead.place.space ≡ true
+
+-- at each of these keys there is nothing any more, and any other has what it had
+abbrev pub Drops : Payloads → Payloads → (ℕ → Type 0) → Type 0
+Drops payloads left dead =
+    (key : ℕ) → (dead key × (entry left key ≡ None)) ⊎ ((dead key → ⊥) × (entry left key ≡ entry payloads key))
+
+-- ---- the heap
+
+-- what a collection of a kind leaves of a heap
+pub record IsSettled (kind : Kind) (old new : HeapState) : Type 0 where
+  pub keeps : KeepsReached kind (content_of old) (content_of new) (length old.workers)
+  pub only_old : kind ≡ Full → (space : ℕ) → space ≢ 0 → space_of new.table.spaces space ≡ []
+  pub no_nursery : (space : ℕ) → 2 ≤ space → space_of new.table.spaces space ≡ []
+  pub limits : new.table.limits ≡ old.table.limits
+  pub needed : AreNeeded new.table.spaces new.remembered
+  pub none_needed : kind ≡ Full → new.remembered ≡ []
+  pub workers : length new.workers ≡ length old.workers

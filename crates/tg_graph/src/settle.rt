@@ -1,24 +1,34 @@
 //! What a collection leaves of a heap.
-ghost use Rattle.std.specs.Prelude.{◌≡◌, ◌≢◌, ◌<◌, IfOk, IsOk, IsSome, OnOk, OnErr, None, length, map, slice_index};
-ghost use Rattle.std.specs.List.{All};
-ghost use Rattle.tg_block.specs.Cells.{object_tag};
-ghost use Rattle.tg_payload.specs.Table.{Updates, entry};
-ghost use Rattle.tg_space.specs.Collection.{IsFullCollection};
-ghost use Rattle.tg_space.specs.Soundness.{AreSound};
-ghost use Rattle.tg_space.specs.SpaceList.{Holds, cells_of};
-ghost use Rattle.tg_space.specs.SpaceTable.{IsSpaceTable, with_only_old};
-ghost use Rattle.tg_space.specs.Targets.{cell_numbered};
+ghost use Rattle.std.specs.Prelude.{◌≡◌, ◌≢◌, ◌≤◌, ◌<◌, ◌↔◌, ◌++◌, ℕ, [], IfOk, IfSome, IsOk, IsSome, OnOk, OnErr, None, AllPairs, length, map};
+ghost use Rattle.std.specs.List.{All, Contains};
+ghost use Rattle.tg_word.specs.Word.{IsPlace, place_in};
+ghost use Rattle.tg_payload.specs.Table.{entry};
+ghost use Rattle.tg_space.specs.Collection.{IsCollection, new_place};
+ghost use Rattle.tg_space.specs.Generations.{AreNeeded};
+ghost use Rattle.tg_space.specs.Soundness.{AreSound, IsOldCell};
+ghost use Rattle.tg_space.specs.SpaceList.{Holds, cells_of, space_of};
+ghost use Rattle.tg_space.specs.SpaceTable.{IsSpaceTable};
+ghost use Rattle.tg_space.specs.Targets.{from_space};
+ghost use Rattle.tg_space.specs.declared.spaces.Root.TheVariants.{Remembered as IsRemembered};
 ghost use Rattle.tg_graph.specs.Heap.{IsGraph, content_of, roots_of};
-ghost use Rattle.tg_graph.specs.Kept.{IsCopiedFrom, KeepsPayloads, copied_to};
-ghost use Rattle.tg_graph.specs.Standing.{IsReached, Keeps};
+ghost use Rattle.tg_graph.specs.Kept.{AreWritten, Drops, HaveKeysApart, IsDeadAt, IsDeadKey, IsSettled, moved_place, rewritten_at};
+ghost use Rattle.tg_graph.specs.Standing.{KeepsReached};
 
 use crate::cells::KEY;
 use crate::heap::Heap;
 use std::alloc::{AllocError, Global};
-use tg_block::OBJECT_TAG;
+use tg_block::{CELLS, OBJECT_TAG, WORDS};
 use tg_payload::{Payload, PayloadTable};
+use tg_remember::Remembered;
 use tg_space::{Adoption, Kind, Root, Spaces};
 use tg_word::{Place, place_of};
+
+// A cell of Old, and the words that it is to have.
+#[derive(Clone, Copy)]
+struct Rewritten {
+    place: Place,
+    words: [u64; WORDS],
+}
 
 impl<P: Payload> Heap<P> {
     /// What a collection starts from: the rows of the workers, by rising name; for a nursery collection the remembered
@@ -27,10 +37,16 @@ impl<P: Payload> Heap<P> {
         ensures roots { IfOk result (λ roots. roots.items ≡ roots_of kind self.now) }
         ensures sound { AreSound self.now.table.spaces (roots_of kind self.now) }
     {
-        self.workers
+        let mut roots = self
+            .workers
             .iter()
             .map(|place| Root::Row(*place))
-            .collect(alloc)
+            .collect(alloc)?;
+        match kind {
+            Kind::Full => (),
+            Kind::Nursery => add_remembered(&mut roots, &self.cells.remembered)?,
+        }
+        Ok(roots)
     }
 
     /// Puts what a collection from the heap's own roots made in the place of what it emptied, and answers how many
@@ -61,58 +77,169 @@ impl<P: Payload> Heap<P> {
         ensures full { kind ≡ Kind.Full → IsOk result }
     {
         match kind {
-            Kind::Full => self.keep_copied(&forward, adoption),
+            Kind::Full => self.keep_copied(&forward, adoption, remembered),
+            Kind::Nursery => self.keep_old_and_copied(&forward, adoption, remembered)?,
         }
         Ok(self.vertices())
     }
 
     // After a full collection.
-    fn keep_copied(&mut self, forward: &[u64], adoption: Adoption)
-        requires { IsFullCollection self.old.table.spaces (roots_of self.old) forward.now adoption.old }
-        ensures kept { Keeps (content_of self.old) (content_of self.new) (IsReached (content_of self.old) (length self.old.workers)) }
-        ensures blocks { self.new.table ≡ with_only_old self.old.table adoption.old }
-        ensures workers { length self.new.workers ≡ length self.old.workers }
+    fn keep_copied(&mut self, forward: &[u64], adoption: Adoption, remembered: Remembered)
+        requires { IsCollection Kind.Full self.old.table.spaces (roots_of Kind.Full self.old) forward.now adoption.aged adoption.old remembered.places }
+        ensures settled { IsSettled Kind.Full self.old self.new }
     {
         drop_uncopied(&self.cells.spaces, &mut self.cells.payloads, forward);
-        follow(&self.cells.spaces, forward, &mut self.workers);
+        follow(&self.cells.spaces, Kind::Full, forward, &mut self.workers);
         self.cells.spaces.adopt(Kind::Full, adoption).unwrap();
+        self.cells.remembered = remembered;
+    }
+
+    // After a nursery collection. What needs the cells of from-space, or memory, comes before these cells go.
+    fn keep_old_and_copied(
+        &mut self,
+        forward: &[u64],
+        adoption: Adoption,
+        remembered: Remembered,
+    ) -> Result<(), AllocError>
+        requires { IsCollection Kind.Nursery self.old.table.spaces (roots_of Kind.Nursery self.old) forward.now adoption.aged adoption.old remembered.places }
+        ensures settled { OnOk result (IsSettled Kind.Nursery self.old self.new) }
+        ensures refused { OnErr result (self.new ≡ self.old) }
+    {
+        let alloc = self.cells.alloc;
+        let spaces = &self.cells.spaces;
+        let cells = rewritten_cells(alloc, spaces, forward, &self.cells.remembered)?;
+        let dead = dead_keys(alloc, spaces, forward)?;
+        let mut workers = self.workers.clone()?;
+        follow(spaces, Kind::Nursery, forward, &mut workers);
+        self.cells.spaces.adopt(Kind::Nursery, adoption)?;
+        write_cells(&mut self.cells.spaces, &cells);
+        drop_payloads(&mut self.cells.payloads, &dead);
+        self.workers = workers;
+        self.cells.remembered = remembered;
+        Ok(())
     }
 }
 
-// Takes out and drops the payload of each object that wasn't copied.
+// Puts the remembered cells behind the roots.
+fn add_remembered(roots: &mut Vec<Root>, remembered: &Remembered) -> Result<(), AllocError>
+    ensures { OnOk result (roots.new.items ≡ roots.old.items ++ map (λ p. IsRemembered p) remembered.now.places) }
+{
+    for i in 0..remembered.len() {
+        roots.push(Root::Remembered(remembered.nth(i)))?;
+    }
+    Ok(())
+}
+
+// What the remembered cells are to be: their references and their links moved.
+fn rewritten_cells(
+    alloc: Global,
+    spaces: &Spaces,
+    forward: &[u64],
+    remembered: &Remembered,
+) -> Result<Vec<Rewritten>, AllocError>
+    requires sound { AreSound spaces.now.spaces [] }
+    requires whole { length forward.now ≡ length (cells_of spaces.now.spaces) }
+    requires places { All (λ word. IsPlace (place_in word)) forward.now }
+    requires held { All (IsOldCell spaces.now.spaces) remembered.now.places }
+    ensures { IfOk result (λ cells. cells.items ≡ map (rewritten_at spaces.now.spaces forward.now) remembered.now.places) }
+{
+    let mut cells = Vec::with_capacity(alloc, remembered.len())?;
+    for i in 0..remembered.len() {
+        let place = remembered.nth(i);
+        let words = spaces.image(Kind::Nursery, forward, spaces.cell(place));
+        cells.push(Rewritten { place, words })?;
+    }
+    Ok(cells)
+}
+
+// Writes the words of each of these cells of Old.
+fn write_cells(spaces: &mut Spaces, cells: &[Rewritten])
+    requires { All (λ cell. IsOldCell spaces.old.spaces cell.place) cells.now }
+    ensures written { AreWritten spaces.old spaces.new cells.now }
+    ensures table { IsSpaceTable spaces.new }
+{
+    for cell in cells {
+        spaces.write_cell(cell.place, cell.words);
+    }
+}
+
+// Takes out and drops the payload of each object that a full collection didn't copy.
 fn drop_uncopied<P: Payload>(spaces: &Spaces, payloads: &mut PayloadTable<P>, forward: &[u64])
     requires graph { IsGraph spaces.now.spaces payloads.old }
     requires whole { length forward.now ≡ length (cells_of spaces.now.spaces) }
-    ensures left { KeepsPayloads spaces.now.spaces (IsCopiedFrom spaces.now.spaces forward.now) payloads.old payloads.new }
+    ensures dropped { Drops payloads.old payloads.new (IsDeadKey Kind.Full spaces.now.spaces forward.now) }
     ensures table { IsSpaceTable spaces.now }
 {
     for number in 0..spaces.cells() {
-        if forward[number as usize] == 0 {
-            drop_payload_of(spaces, payloads, number);
+        if let Some(key) = dead_key(spaces, forward, number) {
+            drop(payloads.take_out(key));
         }
     }
 }
 
-// Takes out and drops the payload of the cell with a number, if it is an object.
-fn drop_payload_of<P: Payload>(spaces: &Spaces, payloads: &mut PayloadTable<P>, number: u64)
-    requires inside { number < length (cells_of spaces.now.spaces) }
-    requires there { let words = cell_numbered spaces.now.spaces number in slice_index words 0 ≡ object_tag → IsSome (entry payloads.old (slice_index words 2)) }
-    ensures gone { let words = cell_numbered spaces.now.spaces number in slice_index words 0 ≡ object_tag → Updates payloads.old payloads.new (slice_index words 2) None }
-    ensures none { slice_index (cell_numbered spaces.now.spaces number) 0 ≢ object_tag → payloads.new ≡ payloads.old }
+// The keys of the objects that a nursery collection didn't copy. It looks at no cell of Old.
+fn dead_keys(alloc: Global, spaces: &Spaces, forward: &[u64]) -> Result<Vec<u64>, AllocError>
+    requires apart { HaveKeysApart spaces.now.spaces }
+    requires whole { length forward.now ≡ length (cells_of spaces.now.spaces) }
+    ensures keys { IfOk result (λ keys. (key : ℕ) → Contains keys.items key ↔ IsDeadKey Kind.Nursery spaces.now.spaces forward.now key) }
+    ensures each_once { IfOk result (λ keys. AllPairs (λ a b. a ≢ b) keys.items) }
+    ensures table { IsSpaceTable spaces.now }
 {
+    let mut keys = Vec::new(alloc);
+    let cells = spaces.cells();
+    for number in CELLS as u64 * spaces.len(0)..cells {
+        if let Some(key) = dead_key(spaces, forward, number) {
+            keys.push(key)?;
+        }
+    }
+    Ok(keys)
+}
+
+// The key of the cell with a number, if that is an object which wasn't copied.
+fn dead_key(spaces: &Spaces, forward: &[u64], number: u64) -> Option<u64>
+    requires inside { number < length (cells_of spaces.now.spaces) }
+    requires whole { length forward.now ≡ length (cells_of spaces.now.spaces) }
+    ensures some { IfSome result (IsDeadAt spaces.now.spaces forward.now number) }
+    ensures none { result ≡ None → (key : ℕ) → ¬ IsDeadAt spaces.now.spaces forward.now number key }
+{
+    if forward[number as usize] != 0 {
+        return None;
+    }
     let cell = spaces.numbered_cell(number);
-    if cell[0] == OBJECT_TAG {
-        drop(payloads.take_out(cell[KEY]));
+    (cell[0] == OBJECT_TAG).then_some(cell[KEY])
+}
+
+// Takes out and drops the payload under each of these keys.
+fn drop_payloads<P: Payload>(payloads: &mut PayloadTable<P>, keys: &[u64])
+    requires there { All (λ key. IsSome (entry payloads.old key)) keys.now }
+    requires each_once { AllPairs (λ a b. a ≢ b) keys.now }
+    ensures { Drops payloads.old payloads.new (Contains keys.now) }
+{
+    for key in keys {
+        drop(payloads.take_out(*key));
     }
 }
 
-// Each of these places becomes the one to which its cell was copied.
-fn follow(spaces: &Spaces, forward: &[u64], places: &mut [Place])
+// Each of these places becomes the one where a collection of this kind has its cell.
+fn follow(spaces: &Spaces, kind: Kind, forward: &[u64], places: &mut [Place])
     requires held { All (Holds spaces.now.spaces) places.old }
     requires whole { length forward.now ≡ length (cells_of spaces.now.spaces) }
-    ensures { places.new ≡ map (copied_to spaces.now.spaces forward.now) places.old }
+    ensures { places.new ≡ map (moved_place (from_space kind) spaces.now.spaces (new_place forward.now)) places.old }
 {
     for place in places.iter_mut() {
-        *place = place_of(forward[spaces.flat(*place) as usize]);
+        *place = followed(spaces, kind, forward, *place);
+    }
+}
+
+// Where a collection of this kind has the cell at a place.
+fn followed(spaces: &Spaces, kind: Kind, forward: &[u64], place: Place) -> Place
+    requires held { Holds spaces.now.spaces place }
+    requires whole { length forward.now ≡ length (cells_of spaces.now.spaces) }
+    ensures { result ≡ moved_place (from_space kind) spaces.now.spaces (new_place forward.now) place }
+{
+    if kind.moves(place.space) {
+        place_of(forward[spaces.flat(place) as usize])
+    } else {
+        place
     }
 }

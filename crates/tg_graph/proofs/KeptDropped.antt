@@ -1,0 +1,185 @@
+-- The payloads that a collection drops.
+use Rattle.std.proofs.Common.{◌≡◌, ◌≢◌, ◌↔◌, ℕ, ◌<◌, ◌≤◌, ◌+◌, ◌*◌, ◌⊎◌, true, List, length, get_or, Option, None, IsSome, refl, sym, ap, subst, arith, ◌∙◌, inl, inr, ⊎_elim}
+use Rattle.std.proofs.lemmas.Bool.{cases_eq}
+use Rattle.tg_model.specs.declared.value.Value.{Value}
+use Rattle.tg_word.specs.declared.Place.{Place}
+use Rattle.tg_block.specs.declared.CellKind.TheVariants.{Object}
+use Rattle.tg_space.specs.SpaceList.{SpaceList, IsSpaceList, Holds, blocks_before, cell_at, cells_of, flat_of, space_of}
+use Rattle.tg_space.specs.Soundness.{IsKindAt}
+use Rattle.tg_space.specs.Targets.{from_space, cell_numbered}
+use Rattle.tg_space.specs.declared.spaces.Kind.{Kind}
+use Rattle.tg_space.specs.declared.spaces.Kind.TheVariants.{Full, Nursery}
+use Rattle.tg_space.proofs.Flat.{before_more, before_mono, flat_inside, get_or-flat_of, same_place}
+use Rattle.tg_payload.specs.Table.{Payloads, Updates, entry}
+use Rattle.tg_graph.specs.Rows.{key_at}
+use Rattle.tg_graph.specs.Heap.{IsGraph}
+use Rattle.tg_graph.specs.Kept.{Drops, HaveKeysApart, IsDeadAt, IsDeadKey, IsKept, KeepsPayloads}
+use Rattle.tg_graph.proofs.Places.{place_numbered}
+use Rattle.tg_graph.proofs.Layouts.{object_tagged}
+use Rattle.tg_graph.proofs.KeptAdopted.{old_stays, young_moves}
+
+-- ---- steps
+
+-- there is nothing under a key that had a payload
+none_some : (o : Option Value) → o ≡ None → IsSome o → ⊥
+none_some o none some = let no : IsSome {T = Value} None = subst (λ (v : Option Value). IsSome v) none some in cc
+
+pub drops_none : (payloads : Payloads) (dead : ℕ → Type 0) → ((key : ℕ) → dead key → ⊥) → Drops payloads payloads dead
+drops_none payloads dead none key = inr (none key, refl)
+
+pub drops_same : (payloads now : Payloads) (few many : ℕ → Type 0) → Drops payloads now few → ((key : ℕ) → few key ↔ many key) → Drops payloads now many
+drops_same payloads now few many drops same key =
+    ⊎_elim
+    (λ gone. inl ((same key).0 gone.0, gone.1))
+    (λ stays. inr (λ dead. stays.0 ((same key).1 dead), stays.1))
+    (drops key)
+
+-- one more payload is dropped
+pub drops_more : (payloads now next : Payloads) (few many : ℕ → Type 0) (key : ℕ) → Drops payloads now few → Updates now next key None → many key → ((k : ℕ) → few k → many k) → ((k : ℕ) → many k → k ≢ key → few k) → Drops payloads next many
+drops_more payloads now next few many key drops update dead more back k = by_key (cases_eq k key)
+  where
+    by_key : (k ≡ key) ⊎ (k ≢ key) → (many k × (entry next k ≡ None)) ⊎ ((many k → ⊥) × (entry next k ≡ entry payloads k))
+    by_key (inl same) = inl (subst many (sym same) dead, ap (entry next) same ∙ update.changed)
+    by_key (inr other) =
+        ⊎_elim
+        (λ gone. inl (more k gone.0, update.others k other ∙ gone.1))
+        (λ stays. inr (λ is. stays.0 (back k is other), update.others k other ∙ stays.1))
+        (drops k)
+
+-- a payload that wasn't dropped is there still
+pub drops_there : (payloads now : Payloads) (dead : ℕ → Type 0) (key : ℕ) → Drops payloads now dead → (dead key → ⊥) → IsSome (entry payloads key) → IsSome (entry now key)
+drops_there payloads now dead key drops alive some =
+    ⊎_elim
+    (λ gone. absurd (alive gone.0))
+    (λ stays. subst (λ (o : Option Value). IsSome o) (sym stays.1) some)
+    (drops key)
+
+-- ---- dead cells, by their numbers
+
+-- the key is that of a dead cell with a number from first on, below n
+pub record IsDeadBelow (h : SpaceList) (forward : List ℕ) (first n key : ℕ) : Type 0 where
+  pub number : ℕ
+  pub from_first : first ≤ number
+  pub below : number < n
+  pub dead : IsDeadAt h forward number key
+
+module _ (h : SpaceList) (whole : IsSpaceList h) (forward : List ℕ) where
+  pub none_below : (first key : ℕ) → IsDeadBelow h forward first first key → ⊥
+  none_below first key is = let high = is.from_first in let low = is.below in omega arith
+
+  pub below_next : (first n key : ℕ) → IsDeadBelow h forward first n key → IsDeadBelow h forward first (n + 1) key
+  below_next first n key is = record { number = is.number; from_first = is.from_first; below = let low = is.below in omega arith; dead = is.dead }
+
+  pub below_here : (first n key : ℕ) → first ≤ n → IsDeadAt h forward n key → IsDeadBelow h forward first (n + 1) key
+  below_here first n key high is = record { number = n; from_first = high; below = omega arith; dead = is }
+
+  pub below_back : (first n key : ℕ) → IsDeadBelow h forward first (n + 1) key → (IsDeadAt h forward n key → ⊥) → IsDeadBelow h forward first n key
+  below_back first n key is alive = by_number (cases_eq is.number n)
+    where
+      by_number : (is.number ≡ n) ⊎ (is.number ≢ n) → IsDeadBelow h forward first n key
+      by_number (inl last) = absurd (alive (subst (λ (m : ℕ). IsDeadAt h forward m key) last is.dead))
+      by_number (inr other) = record { number = is.number; from_first = is.from_first; below = let low = is.below in omega arith; dead = is.dead }
+
+  -- each key is that of one number
+  pub dead_once : HaveKeysApart h → (a b key : ℕ) → IsDeadAt h forward a key → IsDeadAt h forward b key → a ≡ b
+  dead_once apart a b key one two =
+      sym one.at ∙ ap (flat_of h) (apart one.place two.place one.object two.object (one.key_is ∙ sym two.key_is)) ∙ two.at
+
+  -- what the cell with a number is
+  pub dead_numbered : (n : ℕ) → n < length (cells_of h) → get_or forward n 0 ≡ 0 → get_or (cell_numbered h n) 0 0 ≡ 1 → IsDeadAt h forward n (get_or (cell_numbered h n) 2 0)
+  dead_numbered n low none tag =
+      let at = place_numbered h whole n low in
+      let words = ap (cell_numbered h) (sym at.is) ∙ get_or-flat_of h whole.spaces at.place at.held in
+      record {
+        place = at.place;
+        object = record { held = at.held; is = (object_tagged (cell_at h at.place)).1 (ap (λ (ws : List ℕ). get_or ws 0 0) (sym words) ∙ tag) };
+        at = at.is;
+        uncopied = none;
+        key_is = ap (λ (ws : List ℕ). get_or ws 2 0) (sym words);
+      }
+
+  pub dead_tagged : (n key : ℕ) → IsDeadAt h forward n key → get_or (cell_numbered h n) 0 0 ≡ 1
+  dead_tagged n key is =
+      ap (λ (m : ℕ). get_or (cell_numbered h m) 0 0) (sym is.at)
+      ∙ ap (λ (ws : List ℕ). get_or ws 0 0) (get_or-flat_of h whole.spaces is.place is.object.held)
+      ∙ (object_tagged (cell_at h is.place)).0 is.object.is
+
+  -- the cells with numbers from first on are those of from-space
+  abbrev pub BeginsAt : Kind → ℕ → Type 0
+  BeginsAt kind first = (p : Place) → Holds h p → (first ≤ flat_of h p) ↔ (from_space kind p.space ≡ true)
+
+  pub all_begin : BeginsAt Full 0
+  all_begin p held = (λ _. refl, λ _. omega arith)
+
+  pub young_begin : 0 < length h → BeginsAt Nursery (64 * length (space_of h 0))
+  young_begin some p held = by_space (cases_eq p.space 0)
+    where
+      by_space : (p.space ≡ 0) ⊎ (p.space ≢ 0) → (64 * length (space_of h 0) ≤ flat_of h p) ↔ (from_space Nursery p.space ≡ true)
+      by_space (inl old) =
+          let before : blocks_before h p.space ≡ 0 = ap (blocks_before h) old in
+          let low : p.block < length (space_of h 0) = subst (λ (space : ℕ). p.block < length (space_of h space)) old held.block in
+          let cell = held.cell in (
+            λ high. absurd (omega arith),
+            λ moves. let no : from_space Nursery 0 ≡ true = subst (λ (space : ℕ). from_space Nursery space ≡ true) old moves in absurd cc,
+          )
+      by_space (inr young) =
+          let first : blocks_before h 1 ≡ blocks_before h 0 + length (space_of h 0) = before_more h 0 some in
+          let none : blocks_before h 0 ≡ 0 = refl in
+          let mono = before_mono h 1 p.space (omega arith) in (
+            λ high. young_moves Nursery p.space young,
+            λ moves. omega arith,
+          )
+
+  pub dead_keys_are : (kind : Kind) (first n : ℕ) → BeginsAt kind first → length (cells_of h) ≤ n → (key : ℕ) → IsDeadBelow h forward first n key ↔ IsDeadKey kind h forward key
+  dead_keys_are kind first n begin end key = (
+    λ is. record {
+      number = is.number;
+      dead = is.dead;
+      moves = (begin is.dead.place is.dead.object.held).0 (let high = is.from_first in let at = is.dead.at in omega arith);
+    },
+    λ is. record {
+      number = is.number;
+      from_first = let high = (begin is.dead.place is.dead.object.held).1 is.moves in let at = is.dead.at in omega arith;
+      below = let low = flat_inside h whole.spaces is.dead.place is.dead.object.held in let at = is.dead.at in omega arith;
+      dead = is.dead;
+    },
+  )
+
+  -- ---- what is left
+
+  module _ (payloads : Payloads) (graph : IsGraph h payloads) where
+    -- a dead cell has a payload before
+    pub dead_some : (n key : ℕ) → IsDeadAt h forward n key → IsSome (entry payloads key)
+    dead_some n key is = (graph.payloads_used key).1 (is.place, is.object, is.key_is)
+
+    pub dropped_keeps : (kind : Kind) (left : Payloads) → Drops payloads left (IsDeadKey kind h forward) → KeepsPayloads h (IsKept kind h forward) payloads left
+    dropped_keeps kind left drops = record {
+      same = λ p keep object.
+          ⊎_elim
+          (λ gone. absurd (alive p keep object gone.0))
+          (λ stays. stays.1)
+          (drops (key_at h p));
+      none_else = λ key some.
+          ⊎_elim
+          (λ gone. absurd (none_some (entry left key) gone.1 some))
+          (λ stays. by_object key stays.0 ((graph.payloads_used key).0 (subst (λ (o : Option Value). IsSome o) stays.1 some)))
+          (drops key);
+    }
+      where
+        alive : (p : Place) → IsKept kind h forward p → IsKindAt h Object p → IsDeadKey kind h forward (key_at h p) → ⊥
+        alive p keep object is =
+            let same = graph.keys is.dead.place p is.dead.object object is.dead.key_is in
+            let moves : from_space kind p.space ≡ true = subst (λ (q : Place). from_space kind q.space ≡ true) same is.moves in
+            keep.copied moves (ap (λ (n : ℕ). get_or forward n 0) (ap (flat_of h) (sym same) ∙ is.dead.at) ∙ is.dead.uncopied)
+
+        by_object : (key : ℕ) → (IsDeadKey kind h forward key → ⊥) → ((p : Place) × IsKindAt h Object p × (key_at h p ≡ key)) → (p : Place) × IsKept kind h forward p × IsKindAt h Object p × (key_at h p ≡ key)
+        by_object key living (p, object, key_is) = (
+          p,
+          record {
+            held = object.held;
+            used = let tag : get_or (cell_at h p) 0 0 ≡ 1 = (object_tagged (cell_at h p)).0 object.is in omega arith;
+            copied = λ moves none. living (record { number = flat_of h p; dead = record { place = p; object = object; at = refl; uncopied = none; key_is = key_is }; moves = moves });
+          },
+          object,
+          key_is,
+        )
