@@ -171,7 +171,7 @@ impl Claims {
         ensures held { OnOk result (All (Contains (cells_won self.new.won)) (targets_of every_space spaces.now.spaces number)) }
         ensures full { IfErr result (λ fault. fault ≡ CollectFault.HeapFull → IsFull self.new) }
     {
-        let words = spaces.numbered_cell(number);
+        let words = spaces.numbered_words(number);
         let first = first_pointer(words[0]);
         self.claim_words(spaces, &words[first..])
     }
