@@ -14,9 +14,8 @@ use crate::fault::CollectFault;
 use crate::win::Win;
 use std::alloc::Global;
 use std::marker::Model;
-use tg_rights::Rights;
 use tg_space::{Root, Spaces, first_pointer};
-use tg_word::{Place, Slot, pack, place_of};
+use tg_word::link;
 
 /// What one collection has claimed: the forwarding word of each cell, and the cells that were won, in order.
 #[derive(Drop)]
@@ -118,7 +117,7 @@ impl Claims {
         if word == 0 {
             return Ok(());
         }
-        self.claim(spaces.flat(place_of(word)))
+        self.claim(spaces.target(word))
     }
 
     /// Claims the cells that the words name.
@@ -202,12 +201,5 @@ fn next_word(number: u64) -> u64
     requires { number < 2 ^ 26 }
     ensures { result ≡ link_to (place_in_space 0 number) }
 {
-    pack(Slot::To {
-        rights: Rights::empty(),
-        place: Place {
-            space: 0,
-            block: number / 64,
-            cell: number % 64,
-        },
-    })
+    link(0, number)
 }

@@ -111,7 +111,7 @@ fn moved_word(spaces: &Spaces, forward: &[u64], word: u64) -> u64
     if word == 0 {
         return 0;
     }
-    let target = spaces.flat(place_of(word)) as usize;
+    let target = spaces.target(word) as usize;
     pack(Slot::To {
         rights: rights_of(word),
         place: place_of(forward[target]),
