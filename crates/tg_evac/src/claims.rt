@@ -14,8 +14,9 @@ use crate::fault::CollectFault;
 use crate::win::Win;
 use std::alloc::Global;
 use std::marker::Model;
+use tg_rights::Rights;
 use tg_space::{Root, Spaces, first_pointer};
-use tg_word::link;
+use tg_word::{Place, Slot, pack, place_of};
 
 /// What one collection has claimed: the forwarding word of each cell, and the cells that were won, in order.
 #[derive(Drop)]
@@ -117,7 +118,7 @@ impl Claims {
         if word == 0 {
             return Ok(());
         }
-        self.claim(spaces.target(word))
+        self.claim(spaces.flat(place_of(word)))
     }
 
     /// Claims the cells that the words name.
@@ -170,7 +171,7 @@ impl Claims {
         ensures held { OnOk result (All (Contains (cells_won self.new.won)) (targets_of every_space spaces.now.spaces number)) }
         ensures full { IfErr result (λ fault. fault ≡ CollectFault.HeapFull → IsFull self.new) }
     {
-        let words = spaces.numbered_words(number);
+        let words = spaces.numbered_cell(number);
         let first = first_pointer(words[0]);
         self.claim_words(spaces, &words[first..])
     }
@@ -201,5 +202,12 @@ fn next_word(number: u64) -> u64
     requires { number < 2 ^ 26 }
     ensures { result ≡ link_to (place_in_space 0 number) }
 {
-    link(0, number)
+    pack(Slot::To {
+        rights: Rights::empty(),
+        place: Place {
+            space: 0,
+            block: number / 64,
+            cell: number % 64,
+        },
+    })
 }

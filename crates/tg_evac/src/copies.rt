@@ -1,5 +1,5 @@
 //! The copy phase: images of the won cells in new blocks, with the forwarding words frozen.
-ghost use Rattle.std.specs.Prelude.{◌≡◌, ◌<◌, ◌≤◌, ◌^◌, [], ◌∷◌, ◌++◌, drop, length, slice_index, IfErr, IfOk, OnOk};
+ghost use Rattle.std.specs.Prelude.{◌≡◌, ◌<◌, ◌≤◌, ◌^◌, [], ◌∷◌, ◌++◌, length, map, IfErr, IfOk, OnOk};
 ghost use Rattle.std.specs.List.{All};
 ghost use Rattle.tg_block.specs.Cells.{free_block};
 ghost use Rattle.tg_space.specs.Collection.{new_place};
@@ -64,40 +64,22 @@ fn copy_of(spaces: &Spaces, forward: &[u64], number: u64) -> [u64; WORDS]
     requires places { HavePlaces forward.now }
     ensures { result ≡ copy_in spaces.now.spaces forward.now number }
 {
-    let words = spaces.numbered_words(number);
+    let mut words = spaces.numbered_cell(number);
     let first = first_pointer(words[0]);
-    [
-        words[0],
-        copied_word(spaces, forward, words, first, 1),
-        copied_word(spaces, forward, words, first, 2),
-        copied_word(spaces, forward, words, first, 3),
-        copied_word(spaces, forward, words, first, 4),
-        copied_word(spaces, forward, words, first, 5),
-        copied_word(spaces, forward, words, first, 6),
-        copied_word(spaces, forward, words, first, 7),
-    ]
+    move_words(spaces, forward, &mut words[first..]);
+    words
 }
 
-// A word of the copy of a cell whose words may name cells from one on.
-#[inline]
-fn copied_word(
-    spaces: &Spaces,
-    forward: &[u64],
-    words: &[u64; WORDS],
-    first: usize,
-    i: usize,
-) -> u64
-    requires inside { i < 8 }
-    requires pointers { All (IsPointer spaces.now.spaces) (drop first words.now) }
+// Moves each word.
+fn move_words(spaces: &Spaces, forward: &[u64], words: &mut [u64])
+    requires pointers { All (IsPointer spaces.now.spaces) words.old }
     requires whole { length forward.now ≡ length (cells_of spaces.now.spaces) }
     requires places { HavePlaces forward.now }
-    ensures below { i < first → result ≡ slice_index words.now i }
-    ensures above { first ≤ i → result ≡ word_moved every_space spaces.now.spaces (new_place forward.now) (slice_index words.now i) }
+    ensures { words.new ≡ map (word_moved every_space spaces.now.spaces (new_place forward.now)) words.old }
 {
-    if i < first {
-        return words[i];
+    for word in words.iter_mut() {
+        *word = moved_word(spaces, forward, *word);
     }
-    moved_word(spaces, forward, words[i])
 }
 
 // The word with the new place of the cell that it names.
@@ -111,7 +93,7 @@ fn moved_word(spaces: &Spaces, forward: &[u64], word: u64) -> u64
     if word == 0 {
         return 0;
     }
-    let target = spaces.target(word) as usize;
+    let target = spaces.flat(place_of(word)) as usize;
     pack(Slot::To {
         rights: rights_of(word),
         place: place_of(forward[target]),

@@ -6,11 +6,11 @@ use Rattle.tg_evac.specs.Claims.{cells_won}
 use Rattle.tg_evac.proofs.claims.Claims.scan_cell.Goals as goal
 
 -- the words that were claimed are those of the cell
-same_targets : (c : goal.After-claim_words) → named_by every_space c.args.spaces.now.spaces (take (8 - c.first_pointer-first.result) (drop c.first_pointer-first.result c.numbered_words-words.result.now)) ≡ targets_of every_space c.args.spaces.now.spaces c.args.number
+same_targets : (c : goal.After-claim_words) → named_by every_space c.args.spaces.now.spaces (take (8 - c.first_pointer-first.result) (drop c.first_pointer-first.result c.numbered_cell-words.result)) ≡ targets_of every_space c.args.spaces.now.spaces c.args.number
 same_targets c =
     let named = named_by every_space c.args.spaces.now.spaces in
-    ap named (pointers_are c.numbered_words-words.result.now c.first_pointer-first.result c.numbered_words-words.ensures.whole c.first_pointer-first.ensures.word) ∙
-    ap (λ (ws : List ℕ). named (pointers_of ws)) c.numbered_words-words.ensures.words
+    ap named (pointers_are c.numbered_cell-words.result c.first_pointer-first.result c.numbered_cell-words.ensures.whole c.first_pointer-first.ensures.word) ∙
+    ap (λ (ws : List ℕ). named (pointers_of ws)) c.numbered_cell-words.ensures.words
 
 pub returns-clause-held : goal.returns-clause-held
 returns-clause-held c = subst (λ (ts : List ℕ). OnOk c.claim_words.result (All (Contains (cells_won c.claim_words.new.self.won)) ts)) (same_targets c) c.claim_words.ensures.held
