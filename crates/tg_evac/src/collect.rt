@@ -17,14 +17,20 @@ pub struct Copied {
     pub forward: Vec<u64>,
     /// The new blocks.
     pub adoption: Adoption,
+    /// The cells of Old that will name young ones: of those that were remembered, and of the copies in Old. None after a
+    /// full collection.
+    pub remembered: Remembered,
 }
 
 /// Copies what the roots reach into new blocks, with one thread. The spaces are only read.
 ///
-/// A full collection copies exactly the cells in the closure of the roots, all of them to Old, whose new blocks are
-/// numbered from 0; a copy is its original with the places of what it names replaced. The refusals change nothing:
-/// `OutOfMemory` where memory was refused, and `HeapFull` where Old would need more than `space_blocks` blocks, so that
-/// at least 64 times as many cells aren't free.
+/// Exactly the cells of from-space in the closure of the roots are copied; a copy is its original with the places of what
+/// it names replaced. A full collection copies all of them to Old, whose new blocks are numbered from 0. A nursery
+/// collection leaves the blocks of Old, and numbers the new ones behind them. It copies cells of Aged to Old, and cells of
+/// nurseries to Aged, but those that are first met from a remembered cell or from a copy in Old go straight to Old.
+///
+/// The refusals change nothing: `OutOfMemory` where memory was refused, and `HeapFull` where Aged or Old would need more
+/// than `space_blocks` blocks, so that at least as many cells of from-space aren't free as there is room for in Old.
 pub fn collect_one(
     alloc: Global,
     spaces: &Spaces,
@@ -32,9 +38,8 @@ pub fn collect_one(
     kind: Kind,
 ) -> Result<Copied, CollectFault>
     requires { AreSound spaces.now.spaces roots.now }
-    ensures collected { IfOk result (λ copied. kind ≡ Kind.Full → IsFullCollection spaces.now.spaces roots.now copied.forward.items copied.adoption.old) }
-    ensures none_aged { IfOk result (λ copied. kind ≡ Kind.Full → copied.adoption.aged ≡ []) }
-    ensures full { IfErr result (λ fault. fault ≡ CollectFault.HeapFull → kind ≡ Kind.Full → MayLackRoom spaces.now.limits.space_blocks 1 0 (used_cells spaces.now.spaces)) }
+    ensures collected { IfOk result (λ copied. IsCollection kind spaces.now.spaces roots.now copied.forward.items copied.adoption.aged copied.adoption.old copied.remembered.places) }
+    ensures full { IfErr result (λ fault. fault ≡ CollectFault.HeapFull → MayLackRoom spaces.now.limits.space_blocks 1 (kept_blocks kind spaces.now.spaces) (used_cells kind spaces.now.spaces)) }
 {
     match kind {
         Kind::Full => collect_full(alloc, spaces, roots),

@@ -14,7 +14,8 @@ use Rattle.tg_space.specs.SpaceList.{SpaceList, IsSpaceList, Holds, cell_at, cel
 use Rattle.tg_space.specs.Soundness.{AreSound, IsKindAt, IsReference}
 use Rattle.tg_space.specs.declared.spaces.Root.{Root}
 use Rattle.tg_space.proofs.Flat.{flat_inside, same_place}
-use Rattle.tg_graph.specs.Rows.{IsChain, chunks_from, link_at, references_of, row_of, row_words}
+use Rattle.tg_graph.specs.Rows.{IsChain, references_of, row_words}
+use Rattle.tg_space.specs.Rows.{chunks_from, link_at, row_of}
 use Rattle.tg_graph.proofs.Places.{links_apart}
 use Rattle.tg_graph.proofs.Layouts.{apart_kinds, link_some, references_at, same_link}
 

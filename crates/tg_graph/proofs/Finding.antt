@@ -16,7 +16,8 @@ use Rattle.tg_word.specs.Word.{place_in, rights_in}
 use Rattle.tg_space.specs.SpaceList.{SpaceList, IsSpaceList, Holds, cell_at, cells_of}
 use Rattle.tg_space.specs.Soundness.{IsKindAt, IsReference, RefersTo}
 use Rattle.tg_space.specs.Targets.{first_pointer}
-use Rattle.tg_graph.specs.Rows.{IsChain, IsRow, chunks_from, link_at, name_at, name_in, references_of, rights_to, row_of, row_words, words_of}
+use Rattle.tg_graph.specs.Rows.{IsChain, IsRow, name_at, name_in, references_of, rights_to, row_words, words_of}
+use Rattle.tg_space.specs.Rows.{chunks_from, link_at, row_of}
 use Rattle.tg_graph.specs.Content.{IsNamed}
 use Rattle.tg_graph.specs.Heap.{IsGraph, content_in}
 use Rattle.tg_graph.specs.Spots.{IsSpotIn, is_empty, last_of, refers_to, word_of_cell, word_where}

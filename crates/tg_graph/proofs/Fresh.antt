@@ -12,11 +12,12 @@ use Rattle.tg_block.specs.Cells.{kind_of, object_tag, chunk_tag}
 use Rattle.tg_block.specs.declared.CellKind.{CellKind}
 use Rattle.tg_block.specs.declared.CellKind.TheVariants.{Free, Object, Chunk}
 use Rattle.tg_space.specs.SpaceList.{SpaceList, IsSpaceList, Holds, cell_at, cells_of, with_cell_at, with_block}
-use Rattle.tg_space.specs.Soundness.{HasLayout, IsKindAt, IsReference, link_of}
+use Rattle.tg_space.specs.Soundness.{HasLayout, IsKindAt, IsReference}
+use Rattle.tg_space.specs.Rows.{link_of, chunks_from, link_at, row_of}
 use Rattle.tg_space.proofs.Tables.{cell_at-with_block, kept-with_block}
 use Rattle.tg_payload.specs.Table.{Payloads, Updates, entry}
 use Rattle.tg_graph.specs.Content.{IsNamed}
-use Rattle.tg_graph.specs.Rows.{IsChain, IsVertexAt, chunks_from, key_at, link_at, name_at, names_in, references_of, rights_to, row_of}
+use Rattle.tg_graph.specs.Rows.{IsChain, IsVertexAt, key_at, name_at, names_in, references_of, rights_to}
 use Rattle.tg_graph.specs.Heap.{IsGraph, content_in}
 use Rattle.tg_graph.specs.Spots.{chunk_words}
 use Rattle.tg_graph.specs.Steps.{vertex_words}

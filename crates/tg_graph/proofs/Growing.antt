@@ -23,7 +23,8 @@ use Rattle.tg_nursery.specs.Allocation.{HasLeft, room_made_for}
 use Rattle.tg_payload.specs.Table.{Payloads, Updates, entry}
 use Rattle.tg_graph.specs.Content.{IsNamed}
 use Rattle.tg_graph.specs.Heap.{IsGraph, content_in}
-use Rattle.tg_graph.specs.Rows.{IsChain, IsVertexAt, chunks_from, key_at, link_at, name_at, name_in, references_of, row_of, row_words, words_of}
+use Rattle.tg_graph.specs.Rows.{IsChain, IsVertexAt, key_at, name_at, name_in, references_of, row_words, words_of}
+use Rattle.tg_space.specs.Rows.{chunks_from, link_at, row_of}
 use Rattle.tg_graph.specs.Spots.{CanPut, IsSpotIn, cells_for, is_empty, last_of, refers_to, table_put, word_in_cell, word_of_cell, word_where}
 use Rattle.tg_graph.specs.Steps.{ChangesTo, KeepsRows, vertex_words}
 use Rattle.tg_graph.specs.declared.rows.Spot.{Spot}

@@ -13,9 +13,10 @@ use Rattle.tg_block.specs.declared.CellKind.{CellKind}
 use Rattle.tg_block.specs.declared.CellKind.TheVariants.{Object, Chunk, Bad}
 use Rattle.tg_space.specs.SpaceList.{SpaceList, IsSpace, IsSpaceList, Holds, cell_at, flat_of}
 use Rattle.tg_space.specs.Targets.{first_pointer, pointers_of, moved_word, image_of}
-use Rattle.tg_space.specs.Soundness.{AreSound, HasLayout, HasLayoutOf, IsKindAt, IsReference, RefersTo, IsLink, LinksTo, IsPointer, NamesCell, link_of}
+use Rattle.tg_space.specs.Soundness.{AreSound, HasLayout, HasLayoutOf, IsKindAt, IsReference, RefersTo, IsLink, LinksTo, IsPointer, NamesCell}
+use Rattle.tg_space.specs.Rows.{link_of, link_at}
 use Rattle.tg_space.proofs.Pointing.{pointers_from_layout}
-use Rattle.tg_graph.specs.Rows.{link_at, name_at, key_at, references_of}
+use Rattle.tg_graph.specs.Rows.{name_at, key_at, references_of}
 use Rattle.tg_graph.proofs.Places.{cell_long, layout_at, links_apart, sound_from_places}
 use Rattle.tg_graph.proofs.Layouts.{KindCases, is_free, is_object, is_chunk, is_bad, kind_cases, object_tagged, chunk_tagged, free_zero, references_of_object, references_of_chunk, references_at, link_held, present_word, same_link}
 

@@ -16,7 +16,8 @@ use Rattle.tg_space.specs.Soundness.{IsKindAt, IsReference, RefersTo}
 use Rattle.tg_payload.specs.Table.{Payloads, entry}
 use Rattle.tg_graph.specs.Content.{IsNamed}
 use Rattle.tg_graph.specs.Standing.{Keeps}
-use Rattle.tg_graph.specs.Rows.{IsChain, IsVertexAt, chunks_from, key_at, link_at, name_at, name_in, names_in, rights_to, row_words}
+use Rattle.tg_graph.specs.Rows.{IsChain, IsVertexAt, key_at, name_at, name_in, names_in, rights_to, row_words}
+use Rattle.tg_space.specs.Rows.{chunks_from, link_at}
 use Rattle.tg_graph.specs.Heap.{IsGraph, content_in}
 use Rattle.tg_graph.specs.Kept.{KeepsPayloads}
 use Rattle.tg_graph.proofs.Members.{Contains-here, Contains-more}

@@ -38,7 +38,7 @@ pub roots_sound : (s : HeapState) → IsWellFormed s → AreSound s.table.spaces
 roots_sound s is = record {
   cells = is.graph.sound.cells;
   links = is.graph.sound.links;
-  rows = All-map (IsRootIn s.table.spaces) (λ p. Row p) s.workers (worker_objects s.table.spaces s.workers (workers_of s is));
+  roots_held = All-map (IsRootIn s.table.spaces) (λ p. Row p) s.workers (worker_objects s.table.spaces s.workers (workers_of s is));
 }
 
 only_old : (old : BlockList) (n : ℕ) → HasOnlyOld (old ∷ replicate n []) old

@@ -13,13 +13,14 @@ use Rattle.tg_word.specs.Word.{place_in}
 use Rattle.tg_block.specs.declared.CellKind.TheVariants.{Object, Chunk}
 use Rattle.tg_space.specs.SpaceList.{SpaceList, BlockList, IsSpaceList, Holds, cell_at, cells_of, flat_of}
 use Rattle.tg_space.specs.Targets.{every_space, first_pointer, pointers_of, targets_of, all_root_targets}
-use Rattle.tg_space.specs.Soundness.{IsKindAt, IsReference, RefersTo, link_of}
+use Rattle.tg_space.specs.Soundness.{IsKindAt, IsReference, RefersTo}
+use Rattle.tg_space.specs.Rows.{link_of, chunks_from, link_at, row_of}
 use Rattle.tg_space.specs.Collection.{IsFullCollection}
 use Rattle.tg_space.proofs.Flat.{same_place}
 use Rattle.tg_space.proofs.Pointing.{parts}
 use Rattle.tg_payload.specs.Table.{Payloads}
 use Rattle.tg_graph.specs.Standing.{IsReached}
-use Rattle.tg_graph.specs.Rows.{IsChain, IsVertexAt, chunks_from, link_at, name_at, name_in, object_named, references_of, rights_to, row_of, row_words}
+use Rattle.tg_graph.specs.Rows.{IsChain, IsVertexAt, name_at, name_in, object_named, references_of, rights_to, row_words}
 use Rattle.tg_graph.specs.Heap.{IsGraph, content_in, label_from}
 use Rattle.tg_graph.specs.Kept.{IsCopiedFrom}
 use Rattle.tg_graph.proofs.Members.{Contains-cases, Contains-here, Contains-more, Contains-none, Contains-flat_map, option_cases}

@@ -12,7 +12,8 @@ use Rattle.tg_block.specs.declared.CellKind.TheVariants.{Object, Chunk}
 use Rattle.tg_space.specs.SpaceList.{SpaceList, cell_at, cells_of}
 use Rattle.tg_space.specs.Targets.{moved_word}
 use Rattle.tg_space.specs.Soundness.{IsKindAt, IsReference, RefersTo}
-use Rattle.tg_graph.specs.Rows.{IsChain, chunks_from, link_at, name_at, name_in, names_in, references_of, rights_to, row_of, row_words, words_of}
+use Rattle.tg_graph.specs.Rows.{IsChain, name_at, name_in, names_in, references_of, rights_to, row_words, words_of}
+use Rattle.tg_space.specs.Rows.{chunks_from, link_at, row_of}
 use Rattle.tg_graph.proofs.Layouts.{references_at}
 use Rattle.tg_graph.proofs.Chains.{chain_whole}
 use Rattle.tg_graph.proofs.Slots.{names_in-some}

@@ -9,9 +9,10 @@ use Rattle.tg_word.proofs.Packing.{word_at-rights_in, is_place-place_in}
 use Rattle.tg_block.specs.Cells.{kind_of, all_are_zero}
 use Rattle.tg_block.specs.declared.CellKind.TheVariants.{Free, Object, Chunk, Bad}
 use Rattle.tg_space.specs.SpaceList.{SpaceList, IsSpaceList, Holds, cell_at}
-use Rattle.tg_space.specs.Soundness.{AreSound, HasLayout, HasLayoutOf, IsKindAt, IsReference, IsLink, LinksTo, link_of}
+use Rattle.tg_space.specs.Soundness.{AreSound, HasLayout, HasLayoutOf, IsKindAt, IsReference, IsLink, LinksTo}
+use Rattle.tg_space.specs.Rows.{link_of, link_at}
 use Rattle.tg_space.specs.declared.spaces.Root.{Root}
-use Rattle.tg_graph.specs.Rows.{link_at, references_of}
+use Rattle.tg_graph.specs.Rows.{references_of}
 use Rattle.tg_graph.proofs.Places.{layout_at}
 
 -- ---- words

@@ -15,11 +15,12 @@ use Rattle.tg_word.proofs.Packing.{is_present-word_at, place_in-word_at, rights_
 use Rattle.tg_block.specs.Cells.{kind_of}
 use Rattle.tg_block.specs.declared.CellKind.TheVariants.{Free, Object, Chunk}
 use Rattle.tg_space.specs.SpaceList.{SpaceList, IsSpaceList, IsSpace, Holds, cell_at, cells_of, with_cell_at, with_word_at}
-use Rattle.tg_space.specs.Soundness.{IsKindAt, IsReference, RefersTo, IsLink, LinksTo, link_of}
+use Rattle.tg_space.specs.Soundness.{IsKindAt, IsReference, RefersTo, IsLink, LinksTo}
+use Rattle.tg_space.specs.Rows.{link_of, chunks_from, link_at, row_of}
 use Rattle.tg_space.specs.Targets.{first_pointer}
 use Rattle.tg_payload.specs.Table.{Payloads, Updates, entry}
 use Rattle.tg_graph.specs.Content.{IsNamed}
-use Rattle.tg_graph.specs.Rows.{IsChain, chunks_from, key_at, link_at, name_at, name_in, references_of, row_of, row_words, words_of}
+use Rattle.tg_graph.specs.Rows.{IsChain, key_at, name_at, name_in, references_of, row_words, words_of}
 use Rattle.tg_graph.specs.Heap.{IsGraph, content_in}
 use Rattle.tg_graph.specs.Spots.{chunk_words}
 use Rattle.tg_graph.proofs.Members.{Contains-cases, Contains-none}

@@ -6,11 +6,12 @@ use Rattle.std.proofs.lemmas.List.Elements.{All-nil, All-get_or, All-from_get_or
 use Rattle.tg_model.proofs.PlainLaws.{is_subject, is_worker}
 use Rattle.tg_word.specs.declared.Place.{Place}
 use Rattle.tg_space.specs.SpaceList.{SpaceList, IsSpaceList, Holds, space_of, cell_at, blocks_before, block_count, flat_of, cells_of}
-use Rattle.tg_space.specs.Soundness.{AreSound, HasLayout, IsRootIn, link_of}
+use Rattle.tg_space.specs.Soundness.{AreSound, HasLayout, IsRootIn}
+use Rattle.tg_space.specs.Rows.{link_of, link_at}
 use Rattle.tg_space.specs.Targets.{cell_numbered}
 use Rattle.tg_space.specs.declared.spaces.Root.{Root}
 use Rattle.tg_space.proofs.Flat.{before_more, blocks_all, length-cells_of, flat_inside, get_or-flat_of, same_place, all_cells_whole}
-use Rattle.tg_graph.specs.Rows.{places_in, places_of, link_at}
+use Rattle.tg_graph.specs.Rows.{places_in, places_of}
 use Rattle.tg_graph.proofs.Members.{Contains-map, Contains-from_map, Contains-flat_map, Contains-from_flat_map}
 
 -- the cell with a number
@@ -102,5 +103,5 @@ module _ (h : SpaceList) (is : IsSpaceList h) where
         let at_d : link_of (cell_numbered h d) ≡ link_at h to.place = ap link_of (ap (cell_numbered h) (sym to.is) ∙ get_or-flat_of h is.spaces to.place to.held) in
         let one : at.place ≡ to.place = links at.place to.place at.held to.held (λ z. some (at_c ∙ z)) (sym at_c ∙ same ∙ at_d) in
         sym at.is ∙ ap (flat_of h) one ∙ to.is;
-    rows = All-nil (IsRootIn h);
+    roots_held = All-nil (IsRootIn h);
   }

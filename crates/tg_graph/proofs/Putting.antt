@@ -23,7 +23,8 @@ use Rattle.tg_nursery.specs.Allocation.{HasLeft}
 use Rattle.tg_payload.specs.Table.{Payloads}
 use Rattle.tg_graph.specs.Content.{IsNamed}
 use Rattle.tg_graph.specs.Heap.{IsGraph, content_in}
-use Rattle.tg_graph.specs.Rows.{chunks_from, link_at, name_at, name_in, row_of, row_words}
+use Rattle.tg_graph.specs.Rows.{name_at, name_in, row_words}
+use Rattle.tg_space.specs.Rows.{chunks_from, link_at, row_of}
 use Rattle.tg_graph.specs.Spots.{CanPut, CanWrite, IsSpotIn, cells_for, is_empty, last_of, narrowed, refers_to, table_put, widened, word_where}
 use Rattle.tg_graph.specs.declared.rows.Spot.{Spot}
 use Rattle.tg_graph.specs.declared.rows.Spot.TheVariants.{Reference, Empty, Full}

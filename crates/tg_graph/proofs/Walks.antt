@@ -13,7 +13,8 @@ use Rattle.tg_word.specs.declared.Place.{Place}
 use Rattle.tg_word.specs.Word.{place_in, rights_in}
 use Rattle.tg_space.specs.SpaceList.{SpaceList, Holds, cell_at, cells_of}
 use Rattle.tg_space.specs.Targets.{first_pointer}
-use Rattle.tg_graph.specs.Rows.{IsChain, IsRow, chunks_from, edges_in, link_at, name_in, references_of, row_of, row_words, words_of}
+use Rattle.tg_graph.specs.Rows.{IsChain, IsRow, edges_in, name_in, references_of, row_words, words_of}
+use Rattle.tg_space.specs.Rows.{chunks_from, link_at, row_of}
 use Rattle.tg_graph.specs.Spots.{IsSpotIn, is_empty, last_of, refers_to, spot_for_new, word_in_cell, word_of_cell, word_where}
 use Rattle.tg_graph.proofs.Layouts.{object_tagged, chunk_tagged}
 use Rattle.tg_graph.proofs.Chains.{chain_none, chain_step}

@@ -12,11 +12,12 @@ use Rattle.tg_word.specs.Word.{is_present, place_in, rights_in}
 use Rattle.tg_block.specs.Cells.{kind_of}
 use Rattle.tg_block.specs.declared.CellKind.TheVariants.{Object, Chunk}
 use Rattle.tg_space.specs.SpaceList.{SpaceList, IsSpaceList, Holds, cell_at, cells_of, with_word_at}
-use Rattle.tg_space.specs.Soundness.{HasLayout, HasLayoutOf, IsKindAt, IsReference, RefersTo, IsLink, link_of}
+use Rattle.tg_space.specs.Soundness.{HasLayout, HasLayoutOf, IsKindAt, IsReference, RefersTo, IsLink}
+use Rattle.tg_space.specs.Rows.{link_of, chunks_from, link_at, row_of}
 use Rattle.tg_space.specs.Targets.{first_pointer}
 use Rattle.tg_payload.specs.Table.{Payloads}
 use Rattle.tg_graph.specs.Content.{IsNamed}
-use Rattle.tg_graph.specs.Rows.{IsChain, chunks_from, link_at, name_at, name_in, names_in, references_of, row_of, row_words, words_of}
+use Rattle.tg_graph.specs.Rows.{IsChain, name_at, name_in, names_in, references_of, row_words, words_of}
 use Rattle.tg_graph.specs.Heap.{IsGraph, content_in}
 use Rattle.tg_graph.proofs.Members.{All-left, All-right}
 use Rattle.tg_graph.proofs.Places.{cell_long, layout_at}

@@ -1,5 +1,5 @@
 -- What contracts see of a `Heap`, when it is well formed, and its content.
-use Rattle.std.specs.Prelude.{◌≡◌, ◌↔◌, ℕ, ◌+◌, ◌==◌, List, [], Option, Some, None, IsSome, length, map, slice_get}
+use Rattle.std.specs.Prelude.{◌≡◌, ◌↔◌, ℕ, ◌+◌, ◌==◌, ◌++◌, List, [], Option, Some, None, IsSome, length, map, slice_get}
 use Rattle.std.specs.List.{IsDistinct}
 use Rattle.tg_rights.specs.RightSet.{RightSet, no_rights}
 use Rattle.tg_model.specs.declared.value.Value.{Value}
@@ -10,17 +10,23 @@ use Rattle.tg_space.specs.SpaceTable.{SpaceTable, IsFull}
 use Rattle.tg_nursery.specs.Allocation.{HasFewerLeft}
 use Rattle.tg_space.specs.Soundness.{AreSound, IsKindAt}
 use Rattle.tg_space.specs.declared.spaces.Root.{Root}
-use Rattle.tg_space.specs.declared.spaces.Root.TheVariants.{Row}
+use Rattle.tg_space.specs.declared.spaces.Root.TheVariants.{Row, Remembered}
+use Rattle.tg_space.specs.declared.spaces.Kind.{Kind}
+use Rattle.tg_space.specs.declared.spaces.Kind.TheVariants.{Full, Nursery}
+use Rattle.tg_space.specs.Generations.{AreRemembered}
 use Rattle.tg_payload.specs.Table.{Payloads, entry}
 use Rattle.tg_graph.specs.declared.heap.Found.{Found}
 use Rattle.tg_graph.specs.Content.{Content}
-use Rattle.tg_graph.specs.Rows.{IsChain, IsVertexAt, chunks_from, key_at, link_at, name_at, names_in, object_named, objects_of, rights_to, row_words}
+use Rattle.tg_graph.specs.Rows.{IsChain, IsVertexAt, key_at, name_at, names_in, object_named, objects_of, rights_to, row_words}
+use Rattle.tg_space.specs.Rows.{chunks_from, link_at}
 
--- The cells of all spaces, the table of payloads, and where the vertex of each worker is.
+-- The cells of all spaces, the table of payloads, where the vertex of each worker is, and which cells of Old are
+-- remembered, in the order in which they were noted.
 pub record HeapState : Type 0 where
   pub table : SpaceTable
   pub payloads : Payloads
   pub workers : List Place
+  pub remembered : List Place
 
 -- ---- content
 
@@ -61,21 +67,26 @@ pub record IsGraph (h : SpaceList) (payloads : Payloads) : Type 0 where
   -- there is a payload under exactly the keys of the objects
   pub payloads_used : (key : ℕ) → IsSome (entry payloads key) ↔ ((p : Place) × IsKindAt h Object p × (key_at h p ≡ key))
 
--- the rows of the workers, from which a collection starts
-abbrev pub roots_of : HeapState → List Root
-roots_of s = map (λ p. Row p) s.workers
+-- What a collection starts from: the rows of the workers, by rising name; for a nursery collection the remembered cells
+-- too, in the order in which they were noted.
+abbrev pub roots_of : Kind → HeapState → List Root
+roots_of Full s = map (λ p. Row p) s.workers
+roots_of Nursery s = map (λ p. Row p) s.workers ++ map (λ p. Remembered p) s.remembered
 
--- The cells are those of a graph; each worker is the vertex with its number, and has a nursery.
+-- The cells are those of a graph; each worker is the vertex with its number, and has a nursery; and each cell of Old that
+-- names a young one is remembered.
 pub record IsWellFormed (s : HeapState) : Type 0 where
   pub graph : IsGraph s.table.spaces s.payloads
   pub workers : (x : ℕ) (p : Place) → slice_get s.workers x ≡ Some p → IsVertexAt s.table.spaces x p
   pub nurseries : length s.workers + 2 ≡ length s.table.spaces
+  pub remembered : AreRemembered s.table.spaces s.remembered
 
 -- two heaps are the same but for room for more payloads
 pub record IsUnchanged (old new : HeapState) : Type 0 where
   pub table : new.table ≡ old.table
   pub entries : new.payloads.entries ≡ old.payloads.entries
   pub workers : new.workers ≡ old.workers
+  pub remembered : new.remembered ≡ old.remembered
 
 -- ---- what a call finds, and what it keeps
 

@@ -1,5 +1,5 @@
 -- What the cells of a heap say: which vertices there are, and the row of references of each.
-use Rattle.std.specs.Prelude.{◌≡◌, ◌≢◌, ℕ, zero, suc, ◌-◌, ◌&&◌, ◌==◌, not, Bool, if◌then◌else◌, List, [], ◌∷◌, Option, length, take, drop, map, slice_index}
+use Rattle.std.specs.Prelude.{◌≡◌, ◌≢◌, ℕ, ◌-◌, ◌&&◌, ◌==◌, not, Bool, if◌then◌else◌, List, [], ◌∷◌, Option, length, take, drop, map, slice_index}
 use Rattle.std.specs.List.{filter, find, flat_map, range_with_len}
 use Rattle.tg_rights.specs.RightSet.{RightSet, is_none_held, no_rights}
 use Rattle.tg_word.specs.declared.Place.{Place}
@@ -7,7 +7,9 @@ use Rattle.tg_word.specs.Word.{place_in, rights_in}
 use Rattle.tg_block.specs.Cells.{object_tag}
 use Rattle.tg_block.specs.declared.CellKind.TheVariants.{Object, Chunk}
 use Rattle.tg_space.specs.SpaceList.{SpaceList, cell_at, cells_of, space_of}
-use Rattle.tg_space.specs.Soundness.{IsKindAt, link_of}
+use Rattle.tg_space.specs.Soundness.{IsKindAt}
+use Rattle.tg_space.specs.Rows.{link_of}
+use Rattle.tg_space.specs.Rows.{chunks_from, link_at, row_of}
 use Rattle.tg_space.specs.Targets.{first_pointer}
 
 -- ---- vertices
@@ -46,27 +48,14 @@ pub record IsVertexAt (h : SpaceList) (name : ℕ) (p : Place) : Type 0 where
 
 -- ---- rows
 
--- the link of the cell at a place
-abbrev pub link_at : SpaceList → Place → ℕ
-link_at h p = link_of (cell_at h p)
-
 -- the references of an object or a chunk, without its link
 abbrev pub references_of : List ℕ → List ℕ
 references_of words = let first = first_pointer (slice_index words 0) in take (7 - first) (drop first words)
-
--- the chunks to which a link leads, one after the other, at most so many
-abbrev pub chunks_from : SpaceList → ℕ → ℕ → List Place
-chunks_from h zero link = []
-chunks_from h (suc most) link = if link == 0 then [] else place_in link ∷ chunks_from h most (link_at h (place_in link))
 
 -- a link leads to these chunks, one after the other, and no further
 abbrev pub IsChain : SpaceList → ℕ → List Place → Type 0
 IsChain h link [] = link ≡ 0
 IsChain h link (p ∷ ps) = (link ≢ 0) × (place_in link ≡ p) × IsKindAt h Chunk p × IsChain h (link_at h p) ps
-
--- the row of an object: its own cell, and the chunks to which its link leads
-abbrev pub row_of : SpaceList → Place → List Place
-row_of h p = p ∷ chunks_from h (length (cells_of h)) (link_at h p)
 
 -- the references of these cells; the empty places are among them
 abbrev pub words_of : SpaceList → List Place → List ℕ

@@ -9,7 +9,8 @@ use Rattle.tg_space.specs.SpaceList.{SpaceList, Holds, cell_at, cells_of, with_c
 use Rattle.tg_space.specs.SpaceTable.{SpaceTable, IsHandedOut, place_in_space, used_of, with_one_used, with_spaces}
 use Rattle.tg_nursery.specs.Allocation.{HasLeft, room_made_for}
 use Rattle.tg_space.specs.Targets.{first_pointer}
-use Rattle.tg_graph.specs.Rows.{chunks_from, link_at, name_at, name_in, references_of}
+use Rattle.tg_graph.specs.Rows.{name_at, name_in, references_of}
+use Rattle.tg_space.specs.Rows.{chunks_from, link_at}
 use Rattle.tg_graph.specs.declared.rows.Spot.{Spot}
 use Rattle.tg_graph.specs.declared.rows.Spot.TheVariants.{Reference, Empty, Full}
 

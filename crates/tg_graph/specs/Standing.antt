@@ -2,6 +2,8 @@
 use Rattle.std.specs.Prelude.{◌≡◌, ◌↔◌, ℕ, ◌<◌}
 use Rattle.tg_model.specs.Graph.{ProtectionGraph, HasEdge, IsReachable}
 use Rattle.tg_model.specs.Walks.{Walk}
+use Rattle.tg_space.specs.declared.spaces.Kind.{Kind}
+use Rattle.tg_space.specs.declared.spaces.Kind.TheVariants.{Full, Nursery}
 use Rattle.tg_graph.specs.Content.{Content, IsNamed}
 
 -- The content has all that can be reached, it has what its vertices have edges to, and on the names that it has it is the graph.
@@ -22,3 +24,9 @@ pub record Keeps (old new : Content) (kept : ℕ → Type 0) : Type 0 where
   pub closed : (x y : ℕ) → IsNamed new x → HasEdge old.label x y → IsNamed new y
   pub labels : (x y : ℕ) → IsNamed new x → new.label x y ≡ old.label x y
   pub values : (x : ℕ) → IsNamed new x → new.value x ≡ old.value x
+
+-- What a collection of a kind keeps: a full one exactly what is reached from the workers, a nursery collection all that
+-- is reached, and maybe more.
+abbrev pub KeepsReached : Kind → Content → Content → ℕ → Type 0
+KeepsReached Full old new workers = Keeps old new (IsReached old workers)
+KeepsReached Nursery old new workers = Keeps old new (IsNamed new) × ((x : ℕ) → IsReached old workers x → IsNamed new x)

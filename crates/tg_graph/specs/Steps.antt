@@ -11,7 +11,8 @@ use Rattle.tg_space.specs.SpaceTable.{SpaceTable}
 use Rattle.tg_space.specs.Soundness.{IsKindAt}
 use Rattle.tg_payload.specs.Table.{Payloads}
 use Rattle.tg_graph.specs.Content.{IsContent}
-use Rattle.tg_graph.specs.Rows.{IsVertexAt, name_at, row_of}
+use Rattle.tg_graph.specs.Rows.{IsVertexAt, name_at}
+use Rattle.tg_space.specs.Rows.{row_of}
 use Rattle.tg_graph.specs.Heap.{IsGraph, content_in}
 
 -- an object with an empty row

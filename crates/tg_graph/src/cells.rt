@@ -25,6 +25,7 @@ use tg_block::OBJECT_TAG;
 use tg_model::{EdgeList, Numbers};
 use tg_nursery::{AllocateFault, reserve};
 use tg_payload::{Draft, Payload, PayloadTable};
+use tg_remember::Remembered;
 use tg_rights::Rights;
 use tg_space::Spaces;
 use tg_word::{Place, place_of, rights_of};
@@ -38,6 +39,7 @@ pub(crate) struct Cells<P: Payload> {
     pub(crate) alloc: Global,
     pub(crate) spaces: Spaces,
     pub(crate) payloads: PayloadTable<P>,
+    pub(crate) remembered: Remembered,
 }
 
 impl<P: Payload> Cells<P> {

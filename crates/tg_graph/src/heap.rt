@@ -60,9 +60,9 @@ impl<P: Payload> Model for Heap<P> {
 
     ghost Value = { HeapState };
 
-    ghost view = { λ a. record { table = a.cells.spaces; payloads = a.cells.payloads; workers = a.workers.items } };
+    ghost view = { λ a. record { table = a.cells.spaces; payloads = a.cells.payloads; workers = a.workers.items; remembered = a.cells.remembered.places } };
 
-    ghost invariant = { λ a. IsWellFormed (record { table = a.cells.spaces; payloads = a.cells.payloads; workers = a.workers.items }) };
+    ghost invariant = { λ a. IsWellFormed (record { table = a.cells.spaces; payloads = a.cells.payloads; workers = a.workers.items; remembered = a.cells.remembered.places }) };
 }
 
 impl<P: Payload> Heap<P> {

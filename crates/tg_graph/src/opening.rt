@@ -22,6 +22,7 @@ use std::alloc::{AllocError, Global};
 use tg_model::{Edge, Opening};
 use tg_nursery::AllocateFault;
 use tg_payload::{Draft, Payload, PayloadTable};
+use tg_remember::Remembered;
 use tg_rights::Rights;
 use tg_space::{Limits, Spaces};
 use tg_word::Place;
@@ -114,6 +115,7 @@ fn empty_room<P: Payload>(
         alloc,
         spaces,
         payloads,
+        remembered: Remembered::new(alloc),
     };
     Ok(Room { cells, places, row })
 }

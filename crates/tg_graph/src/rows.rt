@@ -5,7 +5,8 @@ ghost use Rattle.std.specs.List.{All};
 ghost use Rattle.tg_space.specs.SpaceList.{cells_of};
 ghost use Rattle.tg_space.specs.SpaceTable.{IsSpaceTable};
 ghost use Rattle.tg_space.specs.Soundness.{AreSound, IsReference};
-ghost use Rattle.tg_graph.specs.Rows.{IsRow, chunks_from, edges_in, link_at, row_words};
+ghost use Rattle.tg_graph.specs.Rows.{IsRow, edges_in, row_words};
+ghost use Rattle.tg_space.specs.Rows.{chunks_from, link_at};
 ghost use Rattle.tg_graph.specs.Spots.{IsSpotFor, cells_for, is_empty, refers_to, spot_for_new as new_spot};
 
 use std::alloc::{AllocError, Global};

@@ -21,10 +21,11 @@ use tg_space::{Adoption, Kind, Root, Spaces};
 use tg_word::{Place, place_of};
 
 impl<P: Payload> Heap<P> {
-    /// What a collection starts from: the rows of the workers, by rising name. Answers only want of memory otherwise.
-    pub fn roots(&self, alloc: Global) -> Result<Vec<Root>, AllocError>
-        ensures rows { IfOk result (λ roots. roots.items ≡ roots_of self.now) }
-        ensures sound { AreSound self.now.table.spaces (roots_of self.now) }
+    /// What a collection starts from: the rows of the workers, by rising name; for a nursery collection the remembered
+    /// cells too, in the order in which they were noted. Answers only want of memory otherwise.
+    pub fn roots(&self, alloc: Global, kind: Kind) -> Result<Vec<Root>, AllocError>
+        ensures roots { IfOk result (λ roots. roots.items ≡ roots_of kind self.now) }
+        ensures sound { AreSound self.now.table.spaces (roots_of kind self.now) }
     {
         self.workers
             .iter()
@@ -32,20 +33,28 @@ impl<P: Payload> Heap<P> {
             .collect(alloc)
     }
 
-    /// Puts the blocks that a collection from the heap's own roots made in the place of those that it emptied, and
-    /// answers how many vertices are left: after a full one those to which walks along edges lead from the workers,
-    /// with the labels and values that they had. The payloads of all others are dropped.
+    /// Puts what a collection from the heap's own roots made in the place of what it emptied, and answers how many
+    /// vertices are left, with the labels and values that they had: after a full one those to which walks along edges
+    /// lead from the workers; after a nursery collection all of these, and maybe more. The payloads of all others are
+    /// dropped. No nursery has a block then, and exactly the cells of Old that name young ones are remembered. The
+    /// remembered cells from which a nursery collection started are rewritten once nothing more can be refused.
     ///
-    /// A full collection takes no memory here, and isn't refused.
+    /// A full collection takes no memory here, and isn't refused. A nursery collection is refused only where memory was;
+    /// then nothing is changed.
     pub fn settle(
         &mut self,
         kind: Kind,
         forward: Vec<u64>,
         adoption: Adoption,
+        remembered: Remembered,
     ) -> Result<u64, AllocError>
-        requires { kind ≡ Kind.Full → IsFullCollection self.old.table.spaces (roots_of self.old) forward.items adoption.old }
-        ensures kept { OnOk result (kind ≡ Kind.Full → Keeps (content_of self.old) (content_of self.new) (IsReached (content_of self.old) (length self.old.workers))) }
-        ensures blocks { OnOk result (kind ≡ Kind.Full → self.new.table ≡ with_only_old self.old.table adoption.old) }
+        requires { IsCollection kind self.old.table.spaces (roots_of kind self.old) forward.items adoption.aged adoption.old remembered.places }
+        ensures kept { OnOk result (KeepsReached kind (content_of self.old) (content_of self.new) (length self.old.workers)) }
+        ensures only_old { OnOk result (kind ≡ Kind.Full → (space : ℕ) → space ≢ 0 → space_of self.new.table.spaces space ≡ []) }
+        ensures no_nursery { OnOk result ((space : ℕ) → 2 ≤ space → space_of self.new.table.spaces space ≡ []) }
+        ensures limits { self.new.table.limits ≡ self.old.table.limits }
+        ensures needed { OnOk result (AreNeeded self.new.table.spaces self.new.remembered) }
+        ensures none_needed { OnOk result (kind ≡ Kind.Full → self.new.remembered ≡ []) }
         ensures workers { length self.new.workers ≡ length self.old.workers }
         ensures left { IfOk result (λ vertices. vertices ≡ length (content_of self.new).names) }
         ensures refused { OnErr result (self.new ≡ self.old) }

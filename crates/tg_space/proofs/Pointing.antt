@@ -10,7 +10,8 @@ use Rattle.tg_block.specs.declared.CellKind.TheVariants.{Free, Object, Chunk, Ba
 use Rattle.tg_space.specs.declared.spaces.Root.{Root}
 use Rattle.tg_space.specs.SpaceList.{SpaceList, IsSpaceList, cell_at, cells_of}
 use Rattle.tg_space.specs.Targets.{first_pointer, pointers_of, cell_numbered}
-use Rattle.tg_space.specs.Soundness.{AreSound, HasLayout, HasLayoutOf, IsReference, RefersTo, IsLink, LinksTo, IsPointer, link_of}
+use Rattle.tg_space.specs.Soundness.{AreSound, HasLayout, HasLayoutOf, IsReference, RefersTo, IsLink, LinksTo, IsPointer}
+use Rattle.tg_space.specs.Rows.{link_of}
 use Rattle.tg_space.proofs.Flat.{all_cells_whole}
 
 -- the slice of a cell from its first pointer on

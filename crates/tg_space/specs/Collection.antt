@@ -1,30 +1,41 @@
--- What a full collection leaves: one forwarding word for each cell, and the new blocks of Old.
-use Rattle.std.specs.Prelude.{◌≡◌, ◌≢◌, ◌↔◌, ℕ, ◌+◌, ◌-◌, ◌*◌, ◌<◌, ◌≤◌, List, [], length, slice_index, slice_index_or, not, count_by}
+-- What a collection leaves: one forwarding word for each cell, the new blocks, and the cells of Old to be remembered.
+use Rattle.std.specs.Prelude.{◌≡◌, ◌≢◌, ◌↔◌, ℕ, ◌+◌, ◌-◌, ◌*◌, ◌^◌, ◌<◌, ◌≤◌, ◌⊎◌, List, drop, length, slice_index, not, count_by}
+use Rattle.std.specs.List.{Contains}
 use Rattle.tg_word.specs.declared.Place.{Place}
 use Rattle.tg_word.specs.Word.{link_to, place_in}
-use Rattle.tg_block.specs.Cells.{cell_of, free_cell, all_are_zero}
-use Rattle.tg_space.specs.SpaceList.{SpaceList, BlockList, cells_of}
+use Rattle.tg_block.specs.Cells.{free_cell, all_are_zero}
+use Rattle.tg_space.specs.SpaceList.{SpaceList, BlockList, Holds, cell_at, cells_of}
+use Rattle.tg_space.specs.SpaceTable.{adopted, kept_blocks}
 use Rattle.tg_space.specs.Closure.{IsInClosure}
-use Rattle.tg_space.specs.Targets.{every_space, targets_of, all_root_targets, IsImage}
+use Rattle.tg_space.specs.Targets.{from_space, targets_of, all_root_targets, image_of, IsImage}
+use Rattle.tg_space.specs.Generations.{AreInGenerations, NamesYoung}
+use Rattle.tg_space.specs.declared.spaces.Kind.{Kind}
+use Rattle.tg_space.specs.declared.spaces.Kind.TheVariants.{Full, Nursery}
 use Rattle.tg_space.specs.declared.spaces.Root.{Root}
+use Rattle.tg_space.specs.declared.spaces.Root.TheVariants.{Remembered}
 
--- how many cells are not free
-abbrev pub used_cells : SpaceList → ℕ
-used_cells h = count_by (λ words. not (all_are_zero words)) (cells_of h)
+-- ---- room
+
+-- the cells of from-space
+abbrev pub moved_cells : Kind → SpaceList → List (List ℕ)
+moved_cells Full h = cells_of h
+moved_cells Nursery h = cells_of (drop 1 h)
+
+-- how many of them are not free
+abbrev pub used_cells : Kind → SpaceList → ℕ
+used_cells kind h = count_by (λ words. not (all_are_zero words)) (moved_cells kind h)
 
 -- where a collection by this many helpers may find no room in a space, of whose blocks some are kept: the cells that
 -- may have to go there are more than the blocks that it may get can be sure to hold, as each helper may leave one open
 abbrev pub MayLackRoom : ℕ → ℕ → ℕ → ℕ → Type 0
 MayLackRoom space_blocks helpers kept cells = 64 * (space_blocks + 1 - helpers - kept) ≤ cells
 
--- the place is in the new blocks of Old
-pub record IsNewPlace (old : BlockList) (p : Place) : Type 0 where
-  pub space : p.space ≡ 0
-  pub block : p.block < length old
-  pub cell : p.cell < 64
+-- ---- places
 
-abbrev pub new_cell : BlockList → Place → List ℕ
-new_cell old p = cell_of (slice_index_or old p.block []) p.cell
+-- the place is in the new blocks
+pub record IsNewPlace (kind : Kind) (h : SpaceList) (aged old : BlockList) (p : Place) : Type 0 where
+  pub held : Holds (adopted kind h aged old) p
+  pub behind : p.space ≡ 0 → kept_blocks kind h ≤ p.block
 
 -- where the cell with a number goes
 abbrev pub new_place : List ℕ → ℕ → Place
@@ -34,16 +45,32 @@ new_place forward c = place_in (slice_index forward c)
 abbrev pub IsForwarded : SpaceList → List ℕ → ℕ → Type 0
 IsForwarded h forward c = (c < length (cells_of h)) × (slice_index forward c ≢ 0)
 
-pub record IsFullCollection (h : SpaceList) (roots : List Root) (forward : List ℕ) (old : BlockList) : Type 0 where
+-- These will be the words of a cell of Old that the collection made, or has to write to: a copy, or a remembered cell
+-- with its references and its link moved.
+abbrev pub IsMadeInOld : Kind → SpaceList → List Root → List ℕ → BlockList → BlockList → Place → List ℕ → Type 0
+IsMadeInOld kind h roots forward aged old p words =
+    (IsNewPlace kind h aged old p × (p.space ≡ 0) × (words ≡ cell_at (adopted kind h aged old) p))
+    ⊎ (Contains roots (Remembered p) × (words ≡ image_of (from_space kind) h (new_place forward) (cell_at h p)))
+
+-- ---- the collection
+
+-- These forwarding words, new blocks of Aged and of Old, and notes are those of a collection from these roots.
+pub record IsCollection (kind : Kind) (h : SpaceList) (roots : List Root) (forward : List ℕ) (aged old : BlockList) (notes : List Place) : Type 0 where
   -- one forwarding word for each cell
   pub whole : length forward ≡ length (cells_of h)
   -- it is 0 exactly for the cells that the roots don't reach
-  pub reached : (c : ℕ) → c < length (cells_of h) → slice_index forward c ≢ 0 ↔ IsInClosure (all_root_targets every_space h roots) (targets_of every_space h) c
+  pub reached : (c : ℕ) → c < length (cells_of h) → slice_index forward c ≢ 0 ↔ IsInClosure (all_root_targets (from_space kind) h roots) (targets_of (from_space kind) h) c
   -- any other is the word of a new place, with no rights, where the copy of the cell stands
   pub words : (c : ℕ) → IsForwarded h forward c → slice_index forward c ≡ link_to (new_place forward c)
-  pub placed : (c : ℕ) → IsForwarded h forward c → IsNewPlace old (new_place forward c)
-  pub copied : (c : ℕ) → IsForwarded h forward c → IsImage every_space h (new_place forward) c (new_cell old (new_place forward c))
+  pub placed : (c : ℕ) → IsForwarded h forward c → IsNewPlace kind h aged old (new_place forward c)
+  pub copied : (c : ℕ) → IsForwarded h forward c → IsImage (from_space kind) h (new_place forward) c (cell_at (adopted kind h aged old) (new_place forward c))
   -- no place stands twice
   pub apart : (c d : ℕ) → IsForwarded h forward c → d < length (cells_of h) → slice_index forward c ≡ slice_index forward d → c ≡ d
   -- nothing else is in the new blocks
-  pub rest : (p : Place) → IsNewPlace old p → ((c : ℕ) → c < length (cells_of h) → slice_index forward c ≢ link_to p) → new_cell old p ≡ free_cell
+  pub rest : (p : Place) → IsNewPlace kind h aged old p → ((c : ℕ) → c < length (cells_of h) → slice_index forward c ≢ link_to p) → cell_at (adopted kind h aged old) p ≡ free_cell
+  -- copies are in the space of their generation
+  pub generations : AreInGenerations kind h roots forward
+  -- the notes are exactly the cells of Old that will name young ones
+  pub noted : (p : Place) → Contains notes p ↔ ((words : List ℕ) × IsMadeInOld kind h roots forward aged old p words × NamesYoung words)
+  -- Old has room for the new blocks
+  pub few : kept_blocks kind h + length old ≤ 2 ^ 20

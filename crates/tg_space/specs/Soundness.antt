@@ -8,9 +8,10 @@ use Rattle.tg_block.specs.Cells.{kind_of}
 use Rattle.tg_block.specs.declared.CellKind.{CellKind}
 use Rattle.tg_block.specs.declared.CellKind.TheVariants.{Free, Object, Chunk, Bad}
 use Rattle.tg_space.specs.SpaceList.{SpaceList, Holds, cell_at, cells_of}
+use Rattle.tg_space.specs.Rows.{link_of}
 use Rattle.tg_space.specs.Targets.{cell_numbered}
 use Rattle.tg_space.specs.declared.spaces.Root.{Root}
-use Rattle.tg_space.specs.declared.spaces.Root.TheVariants.{Row}
+use Rattle.tg_space.specs.declared.spaces.Root.TheVariants.{Row, Remembered}
 
 -- the place names an object, or a chunk
 pub record IsKindAt (h : SpaceList) (kind : CellKind) (p : Place) : Type 0 where
@@ -35,10 +36,6 @@ pub record LinksTo (h : SpaceList) (word : ℕ) : Type 0 where
 abbrev pub IsLink : SpaceList → ℕ → Type 0
 IsLink h word = (word ≡ 0) ⊎ LinksTo h word
 
--- the link of an object or a chunk
-abbrev pub link_of : List ℕ → ℕ
-link_of words = slice_index words 7
-
 -- what the words of a cell of this kind are: an object has a name, a payload's key, a 0, three references and a
 -- link; a chunk has six references and a link
 abbrev pub HasLayoutOf : SpaceList → List ℕ → CellKind → Type 0
@@ -51,15 +48,21 @@ HasLayoutOf h words Bad = ⊥
 abbrev pub HasLayout : SpaceList → List ℕ → Type 0
 HasLayout h words = HasLayoutOf h words (kind_of words)
 
--- a root that stands for the row of an object
+-- a cell of Old
+pub record IsOldCell (h : SpaceList) (p : Place) : Type 0 where
+  pub held : Holds h p
+  pub space : p.space ≡ 0
+
+-- a root stands for the row of an object, or for a remembered cell of Old
 abbrev pub IsRootIn : SpaceList → Root → Type 0
 IsRootIn h (Row place) = IsKindAt h Object place
+IsRootIn h (Remembered place) = IsOldCell h place
 
 pub record AreSound (h : SpaceList) (roots : List Root) : Type 0 where
   pub cells : All (HasLayout h) (cells_of h)
   -- no chunk is linked to twice
   pub links : (c d : ℕ) → c < length (cells_of h) → d < length (cells_of h) → link_of (cell_numbered h c) ≢ 0 → link_of (cell_numbered h c) ≡ link_of (cell_numbered h d) → c ≡ d
-  pub rows : All (IsRootIn h) roots
+  pub roots_held : All (IsRootIn h) roots
 
 -- ---- what tracing uses of it
 

@@ -1,9 +1,11 @@
 -- What contracts see of `Spaces`: the cells, how many cells of each nursery were handed out, and the limits.
-use Rattle.std.specs.Prelude.{◌≡◌, ℕ, ◌+◌, ◌-◌, ◌*◌, ◌/◌, ◌%◌, ◌^◌, ◌<◌, ◌≤◌, ◌⊎◌, List, [], ◌∷◌, length, replicate, slice_index, slice_set}
+use Rattle.std.specs.Prelude.{◌≡◌, ℕ, ◌+◌, ◌-◌, ◌*◌, ◌/◌, ◌%◌, ◌^◌, ◌<◌, ◌≤◌, ◌⊎◌, List, [], ◌∷◌, ◌++◌, length, replicate, slice_index, slice_set}
 use Rattle.std.specs.List.{All}
 use Rattle.tg_word.specs.declared.Place.{Place}
 use Rattle.tg_block.specs.Cells.{free_cell}
 use Rattle.tg_space.specs.SpaceList.{SpaceList, BlockList, IsSpace, Holds, space_of, cell_at, blocks_before, block_count}
+use Rattle.tg_space.specs.declared.spaces.Kind.{Kind}
+use Rattle.tg_space.specs.declared.spaces.Kind.TheVariants.{Full, Nursery}
 
 -- how many blocks all spaces, and how many one space may have
 pub record BlockLimits : Type 0 where
@@ -80,6 +82,17 @@ with_spaces t h = record { spaces = h; used = t.used; limits = t.limits }
 abbrev pub with_one_used : SpaceTable → ℕ → SpaceTable
 with_one_used t space = record { spaces = t.spaces; used = slice_set t.used space (used_of t space + 1); limits = t.limits }
 
--- Old is these blocks, and all other spaces are empty
-abbrev pub with_only_old : SpaceTable → BlockList → SpaceTable
-with_only_old t old = record { spaces = old ∷ replicate (length t.spaces - 1) []; used = replicate (length t.spaces) 0; limits = t.limits }
+-- The spaces once a collection has put its new blocks of Aged and of Old in the place of those that it emptied. After a
+-- full one Old is its new blocks, and all other spaces are empty. After a nursery collection Old is followed by the new
+-- ones, Aged is its new ones, and the nurseries are empty.
+abbrev pub adopted : Kind → SpaceList → BlockList → BlockList → SpaceList
+adopted Full h aged old = old ∷ replicate (length h - 1) []
+adopted Nursery h aged old = (space_of h 0 ++ old) ∷ aged ∷ replicate (length h - 2) []
+
+abbrev pub with_adopted : SpaceTable → Kind → BlockList → BlockList → SpaceTable
+with_adopted t kind aged old = record { spaces = adopted kind t.spaces aged old; used = replicate (length t.spaces) 0; limits = t.limits }
+
+-- how many blocks of Old stay where they are, in front of the new ones
+abbrev pub kept_blocks : Kind → SpaceList → ℕ
+kept_blocks Full h = 0
+kept_blocks Nursery h = length (space_of h 0)

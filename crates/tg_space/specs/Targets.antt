@@ -1,16 +1,27 @@
 -- What the cells of a heap name, and what the copy of a cell is.
-use Rattle.std.specs.Prelude.{◌≡◌, ℕ, ◌==◌, ◌++◌, if◌then◌else◌, Bool, true, List, [], ◌∷◌, take, drop, map, slice_index, slice_index_or}
-use Rattle.std.specs.List.{flat_map}
+use Rattle.std.specs.Prelude.{◌≡◌, ℕ, ◌==◌, ◌++◌, if◌then◌else◌, Bool, true, not, List, [], ◌∷◌, length, take, drop, map, slice_index, slice_index_or}
+use Rattle.std.specs.List.{flat_map, take_while}
 use Rattle.tg_word.specs.declared.Place.{Place}
 use Rattle.tg_word.specs.Word.{place_in, rights_in, word_at}
 use Rattle.tg_block.specs.Cells.{object_tag, chunk_tag}
-use Rattle.tg_space.specs.SpaceList.{SpaceList, flat_of, cells_of}
+use Rattle.tg_space.specs.SpaceList.{SpaceList, cell_at, flat_of, cells_of}
+use Rattle.tg_space.specs.Rows.{row_of}
+use Rattle.tg_space.specs.declared.spaces.Kind.{Kind}
+use Rattle.tg_space.specs.declared.spaces.Kind.TheVariants.{Full, Nursery}
 use Rattle.tg_space.specs.declared.spaces.Root.{Root}
-use Rattle.tg_space.specs.declared.spaces.Root.TheVariants.{Row}
+use Rattle.tg_space.specs.declared.spaces.Root.TheVariants.{Row, Remembered}
 
--- from-space, the spaces whose cells a collection moves, is a test of the space's number; a full one moves all
+-- From-space, the spaces whose cells a collection moves, is a test of the space's number. A full collection moves all
+-- cells, a nursery collection those of Aged and of the nurseries.
 abbrev pub every_space : ℕ → Bool
 every_space space = true
+
+abbrev pub young_spaces : ℕ → Bool
+young_spaces space = not (space == 0)
+
+abbrev pub from_space : Kind → ℕ → Bool
+from_space Full = every_space
+from_space Nursery = young_spaces
 
 -- the words of the cell with a number
 abbrev pub cell_numbered : SpaceList → ℕ → List ℕ
@@ -40,9 +51,20 @@ named_by from h words = flat_map (target_in from h) words
 abbrev pub targets_of : (ℕ → Bool) → SpaceList → ℕ → List ℕ
 targets_of from h number = named_by from h (pointers_of (cell_numbered h number))
 
--- the targets of a root: a row whose first cell is in from-space has that cell
+-- the targets of the cell at a place
+abbrev pub targets_at : (ℕ → Bool) → SpaceList → Place → List ℕ
+targets_at from h p = named_by from h (pointers_of (cell_at h p))
+
+-- the cells of a row that are met along its links before one that is in from-space
+abbrev pub cells_met : (ℕ → Bool) → SpaceList → Place → List Place
+cells_met from h p = take_while (λ q. not (from q.space)) (row_of h p)
+
+-- The targets of a root. A row whose object is in from-space has that one cell; any other has the targets of the cells
+-- that are met. A remembered cell has its own targets.
 abbrev pub root_targets_of : (ℕ → Bool) → SpaceList → Root → List ℕ
-root_targets_of from h (Row place) = if from place.space then flat_of h place ∷ [] else []
+root_targets_of from h (Row place) =
+    if from place.space then flat_of h place ∷ [] else flat_map (targets_at from h) (cells_met from h place)
+root_targets_of from h (Remembered place) = targets_at from h place
 
 -- the targets of all roots
 abbrev pub all_root_targets : (ℕ → Bool) → SpaceList → List Root → List ℕ

@@ -1,5 +1,5 @@
 //! One space.
-ghost use Rattle.std.specs.Prelude.{◌≡◌, ◌<◌, ◌≤◌, ◌^◌, ◌++◌, ◌∷◌, [], length, slice_index, slice_index_or, slice_set, OnOk, OnErr};
+ghost use Rattle.std.specs.Prelude.{◌≡◌, ◌<◌, ◌≤◌, ◌^◌, ◌+◌, ◌++◌, ◌∷◌, [], length, slice_index, slice_index_or, slice_set, vec_capacity, OnOk, OnErr};
 ghost use Rattle.tg_block.specs.Cells.{cell_of, with_word, free_block};
 ghost use Rattle.tg_space.specs.SpaceList.{IsSpace};
 
@@ -111,5 +111,29 @@ impl Space {
         let block = Block::new(alloc)?;
         self.blocks.push(block)?;
         Ok(())
+    }
+
+    /// Puts the blocks of another space behind its own. No block is copied.
+    ///
+    /// It is refused only where memory was; then nothing is changed.
+    pub fn append(&mut self, other: Space) -> Result<(), AllocError>
+        requires { length self.old + length other ≤ 2 ^ 20 }
+        ensures appended { OnOk result (self.new ≡ self.old ++ other) }
+        ensures whole { OnOk result (IsSpace self.new) }
+        ensures refused { OnErr result (self.new ≡ self.old) }
+    {
+        self.blocks.reserve(other.blocks.len())?;
+        push_all(&mut self.blocks, other.blocks);
+        Ok(())
+    }
+}
+
+// Puts blocks behind others, where there is room for them.
+fn push_all(blocks: &mut Vec<Block>, more: Vec<Block>)
+    requires { length blocks.old.items + length more.items ≤ vec_capacity blocks.old }
+    ensures { blocks.new.items ≡ blocks.old.items ++ more.items }
+{
+    for block in more {
+        blocks.push(block).unwrap();
     }
 }

@@ -1,10 +1,10 @@
 //! All spaces of a heap.
-ghost use Rattle.std.specs.Prelude.{◌≡◌, ◌<◌, ◌≤◌, ◌+◌, ◌*◌, ◌^◌, ◌∷◌, ◌↔◌, ℕ, [], length, replicate, slice_index, slice_index_or, slice_set, Err, IfOk, OnOk, OnErr, IsOk, IsTrue};
+ghost use Rattle.std.specs.Prelude.{◌≡◌, ◌++◌, ◌<◌, ◌≤◌, ◌+◌, ◌*◌, ◌^◌, ◌∷◌, ◌↔◌, ℕ, [], length, replicate, slice_index, slice_index_or, slice_set, Err, IfOk, OnOk, OnErr, IsOk, IsTrue};
 ghost use Rattle.tg_block.specs.Cells.{free_cell, cell_of};
 ghost use Rattle.tg_word.specs.Word.{IsPlace, place_in};
 ghost use Rattle.tg_space.specs.SpaceList.{Holds, IsSpace, IsSpaceList, block_count, blocks_before, cell_at, cells_of, flat_of, space_of, with_block, with_cell_at, with_word_at};
-ghost use Rattle.tg_space.specs.Targets.{first_pointer as first_pointer_of};
-ghost use Rattle.tg_space.specs.SpaceTable.{BlockLimits, IsFull, IsHandedOut, IsNursery, IsPrefixCount, IsSpaceTable, no_blocks, place_in_space, used_of, with_one_used, with_only_old, with_spaces};
+ghost use Rattle.tg_space.specs.Targets.{first_pointer as first_pointer_of, from_space};
+ghost use Rattle.tg_space.specs.SpaceTable.{adopted, BlockLimits, IsFull, IsHandedOut, IsNursery, IsPrefixCount, IsSpaceTable, kept_blocks, no_blocks, place_in_space, used_of, with_adopted, with_one_used, with_spaces};
 
 use crate::limits::Limits;
 use crate::space::Space;
@@ -13,11 +13,26 @@ use std::marker::Model;
 use tg_block::{CHUNK_TAG, OBJECT_TAG, WORDS};
 use tg_word::{Place, number_of, place_of};
 
-/// Which cells a collection moves.
+/// Which cells a collection moves, and where to.
 #[derive(Clone, Copy, PartialEq, Eq, Debug)]
 pub enum Kind {
     /// All cells, to Old.
     Full,
+    /// The cells of the nurseries, to Aged or to Old, and those of Aged, to Old.
+    Nursery,
+}
+
+impl Kind {
+    /// Whether a collection moves the cells of a space: a full one all, a nursery collection all but those of Old.
+    #[inline]
+    pub fn moves(self, space: u64) -> bool
+        ensures { result ≡ from_space self space }
+    {
+        match self {
+            Kind::Full => true,
+            Kind::Nursery => space != 0,
+        }
+    }
 }
 
 /// What a collection starts from.
@@ -25,6 +40,8 @@ pub enum Kind {
 pub enum Root {
     /// The row whose object is at a place.
     Row(Place),
+    /// The cell of Old at a place, which may name a younger one.
+    Remembered(Place),
 }
 
 /// Why a space got no block.
@@ -322,23 +339,42 @@ impl Spaces {
 
     /// Puts the blocks that a collection made in the place of those that it emptied.
     ///
-    /// After a full one Old is the new blocks, there are none of Aged, and every other space has no block. It is
-    /// refused only where memory was, and never after a full collection; then nothing is changed.
+    /// After a full one Old is the new blocks, and every other space has none: it takes no memory and isn't refused.
+    /// After a nursery collection the new blocks of Old stand behind those that it has, for which there has to be room;
+    /// Aged is its new blocks, and the nurseries have none. That is refused only where memory was; then nothing is
+    /// changed.
     pub fn adopt(&mut self, kind: Kind, adoption: Adoption) -> Result<(), AllocError>
-        ensures adopted { OnOk result (self.new ≡ with_only_old self.old adoption.old) }
+        requires { kept_blocks kind self.old.spaces + length adoption.old ≤ 2 ^ 20 }
+        ensures adopted { OnOk result (self.new ≡ with_adopted self.old kind adoption.aged adoption.old) }
         ensures refused { OnErr result (self.new ≡ self.old) }
         ensures full { kind ≡ Kind.Full → IsOk result }
         ensures table { OnOk result (IsSpaceTable self.new) }
     {
+        let Adoption { aged, old } = adoption;
         match kind {
-            Kind::Full => self.keep_only_old(adoption.old),
+            Kind::Full => self.keep_only(old),
+            Kind::Nursery => self.keep_old_and(aged, old)?,
         }
         Ok(())
     }
 
+    // Old is followed by these blocks, Aged is the other ones, and every nursery has none.
+    #[tactic(auto, using(crate::proofs::Tables::table_adopted))]
+    fn keep_old_and(&mut self, aged: Space, old: Space) -> Result<(), AllocError>
+        requires { length (space_of self.old.spaces 0) + length old ≤ 2 ^ 20 }
+        ensures adopted { OnOk result (self.new ≡ with_adopted self.old Kind.Nursery aged old) }
+        ensures refused { OnErr result (self.new ≡ self.old) }
+        ensures table { OnOk result (IsSpaceTable self.new) }
+    {
+        put_behind(self.alloc, &mut self.spaces, aged, old)?;
+        self.used.fill(0);
+        count_blocks(&self.spaces, &mut self.starts);
+        Ok(())
+    }
+
     // Old is these blocks, and every other space has none.
-    fn keep_only_old(&mut self, old: Space)
-        ensures adopted { self.new ≡ with_only_old self.old old }
+    fn keep_only(&mut self, old: Space)
+        ensures adopted { self.new ≡ with_adopted self.old Kind.Full [] old }
         ensures table { IsSpaceTable self.new }
     {
         empty_all(self.alloc, &mut self.spaces);
@@ -357,6 +393,26 @@ fn empty_spaces(alloc: Global, count: usize) -> Result<Vec<Space>, AllocError>
         spaces.push(Space::new(alloc))?;
     }
     Ok(spaces)
+}
+
+// Old is followed by these blocks, Aged is the other ones, and every nursery has none.
+fn put_behind(
+    alloc: Global,
+    spaces: &mut [Space],
+    aged: Space,
+    old: Space,
+) -> Result<(), AllocError>
+    requires enough { 2 ≤ length spaces.old }
+    requires room { length (space_of spaces.old 0) + length old ≤ 2 ^ 20 }
+    ensures adopted { OnOk result (spaces.new ≡ adopted Kind.Nursery spaces.old aged old) }
+    ensures first { OnOk result (IsSpace (space_of spaces.old 0 ++ old)) }
+    ensures second { OnOk result (IsSpace aged) }
+    ensures refused { OnErr result (spaces.new ≡ spaces.old) }
+{
+    spaces[0].append(old)?;
+    empty_all(alloc, &mut spaces[1..]);
+    spaces[1] = aged;
+    Ok(())
 }
 
 // Takes every block out of these spaces.

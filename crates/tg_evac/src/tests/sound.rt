@@ -4,7 +4,8 @@ ghost use Rattle.std.specs.List.{All};
 ghost use Rattle.tg_block.specs.Cells.{all_are_zero};
 ghost use Rattle.tg_block.specs.declared.CellKind.TheVariants.{Object, Chunk};
 ghost use Rattle.tg_space.specs.SpaceList.{cells_of};
-ghost use Rattle.tg_space.specs.Soundness.{AreSound, HasLayout, HasLayoutOf, IsKindAt, IsLink, IsReference, IsRootIn, link_of};
+ghost use Rattle.tg_space.specs.Soundness.{AreSound, HasLayout, HasLayoutOf, IsKindAt, IsLink, IsReference, IsRootIn};
+ghost use Rattle.tg_space.specs.Rows.{link_of};
 ghost use Rattle.tg_space.specs.Targets.{cell_numbered};
 
 use tg_block::{CHUNK_TAG, OBJECT_TAG, WORDS};

@@ -3,7 +3,8 @@ use Rattle.std.specs.List.{All}
 use Rattle.tg_space.specs.SpaceList.{cell_at, cells_of}
 use Rattle.tg_space.specs.Soundness.{IsReference}
 use Rattle.tg_space.proofs.Tables.{table_list}
-use Rattle.tg_graph.specs.Rows.{chunks_from, link_at, references_of}
+use Rattle.tg_graph.specs.Rows.{references_of}
+use Rattle.tg_space.specs.Rows.{chunks_from, link_at}
 use Rattle.tg_graph.specs.Spots.{IsSpotIn}
 use Rattle.tg_graph.proofs.Layouts.{references_at}
 use Rattle.tg_graph.proofs.Walks.{slice_is, search_ends, search_goes_on, spot_is}

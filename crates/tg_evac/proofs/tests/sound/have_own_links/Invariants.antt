@@ -1,5 +1,5 @@
 use Rattle.std.proofs.Common.{◌≡◌, ◌≢◌, ℕ, ◌<◌, length}
-use Rattle.tg_space.specs.Soundness.{link_of}
+use Rattle.tg_space.specs.Rows.{link_of}
 use Rattle.tg_space.specs.SpaceList.{cells_of}
 use Rattle.tg_space.specs.Targets.{cell_numbered}
 use Rattle.tg_evac.proofs.tests.sound.have_own_links.Given as goal

@@ -1,5 +1,5 @@
 use Rattle.std.proofs.Common.{◌≡◌, ℕ, ◌<◌}
-use Rattle.tg_space.specs.Soundness.{link_of}
+use Rattle.tg_space.specs.Rows.{link_of}
 use Rattle.tg_space.specs.Targets.{cell_numbered}
 use Rattle.tg_evac.proofs.tests.sound.is_own_link.Given as goal
 

@@ -7,7 +7,8 @@ use Rattle.tg_space.proofs.Tables.{table_list}
 use Rattle.tg_model.specs.Graph.{without_rights}
 use Rattle.tg_graph.specs.Content.{IsNamed}
 use Rattle.tg_graph.specs.Heap.{content_in}
-use Rattle.tg_graph.specs.Rows.{chunks_from, link_at, name_at}
+use Rattle.tg_graph.specs.Rows.{name_at}
+use Rattle.tg_space.specs.Rows.{chunks_from, link_at}
 use Rattle.tg_graph.specs.Spots.{narrowed, word_put}
 use Rattle.tg_graph.specs.Steps.{ChangesTo}
 use Rattle.tg_graph.proofs.Layouts.{present_place}

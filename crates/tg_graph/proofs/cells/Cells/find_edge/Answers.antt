@@ -1,7 +1,7 @@
 use Rattle.std.proofs.Common.{◌∙◌, sym, ap, arith, length}
 use Rattle.tg_space.specs.SpaceList.{cells_of}
 use Rattle.tg_space.proofs.Tables.{table_list}
-use Rattle.tg_graph.specs.Rows.{chunks_from, link_at}
+use Rattle.tg_space.specs.Rows.{chunks_from, link_at}
 use Rattle.tg_graph.proofs.Finding.{cell_held, found_refers, label_is_read, none_found, none_refers, reference_found}
 use Rattle.tg_graph.proofs.cells.Cells.find_edge.Goals as goal
 
