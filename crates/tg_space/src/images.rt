@@ -73,7 +73,7 @@ impl Spaces {
         if !kind.moves(place.space) {
             return word;
         }
-        let target = self.target(word) as usize;
+        let target = self.target_of(word) as usize;
         pack(Slot::To {
             rights: rights_of(word),
             place: place_of(forward[target]),

@@ -240,7 +240,7 @@ impl Spaces {
 
     /// The number of the cell that a word names.
     #[inline]
-    pub fn target(&self, word: u64) -> u64
+    pub fn target_of(&self, word: u64) -> u64
         requires { Holds self.now.spaces (place_in word) }
         ensures flat { result ≡ flat_of self.now.spaces (place_in word) }
         ensures inside { result < length (cells_of self.now.spaces) }

@@ -3,7 +3,7 @@ use Rattle.tg_word.specs.declared.Place.{Place}
 use Rattle.tg_word.specs.Word.{place_in}
 use Rattle.tg_space.specs.SpaceTable.{SpaceTable}
 use Rattle.tg_space.proofs.Tables.{flat_facts}
-use Rattle.tg_space.proofs.spaces.Spaces.target.Goals as goal
+use Rattle.tg_space.proofs.spaces.Spaces.target_of.Goals as goal
 
 pub overflow_mul-result : goal.overflow_mul-result
 overflow_mul-result c =
