@@ -159,8 +159,10 @@ fn write_cells(spaces: &mut Spaces, cells: &[Rewritten])
     ensures table { IsSpaceTable spaces.new }
 {
     for cell in cells {
+        let _ = spaces.blocks();
         spaces.write_cell(cell.place, cell.words);
     }
+    let _ = spaces.blocks();
 }
 
 // Takes out and drops the payload of each object that a full collection didn't copy.
@@ -185,8 +187,8 @@ fn dead_keys(alloc: Global, spaces: &Spaces, forward: &[u64]) -> Result<Vec<u64>
     ensures each_once { IfOk result (λ keys. AllPairs (λ a b. a ≢ b) keys.items) }
     ensures table { IsSpaceTable spaces.now }
 {
-    let mut keys = Vec::new(alloc);
     let cells = spaces.cells();
+    let mut keys = Vec::new(alloc);
     for number in CELLS as u64 * spaces.len(0)..cells {
         if let Some(key) = dead_key(spaces, forward, number) {
             keys.push(key)?;
@@ -206,7 +208,10 @@ fn dead_key(spaces: &Spaces, forward: &[u64], number: u64) -> Option<u64>
         return None;
     }
     let cell = spaces.numbered_cell(number);
-    (cell[0] == OBJECT_TAG).then_some(cell[KEY])
+    if cell[0] != OBJECT_TAG {
+        return None;
+    }
+    Some(cell[KEY])
 }
 
 // Takes out and drops the payload under each of these keys.
