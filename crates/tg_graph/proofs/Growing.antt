@@ -17,6 +17,7 @@ use Rattle.tg_block.specs.declared.CellKind.TheVariants.{Free, Object}
 use Rattle.tg_space.specs.SpaceList.{SpaceList, IsSpaceList, Holds, cell_at, cells_of, space_of, with_block, with_cell_at}
 use Rattle.tg_space.specs.SpaceTable.{SpaceTable, IsHandedOut, IsNursery, IsSpaceTable, number_in_space, used_of, with_one_used, with_spaces}
 use Rattle.tg_space.specs.Soundness.{IsKindAt, IsReference}
+use Rattle.tg_space.specs.Generations.{AreRemembered}
 use Rattle.tg_space.specs.Targets.{first_pointer}
 use Rattle.tg_space.proofs.Tables.{kept-with_block, table_cell, table_list}
 use Rattle.tg_nursery.specs.Allocation.{HasLeft, room_made_for}
@@ -25,7 +26,7 @@ use Rattle.tg_graph.specs.Content.{IsNamed}
 use Rattle.tg_graph.specs.Heap.{IsGraph, content_in}
 use Rattle.tg_graph.specs.Rows.{IsChain, IsVertexAt, key_at, name_at, name_in, references_of, row_words, words_of}
 use Rattle.tg_space.specs.Rows.{chunks_from, link_at, row_of}
-use Rattle.tg_graph.specs.Spots.{CanPut, IsSpotIn, cells_for, is_empty, last_of, refers_to, table_put, word_in_cell, word_of_cell, word_where}
+use Rattle.tg_graph.specs.Spots.{CanPut, IsSpotIn, cells_for, is_empty, last_of, note_for, refers_to, table_put, word_in_cell, word_of_cell, word_where}
 use Rattle.tg_graph.specs.Steps.{ChangesTo, KeepsRows, vertex_words}
 use Rattle.tg_graph.specs.declared.rows.Spot.{Spot}
 use Rattle.tg_graph.specs.declared.rows.Spot.TheVariants.{Reference, Empty, Full}
@@ -38,6 +39,7 @@ use Rattle.tg_graph.proofs.Lookups.{label_is, name_of_vertex, value_at, value_is
 use Rattle.tg_graph.proofs.Members.{All-left, All-right}
 use Rattle.tg_graph.proofs.Changes.{list_written}
 use Rattle.tg_graph.proofs.Putting.{can_put, put_becomes}
+use Rattle.tg_graph.proofs.Remembering.{AreNoted, put_remembered, remembered_room, remembered_young}
 
 -- ---- one step after the other
 
@@ -240,11 +242,12 @@ pub record VertexStep (t after : SpaceTable) (payloads new : Payloads) (q : Plac
   pub vertex : IsVertexAt after.spaces name q
   pub rows : KeepsRows t.spaces after.spaces
   pub table : IsSpaceTable after
+  pub remembered : (places : List Place) → AreRemembered t.spaces places → AreRemembered after.spaces places
 
 pub vertex_step : (t after : SpaceTable) (payloads new : Payloads) (space : ℕ) (q : Place) (name key : ℕ) (value : Value) → IsSpaceTable t → IsGraph t.spaces payloads → IsNursery t space → HasLeft t space 1 →
-    Holds t.spaces q → cell_at t.spaces q ≡ free_cell → IsHandedOut (with_one_used t space) q → (IsNamed (content_in t.spaces payloads) name → ⊥) → entry payloads key ≡ None → Updates payloads new key (Some value) →
+    Holds t.spaces q → q.space ≡ space → cell_at t.spaces q ≡ free_cell → IsHandedOut (with_one_used t space) q → (IsNamed (content_in t.spaces payloads) name → ⊥) → entry payloads key ≡ None → Updates payloads new key (Some value) →
     after ≡ with_spaces (with_one_used t space) (with_cell_at t.spaces q (vertex_words name key)) → VertexStep t after payloads new q name value
-vertex_step t after payloads new space q name key value table graph nursery left held empty handed fresh unused updates same =
+vertex_step t after payloads new space q name key value table graph nursery left held there empty handed fresh unused updates same =
     let h = t.spaces in
     let is = table_list t table in
     let free : IsKindAt h Free q = record { held = held; is = ap kind_of empty } in
@@ -259,6 +262,7 @@ vertex_step t after payloads new space q name key value table graph nursery left
       vertex = vertex_at h payloads is graph q name key new value free none unused updates;
       rows = keeps_rows h with_vertex payloads new graph becomes.graph (fresh_stays h payloads is graph q free words) (fresh_same h payloads is graph q free words);
       table = table_cell (with_one_used t space) q words (table_handed_out t space table nursery left) held handed list.spaces;
+      remembered = remembered_young h is q held (let young = nursery.0 in λ none. omega (arith, young, none, there)) words;
     })
 
 -- ---- rights are added, after room was made
@@ -276,6 +280,13 @@ module _ (t grown : SpaceTable) (payloads : Payloads) (table : IsSpaceTable t) (
 
   pub added_can : CanPut grown space spot
   added_can = can_put grown table_grown payloads room.becomes.graph from (room.rows.objects from object) name spot there space left
+
+  pub added_remembered : 2 ≤ space → (to : Place) → IsKindAt t.spaces Object to → (rights : RightSet) (wanted : Bool) → (to.space ≢ 0 → wanted ≡ true) → (places later : List Place) → AreNoted places later (note_for spot wanted) →
+      (after : SpaceTable) → after ≡ table_put grown space spot rights to → AreRemembered t.spaces places → AreRemembered after.spaces later
+  added_remembered young to target rights wanted tells places later noted after is before =
+      subst (λ (x : SpaceTable). AreRemembered x.spaces later) (sym is)
+      (put_remembered grown table_grown payloads room.becomes.graph from (room.rows.objects from object) name spot there space left
+      (young, subst (λ n. space < n) (sym room.spaces) low) to (room.rows.objects to target).held rights wanted tells places later (remembered_room t grown space cells low made places before) noted)
 
   pub added_changes : (to : Place) → IsKindAt t.spaces Object to → name ≡ name_at t.spaces to → (rights : RightSet) → is_none_held rights ≡ false → 2 ≤ space → (after : SpaceTable) → after ≡ table_put grown space spot rights to →
       ChangesTo t after payloads (IsNamed (content_in t.spaces payloads)) (with_rights (content_in t.spaces payloads).label (name_at t.spaces from) (name_at t.spaces to) rights) (content_in t.spaces payloads).value
@@ -363,6 +374,13 @@ module _ (t grown placed : SpaceTable) (payloads reserved filled : Payloads) (ta
 
     pub placed_can : CanPut placed space spot
     placed_can = can_put placed table_placed filled step.graph from object_placed name spot found_placed space left_over
+
+    pub vertex_remembered : 2 ≤ space → (rights : RightSet) (places later : List Place) → AreNoted places later (note_for spot true) → (AreRemembered grown.spaces places → AreRemembered placed.spaces places) →
+        (after : SpaceTable) → after ≡ table_put placed space spot rights q → AreRemembered t.spaces places → AreRemembered after.spaces later
+    vertex_remembered young rights places later noted kept after is before =
+        subst (λ (x : SpaceTable). AreRemembered x.spaces later) (sym is)
+        (put_remembered placed table_placed filled step.graph from object_placed name spot found_placed space left_over
+        (young, omega (arith, low, made_room.spaces, step.spaces)) q vertex.object.held rights true (λ far. refl) places later (kept (remembered_room t grown space cells low made places before)) noted)
 
     pub vertex_made : (rights : RightSet) → is_none_held rights ≡ false → 2 ≤ space → (after : SpaceTable) → after ≡ table_put placed space spot rights q →
         ChangesTo t after filled (λ x. IsNamed (content_in t.spaces payloads) x ⊎ (x ≡ name)) (with_rights (content_in t.spaces payloads).label (name_at t.spaces from) name rights) (with_value (content_in t.spaces payloads).value name value)

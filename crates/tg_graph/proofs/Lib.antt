@@ -3,6 +3,7 @@ pub mod Walks
 pub mod Finding
 pub mod Listing
 pub mod Putting
+pub mod Remembering
 pub mod Growing
 pub mod Heaps
 pub mod Openings

@@ -18,9 +18,9 @@ use Rattle.tg_model.proofs.ReachLaws.{lt-IsReachable}
 use Rattle.tg_model.proofs.SoundLaws.{IsSound-start_of, joined_in}
 use Rattle.tg_word.specs.declared.Place.{Place}
 use Rattle.tg_word.specs.Word.{link_to, word_at}
-use Rattle.tg_block.specs.Cells.{kind_of}
+use Rattle.tg_block.specs.Cells.{free_block, kind_of}
 use Rattle.tg_block.specs.declared.CellKind.TheVariants.{Free, Object}
-use Rattle.tg_space.specs.SpaceList.{Holds, IsSpaceList, cell_at, space_of, with_block, with_cell_at}
+use Rattle.tg_space.specs.SpaceList.{BlockList, Holds, IsSpaceList, cell_at, space_of, with_block, with_cell_at}
 use Rattle.tg_space.specs.SpaceTable.{SpaceTable, BlockLimits, IsSpaceTable, place_in_space, used_of, with_spaces}
 use Rattle.tg_space.specs.Soundness.{AreSound, HasLayout, IsKindAt}
 use Rattle.tg_space.proofs.Tables.{holds_same, length-with_block, shape_cell, shape_written, table_list}
@@ -92,19 +92,23 @@ takes_one_cell t grown space cells spot rights to low made table young can =
       here = let a = ap (λ (us : List ℕ). slice_index us space) first.0 in let b = second.here in omega (arith, a, b);
       others = λ other ne. second.others other ne ∙ ap (λ (us : List ℕ). slice_index us other) first.0;
       blocks = λ other. let a = first.1 other in let b = second.blocks other in omega arith;
+      old_space = second.old_space ∙ first.3;
     }
   where
     made_room : (b : Bool) → grown ≡ cond b (with_spaces t (with_block t.spaces space)) t →
-        (grown.used ≡ t.used) × ((other : ℕ) → length (space_of t.spaces other) ≤ length (space_of grown.spaces other)) × (length grown.spaces ≡ length t.spaces)
+        (grown.used ≡ t.used) × ((other : ℕ) → length (space_of t.spaces other) ≤ length (space_of grown.spaces other)) × (length grown.spaces ≡ length t.spaces) × (length (space_of grown.spaces 0) ≡ length (space_of t.spaces 0))
     made_room false same = (
       ap (λ (x : SpaceTable). x.used) same,
       λ other. let e = ap (λ (x : SpaceTable). length (space_of x.spaces other)) same in omega (arith, e),
       ap (λ (x : SpaceTable). length x.spaces) same,
+      ap (λ (x : SpaceTable). length (space_of x.spaces 0)) same,
     )
     made_room true same = (
       ap (λ (x : SpaceTable). x.used) same,
       λ other. let e = ap (λ (x : SpaceTable). length (space_of x.spaces other)) same in omega (arith, e, length-with_block t.spaces space low other),
       ap (λ (x : SpaceTable). length x.spaces) same ∙ length-set t.spaces space _,
+      ap (λ (x : SpaceTable). length (space_of x.spaces 0)) same
+          ∙ ap (λ (b : BlockList). length b) (get_or-set_other t.spaces space 0 (space_of t.spaces space ++ free_block ∷ []) [] (λ none. omega (arith, young, none))),
     )
 
     put : (spot : Spot) → CanPut grown space spot → space < length grown.spaces → TakesOneCell grown (table_put grown space spot rights to) space
@@ -112,11 +116,13 @@ takes_one_cell t grown space cells spot rights to low made table young can =
       here = omega arith;
       others = λ other ne. refl;
       blocks = λ other. omega (arith, (shape_written grown.spaces q i (widened (slice_index (cell_at grown.spaces q) i) rights) can.0.held).blocks other);
+      old_space = (shape_written grown.spaces q i (widened (slice_index (cell_at grown.spaces q) i) rights) can.0.held).blocks 0;
     }
     put (Empty q i) can inside = record {
       here = omega arith;
       others = λ other ne. refl;
       blocks = λ other. omega (arith, (shape_written grown.spaces q i (word_at rights to) can.held).blocks other);
+      old_space = (shape_written grown.spaces q i (word_at rights to) can.held).blocks 0;
     }
     put (Full last) can inside =
         let chunk = place_in_space space (used_of grown space) in
@@ -129,6 +135,7 @@ takes_one_cell t grown space cells spot rights to low made table young can =
           here = let e = get_or-set_same grown.used space (used_of grown space + 1) 0 (omega (arith, table.counted, inside)) in omega (arith, e);
           others = λ other ne. get_or-set_other grown.used space other (used_of grown space + 1) 0 ne;
           blocks = λ other. omega (arith, one.blocks other, two.blocks other);
+          old_space = two.blocks 0 ∙ one.blocks 0;
         }
 
 -- ---- one change after the other
@@ -246,6 +253,7 @@ nothing_opened t payloads workers limits has table empty = record {
   spaces = has.spaces;
   limits_kept = has.limits_kept;
   blocks = has.blocks;
+  old = has.old;
 }
   where
     is : IsSpaceList t.spaces
@@ -289,6 +297,7 @@ one_more_placed t after payloads new places more workers limits values value p o
       spaces = to.spaces ∙ opened.spaces;
       limits_kept = to.limits ∙ opened.limits_kept;
       blocks = λ x low. let e = blocks (x + 2) in let b = opened.blocks x low in omega (arith, e, b);
+      old = blocks 0 ∙ opened.old;
     })
   where
     values_are : (content_in t.spaces payloads).value ≡ slice_get values
@@ -333,8 +342,8 @@ used_more us i j = by_number (cases_eq j i) (cases_lt i (length us))
 -- ---- the edges of all workers
 
 pub edges_opened : (t after : SpaceTable) (payloads : Payloads) (places : List Place) (workers : ℕ) (limits : BlockLimits) (label : ℕ → ℕ → RightSet) (values : List Value) → IsOpened t payloads places workers limits no_labels values →
-    ChangesTo t after payloads (IsNamed (content_in t.spaces payloads)) label (content_in t.spaces payloads).value → ((space : ℕ) → length (space_of t.spaces space) ≤ length (space_of after.spaces space)) → IsOpened after payloads places workers limits label values
-edges_opened t after payloads places workers limits label values opened to blocks = record {
+    ChangesTo t after payloads (IsNamed (content_in t.spaces payloads)) label (content_in t.spaces payloads).value → ((space : ℕ) → length (space_of t.spaces space) ≤ length (space_of after.spaces space)) → length (space_of after.spaces 0) ≡ 0 → IsOpened after payloads places workers limits label values
+edges_opened t after payloads places workers limits label values opened to blocks old = record {
   graph = to.graph;
   content = record {
     names = λ x. (λ n. (opened.content.names x).0 ((to.content.names x).0 n), λ low. (to.content.names x).1 ((opened.content.names x).1 low));
@@ -345,6 +354,7 @@ edges_opened t after payloads places workers limits label values opened to block
   spaces = to.spaces ∙ opened.spaces;
   limits_kept = to.limits ∙ opened.limits_kept;
   blocks = λ x low. let a = blocks (x + 2) in let b = opened.blocks x low in omega arith;
+  old = old;
 }
 
 pub opened_same : (t : SpaceTable) (payloads payloads' : Payloads) (places : List Place) (workers workers' : ℕ) (limits limits' : BlockLimits) (edges edges' : List Edge) (values values' : List Value) → payloads' ≡ payloads → workers ≡ workers' → limits ≡ limits' → edges ≡ edges' → values ≡ values' →

@@ -14,7 +14,7 @@ use Rattle.tg_block.specs.declared.CellKind.TheVariants.{Object, Chunk}
 use Rattle.tg_space.specs.SpaceList.{SpaceList, IsSpaceList, Holds, cell_at, cells_of, with_word_at}
 use Rattle.tg_space.specs.Soundness.{HasLayout, HasLayoutOf, IsKindAt, IsReference, RefersTo, IsLink}
 use Rattle.tg_space.specs.Rows.{link_of, chunks_from, link_at, row_of}
-use Rattle.tg_space.specs.Targets.{first_pointer}
+use Rattle.tg_space.specs.Targets.{first_pointer, pointers_of}
 use Rattle.tg_payload.specs.Table.{Payloads}
 use Rattle.tg_graph.specs.Content.{IsNamed}
 use Rattle.tg_graph.specs.Rows.{IsChain, name_at, name_in, names_in, references_of, row_words, words_of}
@@ -67,6 +67,10 @@ module _ (words : List ℕ) (long : length words ≡ 8) (i word : ℕ) (low : fi
   set_after =
       let at : i ≡ first + (i - first) = omega arith in
       ap (λ (n : ℕ). drop first (set words n word)) at ∙ drop-set-add first words (i - first) word
+
+  -- the references and the link
+  pub pointers_set : pointers_of (set words i word) ≡ set (pointers_of words) (i - first_pointer (get_or words 0 0)) word
+  pointers_set = ap (λ (n : ℕ). drop n (set words i word)) first_same ∙ set_after
 
   references_moved : references_of (set words i word) ≡ take (7 - first) (set (drop first words) (i - first) word)
   references_moved =

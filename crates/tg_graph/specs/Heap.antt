@@ -81,7 +81,7 @@ pub record IsWellFormed (s : HeapState) : Type 0 where
   pub nurseries : length s.workers + 2 ≡ length s.table.spaces
   pub remembered : AreRemembered s.table.spaces s.remembered
 
--- two heaps are the same but for room for more payloads
+-- two heaps are the same but for room for more payloads and notes
 pub record IsUnchanged (old new : HeapState) : Type 0 where
   pub table : new.table ≡ old.table
   pub entries : new.payloads.entries ≡ old.payloads.entries

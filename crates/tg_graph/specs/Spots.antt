@@ -1,5 +1,5 @@
 -- Where the reference to a name stands in a row, or where it may be put.
-use Rattle.std.specs.Prelude.{◌≡◌, ℕ, ◌+◌, ◌<◌, ◌&&◌, if◌then◌else◌, ◌==◌, not, Bool, List, [], ◌∷◌, Option, Some, None, length, option_map, position, slice_index}
+use Rattle.std.specs.Prelude.{◌≡◌, ℕ, ◌+◌, ◌<◌, ◌&&◌, if◌then◌else◌, ◌==◌, not, Bool, true, List, [], ◌∷◌, Option, Some, None, length, option_map, position, slice_index}
 use Rattle.std.specs.Option.{option_or}
 use Rattle.tg_rights.specs.RightSet.{RightSet, is_none_held, minus, union}
 use Rattle.tg_word.specs.declared.Place.{Place}
@@ -7,8 +7,9 @@ use Rattle.tg_word.specs.Word.{IsPlace, link_to, place_in, rights_in, word_at}
 use Rattle.tg_block.specs.Cells.{chunk_tag}
 use Rattle.tg_space.specs.SpaceList.{SpaceList, Holds, cell_at, cells_of, with_cell_at, with_word_at}
 use Rattle.tg_space.specs.SpaceTable.{SpaceTable, IsHandedOut, place_in_space, used_of, with_one_used, with_spaces}
+use Rattle.tg_remember.specs.Notes.{noted}
 use Rattle.tg_nursery.specs.Allocation.{HasLeft, room_made_for}
-use Rattle.tg_space.specs.Targets.{first_pointer}
+use Rattle.tg_space.specs.Targets.{first_pointer, young_spaces}
 use Rattle.tg_graph.specs.Rows.{name_at, name_in, references_of}
 use Rattle.tg_space.specs.Rows.{chunks_from, link_at}
 use Rattle.tg_graph.specs.declared.rows.Spot.{Spot}
@@ -64,6 +65,22 @@ cells_for (Reference cell index) = 0
 cells_for (Empty cell index) = 0
 cells_for (Full last) = 1
 
+-- the cell, if it is in Old and the answer is wanted
+abbrev pub old_cell_if : Bool → Place → Option Place
+old_cell_if wanted cell = if wanted && not (young_spaces cell.space) then Some cell else None
+
+-- The cell of Old that names a young one once a reference was put here, if there is one: the reference may name a young
+-- cell, and a link to a new chunk always does.
+abbrev pub note_for : Spot → Bool → Option Place
+note_for (Reference cell index) young = None
+note_for (Empty cell index) young = old_cell_if young cell
+note_for (Full last) young = old_cell_if true last
+
+-- the places once this cell was noted, if there is one
+abbrev pub with_note : List Place → Option Place → List Place
+with_note places None = places
+with_note places (Some cell) = noted places cell
+
 -- a chunk with one reference
 abbrev pub chunk_words : ℕ → List ℕ
 chunk_words word = chunk_tag ∷ word ∷ 0 ∷ 0 ∷ 0 ∷ 0 ∷ 0 ∷ 0 ∷ []
@@ -93,11 +110,13 @@ table_put t space (Reference cell index) rights to = word_put t cell index (wide
 table_put t space (Empty cell index) rights to = word_put t cell index (word_at rights to)
 table_put t space (Full last) rights to = chunk_put t space last (word_at rights to)
 
--- Rights over the object at a place were put where they go in the row of another: nothing else was written, and there is
--- a new block only where a chunk needed one.
-abbrev pub IsPutInRow : SpaceTable → SpaceTable → ℕ → Place → Place → RightSet → Type 0
-IsPutInRow old new space from to rights =
-    (spot : Spot) × IsSpotFor old.spaces (name_at old.spaces to) from spot × (new ≡ table_put (room_made_for old space (cells_for spot)) space spot rights to)
+-- Rights over the object at a place were put where they go in the row of another: nothing else was written, there is a
+-- new block only where a chunk needed one, and the written cell is noted where it is in Old and then names a young one.
+pub record IsPutInRow (old new : SpaceTable) (places later : List Place) (space : ℕ) (from to : Place) (rights : RightSet) : Type 0 where
+  pub spot : Spot
+  pub found : IsSpotFor old.spaces (name_at old.spaces to) from spot
+  pub put : new ≡ table_put (room_made_for old space (cells_for spot)) space spot rights to
+  pub noted : later ≡ with_note places (note_for spot (young_spaces to.space))
 
 -- a word of a cell may be written
 pub record CanWrite (t : SpaceTable) (cell : Place) (index : ℕ) : Type 0 where

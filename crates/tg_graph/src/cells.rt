@@ -1,6 +1,7 @@
 //! The graph in the cells: what one change writes.
-ghost use Rattle.std.specs.Prelude.{◌≡◌, ◌+◌, ◌<◌, ◌≤◌, ◌⊎◌, ℕ, false, length, slice_index, slice_set, Err, IfErr, IfOk, IfSome, IsOk, OnErr, OnOk};
-ghost use Rattle.std.specs.List.{All};
+ghost use Rattle.std.specs.Prelude.{◌≡◌, ◌+◌, ◌<◌, ◌≤◌, ◌⊎◌, ◌↔◌, ℕ, List, false, length, slice_index, slice_set, Err, IfErr, IfOk, IfSome, IsOk, None, OnErr, OnOk, Some};
+ghost use Rattle.std.specs.List.{All, Contains};
+ghost use Rattle.tg_word.specs.declared.Place.{Place};
 ghost use Rattle.tg_rights.specs.RightSet.{is_none_held};
 ghost use Rattle.tg_word.specs.Word.{place_in, rights_in};
 ghost use Rattle.tg_model.specs.Graph.{listing_of, with_rights, without_rights};
@@ -9,12 +10,13 @@ ghost use Rattle.tg_block.specs.declared.CellKind.TheVariants.{Object};
 ghost use Rattle.tg_space.specs.SpaceList.{Holds, cell_at, space_of};
 ghost use Rattle.tg_space.specs.SpaceTable.{IsFull, IsSpaceTable, used_of};
 ghost use Rattle.tg_space.specs.Soundness.{IsKindAt};
+ghost use Rattle.tg_space.specs.Generations.{AreRemembered};
 ghost use Rattle.tg_nursery.specs.Allocation.{HasFewerLeft, HasLeft, room_made_for};
 ghost use Rattle.tg_graph.specs.Content.{IsNamed};
 ghost use Rattle.tg_graph.specs.Heap.{IsGraph, IsOutOfCells, content_in, rights_found};
 ghost use Rattle.tg_graph.specs.Rows.{IsVertexAt, name_at};
 ghost use Rattle.tg_graph.specs.Opened.{TakesOneCell};
-ghost use Rattle.tg_graph.specs.Spots.{IsPutInRow};
+ghost use Rattle.tg_graph.specs.Spots.{IsPutInRow, with_note};
 ghost use Rattle.tg_graph.specs.Steps.{ChangesTo, KeepsRows};
 
 use crate::heap::{Found, VertexRefused};
@@ -27,13 +29,13 @@ use tg_nursery::{AllocateFault, reserve};
 use tg_payload::{Draft, Payload, PayloadTable};
 use tg_remember::Remembered;
 use tg_rights::Rights;
-use tg_space::Spaces;
+use tg_space::{Kind, Spaces};
 use tg_word::{Place, place_of, rights_of};
 
 /// The word of an object that is the key of its payload.
 pub(crate) const KEY: usize = 2;
 
-/// The cells of all spaces, and what the objects among them store.
+/// The cells of all spaces, what the objects among them store, and which cells of Old are remembered.
 #[derive(Drop)]
 pub(crate) struct Cells<P: Payload> {
     pub(crate) alloc: Global,
@@ -99,13 +101,15 @@ impl<P: Payload> Cells<P> {
         ensures written { let content = content_in self.old.spaces.spaces self.old.payloads in
             OnOk result (ChangesTo self.old.spaces self.new.spaces self.new.payloads (IsNamed content) content.label (written_at content.value (name_at self.old.spaces.spaces at) number)) }
         ensures spaces { self.new.spaces ≡ self.old.spaces }
+        ensures places { self.new.remembered.places ≡ self.old.remembered.places }
         ensures refused { OnErr result (self.new.payloads ≡ self.old.payloads) }
     {
         let cell = self.spaces.cell(at);
         self.payloads.write(cell[KEY], number)
     }
 
-    /// Gives one object rights over another. Growth comes first: where it is refused, nothing is changed.
+    /// Gives one object rights over another, and notes the written cell if it has to be remembered. Growth comes first,
+    /// that of the spaces last: where it is refused, there may be room for one more note, and else nothing is changed.
     pub(crate) fn add_edge(
         &mut self,
         worker: u64,
@@ -124,18 +128,23 @@ impl<P: Payload> Cells<P> {
         ensures payloads { self.new.payloads ≡ self.old.payloads }
         ensures refused { OnErr result (self.new.spaces ≡ self.old.spaces) }
         ensures full { result ≡ Err AllocateFault.HeapFull → IsOutOfCells self.old.spaces (worker + 2) 1 }
-        ensures had_room { HasLeft self.old.spaces (worker + 2) 1 → IsOk result }
-        ensures placed { OnOk result (IsPutInRow self.old.spaces self.new.spaces (worker + 2) from to rights) }
+        ensures had_room { HasLeft self.old.spaces (worker + 2) 1 → length (space_of self.old.spaces.spaces 0) ≡ 0 → IsOk result }
+        ensures placed { OnOk result (IsPutInRow self.old.spaces self.new.spaces self.old.remembered.places self.new.remembered.places (worker + 2) from to rights) }
         ensures one_cell { OnOk result (TakesOneCell self.old.spaces self.new.spaces (worker + 2)) }
+        ensures remembered { AreRemembered self.old.spaces.spaces self.old.remembered.places → AreRemembered self.new.spaces.spaces self.new.remembered.places }
+        ensures places { OnErr result (self.new.remembered.places ≡ self.old.remembered.places) }
     {
         let name = self.spaces.read(to, NAME);
         let spot = find_spot(&self.spaces, from, name);
-        reserve(&mut self.spaces, worker, spot.cells())?;
+        let note = spot.note(Kind::Nursery.moves(to.space));
+        self.make_room(worker, note, spot.cells())?;
         put(&mut self.spaces, worker, spot, to, rights);
+        remember(&mut self.remembered, note);
         Ok(())
     }
 
-    /// Takes rights over a vertex from an object. A reference that has none left becomes the empty word.
+    /// Takes rights over a vertex from an object. A reference that has none left becomes the empty word. What is
+    /// remembered stays.
     pub(crate) fn drop_rights(&mut self, from: Place, name: u64, rights: Rights)
         requires graph { IsGraph self.old.spaces.spaces self.old.payloads }
         requires from { IsKindAt self.old.spaces.spaces Object from }
@@ -143,14 +152,17 @@ impl<P: Payload> Cells<P> {
             ChangesTo self.old.spaces self.new.spaces self.old.payloads (IsNamed content)
             (without_rights content.label (name_at self.old.spaces.spaces from) name rights) content.value }
         ensures payloads { self.new.payloads ≡ self.old.payloads }
+        ensures remembered { AreRemembered self.old.spaces.spaces self.old.remembered.places → AreRemembered self.new.spaces.spaces self.old.remembered.places }
+        ensures places { self.new.remembered.places ≡ self.old.remembered.places }
     {
         if let Spot::Reference { cell, index } = find_spot(&self.spaces, from, name) {
             narrow(&mut self.spaces, cell, index, rights);
         }
     }
 
-    /// Makes an object with a name that none has, and gives another one rights over it. Growth comes first, that of the
-    /// spaces last: where it is refused, there may be room for one more payload, and else nothing is changed.
+    /// Makes an object with a name that none has, gives another one rights over it, and notes the written cell if it has
+    /// to be remembered. Growth comes first, that of the spaces last: where it is refused, there may be room for one more
+    /// payload and one more note, and else nothing is changed.
     pub(crate) fn new_vertex(
         &mut self,
         worker: u64,
@@ -170,24 +182,35 @@ impl<P: Payload> Cells<P> {
         ensures handed_back { IfErr result (λ refused. refused.draft ≡ draft) }
         ensures spaces { OnErr result (self.new.spaces ≡ self.old.spaces) }
         ensures payloads { OnErr result (self.new.payloads.entries ≡ self.old.payloads.entries) }
+        ensures places { OnErr result (self.new.remembered.places ≡ self.old.remembered.places) }
+        ensures remembered { AreRemembered self.old.spaces.spaces self.old.remembered.places → AreRemembered self.new.spaces.spaces self.new.remembered.places }
         ensures full { IfErr result (λ refused. refused.why ≡ AllocateFault.HeapFull → IsOutOfCells self.old.spaces (worker + 2) 2) }
     {
         let spot = find_spot(&self.spaces, from, name);
-        if let Err(why) = self.make_room(worker, 1 + spot.cells()) {
+        let note = spot.note(true);
+        if let Err(why) = self.make_vertex_room(worker, note, 1 + spot.cells()) {
             return Err(VertexRefused { draft, why });
         }
         let to = self.place_vertex(worker, name, draft);
         put(&mut self.spaces, worker, spot, to, rights);
+        remember(&mut self.remembered, note);
         Ok(())
     }
 
-    // Makes room for one payload, and then for so many cells of a nursery.
-    fn make_room(&mut self, worker: u64, cells: u64) -> Result<(), AllocateFault>
+    // Makes room for one payload, then for a note, and then for so many cells of a nursery.
+    fn make_vertex_room(
+        &mut self,
+        worker: u64,
+        note: Option<Place>,
+        cells: u64,
+    ) -> Result<(), AllocateFault>
         requires few { worker < 64 }
         requires few_cells { cells ≤ 64 }
         requires nursery { worker + 2 < length self.old.spaces.spaces }
         ensures payloads { self.new.payloads.entries ≡ self.old.payloads.entries }
+        ensures remembered { self.new.remembered.places ≡ self.old.remembered.places }
         ensures spare { OnOk result (0 < self.new.payloads.spare) }
+        ensures note { OnOk result (IfSome note (λ _. 0 < self.new.remembered.spare)) }
         ensures spaces { OnOk result (self.new.spaces ≡ room_made_for self.old.spaces (worker + 2) cells) }
         ensures table { OnOk result (IsSpaceTable self.new.spaces) }
         ensures left { OnOk result (HasLeft self.new.spaces (worker + 2) cells) }
@@ -195,6 +218,32 @@ impl<P: Payload> Cells<P> {
         ensures full { result ≡ Err AllocateFault.HeapFull → HasFewerLeft self.old.spaces (worker + 2) cells × IsFull self.old.spaces (worker + 2) }
     {
         let Ok(()) = self.payloads.reserve(1) else {
+            return Err(AllocateFault::OutOfMemory);
+        };
+        self.make_room(worker, note, cells)
+    }
+
+    // Makes room for a note, if there is one, and then for so many cells of a nursery.
+    fn make_room(
+        &mut self,
+        worker: u64,
+        note: Option<Place>,
+        cells: u64,
+    ) -> Result<(), AllocateFault>
+        requires few { worker < 64 }
+        requires few_cells { cells ≤ 64 }
+        requires nursery { worker + 2 < length self.old.spaces.spaces }
+        ensures payloads { self.new.payloads ≡ self.old.payloads }
+        ensures remembered { self.new.remembered.places ≡ self.old.remembered.places }
+        ensures note { OnOk result (IfSome note (λ _. 0 < self.new.remembered.spare)) }
+        ensures spaces { OnOk result (self.new.spaces ≡ room_made_for self.old.spaces (worker + 2) cells) }
+        ensures table { OnOk result (IsSpaceTable self.new.spaces) }
+        ensures left { OnOk result (HasLeft self.new.spaces (worker + 2) cells) }
+        ensures had_room { HasLeft self.old.spaces (worker + 2) cells → note ≡ None → IsOk result }
+        ensures refused { OnErr result (self.new.spaces ≡ self.old.spaces) }
+        ensures full { result ≡ Err AllocateFault.HeapFull → HasFewerLeft self.old.spaces (worker + 2) cells × IsFull self.old.spaces (worker + 2) }
+    {
+        let Ok(()) = reserve_note(&mut self.remembered, note) else {
             return Err(AllocateFault::OutOfMemory);
         };
         reserve(&mut self.spaces, worker, cells)
@@ -217,6 +266,8 @@ impl<P: Payload> Cells<P> {
         ensures used { self.new.spaces.used ≡ slice_set self.old.spaces.used (worker + 2) (used_of self.old.spaces (worker + 2) + 1) }
         ensures blocks { (space : ℕ) → length (space_of self.new.spaces.spaces space) ≡ length (space_of self.old.spaces.spaces space) }
         ensures spare_left { self.old.payloads.spare ≤ self.new.payloads.spare + 1 }
+        ensures remembered { (places : List Place) → AreRemembered self.old.spaces.spaces places → AreRemembered self.new.spaces.spaces places }
+        ensures notes { self.new.remembered ≡ self.old.remembered }
     {
         let key = match self.payloads.insert(draft) {
             Ok(key) => key,
@@ -226,5 +277,28 @@ impl<P: Payload> Cells<P> {
         self.spaces
             .write_cell(place, [OBJECT_TAG, name, key, 0, 0, 0, 0, 0]);
         place
+    }
+}
+
+// Makes room for the note of a cell, if there is one.
+fn reserve_note(remembered: &mut Remembered, note: Option<Place>) -> Result<(), AllocError>
+    ensures places { remembered.new.places ≡ remembered.old.places }
+    ensures room { OnOk result (IfSome note (λ _. 0 < remembered.new.spare)) }
+    ensures none { note ≡ None → IsOk result }
+{
+    if note.is_some() {
+        remembered.reserve()?;
+    }
+    Ok(())
+}
+
+// Remembers a cell, if there is one. There is room for it.
+fn remember(remembered: &mut Remembered, note: Option<Place>)
+    requires { IfSome note (λ _. 0 < remembered.old.spare) }
+    ensures noted { remembered.new.places ≡ with_note remembered.old.places note }
+    ensures members { (q : Place) → Contains remembered.new.places q ↔ (Contains remembered.old.places q ⊎ (note ≡ Some q)) }
+{
+    if let Some(cell) = note {
+        remembered.note(cell);
     }
 }

@@ -18,6 +18,7 @@ use std::marker::Model;
 use tg_model::{EdgeList, Numbers, Opening};
 use tg_nursery::AllocateFault;
 use tg_payload::{Draft, Payload, PayloadTable};
+use tg_remember::Remembered;
 use tg_rights::{Label, Rights};
 use tg_space::{Limits, Spaces};
 use tg_word::Place;
@@ -123,6 +124,13 @@ impl<P: Payload> Heap<P> {
         &self.cells.spaces
     }
 
+    /// The cells of Old that are remembered, in the order in which they were noted. Takes no memory.
+    pub fn remembered(&self) -> &Remembered
+        ensures { result.now.places ≡ self.now.remembered }
+    {
+        &self.cells.remembered
+    }
+
     /// The payloads, each under the key of its object. Takes no memory.
     pub fn payloads(&self) -> &PayloadTable<P>
         ensures { result.now ≡ self.now.payloads }
@@ -164,6 +172,7 @@ impl<P: Payload> Heap<P> {
         ensures written { OnOk result (IsContent (content_of self.new) (IsNamed (content_of self.old)) (content_of self.old).label
             (written_at (content_of self.old).value (name_of self.old at) number)) }
         ensures kept { OnOk result (KeepsPlaces self.old self.new) }
+        ensures remembered { self.new.remembered ≡ self.old.remembered }
         ensures refused { OnErr result (self.new ≡ self.old) }
     {
         self.cells.write(at, number)
@@ -171,10 +180,11 @@ impl<P: Payload> Heap<P> {
 
     /// Gives the vertex at one place rights over the vertex at another. Where the row has a reference to it, that gets
     /// the rights too; else the first empty place of the row gets a new reference, or a new chunk from the nursery of
-    /// a worker.
+    /// a worker. A cell of Old that names a young one then is remembered.
     ///
-    /// It is refused where a chunk is needed and memory for its block was refused (`OutOfMemory`), or the nursery is
-    /// used up and gets no more blocks (`HeapFull`); then nothing is changed.
+    /// It is refused where memory for the block of a chunk, or for the note of a cell, was refused (`OutOfMemory`), or
+    /// where a chunk is needed and the nursery is used up and gets no more blocks (`HeapFull`). Then nothing is changed but
+    /// that there may be room for one more note.
     pub fn add_edge(
         &mut self,
         worker: u64,
@@ -187,7 +197,7 @@ impl<P: Payload> Heap<P> {
         requires to { IsObject self.old to }
         ensures added { OnOk result (IsContent (content_of self.new) (IsNamed (content_of self.old))
             (with_rights (content_of self.old).label (name_of self.old from) (name_of self.old to) label) (content_of self.old).value) }
-        ensures placed { OnOk result (IsPutInRow self.old.table self.new.table (worker + 2) from to label) }
+        ensures placed { OnOk result (IsPutInRow self.old.table self.new.table self.old.remembered self.new.remembered (worker + 2) from to label) }
         ensures kept { OnOk result (KeepsPlaces self.old self.new) }
         ensures refused { OnErr result (self.new ≡ self.old) }
         ensures full { result ≡ Err AllocateFault.HeapFull → IsOutOfCells self.old.table (worker + 2) 1 }
@@ -202,16 +212,18 @@ impl<P: Payload> Heap<P> {
         ensures dropped { IsContent (content_of self.new) (IsNamed (content_of self.old))
             (without_rights (content_of self.old).label (name_of self.old from) name label) (content_of self.old).value }
         ensures kept { KeepsPlaces self.old self.new }
+        ensures remembered { self.new.remembered ≡ self.old.remembered }
     {
         self.cells.drop_rights(from, name, label.rights());
     }
 
     /// Makes a vertex with a name that none has, which stores the draft's payload, and gives a worker rights over it.
-    /// All growth comes before any change, that of the blocks last.
+    /// All growth comes before any change, that of the blocks last. A cell of Old that names the vertex, or a new chunk,
+    /// is remembered.
     ///
     /// It is refused where memory was (`OutOfMemory`), and where the nursery of the worker has too few cells left and
     /// gets no more blocks (`HeapFull`). Then the draft comes back, and nothing is changed but that there may be room
-    /// for one more payload.
+    /// for one more payload and one more note.
     pub fn new_vertex(
         &mut self,
         worker: u64,

@@ -30,7 +30,7 @@ pub fn what_a_heap_lacks_holds_no_rights()
     ensures { (s : HeapState) → OnlyNamedHold (content_of s) }
 {}
 
-/// A heap that is unchanged, but for room for payloads, has the same content, and stands for the same graph.
+/// A heap that is unchanged, but for room for payloads and notes, has the same content, and stands for the same graph.
 pub fn an_unchanged_heap_has_the_same_content()
     ensures same { (old new : HeapState) → IsUnchanged old new → IsSameContent (content_of old) (content_of new) }
     ensures stands { (old new : HeapState) (g : ProtectionGraph) →

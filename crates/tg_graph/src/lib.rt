@@ -22,8 +22,12 @@
 //! and names, keys and the targets of a row are each once. Contracts see a heap as a record; a vertex is named to most
 //! calls by the place of its object, which calls other than a collection never move.
 //!
-//! **Growth comes first.** A call that may need memory asks for all of it before it changes anything, for the block
-//! last. So a refused call leaves the cells as they were, blocks included; at most there is room for one more payload.
+//! **The remembered set.** Each cell of Old with a reference or a link to a young cell is remembered, so a nursery
+//! collection looks at no other cell of Old. A call that writes such a word notes the cell; no other call changes the set.
+//!
+//! **Growth comes first.** A call that may need memory asks for all of it before it changes anything: for a payload,
+//! then for a note, and for the block last. So a refused call leaves the cells as they were, blocks included; at most
+//! there is room for one more payload and one more note.
 //! `find_edge`, `drop_rights` and the readers without `Result` take no memory.
 //!
 //! **Who may call.** Rules decide and change by these calls; a store opens a heap, and hands its `roots` to a

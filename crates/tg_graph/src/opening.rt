@@ -9,6 +9,7 @@ ghost use Rattle.tg_block.specs.declared.CellKind.TheVariants.{Object};
 ghost use Rattle.tg_space.specs.SpaceList.{space_of};
 ghost use Rattle.tg_space.specs.SpaceTable.{AreLimits, IsSpaceTable, no_blocks, used_of};
 ghost use Rattle.tg_space.specs.Soundness.{IsKindAt};
+ghost use Rattle.tg_space.specs.Generations.{AreRemembered};
 ghost use Rattle.tg_nursery.specs.Allocation.{HasLeft};
 ghost use Rattle.tg_graph.specs.Content.{IsNamed};
 ghost use Rattle.tg_graph.specs.Heap.{IsGraph, content_in};
@@ -46,6 +47,7 @@ pub(crate) fn opened<P: Payload>(
     requires { drafts.items ≡ opening.now.values }
     ensures opened { IfOk result (λ parts. IsOpened parts.0.spaces parts.0.payloads parts.1.items opening.now.workers limits (label_in opening.now.edges) opening.now.values) }
     ensures workers { IfOk result (λ parts. length parts.1.items ≡ opening.now.workers) }
+    ensures remembered { IfOk result (λ parts. AreRemembered parts.0.spaces.spaces parts.0.remembered.places) }
     ensures plan { IsPlan opening.now }
     ensures handed_back { IfErr result (λ refused. refused.drafts.items ≡ drafts.items) }
     ensures full { IfErr result (λ refused. refused.why ≡ AllocateFault.HeapFull → limits.max_blocks < opening.now.workers) }
@@ -79,6 +81,7 @@ fn with_room<P: Payload>(
     ensures places { IfOk result (λ room. room.places.items ≡ []) }
     ensures capacity { IfOk result (λ room. workers ≤ vec_capacity room.places) }
     ensures row { IfOk result (λ room. length room.row.items ≡ workers) }
+    ensures remembered { IfOk result (λ room. room.cells.remembered.places ≡ []) }
     ensures full { IfErr result (λ why. why ≡ AllocateFault.HeapFull → limits.max_blocks < workers) }
 {
     if limits.max_blocks() < workers {
@@ -105,6 +108,7 @@ fn empty_room<P: Payload>(
     ensures places { IfOk result (λ room. room.places.items ≡ []) }
     ensures capacity { IfOk result (λ room. workers ≤ vec_capacity room.places) }
     ensures row { IfOk result (λ room. length room.row.items ≡ workers) }
+    ensures remembered { IfOk result (λ room. room.cells.remembered.places ≡ []) }
 {
     let spaces = Spaces::new(alloc, workers, limits)?;
     let mut payloads = PayloadTable::new(alloc);
@@ -149,6 +153,7 @@ fn place_workers<P: Payload>(cells: &mut Cells<P>, places: &mut Vec<Place>, draf
     ensures opened { IsOpened cells.new.spaces cells.new.payloads places.new.items (length drafts.items) cells.old.spaces.limits no_labels drafts.items }
     ensures count { length places.new.items ≡ length drafts.items }
     ensures unused { (x : ℕ) → used_of cells.new.spaces (x + 2) ≤ 1 }
+    ensures remembered { cells.new.remembered ≡ cells.old.remembered }
 {
     for draft in drafts {
         let name = places.len() as u64;
@@ -168,10 +173,13 @@ fn add_edges<P: Payload>(cells: &mut Cells<P>, places: &[Place], row: &mut [Righ
     requires labels { (x y : ℕ) → (content_in cells.old.spaces.spaces cells.old.payloads).label x y ≡ no_rights }
     requires unused { (x : ℕ) → used_of cells.old.spaces (x + 2) ≤ 1 }
     requires blocks { (x : ℕ) → x < length places.now → 1 ≤ length (space_of cells.old.spaces.spaces (x + 2)) }
+    requires old { length (space_of cells.old.spaces.spaces 0) ≡ 0 }
     ensures added { let content = content_in cells.old.spaces.spaces cells.old.payloads in
         ChangesTo cells.old.spaces cells.new.spaces cells.old.payloads (IsNamed content) (label_in edges.now) content.value }
     ensures payloads { cells.new.payloads ≡ cells.old.payloads }
     ensures block_counts { (space : ℕ) → length (space_of cells.old.spaces.spaces space) ≤ length (space_of cells.new.spaces.spaces space) }
+    ensures still_old { length (space_of cells.new.spaces.spaces 0) ≡ 0 }
+    ensures remembered { AreRemembered cells.old.spaces.spaces cells.old.remembered.places → AreRemembered cells.new.spaces.spaces cells.new.remembered.places }
 {
     for from in 0..places.len() as u64 {
         read_row(edges, from, row);
@@ -213,11 +221,14 @@ fn add_row<P: Payload>(cells: &mut Cells<P>, from: u64, places: &[Place], row: &
     requires labels { (y : ℕ) → (content_in cells.old.spaces.spaces cells.old.payloads).label from y ≡ no_rights }
     requires unused { used_of cells.old.spaces (from + 2) ≤ 1 }
     requires block { 1 ≤ length (space_of cells.old.spaces.spaces (from + 2)) }
+    requires old { length (space_of cells.old.spaces.spaces 0) ≡ 0 }
     ensures added { let content = content_in cells.old.spaces.spaces cells.old.payloads in
         ChangesTo cells.old.spaces cells.new.spaces cells.old.payloads (IsNamed content) (with_row content.label from row.now) content.value }
     ensures payloads { cells.new.payloads ≡ cells.old.payloads }
     ensures others { (space : ℕ) → space ≢ from + 2 → used_of cells.new.spaces space ≡ used_of cells.old.spaces space }
     ensures blocks { (space : ℕ) → length (space_of cells.old.spaces.spaces space) ≤ length (space_of cells.new.spaces.spaces space) }
+    ensures still_old { length (space_of cells.new.spaces.spaces 0) ≡ 0 }
+    ensures remembered { AreRemembered cells.old.spaces.spaces cells.old.remembered.places → AreRemembered cells.new.spaces.spaces cells.new.remembered.places }
 {
     for (to, rights) in row.iter().enumerate() {
         add_some(cells, from, places[from as usize], places[to], *rights);
@@ -231,11 +242,13 @@ fn add_some<P: Payload>(cells: &mut Cells<P>, worker: u64, from: Place, to: Plac
     requires from { IsKindAt cells.old.spaces.spaces Object from }
     requires to { IsKindAt cells.old.spaces.spaces Object to }
     requires room { is_none_held rights ≡ false → HasLeft cells.old.spaces (worker + 2) 1 }
+    requires old { length (space_of cells.old.spaces.spaces 0) ≡ 0 }
     ensures added { let content = content_in cells.old.spaces.spaces cells.old.payloads in
         ChangesTo cells.old.spaces cells.new.spaces cells.old.payloads (IsNamed content)
         (with_rights content.label (name_at cells.old.spaces.spaces from) (name_at cells.old.spaces.spaces to) rights) content.value }
     ensures payloads { cells.new.payloads ≡ cells.old.payloads }
     ensures one_cell { TakesOneCell cells.old.spaces cells.new.spaces (worker + 2) }
+    ensures remembered { AreRemembered cells.old.spaces.spaces cells.old.remembered.places → AreRemembered cells.new.spaces.spaces cells.new.remembered.places }
     ensures nothing { is_none_held rights ≡ true → cells.new.spaces ≡ cells.old.spaces }
 {
     if rights.is_empty() {

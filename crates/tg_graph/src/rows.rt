@@ -7,11 +7,11 @@ ghost use Rattle.tg_space.specs.SpaceTable.{IsSpaceTable};
 ghost use Rattle.tg_space.specs.Soundness.{AreSound, IsReference};
 ghost use Rattle.tg_graph.specs.Rows.{IsRow, edges_in, row_words};
 ghost use Rattle.tg_space.specs.Rows.{chunks_from, link_at};
-ghost use Rattle.tg_graph.specs.Spots.{IsSpotFor, cells_for, is_empty, refers_to, spot_for_new as new_spot};
+ghost use Rattle.tg_graph.specs.Spots.{IsSpotFor, cells_for, is_empty, note_for, old_cell_if, refers_to, spot_for_new as new_spot};
 
 use std::alloc::{AllocError, Global};
 use tg_rights::Label;
-use tg_space::{Spaces, first_pointer};
+use tg_space::{Kind, Spaces, first_pointer};
 use tg_word::{Place, place_of, rights_of};
 
 /// The word of an object or a chunk that links to the next chunk.
@@ -41,6 +41,28 @@ impl Spot {
             _ => 0,
         }
     }
+
+    /// The cell of Old that names a young one once a reference was put here, if there is one. The new reference may
+    /// name a young cell, and a link to a new chunk always does.
+    pub(crate) fn note(self, young: bool) -> Option<Place>
+        ensures { result ≡ note_for self young }
+    {
+        match self {
+            Spot::Reference { .. } => None,
+            Spot::Empty { cell, .. } => old_cell(cell, young),
+            Spot::Full { last } => old_cell(last, true),
+        }
+    }
+}
+
+// The cell, if it is in Old and this is asked for.
+fn old_cell(cell: Place, wanted: bool) -> Option<Place>
+    ensures { result ≡ old_cell_if wanted cell }
+{
+    if wanted && !Kind::Nursery.moves(cell.space) {
+        return Some(cell);
+    }
+    None
 }
 
 /// Finds where the reference to a name stands in the row of an object, or else the first empty place in chain order,

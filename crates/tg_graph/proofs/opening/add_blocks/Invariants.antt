@@ -13,6 +13,7 @@ invariant-loop-worker l = record {
   limits : l.spaces.limits ≡ l.initial.spaces.limits;
   done : (x : ℕ) → x < l.worker → 1 ≤ length (space_of l.spaces.spaces (x + 2));
   left : (x : ℕ) → l.worker ≤ x → length (space_of l.spaces.spaces (x + 2)) ≡ 0;
+  old : length (space_of l.spaces.spaces 0) ≡ 0;
   count : block_count l.spaces.spaces ≤ l.worker;
   free : (p : Place) → Holds l.spaces.spaces p → cell_at l.spaces.spaces p ≡ free_cell;
 }

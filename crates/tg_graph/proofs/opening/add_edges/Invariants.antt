@@ -1,6 +1,7 @@
 use Rattle.std.proofs.Common.{◌≡◌, ◌+◌, ◌≤◌, ℕ, length}
 use Rattle.tg_space.specs.SpaceList.{space_of}
 use Rattle.tg_space.specs.SpaceTable.{used_of}
+use Rattle.tg_space.specs.Generations.{AreRemembered}
 use Rattle.tg_graph.specs.Content.{IsNamed}
 use Rattle.tg_graph.specs.Heap.{content_in}
 use Rattle.tg_graph.specs.Opened.{labels_before}
@@ -15,5 +16,7 @@ invariant-loop-from g l =
       added : ChangesTo before.spaces l.cells.spaces before.payloads (IsNamed content) (labels_before l.edges l.from) content.value;
       payloads : l.cells.payloads ≡ before.payloads;
       unused : (x : ℕ) → l.from ≤ x → used_of l.cells.spaces (x + 2) ≤ 1;
+      old : length (space_of l.cells.spaces.spaces 0) ≡ 0;
+      remembered : AreRemembered before.spaces.spaces before.remembered.places → AreRemembered l.cells.spaces.spaces l.cells.remembered.places;
       blocks : (space : ℕ) → length (space_of before.spaces.spaces space) ≤ length (space_of l.cells.spaces.spaces space);
     }

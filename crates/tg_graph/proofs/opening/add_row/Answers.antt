@@ -62,6 +62,8 @@ loop-to-preserved g c =
       payloads = step.payloads ∙ before.payloads;
       others = λ space ne. step.one_cell.others space ne ∙ before.others space ne;
       blocks = λ space. let a = before.blocks space in let b = step.one_cell.blocks space in omega arith;
+      old = let a = before.old in let b = step.one_cell.old_space in omega arith;
+      remembered = λ formed. step.remembered (before.remembered formed);
       used = omega arith;
       used_past = λ past.
           ⊎_elim

@@ -1,6 +1,7 @@
 use Rattle.std.proofs.Common.{◌≡◌, ◌≢◌, ◌+◌, ◌<◌, ◌≤◌, ℕ, length, take}
 use Rattle.tg_space.specs.SpaceList.{space_of}
 use Rattle.tg_space.specs.SpaceTable.{used_of}
+use Rattle.tg_space.specs.Generations.{AreRemembered}
 use Rattle.tg_graph.specs.Content.{IsNamed}
 use Rattle.tg_graph.specs.Heap.{content_in}
 use Rattle.tg_graph.specs.Opened.{with_row}
@@ -16,6 +17,8 @@ invariant-loop-to g l =
       payloads : l.cells.payloads ≡ before.payloads;
       others : (space : ℕ) → space ≢ l.from + 2 → used_of l.cells.spaces space ≡ used_of before.spaces space;
       blocks : (space : ℕ) → length (space_of before.spaces.spaces space) ≤ length (space_of l.cells.spaces.spaces space);
+      old : length (space_of l.cells.spaces.spaces 0) ≡ 0;
+      remembered : AreRemembered before.spaces.spaces before.remembered.places → AreRemembered l.cells.spaces.spaces l.cells.remembered.places;
       used : used_of l.cells.spaces (l.from + 2) ≤ l.to + 1;
       used_past : l.from < l.to → used_of l.cells.spaces (l.from + 2) ≤ l.to;
     }

@@ -1,4 +1,4 @@
-use Rattle.std.proofs.Common.{◌≡◌, ◌≢◌, ◌∙◌, ◌+◌, ℕ, List, length, get_or, ap, sym, subst, arith, ⊎_elim, if◌then◌else◌, [], ◌++◌, ◌∷◌}
+use Rattle.std.proofs.Common.{◌≡◌, ◌≢◌, ◌∙◌, ◌+◌, ℕ, List, length, get_or, ap, sym, subst, arith, ⊎_elim, if◌then◌else◌, [], ◌++◌, ◌∷◌, refl}
 use Rattle.std.specs.Prelude.{is_ok}
 use Rattle.std.proofs.lemmas.Bool.{cases_eq}
 use Rattle.std.proofs.lemmas.List.{length_push, get_or-set_other}
@@ -25,6 +25,7 @@ loop-draft-init g c =
       used = λ x. let e = c.requires.blocks.unused (x + 2) in omega arith;
       unused = λ x high. c.requires.blocks.unused (x + 2);
       spare = let e = c.requires.spare in omega arith;
+      remembered = refl;
       capacity = c.requires.capacity;
     }
 
@@ -57,5 +58,6 @@ loop-draft-preserved g c =
           (cases_eq (x + 2) (name + 2));
       unused = λ x high. let ne : x + 2 ≢ name + 2 = λ same. omega (arith, same, high, long, named, count) in other x ne ∙ before.unused x (omega (arith, high, long));
       spare = let a = before.spare in let b = step.spare_left in omega (arith, a, b, long);
+      remembered = step.notes ∙ before.remembered;
       capacity = let a = before.capacity in let b = c.push.ensures.capacity in omega (arith, a, b);
     }

@@ -11,5 +11,6 @@ invariant-loop-draft g l = record {
   used : (x : ℕ) → used_of l.cells.spaces (x + 2) ≤ 1;
   unused : (x : ℕ) → length l.yielded ≤ x → used_of l.cells.spaces (x + 2) ≡ 0;
   spare : length l.fn.drafts.items ≤ l.cells.payloads.spare + length l.yielded;
+  remembered : l.cells.remembered ≡ l.initial.cells.remembered;
   capacity : length l.fn.drafts.items ≤ vec_capacity l.places;
 }

@@ -1,40 +1,68 @@
-use Rattle.std.proofs.Common.{◌≡◌, ◌∙◌, ◌+◌, ap, arith, subst, sym}
+use Rattle.std.proofs.Common.{◌≡◌, ◌≢◌, ◌∙◌, ◌+◌, List, Option, true, false, ap, arith, subst, sym}
 use Rattle.tg_nursery.specs.Allocation.{room_made_for}
-use Rattle.tg_graph.specs.Spots.{IsSpotFor, cells_for, table_put}
+use Rattle.tg_graph.specs.Spots.{IsSpotFor, cells_for, note_for, table_put, with_note}
 use Rattle.tg_space.specs.SpaceTable.{SpaceTable}
 use Rattle.tg_graph.specs.Opened.{TakesOneCell}
 use Rattle.tg_graph.proofs.Openings.{takes_one_cell}
-use Rattle.tg_graph.proofs.Growing.{added_can, added_changes}
+use Rattle.tg_word.specs.declared.Place.{Place}
+use Rattle.tg_graph.proofs.Growing.{added_can, added_changes, added_remembered}
+use Rattle.tg_graph.proofs.Remembering.{AreNoted, cells_few, is_young, nothing_noted}
 use Rattle.tg_graph.proofs.cells.Cells.add_edge.Goals as goal
 
 pub put-requires-clause-can : goal.put-requires-clause-can
 put-requires-clause-can g c =
-    let made = c.in_ok-reserve.ensures in
-    added_can c.args.self.now.spaces c.reserve.new.spaces c.args.self.now.payloads c.find_spot-spot.ensures.table made.table c.requires.graph (c.args.worker + 2) c.cells.result c.requires.worker made.exact
-    c.args.from c.requires.from c.read-name.result c.find_spot-spot.result c.find_spot-spot.ensures.spot made.room c.cells.ensures
+    let made = c.in_ok-make_room.ensures in
+    added_can c.args.self.now.spaces c.make_room.new.self.spaces c.args.self.now.payloads c.find_spot-spot.ensures.table made.table c.requires.graph (c.args.worker + 2) c.cells.result c.requires.worker made.spaces
+    c.args.from c.requires.from c.read-name.result c.find_spot-spot.result c.find_spot-spot.ensures.spot made.left c.cells.ensures
 
 pub returns-clause-added : goal.returns-clause-added
 returns-clause-added g c =
-    let made = c.in_ok-reserve.ensures in
-    added_changes c.args.self.now.spaces c.reserve.new.spaces c.args.self.now.payloads c.find_spot-spot.ensures.table made.table c.requires.graph (c.args.worker + 2) c.cells.result c.requires.worker made.exact
-    c.args.from c.requires.from c.read-name.result c.find_spot-spot.result c.find_spot-spot.ensures.spot made.room c.cells.ensures
+    let made = c.in_ok-make_room.ensures in
+    added_changes c.args.self.now.spaces c.make_room.new.self.spaces c.args.self.now.payloads c.find_spot-spot.ensures.table made.table c.requires.graph (c.args.worker + 2) c.cells.result c.requires.worker made.spaces
+    c.args.from c.requires.from c.read-name.result c.find_spot-spot.result c.find_spot-spot.ensures.spot made.left c.cells.ensures
     c.args.to c.requires.to c.read-name.ensures c.args.rights c.requires.some (omega arith) c.put.new.spaces c.put.ensures
 
 pub returns-clause-one_cell : goal.returns-clause-one_cell
 returns-clause-one_cell g c =
-    let made = c.in_ok-reserve.ensures in
-    let can = added_can c.args.self.now.spaces c.reserve.new.spaces c.args.self.now.payloads c.find_spot-spot.ensures.table made.table c.requires.graph (c.args.worker + 2) c.cells.result c.requires.worker made.exact
-    c.args.from c.requires.from c.read-name.result c.find_spot-spot.result c.find_spot-spot.ensures.spot made.room c.cells.ensures in
+    let made = c.in_ok-make_room.ensures in
+    let can = added_can c.args.self.now.spaces c.make_room.new.self.spaces c.args.self.now.payloads c.find_spot-spot.ensures.table made.table c.requires.graph (c.args.worker + 2) c.cells.result c.requires.worker made.spaces
+    c.args.from c.requires.from c.read-name.result c.find_spot-spot.result c.find_spot-spot.ensures.spot made.left c.cells.ensures in
     subst (λ (x : SpaceTable). TakesOneCell c.args.self.now.spaces x (c.args.worker + 2)) (sym c.put.ensures)
-    (takes_one_cell c.args.self.now.spaces c.reserve.new.spaces (c.args.worker + 2) c.cells.result c.find_spot-spot.result c.args.rights c.args.to c.requires.worker made.exact made.table (omega arith) can)
+    (takes_one_cell c.args.self.now.spaces c.make_room.new.self.spaces (c.args.worker + 2) c.cells.result c.find_spot-spot.result c.args.rights c.args.to c.requires.worker made.spaces made.table (omega arith) can)
 
 pub returns-clause-placed : goal.returns-clause-placed
 returns-clause-placed g c =
     let t = c.args.self.now.spaces in
     let spot = c.find_spot-spot.result in
     let space = c.args.worker + 2 in
-    let made : c.reserve.new.spaces ≡ room_made_for t space (cells_for spot) = c.in_ok-reserve.ensures.exact ∙ ap (room_made_for t space) c.cells.ensures in (
-      spot,
-      subst (λ n. IsSpotFor t.spaces n c.args.from spot) c.read-name.ensures c.find_spot-spot.ensures.spot,
-      c.put.ensures ∙ ap (λ (x : SpaceTable). table_put x space spot c.args.rights c.args.to) made,
-    )
+    let made : c.make_room.new.self.spaces ≡ room_made_for t space (cells_for spot) = c.in_ok-make_room.ensures.spaces ∙ ap (room_made_for t space) c.cells.ensures in
+    record {
+      spot = spot;
+      found = subst (λ n. IsSpotFor t.spaces n c.args.from spot) c.read-name.ensures c.find_spot-spot.ensures.spot;
+      put = c.put.ensures ∙ ap (λ (x : SpaceTable). table_put x space spot c.args.rights c.args.to) made;
+      noted = c.remember.ensures.noted ∙ ap (λ (ps : List Place). with_note ps c.note-note.result) c.make_room.ensures.remembered
+          ∙ ap (with_note c.args.self.now.remembered.places) (c.note-note.ensures ∙ ap (note_for spot) c.moves.ensures);
+    }
+
+pub returns-clause-remembered : goal.returns-clause-remembered
+returns-clause-remembered g c =
+    λ before.
+    let t = c.args.self.now.spaces in
+    let made = c.in_ok-make_room.ensures in
+    let young = c.moves.result in
+    let tells : c.args.to.space ≢ 0 → young ≡ true = λ far. c.moves.ensures ∙ is_young c.args.to.space far in
+    let places = c.args.self.now.remembered.places in
+    let later = c.remember.new.remembered.places in
+    let noted = subst (λ (o : Option Place). AreNoted places later o) c.note-note.ensures (subst (λ (ps : List Place). AreNoted ps later c.note-note.result) c.make_room.ensures.remembered c.remember.ensures.members) in
+    added_remembered t c.make_room.new.self.spaces c.args.self.now.payloads c.find_spot-spot.ensures.table made.table c.requires.graph (c.args.worker + 2) c.cells.result c.requires.worker made.spaces
+    c.args.from c.requires.from c.read-name.result c.find_spot-spot.result c.find_spot-spot.ensures.spot made.left c.cells.ensures
+    (omega arith) c.args.to c.requires.to c.args.rights young tells c.args.self.now.remembered.places c.remember.new.remembered.places noted c.put.new.spaces c.put.ensures before
+
+pub returns-in_err-make_room-clause-had_room : goal.returns-in_err-make_room-clause-had_room
+returns-in_err-make_room-clause-had_room g c =
+    λ left none.
+    let t = c.args.self.now.spaces in
+    let few = cells_few c.find_spot-spot.result in
+    let nothing = nothing_noted t c.find_spot-spot.ensures.table c.args.self.now.payloads c.requires.graph c.args.from c.requires.from none c.read-name.result c.find_spot-spot.result c.moves.result c.find_spot-spot.ensures.spot in
+    let ok : false ≡ true = c.in_err-make_room.ensures.had_room (omega (arith, left, few, c.cells.ensures)) (c.note-note.ensures ∙ nothing) in
+    absurd cc

@@ -3,6 +3,7 @@ use Rattle.std.specs.Prelude.{slice_index}
 use Rattle.std.proofs.lemmas.List.{length-set}
 use Rattle.tg_space.specs.SpaceList.{cell_at, cells_of}
 use Rattle.tg_space.specs.SpaceTable.{SpaceTable}
+use Rattle.tg_space.specs.Generations.{AreRemembered}
 use Rattle.tg_space.proofs.Tables.{table_list}
 use Rattle.tg_model.specs.Graph.{without_rights}
 use Rattle.tg_graph.specs.Content.{IsNamed}
@@ -14,6 +15,7 @@ use Rattle.tg_graph.specs.Steps.{ChangesTo}
 use Rattle.tg_graph.proofs.Layouts.{present_place}
 use Rattle.tg_graph.proofs.Finding.{found_refers, none_found, none_refers, reference_found}
 use Rattle.tg_graph.proofs.Growing.{becomes_self, changes}
+use Rattle.tg_graph.proofs.Remembering.{narrowed_remembered}
 use Rattle.tg_graph.proofs.Putting.{can_write, narrowed_becomes, nothing_taken, relabel}
 use Rattle.tg_graph.proofs.cells.Cells.drop_rights.Goals as goal
 
@@ -43,6 +45,14 @@ returns-in-Reference-clause-dropped g c =
     subst (λ (x : SpaceTable). ChangesTo t x payloads (IsNamed content) label content.value) (sym c.narrow.ensures)
     (changes t (word_put t cell c.in-Reference.index (narrowed word c.args.rights)) payloads (IsNamed content) label content.value becomes (length-set t.spaces cell.space _) refl)
 
+pub returns-in-Reference-clause-remembered : goal.returns-in-Reference-clause-remembered
+returns-in-Reference-clause-remembered g c =
+    λ before.
+    let t = c.args.self.now.spaces in
+    let places = c.args.self.now.remembered.places in
+    subst (λ (x : SpaceTable). AreRemembered x.spaces places) (sym c.narrow.ensures)
+    (narrowed_remembered t c.find_spot.ensures.table c.args.self.now.payloads c.requires.graph c.args.from c.requires.from c.args.name c.args.rights c.in-Reference.cell c.in-Reference.index c.in-Reference.ensures.spot places before)
+
 pub returns-in_default : goal.returns-in_default
 returns-in_default g c =
     let t = c.args.self.now.spaces in
@@ -57,4 +67,6 @@ returns-in_default g c =
           (relabel t.spaces t.spaces payloads (IsNamed content) content.label label content.value (nothing_taken content.label from c.args.name c.args.rights nothing) (becomes_self t.spaces payloads c.requires.graph))
           refl refl;
       payloads = refl;
+      remembered = λ before. before;
+      places = refl;
     }

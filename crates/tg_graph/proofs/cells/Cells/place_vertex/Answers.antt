@@ -1,4 +1,5 @@
 use Rattle.std.proofs.Common.{◌∙◌, ◌+◌, ap, arith, subst}
+use Rattle.tg_word.specs.declared.Place.{Place}
 use Rattle.tg_space.specs.SpaceList.{with_cell_at}
 use Rattle.tg_space.specs.SpaceTable.{SpaceTable, IsHandedOut, with_spaces}
 use Rattle.tg_graph.specs.Steps.{vertex_words}
@@ -14,7 +15,7 @@ step g c =
     let words = vertex_words c.args.name c.in-Ok.key in
     let handed = c.hand_out-place.ensures in
     vertex_step t c.write_cell.new.self c.args.self.now.payloads c.insert.new.self (c.args.worker + 2) q c.args.name c.in-Ok.key c.args.draft
-    c.requires.table c.requires.graph (omega arith, c.requires.nursery) c.requires.left handed.held handed.free
+    c.requires.table c.requires.graph (omega arith, c.requires.nursery) c.requires.left handed.held (ap (λ (r : Place). r.space) handed.place) handed.free
     (subst (λ (x : SpaceTable). IsHandedOut x q) handed.counted handed.handed_out) c.requires.fresh c.in-Ok.ensures.fresh c.in-Ok.ensures.inserted
     (c.write_cell.ensures ∙ ap (λ (x : SpaceTable). with_spaces x (with_cell_at x.spaces q words)) handed.counted)
 
@@ -29,3 +30,6 @@ returns-clause-rows g c = (step g c).rows
 
 pub returns-clause-table : goal.returns-clause-table
 returns-clause-table g c = (step g c).table
+
+pub returns-clause-remembered : goal.returns-clause-remembered
+returns-clause-remembered g c = (step g c).remembered

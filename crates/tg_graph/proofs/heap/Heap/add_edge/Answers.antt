@@ -1,59 +1,59 @@
 use Rattle.tg_rights.specs.RightSet.{RightSet}
 use Rattle.tg_graph.specs.Spots.{IsPutInRow}
-use Rattle.std.proofs.Common.{◌+◌, subst, sym}
+use Rattle.std.proofs.Common.{◌≡◌, ◌+◌, subst, sym}
 use Rattle.std.proofs.lemmas.Result.{IfOk-weaker}
 use Rattle.tg_model.specs.Graph.{with_rights}
 use Rattle.tg_graph.specs.Content.{IsContent, IsNamed}
 use Rattle.tg_graph.specs.Heap.{HeapState, KeepsPlaces, content_of, name_of}
 use Rattle.tg_graph.specs.Steps.{ChangesTo}
-use Rattle.tg_graph.proofs.Heaps.{content_after, either_way, heap_with, places_kept, well_formed_after, well_formed_same}
+use Rattle.tg_graph.proofs.Heaps.{both_errors, content_after, either_way, heap_with, places_kept, well_formed_after, well_formed_same}
 use Rattle.tg_graph.proofs.heap.Heap.add_edge.Goals as goal
 
 pub invariant_of-self : goal.invariant_of-self
 invariant_of-self g c =
-    let s : HeapState = record { table = c.self.inside.cells.spaces; payloads = c.self.inside.cells.payloads; workers = c.self.inside.workers.items } in
+    let s : HeapState = record { table = c.self.inside.cells.spaces; payloads = c.self.inside.cells.payloads; workers = c.self.inside.workers.items; remembered = c.self.inside.cells.remembered.places } in
     let content = content_of s in
     let new = c.add_edge.new.self in
     let label = with_rights content.label (name_of s c.args.from) (name_of s c.args.to) c.rights.result in
-    either_way c.add_edge.result c.add_edge.ensures.added c.add_edge.ensures.refused
+    either_way c.add_edge.result c.add_edge.ensures.added (both_errors (new.spaces ≡ s.table) (new.remembered.places ≡ s.remembered) c.add_edge.result c.add_edge.ensures.refused c.add_edge.ensures.places)
     (λ added.
     let to = subst (λ p. ChangesTo s.table new.spaces p (IsNamed content) label content.value) (sym c.add_edge.ensures.payloads) added in
-    well_formed_after s new.spaces new.payloads (IsNamed content) label content.value to c.self.invariant)
-    (λ same. well_formed_same s new.spaces new.payloads c.self.invariant same c.add_edge.ensures.payloads)
+    well_formed_after s new.spaces new.payloads new.remembered.places (IsNamed content) label content.value to (c.add_edge.ensures.remembered c.self.invariant.remembered) c.self.invariant)
+    (λ same. well_formed_same s new.spaces new.payloads new.remembered.places c.self.invariant same.0 c.add_edge.ensures.payloads same.1)
 
 pub returns-clause-added : goal.returns-clause-added
 returns-clause-added g c =
-    let s : HeapState = record { table = c.self.inside.cells.spaces; payloads = c.self.inside.cells.payloads; workers = c.self.inside.workers.items } in
+    let s : HeapState = record { table = c.self.inside.cells.spaces; payloads = c.self.inside.cells.payloads; workers = c.self.inside.workers.items; remembered = c.self.inside.cells.remembered.places } in
     let content = content_of s in
     let new = c.add_edge.new.self in
-    let after = heap_with s new.spaces new.payloads in
+    let after = heap_with s new.spaces new.payloads new.remembered.places in
     let label = with_rights content.label (name_of s c.args.from) (name_of s c.args.to) c.rights.result in
     let Added : HeapState → Type 0 = λ x. IsContent (content_of after) (IsNamed (content_of x)) (with_rights (content_of x).label (name_of x c.args.from) (name_of x c.args.to) c.args.label) (content_of x).value in
     IfOk-weaker c.add_edge.result (λ _. ChangesTo s.table new.spaces s.payloads (IsNamed content) label content.value) (λ _. Added c.args.self.now)
     (λ _ added.
     let to = subst (λ p. ChangesTo s.table new.spaces p (IsNamed content) label content.value) (sym c.add_edge.ensures.payloads) added in
     let here = subst (λ r. IsContent (content_of after) (IsNamed content) (with_rights content.label (name_of s c.args.from) (name_of s c.args.to) r) content.value) c.rights.ensures.same
-    (content_after s new.spaces new.payloads (IsNamed content) label content.value to) in
+    (content_after s new.spaces new.payloads new.remembered.places (IsNamed content) label content.value to) in
     subst Added c.self.view_is here)
     c.add_edge.ensures.added
 
 pub returns-clause-kept : goal.returns-clause-kept
 returns-clause-kept g c =
-    let s : HeapState = record { table = c.self.inside.cells.spaces; payloads = c.self.inside.cells.payloads; workers = c.self.inside.workers.items } in
+    let s : HeapState = record { table = c.self.inside.cells.spaces; payloads = c.self.inside.cells.payloads; workers = c.self.inside.workers.items; remembered = c.self.inside.cells.remembered.places } in
     let content = content_of s in
     let new = c.add_edge.new.self in
-    let after = heap_with s new.spaces new.payloads in
+    let after = heap_with s new.spaces new.payloads new.remembered.places in
     let label = with_rights content.label (name_of s c.args.from) (name_of s c.args.to) c.rights.result in
     IfOk-weaker c.add_edge.result (λ _. ChangesTo s.table new.spaces s.payloads (IsNamed content) label content.value) (λ _. KeepsPlaces c.args.self.now after)
     (λ _ added.
     let to = subst (λ p. ChangesTo s.table new.spaces p (IsNamed content) label content.value) (sym c.add_edge.ensures.payloads) added in
-    subst (λ (x : HeapState). KeepsPlaces x after) c.self.view_is (places_kept s new.spaces new.payloads (IsNamed content) label content.value to))
+    subst (λ (x : HeapState). KeepsPlaces x after) c.self.view_is (places_kept s new.spaces new.payloads new.remembered.places (IsNamed content) label content.value to))
     c.add_edge.ensures.added
 
 pub returns-clause-placed : goal.returns-clause-placed
 returns-clause-placed g c =
-    let s : HeapState = record { table = c.self.inside.cells.spaces; payloads = c.self.inside.cells.payloads; workers = c.self.inside.workers.items } in
-    let new = c.add_edge.new.self.spaces in
-    let Placed : HeapState → RightSet → Type 0 = λ x r. IsPutInRow x.table new (c.args.worker + 2) c.args.from c.args.to r in
+    let s : HeapState = record { table = c.self.inside.cells.spaces; payloads = c.self.inside.cells.payloads; workers = c.self.inside.workers.items; remembered = c.self.inside.cells.remembered.places } in
+    let new = c.add_edge.new.self in
+    let Placed : HeapState → RightSet → Type 0 = λ x r. IsPutInRow x.table new.spaces x.remembered new.remembered.places (c.args.worker + 2) c.args.from c.args.to r in
     IfOk-weaker c.add_edge.result (λ _. Placed s c.rights.result) (λ _. Placed c.args.self.now c.args.label)
     (λ _ placed. subst (λ (x : HeapState). Placed x c.args.label) c.self.view_is (subst (λ r. Placed s r) c.rights.ensures.same placed)) c.add_edge.ensures.placed
