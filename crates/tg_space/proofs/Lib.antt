@@ -4,3 +4,4 @@ pub mod Tables
 pub mod Tracing
 pub mod Adding
 pub mod Pointing
+pub mod Moving

@@ -34,6 +34,7 @@ pub use limits::Limits;
 pub use space::Space;
 pub use spaces::{Adoption, AllocateFault, Kind, Root, Spaces, first_pointer};
 
+mod images;
 pub mod laws;
 mod limits;
 mod space;
