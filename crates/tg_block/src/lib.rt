@@ -103,6 +103,16 @@ impl Block {
         self.cells[at]
     }
 
+    /// The words of a cell, where they stand.
+    #[inline]
+    pub fn words(&self, at: usize) -> &[u64; WORDS]
+        requires { at < 64 }
+        ensures words { result.now ≡ cell_of self.now at }
+        ensures block { IsBlock self.now }
+    {
+        &self.cells[at]
+    }
+
     /// Sets the words of a cell; all other cells stay.
     #[inline]
     pub fn set_cell(&mut self, at: usize, words: [u64; WORDS])

@@ -64,6 +64,16 @@ impl Space {
         self.blocks[block as usize].cell(cell as usize)
     }
 
+    /// The words of a cell of a block, where they stand.
+    #[inline]
+    pub fn words(&self, block: u64, cell: u64) -> &[u64; WORDS]
+        requires block_inside { block < length self.now }
+        requires cell_inside { cell < 64 }
+        ensures { result.now ≡ cell_of (slice_index_or self.now block []) cell }
+    {
+        self.blocks[block as usize].words(cell as usize)
+    }
+
     /// Sets a word of a cell of a block.
     #[inline]
     pub fn set_word(&mut self, block: u64, cell: u64, i: usize, word: u64)

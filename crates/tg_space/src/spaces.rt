@@ -207,6 +207,18 @@ impl Spaces {
         self.spaces[place.space as usize].cell(place.block, place.cell)
     }
 
+    /// The words of a cell, where they stand.
+    #[inline]
+    pub fn words(&self, place: Place) -> &[u64; WORDS]
+        requires { Holds self.now.spaces place }
+        ensures words { result.now ≡ cell_at self.now.spaces place }
+        ensures numbered { result.now ≡ slice_index_or (cells_of self.now.spaces) (flat_of self.now.spaces place) [] }
+        ensures whole { length result.now ≡ 8 }
+        ensures table { IsSpaceTable self.now }
+    {
+        self.spaces[place.space as usize].words(place.block, place.cell)
+    }
+
     /// How many cells there are.
     pub fn cells(&self) -> u64
         ensures cells { result ≡ length (cells_of self.now.spaces) }
@@ -252,6 +264,16 @@ impl Spaces {
         ensures whole { length result ≡ 8 }
     {
         self.cell(self.unflat(number))
+    }
+
+    /// The words of the cell with a number, where they stand.
+    #[inline]
+    pub fn numbered_words(&self, number: u64) -> &[u64; WORDS]
+        requires { number < length (cells_of self.now.spaces) }
+        ensures words { result.now ≡ slice_index_or (cells_of self.now.spaces) number [] }
+        ensures whole { length result.now ≡ 8 }
+    {
+        self.words(self.unflat(number))
     }
 
     /// Hands out the next cell of a nursery, which is free.
