@@ -1,4 +1,1 @@
 pub mod Claiming
-pub mod Counting
-pub mod Copying
-pub mod Collecting

@@ -1,6 +1,13 @@
 //! The copy phase: images of the won cells in new blocks, with the forwarding words frozen.
-ghost use Rattle.std.specs.Prelude.{◌≡◌, ◌<◌, ◌≤◌, ◌^◌, ◌+◌, ◌-◌, ◌↔◌, ◌⊎◌, ℕ, [], ◌∷◌, ◌++◌, length, map, drop, IfErr, IfOk, IsTrue, OnOk, slice_index};
+ghost use Rattle.std.specs.Prelude.{◌≡◌, ℕ, ◌<◌, ◌≤◌, ◌^◌, ◌+◌, ◌↔◌, ◌⊎◌, [], length, IfOk, IsTrue, OnOk};
 ghost use Rattle.std.specs.List.{All, Contains};
+ghost use Rattle.tg_word.specs.declared.Place.{Place as PlaceOf};
+ghost use Rattle.tg_space.specs.Generations.{NamesYoung};
+ghost use Rattle.tg_space.specs.Soundness.{IsRootIn};
+ghost use Rattle.tg_space.specs.SpaceList.{IsSpace, cells_of};
+ghost use Rattle.tg_space.specs.declared.spaces.Root.TheVariants.{Remembered as RememberedAt};
+ghost use Rattle.tg_evac.specs.Claims.{AreApart, HavePointers, StandsAt, words_won};
+ghost use Rattle.tg_evac.specs.Copies.{HasNewPlace, HavePlaces, HoldCopies, IsGrown, IsYoungCopy, PutsCell, moved_cell};
 
 use crate::fault::CollectFault;
 use crate::plan::{OLD, Plan};
@@ -9,25 +16,52 @@ use std::alloc::{AllocError, Global};
 use tg_block::WORDS;
 use tg_remember::Remembered;
 use tg_space::{Adoption, Kind, Root, Space, Spaces, first_pointer};
-use tg_word::{Place, Slot, pack, place_of, rights_of};
+use tg_word::{Place, place_of};
 
-/// Notes the remembered cells that will name young ones.
+/// Notes the remembered cells that will name young ones, in order.
 pub fn note_roots(
     remembered: &mut Remembered,
     spaces: &Spaces,
     kind: Kind,
     forward: &[u64],
     roots: &[Root],
-) -> Result<(), CollectFault> {
+) -> Result<(), AllocError>
+    requires pointers { HavePointers spaces.now.spaces }
+    requires roots { All (IsRootIn spaces.now.spaces) roots.now }
+    requires whole { length forward.now ≡ length (cells_of spaces.now.spaces) }
+    requires places { HavePlaces forward.now }
+    ensures noted { OnOk result ((p : PlaceOf) → Contains remembered.new.places p ↔ (Contains remembered.old.places p ⊎ (Contains roots.now (RememberedAt p) × NamesYoung (moved_cell kind spaces.now.spaces forward.now p)))) }
+{
     for root in roots {
-        if let Root::Remembered(place) = *root {
-            note_young(remembered, place, &image_of(spaces, kind, forward, place))?;
-        }
+        note_root(remembered, spaces, kind, forward, *root)?;
     }
     Ok(())
 }
 
-/// The copies of the won cells, each at its place, in new blocks; those in Old that name young cells are noted.
+// Notes the cell of a root, where it is remembered and will name a young one.
+fn note_root(
+    remembered: &mut Remembered,
+    spaces: &Spaces,
+    kind: Kind,
+    forward: &[u64],
+    root: Root,
+) -> Result<(), AllocError>
+    requires pointers { HavePointers spaces.now.spaces }
+    requires root { IsRootIn spaces.now.spaces root }
+    requires whole { length forward.now ≡ length (cells_of spaces.now.spaces) }
+    requires places { HavePlaces forward.now }
+    ensures noted { OnOk result ((p : PlaceOf) → Contains remembered.new.places p ↔ (Contains remembered.old.places p ⊎ ((root ≡ RememberedAt p) × NamesYoung (moved_cell kind spaces.now.spaces forward.now p)))) }
+{
+    match root {
+        Root::Row(_) => Ok(()),
+        Root::Remembered(place) => {
+            let words = spaces.image(kind, forward, spaces.cell(place));
+            note_young(remembered, place, &words)
+        }
+    }
+}
+
+/// The copies of the won cells, each at its place, in new blocks. Those in Old that name young cells are noted, in order.
 pub fn copy_won(
     alloc: Global,
     spaces: &Spaces,
@@ -35,45 +69,99 @@ pub fn copy_won(
     forward: &[u64],
     won: &[Win],
     remembered: &mut Remembered,
-) -> Result<Adoption, CollectFault> {
-    let mut aged = Space::new(alloc);
-    let mut old = Space::new(alloc);
+) -> Result<Adoption, AllocError>
+    requires pointers { HavePointers spaces.now.spaces }
+    requires whole { length forward.now ≡ length (cells_of spaces.now.spaces) }
+    requires places { HavePlaces forward.now }
+    requires stand { All (StandsAt spaces.now.spaces) won.now }
+    requires new { All (HasNewPlace plan.kept) won.now }
+    requires apart { AreApart (words_won won.now) }
+    requires few { plan.kept ≤ 2 ^ 20 }
+    ensures aged { IfOk result (λ adoption. HoldCopies 1 0 (moved_cell plan.kind spaces.now.spaces forward.now) won.now adoption.aged) }
+    ensures old { IfOk result (λ adoption. HoldCopies 0 plan.kept (moved_cell plan.kind spaces.now.spaces forward.now) won.now adoption.old) }
+    ensures few { IfOk result (λ adoption. plan.kept + length adoption.old ≤ 2 ^ 20) }
+    ensures noted { OnOk result ((p : PlaceOf) → Contains remembered.new.places p ↔ (Contains remembered.old.places p ⊎ IsYoungCopy (moved_cell plan.kind spaces.now.spaces forward.now) won.now p)) }
+{
+    let mut adoption = Adoption {
+        aged: Space::new(alloc),
+        old: Space::new(alloc),
+    };
     for win in won {
-        let words = image_of(spaces, plan.kind, forward, win.from);
+        let words = spaces.image(plan.kind, forward, spaces.cell(win.from));
         let place = place_of(win.word);
-        if place.space == OLD {
-            put(alloc, &mut old, plan.kept, place, words)?;
-            note_young(remembered, place, &words)?;
-        } else {
-            put(alloc, &mut aged, 0, place, words)?;
-        }
+        put_copy(alloc, &mut adoption, plan.kept, place, words)?;
+        note_young(remembered, place, &words)?;
     }
-    Ok(Adoption { aged, old })
+    Ok(adoption)
+}
+
+// Puts the words of a copy at a place of Old, behind the blocks that stay, or of Aged.
+fn put_copy(
+    alloc: Global,
+    adoption: &mut Adoption,
+    kept: u64,
+    place: Place,
+    words: [u64; WORDS],
+) -> Result<(), AllocError>
+    requires two { place.space < 2 }
+    requires behind { place.space ≡ 0 → kept ≤ place.block }
+    requires block { place.block < 2 ^ 20 }
+    requires cell { place.cell < 64 }
+    ensures aged { OnOk result (place.space ≡ 1 → PutsCell 0 place words adoption.old.aged adoption.new.aged) }
+    ensures aged_kept { OnOk result (place.space ≡ 0 → adoption.new.aged ≡ adoption.old.aged) }
+    ensures old { OnOk result (place.space ≡ 0 → PutsCell kept place words adoption.old.old adoption.new.old) }
+    ensures old_kept { OnOk result (place.space ≡ 1 → adoption.new.old ≡ adoption.old.old) }
+{
+    if place.space == OLD {
+        put(alloc, &mut adoption.old, kept, place, words)
+    } else {
+        put(alloc, &mut adoption.aged, 0, place, words)
+    }
 }
 
 // Puts the words of a cell at a place in new blocks, which stand behind as many other ones.
+#[inline]
 fn put(
     alloc: Global,
     blocks: &mut Space,
     kept: u64,
     place: Place,
     words: [u64; WORDS],
-) -> Result<(), AllocError> {
+) -> Result<(), AllocError>
+    requires behind { kept ≤ place.block }
+    requires block { place.block < 2 ^ 20 }
+    requires cell { place.cell < 64 }
+    ensures { OnOk result (PutsCell kept place words blocks.old blocks.new) }
+{
     let block = place.block - kept;
-    while blocks.len() <= block {
-        blocks.add_block(alloc)?;
-    }
+    reach(alloc, blocks, block)?;
     blocks.set_cell(block, place.cell, words);
     Ok(())
 }
 
-// Notes a place, where the words of its cell name a young one.
+// Adds blocks until there is one with a number.
+fn reach(alloc: Global, blocks: &mut Space, block: u64) -> Result<(), AllocError>
+    requires { block < 2 ^ 20 }
+    ensures grown { OnOk result (IsGrown blocks.old blocks.new) }
+    ensures there { OnOk result (block < length blocks.new) }
+    ensures few { OnOk result ((most : ℕ) → length blocks.old ≤ most → block < most → length blocks.new ≤ most) }
+    ensures whole { OnOk result (IsSpace blocks.new) }
+{
+    while blocks.len() <= block {
+        blocks.add_block(alloc)?;
+    }
+    Ok(())
+}
+
+// Notes a place of Old, where the words of its cell name a young one.
 fn note_young(
     remembered: &mut Remembered,
     place: Place,
     words: &[u64; WORDS],
-) -> Result<(), AllocError> {
-    if names_young(words) {
+) -> Result<(), AllocError>
+    ensures { OnOk result ((p : PlaceOf) → Contains remembered.new.places p ↔ (Contains remembered.old.places p ⊎ ((p ≡ place) × (place.space ≡ 0) × NamesYoung words.now))) }
+{
+    if place.space == OLD && names_young(words) {
         remembered.reserve()?;
         remembered.note(place);
     }
@@ -81,37 +169,11 @@ fn note_young(
 }
 
 // Whether a reference or link among the words of a cell names a cell of Aged or of a nursery.
-fn names_young(words: &[u64; WORDS]) -> bool {
-    words[first_pointer(words[0])..]
+fn names_young(words: &[u64; WORDS]) -> bool
+    ensures { IsTrue result ↔ NamesYoung words.now }
+{
+    let first = first_pointer(words[0]);
+    words[first..]
         .iter()
         .any(|word| place_of(*word).space != OLD)
-}
-
-// The words of the cell at a place, with its references and its link moved.
-fn image_of(spaces: &Spaces, kind: Kind, forward: &[u64], place: Place) -> [u64; WORDS] {
-    let mut words = spaces.cell(place);
-    let first = first_pointer(words[0]);
-    move_words(spaces, kind, forward, &mut words[first..]);
-    words
-}
-
-// Moves each word.
-fn move_words(spaces: &Spaces, kind: Kind, forward: &[u64], words: &mut [u64]) {
-    for word in words.iter_mut() {
-        *word = moved_word(spaces, kind, forward, *word);
-    }
-}
-
-// The word with the new place of the cell that it names, where that is moved.
-#[inline]
-fn moved_word(spaces: &Spaces, kind: Kind, forward: &[u64], word: u64) -> u64 {
-    let place = place_of(word);
-    if word == 0 || !kind.moves(place.space) {
-        return word;
-    }
-    let target = spaces.flat(place) as usize;
-    pack(Slot::To {
-        rights: rights_of(word),
-        place: place_of(forward[target]),
-    })
 }

@@ -179,12 +179,7 @@ fn random_heaps_keep_what_is_reached(rt: HostRuntime) -> Result<(), Fail> {
 }
 
 // One heap, collected from two rows, and from the cells of Old that name young ones.
-fn collect_random(
-    rt: &impl Abort,
-    alloc: Global,
-    seed: &mut u64,
-    kind: Kind,
-) -> Result<(), Fail> {
+fn collect_random(rt: &impl Abort, alloc: Global, seed: &mut u64, kind: Kind) -> Result<(), Fail> {
     let cells = random_cells(seed);
     let mut rows = [false; CELLS];
     let mut noted = [false; CELLS];
@@ -280,7 +275,11 @@ fn check_cells(rt: &impl Abort, cells: &Cells, kind: Kind, copied: &Copied) {
             } else {
                 &copied.adoption.aged
             };
-            let block = if place.space == 0 { place.block.wrapping_sub(kept) } else { place.block };
+            let block = if place.space == 0 {
+                place.block.wrapping_sub(kept)
+            } else {
+                place.block
+            };
             assert!(rt; block < blocks.len() && place.cell < 64);
             assert_eq!(rt; blocks.cell(block, place.cell), words);
             if place.space == 0 {
@@ -289,7 +288,10 @@ fn check_cells(rt: &impl Abort, cells: &Cells, kind: Kind, copied: &Copied) {
             }
         }
         if kind == Kind::Nursery && i < 64 && names_young(&cells[i]) {
-            assert_eq!(rt; copied.remembered.contains(place_at(i)), names_young(&words));
+            assert_eq!(rt;
+                copied.remembered.contains(place_at(i)),
+                names_young(&words)
+            );
             notes = notes.wrapping_add(names_young(&words) as usize);
         }
     }
