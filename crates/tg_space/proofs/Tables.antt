@@ -1,13 +1,14 @@
 -- What changes keep of a table of spaces.
-use Rattle.std.proofs.Common.{◌≡◌, ◌≢◌, ℕ, zero, suc, ◌<◌, ◌≤◌, ◌+◌, ◌*◌, ◌^◌, ◌/◌, ◌++◌, ◌∷◌, ◌⊎◌, inl, inr, List, [], length, get_or, set, refl, sym, ap, subst, arith, ◌∙◌, ⊎_elim, add-one}
+use Rattle.std.proofs.Common.{◌≡◌, ◌≢◌, ℕ, zero, suc, ◌<◌, ◌≤◌, ◌+◌, ◌*◌, ◌^◌, ◌/◌, ◌++◌, ◌∷◌, ◌⊎◌, inl, inr, ◌-◌, List, [], length, get_or, set, replicate, refl, sym, ap, subst, arith, ◌∙◌, ⊎_elim, add-one}
 use Rattle.std.specs.List.{All}
-use Rattle.std.proofs.lemmas.List.{get_or-set_same, get_or-set_other, length-set, get_or_read, length_push, get_or_push, get_or_append_left, get_or-replicate}
-use Rattle.std.proofs.lemmas.List.Elements.{All-get_or}
+use Rattle.std.proofs.lemmas.List.{get_or-set_same, get_or-set_other, length-set, get_or_read, length_push, get_or_push, get_or_append_left, get_or-replicate, get_or_past, length-replicate}
+use Rattle.std.proofs.lemmas.List.Elements.{All-get_or, All-cons, All-nil, All-replicate}
 use Rattle.std.proofs.lemmas.Bool.{cases_eq, cases_lt}
 use Rattle.tg_word.specs.declared.Place.{Place}
 use Rattle.tg_block.specs.Cells.{IsBlock, free_cell, free_block, cell_of}
 use Rattle.tg_space.specs.SpaceList.{SpaceList, BlockList, IsSpace, IsSpaceList, Holds, space_of, block_of, cell_at, blocks_before, block_count, with_cell_at, with_word_at, with_block, flat_of, cells_of}
-use Rattle.tg_space.specs.SpaceTable.{SpaceTable, IsSpaceTable, IsPrefixCount, IsHandedOut, used_of, number_in_space, with_spaces}
+use Rattle.tg_space.specs.declared.spaces.Kind.TheVariants.{Nursery}
+use Rattle.tg_space.specs.SpaceTable.{SpaceTable, adopted, with_adopted, IsSpaceTable, IsPrefixCount, IsHandedOut, used_of, number_in_space, with_spaces}
 use Rattle.tg_space.proofs.Flat.{before_more, before_few, blocks_all, flat_inside, length-cells_of}
 use Rattle.tg_space.proofs.Writing.{other_cell}
 
@@ -204,22 +205,39 @@ table_grown t space is low whole =
       fresh = λ p held young unused. ⊎_elim (λ old. old.1 ∙ is.fresh p old.0 young unused) (λ free. free) (cell_at-with_block t.spaces space low p held);
     }
 
+-- a nursery collection leaves as many spaces
+pub adopted_long : (h : SpaceList) (aged old : BlockList) → 2 ≤ length h → length (adopted Nursery h aged old) ≡ length h
+adopted_long h aged old enough = let rest : length (replicate {A = BlockList} (length h - 2) []) ≡ length h - 2 = length-replicate (length h - 2) [] in omega arith
+
 -- a nursery collection's new blocks are put in place
-pub table_adopted : (t : SpaceTable) (aged old : BlockList) → IsSpaceTable t → All IsSpace (adopted Nursery t.spaces aged old) → IsSpaceTable (with_adopted t Nursery aged old)
-table_adopted t aged old table whole = record {
-  enough = omega (arith, long, table.enough);
-  few = omega (arith, long, table.few);
-  blocks = whole;
+pub table_adopted : (t : SpaceTable) (aged old : BlockList) → IsSpaceTable t → IsSpace (space_of t.spaces 0 ++ old) → IsSpace aged → IsSpaceTable (with_adopted t Nursery aged old)
+table_adopted t aged old table grown_is is_aged = record {
+  enough = let enough = table.enough in omega (arith, long);
+  few = let few = table.few in omega (arith, long);
+  blocks = All-cons IsSpace (space_of t.spaces 0 ++ old) (aged ∷ replicate (length t.spaces - 2) []) grown_is (All-cons IsSpace aged (replicate (length t.spaces - 2) []) is_aged (All-replicate IsSpace (length t.spaces - 2) [] (omega arith, All-nil IsBlock)));
   counted = length-replicate (length t.spaces) 0 ∙ sym long;
   within = λ space low. rw (unused space) (omega arith);
   fresh = λ p holds nursery past. absurd (no_block p holds nursery);
 }
   where
     long : length (adopted Nursery t.spaces aged old) ≡ length t.spaces
-    long = let rest : length (replicate {X = BlockList} (length t.spaces - 2) []) ≡ length t.spaces - 2 = length-replicate (length t.spaces - 2) [] in let enough = table.enough in omega arith
+    long = let enough = table.enough in adopted_long t.spaces aged old (omega arith)
 
     unused : (space : ℕ) → used_of (with_adopted t Nursery aged old) space ≡ 0
-    unused space = ⊎_elim (λ low. get_or-replicate (length t.spaces) space 0 0 low) (λ past. get_or_past (replicate (length t.spaces) 0) space 0 (rw (length-replicate (length t.spaces) 0) past)) (cases_lt space (length t.spaces))
+    unused space = ⊎_elim (λ (low : space < length t.spaces). get_or-replicate (length t.spaces) space 0 0 low) (λ (past : length t.spaces ≤ space). get_or_past (replicate (length t.spaces) 0) space 0 (rw (length-replicate {A = ℕ} (length t.spaces) 0) past)) (cases_lt space (length t.spaces))
 
     no_block : (p : Place) → Holds (adopted Nursery t.spaces aged old) p → 2 ≤ p.space → ⊥
-    no_block p holds nursery = absurd cc
+    no_block p holds nursery =
+        let none : (k : ℕ) → get_or (replicate {A = BlockList} (length t.spaces - 2) []) k [] ≡ [] = λ k. ⊎_elim
+        (λ (low : k < length t.spaces - 2). get_or-replicate (length t.spaces - 2) k [] [] low)
+        (λ (past : length t.spaces - 2 ≤ k). get_or_past (replicate {A = BlockList} (length t.spaces - 2) []) k [] (rw (length-replicate {A = BlockList} (length t.spaces - 2) []) past))
+        (cases_lt k (length t.spaces - 2)) in
+        by_space p.space refl none holds nursery
+      where
+        by_space : (n : ℕ) → p.space ≡ n → ((k : ℕ) → get_or (replicate {A = BlockList} (length t.spaces - 2) []) k [] ≡ []) → Holds (adopted Nursery t.spaces aged old) p → 2 ≤ p.space → ⊥
+        by_space zero is none holds nursery = absurd (omega arith)
+        by_space (suc zero) is none holds nursery = absurd (omega arith)
+        by_space (suc (suc k)) is none holds nursery =
+            let at : space_of (adopted Nursery t.spaces aged old) p.space ≡ [] = ap (space_of (adopted Nursery t.spaces aged old)) is ∙ none k in
+            let low : p.block < 0 = subst (λ (blocks : BlockList). p.block < length blocks) at holds.block in
+            omega arith

@@ -1,6 +1,5 @@
 //! All spaces of a heap.
-ghost use Rattle.std.specs.Prelude.{◌≡◌, ◌<◌, ◌≤◌, ◌+◌, ◌*◌, ◌^◌, ◌∷◌, ◌↔◌, ℕ, [], length, replicate, slice_index, slice_index_or, slice_set, Err, IfOk, OnOk, OnErr, IsOk, IsTrue};
-ghost use Rattle.std.specs.List.{All};
+ghost use Rattle.std.specs.Prelude.{◌≡◌, ◌++◌, ◌<◌, ◌≤◌, ◌+◌, ◌*◌, ◌^◌, ◌∷◌, ◌↔◌, ℕ, [], length, replicate, slice_index, slice_index_or, slice_set, Err, IfOk, OnOk, OnErr, IsOk, IsTrue};
 ghost use Rattle.tg_block.specs.Cells.{free_cell, cell_of};
 ghost use Rattle.tg_word.specs.Word.{IsPlace};
 ghost use Rattle.tg_space.specs.SpaceList.{Holds, IsSpace, IsSpaceList, block_count, blocks_before, cell_at, cells_of, flat_of, space_of, with_block, with_cell_at, with_word_at};
@@ -349,6 +348,7 @@ impl Spaces {
     }
 
     // Old is followed by these blocks, Aged is the other ones, and every nursery has none.
+    #[tactic(auto, using(crate::proofs::Tables::table_adopted))]
     fn keep_old_and(&mut self, aged: Space, old: Space) -> Result<(), AllocError>
         requires { length (space_of self.old.spaces 0) + length old ≤ 2 ^ 20 }
         ensures adopted { OnOk result (self.new ≡ with_adopted self.old Kind.Nursery aged old) }
@@ -394,7 +394,8 @@ fn put_behind(
     requires enough { 2 ≤ length spaces.old }
     requires room { length (space_of spaces.old 0) + length old ≤ 2 ^ 20 }
     ensures adopted { OnOk result (spaces.new ≡ adopted Kind.Nursery spaces.old aged old) }
-    ensures whole { OnOk result (All IsSpace spaces.new) }
+    ensures first { OnOk result (IsSpace (space_of spaces.old 0 ++ old)) }
+    ensures second { OnOk result (IsSpace aged) }
     ensures refused { OnErr result (spaces.new ≡ spaces.old) }
 {
     spaces[0].append(old)?;
