@@ -14,7 +14,7 @@ use Rattle.tg_word.specs.Word.{IsPlace, link_to, place_in}
 use Rattle.tg_word.proofs.Packing.{place_in-word_at, word_at-above_zero}
 use Rattle.tg_space.specs.SpaceTable.{place_in_space}
 use Rattle.tg_evac.specs.declared.win.Win.{Win}
-use Rattle.tg_evac.specs.Claims.{Claimed, StandsIn, IsGiven, AreApart, AreClaims, AddsClaims, cells_won, words_won, win_at}
+use Rattle.tg_evac.specs.Claims.{Claimed, StandsIn, IsGiven, AreApart, AreClaims, AddsClaims, IsFull, cells_won, words_won, win_at}
 
 -- the place of Old or of Aged with a number
 pub place_inside : (s k : ℕ) → s < 2 → k < 2 ^ 26 → IsPlace (place_in_space s k)
@@ -58,7 +58,7 @@ win_from_cell won c held =
     let low : held.0 < length won = rw length-map at held.1 in
     let w : Win = win_at won held.0 in
     let is : get_or (cells_won won) held.0 0 ≡ c = get_or_default (cells_won won) held.0 0 c held.1 ∙ held.2 in
-    (w, Contains-get_or won held.0 w low, sym (get_or-map (λ (v : Win). v.cell) won held.0 w 0 low) ∙ is)
+    (w, Contains-get_or won held.0 (win_at [] 0) low, sym (get_or-map (λ (v : Win). v.cell) won held.0 (win_at [] 0) 0 low) ∙ is)
 
 -- ---- what the rule says of each pair
 
@@ -89,7 +89,10 @@ module _ (c : Claimed) (are : AreClaims c) where
 
   -- the place is one of Old, behind the blocks that stay, or of Aged
   pub word_to : (w : Win) → Contains c.won w → (place_in w.word).space < 2
-  word_to w held = rw (place_is w held) (given_of w held).two
+  word_to w held =
+      let space : (place_in w.word).space ≡ (given_of w held).space = ap (λ (p : Place). p.space) (place_is w held) in
+      let two = (given_of w held).two in
+      omega arith
 
   pub word_behind : (w : Win) → Contains c.won w → (place_in w.word).space ≡ 0 → c.plan.kept ≤ (place_in w.word).block
   word_behind w held old =
@@ -126,13 +129,13 @@ module _ (c : Claimed) (are : AreClaims c) where
           let hi : i < length c.won = omega arith in
           let hj : j < length c.won = omega arith in
           let v : Win = win_at c.won i in let w : Win = win_at c.won j in
-          let sv : StandsIn c.forward v = stands v (Contains-get_or c.won i v hi) in
-          let sw : StandsIn c.forward w = stands w (Contains-get_or c.won j w hj) in
-          let cv : get_or (cells_won c.won) i 0 ≡ v.cell = get_or-map (λ (x : Win). x.cell) c.won i v 0 hi in
-          let cw : get_or (cells_won c.won) j 0 ≡ w.cell = get_or-map (λ (x : Win). x.cell) c.won j w 0 hj in
+          let sv : StandsIn c.forward v = stands v (Contains-get_or c.won i (win_at [] 0) hi) in
+          let sw : StandsIn c.forward w = stands w (Contains-get_or c.won j (win_at [] 0) hj) in
+          let cv : get_or (cells_won c.won) i 0 ≡ v.cell = get_or-map (λ (x : Win). x.cell) c.won i (win_at [] 0) 0 hi in
+          let cw : get_or (cells_won c.won) j 0 ≡ w.cell = get_or-map (λ (x : Win). x.cell) c.won j (win_at [] 0) 0 hj in
           let same : v.cell ≡ w.cell = sym cv ∙ e ∙ cw in
-          let wv : get_or (words_won c.won) i 0 ≡ v.word = get_or-map (λ (x : Win). x.word) c.won i v 0 hi in
-          let ww : get_or (words_won c.won) j 0 ≡ w.word = get_or-map (λ (x : Win). x.word) c.won j w 0 hj in
+          let wv : get_or (words_won c.won) i 0 ≡ v.word = get_or-map (λ (x : Win). x.word) c.won i (win_at [] 0) 0 hi in
+          let ww : get_or (words_won c.won) j 0 ≡ w.word = get_or-map (λ (x : Win). x.word) c.won j (win_at [] 0) 0 hj in
           are.apart i j lt (omega arith) (wv ∙ sym sv.word ∙ ap (λ (n : ℕ). get_or c.forward n 0) same ∙ sw.word ∙ sym ww)
 
   -- no more cells are won than there are
@@ -157,6 +160,18 @@ module _ (c : Claimed) (are : AreClaims c) where
           let found = are.words.every n low some in
           let word : get_or c.forward n 0 ≡ found.0.word = ap (λ (m : ℕ). get_or c.forward m 0) (sym found.2) ∙ (stands found.0 found.1).word in
           subst (λ (w : ℕ). IsPlace (place_in w)) (sym word) (word_place found.0 found.1)
+
+-- where a space has no room for one more, all the room is won
+pub full_at : (c : Claimed) → AreClaims c → (space : ℕ) → space < 2 → c.plan.room ≤ get_or c.next space 0 → IsFull c
+full_at c are space two past = record { all = all; distinct = won_distinct c are }
+  where
+    all : c.plan.room ≤ 64 * c.plan.kept + length (cells_won c.won)
+    all =
+        let long : length (cells_won c.won) ≡ length c.won = length-map c.won (λ (v : Win). v.cell) in
+        let counted = are.counted in
+        ⊎_elim (λ (e : space ≡ 0). let at = ap (λ (k : ℕ). get_or c.next k 0) e in omega arith)
+        (λ (ne : space ≢ 0). let e : space ≡ 1 = omega arith in let at = ap (λ (k : ℕ). get_or c.next k 0) e in omega arith)
+        (cases_eq space 0)
 
 -- ---- one more pair
 

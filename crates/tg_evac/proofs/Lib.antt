@@ -1,1 +1,4 @@
 pub mod Claiming
+pub mod Counting
+pub mod Chunks
+pub mod Reasons

@@ -34,7 +34,7 @@ is_in_old w = (place_in w.word).space == 0
 
 -- the plan of a collection of this kind
 pub record IsPlanFor (kind : Kind) (t : SpaceTable) (plan : Plan) : Type 0 where
-  pub kind : plan.kind ≡ kind
+  pub same : plan.kind ≡ kind
   pub kept : plan.kept ≡ kept_blocks kind t.spaces
   pub room : plan.room ≡ 64 * t.limits.space_blocks
 
@@ -107,8 +107,8 @@ pub record IsFull (c : Claimed) : Type 0 where
 
 -- the pair is of the cell at this place, with this number, and its copy is in this space
 pub record IsWinFor (from : Place) (cell space : ℕ) (w : Win) : Type 0 where
-  pub from : w.from ≡ from
-  pub cell : w.cell ≡ cell
+  pub stands : w.from ≡ from
+  pub number : w.cell ≡ cell
   pub to : (place_in w.word).space ≡ space
 
 -- the pair's cell stands where it says

@@ -43,8 +43,9 @@ pub fn collect_one(
     ensures collected { IfOk result (λ copied. IsCollection kind spaces.now.spaces roots.now copied.forward.items copied.adoption.aged copied.adoption.old copied.remembered.places) }
     ensures full { IfErr result (λ fault. fault ≡ CollectFault.HeapFull → MayLackRoom spaces.now.limits.space_blocks 1 (kept_blocks kind spaces.now.spaces) (used_cells kind spaces.now.spaces)) }
 {
+    let cells = spaces.cells() as usize;
     let plan = Plan::of(kind, spaces);
-    let mut claims = Claims::new(alloc, spaces.cells() as usize, plan)?;
+    let mut claims = Claims::new(alloc, cells, plan)?;
     claims.trace(spaces, roots)?;
     let Claims { forward, won, .. } = claims;
     let mut remembered = Remembered::new(alloc);

@@ -1,7 +1,7 @@
 //! What a collection is to do.
 ghost use Rattle.std.specs.Prelude.{◌≡◌};
-ghost use Rattle.tg_space.specs.Targets.{from_space};
-ghost use Rattle.tg_evac.specs.Claims.{IsPlanFor, is_full, is_straight, space_for};
+ghost use Rattle.tg_space.specs.SpaceTable.{IsSpaceTable};
+ghost use Rattle.tg_evac.specs.Claims.{IsPlanFor, is_straight as straight_from, space_for as space_of_copy};
 
 use tg_block::CELLS;
 use tg_space::{Kind, Root, Spaces};
@@ -26,6 +26,7 @@ pub struct Plan {
 impl Plan {
     /// The plan of a collection of these spaces.
     pub fn of(kind: Kind, spaces: &Spaces) -> Self
+        requires { IsSpaceTable spaces.now }
         ensures { IsPlanFor kind spaces.now result }
     {
         let kept = match kind {
@@ -42,7 +43,7 @@ impl Plan {
     /// Whether what is met first from a root goes straight to Old: all in a full collection, and in a nursery
     /// collection what a remembered cell names.
     pub fn is_straight(self, root: Root) -> bool
-        ensures { result ≡ is_straight self.kind root }
+        ensures { result ≡ straight_from self.kind root }
     {
         match root {
             Root::Row(_) => self.kind == Kind::Full,
@@ -54,7 +55,7 @@ impl Plan {
 /// The space to which a cell of a space is copied, where it is met straight or not.
 #[inline]
 pub fn space_for(straight: bool, space: u64) -> u64
-    ensures { result ≡ space_for straight space }
+    ensures { result ≡ space_of_copy straight space }
 {
     if straight || space == AGED { OLD } else { AGED }
 }
