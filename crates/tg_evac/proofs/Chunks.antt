@@ -1,7 +1,8 @@
 -- The targets of a row, chunk by chunk, and that the cells among them are used ones of from-space.
-use Rattle.std.proofs.Common.{◌≡◌, ◌≢◌, ℕ, zero, suc, ◌<◌, ◌⊎◌, ◌==◌, ◌++◌, Bool, true, false, not, cond, List, [], ◌∷◌, length, get_or, refl, sym, ap, subst, arith, ◌∙◌, inl, inr, ⊎_elim}
+use Rattle.std.proofs.Common.{◌≡◌, ◌≢◌, ℕ, zero, suc, ◌<◌, ◌+◌, ◌-◌, ◌⊎◌, ◌==◌, ◌++◌, Bool, true, false, not, cond, List, [], ◌∷◌, length, get_or, refl, sym, ap, subst, arith, ◌∙◌, inl, inr, ⊎_elim}
 use Rattle.std.specs.List.{All, Contains, flat_map, take_while}
-use Rattle.std.proofs.lemmas.List.Elements.{All-nil, All-cons, All-append, All-head, All-tail, All-contains}
+use Rattle.std.proofs.lemmas.List.{append-nil, append_assoc}
+use Rattle.std.proofs.lemmas.List.Elements.{All-nil, All-cons, All-append, All-weaker, All-head, All-tail, All-contains, All-contains_itself, Contains-append_left, Contains-append_right}
 use Rattle.std.proofs.lemmas.List.Sums.{take_while-cons}
 use Rattle.std.proofs.lemmas.Bool.Decides.{eqb_tells}
 use Rattle.tg_word.specs.declared.Place.{Place}
@@ -9,7 +10,7 @@ use Rattle.tg_word.specs.Word.{place_in}
 use Rattle.tg_space.specs.Rows.{chunks_from, link_at}
 use Rattle.tg_space.specs.Soundness.{IsPointer, NamesCell, IsRootIn}
 use Rattle.tg_space.specs.SpaceList.{SpaceList, IsSpaceList, Holds, cell_at, flat_of, cells_of}
-use Rattle.tg_space.specs.Targets.{from_space, pointers_of, target_in, named_by, targets_at, targets_of, root_targets_of}
+use Rattle.tg_space.specs.Targets.{from_space, pointers_of, target_in, named_by, cells_met, targets_at, targets_of, root_targets_of}
 use Rattle.tg_space.specs.declared.spaces.Kind.{Kind}
 use Rattle.tg_space.specs.declared.spaces.Root.{Root}
 use Rattle.tg_space.specs.declared.spaces.Root.TheVariants.{Row, Remembered}
@@ -77,14 +78,53 @@ module _ (from : ℕ → Bool) (h : SpaceList) where
       (eqb_tells link 0)
     where
       by_test : (b : Bool) → b ≡ false → flat_map (targets_at from h) (take_while (λ (q : Place). not (from q.space)) (cond b [] (place_in link ∷ chunks_from h most (link_at h (place_in link))))) ≡ targets_at from h (place_in link) ++ chunk_targets from h most (link_at h (place_in link))
-      by_test true no = absurd cc
-      by_test false no = step (place_in link) (chunks_from h most (link_at h (place_in link))) kept
+      by_test true isnt = absurd cc
+      by_test false isnt = step (place_in link) (chunks_from h most (link_at h (place_in link))) kept
 
   pub row_moved : (p : Place) → from p.space ≡ true → root_targets_of from h (Row p) ≡ flat_of h p ∷ []
   row_moved p moved = rw moved refl
 
   pub row_kept : (p : Place) → from p.space ≡ false → root_targets_of from h (Row p) ≡ targets_at from h p ++ chunk_targets from h (length (cells_of h)) (link_at h p)
-  row_kept p kept = rw kept (step p (chunks_from h (length (cells_of h)) (link_at h p)) kept)
+  row_kept p kept = by_test (from p.space) kept
+    where
+      by_test : (b : Bool) → b ≡ false → cond b (flat_of h p ∷ []) (flat_map (targets_at from h) (cells_met from h p)) ≡ targets_at from h p ++ chunk_targets from h (length (cells_of h)) (link_at h p)
+      by_test true isnt = absurd cc
+      by_test false isnt = step p (chunks_from h (length (cells_of h)) (link_at h p)) kept
+
+  -- the chunks of a link that were passed: their targets are these, and each is in a list
+  pub record ChunksPassed (count first passed link : ℕ) (won : List ℕ) : Type 0 where
+    pub done : List ℕ
+    pub is : chunk_targets from h count first ≡ done ++ chunk_targets from h (count - passed) link
+    pub held : All (Contains won) done
+
+  pub none_passed : (count first : ℕ) (won : List ℕ) → ChunksPassed count first 0 first won
+  none_passed count first won = record { done = []; is = ap (λ (n : ℕ). chunk_targets from h n first) (omega arith); held = All-nil (Contains won) }
+
+  -- where the rest has no target, all are held
+  pub all_passed : {count first passed link : ℕ} {won : List ℕ} → ChunksPassed count first passed link won → chunk_targets from h (count - passed) link ≡ [] → All (Contains won) (chunk_targets from h count first)
+  all_passed {won = won} before none =
+      subst (λ (ts : List ℕ). All (Contains won) ts) (sym (before.is ∙ ap (λ (ts : List ℕ). before.done ++ ts) none ∙ append-nil before.done)) before.held
+
+  module _ {count first passed link : ℕ} {won : List ℕ} (before : ChunksPassed count first passed link won) (more : passed < count) (some : link ≢ 0) (kept : from (place_in link).space ≡ false) where
+    split : chunk_targets from h count first ≡ before.done ++ (targets_at from h (place_in link) ++ chunk_targets from h (count - (passed + 1)) (link_at h (place_in link)))
+    split =
+        let next : count - passed ≡ suc (count - (passed + 1)) = omega arith in
+        before.is ∙ ap (λ (ts : List ℕ). before.done ++ ts) (ap (λ (n : ℕ). chunk_targets from h n link) next ∙ chunks_more (count - (passed + 1)) link some kept)
+
+    pub chunk_inside : All (Contains (chunk_targets from h count first)) (targets_at from h (place_in link))
+    chunk_inside =
+        All-weaker (Contains (targets_at from h (place_in link))) (Contains (chunk_targets from h count first))
+        (λ x c. subst (λ (ts : List ℕ). Contains ts x) (sym split)
+        (Contains-append_right before.done (targets_at from h (place_in link) ++ chunk_targets from h (count - (passed + 1)) (link_at h (place_in link))) x
+        (Contains-append_left (targets_at from h (place_in link)) (chunk_targets from h (count - (passed + 1)) (link_at h (place_in link))) x c)))
+        (targets_at from h (place_in link)) (All-contains_itself (targets_at from h (place_in link)))
+
+    pub one_passed : (now : List ℕ) → All (Contains now) before.done → All (Contains now) (targets_at from h (place_in link)) → ChunksPassed count first (passed + 1) (link_at h (place_in link)) now
+    one_passed now old new = record {
+      done = before.done ++ targets_at from h (place_in link);
+      is = split ∙ sym (append_assoc before.done (targets_at from h (place_in link)) (chunk_targets from h (count - (passed + 1)) (link_at h (place_in link))));
+      held = All-append (Contains now) before.done (targets_at from h (place_in link)) old new;
+    }
 
 -- ---- used cells
 

@@ -1,6 +1,6 @@
 -- No more cells are won than there are cells of from-space that are not free.
 use Rattle.std.proofs.Common.{◌≡◌, ◌≢◌, ℕ, zero, suc, ◌<◌, ◌≤◌, ◌+◌, ◌-◌, ◌*◌, ◌⊎◌, ◌==◌, ◌++◌, Bool, true, false, not, cond, eqb, List, [], ◌∷◌, length, get_or, take, drop, refl, sym, ap, subst, arith, ◌∙◌, inl, inr, ⊎_elim}
-use Rattle.std.specs.List.{All, Contains, list_any, IsDistinct, count_by}
+use Rattle.std.specs.List.{All, Contains, list_any, IsDistinct, count_by, flat_map}
 use Rattle.std.proofs.lemmas.List.{get_or-append_right}
 use Rattle.std.proofs.lemmas.List.Elements.{All-nil, All-cons, All-append, All-head, All-tail, All-contains, All-from_get_or, Contains-get_or, Contains-append_right}
 use Rattle.std.proofs.lemmas.List.Sums.{sum_by-cons, take_while-cons}
@@ -117,7 +117,7 @@ module _ (h : SpaceList) (is : All IsSpace h) where
           omega (arith, length-cells_of (old ∷ rest) whole, length-cells_of rest (All-tail IsSpace old rest whole), sum_by-cons (λ (x : BlockList). length x) old rest) in
           let shape = (All-head IsSpace old rest whole).1 in
           let there : get_or (cells_of (old ∷ rest)) c [] ≡ get_or (cells_of rest) (c - 64 * length old) [] =
-          get_or-append_right (cells_of (old ∷ [])) (cells_of rest) (64 * length old) c [] (sym (length-cells_of (old ∷ []) (All-cons IsSpace old [] (All-head IsSpace old rest whole) (All-nil IsSpace)) ∙ omega (arith, sum_by-cons (λ (x : BlockList). length x) old []))) behind in
+          get_or-append_right (flat_map (λ (b : List (List ℕ)). b) old) (cells_of rest) (64 * length old) c [] (length-blocks old shape) behind in
           let words : get_or (cells_of (old ∷ rest)) c [] ≡ cell_at (old ∷ rest) v.place = ap (λ (n : ℕ). get_or (cells_of (old ∷ rest)) n []) (sym v.at) ∙ get_or-flat_of (old ∷ rest) whole v.place v.held in
           (
             c - 64 * length old,

@@ -1,5 +1,5 @@
 -- What the reasons of won pairs say: which cells were won, and in which space their copies are.
-use Rattle.std.proofs.Common.{◌≡◌, ◌≢◌, ℕ, zero, suc, ◌<◌, ◌≤◌, ◌+◌, ◌-◌, ◌⊎◌, ◌==◌, ◌++◌, Bool, true, false, List, [], ◌∷◌, length, get_or, refl, sym, ap, subst, arith, ◌∙◌, inl, inr, ⊎_elim}
+use Rattle.std.proofs.Common.{◌≡◌, ◌≢◌, ℕ, zero, suc, ◌<◌, ◌≤◌, ◌+◌, ◌-◌, ◌*◌, ◌⊎◌, ◌==◌, ◌++◌, Bool, true, false, List, [], ◌∷◌, length, get_or, refl, sym, ap, subst, arith, ◌∙◌, inl, inr, ⊎_elim}
 use Rattle.std.specs.List.{All, Contains}
 use Rattle.std.proofs.lemmas.List.{get_or-map, length-map, length-append, get_or_append_left, get_or-append_right, get_or_default}
 use Rattle.std.proofs.lemmas.List.Elements.{All-weaker, All-map, All-get_or, All-contains, All-from_get_or, Contains-get_or}
@@ -9,6 +9,7 @@ use Rattle.tg_model.specs.Walks.{Walk, begins, goes}
 use Rattle.tg_word.specs.declared.Place.{Place}
 use Rattle.tg_word.specs.Word.{place_in}
 use Rattle.tg_space.specs.Closure.{AddsFrom, IsTraced}
+use Rattle.tg_space.specs.Collection.{used_cells}
 use Rattle.tg_space.specs.Generations.{AreInGenerations, AreAged, GoesTo, IsAgedCell, IsNextIn, IsNurseryCell, IsRememberedTarget, IsRowTarget}
 use Rattle.tg_space.specs.Soundness.{IsRootIn}
 use Rattle.tg_space.specs.SpaceList.{SpaceList, IsSpaceList, Holds, cells_of, flat_of}
@@ -19,11 +20,12 @@ use Rattle.tg_space.specs.declared.spaces.Root.{Root}
 use Rattle.tg_space.specs.declared.spaces.Root.TheVariants.{Row, Remembered}
 use Rattle.tg_space.proofs.Adding.{piece}
 use Rattle.tg_space.proofs.Flat.{same_place, flat_inside}
+use Rattle.tg_evac.specs.declared.plan.Plan.{Plan}
 use Rattle.tg_evac.specs.declared.win.Win.{Win}
-use Rattle.tg_evac.specs.Claims.{Claimed, HavePointers, StandsIn, StandsAt, IsClaimOf, IsRootClaim, AddsClaims, AreTraced, AreWordsOf, cells_won, is_in_old, is_straight, space_for, win_at}
+use Rattle.tg_evac.specs.Claims.{Claimed, HavePointers, IsFull, StandsIn, StandsAt, IsClaimOf, IsRootClaim, AddsClaims, AreTraced, AreWordsOf, cells_won, is_in_old, is_straight, space_for, win_at}
 use Rattle.tg_evac.proofs.Claiming.{cells_added}
 use Rattle.tg_evac.proofs.Chunks.{used_root, used_targets, targets_from}
-use Rattle.tg_evac.proofs.Counting.{IsUsed}
+use Rattle.tg_evac.proofs.Counting.{IsUsed, full_few}
 
 -- ---- spaces of copies
 
@@ -124,6 +126,12 @@ module _ (kind : Kind) (h : SpaceList) (roots : List Root) (won : List Win) (tra
           All-contains (IsUsed kind h) (targets_of (from_space kind) h (win_at won j).cell) (win_at won k).cell
           (subst (λ (ts : List ℕ). All (IsUsed kind h) ts) (targets_from (from_space kind) h is (win_at won j) stands) (used_targets kind h is pointers (win_at won j).from stands.held)) claim.one)
           (traced k low)
+
+-- where all the room is won, there is no more room than cells that are not free
+pub full_from : (h : SpaceList) → IsSpaceList h → HavePointers h → (roots : List Root) → All (IsRootIn h) roots → (a c : Claimed) → c.plan ≡ a.plan →
+    AreTraced a.plan.kind h roots c.won → IsFull c → a.plan.room ≤ 64 * a.plan.kept + used_cells a.plan.kind h
+full_from h is pointers roots are a c same traced full =
+    subst (λ (p : Plan). p.room ≤ 64 * p.kept + used_cells a.plan.kind h) same (full_few a.plan.kind h is c (all_used a.plan.kind h roots c.won traced is pointers are) full)
 
 -- ---- generations
 

@@ -1,5 +1,5 @@
 //! The claim phase: which cells are copied, and where to.
-ghost use Rattle.std.specs.Prelude.{◌≡◌, ◌≢◌, ℕ, ◌<◌, ◌≤◌, ◌^◌, ◌*◌, List, [], ◌∷◌, length, slice_index, slice_index_or, IfErr, IfOk, OnOk};
+ghost use Rattle.std.specs.Prelude.{◌≡◌, ℕ, ◌+◌, ◌<◌, ◌≤◌, ◌^◌, ◌*◌, List, [], ◌∷◌, length, slice_index, slice_index_or, IfErr, IfOk, OnOk};
 ghost use Rattle.std.specs.List.{All, Contains, flat_map};
 ghost use Rattle.tg_word.specs.Word.{place_in};
 ghost use Rattle.tg_space.specs.Closure.{IsClosed};
@@ -187,7 +187,7 @@ impl Claims {
         ensures held { OnOk result (All (Contains (cells_won self.new.won)) (targets_at (from_space self.old.plan.kind) spaces.now.spaces place)) }
         ensures full { IfErr result (λ fault. fault ≡ CollectFault.HeapFull → IsFull self.new) }
     {
-        let words = spaces.cell(place);
+        let words = spaces.words(place);
         let first = first_pointer(words[0]);
         self.claim_words(spaces, &words[first..], straight)
     }
@@ -208,8 +208,11 @@ impl Claims {
     {
         let mut link = first;
         for _ in 0..spaces.cells() {
+            if link == 0 {
+                return Ok(());
+            }
             let chunk = place_of(link);
-            if link == 0 || self.plan.kind.moves(chunk.space) {
+            if self.plan.kind.moves(chunk.space) {
                 return Ok(());
             }
             self.claim_targets(spaces, chunk, straight)?;
@@ -273,6 +276,7 @@ impl Claims {
     // Claims the targets of all won cells, in the order in which they were won, until none is left to scan. What a cell
     // names whose copy is in Old goes straight to Old.
     fn scan(&mut self, spaces: &Spaces) -> Result<(), CollectFault>
+        requires table { IsSpaceTable spaces.now }
         requires pointers { HavePointers spaces.now.spaces }
         requires whole { length self.old.forward ≡ length (cells_of spaces.now.spaces) }
         requires stand { All (StandsAt spaces.now.spaces) self.old.won }
