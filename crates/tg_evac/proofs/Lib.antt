@@ -3,3 +3,7 @@ pub mod Counting
 pub mod Chunks
 pub mod Reasons
 pub mod Pieces
+pub mod Copying
+pub mod Adopted
+pub mod Collecting
+pub mod Young

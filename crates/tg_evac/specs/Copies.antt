@@ -1,5 +1,5 @@
 -- Where the copies of won cells stand, and which of them name young cells.
-use Rattle.std.specs.Prelude.{◌≡◌, ◌≢◌, ℕ, ◌-◌, ◌<◌, ◌≤◌, List, [], length, slice_index_or, slice_set}
+use Rattle.std.specs.Prelude.{◌≡◌, ◌≢◌, ℕ, ◌-◌, ◌<◌, ◌≤◌, ◌==◌, Bool, not, List, [], length, slice_index_or, slice_set}
 use Rattle.std.specs.List.{All, Contains}
 use Rattle.tg_block.specs.Cells.{IsBlock, free_block, free_cell, cell_of}
 use Rattle.tg_word.specs.declared.Place.{Place}
@@ -14,6 +14,10 @@ use Rattle.tg_evac.specs.declared.win.Win.{Win}
 -- the words of the cell at a place, with its references and its link moved
 abbrev pub moved_cell : Kind → SpaceList → List ℕ → Place → List ℕ
 moved_cell kind h forward p = image_of (from_space kind) h (new_place forward) (cell_at h p)
+
+-- the word names a cell of Aged or of a nursery
+abbrev pub is_young : ℕ → Bool
+is_young word = not ((place_in word).space == 0)
 
 -- each forwarding word that isn't 0 has a place in range
 abbrev pub HavePlaces : List ℕ → Type 0

@@ -1,13 +1,13 @@
 //! The copy phase: images of the won cells in new blocks, with the forwarding words frozen.
-ghost use Rattle.std.specs.Prelude.{◌≡◌, ℕ, ◌<◌, ◌≤◌, ◌^◌, ◌+◌, ◌↔◌, ◌⊎◌, [], length, IfOk, IsTrue, OnOk};
-ghost use Rattle.std.specs.List.{All, Contains};
+ghost use Rattle.std.specs.Prelude.{◌≡◌, ℕ, ◌<◌, ◌≤◌, ◌^◌, ◌+◌, ◌↔◌, ◌⊎◌, length, IfOk, IsTrue, OnOk};
+ghost use Rattle.std.specs.List.{All, Contains, list_any};
 ghost use Rattle.tg_word.specs.declared.Place.{Place as PlaceOf};
 ghost use Rattle.tg_space.specs.Generations.{NamesYoung};
 ghost use Rattle.tg_space.specs.Soundness.{IsRootIn};
 ghost use Rattle.tg_space.specs.SpaceList.{IsSpace, cells_of};
 ghost use Rattle.tg_space.specs.declared.spaces.Root.TheVariants.{Remembered as RememberedAt};
 ghost use Rattle.tg_evac.specs.Claims.{AreApart, HavePointers, StandsAt, words_won};
-ghost use Rattle.tg_evac.specs.Copies.{HasNewPlace, HavePlaces, HoldCopies, IsGrown, IsYoungCopy, PutsCell, moved_cell};
+ghost use Rattle.tg_evac.specs.Copies.{HasNewPlace, HavePlaces, HoldCopies, IsGrown, IsYoungCopy, PutsCell, is_young, moved_cell};
 
 use crate::fault::CollectFault;
 use crate::plan::{OLD, Plan};
@@ -107,10 +107,10 @@ fn put_copy(
     requires behind { place.space ≡ 0 → kept ≤ place.block }
     requires block { place.block < 2 ^ 20 }
     requires cell { place.cell < 64 }
-    ensures aged { OnOk result (place.space ≡ 1 → PutsCell 0 place words adoption.old.aged adoption.new.aged) }
-    ensures aged_kept { OnOk result (place.space ≡ 0 → adoption.new.aged ≡ adoption.old.aged) }
-    ensures old { OnOk result (place.space ≡ 0 → PutsCell kept place words adoption.old.old adoption.new.old) }
-    ensures old_kept { OnOk result (place.space ≡ 1 → adoption.new.old ≡ adoption.old.old) }
+    ensures aged { OnOk result (place.space ≡ 1 → PutsCell 0 place words adoption.entry.now.aged adoption.exit.now.aged) }
+    ensures aged_kept { OnOk result (place.space ≡ 0 → adoption.exit.now.aged ≡ adoption.entry.now.aged) }
+    ensures old { OnOk result (place.space ≡ 0 → PutsCell kept place words adoption.entry.now.old adoption.exit.now.old) }
+    ensures old_kept { OnOk result (place.space ≡ 1 → adoption.exit.now.old ≡ adoption.entry.now.old) }
 {
     if place.space == OLD {
         put(alloc, &mut adoption.old, kept, place, words)
@@ -173,7 +173,12 @@ fn names_young(words: &[u64; WORDS]) -> bool
     ensures { IsTrue result ↔ NamesYoung words.now }
 {
     let first = first_pointer(words[0]);
-    words[first..]
-        .iter()
-        .any(|word| place_of(*word).space != OLD)
+    is_any_young(&words[first..])
+}
+
+// Whether one of these words names a cell of Aged or of a nursery.
+fn is_any_young(words: &[u64]) -> bool
+    ensures { result ≡ list_any is_young words.now }
+{
+    words.iter().any(|word| place_of(*word).space != OLD)
 }

@@ -22,11 +22,10 @@ first_traced c =
     traced_more kind h roots c.claim_roots.ensures.added (λ w claim. inl claim) none
 
 -- and then those of the won cells
-all_traced : (c : After-scan) → AreTraced c.args.self.now.plan.kind c.args.spaces.now.spaces c.args.roots.now c.scan.new.self.won
-all_traced c =
+all_traced : (c : After-scan) → AreTraced c.args.self.now.plan.kind c.args.spaces.now.spaces c.args.roots.now c.claim_roots.new.self.won → AreTraced c.args.self.now.plan.kind c.args.spaces.now.spaces c.args.roots.now c.scan.new.self.won
+all_traced c first =
     let h = c.args.spaces.now.spaces in let roots = c.args.roots.now in
-    subst (λ (k : Kind). AreTraced k h roots c.claim_roots.new.self.won → AreTraced k h roots c.scan.new.self.won) (same_kind c.claim_roots.ensures.added) (c.scan.ensures.traced roots)
-    (first_traced (goal.at.scan-requires-clause-stand c).After-claim_roots)
+    subst (λ (k : Kind). AreTraced k h roots c.claim_roots.new.self.won → AreTraced k h roots c.scan.new.self.won) (same_kind c.claim_roots.ensures.added) (c.scan.ensures.traced roots) first
 
 pub scan-requires-clause-stand : goal.scan-requires-clause-stand
 scan-requires-clause-stand c =
@@ -42,13 +41,13 @@ pub returns-in_err-scan-clause-full : goal.returns-in_err-scan-clause-full
 returns-in_err-scan-clause-full c =
     let p = err_from_is_err_and c.from_residual-in_err-scan.result c.from_residual-in_err-scan.ensures.1 in
     rw (p.1, p.2) (λ is. full_from c.args.spaces.now.spaces (table_list c.args.spaces.now c.requires.table) c.requires.pointers c.args.roots.now c.requires.roots c.args.self.now c.scan.new.self (c.scan.ensures.same_plan ∙ c.claim_roots.ensures.added.same_plan)
-    (all_traced (goal.at.returns-in_err-scan-clause-full c).After-scan) (c.in_err-scan.ensures.full is))
+    (all_traced (goal.at.returns-in_err-scan-clause-full c).After-scan (first_traced (goal.at.returns-in_err-scan-clause-full c).After-claim_roots)) (c.in_err-scan.ensures.full is))
 
 pub returns-clause-traced : goal.returns-clause-traced
 returns-clause-traced c =
     let h = c.args.spaces.now.spaces in let kind = c.args.self.now.plan.kind in let roots = all_root_targets (from_space kind) h c.args.roots.now in let targets = targets_of (from_space kind) h in
     let won = cells_won c.scan.new.self.won in let first = cells_won c.claim_roots.new.self.won in
-    let traced = all_traced (goal.at.returns-clause-traced c).After-scan in
+    let traced = all_traced (goal.at.returns-clause-traced c).After-scan (first_traced (goal.at.returns-clause-traced c).After-claim_roots) in
     let held : All (Contains won) roots =
     All-weaker (Contains first) (Contains won) (λ x k. All-contains (Contains won) first x c.scan.ensures.kept k) roots c.in_ok-claim_roots.ensures.held in
     let closed : IsClosed targets won (length won) = subst (λ (k : Kind). IsClosed (targets_of (from_space k) h) won (length won)) (same_kind c.claim_roots.ensures.added) c.in_ok-scan.ensures.closed in
