@@ -23,7 +23,7 @@ empties n = replicate n []
 none_left : (n s : ℕ) → get_or (empties n) s [] ≡ []
 none_left n s = ⊎_elim
     (λ (low : s < n). get_or-replicate n s [] [] low)
-    (λ (past : n ≤ s). get_or_past (empties n) s [] (rw (length-replicate n []) past))
+    (λ (past : n ≤ s). get_or_past (empties n) s [] (rw (length-replicate {A = BlockList} n []) past))
     (cases_lt s n)
 
 module _ (h : SpaceList) (aged old : BlockList) (p : Place) where

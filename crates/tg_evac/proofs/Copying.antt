@@ -9,23 +9,25 @@ use Rattle.tg_word.specs.declared.Place.{Place}
 use Rattle.tg_word.specs.Word.{link_to, place_in}
 use Rattle.tg_space.specs.Generations.{NamesYoung}
 use Rattle.tg_space.specs.SpaceList.{BlockList}
+use Rattle.tg_space.specs.declared.spaces.Root.{Root}
+use Rattle.tg_space.specs.declared.spaces.Root.TheVariants.{Remembered}
 use Rattle.tg_evac.specs.declared.win.Win.{Win}
 use Rattle.tg_evac.specs.Claims.{AreApart, words_won, win_at}
 use Rattle.tg_evac.specs.Copies.{HasNewPlace, IsPlaceIn, IsGrown, PutsCell, HasCopy, HoldCopies, IsYoungCopy, new_cell, with_cell}
 
--- ---- a pair among those before one more
+-- ---- one more element
 
--- a pair of the longer list is the new one, or one before
-pub earlier_or_last : (won : List Win) (w v : Win) → Contains (won ++ w ∷ []) v → Contains won v ⊎ (w ≡ v)
-earlier_or_last won w v held =
-    let long = length_push won w in let low = held.1 in
+-- an element of the longer list is the new one, or one before
+pub earlier_or_last : {X : Type 0} (xs : List X) (x y : X) → Contains (xs ++ x ∷ []) y → Contains xs y ⊎ (x ≡ y)
+earlier_or_last xs x y held =
+    let long = length_push xs x in let low = held.1 in
     ⊎_elim
-    (λ (early : held.0 < length won). inl (held.0, early, sym (get_or_append_left won (w ∷ []) v held.0 early) ∙ held.2))
-    (λ (past : length won ≤ held.0). let at : length won ≡ held.0 = omega arith in inr (sym (get_or_push won w v held.0 at) ∙ held.2))
-    (cases_lt held.0 (length won))
+    (λ (early : held.0 < length xs). inl (held.0, early, sym (get_or_append_left xs (x ∷ []) y held.0 early) ∙ held.2))
+    (λ (past : length xs ≤ held.0). let at : length xs ≡ held.0 = omega arith in inr (sym (get_or_push xs x y held.0 at) ∙ held.2))
+    (cases_lt held.0 (length xs))
 
-pub last_held : (won : List Win) (w : Win) → Contains (won ++ w ∷ []) w
-last_held won w = Contains-append_right won (w ∷ []) w (0, lit< tt, refl)
+pub last_held : {X : Type 0} (xs : List X) (x : X) → Contains (xs ++ x ∷ []) x
+last_held xs x = Contains-append_right xs (x ∷ []) x (0, lit< tt, refl)
 
 -- two places of a space that differ, differ in their block or their cell
 pub same_place : (p q : Place) → p.space ≡ q.space → p.block ≡ q.block → p.cell ≡ q.cell → p ≡ q
@@ -201,3 +203,30 @@ module _ (kept : ℕ) (copy : Place → List ℕ) (won : List Win) (new : All (H
             (step p).1 (inr (here_is, sym (ap (λ (q : Place). q.space) here_is) ∙ y.old, subst (λ (ws : List ℕ). NamesYoung ws) (ap (λ (w : Win). copy w.from) (sym last) ∙ sym is) y.names)))
             (earlier_or_last (take i won) (win_at won i) y.win (subst (λ (ws : List Win). Contains ws y.win) more y.is)))
             has
+
+-- ---- one more root
+
+module _ (roots : List Root) (i : ℕ) (d : Root) (inside : i < length roots) (young : Place → Type 0) (noted before after : List Place)
+    (was : (p : Place) → Contains before p ↔ (Contains noted p ⊎ (Contains (take i roots) (Remembered p) × young p)))
+    (step : (p : Place) → Contains after p ↔ (Contains before p ⊎ ((get_or roots i d ≡ Remembered p) × young p))) where
+  one_more : take (i + 1) roots ≡ take i roots ++ get_or roots i d ∷ []
+  one_more = take_more roots i d inside
+
+  pub noted_root : (p : Place) → Contains after p ↔ (Contains noted p ⊎ (Contains (take (i + 1) roots) (Remembered p) × young p))
+  noted_root p = (forth, back)
+    where
+      forth : Contains after p → Contains noted p ⊎ (Contains (take (i + 1) roots) (Remembered p) × young p)
+      forth held = ⊎_elim
+          (λ (early : Contains before p). ⊎_elim (λ n. inl n)
+          (λ root. inr (subst (λ (rs : List Root). Contains rs (Remembered p)) (sym one_more) (Contains-append_left (take i roots) (get_or roots i d ∷ []) (Remembered p) root.0), root.1)) ((was p).0 early))
+          (λ last. inr (subst (λ (rs : List Root). Contains rs (Remembered p)) (sym one_more) (subst (λ (r : Root). Contains (take i roots ++ get_or roots i d ∷ []) r) last.0 (last_held (take i roots) (get_or roots i d))), last.1))
+          ((step p).0 held)
+
+      back : Contains noted p ⊎ (Contains (take (i + 1) roots) (Remembered p) × young p) → Contains after p
+      back has = ⊎_elim
+          (λ n. (step p).1 (inl ((was p).1 (inl n))))
+          (λ root. ⊎_elim
+          (λ (early : Contains (take i roots) (Remembered p)). (step p).1 (inl ((was p).1 (inr (early, root.1)))))
+          (λ (last : get_or roots i d ≡ Remembered p). (step p).1 (inr (last, root.1)))
+          (earlier_or_last (take i roots) (get_or roots i d) (Remembered p) (subst (λ (rs : List Root). Contains rs (Remembered p)) one_more root.0)))
+          has

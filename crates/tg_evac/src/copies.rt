@@ -30,7 +30,7 @@ pub fn note_roots(
     requires roots { All (IsRootIn spaces.now.spaces) roots.now }
     requires whole { length forward.now ≡ length (cells_of spaces.now.spaces) }
     requires places { HavePlaces forward.now }
-    ensures noted { OnOk result ((p : PlaceOf) → Contains remembered.new.places p ↔ (Contains remembered.old.places p ⊎ (Contains roots.now (RememberedAt p) × NamesYoung (moved_cell kind spaces.now.spaces forward.now p)))) }
+    ensures { OnOk result ((p : PlaceOf) → Contains remembered.new.places p ↔ (Contains remembered.old.places p ⊎ (Contains roots.now (RememberedAt p) × NamesYoung (moved_cell kind spaces.now.spaces forward.now p)))) }
 {
     for root in roots {
         note_root(remembered, spaces, kind, forward, *root)?;
@@ -50,7 +50,7 @@ fn note_root(
     requires root { IsRootIn spaces.now.spaces root }
     requires whole { length forward.now ≡ length (cells_of spaces.now.spaces) }
     requires places { HavePlaces forward.now }
-    ensures noted { OnOk result ((p : PlaceOf) → Contains remembered.new.places p ↔ (Contains remembered.old.places p ⊎ ((root ≡ RememberedAt p) × NamesYoung (moved_cell kind spaces.now.spaces forward.now p)))) }
+    ensures { OnOk result ((p : PlaceOf) → Contains remembered.new.places p ↔ (Contains remembered.old.places p ⊎ ((root ≡ RememberedAt p) × NamesYoung (moved_cell kind spaces.now.spaces forward.now p)))) }
 {
     match root {
         Root::Row(_) => Ok(()),

@@ -1,5 +1,5 @@
 //! What a collection is to do.
-ghost use Rattle.std.specs.Prelude.{◌≡◌};
+ghost use Rattle.std.specs.Prelude.{◌≡◌, ◌≤◌, ◌^◌};
 ghost use Rattle.tg_space.specs.SpaceTable.{IsSpaceTable};
 ghost use Rattle.tg_evac.specs.Claims.{IsPlanFor, is_straight as straight_from, space_for as space_of_copy};
 
@@ -27,7 +27,9 @@ impl Plan {
     /// The plan of a collection of these spaces.
     pub fn of(kind: Kind, spaces: &Spaces) -> Self
         requires { IsSpaceTable spaces.now }
-        ensures { IsPlanFor kind spaces.now result }
+        ensures plan { IsPlanFor kind spaces.now result }
+        ensures kept { result.kept ≤ 2 ^ 20 }
+        ensures room { result.room ≤ 2 ^ 26 }
     {
         let kept = match kind {
             Kind::Full => 0,
