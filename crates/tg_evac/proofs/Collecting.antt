@@ -1,7 +1,7 @@
 -- The copies of the won cells are a collection.
 use Rattle.std.proofs.Common.{◌≡◌, ◌≢◌, ◌↔◌, ℕ, ◌<◌, ◌≤◌, ◌+◌, ◌^◌, ◌⊎◌, List, [], length, get_or, refl, sym, ap, subst, arith, ◌∙◌, inl, inr, ⊎_elim}
 use Rattle.std.specs.List.{All, Contains}
-use Rattle.std.proofs.lemmas.List.Elements.{All-contains}
+use Rattle.std.proofs.lemmas.List.Elements.{All-contains, All-from_get_or, Contains-get_or}
 use Rattle.std.proofs.lemmas.Bool.{cases_eq}
 use Rattle.tg_block.specs.Cells.{free_cell}
 use Rattle.tg_word.specs.declared.Place.{Place}
@@ -10,17 +10,19 @@ use Rattle.tg_space.specs.Closure.{IsInClosure}
 use Rattle.tg_space.specs.Collection.{IsNewPlace, IsForwarded, IsMadeInOld, IsCollection, new_place}
 use Rattle.tg_space.specs.Generations.{AreInGenerations, NamesYoung}
 use Rattle.tg_space.specs.SpaceList.{SpaceList, BlockList, IsSpaceList, cell_at, cells_of}
-use Rattle.tg_space.specs.SpaceTable.{adopted, kept_blocks}
+use Rattle.tg_space.specs.SpaceTable.{SpaceTable, IsSpaceTable, adopted, kept_blocks}
 use Rattle.tg_space.specs.Targets.{from_space, all_root_targets, targets_of, image_of}
 use Rattle.tg_space.specs.declared.spaces.Kind.{Kind}
 use Rattle.tg_space.specs.declared.spaces.Kind.TheVariants.{Full, Nursery}
 use Rattle.tg_space.specs.declared.spaces.Root.{Root}
 use Rattle.tg_space.specs.declared.spaces.Root.TheVariants.{Remembered}
 use Rattle.tg_space.proofs.Flat.{get_or-flat_of}
+use Rattle.tg_space.proofs.Tables.{table_list}
+use Rattle.tg_evac.specs.declared.plan.Plan.{Plan}
 use Rattle.tg_evac.specs.declared.win.Win.{Win}
-use Rattle.tg_evac.specs.Claims.{StandsIn, StandsAt, AreTraced, AreWordsOf, cells_won}
+use Rattle.tg_evac.specs.Claims.{Claimed, AreClaims, IsPlanFor, IsTracedFrom, StandsIn, StandsAt, AreTraced, AreWordsOf, cells_won, win_at}
 use Rattle.tg_evac.specs.Copies.{HasNewPlace, HasCopy, HoldCopies, IsYoungCopy, IsPlaceIn, moved_cell, new_cell}
-use Rattle.tg_evac.proofs.Claiming.{cell_held, win_from_cell}
+use Rattle.tg_evac.proofs.Claiming.{cell_held, win_from_cell, word_place, word_links, word_to, word_behind, cells_apart}
 use Rattle.tg_evac.proofs.Reasons.{all_in_old, all_stand, are_aged, goes_to}
 use Rattle.tg_evac.proofs.Adopted.{old_place, aged_place, new_is, find_place, free_is_not_young}
 
@@ -182,3 +184,56 @@ module _ (kind : Kind) (h : SpaceList) (roots : List Root) (forward : List ℕ) 
     noted = noted_ok;
     few = copies.few;
   }
+
+-- ---- from the claims
+
+pub new_places : (c : Claimed) → AreClaims c → All (HasNewPlace c.plan.kept) c.won
+new_places c are = All-from_get_or (HasNewPlace c.plan.kept) c.won (win_at [] 0) (λ k low.
+    let held : Contains c.won (win_at c.won k) = Contains-get_or c.won k (win_at [] 0) low in
+    record {
+      place = word_place c are (win_at c.won k) held;
+      link = word_links c are (win_at c.won k) held;
+      two = word_to c are (win_at c.won k) held;
+      behind = word_behind c are (win_at c.won k) held;
+    })
+
+module _ (kind : Kind) (t : SpaceTable) (roots : List Root) (plan : Plan) (is_plan : IsPlanFor kind t plan) (table : IsSpaceTable t)
+    (c : Claimed) (claims : AreClaims c) (same : c.plan ≡ plan) (traced : IsTracedFrom kind t.spaces roots c) where
+  kept_is : c.plan.kept ≡ kept_blocks kind t.spaces
+  kept_is = ap (λ (p : Plan). p.kept) same ∙ is_plan.kept
+
+  wins : AreWins kind t.spaces roots c.forward c.won
+  wins = record {
+    whole = traced.whole;
+    words = claims.words;
+    traced = traced.traced;
+    reached = traced.reached;
+    places = subst (λ (n : ℕ). All (HasNewPlace n) c.won) kept_is (new_places c claims);
+    apart = cells_apart c claims;
+  }
+
+  pub collected : (aged old : BlockList) (before between after : List Place) → before ≡ [] →
+      ((p : Place) → Contains between p ↔ (Contains before p ⊎ (Contains roots (Remembered p) × NamesYoung (moved_cell kind t.spaces c.forward p)))) →
+      ((p : Place) → Contains after p ↔ (Contains between p ⊎ IsYoungCopy (moved_cell plan.kind t.spaces c.forward) c.won p)) →
+      HoldCopies 1 0 (moved_cell plan.kind t.spaces c.forward) c.won aged → HoldCopies 0 plan.kept (moved_cell plan.kind t.spaces c.forward) c.won old →
+      plan.kept + length old ≤ 2 ^ 20 → IsCollection kind t.spaces roots c.forward aged old after
+  collected aged old before between after none first then in_aged in_old few =
+      is_collection kind t.spaces roots c.forward c.won aged old after (table_list t table) wins (record {
+        aged_copies = subst (λ (k : Kind). HoldCopies 1 0 (moved_cell k t.spaces c.forward) c.won aged) is_plan.same in_aged;
+        old_copies = subst (λ (n : ℕ). HoldCopies 0 n (moved_cell kind t.spaces c.forward) c.won old) is_plan.kept
+            (subst (λ (k : Kind). HoldCopies 0 plan.kept (moved_cell k t.spaces c.forward) c.won old) is_plan.same in_old);
+        few = subst (λ (n : ℕ). n + length old ≤ 2 ^ 20) is_plan.kept few;
+        noted = noted;
+      })
+    where
+      young : (p : Place) → Contains after p ↔ (Contains between p ⊎ IsYoungCopy (moved_cell kind t.spaces c.forward) c.won p)
+      young p = subst (λ (k : Kind). Contains after p ↔ (Contains between p ⊎ IsYoungCopy (moved_cell k t.spaces c.forward) c.won p)) is_plan.same (then p)
+
+      nothing : (p : Place) → Contains before p → ⊥
+      nothing p held = let empty : Contains [] p = subst (λ (ps : List Place). Contains ps p) none held in absurd (let low = empty.1 in omega arith)
+
+      noted : (p : Place) → Contains after p ↔ ((Contains roots (Remembered p) × NamesYoung (moved_cell kind t.spaces c.forward p)) ⊎ IsYoungCopy (moved_cell kind t.spaces c.forward) c.won p)
+      noted p = (
+        (λ held. ⊎_elim (λ (b : Contains between p). ⊎_elim (λ (e : Contains before p). absurd (nothing p e)) (λ root. inl root) ((first p).0 b)) (λ y. inr y) ((young p).0 held)),
+        (λ has. (young p).1 (⊎_elim (λ root. inl ((first p).1 (inr root))) (λ y. inr y) has)),
+      )

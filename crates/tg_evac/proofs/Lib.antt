@@ -7,3 +7,4 @@ pub mod Copying
 pub mod Adopted
 pub mod Collecting
 pub mod Young
+pub mod Sound
