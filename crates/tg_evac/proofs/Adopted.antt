@@ -1,5 +1,5 @@
 -- The cells of new blocks, where they are put in place.
-use Rattle.std.proofs.Common.{◌≡◌, ◌≢◌, ℕ, zero, suc, ◌<◌, ◌≤◌, ◌+◌, ◌-◌, ◌⊎◌, ◌++◌, List, [], ◌∷◌, length, get_or, replicate, refl, sym, ap, subst, arith, ◌∙◌, inl, inr, ⊎_elim}
+use Rattle.std.proofs.Common.{◌≡◌, ◌≢◌, ℕ, zero, suc, ◌<◌, ◌≤◌, ◌-◌, ◌⊎◌, ◌++◌, List, [], ◌∷◌, length, get_or, replicate, refl, ap, arith, ◌∙◌, inl, inr, ⊎_elim}
 use Rattle.std.specs.List.{Contains}
 use Rattle.std.proofs.lemmas.List.{length-append, get_or-append_right, get_or-replicate, get_or_past, length-replicate}
 use Rattle.std.proofs.lemmas.Bool.{cases_lt, cases_eq}
@@ -8,7 +8,7 @@ use Rattle.tg_word.specs.declared.Place.{Place}
 use Rattle.tg_word.specs.Word.{place_in}
 use Rattle.tg_space.specs.Collection.{IsNewPlace}
 use Rattle.tg_space.specs.Generations.{NamesYoung}
-use Rattle.tg_space.specs.SpaceList.{SpaceList, BlockList, Holds, space_of, cell_at}
+use Rattle.tg_space.specs.SpaceList.{SpaceList, BlockList, space_of, cell_at}
 use Rattle.tg_space.specs.SpaceTable.{adopted, kept_blocks}
 use Rattle.tg_space.specs.declared.spaces.Kind.{Kind}
 use Rattle.tg_space.specs.declared.spaces.Kind.TheVariants.{Full, Nursery}

@@ -1,14 +1,14 @@
 -- The targets of a row, chunk by chunk, and that the cells among them are used ones of from-space.
-use Rattle.std.proofs.Common.{◌≡◌, ◌≢◌, ℕ, zero, suc, ◌<◌, ◌+◌, ◌-◌, ◌⊎◌, ◌==◌, ◌++◌, Bool, true, false, not, cond, List, [], ◌∷◌, length, get_or, refl, sym, ap, subst, arith, ◌∙◌, inl, inr, ⊎_elim}
+use Rattle.std.proofs.Common.{◌≡◌, ◌≢◌, ℕ, zero, suc, ◌<◌, ◌+◌, ◌-◌, ◌⊎◌, ◌==◌, ◌++◌, Bool, true, false, not, cond, List, [], ◌∷◌, length, refl, sym, ap, subst, arith, ◌∙◌, inl, inr, ⊎_elim}
 use Rattle.std.specs.List.{All, Contains, flat_map, take_while}
 use Rattle.std.proofs.lemmas.List.{append-nil, append_assoc}
-use Rattle.std.proofs.lemmas.List.Elements.{All-nil, All-cons, All-append, All-weaker, All-head, All-tail, All-contains, All-contains_itself, Contains-append_left, Contains-append_right}
+use Rattle.std.proofs.lemmas.List.Elements.{All-nil, All-cons, All-append, All-weaker, All-head, All-tail, All-contains_itself, Contains-append_left, Contains-append_right}
 use Rattle.std.proofs.lemmas.List.Sums.{take_while-cons}
 use Rattle.std.proofs.lemmas.Bool.Decides.{eqb_tells}
 use Rattle.tg_word.specs.declared.Place.{Place}
 use Rattle.tg_word.specs.Word.{place_in}
 use Rattle.tg_space.specs.Rows.{chunks_from, link_at}
-use Rattle.tg_space.specs.Soundness.{IsPointer, NamesCell, IsRootIn}
+use Rattle.tg_space.specs.Soundness.{IsPointer, IsRootIn}
 use Rattle.tg_space.specs.SpaceList.{SpaceList, IsSpaceList, Holds, cell_at, flat_of, cells_of}
 use Rattle.tg_space.specs.Targets.{from_space, pointers_of, target_in, named_by, cells_met, targets_at, targets_of, root_targets_of}
 use Rattle.tg_space.specs.declared.spaces.Kind.{Kind}

@@ -21,7 +21,7 @@ use Rattle.tg_space.proofs.Tables.{table_list}
 use Rattle.tg_evac.specs.declared.plan.Plan.{Plan}
 use Rattle.tg_evac.specs.declared.win.Win.{Win}
 use Rattle.tg_evac.specs.Claims.{Claimed, AreClaims, IsPlanFor, IsTracedFrom, StandsIn, StandsAt, AreTraced, AreWordsOf, cells_won, win_at}
-use Rattle.tg_evac.specs.Copies.{HasNewPlace, HasCopy, HoldCopies, IsYoungCopy, IsPlaceIn, moved_cell, new_cell}
+use Rattle.tg_evac.specs.Copies.{HasNewPlace, HoldCopies, IsYoungCopy, IsPlaceIn, moved_cell}
 use Rattle.tg_evac.proofs.Claiming.{cell_held, win_from_cell, word_place, word_links, word_to, word_behind, cells_apart}
 use Rattle.tg_evac.proofs.Reasons.{all_in_old, all_stand, are_aged, goes_to}
 use Rattle.tg_evac.proofs.Adopted.{old_place, aged_place, new_is, find_place, free_is_not_young}

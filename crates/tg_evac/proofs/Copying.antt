@@ -1,7 +1,7 @@
 -- Steps of the copy phase.
-use Rattle.std.proofs.Common.{◌≡◌, ◌≢◌, ℕ, ◌<◌, ◌≤◌, ◌+◌, ◌-◌, ◌^◌, ◌⊎◌, ◌↔◌, List, [], ◌∷◌, ◌++◌, length, get_or, set, take, refl, sym, ap, subst, arith, ◌∙◌, lit<, inl, inr, ⊎_elim}
+use Rattle.std.proofs.Common.{◌≡◌, ◌≢◌, ℕ, ◌<◌, ◌≤◌, ◌+◌, ◌-◌, ◌⊎◌, ◌↔◌, List, [], ◌∷◌, ◌++◌, length, get_or, set, take, refl, sym, ap, subst, arith, ◌∙◌, lit<, inl, inr, ⊎_elim}
 use Rattle.std.specs.List.{All, Contains}
-use Rattle.std.proofs.lemmas.List.{get_or-map, length-map, get_or-set_same, get_or-set_other, get_or-replicate, length-set, length_push, get_or_append_left, get_or-append_right, get_or_push, take_more, length-take-le, get_or-take}
+use Rattle.std.proofs.lemmas.List.{get_or-map, length-map, get_or-set_same, get_or-set_other, get_or-replicate, length-set, length_push, get_or_append_left, get_or_push, take_more, length-take-le, get_or-take}
 use Rattle.std.proofs.lemmas.List.Elements.{All-get_or, All-contains, Contains-append_left, Contains-append_right, Contains-get_or}
 use Rattle.std.proofs.lemmas.Bool.{cases_lt, cases_eq}
 use Rattle.tg_block.specs.Cells.{IsBlock, cell_of, free_block, free_cell}
@@ -13,7 +13,7 @@ use Rattle.tg_space.specs.declared.spaces.Root.{Root}
 use Rattle.tg_space.specs.declared.spaces.Root.TheVariants.{Remembered}
 use Rattle.tg_evac.specs.declared.win.Win.{Win}
 use Rattle.tg_evac.specs.Claims.{AreApart, words_won, win_at}
-use Rattle.tg_evac.specs.Copies.{HasNewPlace, IsPlaceIn, IsGrown, PutsCell, HasCopy, HoldCopies, IsYoungCopy, new_cell, with_cell}
+use Rattle.tg_evac.specs.Copies.{HasNewPlace, IsPlaceIn, IsGrown, PutsCell, HasCopy, HoldCopies, IsYoungCopy, new_cell}
 
 -- ---- one more element
 

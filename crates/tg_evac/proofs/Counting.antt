@@ -1,24 +1,21 @@
 -- No more cells are won than there are cells of from-space that are not free.
-use Rattle.std.proofs.Common.{◌≡◌, ◌≢◌, ℕ, zero, suc, ◌<◌, ◌≤◌, ◌+◌, ◌-◌, ◌*◌, ◌⊎◌, ◌==◌, ◌++◌, Bool, true, false, not, cond, eqb, List, [], ◌∷◌, length, get_or, take, drop, refl, sym, ap, subst, arith, ◌∙◌, inl, inr, ⊎_elim}
+use Rattle.std.proofs.Common.{◌≡◌, ◌≢◌, ℕ, zero, suc, ◌<◌, ◌≤◌, ◌+◌, ◌-◌, ◌*◌, ◌==◌, Bool, true, false, not, cond, eqb, List, [], ◌∷◌, length, get_or, refl, sym, ap, subst, arith, ◌∙◌}
 use Rattle.std.specs.List.{All, Contains, list_any, IsDistinct, count_by, flat_map}
 use Rattle.std.proofs.lemmas.List.{get_or-append_right}
-use Rattle.std.proofs.lemmas.List.Elements.{All-nil, All-cons, All-append, All-head, All-tail, All-contains, All-from_get_or, Contains-get_or, Contains-append_right}
-use Rattle.std.proofs.lemmas.List.Sums.{sum_by-cons, take_while-cons}
-use Rattle.std.proofs.lemmas.Bool.{cases_lt, cases_eq}
-use Rattle.std.proofs.lemmas.Bool.Decides.{nat_tests, eqb_tells, Decides-eqb}
+use Rattle.std.proofs.lemmas.List.Elements.{All-head, All-tail, All-contains, Contains-append_right}
+use Rattle.std.proofs.lemmas.List.Sums.{sum_by-cons}
+use Rattle.std.proofs.lemmas.Bool.Decides.{nat_tests, Decides-eqb}
 use Rattle.std.proofs.lemmas.Map.Made.{length-le_from_is_member}
 use Rattle.std.proofs.lemmas.Map.Views.{Contains-from_any, list_any-from_Contains}
 use Rattle.std.specs.Cmp.{nat_eq_equiv}
 use Rattle.tg_word.specs.declared.Place.{Place}
-use Rattle.tg_word.specs.Word.{place_in}
 use Rattle.tg_block.specs.Cells.{all_are_zero}
 use Rattle.tg_space.specs.Collection.{moved_cells, used_cells}
-use Rattle.tg_space.specs.Soundness.{IsPointer, NamesCell, IsRootIn}
-use Rattle.tg_space.specs.SpaceList.{SpaceList, BlockList, IsSpace, IsSpaceList, Holds, cell_at, flat_of, cells_of, space_of, blocks_before}
-use Rattle.tg_space.specs.Targets.{from_space, cell_numbered}
+use Rattle.tg_space.specs.SpaceList.{SpaceList, BlockList, IsSpace, IsSpaceList, Holds, cell_at, flat_of, cells_of, blocks_before}
+use Rattle.tg_space.specs.Targets.{from_space}
 use Rattle.tg_space.specs.declared.spaces.Kind.{Kind}
 use Rattle.tg_space.specs.declared.spaces.Kind.TheVariants.{Full, Nursery}
-use Rattle.tg_space.proofs.Flat.{get_or-flat_of, flat_inside, length-cells_of, length-blocks, before_mono, before_more}
+use Rattle.tg_space.proofs.Flat.{get_or-flat_of, flat_inside, length-cells_of, length-blocks, before_mono}
 use Rattle.tg_evac.specs.Claims.{Claimed, IsFull, cells_won}
 
 -- the cell with a number is one of from-space that isn't free

@@ -1,5 +1,5 @@
 -- Claims of the pieces of a list, one after the other.
-use Rattle.std.proofs.Common.{◌≡◌, ℕ, ◌≢◌, ◌<◌, ◌+◌, ◌++◌, Bool, true, false, List, [], length, get_or, take, sym, ap, subst, inr, ◌∙◌}
+use Rattle.std.proofs.Common.{◌≡◌, ℕ, ◌≢◌, ◌<◌, ◌+◌, ◌++◌, Bool, false, List, [], length, get_or, take, sym, ap, subst, inr, ◌∙◌}
 use Rattle.std.specs.List.{All, Contains, flat_map}
 use Rattle.std.proofs.lemmas.List.{get_or-map, get_or_default}
 use Rattle.std.proofs.lemmas.List.Elements.{All-append, All-weaker, All-contains, All-contains_itself, Contains-append_left, Contains-append_right, Contains-get_or}

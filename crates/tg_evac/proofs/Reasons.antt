@@ -1,5 +1,5 @@
 -- What the reasons of won pairs say: which cells were won, and in which space their copies are.
-use Rattle.std.proofs.Common.{◌≡◌, ◌≢◌, ℕ, zero, suc, ◌<◌, ◌≤◌, ◌+◌, ◌-◌, ◌*◌, ◌⊎◌, ◌==◌, ◌++◌, Bool, true, false, List, [], ◌∷◌, length, get_or, refl, sym, ap, subst, arith, ◌∙◌, inl, inr, ⊎_elim}
+use Rattle.std.proofs.Common.{◌≡◌, ◌≢◌, ℕ, zero, suc, ◌<◌, ◌≤◌, ◌+◌, ◌-◌, ◌*◌, ◌⊎◌, ◌==◌, Bool, true, false, List, [], length, get_or, refl, sym, ap, subst, arith, ◌∙◌, inl, inr, ⊎_elim}
 use Rattle.std.specs.List.{All, Contains}
 use Rattle.std.proofs.lemmas.List.{get_or-map, length-map, length-append, get_or_append_left, get_or-append_right, get_or_default}
 use Rattle.std.proofs.lemmas.List.Elements.{All-weaker, All-map, All-get_or, All-contains, All-from_get_or, Contains-get_or}
@@ -10,7 +10,7 @@ use Rattle.tg_word.specs.declared.Place.{Place}
 use Rattle.tg_word.specs.Word.{place_in}
 use Rattle.tg_space.specs.Closure.{AddsFrom, IsTraced}
 use Rattle.tg_space.specs.Collection.{used_cells}
-use Rattle.tg_space.specs.Generations.{AreInGenerations, AreAged, GoesTo, IsAgedCell, IsNextIn, IsNurseryCell, IsRememberedTarget, IsRowTarget}
+use Rattle.tg_space.specs.Generations.{AreAged, GoesTo, IsAgedCell, IsNextIn, IsNurseryCell, IsRememberedTarget, IsRowTarget}
 use Rattle.tg_space.specs.Soundness.{IsRootIn}
 use Rattle.tg_space.specs.SpaceList.{SpaceList, IsSpaceList, Holds, cells_of, flat_of}
 use Rattle.tg_space.specs.Targets.{from_space, young_spaces, targets_of, root_targets_of, all_root_targets}

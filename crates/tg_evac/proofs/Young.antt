@@ -1,7 +1,7 @@
 -- Words that name young cells.
-use Rattle.std.proofs.Common.{◌≡◌, ◌≢◌, ℕ, ◌⊎◌, ◌==◌, ◌↔◌, true, false, not, List, refl, ap, sym, ◌∙◌, ⊎_elim}
+use Rattle.std.proofs.Common.{◌≡◌, ◌≢◌, ℕ, ◌==◌, ◌↔◌, true, false, not, List, ap, sym, ◌∙◌, ⊎_elim}
 use Rattle.std.specs.Prelude.{IsTrue}
-use Rattle.std.specs.List.{Any, Contains, list_any}
+use Rattle.std.specs.List.{Contains, list_any}
 use Rattle.std.proofs.lemmas.Bool.Decides.{eqb_tells}
 use Rattle.std.proofs.lemmas.List.Folds.{Any-from_list_any, list_any-from_Any}
 use Rattle.tg_word.specs.Word.{place_in}

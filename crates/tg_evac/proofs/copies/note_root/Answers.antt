@@ -1,7 +1,5 @@
 use Rattle.std.proofs.Common.{◌≡◌, List, ℕ, inl, inr, sym, ap, subst, ⊎_elim, ◌∙◌}
-use Rattle.std.specs.List.{Contains}
 use Rattle.std.proofs.lemmas.Result.{on_ok_weaker}
-use Rattle.tg_word.specs.declared.Place.{Place}
 use Rattle.tg_space.specs.Collection.{new_place}
 use Rattle.tg_space.specs.Generations.{NamesYoung}
 use Rattle.tg_space.specs.Soundness.{IsOldCell, IsRootIn}

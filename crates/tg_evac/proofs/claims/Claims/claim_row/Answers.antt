@@ -1,10 +1,7 @@
-use Rattle.std.proofs.Common.{◌≡◌, ℕ, false, length, ap, subst, sym, ◌∙◌}
+use Rattle.std.proofs.Common.{ap, sym, ◌∙◌}
 use Rattle.std.proofs.lemmas.Result.{on_ok_weaker}
-use Rattle.tg_space.specs.Rows.{link_at}
-use Rattle.tg_space.specs.SpaceList.{cells_of}
 use Rattle.tg_space.specs.Targets.{from_space}
-use Rattle.tg_space.specs.declared.spaces.Kind.{Kind}
-use Rattle.tg_evac.specs.Claims.{Claimed, AddsClaims, IsClaimOf, chunk_targets}
+use Rattle.tg_evac.specs.Claims.{Claimed}
 use Rattle.tg_evac.proofs.Pieces.{row_first, row_both, row_held}
 use Rattle.tg_evac.proofs.claims.Claims.claim_row.Goals as goal
 

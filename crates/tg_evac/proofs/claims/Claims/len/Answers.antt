@@ -3,7 +3,6 @@ use Rattle.std.proofs.lemmas.List.{length-map}
 use Rattle.tg_evac.specs.declared.win.Win.{Win}
 use Rattle.tg_evac.specs.Claims.{Claimed, cells_won}
 use Rattle.tg_evac.proofs.Claiming.{won_le}
-use Rattle.tg_evac.proofs.Collecting.{is_collection}
 use Rattle.tg_evac.proofs.claims.Claims.len.Goals as goal
 
 pub returns-clause-few : goal.returns-clause-few

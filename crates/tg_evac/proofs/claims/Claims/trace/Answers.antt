@@ -1,4 +1,4 @@
-use Rattle.std.proofs.Common.{ℕ, arith, ap, subst, sym, ◌∙◌, inl}
+use Rattle.std.proofs.Common.{arith, subst, ◌∙◌, inl}
 use Rattle.std.specs.List.{All, Contains}
 use Rattle.std.proofs.lemmas.List.Elements.{All-weaker, All-contains}
 use Rattle.std.proofs.lemmas.Result.{err_from_is_err_and}
