@@ -12,7 +12,7 @@
 //! The first word of a cell, its tag, says what the cell is; a cell that is none of the three is bad. What its
 //! references mean is no matter of this crate.
 //!
-//! The cells of a block are one allocation of 4 KiB, made of zeros once. A block is moved by its pointer, so
+//! The cells of a block are one allocation of 4 KiB, zeroed where it stands. A block is moved by its pointer, so
 //! its cells never move, and a list of blocks grows without copying them.
 //!
 //! A block is seen as a list of 64 cells, each a list of 8 words. Setting a word or a cell changes it alone.
@@ -52,15 +52,15 @@ pub enum CellKind {
 /// 64 cells of 8 words.
 #[derive(Drop)]
 pub struct Block {
-    cells: Box<[[u64; WORDS]; CELLS]>,
+    cells: Vec<[u64; WORDS]>,
 }
 
 impl Model for Block {
     ghost Value = { List (List ℕ) };
 
-    ghost view = { λ b. b.cells.value };
+    ghost view = { λ b. b.cells.items };
 
-    ghost invariant = { λ b. IsBlock b.cells.value };
+    ghost invariant = { λ b. IsBlock b.cells.items };
 }
 
 impl Block {
@@ -68,7 +68,7 @@ impl Block {
     pub fn new(alloc: Global) -> Result<Block, AllocError>
         ensures { IfOk result (λ block. block ≡ free_block) }
     {
-        let cells = Box::new(alloc, [[0; WORDS]; CELLS])?;
+        let cells = vec![in alloc; [0; WORDS]; CELLS]?;
         Ok(Block { cells })
     }
 

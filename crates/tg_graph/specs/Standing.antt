@@ -29,4 +29,4 @@ pub record Keeps (old new : Content) (kept : ℕ → Type 0) : Type 0 where
 -- is reached, and maybe more.
 abbrev pub KeepsReached : Kind → Content → Content → ℕ → Type 0
 KeepsReached Full old new workers = Keeps old new (IsReached old workers)
-KeepsReached Nursery old new workers = (kept : ℕ → Type 0) × Keeps old new kept × ((x : ℕ) → IsReached old workers x → kept x)
+KeepsReached Nursery old new workers = Keeps old new (IsNamed new) × ((x : ℕ) → IsReached old workers x → IsNamed new x)

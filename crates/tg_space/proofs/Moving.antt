@@ -1,20 +1,68 @@
--- The words of a cell, moved one after the other.
-use Rattle.std.proofs.Common.{◌≡◌, ℕ, ◌<◌, ◌+◌, List, [], ◌∷◌, ◌++◌, length, get_or, set, take, drop, map, sym, ap, arith, ◌∙◌, add-zero}
-use Rattle.std.proofs.lemmas.List.{take_more_set, map_more, drop-set-lt, drop-drop, get_or-drop}
+-- A cell as its eight words, those from one on moved.
+use Rattle.std.proofs.Common.{◌≡◌, ℕ, ◌<◌, ◌≤◌, ◌+◌, ◌-◌, ◌==◌, Bool, true, false, List, [], ◌∷◌, ◌++◌, length, get_or, take, drop, map, refl, sym, ap, subst, arith, ◌∙◌}
+use Rattle.std.specs.List.{All}
+use Rattle.std.proofs.lemmas.List.{drop_more, drop_all, get_or-drop, length-drop}
+use Rattle.std.proofs.lemmas.List.Elements.{All-get_or}
+use Rattle.tg_space.specs.Targets.{first_pointer}
 
-same_at : (xs ys : List ℕ) (i : ℕ) → drop i xs ≡ drop i ys → get_or xs i 0 ≡ get_or ys i 0
-same_at xs ys i e =
-    let p : get_or xs (i + 0) 0 ≡ get_or ys (i + 0) 0 = sym (get_or-drop i xs 0 0) ∙ ap (λ (l : List ℕ). get_or l 0 0) e ∙ get_or-drop i ys 0 0 in
-    rw add-zero at p
+pub pointer_at : (P : ℕ → Type 0) (words : List ℕ) (first i : ℕ) → first ≤ i → i < length words → All P (drop first words) → P (get_or words i 0)
+pointer_at P words first i from low all =
+    let long = length-drop first words in
+    let here : get_or (drop first words) (i - first) 0 ≡ get_or words (first + (i - first)) 0 = get_or-drop first words (i - first) 0 in
+    let at : first + (i - first) ≡ i = omega arith in
+    subst P (here ∙ ap (λ (n : ℕ). get_or words n 0) at) (All-get_or P (drop first words) (i - first) 0 (omega arith) all)
 
-module _ (f : ℕ → ℕ) (xs ys : List ℕ) (i v : ℕ) (long : length xs ≡ length ys) (inside : i < length ys)
-    (done : take i xs ≡ map f (take i ys)) (left : drop i xs ≡ drop i ys) where
-  pub same_here : get_or xs i 0 ≡ get_or ys i 0
-  same_here = same_at xs ys i left
+module _ (f : ℕ → ℕ) (first : ℕ) (a b c d e g h k : ℕ) (v1 v2 v3 v4 v5 v6 v7 : ℕ)
+    (l1 : 1 < first → v1 ≡ b) (m1 : first ≤ 1 → v1 ≡ f b) (l2 : 2 < first → v2 ≡ c) (m2 : first ≤ 2 → v2 ≡ f c) (l3 : 3 < first → v3 ≡ d) (m3 : first ≤ 3 → v3 ≡ f d) (l4 : 4 < first → v4 ≡ e) (m4 : first ≤ 4 → v4 ≡ f e) (l5 : 5 < first → v5 ≡ g) (m5 : first ≤ 5 → v5 ≡ f g) (l6 : 6 < first → v6 ≡ h) (m6 : first ≤ 6 → v6 ≡ f h) (l7 : 7 < first → v7 ≡ k) (m7 : first ≤ 7 → v7 ≡ f k) where
+  from_one : first ≡ 1 → a ∷ v1 ∷ v2 ∷ v3 ∷ v4 ∷ v5 ∷ v6 ∷ v7 ∷ [] ≡ take first (a ∷ b ∷ c ∷ d ∷ e ∷ g ∷ h ∷ k ∷ []) ++ map f (drop first (a ∷ b ∷ c ∷ d ∷ e ∷ g ∷ h ∷ k ∷ []))
+  from_one is =
+      let e1 = m1 (omega arith) in
+      let e2 = m2 (omega arith) in
+      let e3 = m3 (omega arith) in
+      let e4 = m4 (omega arith) in
+      let e5 = m5 (omega arith) in
+      let e6 = m6 (omega arith) in
+      let e7 = m7 (omega arith) in
+      rw is (rw (e1, e2, e3, e4, e5, e6, e7) refl)
 
-  pub moved_more : v ≡ f (get_or xs i 0) → take (i + 1) (set xs i v) ≡ map f (take (i + 1) ys)
-  moved_more is =
-      take_more_set xs i v (omega arith) ∙ ap (λ (l : List ℕ). l ++ v ∷ []) done ∙ ap (λ (x : ℕ). map f (take i ys) ++ x ∷ []) (is ∙ ap f same_here) ∙ sym (map_more f ys i 0 inside)
+  from_four : first ≡ 4 → a ∷ v1 ∷ v2 ∷ v3 ∷ v4 ∷ v5 ∷ v6 ∷ v7 ∷ [] ≡ take first (a ∷ b ∷ c ∷ d ∷ e ∷ g ∷ h ∷ k ∷ []) ++ map f (drop first (a ∷ b ∷ c ∷ d ∷ e ∷ g ∷ h ∷ k ∷ []))
+  from_four is =
+      let e1 = l1 (omega arith) in
+      let e2 = l2 (omega arith) in
+      let e3 = l3 (omega arith) in
+      let e4 = m4 (omega arith) in
+      let e5 = m5 (omega arith) in
+      let e6 = m6 (omega arith) in
+      let e7 = m7 (omega arith) in
+      rw is (rw (e1, e2, e3, e4, e5, e6, e7) refl)
 
-  pub left_more : drop (i + 1) (set xs i v) ≡ drop (i + 1) ys
-  left_more = drop-set-lt (i + 1) xs i v (omega arith) ∙ sym (drop-drop 1 i xs) ∙ ap (drop 1) left ∙ drop-drop 1 i ys
+  from_eight : first ≡ 8 → a ∷ v1 ∷ v2 ∷ v3 ∷ v4 ∷ v5 ∷ v6 ∷ v7 ∷ [] ≡ take first (a ∷ b ∷ c ∷ d ∷ e ∷ g ∷ h ∷ k ∷ []) ++ map f (drop first (a ∷ b ∷ c ∷ d ∷ e ∷ g ∷ h ∷ k ∷ []))
+  from_eight is =
+      let e1 = l1 (omega arith) in
+      let e2 = l2 (omega arith) in
+      let e3 = l3 (omega arith) in
+      let e4 = l4 (omega arith) in
+      let e5 = l5 (omega arith) in
+      let e6 = l6 (omega arith) in
+      let e7 = l7 (omega arith) in
+      rw is (rw (e1, e2, e3, e4, e5, e6, e7) refl)
+
+  pub moved_from : first ≡ first_pointer a → a ∷ v1 ∷ v2 ∷ v3 ∷ v4 ∷ v5 ∷ v6 ∷ v7 ∷ [] ≡ take first (a ∷ b ∷ c ∷ d ∷ e ∷ g ∷ h ∷ k ∷ []) ++ map f (drop first (a ∷ b ∷ c ∷ d ∷ e ∷ g ∷ h ∷ k ∷ []))
+  moved_from is = by_tests (a == 1) refl (a == 2) refl
+    where
+      by_tests : (x : Bool) → (a == 1) ≡ x → (y : Bool) → (a == 2) ≡ y → a ∷ v1 ∷ v2 ∷ v3 ∷ v4 ∷ v5 ∷ v6 ∷ v7 ∷ [] ≡ take first (a ∷ b ∷ c ∷ d ∷ e ∷ g ∷ h ∷ k ∷ []) ++ map f (drop first (a ∷ b ∷ c ∷ d ∷ e ∷ g ∷ h ∷ k ∷ []))
+      by_tests true x _ _ = from_four (is ∙ (rw x refl))
+      by_tests false x true y = from_one (is ∙ (rw (x, y) refl))
+      by_tests false x false y = from_eight (is ∙ (rw (x, y) refl))
+
+-- a cell is its eight words
+words_are : (ws : List ℕ) → length ws ≡ 8 → ws ≡ get_or ws 0 0 ∷ get_or ws 1 0 ∷ get_or ws 2 0 ∷ get_or ws 3 0 ∷ get_or ws 4 0 ∷ get_or ws 5 0 ∷ get_or ws 6 0 ∷ get_or ws 7 0 ∷ []
+words_are ws long = drop_more ws 0 0 (omega arith) ∙ ap (λ (xs : List ℕ). get_or ws 0 0 ∷ xs) (drop_more ws 1 0 (omega arith) ∙ ap (λ (xs : List ℕ). get_or ws 1 0 ∷ xs) (drop_more ws 2 0 (omega arith) ∙ ap (λ (xs : List ℕ). get_or ws 2 0 ∷ xs) (drop_more ws 3 0 (omega arith) ∙ ap (λ (xs : List ℕ). get_or ws 3 0 ∷ xs) (drop_more ws 4 0 (omega arith) ∙ ap (λ (xs : List ℕ). get_or ws 4 0 ∷ xs) (drop_more ws 5 0 (omega arith) ∙ ap (λ (xs : List ℕ). get_or ws 5 0 ∷ xs) (drop_more ws 6 0 (omega arith) ∙ ap (λ (xs : List ℕ). get_or ws 6 0 ∷ xs) (drop_more ws 7 0 (omega arith) ∙ ap (λ (xs : List ℕ). get_or ws 7 0 ∷ xs) (drop_all 8 ws (omega arith)))))))))
+
+pub copy_is : (f : ℕ → ℕ) (ws : List ℕ) → length ws ≡ 8 → (first : ℕ) → first ≡ first_pointer (get_or ws 0 0) → (v1 v2 v3 v4 v5 v6 v7 : ℕ) →
+    (1 < first → v1 ≡ get_or ws 1 0) → (first ≤ 1 → v1 ≡ f (get_or ws 1 0)) → (2 < first → v2 ≡ get_or ws 2 0) → (first ≤ 2 → v2 ≡ f (get_or ws 2 0)) → (3 < first → v3 ≡ get_or ws 3 0) → (first ≤ 3 → v3 ≡ f (get_or ws 3 0)) → (4 < first → v4 ≡ get_or ws 4 0) → (first ≤ 4 → v4 ≡ f (get_or ws 4 0)) → (5 < first → v5 ≡ get_or ws 5 0) → (first ≤ 5 → v5 ≡ f (get_or ws 5 0)) → (6 < first → v6 ≡ get_or ws 6 0) → (first ≤ 6 → v6 ≡ f (get_or ws 6 0)) → (7 < first → v7 ≡ get_or ws 7 0) → (first ≤ 7 → v7 ≡ f (get_or ws 7 0)) →
+    get_or ws 0 0 ∷ v1 ∷ v2 ∷ v3 ∷ v4 ∷ v5 ∷ v6 ∷ v7 ∷ [] ≡ take (first_pointer (get_or ws 0 0)) ws ++ map f (drop (first_pointer (get_or ws 0 0)) ws)
+copy_is f ws long first is v1 v2 v3 v4 v5 v6 v7 l1 m1 l2 m2 l3 m3 l4 m4 l5 m5 l6 m6 l7 m7 =
+    moved_from f first (get_or ws 0 0) (get_or ws 1 0) (get_or ws 2 0) (get_or ws 3 0) (get_or ws 4 0) (get_or ws 5 0) (get_or ws 6 0) (get_or ws 7 0) v1 v2 v3 v4 v5 v6 v7 l1 m1 l2 m2 l3 m3 l4 m4 l5 m5 l6 m6 l7 m7 is
+    ∙ ap (λ (xs : List ℕ). take first xs ++ map f (drop first xs)) (sym (words_are ws long))
+    ∙ ap (λ (n : ℕ). take n ws ++ map f (drop n ws)) is

@@ -1,5 +1,5 @@
 //! The copy of a cell.
-ghost use Rattle.std.specs.Prelude.{◌≡◌, length, map};
+ghost use Rattle.std.specs.Prelude.{◌≡◌, ◌<◌, ◌≤◌, drop, length, slice_index};
 ghost use Rattle.std.specs.List.{All};
 ghost use Rattle.tg_word.specs.Word.{IsPlace, place_in};
 ghost use Rattle.tg_space.specs.Collection.{new_place};
@@ -15,28 +15,47 @@ impl Spaces {
     /// These words of a cell with its references and its link moved: one that names a cell which a collection of this
     /// kind moves gets the place in that cell's forwarding word, and keeps its rights. All else is equal. Takes no
     /// memory.
+    #[inline]
     pub fn image(&self, kind: Kind, forward: &[u64], words: [u64; WORDS]) -> [u64; WORDS]
         requires pointers { All (IsPointer self.now.spaces) (pointers_of words) }
         requires whole { length forward.now ≡ length (cells_of self.now.spaces) }
         requires places { All (λ word. IsPlace (place_in word)) forward.now }
         ensures { result ≡ image_of (from_space kind) self.now.spaces (new_place forward.now) words }
     {
-        let mut image = words;
-        let first = first_pointer(image[0]);
-        self.move_words(kind, forward, &mut image[first..]);
-        image
+        let first = first_pointer(words[0]);
+        [
+            words[0],
+            self.image_word(kind, forward, &words, first, 1),
+            self.image_word(kind, forward, &words, first, 2),
+            self.image_word(kind, forward, &words, first, 3),
+            self.image_word(kind, forward, &words, first, 4),
+            self.image_word(kind, forward, &words, first, 5),
+            self.image_word(kind, forward, &words, first, 6),
+            self.image_word(kind, forward, &words, first, 7),
+        ]
     }
 
-    // Moves each word.
-    fn move_words(&self, kind: Kind, forward: &[u64], words: &mut [u64])
-        requires pointers { All (IsPointer self.now.spaces) words.old }
+    // A word of the image of a cell whose words may name cells from one on.
+    #[inline]
+    fn image_word(
+        &self,
+        kind: Kind,
+        forward: &[u64],
+        words: &[u64; WORDS],
+        first: usize,
+        i: usize,
+    ) -> u64
+        requires inside { i < 8 }
+        requires pointers { All (IsPointer self.now.spaces) (drop first words.now) }
         requires whole { length forward.now ≡ length (cells_of self.now.spaces) }
         requires places { All (λ word. IsPlace (place_in word)) forward.now }
-        ensures { words.new ≡ map (word_moved (from_space kind) self.now.spaces (new_place forward.now)) words.old }
+        ensures below { i < first → result ≡ slice_index words.now i }
+        ensures above { first ≤ i → result ≡ word_moved (from_space kind) self.now.spaces (new_place forward.now) (slice_index words.now i) }
     {
-        for word in words.iter_mut() {
-            *word = self.moved_word(kind, forward, *word);
+        if i < first {
+            return words[i];
         }
+        self.moved_word(kind, forward, words[i])
     }
 
     // The word with the new place of the cell that it names, where that cell is moved.
@@ -54,7 +73,7 @@ impl Spaces {
         if !kind.moves(place.space) {
             return word;
         }
-        let target = self.flat(place) as usize;
+        let target = self.target_of(word) as usize;
         pack(Slot::To {
             rights: rights_of(word),
             place: place_of(forward[target]),

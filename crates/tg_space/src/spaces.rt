@@ -1,7 +1,7 @@
 //! All spaces of a heap.
 ghost use Rattle.std.specs.Prelude.{◌≡◌, ◌++◌, ◌<◌, ◌≤◌, ◌+◌, ◌*◌, ◌^◌, ◌∷◌, ◌↔◌, ℕ, [], length, replicate, slice_index, slice_index_or, slice_set, Err, IfOk, OnOk, OnErr, IsOk, IsTrue};
 ghost use Rattle.tg_block.specs.Cells.{free_cell, cell_of};
-ghost use Rattle.tg_word.specs.Word.{IsPlace};
+ghost use Rattle.tg_word.specs.Word.{IsPlace, place_in};
 ghost use Rattle.tg_space.specs.SpaceList.{Holds, IsSpace, IsSpaceList, block_count, blocks_before, cell_at, cells_of, flat_of, space_of, with_block, with_cell_at, with_word_at};
 ghost use Rattle.tg_space.specs.Targets.{first_pointer as first_pointer_of, from_space};
 ghost use Rattle.tg_space.specs.SpaceTable.{adopted, BlockLimits, IsFull, IsHandedOut, IsNursery, IsPrefixCount, IsSpaceTable, kept_blocks, no_blocks, place_in_space, used_of, with_adopted, with_one_used, with_spaces};
@@ -11,7 +11,7 @@ use crate::space::Space;
 use std::alloc::{AllocError, Global};
 use std::marker::Model;
 use tg_block::{CHUNK_TAG, OBJECT_TAG, WORDS};
-use tg_word::Place;
+use tg_word::{Place, number_of, place_of};
 
 /// Which cells a collection moves, and where to.
 #[derive(Clone, Copy, PartialEq, Eq, Debug)]
@@ -236,6 +236,17 @@ impl Spaces {
         ensures inside { result < length (cells_of self.now.spaces) }
     {
         64 * (self.starts[place.space as usize] + place.block) + place.cell
+    }
+
+    /// The number of the cell that a word names.
+    #[inline]
+    pub fn target_of(&self, word: u64) -> u64
+        requires { Holds self.now.spaces (place_in word) }
+        ensures flat { result ≡ flat_of self.now.spaces (place_in word) }
+        ensures inside { result < length (cells_of self.now.spaces) }
+    {
+        let space = place_of(word).space;
+        64 * self.starts[space as usize] + number_of(word)
     }
 
     /// The place of the cell with a number.

@@ -16,6 +16,10 @@ abbrev pub IsInRange : Slot → Type 0
 IsInRange Empty = Unit {0}
 IsInRange (To rights place) = IsPlace place
 
+-- the place of the cell of a space that has a number there, counted 64 a block
+abbrev pub numbered_place : ℕ → ℕ → Place
+numbered_place space number = record { space = space; block = number / 64; cell = number % 64 }
+
 -- ---- from slots to words
 
 -- the present reference with these rights to this place

@@ -1,7 +1,7 @@
 //! Packing a slot into a word, and reading a word.
-ghost use Rattle.std.specs.Prelude.{◌≡◌, ◌<◌, ◌^◌, ◌/◌, ◌%◌, ◌↔◌, ℕ, None, Some, IfSome};
+ghost use Rattle.std.specs.Prelude.{◌≡◌, ◌<◌, ◌+◌, ◌*◌, ◌^◌, ◌/◌, ◌%◌, ◌↔◌, ℕ, None, Some, IfSome};
 ghost use Rattle.tg_rights.specs.RightSet.{RightSet};
-ghost use Rattle.tg_word.specs.Word.{IsInRange, IsOffLayout, IsPlace, field_of, word_of, word_at, slot_of, place_in, rights_in};
+ghost use Rattle.tg_word.specs.Word.{IsInRange, IsOffLayout, IsPlace, field_of, word_of, word_at, link_to, slot_of, numbered_place, place_in, rights_in};
 
 use crate::{
     BLOCK_AT, BLOCK_WIDTH, CELL_AT, CELL_WIDTH, PRESENT_AT, Place, RIGHTS_WIDTH, SPACE_AT,
@@ -60,6 +60,27 @@ pub fn place_of(word: u64) -> Place
         block: field(word, BLOCK_AT, BLOCK_WIDTH),
         cell: field(word, CELL_AT, CELL_WIDTH),
     }
+}
+
+/// The number that the cell in a word has in its space: 64 for each block before its own, and its number in that.
+///
+/// It looks at no other bits: a word off the layout gives a number that means nothing.
+#[inline]
+pub fn number_of(word: u64) -> u64
+    ensures number { result ≡ 64 * (place_in word).block + (place_in word).cell }
+    ensures few { result < 2 ^ 26 }
+{
+    field(word, CELL_AT, CELL_WIDTH + BLOCK_WIDTH)
+}
+
+/// The link to the cell of a space that has a number there, counted 64 a block: the word of its place, with no rights.
+#[inline]
+pub fn link(space: u64, number: u64) -> u64
+    requires space { space < 66 }
+    requires number { number < 2 ^ 26 }
+    ensures { result ≡ link_to (numbered_place space number) }
+{
+    (1 << PRESENT_AT) + (space << SPACE_AT) + (number << CELL_AT)
 }
 
 /// The rights in a word that is known to hold a reference; none in the empty word.
