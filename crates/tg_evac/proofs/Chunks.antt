@@ -16,8 +16,7 @@ use Rattle.tg_space.specs.declared.spaces.Root.{Root}
 use Rattle.tg_space.specs.declared.spaces.Root.TheVariants.{Row, Remembered}
 use Rattle.tg_space.proofs.Flat.{get_or-flat_of}
 use Rattle.tg_space.proofs.Pointing.{used_object}
-use Rattle.tg_evac.specs.Claims.{HavePointers, StandsAt, chunk_targets}
-use Rattle.tg_evac.specs.declared.win.Win.{Win}
+use Rattle.tg_evac.specs.Claims.{HavePointers, chunk_targets}
 use Rattle.tg_evac.proofs.Counting.{IsUsed}
 
 -- a test, and what it says
@@ -174,7 +173,7 @@ module _ (kind : Kind) (h : SpaceList) (is : IsSpaceList h) (pointers : HavePoin
       (tells (from_space kind p.space))
   used_root (Remembered p) old = used_targets p old.held
 
--- the targets of a pair's cell are those of the cell at its place
-pub targets_from : (from : ℕ → Bool) (h : SpaceList) → IsSpaceList h → (w : Win) → StandsAt h w → targets_at from h w.from ≡ targets_of from h w.cell
-targets_from from h is w stands =
-    ap (λ (words : List ℕ). named_by from h (pointers_of words)) (sym (get_or-flat_of h is.spaces w.from stands.held)) ∙ ap (targets_of from h) stands.at
+-- the targets of a cell, by its place and by its number
+pub targets_from : (from : ℕ → Bool) (h : SpaceList) → IsSpaceList h → (p : Place) → Holds h p → (c : ℕ) → flat_of h p ≡ c → targets_at from h p ≡ targets_of from h c
+targets_from from h is p held c at =
+    ap (λ (words : List ℕ). named_by from h (pointers_of words)) (sym (get_or-flat_of h is.spaces p held)) ∙ ap (targets_of from h) at

@@ -20,10 +20,10 @@ use Rattle.tg_space.proofs.Flat.{get_or-flat_of}
 use Rattle.tg_space.proofs.Tables.{table_list}
 use Rattle.tg_evac.specs.declared.plan.Plan.{Plan}
 use Rattle.tg_evac.specs.declared.win.Win.{Win}
-use Rattle.tg_evac.specs.Claims.{Claimed, AreClaims, IsPlanFor, IsTracedFrom, StandsIn, StandsAt, AreTraced, AreWordsOf, cells_won, win_at}
-use Rattle.tg_evac.specs.Copies.{HasNewPlace, HoldCopies, IsYoungCopy, IsPlaceIn, moved_cell}
+use Rattle.tg_evac.specs.Claims.{Claimed, AreClaims, IsPlanFor, IsTracedFrom, StandsIn, AreTraced, AreWordsOf, cells_won, win_at}
+use Rattle.tg_evac.specs.Copies.{HasNewPlace, HasCopy, HoldCopies, IsYoungCopy, IsPlaceIn, copy_of, moved_cell}
 use Rattle.tg_evac.proofs.Claiming.{cell_held, win_from_cell, word_place, word_links, word_to, word_behind, cells_apart}
-use Rattle.tg_evac.proofs.Reasons.{all_in_old, all_stand, are_aged, goes_to}
+use Rattle.tg_evac.proofs.Reasons.{all_in_old, are_aged, goes_to}
 use Rattle.tg_evac.proofs.Adopted.{old_place, aged_place, new_is, find_place, free_is_not_young}
 
 -- what the pairs of a whole collection are, whoever won them, and in whatever order
@@ -37,10 +37,10 @@ pub record AreWins (kind : Kind) (h : SpaceList) (roots : List Root) (forward : 
 
 -- what their copies are, and what was noted
 pub record AreCopies (kind : Kind) (h : SpaceList) (roots : List Root) (forward : List ℕ) (won : List Win) (aged old : BlockList) (notes : List Place) : Type 0 where
-  pub aged_copies : HoldCopies 1 0 (moved_cell kind h forward) won aged
-  pub old_copies : HoldCopies 0 (kept_blocks kind h) (moved_cell kind h forward) won old
+  pub aged_copies : HoldCopies 1 0 (copy_of kind h forward) won aged
+  pub old_copies : HoldCopies 0 (kept_blocks kind h) (copy_of kind h forward) won old
   pub few : kept_blocks kind h + length old ≤ 2 ^ 20
-  pub noted : (p : Place) → Contains notes p ↔ ((Contains roots (Remembered p) × NamesYoung (moved_cell kind h forward p)) ⊎ IsYoungCopy (moved_cell kind h forward) won p)
+  pub noted : (p : Place) → Contains notes p ↔ ((Contains roots (Remembered p) × NamesYoung (moved_cell kind h forward p)) ⊎ IsYoungCopy (copy_of kind h forward) won p)
 
 -- only a nursery collection copies to Aged
 only_nursery : (kind : Kind) (h : SpaceList) (roots : List Root) (forward : List ℕ) (won : List Win) → All (StandsIn forward) won → AreTraced kind h roots won → (w : Win) → Contains won w → (place_in w.word).space ≡ 1 → kind ≡ Nursery
@@ -66,7 +66,7 @@ module _ (kind : Kind) (h : SpaceList) (roots : List Root) (forward : List ℕ) 
   place_of_win w held = All-contains (HasNewPlace (kept_blocks kind h)) won w are.places held
 
   -- the copy of a pair stands at its place
-  copy_stands : (w : Win) → Contains won w → IsNewPlace kind h aged old (place_in w.word) × (cell_at (adopted kind h aged old) (place_in w.word) ≡ moved_cell kind h forward w.from)
+  copy_stands : (w : Win) → Contains won w → IsNewPlace kind h aged old (place_in w.word) × (cell_at (adopted kind h aged old) (place_in w.word) ≡ copy_of kind h forward w.cell)
   copy_stands w held = ⊎_elim
       (λ (in_old : (place_in w.word).space ≡ 0).
       let has = copies.old_copies.copied w held in_old in let there = old_place h aged old (place_in w.word) kind has.place in
@@ -76,9 +76,9 @@ module _ (kind : Kind) (h : SpaceList) (roots : List Root) (forward : List ℕ) 
       let one : (place_in w.word).space ≡ 1 = omega arith in
       let has = copies.aged_copies.copied w held one in let there = aged_place h aged old (place_in w.word) has.place in
       let nursery : Nursery ≡ kind = sym (only_nursery kind h roots forward won are.words.stand are.traced w held one) in
-      let at : cell_at (adopted Nursery h aged old) (place_in w.word) ≡ moved_cell kind h forward w.from = there.1 ∙ has.words in (
+      let at : cell_at (adopted Nursery h aged old) (place_in w.word) ≡ copy_of kind h forward w.cell = there.1 ∙ has.words in (
         subst (λ (k : Kind). IsNewPlace k h aged old (place_in w.word)) nursery there.0,
-        subst (λ (k : Kind). cell_at (adopted k h aged old) (place_in w.word) ≡ moved_cell kind h forward w.from) nursery at,
+        subst (λ (k : Kind). cell_at (adopted k h aged old) (place_in w.word) ≡ copy_of kind h forward w.cell) nursery at,
       ))
       (cases_eq (place_in w.word).space 0)
 
@@ -109,9 +109,7 @@ module _ (kind : Kind) (h : SpaceList) (roots : List Root) (forward : List ℕ) 
   copied_ok : (c : ℕ) → IsForwarded h forward c → cell_at (adopted kind h aged old) (new_place forward c) ≡ image_of (from_space kind) h (new_place forward) (get_or (cells_of h) c [])
   copied_ok c fw =
       let found = pair_of c fw in
-      let there : StandsAt h found.0 = All-contains (StandsAt h) won found.0 (all_stand kind h roots won are.traced) found.1 in
-      let cell : cell_at h found.0.from ≡ get_or (cells_of h) c [] = sym (get_or-flat_of h is.spaces found.0.from there.held) ∙ ap (λ (n : ℕ). get_or (cells_of h) n []) (there.at ∙ found.2) in
-      ap (λ (n : ℕ). cell_at (adopted kind h aged old) (place_in n)) found.3 ∙ (copy_stands found.0 found.1).1 ∙ ap (image_of (from_space kind) h (new_place forward)) cell
+      ap (λ (n : ℕ). cell_at (adopted kind h aged old) (place_in n)) found.3 ∙ (copy_stands found.0 found.1).1 ∙ ap (copy_of kind h forward) found.2
 
   apart_ok : (c d : ℕ) → IsForwarded h forward c → d < length (cells_of h) → get_or forward c 0 ≡ get_or forward d 0 → c ≡ d
   apart_ok c d fw low e =
@@ -135,7 +133,7 @@ module _ (kind : Kind) (h : SpaceList) (roots : List Root) (forward : List ℕ) 
 
   -- ---- notes
 
-  young_copy : (p : Place) → IsNewPlace kind h aged old p → p.space ≡ 0 → NamesYoung (cell_at (adopted kind h aged old) p) → IsYoungCopy (moved_cell kind h forward) won p
+  young_copy : (p : Place) → IsNewPlace kind h aged old p → p.space ≡ 0 → NamesYoung (cell_at (adopted kind h aged old) p) → IsYoungCopy (copy_of kind h forward) won p
   young_copy p new zero_is names = ⊎_elim
       (λ (in_old : IsPlaceIn 0 (kept_blocks kind h) old p). ⊎_elim
       (λ found.
@@ -158,10 +156,10 @@ module _ (kind : Kind) (h : SpaceList) (roots : List Root) (forward : List ℕ) 
       forth : Contains notes p → (words : List ℕ) × IsMadeInOld kind h roots forward aged old p words × NamesYoung words
       forth held = ⊎_elim
           (λ root. (moved_cell kind h forward p, inr (root.0, refl), root.1))
-          (λ (y : IsYoungCopy (moved_cell kind h forward) won p).
+          (λ (y : IsYoungCopy (copy_of kind h forward) won p).
           let there = copy_stands y.win y.is in
           let new : IsNewPlace kind h aged old p = subst (λ (q : Place). IsNewPlace kind h aged old q) y.at there.0 in
-          let cell : cell_at (adopted kind h aged old) p ≡ moved_cell kind h forward y.win.from = ap (λ (q : Place). cell_at (adopted kind h aged old) q) (sym y.at) ∙ there.1 in
+          let cell : cell_at (adopted kind h aged old) p ≡ copy_of kind h forward y.win.cell = ap (λ (q : Place). cell_at (adopted kind h aged old) q) (sym y.at) ∙ there.1 in
           (cell_at (adopted kind h aged old) p, inl (new, y.old, refl), subst (λ (ws : List ℕ). NamesYoung ws) (sym cell) y.names))
           ((copies.noted p).0 held)
 
@@ -214,25 +212,25 @@ module _ (kind : Kind) (t : SpaceTable) (roots : List Root) (plan : Plan) (is_pl
 
   pub collected : (aged old : BlockList) (before between after : List Place) → before ≡ [] →
       ((p : Place) → Contains between p ↔ (Contains before p ⊎ (Contains roots (Remembered p) × NamesYoung (moved_cell kind t.spaces c.forward p)))) →
-      ((p : Place) → Contains after p ↔ (Contains between p ⊎ IsYoungCopy (moved_cell plan.kind t.spaces c.forward) c.won p)) →
-      HoldCopies 1 0 (moved_cell plan.kind t.spaces c.forward) c.won aged → HoldCopies 0 plan.kept (moved_cell plan.kind t.spaces c.forward) c.won old →
+      ((p : Place) → Contains after p ↔ (Contains between p ⊎ IsYoungCopy (copy_of plan.kind t.spaces c.forward) c.won p)) →
+      HoldCopies 1 0 (copy_of plan.kind t.spaces c.forward) c.won aged → HoldCopies 0 plan.kept (copy_of plan.kind t.spaces c.forward) c.won old →
       plan.kept + length old ≤ 2 ^ 20 → IsCollection kind t.spaces roots c.forward aged old after
   collected aged old before between after none first then in_aged in_old few =
       is_collection kind t.spaces roots c.forward c.won aged old after (table_list t table) wins (record {
-        aged_copies = subst (λ (k : Kind). HoldCopies 1 0 (moved_cell k t.spaces c.forward) c.won aged) is_plan.same in_aged;
-        old_copies = subst (λ (n : ℕ). HoldCopies 0 n (moved_cell kind t.spaces c.forward) c.won old) is_plan.kept
-            (subst (λ (k : Kind). HoldCopies 0 plan.kept (moved_cell k t.spaces c.forward) c.won old) is_plan.same in_old);
+        aged_copies = subst (λ (k : Kind). HoldCopies 1 0 (copy_of k t.spaces c.forward) c.won aged) is_plan.same in_aged;
+        old_copies = subst (λ (n : ℕ). HoldCopies 0 n (copy_of kind t.spaces c.forward) c.won old) is_plan.kept
+            (subst (λ (k : Kind). HoldCopies 0 plan.kept (copy_of k t.spaces c.forward) c.won old) is_plan.same in_old);
         few = subst (λ (n : ℕ). n + length old ≤ 2 ^ 20) is_plan.kept few;
         noted = noted;
       })
     where
-      young : (p : Place) → Contains after p ↔ (Contains between p ⊎ IsYoungCopy (moved_cell kind t.spaces c.forward) c.won p)
-      young p = subst (λ (k : Kind). Contains after p ↔ (Contains between p ⊎ IsYoungCopy (moved_cell k t.spaces c.forward) c.won p)) is_plan.same (then p)
+      young : (p : Place) → Contains after p ↔ (Contains between p ⊎ IsYoungCopy (copy_of kind t.spaces c.forward) c.won p)
+      young p = subst (λ (k : Kind). Contains after p ↔ (Contains between p ⊎ IsYoungCopy (copy_of k t.spaces c.forward) c.won p)) is_plan.same (then p)
 
       nothing : (p : Place) → Contains before p → ⊥
       nothing p held = let empty : Contains [] p = subst (λ (ps : List Place). Contains ps p) none held in absurd (let low = empty.1 in omega arith)
 
-      noted : (p : Place) → Contains after p ↔ ((Contains roots (Remembered p) × NamesYoung (moved_cell kind t.spaces c.forward p)) ⊎ IsYoungCopy (moved_cell kind t.spaces c.forward) c.won p)
+      noted : (p : Place) → Contains after p ↔ ((Contains roots (Remembered p) × NamesYoung (moved_cell kind t.spaces c.forward p)) ⊎ IsYoungCopy (copy_of kind t.spaces c.forward) c.won p)
       noted p = (
         (λ held. ⊎_elim (λ (b : Contains between p). ⊎_elim (λ (e : Contains before p). absurd (nothing p e)) (λ root. inl root) ((first p).0 b)) (λ y. inr y) ((young p).0 held)),
         (λ has. (young p).1 (⊎_elim (λ root. inl ((first p).1 (inr root))) (λ y. inr y) has)),

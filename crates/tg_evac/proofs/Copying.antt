@@ -50,9 +50,9 @@ grown_more before now after grown is = subst (λ (bs : BlockList). IsGrown befor
 
 -- ---- one more copy in these blocks
 
-module _ (to kept : ℕ) (copy : Place → List ℕ) (won : List Win) (before after : BlockList) (hold : HoldCopies to kept copy won before)
+module _ (to kept : ℕ) (copy : ℕ → List ℕ) (won : List Win) (before after : BlockList) (hold : HoldCopies to kept copy won before)
     (w : Win) (words : List ℕ) (place : Place) (at : place ≡ place_in w.word) (space : place.space ≡ to) (behind : kept ≤ place.block) (cell : place.cell < 64)
-    (put : PutsCell kept place words before after) (fresh : (v : Win) → Contains won v → place_in v.word ≢ place) (is : words ≡ copy w.from) where
+    (put : PutsCell kept place words before after) (fresh : (v : Win) → Contains won v → place_in v.word ≢ place) (is : words ≡ copy w.cell) where
   abbrev block : List (List ℕ)
   block = get_or put.grown (place.block - kept) []
 
@@ -101,7 +101,7 @@ module _ (to kept : ℕ) (copy : Place → List ℕ) (won : List Win) (before af
       (λ (last : w ≡ v).
       subst (λ (x : Win). HasCopy to kept copy after x) last (record {
         place = subst (λ (p : Place). IsPlaceIn to kept after p) at (record { space = space; behind = behind; block = let there = put.there in let same = long in omega arith; cell = cell });
-        words = subst (λ (p : Place). new_cell kept after p ≡ copy w.from) at (read_same ∙ is);
+        words = subst (λ (p : Place). new_cell kept after p ≡ copy w.cell) at (read_same ∙ is);
       }))
       (earlier_or_last won w v held)
 
@@ -118,7 +118,7 @@ module _ (to kept : ℕ) (copy : Place → List ℕ) (won : List Win) (before af
   copies_more = record { copied = copied_more; rest = rest_more }
 
 -- a pair whose copy is elsewhere
-pub copies_elsewhere : (to kept : ℕ) (copy : Place → List ℕ) (won : List Win) (blocks : BlockList) → HoldCopies to kept copy won blocks → (w : Win) → (place_in w.word).space ≢ to → HoldCopies to kept copy (won ++ w ∷ []) blocks
+pub copies_elsewhere : (to kept : ℕ) (copy : ℕ → List ℕ) (won : List Win) (blocks : BlockList) → HoldCopies to kept copy won blocks → (w : Win) → (place_in w.word).space ≢ to → HoldCopies to kept copy (won ++ w ∷ []) blocks
 copies_elsewhere to kept copy won blocks hold w other = record {
   copied = λ v held in_space. ⊎_elim (λ (early : Contains won v). hold.copied v early in_space)
       (λ (last : w ≡ v). absurd (other (ap (λ (x : Win). (place_in x.word).space) last ∙ in_space))) (earlier_or_last won w v held);
@@ -126,12 +126,12 @@ copies_elsewhere to kept copy won blocks hold w other = record {
 }
 
 -- no block holds no copy
-pub copies_none : (to kept : ℕ) (copy : Place → List ℕ) → HoldCopies to kept copy [] []
+pub copies_none : (to kept : ℕ) (copy : ℕ → List ℕ) → HoldCopies to kept copy [] []
 copies_none to kept copy = record { copied = λ w held. absurd (let low = held.1 in omega arith); rest = λ p place apart. absurd (let low = place.block in omega arith) }
 
 -- ---- one more of those that were won
 
-module _ (kept : ℕ) (copy : Place → List ℕ) (won : List Win) (new : All (HasNewPlace kept) won) (apart : AreApart (words_won won)) (i : ℕ) (inside : i < length won) where
+module _ (kept : ℕ) (copy : ℕ → List ℕ) (won : List Win) (new : All (HasNewPlace kept) won) (apart : AreApart (words_won won)) (i : ℕ) (inside : i < length won) where
   here : Contains won (win_at won i)
   here = Contains-get_or won i (win_at [] 0) inside
 
@@ -155,7 +155,7 @@ module _ (kept : ℕ) (copy : Place → List ℕ) (won : List Win) (new : All (H
   more : take (i + 1) won ≡ take i won ++ win_at won i ∷ []
   more = take_more won i (win_at [] 0) inside
 
-  module _ (place : Place) (words : List ℕ) (at : place ≡ place_in (win_at won i).word) (is : words ≡ copy (win_at won i).from) where
+  module _ (place : Place) (words : List ℕ) (at : place ≡ place_in (win_at won i).word) (is : words ≡ copy (win_at won i).cell) where
     -- the blocks of a space, where the copy is put into them, or they are left
     pub held_now : (to base : ℕ) (before after : BlockList) → HoldCopies to base copy (take i won) before → (place.space ≡ to → base ≤ place.block) →
         (place.space ≡ to → PutsCell base place words before after) → (place.space ≢ to → after ≡ before) → HoldCopies to base copy (take (i + 1) won) after
@@ -200,7 +200,7 @@ module _ (kept : ℕ) (copy : Place → List ℕ) (won : List Win) (new : All (H
             (λ (early : Contains (take i won) y.win). (step p).1 (inl ((was p).1 (inr (record { win = y.win; is = early; at = y.at; old = y.old; names = y.names })))))
             (λ (last : win_at won i ≡ y.win).
             let here_is : p ≡ place = sym y.at ∙ ap (λ (w : Win). place_in w.word) (sym last) ∙ sym at in
-            (step p).1 (inr (here_is, sym (ap (λ (q : Place). q.space) here_is) ∙ y.old, subst (λ (ws : List ℕ). NamesYoung ws) (ap (λ (w : Win). copy w.from) (sym last) ∙ sym is) y.names)))
+            (step p).1 (inr (here_is, sym (ap (λ (q : Place). q.space) here_is) ∙ y.old, subst (λ (ws : List ℕ). NamesYoung ws) (ap (λ (w : Win). copy w.cell) (sym last) ∙ sym is) y.names)))
             (earlier_or_last (take i won) (win_at won i) y.win (subst (λ (ws : List Win). Contains ws y.win) more y.is)))
             has
 

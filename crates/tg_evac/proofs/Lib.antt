@@ -6,5 +6,5 @@ pub mod Pieces
 pub mod Copying
 pub mod Adopted
 pub mod Collecting
-pub mod Young
 pub mod Sound
+pub mod Young

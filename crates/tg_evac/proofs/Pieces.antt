@@ -15,14 +15,14 @@ use Rattle.tg_space.specs.declared.spaces.Root.TheVariants.{Row}
 use Rattle.tg_space.proofs.Adding.{piece, held_piece, closed_more}
 use Rattle.tg_evac.specs.declared.plan.Plan.{Plan}
 use Rattle.tg_evac.specs.declared.win.Win.{Win}
-use Rattle.tg_evac.specs.Claims.{Claimed, AddsClaims, AreTraced, IsClaimOf, IsRootClaim, StandsAt, cells_won, chunk_targets, is_in_old, is_straight, win_at}
+use Rattle.tg_evac.specs.Claims.{Claimed, AddsClaims, AreTraced, IsClaimOf, IsRootClaim, cells_won, chunk_targets, is_in_old, is_straight, win_at}
 use Rattle.tg_evac.proofs.Claiming.{claims_then, claims_weaker, still_held}
 use Rattle.tg_evac.proofs.Chunks.{ChunksPassed, chunk_inside, one_passed, row_kept, targets_from}
 use Rattle.tg_evac.proofs.Reasons.{adds_cells, traced_more}
 
 -- a claim of one of these cells is one of more cells
 pub wider : {h : SpaceList} {straight : Bool} (few many : List ℕ) → All (Contains many) few → (w : Win) → IsClaimOf h straight few w → IsClaimOf h straight many w
-wider few many all w claim = record { one = All-contains (Contains many) few w.cell all claim.one; stands = claim.stands; to = claim.to }
+wider few many all w claim = record { one = All-contains (Contains many) few w.cell all claim.one; place = claim.place; held = claim.held; at = claim.at; to = claim.to }
 
 -- the plan stays as it was
 module _ {reason : Win → Type 0} {a b : Claimed} (adds : AddsClaims reason a b) where
@@ -109,35 +109,25 @@ module _ (h : SpaceList) (straight : Bool) (object : Place) {a b : Claimed} (kep
         (subst (λ (k : Kind). All (Contains (cells_won c.won)) (chunk_targets (from_space k) h (length (cells_of h)) (link_at h object))) (same_kind one) rest))
 
 -- the targets of one more won cell
-module _ (h : SpaceList) (list : IsSpaceList h) (kind : Kind) (next : ℕ) (w : Win) (old : Bool) {b c : Claimed} (same : b.plan.kind ≡ kind) (low : next < length b.won) (is : w ≡ win_at b.won next) (in_old : old ≡ is_in_old w)
-    (two : AddsClaims (IsClaimOf h old (targets_at (from_space b.plan.kind) h w.from)) b c) (stand : All (StandsAt h) b.won) where
-  stands : StandsAt h w
-  stands = All-contains (StandsAt h) b.won w stand (next, low, get_or_default b.won next w (win_at [] 0) low ∙ sym is)
-
+module _ (h : SpaceList) (kind : Kind) (next : ℕ) (w : Win) (old : Bool) {b c : Claimed} (same : b.plan.kind ≡ kind) (low : next < length b.won) (is : w ≡ win_at b.won next) (in_old : old ≡ is_in_old w)
+    (two : AddsClaims (IsClaimOf h old (targets_of (from_space b.plan.kind) h w.cell)) b c) where
   scan_is : AddsClaims (IsClaimOf h (is_in_old (win_at b.won next)) (targets_of (from_space kind) h (win_at b.won next).cell)) b c
   scan_is =
       subst (λ (v : Win). AddsClaims (IsClaimOf h (is_in_old v) (targets_of (from_space kind) h v.cell)) b c) is
       (subst (λ (o : Bool). AddsClaims (IsClaimOf h o (targets_of (from_space kind) h w.cell)) b c) in_old
-      (subst (λ (ts : List ℕ). AddsClaims (IsClaimOf h old ts) b c) (targets_from (from_space kind) h list w stands)
-      (subst (λ (k : Kind). AddsClaims (IsClaimOf h old (targets_at (from_space k) h w.from)) b c) same two)))
+      (subst (λ (k : Kind). AddsClaims (IsClaimOf h old (targets_of (from_space k) h w.cell)) b c) same two))
 
   pub scan_traced : (roots : List Root) → AreTraced kind h roots b.won → AreTraced kind h roots c.won
   scan_traced roots traced = traced_more kind h roots scan_is (λ v claim. inr (next, low, claim)) traced
 
-  pub scan_stand : All (StandsAt h) c.won
-  scan_stand =
-      subst (λ (ws : List Win). All (StandsAt h) ws) (sym scan_is.is)
-      (All-append (StandsAt h) b.won scan_is.added stand
-      (All-weaker (IsClaimOf h (is_in_old (win_at b.won next)) (targets_of (from_space kind) h (win_at b.won next).cell)) (StandsAt h) (λ v claim. claim.stands) scan_is.added scan_is.reasons))
-
   pub scan_kept : (xs : List ℕ) → All (Contains (cells_won b.won)) xs → All (Contains (cells_won c.won)) xs
   scan_kept xs held = still_held scan_is xs held
 
-  pub scan_closed : next < length (cells_won b.won) → IsClosed (targets_of (from_space kind) h) (cells_won b.won) next → All (Contains (cells_won c.won)) (targets_at (from_space b.plan.kind) h w.from) → IsClosed (targets_of (from_space kind) h) (cells_won c.won) (next + 1)
+  pub scan_closed : next < length (cells_won b.won) → IsClosed (targets_of (from_space kind) h) (cells_won b.won) next → All (Contains (cells_won c.won)) (targets_of (from_space b.plan.kind) h w.cell) → IsClosed (targets_of (from_space kind) h) (cells_won c.won) (next + 1)
   scan_closed below closed here =
       let cell : get_or (cells_won b.won) next 0 ≡ w.cell = get_or-map (λ (v : Win). v.cell) b.won next (win_at [] 0) 0 low ∙ ap (λ (v : Win). v.cell) (sym is) in
-      let targets : targets_at (from_space b.plan.kind) h w.from ≡ targets_of (from_space kind) h (get_or (cells_won b.won) next 0) =
-      ap (λ (k : Kind). targets_at (from_space k) h w.from) same ∙ targets_from (from_space kind) h list w stands ∙ ap (targets_of (from_space kind) h) (sym cell) in
+      let targets : targets_of (from_space b.plan.kind) h w.cell ≡ targets_of (from_space kind) h (get_or (cells_won b.won) next 0) =
+      ap (λ (k : Kind). targets_of (from_space k) h w.cell) same ∙ ap (targets_of (from_space kind) h) (sym cell) in
       closed_more [] (targets_of (from_space kind) h)
       (adds_cells (targets_of (from_space kind) h (win_at b.won next).cell) scan_is (λ v claim. claim.one)) next below closed
       (subst (λ (ts : List ℕ). All (Contains (cells_won c.won)) ts) targets here)

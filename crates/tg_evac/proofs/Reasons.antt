@@ -22,7 +22,7 @@ use Rattle.tg_space.proofs.Adding.{piece}
 use Rattle.tg_space.proofs.Flat.{same_place, flat_inside}
 use Rattle.tg_evac.specs.declared.plan.Plan.{Plan}
 use Rattle.tg_evac.specs.declared.win.Win.{Win}
-use Rattle.tg_evac.specs.Claims.{Claimed, HavePointers, IsFull, StandsIn, StandsAt, IsClaimOf, IsRootClaim, AddsClaims, AreTraced, AreWordsOf, cells_won, is_in_old, is_straight, space_for, win_at}
+use Rattle.tg_evac.specs.Claims.{Claimed, HavePointers, IsFull, StandsIn, IsClaimOf, IsRootClaim, AddsClaims, AreTraced, AreWordsOf, cells_won, is_in_old, is_straight, space_for, win_at}
 use Rattle.tg_evac.proofs.Claiming.{cells_added}
 use Rattle.tg_evac.proofs.Chunks.{used_root, used_targets, targets_from}
 use Rattle.tg_evac.proofs.Counting.{IsUsed, full_few}
@@ -91,12 +91,6 @@ adds_cells {reason} source adds one = record {
 -- ---- what a trace says
 
 module _ (kind : Kind) (h : SpaceList) (roots : List Root) (won : List Win) (traced : AreTraced kind h roots won) where
-  pub stands_of : (k : ℕ) → k < length won → StandsAt h (win_at won k)
-  stands_of k low = ⊎_elim (λ (r : IsRootClaim kind h roots (win_at won k)). r.claim.stands) (λ (j, below, claim). claim.stands) (traced k low)
-
-  pub all_stand : All (StandsAt h) won
-  all_stand = All-from_get_or (StandsAt h) won (win_at [] 0) stands_of
-
   cell_is : (k : ℕ) → k < length won → get_or (cells_won won) k 0 ≡ (win_at won k).cell
   cell_is k low = get_or-map (λ (w : Win). w.cell) won k (win_at [] 0) 0 low
 
@@ -117,14 +111,17 @@ module _ (kind : Kind) (h : SpaceList) (roots : List Root) (won : List Win) (tra
   pub all_used : IsSpaceList h → HavePointers h → All (IsRootIn h) roots → All (IsUsed kind h) (cells_won won)
   all_used is pointers are = All-map (IsUsed kind h) (λ (w : Win). w.cell) won (All-from_get_or (λ (w : Win). IsUsed kind h w.cell) won (win_at [] 0) used)
     where
+      stands_of : (k : ℕ) → k < length won → (p : Place) × Holds h p × (flat_of h p ≡ (win_at won k).cell)
+      stands_of k low = ⊎_elim (λ (r : IsRootClaim kind h roots (win_at won k)). (r.claim.place, r.claim.held, r.claim.at)) (λ (j, below, claim). (claim.place, claim.held, claim.at)) (traced k low)
+
       used : (k : ℕ) → k < length won → IsUsed kind h (win_at won k).cell
       used k low = ⊎_elim
           (λ (r : IsRootClaim kind h roots (win_at won k)).
           All-contains (IsUsed kind h) (root_targets_of (from_space kind) h r.root) (win_at won k).cell (used_root kind h is pointers r.root (All-contains (IsRootIn h) roots r.root are r.is)) r.claim.one)
           (λ (j, below, claim).
-          let stands = stands_of j (omega arith) in
+          let place = stands_of j (omega arith) in
           All-contains (IsUsed kind h) (targets_of (from_space kind) h (win_at won j).cell) (win_at won k).cell
-          (subst (λ (ts : List ℕ). All (IsUsed kind h) ts) (targets_from (from_space kind) h is (win_at won j) stands) (used_targets kind h is pointers (win_at won j).from stands.held)) claim.one)
+          (subst (λ (ts : List ℕ). All (IsUsed kind h) ts) (targets_from (from_space kind) h is place.0 place.1 (win_at won j).cell place.2) (used_targets kind h is pointers place.0 place.1)) claim.one)
           (traced k low)
 
 -- where all the room is won, there is no more room than cells that are not free
@@ -148,7 +145,7 @@ module _ (h : SpaceList) (roots : List Root) (forward : List ℕ) (won : List Wi
         (λ (r : IsRootClaim Full h roots (win_at won k)). r.claim.to)
         (λ (j, below, claim).
         let before = in_old n j (omega arith) (omega arith) in
-        claim.to ∙ space_straight (is_in_old (win_at won j)) (win_at won k).from.space (rw before refl))
+        claim.to ∙ space_straight (is_in_old (win_at won j)) claim.place.space (rw before refl))
         (traced k inside)
 
     pub all_in_old : (w : Win) → Contains won w → (place_in w.word).space ≡ 0
@@ -172,9 +169,9 @@ module _ (h : SpaceList) (roots : List Root) (forward : List ℕ) (won : List Wi
     root_to_old : (root : Root) (w : Win) → Contains roots root → IsClaimOf h (is_straight Nursery root) (root_targets_of young_spaces h root) w → (place_in w.word).space ≡ 0 → IsRememberedTarget h roots w.cell ⊎ IsAgedCell h w.cell
     root_to_old (Remembered p) w held claim to = inl (p, held, claim.one)
     root_to_old (Row p) w held claim to = ⊎_elim
-        (λ (aged : w.from.space ≡ 1). inr (record { place = w.from; held = claim.stands.held; aged = aged; at = claim.stands.at }))
-        (λ (other : w.from.space ≢ 1). absurd (let e = claim.to in let one = space_other false w.from.space refl other in omega arith))
-        (cases_eq w.from.space 1)
+        (λ (aged : claim.place.space ≡ 1). inr (record { place = claim.place; held = claim.held; aged = aged; at = claim.at }))
+        (λ (other : claim.place.space ≢ 1). absurd (let e = claim.to in let one = space_other false claim.place.space refl other in omega arith))
+        (cases_eq claim.place.space 1)
 
     walk_aged : (n k : ℕ) → k < n → k < length won → (place_in (win_at won k).word).space ≡ 1 → Walk (IsRowTarget h roots) (IsNextIn h forward 1) (win_at won k).cell
     walk_aged zero k low inside to = absurd (omega arith)
@@ -184,7 +181,7 @@ module _ (h : SpaceList) (roots : List Root) (forward : List ℕ) (won : List Wi
         let jl : j < length won = omega arith in
         ⊎_elim
         (λ (y : ((place_in (win_at won j).word).space == 0 ≡ true) × ((place_in (win_at won j).word).space ≡ 0)).
-        absurd (let e = claim.to in let z = space_straight (is_in_old (win_at won j)) (win_at won k).from.space y.0 in omega arith))
+        absurd (let e = claim.to in let z = space_straight (is_in_old (win_at won j)) claim.place.space y.0 in omega arith))
         (λ (no : ((place_in (win_at won j).word).space == 0 ≡ false) × ((place_in (win_at won j).word).space ≢ 0)).
         let aged : (place_in (win_at won j).word).space ≡ 1 = let low2 = two (win_at won j) (held_win j jl) in let ne = no.1 in omega arith in
         goes (walk_aged n j (omega arith) jl aged) (record { goes = goes_at j 1 jl aged; target = claim.one }))
@@ -202,9 +199,9 @@ module _ (h : SpaceList) (roots : List Root) (forward : List ℕ) (won : List Wi
         goes (walk_old n j (omega arith) jl y.1) (record { goes = goes_at j 0 jl y.1; target = claim.one }))
         (λ (no : ((place_in (win_at won j).word).space == 0 ≡ false) × ((place_in (win_at won j).word).space ≢ 0)).
         ⊎_elim
-        (λ (aged : (win_at won k).from.space ≡ 1). begins (inr (record { place = (win_at won k).from; held = claim.stands.held; aged = aged; at = claim.stands.at })))
-        (λ (other : (win_at won k).from.space ≢ 1). absurd (let e = claim.to in let one = space_other (is_in_old (win_at won j)) (win_at won k).from.space no.0 other in omega arith))
-        (cases_eq (win_at won k).from.space 1))
+        (λ (aged : claim.place.space ≡ 1). begins (inr (record { place = claim.place; held = claim.held; aged = aged; at = claim.at })))
+        (λ (other : claim.place.space ≢ 1). absurd (let e = claim.to in let one = space_other (is_in_old (win_at won j)) claim.place.space no.0 other in omega arith))
+        (cases_eq claim.place.space 1))
         (eqb_tells (place_in (win_at won j).word).space 0))
         (traced k inside)
 
@@ -226,12 +223,11 @@ module _ (h : SpaceList) (roots : List Root) (forward : List ℕ) (won : List Wi
         aged : (c : ℕ) → IsAgedCell h c → get_or forward c 0 ≢ 0 → GoesTo forward 0 c
         aged c a some =
             let f = found c (inside c a.place a.held a.at) some in
-            let stands = stands_of Nursery h roots won traced f.0 f.1 in
-            let same : (win_at won f.0).from ≡ a.place = same_place h is.spaces (win_at won f.0).from a.place stands.held a.held (stands.at ∙ f.2 ∙ sym a.at) in
-            let from : (win_at won f.0).from.space ≡ 1 = ap (λ (p : Place). p.space) same ∙ a.aged in
+            let from : (p : Place) → Holds h p → flat_of h p ≡ (win_at won f.0).cell → p.space ≡ 1 = λ (p : Place) (held : Holds h p) (at : flat_of h p ≡ (win_at won f.0).cell).
+            ap (λ (q : Place). q.space) (same_place h is.spaces p a.place held a.held (at ∙ f.2 ∙ sym a.at)) ∙ a.aged in
             let to : (place_in (win_at won f.0).word).space ≡ 0 = ⊎_elim
-            (λ (r : IsRootClaim Nursery h roots (win_at won f.0)). r.claim.to ∙ space_aged (is_straight Nursery r.root) (win_at won f.0).from.space from)
-            (λ (j, below, claim). claim.to ∙ space_aged (is_in_old (win_at won j)) (win_at won f.0).from.space from)
+            (λ (r : IsRootClaim Nursery h roots (win_at won f.0)). r.claim.to ∙ space_aged (is_straight Nursery r.root) r.claim.place.space (from r.claim.place r.claim.held r.claim.at))
+            (λ (j, below, claim). claim.to ∙ space_aged (is_in_old (win_at won j)) claim.place.space (from claim.place claim.held claim.at))
             (traced f.0 f.1) in
             subst (λ (n : ℕ). GoesTo forward 0 n) f.2 (goes_at f.0 0 f.1 to)
 

@@ -51,6 +51,7 @@ module _ (h : SpaceList) where
   pub have_pointers : (roots : List Root) → AreSound h roots → IsSpaceList h → HavePointers h
   have_pointers roots sound is = record {
     words = λ p held. subst (λ (ws : List ℕ). All (IsPointer h) (pointers_of ws)) (get_or-flat_of h is.spaces p held) (pointers_sound h roots sound is (flat_of h p) (flat_inside h is.spaces p held));
+    numbered = pointers_sound h roots sound is;
     links = λ p held.
         let layout : HasLayout h (cell_at h p) = subst (λ (ws : List ℕ). HasLayout h ws) (get_or-flat_of h is.spaces p held) (All-get_or (HasLayout h) (cells_of h) (flat_of h p) [] (flat_inside h is.spaces p held) sound.cells) in
         link_from_layout (cell_at h p) layout;

@@ -1,26 +1,26 @@
 -- Words that name young cells.
-use Rattle.std.proofs.Common.{◌≡◌, ◌≢◌, ℕ, ◌==◌, ◌↔◌, true, false, not, List, ap, sym, ◌∙◌, ⊎_elim}
-use Rattle.std.specs.Prelude.{IsTrue}
-use Rattle.std.specs.List.{Contains, list_any}
-use Rattle.std.proofs.lemmas.Bool.Decides.{eqb_tells}
-use Rattle.std.proofs.lemmas.List.Folds.{Any-from_list_any, list_any-from_Any}
+use Rattle.std.proofs.Common.{◌≡◌, ◌≢◌, ℕ, ◌<◌, ◌≤◌, ◌+◌, ◌-◌, List, length, get_or, drop, sym, ap, subst, arith, ◌∙◌}
+use Rattle.std.specs.List.{Contains}
+use Rattle.std.proofs.lemmas.List.{get_or-drop, get_or_default, length-drop}
+use Rattle.std.proofs.lemmas.List.Elements.{Contains-get_or}
 use Rattle.tg_word.specs.Word.{place_in}
-use Rattle.tg_evac.specs.Copies.{is_young}
+use Rattle.tg_space.specs.Generations.{NamesYoung}
+use Rattle.tg_space.specs.Targets.{first_pointer}
 
-young_some : (word : ℕ) → is_young word ≡ true → (place_in word).space ≢ 0
-young_some word is = ⊎_elim
-    (λ (z : ((place_in word).space == 0 ≡ true) × ((place_in word).space ≡ 0)). absurd (let e = sym is ∙ ap not z.0 in cc))
-    (λ (n : ((place_in word).space == 0 ≡ false) × ((place_in word).space ≢ 0)). n.1)
-    (eqb_tells (place_in word).space 0)
+module _ (words : List ℕ) (first : ℕ) (is : first ≡ first_pointer (get_or words 0 0)) where
+  -- one of the references and the link names a young cell
+  pub names_at : (i : ℕ) → first ≤ i → i < length words → (place_in (get_or words i 0)).space ≢ 0 → NamesYoung words
+  names_at i from low young =
+      let long = length-drop first words in
+      let at : first + (i - first) ≡ i = omega arith in
+      let word : get_or (drop first words) (i - first) 0 ≡ get_or words i 0 = get_or-drop first words (i - first) 0 ∙ ap (λ (n : ℕ). get_or words n 0) at in
+      let here : Contains (drop first words) (get_or words i 0) = subst (λ (x : ℕ). Contains (drop first words) x) word (Contains-get_or (drop first words) (i - first) 0 (omega arith)) in
+      (get_or words i 0, subst (λ (n : ℕ). Contains (drop n words) (get_or words i 0)) is here, young)
 
-some_young : (word : ℕ) → (place_in word).space ≢ 0 → is_young word ≡ true
-some_young word some = ⊎_elim
-    (λ (z : ((place_in word).space == 0 ≡ true) × ((place_in word).space ≡ 0)). absurd (some z.1))
-    (λ (n : ((place_in word).space == 0 ≡ false) × ((place_in word).space ≢ 0)). ap not n.0)
-    (eqb_tells (place_in word).space 0)
-
-pub any_young : (words : List ℕ) → IsTrue (list_any is_young words) ↔ ((word : ℕ) × Contains words word × ((place_in word).space ≢ 0))
-any_young words = (
-  (λ any. let found = Any-from_list_any is_young words any in (found.1, (found.0, found.2, found.3), young_some found.1 found.4)),
-  (λ named. list_any-from_Any is_young words (named.1.0, named.0, named.1.1, named.1.2, some_young named.0 named.2)),
-)
+  -- none of them does
+  pub none_young : ((k : ℕ) → k < length words → first ≤ k → (place_in (get_or words k 0)).space ≡ 0) → NamesYoung words → ⊥
+  none_young all names =
+      let held : Contains (drop first words) names.0 = subst (λ (n : ℕ). Contains (drop n words) names.0) (sym is) names.1 in
+      let long = length-drop first words in let low = held.1 in
+      let word : get_or words (first + held.0) 0 ≡ names.0 = sym (get_or-drop first words held.0 0) ∙ get_or_default (drop first words) held.0 0 names.0 held.1 ∙ held.2 in
+      names.2 (ap (λ (x : ℕ). (place_in x).space) (sym word) ∙ all (first + held.0) (omega arith) (omega arith))

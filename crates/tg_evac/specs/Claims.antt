@@ -8,7 +8,7 @@ use Rattle.tg_space.specs.Soundness.{IsPointer}
 use Rattle.tg_space.specs.Rows.{chunks_from, link_at}
 use Rattle.tg_space.specs.SpaceList.{SpaceList, Holds, cell_at, cells_of, flat_of}
 use Rattle.tg_space.specs.SpaceTable.{SpaceTable, kept_blocks, place_in_space}
-use Rattle.tg_space.specs.Targets.{from_space, pointers_of, targets_at, targets_of, root_targets_of, all_root_targets}
+use Rattle.tg_space.specs.Targets.{from_space, cell_numbered, pointers_of, targets_at, targets_of, root_targets_of, all_root_targets}
 use Rattle.tg_space.specs.declared.spaces.Kind.{Kind}
 use Rattle.tg_space.specs.declared.spaces.Kind.TheVariants.{Full, Nursery}
 use Rattle.tg_space.specs.declared.spaces.Root.{Root}
@@ -41,6 +41,7 @@ pub record IsPlanFor (kind : Kind) (t : SpaceTable) (plan : Plan) : Type 0 where
 -- every reference and link of a held cell is empty, or names a cell that is not free
 pub record HavePointers (h : SpaceList) : Type 0 where
   pub words : (p : Place) → Holds h p → All (IsPointer h) (pointers_of (cell_at h p))
+  pub numbered : (number : ℕ) → number < length (cells_of h) → All (IsPointer h) (pointers_of (cell_numbered h number))
   pub links : (p : Place) → Holds h p → IsPointer h (link_at h p)
 
 -- the targets of the chunks outside from-space to which a link leads, at most so many
@@ -105,22 +106,18 @@ pub record IsFull (c : Claimed) : Type 0 where
 
 -- ---- what claiming does
 
--- the pair is of the cell at this place, with this number, and its copy is in this space
-pub record IsWinFor (from : Place) (cell space : ℕ) (w : Win) : Type 0 where
-  pub stands : w.from ≡ from
+-- the pair is of the cell with this number, and its copy is in this space
+pub record IsWinFor (cell space : ℕ) (w : Win) : Type 0 where
   pub number : w.cell ≡ cell
   pub to : (place_in w.word).space ≡ space
-
--- the pair's cell stands where it says
-pub record StandsAt (h : SpaceList) (w : Win) : Type 0 where
-  pub held : Holds h w.from
-  pub at : flat_of h w.from ≡ w.cell
 
 -- the pair is of one of these cells, and its copy is in the space that it has to be in
 pub record IsClaimOf (h : SpaceList) (straight : Bool) (cells : List ℕ) (w : Win) : Type 0 where
   pub one : Contains cells w.cell
-  pub stands : StandsAt h w
-  pub to : (place_in w.word).space ≡ space_for straight w.from.space
+  pub place : Place
+  pub held : Holds h place
+  pub at : flat_of h place ≡ w.cell
+  pub to : (place_in w.word).space ≡ space_for straight place.space
 
 -- the pair is of a target of a root
 pub record IsRootClaim (kind : Kind) (h : SpaceList) (roots : List Root) (w : Win) : Type 0 where
@@ -138,7 +135,7 @@ pub record AddsClaims (reason : Win → Type 0) (before after : Claimed) : Type 
 
 -- the pair at a number
 abbrev pub win_at : List Win → ℕ → Win
-win_at won k = slice_index_or won k (record { from = record { space = 0; block = 0; cell = 0 }; cell = 0; word = 0 })
+win_at won k = slice_index_or won k (record { cell = 0; word = 0 })
 
 -- each pair is of a target of a root, or of one of the cell of an earlier pair
 abbrev pub AreTraced : Kind → SpaceList → List Root → List Win → Type 0

@@ -7,7 +7,7 @@ use Rattle.tg_word.specs.Word.{IsPlace, link_to, place_in}
 use Rattle.tg_space.specs.Collection.{new_place}
 use Rattle.tg_space.specs.Generations.{NamesYoung}
 use Rattle.tg_space.specs.SpaceList.{SpaceList, BlockList, cell_at}
-use Rattle.tg_space.specs.Targets.{from_space, image_of}
+use Rattle.tg_space.specs.Targets.{from_space, cell_numbered, image_of}
 use Rattle.tg_space.specs.declared.spaces.Kind.{Kind}
 use Rattle.tg_evac.specs.declared.win.Win.{Win}
 
@@ -15,9 +15,9 @@ use Rattle.tg_evac.specs.declared.win.Win.{Win}
 abbrev pub moved_cell : Kind → SpaceList → List ℕ → Place → List ℕ
 moved_cell kind h forward p = image_of (from_space kind) h (new_place forward) (cell_at h p)
 
--- the word names a cell of Aged or of a nursery
-abbrev pub is_young : ℕ → Bool
-is_young word = not ((place_in word).space == 0)
+-- the copy of the cell with a number
+abbrev pub copy_of : Kind → SpaceList → List ℕ → ℕ → List ℕ
+copy_of kind h forward c = image_of (from_space kind) h (new_place forward) (cell_numbered h c)
 
 -- each forwarding word that isn't 0 has a place in range
 abbrev pub HavePlaces : List ℕ → Type 0
@@ -65,19 +65,19 @@ pub record PutsCell (kept : ℕ) (place : Place) (words : List ℕ) (before afte
 -- ---- copies
 
 -- the copy of the pair's cell stands at the place of the pair's word
-pub record HasCopy (to kept : ℕ) (copy : Place → List ℕ) (blocks : BlockList) (w : Win) : Type 0 where
+pub record HasCopy (to kept : ℕ) (copy : ℕ → List ℕ) (blocks : BlockList) (w : Win) : Type 0 where
   pub place : IsPlaceIn to kept blocks (place_in w.word)
-  pub words : new_cell kept blocks (place_in w.word) ≡ copy w.from
+  pub words : new_cell kept blocks (place_in w.word) ≡ copy w.cell
 
 -- the blocks of the space have the copies of these cells that are to be there, and nothing else
-pub record HoldCopies (to kept : ℕ) (copy : Place → List ℕ) (won : List Win) (blocks : BlockList) : Type 0 where
+pub record HoldCopies (to kept : ℕ) (copy : ℕ → List ℕ) (won : List Win) (blocks : BlockList) : Type 0 where
   pub copied : (w : Win) → Contains won w → (place_in w.word).space ≡ to → HasCopy to kept copy blocks w
   pub rest : (p : Place) → IsPlaceIn to kept blocks p → ((w : Win) → Contains won w → place_in w.word ≢ p) → new_cell kept blocks p ≡ free_cell
 
 -- the place is one of Old, of a copy that names a young cell
-pub record IsYoungCopy (copy : Place → List ℕ) (won : List Win) (p : Place) : Type 0 where
+pub record IsYoungCopy (copy : ℕ → List ℕ) (won : List Win) (p : Place) : Type 0 where
   pub win : Win
   pub is : Contains won win
   pub at : place_in win.word ≡ p
   pub old : p.space ≡ 0
-  pub names : NamesYoung (copy win.from)
+  pub names : NamesYoung (copy win.cell)

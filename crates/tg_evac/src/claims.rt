@@ -7,10 +7,10 @@ ghost use Rattle.tg_space.specs.Collection.{used_cells};
 ghost use Rattle.tg_space.specs.Soundness.{IsPointer, IsRootIn};
 ghost use Rattle.tg_space.specs.SpaceList.{Holds, cells_of, flat_of};
 ghost use Rattle.tg_space.specs.SpaceTable.{IsSpaceTable};
-ghost use Rattle.tg_space.specs.Targets.{all_root_targets, cells_met, from_space, named_by, root_targets_of, target_in, targets_at, targets_of};
+ghost use Rattle.tg_space.specs.Targets.{all_root_targets, cells_met, from_space, named_by, pointers_of, root_targets_of, target_in, targets_at, targets_of};
 ghost use Rattle.tg_space.specs.declared.spaces.Root.{Root as RootOf};
 ghost use Rattle.tg_space.specs.declared.spaces.Root.TheVariants.{Row};
-ghost use Rattle.tg_evac.specs.Claims.{AddsClaims, AreTraced, HavePointers, IsClaimOf, IsFull, IsRootClaim, IsTracedFrom, IsWinFor, StandsAt, cells_won, chunk_targets, is_in_old, is_straight, win_at};
+ghost use Rattle.tg_evac.specs.Claims.{AddsClaims, AreTraced, HavePointers, IsClaimOf, IsFull, IsRootClaim, IsTracedFrom, IsWinFor, cells_won, chunk_targets, is_in_old, is_straight, win_at};
 
 use crate::fault::CollectFault;
 use crate::plan::{OLD, Plan, space_for};
@@ -18,9 +18,8 @@ use crate::win::Win;
 use std::alloc::Global;
 use std::marker::Model;
 use tg_block::WORDS;
-use tg_rights::Rights;
 use tg_space::{Root, Spaces, first_pointer};
-use tg_word::{Place, Slot, pack, place_of};
+use tg_word::{Place, link, place_of};
 
 // The word of an object or a chunk that links to the next chunk.
 const LINK: usize = WORDS - 1;
@@ -92,17 +91,18 @@ impl Claims {
     // The pair that was won as the k-th.
     fn win(&self, k: usize) -> Win
         requires { k < length self.now.won }
-        ensures { result ≡ win_at self.now.won k }
+        ensures win { result ≡ win_at self.now.won k }
+        ensures inside { result.cell < length self.now.forward }
     {
         self.won[k]
     }
 
     // Gives a cell the next place in a space.
-    fn give(&mut self, from: Place, cell: u64, space: u64) -> Result<(), CollectFault>
+    fn give(&mut self, cell: u64, space: u64) -> Result<(), CollectFault>
         requires inside { cell < length self.old.forward }
         requires none { slice_index self.old.forward cell ≡ 0 }
         requires space { space < 2 }
-        ensures added { AddsClaims (IsWinFor from cell space) self.old self.new }
+        ensures added { AddsClaims (IsWinFor cell space) self.old self.new }
         ensures held { OnOk result (Contains (cells_won self.new.won) cell) }
         ensures full { IfErr result (λ fault. fault ≡ CollectFault.HeapFull → IsFull self.new) }
     {
@@ -110,33 +110,25 @@ impl Claims {
         if self.plan.room <= number {
             return Err(CollectFault::HeapFull);
         }
-        let word = pack(Slot::To {
-            rights: Rights::empty(),
-            place: Place {
-                space,
-                block: number / 64,
-                cell: number % 64,
-            },
-        });
-        self.won.push(Win { from, cell, word })?;
+        let word = link(space, number);
+        self.won.push(Win { cell, word })?;
         self.forward[cell as usize] = word;
         self.next[space as usize] = number + 1;
         Ok(())
     }
 
-    // Claims the cell at a place, unless it has a new place: straight for Old, or for the space that is next for it.
-    fn claim(&mut self, spaces: &Spaces, place: Place, straight: bool) -> Result<(), CollectFault>
-        requires held { Holds spaces.now.spaces place }
-        requires whole { length self.old.forward ≡ length (cells_of spaces.now.spaces) }
-        ensures added { AddsClaims (IsClaimOf spaces.now.spaces straight (flat_of spaces.now.spaces place ∷ [])) self.old self.new }
-        ensures held { OnOk result (Contains (cells_won self.new.won) (flat_of spaces.now.spaces place)) }
+    // Gives a cell a place in a space, unless it has one.
+    fn claim(&mut self, cell: u64, space: u64) -> Result<(), CollectFault>
+        requires inside { cell < length self.old.forward }
+        requires space { space < 2 }
+        ensures added { AddsClaims (IsWinFor cell space) self.old self.new }
+        ensures held { OnOk result (Contains (cells_won self.new.won) cell) }
         ensures full { IfErr result (λ fault. fault ≡ CollectFault.HeapFull → IsFull self.new) }
     {
-        let cell = spaces.flat(place);
         if self.forward[cell as usize] != 0 {
             return Ok(());
         }
-        self.give(place, cell, space_for(straight, place.space))
+        self.give(cell, space)
     }
 
     // Claims the cell that a word names, if it names one that is moved.
@@ -147,11 +139,11 @@ impl Claims {
         ensures held { OnOk result (All (Contains (cells_won self.new.won)) (target_in (from_space self.old.plan.kind) spaces.now.spaces word)) }
         ensures full { IfErr result (λ fault. fault ≡ CollectFault.HeapFull → IsFull self.new) }
     {
-        let place = place_of(word);
-        if word == 0 || !self.plan.kind.moves(place.space) {
+        let space = place_of(word).space;
+        if word == 0 || !self.plan.kind.moves(space) {
             return Ok(());
         }
-        self.claim(spaces, place, straight)
+        self.claim(spaces.target_of(word), space_for(straight, space))
     }
 
     // Claims the cells that the words name.
@@ -173,6 +165,41 @@ impl Claims {
         Ok(())
     }
 
+    // Claims what the references and the link of a cell with these words name.
+    fn claim_pointers(
+        &mut self,
+        spaces: &Spaces,
+        words: &[u64; WORDS],
+        straight: bool,
+    ) -> Result<(), CollectFault>
+        requires pointers { All (IsPointer spaces.now.spaces) (pointers_of words.now) }
+        requires whole { length self.old.forward ≡ length (cells_of spaces.now.spaces) }
+        ensures added { AddsClaims (IsClaimOf spaces.now.spaces straight (named_by (from_space self.old.plan.kind) spaces.now.spaces (pointers_of words.now))) self.old self.new }
+        ensures held { OnOk result (All (Contains (cells_won self.new.won)) (named_by (from_space self.old.plan.kind) spaces.now.spaces (pointers_of words.now))) }
+        ensures full { IfErr result (λ fault. fault ≡ CollectFault.HeapFull → IsFull self.new) }
+    {
+        let first = first_pointer(words[0]);
+        self.claim_words(spaces, &words[first..], straight)
+    }
+
+    // Claims the targets of the cell with a number.
+    fn claim_cell(
+        &mut self,
+        spaces: &Spaces,
+        cell: u64,
+        straight: bool,
+    ) -> Result<(), CollectFault>
+        requires pointers { HavePointers spaces.now.spaces }
+        requires inside { cell < length (cells_of spaces.now.spaces) }
+        requires whole { length self.old.forward ≡ length (cells_of spaces.now.spaces) }
+        ensures added { AddsClaims (IsClaimOf spaces.now.spaces straight (targets_of (from_space self.old.plan.kind) spaces.now.spaces cell)) self.old self.new }
+        ensures held { OnOk result (All (Contains (cells_won self.new.won)) (targets_of (from_space self.old.plan.kind) spaces.now.spaces cell)) }
+        ensures full { IfErr result (λ fault. fault ≡ CollectFault.HeapFull → IsFull self.new) }
+    {
+        let words = spaces.numbered_words(cell);
+        self.claim_pointers(spaces, words, straight)
+    }
+
     // Claims the targets of the cell at a place.
     fn claim_targets(
         &mut self,
@@ -188,8 +215,7 @@ impl Claims {
         ensures full { IfErr result (λ fault. fault ≡ CollectFault.HeapFull → IsFull self.new) }
     {
         let words = spaces.words(place);
-        let first = first_pointer(words[0]);
-        self.claim_words(spaces, &words[first..], straight)
+        self.claim_pointers(spaces, words, straight)
     }
 
     // Claims the targets of the chunks to which a link leads, up to one that is moved.
@@ -236,7 +262,7 @@ impl Claims {
         ensures full { IfErr result (λ fault. fault ≡ CollectFault.HeapFull → IsFull self.new) }
     {
         if self.plan.kind.moves(object.space) {
-            return self.claim(spaces, object, straight);
+            return self.claim(spaces.flat(object), space_for(straight, object.space));
         }
         self.claim_targets(spaces, object, straight)?;
         self.claim_chunks(spaces, spaces.read(object, LINK), straight)
@@ -276,10 +302,8 @@ impl Claims {
     // Claims the targets of all won cells, in the order in which they were won, until none is left to scan. What a cell
     // names whose copy is in Old goes straight to Old.
     fn scan(&mut self, spaces: &Spaces) -> Result<(), CollectFault>
-        requires table { IsSpaceTable spaces.now }
         requires pointers { HavePointers spaces.now.spaces }
         requires whole { length self.old.forward ≡ length (cells_of spaces.now.spaces) }
-        requires stand { All (StandsAt spaces.now.spaces) self.old.won }
         ensures traced { (roots : List RootOf) → AreTraced self.old.plan.kind spaces.now.spaces roots self.old.won → AreTraced self.old.plan.kind spaces.now.spaces roots self.new.won }
         ensures kept { All (Contains (cells_won self.new.won)) (cells_won self.old.won) }
         ensures closed { OnOk result (IsClosed (targets_of (from_space self.old.plan.kind) spaces.now.spaces) (cells_won self.new.won) (length (cells_won self.new.won))) }
@@ -291,7 +315,7 @@ impl Claims {
         while next < self.len() {
             let win = self.win(next);
             let is_in_old = place_of(win.word).space == OLD;
-            self.claim_targets(spaces, win.from, is_in_old)?;
+            self.claim_cell(spaces, win.cell, is_in_old)?;
             next += 1;
         }
         Ok(())

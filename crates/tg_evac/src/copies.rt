@@ -1,13 +1,13 @@
 //! The copy phase: images of the won cells in new blocks, with the forwarding words frozen.
 ghost use Rattle.std.specs.Prelude.{◌≡◌, ℕ, ◌<◌, ◌≤◌, ◌^◌, ◌+◌, ◌↔◌, ◌⊎◌, length, IfOk, IsTrue, OnOk};
-ghost use Rattle.std.specs.List.{All, Contains, list_any};
+ghost use Rattle.std.specs.List.{All, Contains};
 ghost use Rattle.tg_word.specs.declared.Place.{Place as PlaceOf};
 ghost use Rattle.tg_space.specs.Generations.{NamesYoung};
 ghost use Rattle.tg_space.specs.Soundness.{IsRootIn};
 ghost use Rattle.tg_space.specs.SpaceList.{IsSpace, cells_of};
 ghost use Rattle.tg_space.specs.declared.spaces.Root.TheVariants.{Remembered as RememberedAt};
-ghost use Rattle.tg_evac.specs.Claims.{AreApart, HavePointers, StandsAt, words_won};
-ghost use Rattle.tg_evac.specs.Copies.{HasNewPlace, HavePlaces, HoldCopies, IsGrown, IsYoungCopy, PutsCell, is_young, moved_cell};
+ghost use Rattle.tg_evac.specs.Claims.{AreApart, HavePointers, StandsIn, words_won};
+ghost use Rattle.tg_evac.specs.Copies.{HasNewPlace, HavePlaces, HoldCopies, IsGrown, IsYoungCopy, PutsCell, copy_of, moved_cell};
 
 use crate::fault::CollectFault;
 use crate::plan::{OLD, Plan};
@@ -55,7 +55,7 @@ fn note_root(
     match root {
         Root::Row(_) => Ok(()),
         Root::Remembered(place) => {
-            let words = spaces.image(kind, forward, spaces.cell(place));
+            let words = spaces.image(kind, forward, *spaces.words(place));
             note_young(remembered, place, &words)
         }
     }
@@ -73,21 +73,21 @@ pub fn copy_won(
     requires pointers { HavePointers spaces.now.spaces }
     requires whole { length forward.now ≡ length (cells_of spaces.now.spaces) }
     requires places { HavePlaces forward.now }
-    requires stand { All (StandsAt spaces.now.spaces) won.now }
+    requires stand { All (StandsIn forward.now) won.now }
     requires new { All (HasNewPlace plan.kept) won.now }
     requires apart { AreApart (words_won won.now) }
     requires few { plan.kept ≤ 2 ^ 20 }
-    ensures aged { IfOk result (λ adoption. HoldCopies 1 0 (moved_cell plan.kind spaces.now.spaces forward.now) won.now adoption.aged) }
-    ensures old { IfOk result (λ adoption. HoldCopies 0 plan.kept (moved_cell plan.kind spaces.now.spaces forward.now) won.now adoption.old) }
+    ensures aged { IfOk result (λ adoption. HoldCopies 1 0 (copy_of plan.kind spaces.now.spaces forward.now) won.now adoption.aged) }
+    ensures old { IfOk result (λ adoption. HoldCopies 0 plan.kept (copy_of plan.kind spaces.now.spaces forward.now) won.now adoption.old) }
     ensures few { IfOk result (λ adoption. plan.kept + length adoption.old ≤ 2 ^ 20) }
-    ensures noted { OnOk result ((p : PlaceOf) → Contains remembered.new.places p ↔ (Contains remembered.old.places p ⊎ IsYoungCopy (moved_cell plan.kind spaces.now.spaces forward.now) won.now p)) }
+    ensures noted { OnOk result ((p : PlaceOf) → Contains remembered.new.places p ↔ (Contains remembered.old.places p ⊎ IsYoungCopy (copy_of plan.kind spaces.now.spaces forward.now) won.now p)) }
 {
     let mut adoption = Adoption {
         aged: Space::new(alloc),
         old: Space::new(alloc),
     };
     for win in won {
-        let words = spaces.image(plan.kind, forward, spaces.cell(win.from));
+        let words = spaces.image(plan.kind, forward, *spaces.numbered_words(win.cell));
         let place = place_of(win.word);
         put_copy(alloc, &mut adoption, plan.kept, place, words)?;
         note_young(remembered, place, &words)?;
@@ -169,16 +169,15 @@ fn note_young(
 }
 
 // Whether a reference or link among the words of a cell names a cell of Aged or of a nursery.
+#[inline]
 fn names_young(words: &[u64; WORDS]) -> bool
     ensures { IsTrue result ↔ NamesYoung words.now }
 {
     let first = first_pointer(words[0]);
-    is_any_young(&words[first..])
-}
-
-// Whether one of these words names a cell of Aged or of a nursery.
-fn is_any_young(words: &[u64]) -> bool
-    ensures { result ≡ list_any is_young words.now }
-{
-    words.iter().any(|word| place_of(*word).space != OLD)
+    for i in 1..WORDS {
+        if first <= i && place_of(words[i]).space != OLD {
+            return true;
+        }
+    }
+    false
 }

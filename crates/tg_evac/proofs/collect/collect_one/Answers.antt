@@ -7,10 +7,9 @@ use Rattle.tg_space.specs.declared.spaces.Kind.{Kind}
 use Rattle.tg_space.specs.declared.spaces.Root.TheVariants.{Remembered}
 use Rattle.tg_evac.specs.declared.plan.Plan.{Plan}
 use Rattle.tg_evac.specs.declared.win.Win.{Win}
-use Rattle.tg_evac.specs.Claims.{Claimed, IsTracedFrom, StandsAt}
-use Rattle.tg_evac.specs.Copies.{HasNewPlace, HavePlaces, HoldCopies, IsYoungCopy, moved_cell}
+use Rattle.tg_evac.specs.Claims.{Claimed, IsTracedFrom, StandsIn}
+use Rattle.tg_evac.specs.Copies.{HasNewPlace, HavePlaces, HoldCopies, IsYoungCopy, copy_of, moved_cell}
 use Rattle.tg_evac.proofs.Claiming.{have_places}
-use Rattle.tg_evac.proofs.Reasons.{all_stand}
 use Rattle.tg_evac.proofs.Sound.{have_pointers}
 use Rattle.tg_evac.proofs.Collecting.{collected, new_places}
 use Rattle.tg_evac.proofs.collect.collect_one.Goals as goal
@@ -51,11 +50,9 @@ copy_won-requires-clause-places c =
     subst (λ (f : List ℕ). HavePlaces f) (sym c.deref-2.ensures.value) (have_places (claims_of (goal.at.copy_won-requires-clause-places c).In_ok-trace) c.claims.invariant)
 
 pub copy_won-requires-clause-stand : goal.copy_won-requires-clause-stand
-unfolding claims_of
 copy_won-requires-clause-stand c =
-    let all = traced (goal.at.copy_won-requires-clause-stand c).In_ok-trace in
-    subst (λ (ws : List Win). All (StandsAt c.args.spaces.now.spaces) ws) (sym c.deref-3.ensures.value)
-    (all_stand c.args.kind c.args.spaces.now.spaces c.args.roots.now c.claims.inside.won.items all.traced)
+    subst (λ (f : List ℕ). All (StandsIn f) c.deref-3.result.now) (sym c.deref-2.ensures.value)
+    (subst (λ (ws : List Win). All (StandsIn c.claims.inside.forward.items) ws) (sym c.deref-3.ensures.value) c.claims.invariant.words.stand)
 
 pub copy_won-requires-clause-new : goal.copy_won-requires-clause-new
 unfolding claims_of
@@ -73,14 +70,14 @@ returns-clause-collected c =
     let first : (p : Place) → Contains c.note_roots.new.remembered.places p ↔ (Contains c.new-remembered.result.places p ⊎ (Contains roots (Remembered p) × NamesYoung (moved_cell c.args.kind h forward p))) =
     subst (λ (f : List ℕ). (p : Place) → Contains c.note_roots.new.remembered.places p ↔ (Contains c.new-remembered.result.places p ⊎ (Contains roots (Remembered p) × NamesYoung (moved_cell c.args.kind h f p)))) c.deref.ensures.value c.in_ok-note_roots.ensures in
     let made = c.in_ok-adoption.ensures in
-    let young : (p : Place) → Contains c.copy_won.new.remembered.places p ↔ (Contains c.note_roots.new.remembered.places p ⊎ IsYoungCopy (moved_cell plan.kind h forward) won p) =
-    subst (λ (f : List ℕ). (p : Place) → Contains c.copy_won.new.remembered.places p ↔ (Contains c.note_roots.new.remembered.places p ⊎ IsYoungCopy (moved_cell plan.kind h f) won p)) c.deref-2.ensures.value
-    (subst (λ (ws : List Win). (p : Place) → Contains c.copy_won.new.remembered.places p ↔ (Contains c.note_roots.new.remembered.places p ⊎ IsYoungCopy (moved_cell plan.kind h c.deref-2.result.now) ws p)) c.deref-3.ensures.value made.noted) in
-    let in_aged : HoldCopies 1 0 (moved_cell plan.kind h forward) won c.in_ok-adoption.adoption.aged =
-    subst (λ (f : List ℕ). HoldCopies 1 0 (moved_cell plan.kind h f) won c.in_ok-adoption.adoption.aged) c.deref-2.ensures.value
-    (subst (λ (ws : List Win). HoldCopies 1 0 (moved_cell plan.kind h c.deref-2.result.now) ws c.in_ok-adoption.adoption.aged) c.deref-3.ensures.value made.aged) in
-    let in_old : HoldCopies 0 plan.kept (moved_cell plan.kind h forward) won c.in_ok-adoption.adoption.old =
-    subst (λ (f : List ℕ). HoldCopies 0 plan.kept (moved_cell plan.kind h f) won c.in_ok-adoption.adoption.old) c.deref-2.ensures.value
-    (subst (λ (ws : List Win). HoldCopies 0 plan.kept (moved_cell plan.kind h c.deref-2.result.now) ws c.in_ok-adoption.adoption.old) c.deref-3.ensures.value made.old) in
+    let young : (p : Place) → Contains c.copy_won.new.remembered.places p ↔ (Contains c.note_roots.new.remembered.places p ⊎ IsYoungCopy (copy_of plan.kind h forward) won p) =
+    subst (λ (f : List ℕ). (p : Place) → Contains c.copy_won.new.remembered.places p ↔ (Contains c.note_roots.new.remembered.places p ⊎ IsYoungCopy (copy_of plan.kind h f) won p)) c.deref-2.ensures.value
+    (subst (λ (ws : List Win). (p : Place) → Contains c.copy_won.new.remembered.places p ↔ (Contains c.note_roots.new.remembered.places p ⊎ IsYoungCopy (copy_of plan.kind h c.deref-2.result.now) ws p)) c.deref-3.ensures.value made.noted) in
+    let in_aged : HoldCopies 1 0 (copy_of plan.kind h forward) won c.in_ok-adoption.adoption.aged =
+    subst (λ (f : List ℕ). HoldCopies 1 0 (copy_of plan.kind h f) won c.in_ok-adoption.adoption.aged) c.deref-2.ensures.value
+    (subst (λ (ws : List Win). HoldCopies 1 0 (copy_of plan.kind h c.deref-2.result.now) ws c.in_ok-adoption.adoption.aged) c.deref-3.ensures.value made.aged) in
+    let in_old : HoldCopies 0 plan.kept (copy_of plan.kind h forward) won c.in_ok-adoption.adoption.old =
+    subst (λ (f : List ℕ). HoldCopies 0 plan.kept (copy_of plan.kind h f) won c.in_ok-adoption.adoption.old) c.deref-2.ensures.value
+    (subst (λ (ws : List Win). HoldCopies 0 plan.kept (copy_of plan.kind h c.deref-2.result.now) ws c.in_ok-adoption.adoption.old) c.deref-3.ensures.value made.old) in
     collected c.args.kind c.args.spaces.now roots plan c.of-plan.ensures.plan c.cells-cells.ensures.table (claims_of from) c.claims.invariant (plan_is from) (traced from)
     c.in_ok-adoption.adoption.aged c.in_ok-adoption.adoption.old c.new-remembered.result.places c.note_roots.new.remembered.places c.copy_won.new.remembered.places c.new-remembered.ensures first young in_aged in_old made.few

@@ -7,16 +7,16 @@ use Rattle.tg_space.specs.Collection.{new_place}
 use Rattle.tg_space.specs.Targets.{from_space, image_of}
 use Rattle.tg_evac.specs.declared.win.Win.{Win}
 use Rattle.tg_evac.specs.Claims.{win_at}
-use Rattle.tg_evac.specs.Copies.{IsYoungCopy, moved_cell}
+use Rattle.tg_evac.specs.Copies.{IsYoungCopy, copy_of}
 use Rattle.tg_evac.proofs.Copying.{place_of_now, held_now, noted_now}
 use Rattle.tg_evac.proofs.copies.copy_won.Goals as goal
 
 pub loop-win-preserved : goal.loop-win-preserved
 loop-win-preserved c =
     let h = c.args.spaces.now.spaces in let kind = c.args.plan.kind in let kept = c.args.plan.kept in let forward = c.args.forward.now in let won = c.args.won.now in
-    let copy = moved_cell kind h forward in let i = c.loop-win.win-index in let inside = c.loop-win-test.true in
+    let copy = copy_of kind h forward in let i = c.loop-win.win-index in let inside = c.loop-win-test.true in
     let place = c.place_of-place.result in let words = c.image-words.result in
-    let is : words ≡ copy (win_at won i).from = c.image-words.ensures ∙ ap (image_of (from_space kind) h (new_place forward)) c.cell.ensures.words in
+    let is : words ≡ copy (win_at won i).cell = c.image-words.ensures ∙ ap (image_of (from_space kind) h (new_place forward)) c.numbered_words.ensures.words in
     let at = c.place_of-place.ensures in
     let there = place_of_now kept copy won c.requires.new c.requires.apart i inside in
     let space_is = ap (λ (p : Place). p.space) at in
@@ -39,5 +39,5 @@ loop-win-preserved c =
 
 pub returns-clause-noted : goal.returns-clause-noted
 returns-clause-noted c p =
-    subst (λ (ws : List Win). Contains c.loop-win.remembered.places p ↔ (Contains c.args.remembered.now.places p ⊎ IsYoungCopy (moved_cell c.args.plan.kind c.args.spaces.now.spaces c.args.forward.now) ws p))
+    subst (λ (ws : List Win). Contains c.loop-win.remembered.places p ↔ (Contains c.args.remembered.now.places p ⊎ IsYoungCopy (copy_of c.args.plan.kind c.args.spaces.now.spaces c.args.forward.now) ws p))
     (take_all c.loop-win.win-index c.args.won.now c.loop-win-test.false) (c.loop-win.invariant.noted p)

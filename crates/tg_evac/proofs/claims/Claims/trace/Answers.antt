@@ -10,7 +10,7 @@ use Rattle.tg_space.proofs.Tracing.{closure_is_won}
 use Rattle.std.proofs.Common.{length}
 use Rattle.tg_evac.specs.Claims.{AreTraced, cells_won}
 use Rattle.tg_evac.proofs.Pieces.{same_kind}
-use Rattle.tg_evac.proofs.Reasons.{traced_more, all_stand, full_from, traced_cells}
+use Rattle.tg_evac.proofs.Reasons.{traced_more, full_from, traced_cells}
 use Rattle.tg_evac.proofs.claims.Claims.trace.Goals as goal
 use Rattle.tg_evac.proofs.claims.Claims.trace.Goals.{After-claim_roots, After-scan}
 
@@ -26,10 +26,6 @@ all_traced : (c : After-scan) → AreTraced c.args.self.now.plan.kind c.args.spa
 all_traced c first =
     let h = c.args.spaces.now.spaces in let roots = c.args.roots.now in
     subst (λ (k : Kind). AreTraced k h roots c.claim_roots.new.self.won → AreTraced k h roots c.scan.new.self.won) (same_kind c.claim_roots.ensures.added) (c.scan.ensures.traced roots) first
-
-pub scan-requires-clause-stand : goal.scan-requires-clause-stand
-scan-requires-clause-stand c =
-    all_stand c.args.self.now.plan.kind c.args.spaces.now.spaces c.args.roots.now c.claim_roots.new.self.won (first_traced (goal.at.scan-requires-clause-stand c).After-claim_roots)
 
 pub returns-in_err-claim_roots-clause-full : goal.returns-in_err-claim_roots-clause-full
 returns-in_err-claim_roots-clause-full c =
