@@ -49,14 +49,12 @@ module _ (h : SpaceList) (aged old : BlockList) (p : Place) where
   -- a place in the new blocks of Old
   pub old_place : (kind : Kind) → IsPlaceIn 0 (kept_blocks kind h) old p → IsNewPlace kind h aged old p × (cell_at (adopted kind h aged old) p ≡ new_cell (kept_blocks kind h) old p)
   old_place Full place =
-      let is = full_space place.space in let long = ap (λ (bs : BlockList). length bs) is in let low = place.block in let space = place.space in
-      (
+      let is = full_space place.space in let long = ap (λ (bs : BlockList). length bs) is in let low = place.block in let space = place.space in (
         record { held = record { space = omega arith; block = omega arith; cell = place.cell }; behind = λ e. place.behind },
         ap (λ (bs : BlockList). cell_of (get_or bs p.block []) p.cell) is ∙ (let same : p.block ≡ p.block - 0 = omega arith in ap (λ (b : ℕ). cell_of (get_or old b []) p.cell) same),
       )
   old_place Nursery place =
-      let is = nursery_old place.space in let long = ap (λ (bs : BlockList). length bs) is ∙ length-append (space_of h 0) old in let low = place.block in let space = place.space in let behind = place.behind in
-      (
+      let is = nursery_old place.space in let long = ap (λ (bs : BlockList). length bs) is ∙ length-append (space_of h 0) old in let low = place.block in let space = place.space in let behind = place.behind in (
         record { held = record { space = omega arith; block = omega arith; cell = place.cell }; behind = λ e. place.behind },
         ap (λ (bs : BlockList). cell_of (get_or bs p.block []) p.cell) is ∙ ap (λ (b : List (List ℕ)). cell_of b p.cell) (get_or-append_right (space_of h 0) old (length (space_of h 0)) p.block [] refl behind),
       )
@@ -64,8 +62,7 @@ module _ (h : SpaceList) (aged old : BlockList) (p : Place) where
   -- and one in those of Aged
   pub aged_place : IsPlaceIn 1 0 aged p → IsNewPlace Nursery h aged old p × (cell_at (adopted Nursery h aged old) p ≡ new_cell 0 aged p)
   aged_place place =
-      let is = nursery_aged place.space in let long = ap (λ (bs : BlockList). length bs) is in let low = place.block in let space = place.space in
-      (
+      let is = nursery_aged place.space in let long = ap (λ (bs : BlockList). length bs) is in let low = place.block in let space = place.space in (
         record { held = record { space = omega arith; block = omega arith; cell = place.cell }; behind = λ e. absurd (omega arith) },
         ap (λ (bs : BlockList). cell_of (get_or bs p.block []) p.cell) is ∙ (let same : p.block ≡ p.block - 0 = omega arith in ap (λ (b : ℕ). cell_of (get_or aged b []) p.cell) same),
       )

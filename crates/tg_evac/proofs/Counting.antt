@@ -93,13 +93,12 @@ first_moved Nursery (old ∷ rest) = 64 * length old
 module _ (h : SpaceList) (is : All IsSpace h) where
   in_moved : (kind : Kind) (c : ℕ) → IsUsed kind h c → (k : ℕ) × (k < length (moved_cells kind h)) × (0 < get_or (get_or (moved_cells kind h) k []) 0 0) × (first_moved kind h + k ≡ c)
   unfolding first_moved
-  in_moved Full c u =
-      (
-        c,
-        (let low = flat_inside h is u.place u.held in let at = u.at in omega arith),
-        subst (λ (n : ℕ). 0 < get_or (get_or (cells_of h) n []) 0 0) u.at (rw (get_or-flat_of h is u.place u.held) u.used),
-        omega arith,
-      )
+  in_moved Full c u = (
+    c,
+    (let low = flat_inside h is u.place u.held in let at = u.at in omega arith),
+    subst (λ (n : ℕ). 0 < get_or (get_or (cells_of h) n []) 0 0) u.at (rw (get_or-flat_of h is u.place u.held) u.used),
+    omega arith,
+  )
   in_moved Nursery c u = by_list h is u
     where
       by_list : (g : SpaceList) → All IsSpace g → IsUsed Nursery g c → (k : ℕ) × (k < length (moved_cells Nursery g)) × (0 < get_or (get_or (moved_cells Nursery g) k []) 0 0) × (first_moved Nursery g + k ≡ c)
@@ -115,8 +114,7 @@ module _ (h : SpaceList) (is : All IsSpace h) where
           let shape = (All-head IsSpace old rest whole).1 in
           let there : get_or (cells_of (old ∷ rest)) c [] ≡ get_or (cells_of rest) (c - 64 * length old) [] =
           get_or-append_right (flat_map (λ (b : List (List ℕ)). b) old) (cells_of rest) (64 * length old) c [] (length-blocks old shape) behind in
-          let words : get_or (cells_of (old ∷ rest)) c [] ≡ cell_at (old ∷ rest) v.place = ap (λ (n : ℕ). get_or (cells_of (old ∷ rest)) n []) (sym v.at) ∙ get_or-flat_of (old ∷ rest) whole v.place v.held in
-          (
+          let words : get_or (cells_of (old ∷ rest)) c [] ≡ cell_at (old ∷ rest) v.place = ap (λ (n : ℕ). get_or (cells_of (old ∷ rest)) n []) (sym v.at) ∙ get_or-flat_of (old ∷ rest) whole v.place v.held in (
             c - 64 * length old,
             (let at = v.at in omega arith),
             subst (λ (ws : List ℕ). 0 < get_or ws 0 0) (sym words ∙ there) v.used,

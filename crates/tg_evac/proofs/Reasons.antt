@@ -72,9 +72,13 @@ module _ (kind : Kind) (h : SpaceList) (roots : List Root) {reason : Win → Typ
       old : k < length a.won → IsRootClaim kind h roots (win_at a.won k) ⊎ ((j : ℕ) × (j < k) × IsClaimOf h (is_in_old (win_at a.won j)) (targets_of (from_space kind) h (win_at a.won j).cell) (win_at a.won k)) →
           IsRootClaim kind h roots (win_at b.won k) ⊎ ((j : ℕ) × (j < k) × IsClaimOf h (is_in_old (win_at b.won j)) (targets_of (from_space kind) h (win_at b.won j).cell) (win_at b.won k))
       old low has = ⊎_elim (λ r. inl (subst (λ (w : Win). IsRootClaim kind h roots w) (sym (kept_win k low)) r))
-          (λ (j, below, claim). inr (j, below, (let jk : j < length a.won = omega arith in
-          subst (λ (w : Win). IsClaimOf h (is_in_old (win_at b.won j)) (targets_of (from_space kind) h (win_at b.won j).cell) w) (sym (kept_win k low))
-          (subst (λ (v : Win). IsClaimOf h (is_in_old v) (targets_of (from_space kind) h v.cell) (win_at a.won k)) (sym (kept_win j jk)) claim)))) has
+          (λ (j, below, claim). inr (
+            j,
+            below,
+            (let jk : j < length a.won = omega arith in
+                subst (λ (w : Win). IsClaimOf h (is_in_old (win_at b.won j)) (targets_of (from_space kind) h (win_at b.won j).cell) w) (sym (kept_win k low))
+                (subst (λ (v : Win). IsClaimOf h (is_in_old v) (targets_of (from_space kind) h v.cell) (win_at a.won k)) (sym (kept_win j jk)) claim)),
+          )) has
 
       by_place : (k < length a.won) ⊎ (length a.won ≤ k) → IsRootClaim kind h roots (win_at b.won k) ⊎ ((j : ℕ) × (j < k) × IsClaimOf h (is_in_old (win_at b.won j)) (targets_of (from_space kind) h (win_at b.won j).cell) (win_at b.won k))
       by_place (inl low) = old low (traced k low)

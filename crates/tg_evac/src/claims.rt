@@ -183,12 +183,7 @@ impl Claims {
     }
 
     // Claims the targets of the cell with a number.
-    fn claim_cell(
-        &mut self,
-        spaces: &Spaces,
-        cell: u64,
-        straight: bool,
-    ) -> Result<(), CollectFault>
+    fn claim_cell(&mut self, spaces: &Spaces, cell: u64, straight: bool) -> Result<(), CollectFault>
         requires pointers { HavePointers spaces.now.spaces }
         requires inside { cell < length (cells_of spaces.now.spaces) }
         requires whole { length self.old.forward ≡ length (cells_of spaces.now.spaces) }

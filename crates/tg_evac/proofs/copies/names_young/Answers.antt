@@ -13,8 +13,7 @@ returns-then-place_of-ne-OLD c =
 
 pub returns : goal.returns
 returns c =
-    let words = c.args.words.now in
-    (
+    let words = c.args.words.now in (
       (λ t. absurd cc),
       (λ names. absurd (none_young words c.first_pointer-first.result c.first_pointer-first.ensures.word (λ k low from. c.loop-i.invariant k (omega (arith, c.told-words)) from) names)),
     )
