@@ -5,14 +5,14 @@ use Rattle.std.proofs.lemmas.List.Elements.{All-push}
 use Rattle.tg_space.specs.Soundness.{IsRootIn}
 use Rattle.tg_space.specs.declared.spaces.Root.{Root}
 use Rattle.tg_space.specs.declared.spaces.Root.TheVariants.{Row}
-use Rattle.tg_evac.proofs.tests.sound.are_rows.Goals as goal
+use Rattle.tg_evac.proofs.tests.sound.are_roots.Goals as goal
 
 pub loop-root-preserved : goal.loop-root-preserved
 loop-root-preserved c =
     let h = c.args.spaces.now.spaces in let roots = c.args.roots.now in let i = c.loop-root.root-index in
     let none = Row (record { space = 0; block = 0; cell = 0 }) in
     subst (λ (rs : List Root). All (IsRootIn h) rs) (sym (take_more roots i none c.loop-root-test.true))
-    (All-push (IsRootIn h) (take i roots) (get_or roots i none) c.loop-root.invariant (c.if-not-is_row.ensures refl))
+    (All-push (IsRootIn h) (take i roots) (get_or roots i none) c.loop-root.invariant (c.if-not-is_root.ensures refl))
 
 pub returns : goal.returns
 returns c _ =
