@@ -82,7 +82,7 @@ impl<P: Payload> Heap<P> {
     // After a full collection.
     fn keep_copied(&mut self, forward: &[u64], adoption: Adoption, remembered: Remembered)
         requires { IsCollection Kind.Full self.old.table.spaces (roots_of Kind.Full self.old) forward.now adoption.aged adoption.old remembered.places }
-        ensures settled { IsSettled Kind.Full self.old self.new }
+        ensures { IsSettled Kind.Full self.old self.new }
     {
         drop_uncopied(&self.cells.spaces, &mut self.cells.payloads, forward);
         follow(&self.cells.spaces, Kind::Full, forward, &mut self.workers);
@@ -121,10 +121,7 @@ impl<P: Payload> Heap<P> {
 fn rows(alloc: Global, places: &[Place]) -> Result<Vec<Root>, AllocError>
     ensures { IfOk result (λ roots. roots.items ≡ map (λ p. IsRow p) places.now) }
 {
-    places
-        .iter()
-        .map(|place| Root::Row(*place))
-        .collect(alloc)
+    places.iter().map(|place| Root::Row(*place)).collect(alloc)
 }
 
 // Puts the remembered cells behind the roots.
