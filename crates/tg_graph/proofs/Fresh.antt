@@ -8,7 +8,7 @@ use Rattle.std.proofs.lemmas.Map.Keys.{IsDistinct-from_apart}
 use Rattle.tg_model.specs.declared.value.Value.{Value}
 use Rattle.tg_model.specs.Rules.{with_value}
 use Rattle.tg_word.specs.declared.Place.{Place}
-use Rattle.tg_block.specs.Cells.{kind_of, object_tag, chunk_tag}
+use Rattle.tg_block.specs.Cells.{kind_of}
 use Rattle.tg_block.specs.declared.CellKind.{CellKind}
 use Rattle.tg_block.specs.declared.CellKind.TheVariants.{Free, Object, Chunk}
 use Rattle.tg_space.specs.SpaceList.{SpaceList, IsSpaceList, Holds, cell_at, cells_of, with_cell_at, with_block}

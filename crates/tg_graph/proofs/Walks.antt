@@ -1,7 +1,7 @@
 -- Walks along rows, cell by cell.
 use Rattle.std.proofs.Common.{◌≡◌, ◌≢◌, ℕ, ◌+◌, ◌-◌, ◌<◌, ◌≤◌, ◌⊎◌, inl, inr, ◌==◌, not, Bool, true, false, List, [], ◌∷◌, ◌++◌, Option, Some, None, length, get_or, take, drop, refl, sym, ap, subst, arith, ◌∙◌, ⊎_elim, option_map, map, append_assoc, append-nil}
 use Rattle.std.specs.Prelude.{nat_lt, position, slice_index}
-use Rattle.std.specs.List.{filter, flat_map, position_or_len}
+use Rattle.std.specs.List.{filter, position_or_len}
 use Rattle.std.specs.Option.{option_or}
 use Rattle.std.proofs.lemmas.Bool.Decides.{nat_tests}
 use Rattle.std.proofs.lemmas.List.{map-append}

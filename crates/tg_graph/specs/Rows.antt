@@ -8,7 +8,6 @@ use Rattle.tg_block.specs.Cells.{object_tag}
 use Rattle.tg_block.specs.declared.CellKind.TheVariants.{Object, Chunk}
 use Rattle.tg_space.specs.SpaceList.{SpaceList, cell_at, cells_of, space_of}
 use Rattle.tg_space.specs.Soundness.{IsKindAt}
-use Rattle.tg_space.specs.Rows.{link_of}
 use Rattle.tg_space.specs.Rows.{chunks_from, link_at, row_of}
 use Rattle.tg_space.specs.Targets.{first_pointer}
 
