@@ -95,9 +95,9 @@ impl<P: Payload> Heap<P> {
         &mut self,
         forward: &[u64],
         adoption: Adoption,
-        remembered: Remembered,
+        noted: Remembered,
     ) -> Result<(), AllocError>
-        requires { IsCollection Kind.Nursery self.old.table.spaces (roots_of Kind.Nursery self.old) forward.now adoption.aged adoption.old remembered.places }
+        requires { IsCollection Kind.Nursery self.old.table.spaces (roots_of Kind.Nursery self.old) forward.now adoption.aged adoption.old noted.places }
         ensures settled { OnOk result (IsSettled Kind.Nursery self.old self.new) }
         ensures refused { OnErr result (self.new ≡ self.old) }
     {
@@ -112,7 +112,7 @@ impl<P: Payload> Heap<P> {
         write_cells(&mut self.cells.spaces, &cells);
         drop_payloads(&mut self.cells.payloads, &dead);
         self.workers = workers;
-        self.cells.remembered = remembered;
+        self.cells.remembered = noted;
         Ok(())
     }
 }

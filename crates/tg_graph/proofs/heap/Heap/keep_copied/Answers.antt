@@ -1,5 +1,5 @@
 -- The heap that a full collection leaves.
-use Rattle.std.proofs.Common.{◌≡◌, List, map, refl, sym, subst, ◌∙◌}
+use Rattle.std.proofs.Common.{◌≡◌, List, map, refl, sym, subst}
 use Rattle.std.specs.List.{All}
 use Rattle.std.specs.Vec.{with_items}
 use Rattle.tg_word.specs.declared.Place.{Place}
