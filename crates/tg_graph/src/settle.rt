@@ -103,6 +103,7 @@ impl<P: Payload> Heap<P> {
     {
         let alloc = self.cells.alloc;
         let spaces = &self.cells.spaces;
+        // It tells that Aged has no more blocks than a space may have, so that forwarding words have places in range.
         let _ = adoption.aged.len();
         let dead = dead_keys(alloc, spaces, forward)?;
         let cells = rewritten_cells(alloc, spaces, forward, &self.cells.remembered)?;
