@@ -20,7 +20,7 @@ use Rattle.tg_graph.specs.Kept.{Drops, HaveKeysApart, IsDeadAt, IsDeadKey, IsKep
 use Rattle.tg_graph.proofs.Members.{Contains-none}
 use Rattle.tg_graph.proofs.Places.{place_numbered}
 use Rattle.tg_graph.proofs.Layouts.{object_tagged}
-use Rattle.tg_graph.proofs.KeptAdopted.{old_stays, young_moves}
+use Rattle.tg_graph.proofs.KeptAdopted.{young_moves}
 
 -- ---- steps
 

@@ -1,5 +1,5 @@
 -- The heap that is left, once each part of it was changed.
-use Rattle.std.proofs.Common.{◌≡◌, ◌↔◌, ◌≤◌, ◌<◌, ◌^◌, ℕ, List, [], IsSome, length, get_or, map, sym, ap, subst, arith, ◌∙◌}
+use Rattle.std.proofs.Common.{◌≡◌, ◌↔◌, ◌≤◌, ◌^◌, ℕ, List, [], IsSome, length, get_or, map, sym, ap, subst, arith, ◌∙◌}
 use Rattle.std.specs.List.{All, Contains}
 use Rattle.std.specs.Vec.{with_items}
 use Rattle.std.specs.declared.vec.Vec.{Vec}
@@ -8,14 +8,14 @@ use Rattle.std.proofs.lemmas.List.Elements.{Contains-get_or}
 use Rattle.tg_word.specs.declared.Place.{Place}
 use Rattle.tg_word.specs.Word.{IsPlace, place_in}
 use Rattle.tg_space.specs.SpaceList.{SpaceList, BlockList}
-use Rattle.tg_space.specs.SpaceTable.{SpaceTable, IsSpaceTable, adopted, with_adopted}
+use Rattle.tg_space.specs.SpaceTable.{SpaceTable, IsSpaceTable, with_adopted}
 use Rattle.tg_space.specs.Soundness.{IsOldCell}
 use Rattle.tg_space.specs.Targets.{from_space}
 use Rattle.tg_space.specs.Collection.{IsCollection, new_place}
 use Rattle.tg_space.specs.declared.spaces.Kind.{Kind}
 use Rattle.tg_space.specs.declared.spaces.Kind.TheVariants.{Full, Nursery}
 use Rattle.tg_space.proofs.Tables.{table_list}
-use Rattle.tg_payload.specs.Table.{Payloads, entry}
+use Rattle.tg_payload.specs.Table.{entry}
 use Rattle.tg_graph.specs.declared.settle.Rewritten.{Rewritten}
 use Rattle.tg_graph.specs.Heap.{HeapState, IsWellFormed, roots_of}
 use Rattle.tg_graph.specs.Kept.{AreWritten, Drops, IsDeadKey, moved_place, rewritten_at}

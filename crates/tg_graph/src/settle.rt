@@ -82,7 +82,7 @@ impl<P: Payload> Heap<P> {
     // After a full collection.
     fn keep_copied(&mut self, forward: &[u64], adoption: Adoption, remembered: Remembered)
         requires { IsCollection Kind.Full self.old.table.spaces (roots_of Kind.Full self.old) forward.now adoption.aged adoption.old remembered.places }
-        ensures settled { IsSettled Kind.Full self.old self.new }
+        ensures { IsSettled Kind.Full self.old self.new }
     {
         drop_uncopied(&self.cells.spaces, &mut self.cells.payloads, forward);
         follow(&self.cells.spaces, Kind::Full, forward, &mut self.workers);
@@ -95,14 +95,15 @@ impl<P: Payload> Heap<P> {
         &mut self,
         forward: &[u64],
         adoption: Adoption,
-        remembered: Remembered,
+        noted: Remembered,
     ) -> Result<(), AllocError>
-        requires { IsCollection Kind.Nursery self.old.table.spaces (roots_of Kind.Nursery self.old) forward.now adoption.aged adoption.old remembered.places }
+        requires { IsCollection Kind.Nursery self.old.table.spaces (roots_of Kind.Nursery self.old) forward.now adoption.aged adoption.old noted.places }
         ensures settled { OnOk result (IsSettled Kind.Nursery self.old self.new) }
         ensures refused { OnErr result (self.new ≡ self.old) }
     {
         let alloc = self.cells.alloc;
         let spaces = &self.cells.spaces;
+        // It tells that Aged has no more blocks than a space may have, so that forwarding words have places in range.
         let _ = adoption.aged.len();
         let dead = dead_keys(alloc, spaces, forward)?;
         let cells = rewritten_cells(alloc, spaces, forward, &self.cells.remembered)?;
@@ -112,7 +113,7 @@ impl<P: Payload> Heap<P> {
         write_cells(&mut self.cells.spaces, &cells);
         drop_payloads(&mut self.cells.payloads, &dead);
         self.workers = workers;
-        self.cells.remembered = remembered;
+        self.cells.remembered = noted;
         Ok(())
     }
 }
@@ -121,10 +122,7 @@ impl<P: Payload> Heap<P> {
 fn rows(alloc: Global, places: &[Place]) -> Result<Vec<Root>, AllocError>
     ensures { IfOk result (λ roots. roots.items ≡ map (λ p. IsRow p) places.now) }
 {
-    places
-        .iter()
-        .map(|place| Root::Row(*place))
-        .collect(alloc)
+    places.iter().map(|place| Root::Row(*place)).collect(alloc)
 }
 
 // Puts the remembered cells behind the roots.

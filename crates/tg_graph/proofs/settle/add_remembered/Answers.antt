@@ -1,6 +1,5 @@
-use Rattle.std.proofs.Common.{◌≡◌, ◌∷◌, ◌++◌, [], List, map, take, sym, ap, ◌∙◌}
+use Rattle.std.proofs.Common.{◌∷◌, ◌++◌, [], List, map, take, sym, ap, ◌∙◌}
 use Rattle.std.proofs.lemmas.List.{append_assoc}
-use Rattle.tg_word.specs.declared.Place.{Place}
 use Rattle.tg_space.specs.declared.spaces.Root.{Root}
 use Rattle.tg_space.specs.declared.spaces.Root.TheVariants.{Remembered}
 use Rattle.tg_graph.proofs.KeptWritten.{mapped_more}

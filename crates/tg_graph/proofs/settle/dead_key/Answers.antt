@@ -1,4 +1,4 @@
-use Rattle.std.proofs.Common.{◌≡◌, ℕ, List, get_or, subst, sym, ap, ◌∙◌}
+use Rattle.std.proofs.Common.{ℕ, List, get_or, subst, sym, ap, ◌∙◌}
 use Rattle.tg_space.proofs.Tables.{table_list}
 use Rattle.tg_graph.specs.Kept.{IsDeadAt}
 use Rattle.tg_graph.proofs.KeptDropped.{dead_numbered, dead_tagged}

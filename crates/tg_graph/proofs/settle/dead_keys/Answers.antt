@@ -1,6 +1,5 @@
 -- The keys of the dead cells before the loop's number.
-use Rattle.std.proofs.Common.{◌≡◌, ◌≤◌, ◌<◌, ◌+◌, ◌*◌, ◌++◌, ◌∷◌, [], ℕ, List, Vec, Global, length, subst, sym, ap, arith, ◌∙◌, refl}
-use Rattle.std.specs.List.{Contains}
+use Rattle.std.proofs.Common.{◌≤◌, ◌<◌, ◌+◌, ◌*◌, [], ℕ, List, Vec, Global, length, subst, sym, ap, arith, ◌∙◌, refl}
 use Rattle.tg_space.specs.SpaceList.{cells_of, space_of}
 use Rattle.tg_space.specs.declared.spaces.Kind.TheVariants.{Nursery}
 use Rattle.tg_space.proofs.Tables.{table_list}

@@ -1,5 +1,5 @@
 -- What was dropped of the cells before the loop's number.
-use Rattle.std.proofs.Common.{◌≡◌, ◌≤◌, ◌<◌, ◌+◌, ℕ, length, subst, sym, refl, arith}
+use Rattle.std.proofs.Common.{◌≤◌, ◌+◌, length, subst, sym, refl, arith}
 use Rattle.tg_payload.specs.Table.{Payloads}
 use Rattle.tg_space.specs.SpaceList.{cells_of}
 use Rattle.tg_space.specs.declared.spaces.Kind.TheVariants.{Full}

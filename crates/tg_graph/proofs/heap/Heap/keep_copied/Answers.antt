@@ -1,5 +1,5 @@
 -- The heap that a full collection leaves.
-use Rattle.std.proofs.Common.{◌≡◌, List, map, refl, sym, subst, ◌∙◌}
+use Rattle.std.proofs.Common.{◌≡◌, List, map, refl, sym, subst}
 use Rattle.std.specs.List.{All}
 use Rattle.std.specs.Vec.{with_items}
 use Rattle.tg_word.specs.declared.Place.{Place}
@@ -13,7 +13,7 @@ use Rattle.tg_graph.proofs.KeptHeap.{IsLeft, workers_of}
 use Rattle.tg_graph.proofs.KeptReached.{worker_objects}
 use Rattle.tg_graph.proofs.KeptSettled.{full_left, items_mapped}
 use Rattle.tg_graph.proofs.heap.Heap.keep_copied.Given.{Over}
-use Rattle.tg_graph.proofs.heap.Heap.keep_copied.Goals.{After-unwrap}
+use Rattle.tg_graph.proofs.heap.Heap.keep_copied.Goals.{After-drop-self-inside-4}
 use Rattle.tg_graph.proofs.heap.Heap.keep_copied.Goals as goal
 
 pub follow-requires-clause-held : goal.follow-requires-clause-held
@@ -25,11 +25,11 @@ follow-requires-clause-held g c =
     subst (All (Holds s.table.spaces)) (sym c.deref_mut.ensures.value) held
 
 -- the heap as its parts are once the blocks were adopted
-abbrev now : (g : Over) → After-unwrap g → HeapState
+abbrev now : (g : Over) → After-drop-self-inside-4 g → HeapState
 now g c =
     record { table = c.adopt.new.self; payloads = c.drop_uncopied.new.payloads; workers = (with_items c.self.inside.workers c.follow.new.places).items; remembered = c.args.remembered.places }
 
-left : (g : Over) (c : After-unwrap g) → IsLeft Full c.args.self.now (now g c)
+left : (g : Over) (c : After-drop-self-inside-4 g) → IsLeft Full c.args.self.now (now g c)
 left g c =
     let inside = c.self.inside in
     let forward = c.args.forward.now in

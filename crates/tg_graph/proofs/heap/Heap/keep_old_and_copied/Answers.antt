@@ -4,8 +4,6 @@ use Rattle.std.specs.List.{All, Contains}
 use Rattle.std.specs.Vec.{with_items}
 use Rattle.tg_word.specs.declared.Place.{Place}
 use Rattle.tg_space.specs.SpaceList.{Holds}
-use Rattle.tg_space.specs.SpaceTable.{with_adopted}
-use Rattle.tg_space.specs.Soundness.{IsOldCell}
 use Rattle.tg_space.specs.Targets.{from_space}
 use Rattle.tg_space.specs.Collection.{new_place}
 use Rattle.tg_space.specs.declared.spaces.Kind.TheVariants.{Nursery}
@@ -24,7 +22,7 @@ pub rewritten_cells-requires-clause-places : goal.rewritten_cells-requires-claus
 rewritten_cells-requires-clause-places g c =
     let inside = c.self.inside in
     let s : HeapState = record { table = inside.cells.spaces; payloads = inside.cells.payloads; workers = inside.workers.items; remembered = inside.cells.remembered.places } in
-    words_in_range s c.args.self.now c.self.view_is c.self.invariant c.in_ok-dead.ensures.table c.args.forward.now c.args.adoption.aged c.args.adoption.old c.args.remembered.places c.requires c.len.ensures.whole.0
+    words_in_range s c.args.self.now c.self.view_is c.self.invariant c.in_ok-dead.ensures.table c.args.forward.now c.args.adoption.aged c.args.adoption.old c.args.noted.places c.requires c.len.ensures.whole.0
 
 pub rewritten_cells-requires-clause-held : goal.rewritten_cells-requires-clause-held
 rewritten_cells-requires-clause-held g c =
@@ -44,7 +42,7 @@ pub write_cells-requires : goal.write_cells-requires
 write_cells-requires g c =
     let inside = c.self.inside in
     let s : HeapState = record { table = inside.cells.spaces; payloads = inside.cells.payloads; workers = inside.workers.items; remembered = inside.cells.remembered.places } in
-    cells_there s c.args.self.now c.self.view_is c.self.invariant c.in_ok-dead.ensures.table c.args.forward.now c.args.adoption.aged c.args.adoption.old c.args.remembered.places
+    cells_there s c.args.self.now c.self.view_is c.self.invariant c.in_ok-dead.ensures.table c.args.forward.now c.args.adoption.aged c.args.adoption.old c.args.noted.places
     c.adopt.new.self c.deref-2.result.now c.in_ok-adopt.ensures.adopted (c.deref-2.ensures.value ∙ c.in_ok-cells.ensures)
 
 pub drop_payloads-requires-clause-there : goal.drop_payloads-requires-clause-there
@@ -52,13 +50,13 @@ drop_payloads-requires-clause-there g c =
     let inside = c.self.inside in
     let s : HeapState = record { table = inside.cells.spaces; payloads = inside.cells.payloads; workers = inside.workers.items; remembered = inside.cells.remembered.places } in
     subst (λ (keys : List ℕ). All (λ key. IsSome (entry inside.cells.payloads key)) keys) (sym c.deref-3.ensures.value)
-    (payloads_there s c.args.self.now c.self.view_is c.self.invariant c.in_ok-dead.ensures.table c.args.forward.now c.args.adoption.aged c.args.adoption.old c.args.remembered.places
+    (payloads_there s c.args.self.now c.self.view_is c.self.invariant c.in_ok-dead.ensures.table c.args.forward.now c.args.adoption.aged c.args.adoption.old c.args.noted.places
     c.in_ok-dead.dead.items c.in_ok-dead.ensures.keys)
 
 -- the heap as its parts are at the end
 abbrev now : (g : Over) → After-drop-dead-2 g → HeapState
 now g c =
-    record { table = c.write_cells.new.spaces; payloads = c.drop_payloads.new.payloads; workers = (with_items c.in_ok-workers.workers c.follow.new.places).items; remembered = c.args.remembered.places }
+    record { table = c.write_cells.new.spaces; payloads = c.drop_payloads.new.payloads; workers = (with_items c.in_ok-workers.workers c.follow.new.places).items; remembered = c.args.noted.places }
 
 left : (g : Over) (c : After-drop-dead-2 g) → IsLeft Nursery c.args.self.now (now g c)
 left g c =
@@ -68,7 +66,7 @@ left g c =
     let f = moved_place (from_space Nursery) s.table.spaces (new_place forward) in
     let copied = c.in_ok-workers.ensures.items ∙ c.deref.ensures.value in
     let moved : c.follow.new.places ≡ map f c.in_ok-workers.workers.items = subst (λ (places : List Place). c.follow.new.places ≡ map f places) c.deref_mut.ensures.value c.follow.ensures in
-    nursery_left s c.args.self.now c.self.view_is c.self.invariant c.in_ok-dead.ensures.table forward c.args.adoption.aged c.args.adoption.old c.args.remembered.places c.requires (now g c)
+    nursery_left s c.args.self.now c.self.view_is c.self.invariant c.in_ok-dead.ensures.table forward c.args.adoption.aged c.args.adoption.old c.args.noted.places c.requires (now g c)
     c.adopt.new.self c.in_ok-cells.cells.items c.in_ok-dead.dead.items c.in_ok-adopt.ensures.adopted c.in_ok-cells.ensures
     (subst (λ (cells : List Rewritten). AreWritten c.adopt.new.self c.write_cells.new.spaces cells) c.deref-2.ensures.value c.write_cells.ensures.written)
     c.write_cells.ensures.table
