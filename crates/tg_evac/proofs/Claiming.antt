@@ -1,8 +1,8 @@
 -- Facts on the claims of a collection.
-use Rattle.std.proofs.Common.{◌≡◌, ◌≢◌, ℕ, ◌<◌, ◌≤◌, ◌/◌, ◌%◌, ◌^◌, ◌++◌, ◌∷◌, ◌⊎◌, [], List, length, get_or, set, refl, sym, ap, subst, arith, ◌∙◌, eqb, lit<, inl, inr, ⊎_elim}
+use Rattle.std.proofs.Common.{◌≡◌, ◌≢◌, ℕ, ◌<◌, ◌≤◌, ◌+◌, ◌*◌, ◌/◌, ◌%◌, ◌^◌, ◌++◌, ◌∷◌, ◌⊎◌, [], List, length, get_or, set, refl, sym, ap, subst, arith, ◌∙◌, eqb, lit<, inl, inr, ⊎_elim}
 use Rattle.std.specs.List.{All, Contains, IsDistinct}
-use Rattle.std.proofs.lemmas.List.{get_or_default, get_or-set_same, get_or-set_other, length-set, get_or-map, length-map, map-append, get_or_append_left, get_or_push, length_push}
-use Rattle.std.proofs.lemmas.List.Elements.{All-contains_itself, All-push, All-weaker, All-contains, All-from_get_or, All-get_or, Contains-append_left, Contains-append_right, Contains-get_or}
+use Rattle.std.proofs.lemmas.List.{get_or_default, get_or-set_same, get_or-set_other, length-set, get_or-map, length-map, map-append, get_or_append_left, get_or_push, length_push, append-nil, append_assoc}
+use Rattle.std.proofs.lemmas.List.Elements.{All-push, All-nil, All-append, All-weaker, All-contains, All-from_get_or, All-get_or, Contains-append_left, Contains-append_right, Contains-get_or}
 use Rattle.std.proofs.lemmas.Map.Steps.{length-le_from_distinct_below}
 use Rattle.std.proofs.lemmas.Map.Keys.{IsDistinct-from_apart}
 use Rattle.std.proofs.lemmas.Map.Views.{Contains-from_any}
@@ -13,28 +13,26 @@ use Rattle.tg_word.specs.declared.Place.{Place}
 use Rattle.tg_word.specs.Word.{IsPlace, link_to, place_in}
 use Rattle.tg_word.proofs.Packing.{place_in-word_at, word_at-above_zero}
 use Rattle.tg_space.specs.SpaceTable.{place_in_space}
-use Rattle.std.specs.List.{flat_map}
-use Rattle.tg_space.proofs.Adding.{adds_none, adds_piece}
 use Rattle.tg_evac.specs.declared.win.Win.{Win}
-use Rattle.tg_evac.specs.Claims.{Claimed, StandsIn, AreInOrder, AreClaims, AddsClaims, cells_won, words_won, win_of}
+use Rattle.tg_evac.specs.Claims.{Claimed, StandsIn, IsGiven, AreApart, AreClaims, AddsClaims, IsFull, cells_won, words_won, win_at}
 
--- the place of Old with a number
-pub place_inside : (k : ℕ) → k < 2 ^ 26 → IsPlace (place_in_space 0 k)
-place_inside k low = record { space = lit< tt; block = omega arith; cell = omega arith }
+-- the place of Old or of Aged with a number
+pub place_inside : (s k : ℕ) → s < 2 → k < 2 ^ 26 → IsPlace (place_in_space s k)
+place_inside s k two low = record { space = omega arith; block = omega arith; cell = omega arith }
 
-pub place_back : (k : ℕ) → k < 2 ^ 26 → place_in (link_to (place_in_space 0 k)) ≡ place_in_space 0 k
-place_back k low = place_in-word_at no_rights (place_in_space 0 k) (place_inside k low)
+pub place_back : (s k : ℕ) → s < 2 → k < 2 ^ 26 → place_in (link_to (place_in_space s k)) ≡ place_in_space s k
+place_back s k two low = place_in-word_at no_rights (place_in_space s k) (place_inside s k two low)
 
-pub link_some : (k : ℕ) → k < 2 ^ 26 → 0 < link_to (place_in_space 0 k)
-link_some k low = word_at-above_zero no_rights (place_in_space 0 k) (place_inside k low)
+pub link_some : (s k : ℕ) → s < 2 → k < 2 ^ 26 → 0 < link_to (place_in_space s k)
+link_some s k two low = word_at-above_zero no_rights (place_in_space s k) (place_inside s k two low)
 
 -- words of different places differ
-pub word_apart : (i j : ℕ) → i < 2 ^ 26 → j < 2 ^ 26 → link_to (place_in_space 0 i) ≡ link_to (place_in_space 0 j) → i ≡ j
-word_apart i j hi hj e =
-    let p : place_in_space 0 i ≡ place_in_space 0 j = sym (place_back i hi) ∙ ap place_in e ∙ place_back j hj in
+pub word_apart : (s t i j : ℕ) → s < 2 → t < 2 → i < 2 ^ 26 → j < 2 ^ 26 → link_to (place_in_space s i) ≡ link_to (place_in_space t j) → (s ≡ t) × (i ≡ j)
+word_apart s t i j hs ht hi hj e =
+    let p : place_in_space s i ≡ place_in_space t j = sym (place_back s i hs hi) ∙ ap place_in e ∙ place_back t j ht hj in
     let block : i / 64 ≡ j / 64 = ap (λ (q : Place). q.block) p in
     let cell : i % 64 ≡ j % 64 = ap (λ (q : Place). q.cell) p in
-    omega arith
+    (ap (λ (q : Place). q.space) p, omega arith)
 
 -- a pair that is there, by its number
 module _ (won : List Win) (w : Win) (held : Contains won w) where
@@ -49,69 +47,96 @@ module _ (won : List Win) (w : Win) (held : Contains won w) where
       let low : held.0 < length (cells_won won) = rw length-map held.1 in
       subst (λ (c : ℕ). Contains (cells_won won) c) cell_at (Contains-get_or (cells_won won) held.0 0 low)
 
+  pub word_held : Contains (words_won won) w.word
+  word_held =
+      let low : held.0 < length (words_won won) = rw length-map held.1 in
+      subst (λ (c : ℕ). Contains (words_won won) c) word_at (Contains-get_or (words_won won) held.0 0 low)
+
 -- the pair of a cell that is there
 pub win_from_cell : (won : List Win) (c : ℕ) → Contains (cells_won won) c → (w : Win) × Contains won w × (w.cell ≡ c)
 win_from_cell won c held =
-    let none : Win = win_of 0 0 in
     let low : held.0 < length won = rw length-map at held.1 in
-    let w : Win = get_or won held.0 none in
+    let w : Win = win_at won held.0 in
     let is : get_or (cells_won won) held.0 0 ≡ c = get_or_default (cells_won won) held.0 0 c held.1 ∙ held.2 in
-    (w, Contains-get_or won held.0 none low, sym (get_or-map (λ (v : Win). v.cell) won held.0 none 0 low) ∙ is)
+    (w, Contains-get_or won held.0 (win_at [] 0) low, sym (get_or-map (λ (v : Win). v.cell) won held.0 (win_at [] 0) 0 low) ∙ is)
 
 -- ---- what the rule says of each pair
 
 module _ (c : Claimed) (are : AreClaims c) where
-  number_small : (k : ℕ) → k < length c.won → k < 2 ^ 26
-  number_small k low = let few = are.few in let within = are.within in omega arith
+  pub stands : (w : Win) → Contains c.won w → StandsIn c.forward w
+  stands w held = All-contains (StandsIn c.forward) c.won w are.words.stand held
 
-  pub word_is : (w : Win) (held : Contains c.won w) → w.word ≡ link_to (place_in_space 0 held.0)
-  word_is w held = sym (word_at c.won w held) ∙ are.order held.0 held.1
+  pub given_of : (w : Win) → Contains c.won w → IsGiven c.plan.kept c.next w.word
+  given_of w held =
+      All-contains (IsGiven c.plan.kept c.next) (words_won c.won) w.word are.given (word_held c.won w held)
+
+  pub given_small : (word : ℕ) (g : IsGiven c.plan.kept c.next word) → g.number < 2 ^ 26
+  given_small word g = let below = g.before in let few = are.few g.space in omega arith
+
+  pub place_is : (w : Win) (held : Contains c.won w) → place_in w.word ≡ place_in_space (given_of w held).space (given_of w held).number
+  place_is w held =
+      let g = given_of w held in
+      ap place_in g.is ∙ place_back g.space g.number g.two (given_small w.word g)
 
   -- the word is the link to its place
   pub word_links : (w : Win) → Contains c.won w → w.word ≡ link_to (place_in w.word)
-  word_links w held =
-      let is = word_is w held in
-      is ∙ ap link_to (sym (place_back held.0 (number_small held.0 held.1)) ∙ ap place_in (sym is))
+  word_links w held = (given_of w held).is ∙ ap link_to (sym (place_is w held))
 
   pub word_place : (w : Win) → Contains c.won w → IsPlace (place_in w.word)
   word_place w held =
-      let small = number_small held.0 held.1 in
-      subst (λ (p : Place). IsPlace p) (sym (ap place_in (word_is w held) ∙ place_back held.0 small)) (place_inside held.0 small)
+      let g = given_of w held in
+      subst (λ (p : Place). IsPlace p) (sym (place_is w held)) (place_inside g.space g.number g.two (given_small w.word g))
 
-  pub stands : (w : Win) → Contains c.won w → StandsIn c.forward w
-  stands w held = All-contains (StandsIn c.forward) c.won w are.words.stand held
+  -- the place is one of Old, behind the blocks that stay, or of Aged
+  pub word_to : (w : Win) → Contains c.won w → (place_in w.word).space < 2
+  word_to w held =
+      let space : (place_in w.word).space ≡ (given_of w held).space = ap (λ (p : Place). p.space) (place_is w held) in
+      let two = (given_of w held).two in
+      omega arith
+
+  pub word_behind : (w : Win) → Contains c.won w → (place_in w.word).space ≡ 0 → c.plan.kept ≤ (place_in w.word).block
+  word_behind w held old =
+      let g = given_of w held in
+      let space : (place_in w.word).space ≡ g.space = ap (λ (p : Place). p.space) (place_is w held) in
+      let block : (place_in w.word).block ≡ g.number / 64 = ap (λ (p : Place). p.block) (place_is w held) in
+      let behind = g.behind (sym space ∙ old) in
+      omega arith
 
   -- no place is won twice, and so no cell
   pub number_apart : (v w : Win) (hv : Contains c.won v) (hw : Contains c.won w) → v.word ≡ w.word → hv.0 ≡ hw.0
   number_apart v w hv hw e =
-      word_apart hv.0 hw.0 (number_small hv.0 hv.1) (number_small hw.0 hw.1) (sym (word_is v hv) ∙ e ∙ word_is w hw)
+      let lv : hv.0 < length (words_won c.won) = rw length-map hv.1 in
+      let lw : hw.0 < length (words_won c.won) = rw length-map hw.1 in
+      let same : get_or (words_won c.won) hv.0 0 ≡ get_or (words_won c.won) hw.0 0 = word_at c.won v hv ∙ e ∙ sym (word_at c.won w hw) in
+      ⊎_elim (λ (lt : hv.0 < hw.0). absurd (are.apart hv.0 hw.0 lt lw same))
+      (λ (le : hw.0 ≤ hv.0). ⊎_elim (λ (lt : hw.0 < hv.0). absurd (are.apart hw.0 hv.0 lt lv (sym same))) (λ (ge : hv.0 ≤ hw.0). omega arith) (cases_lt hw.0 hv.0))
+      (cases_lt hv.0 hw.0)
 
   pub cells_apart : (v w : Win) → Contains c.won v → Contains c.won w → v.word ≡ w.word → v.cell ≡ w.cell
   cells_apart v w hv hw e =
       let same = number_apart v w hv hw e in
       sym (cell_at c.won v hv) ∙ ap (λ (k : ℕ). get_or (cells_won c.won) k 0) same ∙ cell_at c.won w hw
 
-  won_apart : (i j : ℕ) → i < length c.won → j < length c.won → get_or (cells_won c.won) i 0 ≡ get_or (cells_won c.won) j 0 → i ≡ j
-  won_apart i j hi hj e =
-      let none : Win = win_of 0 0 in
-      let v : Win = get_or c.won i none in let w : Win = get_or c.won j none in
-      let sv : StandsIn c.forward v = All-get_or (StandsIn c.forward) c.won i none hi are.words.stand in
-      let sw : StandsIn c.forward w = All-get_or (StandsIn c.forward) c.won j none hj are.words.stand in
-      let cv : get_or (cells_won c.won) i 0 ≡ v.cell = get_or-map (λ (x : Win). x.cell) c.won i none 0 hi in
-      let cw : get_or (cells_won c.won) j 0 ≡ w.cell = get_or-map (λ (x : Win). x.cell) c.won j none 0 hj in
-      let same : v.cell ≡ w.cell = sym cv ∙ e ∙ cw in
-      let wv : v.word ≡ link_to (place_in_space 0 i) = sym (get_or-map (λ (x : Win). x.word) c.won i none 0 hi) ∙ are.order i hi in
-      let ww : w.word ≡ link_to (place_in_space 0 j) = sym (get_or-map (λ (x : Win). x.word) c.won j none 0 hj) ∙ are.order j hj in
-      word_apart i j (number_small i hi) (number_small j hj) (sym wv ∙ sym sv.word ∙ ap (λ (n : ℕ). get_or c.forward n 0) same ∙ sw.word ∙ ww)
-
   pub won_distinct : IsDistinct eqb (cells_won c.won)
   won_distinct = IsDistinct-from_apart eqb (cells_won c.won) (λ i j d low high.
-      let long : length (cells_won c.won) ≡ length c.won = length-map c.won (λ (v : Win). v.cell) in
-      let hi : i < length c.won = omega arith in
-      let hj : j < length c.won = omega arith in
-      let li : i < length (cells_won c.won) = omega arith in
-      let ne : get_or (cells_won c.won) i d ≢ get_or (cells_won c.won) j d = λ e. absurd (let q : i ≡ j = won_apart i j hi hj (get_or_default (cells_won c.won) i 0 d li ∙ e ∙ get_or_default (cells_won c.won) j d 0 high) in omega arith) in
+      let ne : get_or (cells_won c.won) i d ≢ get_or (cells_won c.won) j d = λ e. apart i j low high (get_or_default (cells_won c.won) i 0 d (omega arith) ∙ e ∙ get_or_default (cells_won c.won) j d 0 high) in
       grind (arith, nat_tests))
+    where
+      apart : (i j : ℕ) → i < j → j < length (cells_won c.won) → get_or (cells_won c.won) i 0 ≡ get_or (cells_won c.won) j 0 → ⊥
+      apart i j lt high e =
+          let long : length (cells_won c.won) ≡ length c.won = length-map c.won (λ (v : Win). v.cell) in
+          let words : length (words_won c.won) ≡ length c.won = length-map c.won (λ (v : Win). v.word) in
+          let hi : i < length c.won = omega arith in
+          let hj : j < length c.won = omega arith in
+          let v : Win = win_at c.won i in let w : Win = win_at c.won j in
+          let sv : StandsIn c.forward v = stands v (Contains-get_or c.won i (win_at [] 0) hi) in
+          let sw : StandsIn c.forward w = stands w (Contains-get_or c.won j (win_at [] 0) hj) in
+          let cv : get_or (cells_won c.won) i 0 ≡ v.cell = get_or-map (λ (x : Win). x.cell) c.won i (win_at [] 0) 0 hi in
+          let cw : get_or (cells_won c.won) j 0 ≡ w.cell = get_or-map (λ (x : Win). x.cell) c.won j (win_at [] 0) 0 hj in
+          let same : v.cell ≡ w.cell = sym cv ∙ e ∙ cw in
+          let wv : get_or (words_won c.won) i 0 ≡ v.word = get_or-map (λ (x : Win). x.word) c.won i (win_at [] 0) 0 hi in
+          let ww : get_or (words_won c.won) j 0 ≡ w.word = get_or-map (λ (x : Win). x.word) c.won j (win_at [] 0) 0 hj in
+          are.apart i j lt (omega arith) (wv ∙ sym sv.word ∙ ap (λ (n : ℕ). get_or c.forward n 0) same ∙ sw.word ∙ sym ww)
 
   -- no more cells are won than there are
   pub won_le : length (cells_won c.won) ≤ length c.forward
@@ -131,96 +156,185 @@ module _ (c : Claimed) (are : AreClaims c) where
 
       by_word : (n : ℕ) → n < length c.forward → (get_or c.forward n 0 ≡ 0) ⊎ (get_or c.forward n 0 ≡ 0 → ⊥) → IsPlace (place_in (get_or c.forward n 0))
       by_word n low (inl zero) = subst (λ (w : ℕ). IsPlace (place_in w)) (sym zero) none
-      by_word n low (inr some) = word_place (win_of n (get_or c.forward n 0)) (are.words.every n low some)
+      by_word n low (inr some) =
+          let found = are.words.every n low some in
+          let word : get_or c.forward n 0 ≡ found.0.word = ap (λ (m : ℕ). get_or c.forward m 0) (sym found.2) ∙ (stands found.0 found.1).word in
+          subst (λ (w : ℕ). IsPlace (place_in w)) (sym word) (word_place found.0 found.1)
 
--- the place of the pair with a number
-pub nth_place : (won : List Win) → AreInOrder 0 won → length won ≤ 2 ^ 26 → (k : ℕ) (d : Win) → k < length won → place_in (get_or won k d).word ≡ place_in_space 0 k
-nth_place won order few k d low =
-    ap place_in (sym (get_or-map (λ (w : Win). w.word) won k d 0 low) ∙ order k low) ∙ place_back k (omega arith)
+-- where a space has no room for one more, all the room is won
+pub full_at : (c : Claimed) → AreClaims c → (space : ℕ) → space < 2 → c.plan.room ≤ get_or c.next space 0 → IsFull c
+full_at c are space two past = record { all = all; distinct = won_distinct c are }
+  where
+    all : c.plan.room ≤ 64 * c.plan.kept + length (cells_won c.won)
+    all =
+        let long : length (cells_won c.won) ≡ length c.won = length-map c.won (λ (v : Win). v.cell) in
+        let counted = are.counted in
+        ⊎_elim (λ (e : space ≡ 0). let at = ap (λ (k : ℕ). get_or c.next k 0) e in omega arith)
+        (λ (ne : space ≢ 0). let e : space ≡ 1 = omega arith in let at = ap (λ (k : ℕ). get_or c.next k 0) e in omega arith)
+        (cases_eq space 0)
 
 -- ---- one more pair
 
-module _ (c : Claimed) (are : AreClaims c) (cell word : ℕ) (inside : cell < length c.forward) (none : get_or c.forward cell 0 ≡ 0)
-    (room : length c.won < c.room) (is : word ≡ link_to (place_in_space 0 (length c.won))) where
-  after : Claimed
-  after = record { forward = set c.forward cell word; won = c.won ++ win_of cell word ∷ []; room = c.room }
+module _ (c : Claimed) (are : AreClaims c) (w : Win) (space number : ℕ) (two : space < 2) (next : number ≡ get_or c.next space 0)
+    (inside : w.cell < length c.forward) (none : get_or c.forward w.cell 0 ≡ 0) (room : number < c.plan.room) (is : w.word ≡ link_to (place_in_space space number)) where
+  small : number < 2 ^ 26
+  small = let few = are.room in omega arith
 
-  some : word ≢ 0
+  some : w.word ≢ 0
   some e =
-      let few = are.few in
-      let above : 0 < link_to (place_in_space 0 (length c.won)) = link_some (length c.won) (omega arith) in
+      let above : 0 < link_to (place_in_space space number) = link_some space number two small in
       omega arith
 
-  still_stands : (w : Win) → StandsIn c.forward w → StandsIn (set c.forward cell word) w
-  still_stands w st =
-      let other : w.cell ≢ cell = λ e. st.some (sym st.word ∙ ap (λ (n : ℕ). get_or c.forward n 0) e ∙ none) in record {
-        cell = omega (arith, length-set c.forward cell word, st.cell);
-        word = get_or-set_other c.forward cell w.cell word 0 other ∙ st.word;
+  still_stands : (v : Win) → StandsIn c.forward v → StandsIn (set c.forward w.cell w.word) v
+  still_stands v st =
+      let other : v.cell ≢ w.cell = λ e. st.some (sym st.word ∙ ap (λ (n : ℕ). get_or c.forward n 0) e ∙ none) in record {
+        cell = omega (arith, length-set c.forward w.cell w.word, st.cell);
+        word = get_or-set_other c.forward w.cell v.cell w.word 0 other ∙ st.word;
         some = st.some;
       }
 
-  new_stands : StandsIn (set c.forward cell word) (win_of cell word)
+  new_stands : StandsIn (set c.forward w.cell w.word) w
   new_stands = record {
-    cell = omega (arith, length-set c.forward cell word);
-    word = get_or-set_same c.forward cell word 0 inside;
+    cell = omega (arith, length-set c.forward w.cell w.word);
+    word = get_or-set_same c.forward w.cell w.word 0 inside;
     some = some;
   }
 
-  here : Contains (c.won ++ win_of cell word ∷ []) (win_of cell word)
-  here = Contains-append_right c.won (win_of cell word ∷ []) (win_of cell word) (0, lit< tt, refl)
+  here : Contains (c.won ++ w ∷ []) w
+  here = Contains-append_right c.won (w ∷ []) w (0, lit< tt, refl)
 
-  every_more : (n : ℕ) → n < length (set c.forward cell word) → get_or (set c.forward cell word) n 0 ≢ 0 → Contains (c.won ++ win_of cell word ∷ []) (win_of n (get_or (set c.forward cell word) n 0))
+  every_more : (n : ℕ) → n < length (set c.forward w.cell w.word) → get_or (set c.forward w.cell w.word) n 0 ≢ 0 → (v : Win) × Contains (c.won ++ w ∷ []) v × (v.cell ≡ n)
   every_more n low ne = ⊎_elim
-      (λ (e : n ≡ cell).
-      let read : get_or (set c.forward cell word) n 0 ≡ word = ap (λ (m : ℕ). get_or (set c.forward cell word) m 0) e ∙ get_or-set_same c.forward cell word 0 inside in
-      let same : win_of cell word ≡ win_of n (get_or (set c.forward cell word) n 0) = ap (λ (m : ℕ). win_of m word) (sym e) ∙ ap (win_of n) (sym read) in
-      subst (λ (w : Win). Contains (c.won ++ win_of cell word ∷ []) w) same here)
-      (λ (other : n ≢ cell).
-      let read : get_or (set c.forward cell word) n 0 ≡ get_or c.forward n 0 = get_or-set_other c.forward cell n word 0 other in
-      let old = are.words.every n (omega (arith, length-set c.forward cell word)) (λ z. ne (read ∙ z)) in
-      let wider = Contains-append_left c.won (win_of cell word ∷ []) (win_of n (get_or c.forward n 0)) old in
-      subst (λ (m : ℕ). Contains (c.won ++ win_of cell word ∷ []) (win_of n m)) (sym read) wider)
-      (cases_eq n cell)
+      (λ (e : n ≡ w.cell). (w, here, sym e))
+      (λ (other : n ≢ w.cell).
+      let read : get_or (set c.forward w.cell w.word) n 0 ≡ get_or c.forward n 0 = get_or-set_other c.forward w.cell n w.word 0 other in
+      let old = are.words.every n (omega (arith, length-set c.forward w.cell w.word)) (λ z. ne (read ∙ z)) in
+      (old.0, Contains-append_left c.won (w ∷ []) old.0 old.1, old.2))
+      (cases_eq n w.cell)
 
-  order_more : AreInOrder 0 (c.won ++ win_of cell word ∷ [])
-  order_more k low =
-      let long : length (words_won c.won) ≡ length c.won = length-map c.won (λ (v : Win). v.word) in
-      let more : words_won (c.won ++ win_of cell word ∷ []) ≡ words_won c.won ++ word ∷ [] = map-append (λ (v : Win). v.word) c.won (win_of cell word ∷ []) in
-      let grown = length_push c.won (win_of cell word) in
-      ap (λ (ws : List ℕ). get_or ws k 0) more ∙
-      ⊎_elim (λ below. get_or_append_left (words_won c.won) (word ∷ []) 0 k (omega arith) ∙ are.order k below)
-      (λ past. let at : k ≡ length c.won = omega arith in get_or_push (words_won c.won) word 0 k (omega arith) ∙ is ∙ ap (λ (n : ℕ). link_to (place_in_space 0 n)) (sym at))
-      (cases_lt k (length c.won))
+  words_more : words_won (c.won ++ w ∷ []) ≡ words_won c.won ++ w.word ∷ []
+  words_more = map-append (λ (v : Win). v.word) c.won (w ∷ [])
 
-  pub claims_more : AreClaims (record { forward = set c.forward cell word; won = c.won ++ win_of cell word ∷ []; room = c.room })
-  claims_more = record {
-    words = record { stand = All-push (StandsIn (set c.forward cell word)) c.won (win_of cell word) (All-weaker (StandsIn c.forward) (StandsIn (set c.forward cell word)) still_stands c.won are.words.stand) new_stands; every = every_more };
-    order = order_more;
-    within = omega (arith, length_push c.won (win_of cell word));
-    few = are.few;
+  next_same : get_or (set c.next space (number + 1)) space 0 ≡ number + 1
+  next_same = get_or-set_same c.next space (number + 1) 0 (let long = are.two in omega arith)
+
+  next_other : (s : ℕ) → s ≢ space → get_or (set c.next space (number + 1)) s 0 ≡ get_or c.next s 0
+  next_other s other = get_or-set_other c.next space s (number + 1) 0 other
+
+  -- the counts only grow
+  next_grows : (s : ℕ) → get_or c.next s 0 ≤ get_or (set c.next space (number + 1)) s 0
+  next_grows s =
+      ⊎_elim (λ (e : s ≡ space). let same = ap (λ (k : ℕ). get_or c.next k 0) e in let new = ap (λ (k : ℕ). get_or (set c.next space (number + 1)) k 0) e in let is = next_same in omega arith)
+      (λ (other : s ≢ space). let same = next_other s other in omega arith) (cases_eq s space)
+
+  still_given : (word : ℕ) → IsGiven c.plan.kept c.next word → IsGiven c.plan.kept (set c.next space (number + 1)) word
+  still_given word g = record {
+    space = g.space;
+    number = g.number;
+    two = g.two;
+    before = let low = g.before in let grows = next_grows g.space in omega arith;
+    behind = g.behind;
+    is = g.is;
   }
 
-  pub adds_one : AddsClaims (cell ∷ []) c (record { forward = set c.forward cell word; won = c.won ++ win_of cell word ∷ []; room = c.room })
-  adds_one = record {
-    added = record {
-      added = cell ∷ [];
-      is = map-append (λ (v : Win). v.cell) c.won (win_of cell word ∷ []);
-      from = All-contains_itself (cell ∷ []);
-    };
-    as_long = length-set c.forward cell word;
-    same_room = refl;
+  new_given : IsGiven c.plan.kept (set c.next space (number + 1)) w.word
+  new_given = record {
+    space = space;
+    number = number;
+    two = two;
+    before = let same = next_same in omega arith;
+    behind = λ e. let same = ap (λ (k : ℕ). get_or c.next k 0) e in let behind = are.behind in omega arith;
+    is = is;
+  }
+
+  fresh : (word : ℕ) → IsGiven c.plan.kept c.next word → word ≢ w.word
+  fresh word g e =
+      let same = word_apart g.space space g.number number g.two two (given_small c are word g) small (sym g.is ∙ e ∙ is) in
+      let low = g.before in
+      let at : get_or c.next g.space 0 ≡ get_or c.next space 0 = ap (λ (k : ℕ). get_or c.next k 0) same.0 in
+      let eq = same.1 in
+      omega arith
+
+  apart_more : AreApart (words_won c.won ++ w.word ∷ [])
+  apart_more i j lt high e =
+      let long = length_push (words_won c.won) w.word in
+      let early : get_or (words_won c.won ++ w.word ∷ []) i 0 ≡ get_or (words_won c.won) i 0 = get_or_append_left (words_won c.won) (w.word ∷ []) 0 i (omega arith) in
+      ⊎_elim
+      (λ (low : j < length (words_won c.won)).
+      are.apart i j lt low (sym early ∙ e ∙ get_or_append_left (words_won c.won) (w.word ∷ []) 0 j low))
+      (λ (past : length (words_won c.won) ≤ j).
+      let at : length (words_won c.won) ≡ j = omega arith in
+      let last : get_or (words_won c.won ++ w.word ∷ []) j 0 ≡ w.word = get_or_push (words_won c.won) w.word 0 j at in
+      fresh (get_or (words_won c.won) i 0) (All-get_or (IsGiven c.plan.kept c.next) (words_won c.won) i 0 (omega arith) are.given) (sym early ∙ e ∙ last))
+      (cases_lt j (length (words_won c.won)))
+
+  counted_more : 64 * c.plan.kept + length (c.won ++ w ∷ []) ≡ get_or (set c.next space (number + 1)) 0 0 + get_or (set c.next space (number + 1)) 1 0
+  counted_more =
+      let long = length_push c.won w in let counted = are.counted in let same = next_same in
+      ⊎_elim
+      (λ (e : space ≡ 0). let at = ap (λ (k : ℕ). get_or (set c.next space (number + 1)) k 0) e in let before = ap (λ (k : ℕ). get_or c.next k 0) e in
+      let other = next_other 1 (λ q. absurd (omega arith)) in omega arith)
+      (λ (ne : space ≢ 0). let e : space ≡ 1 = omega arith in let at = ap (λ (k : ℕ). get_or (set c.next space (number + 1)) k 0) e in let before = ap (λ (k : ℕ). get_or c.next k 0) e in
+      let other = next_other 0 (λ q. ne (sym q)) in omega arith)
+      (cases_eq space 0)
+
+  few_more : (s : ℕ) → get_or (set c.next space (number + 1)) s 0 ≤ 2 ^ 26
+  few_more s =
+      let few = are.few s in let room_few = are.room in
+      ⊎_elim (λ (e : s ≡ space). let new = ap (λ (k : ℕ). get_or (set c.next space (number + 1)) k 0) e in let is = next_same in omega arith)
+      (λ (other : s ≢ space). let same = next_other s other in omega arith) (cases_eq s space)
+
+  pub claims_more : AreClaims (record { plan = c.plan; forward = set c.forward w.cell w.word; won = c.won ++ w ∷ []; next = set c.next space (number + 1) })
+  claims_more = record {
+    words = record { stand = All-push (StandsIn (set c.forward w.cell w.word)) c.won w (All-weaker (StandsIn c.forward) (StandsIn (set c.forward w.cell w.word)) still_stands c.won are.words.stand) new_stands; every = every_more };
+    given = subst (λ (ws : List ℕ). All (IsGiven c.plan.kept (set c.next space (number + 1))) ws) (sym words_more)
+        (All-push (IsGiven c.plan.kept (set c.next space (number + 1))) (words_won c.won) w.word
+        (All-weaker (IsGiven c.plan.kept c.next) (IsGiven c.plan.kept (set c.next space (number + 1))) still_given (words_won c.won) are.given) new_given);
+    apart = subst (λ (ws : List ℕ). AreApart ws) (sym words_more) apart_more;
+    two = length-set c.next space (number + 1) ∙ are.two;
+    counted = counted_more;
+    behind = let behind = are.behind in let grows = next_grows 0 in omega arith;
+    few = few_more;
+    room = are.room;
+  }
+
+  pub adds_one : (reason : Win → Type 0) → reason w → AddsClaims reason c (record { plan = c.plan; forward = set c.forward w.cell w.word; won = c.won ++ w ∷ []; next = set c.next space (number + 1) })
+  adds_one reason r = record {
+    added = w ∷ [];
+    is = refl;
+    reasons = All-push reason [] w (All-nil reason) r;
+    as_long = length-set c.forward w.cell w.word;
+    same_plan = refl;
   }
 
 -- ---- claims one after the other
 
-pub claims_none : (source : List ℕ) (c : Claimed) → AddsClaims source c c
-claims_none source c = record { added = adds_none source (cells_won c.won); as_long = refl; same_room = refl }
+pub claims_none : (reason : Win → Type 0) (c : Claimed) → AddsClaims reason c c
+claims_none reason c = record { added = []; is = sym (append-nil c.won); reasons = All-nil reason; as_long = refl; same_plan = refl }
 
--- claims of one piece of a list, after claims of pieces before it
-pub claims_piece : {X : Type 0} (f : X → List ℕ) (xs : List X) (i : ℕ) (d : X) → i < length xs → {a b c : Claimed} →
-    AddsClaims (flat_map f xs) a b → AddsClaims (f (get_or xs i d)) b c → AddsClaims (flat_map f xs) a c
-claims_piece f xs i d inside one two = record {
-  added = adds_piece f xs i d inside one.added two.added;
+pub claims_then : {reason : Win → Type 0} {a b c : Claimed} → AddsClaims reason a b → AddsClaims reason b c → AddsClaims reason a c
+claims_then {reason} {a} one two = record {
+  added = one.added ++ two.added;
+  is = two.is ∙ ap (λ (ws : List Win). ws ++ two.added) one.is ∙ append_assoc a.won one.added two.added;
+  reasons = All-append reason one.added two.added one.reasons two.reasons;
   as_long = two.as_long ∙ one.as_long;
-  same_room = two.same_room ∙ one.same_room;
+  same_plan = two.same_plan ∙ one.same_plan;
 }
+
+pub claims_weaker : {few many : Win → Type 0} {a b : Claimed} → AddsClaims few a b → ((w : Win) → few w → many w) → AddsClaims many a b
+claims_weaker {few} {many} adds weaker = record {
+  added = adds.added;
+  is = adds.is;
+  reasons = All-weaker few many weaker adds.added adds.reasons;
+  as_long = adds.as_long;
+  same_plan = adds.same_plan;
+}
+
+-- what was won stays so
+pub cells_added : {reason : Win → Type 0} {a b : Claimed} (adds : AddsClaims reason a b) → cells_won b.won ≡ cells_won a.won ++ cells_won adds.added
+cells_added {a = a} adds = ap cells_won adds.is ∙ map-append (λ (v : Win). v.cell) a.won adds.added
+
+pub still_held : {reason : Win → Type 0} {a b : Claimed} → AddsClaims reason a b → (xs : List ℕ) → All (Contains (cells_won a.won)) xs → All (Contains (cells_won b.won)) xs
+still_held {a = a} {b = b} adds xs all =
+    All-weaker (Contains (cells_won a.won)) (Contains (cells_won b.won))
+    (λ x h. subst (λ (ys : List ℕ). Contains ys x) (sym (cells_added adds)) (Contains-append_left (cells_won a.won) (cells_won adds.added) x h)) xs all

@@ -1,76 +1,237 @@
 -- The copies of the won cells are a collection.
-use Rattle.std.proofs.Common.{◌≡◌, ◌≢◌, ◌↔◌, ℕ, ◌<◌, List, length, get_or, sym, ap, ◌∙◌}
-use Rattle.std.specs.List.{Contains}
-use Rattle.std.proofs.lemmas.List.Elements.{All-contains}
+use Rattle.std.proofs.Common.{◌≡◌, ◌≢◌, ◌↔◌, ℕ, ◌<◌, ◌≤◌, ◌+◌, ◌^◌, ◌⊎◌, List, [], length, get_or, refl, sym, ap, subst, arith, ◌∙◌, inl, inr, ⊎_elim}
+use Rattle.std.specs.List.{All, Contains}
+use Rattle.std.proofs.lemmas.List.Elements.{All-contains, All-from_get_or, Contains-get_or}
+use Rattle.std.proofs.lemmas.Bool.{cases_eq}
 use Rattle.tg_block.specs.Cells.{free_cell}
 use Rattle.tg_word.specs.declared.Place.{Place}
 use Rattle.tg_word.specs.Word.{link_to, place_in}
 use Rattle.tg_space.specs.Closure.{IsInClosure}
-use Rattle.tg_space.specs.Collection.{IsNewPlace, IsForwarded, IsFullCollection, new_cell, new_place}
-use Rattle.tg_space.specs.SpaceList.{SpaceList, BlockList, cells_of}
-use Rattle.tg_space.specs.Targets.{every_space, all_root_targets, targets_of}
+use Rattle.tg_space.specs.Collection.{IsNewPlace, IsForwarded, IsMadeInOld, IsCollection, new_place}
+use Rattle.tg_space.specs.Generations.{AreInGenerations, NamesYoung}
+use Rattle.tg_space.specs.SpaceList.{SpaceList, BlockList, IsSpaceList, cell_at, cells_of}
+use Rattle.tg_space.specs.SpaceTable.{SpaceTable, IsSpaceTable, adopted, kept_blocks}
+use Rattle.tg_space.specs.Targets.{from_space, all_root_targets, targets_of, image_of}
+use Rattle.tg_space.specs.declared.spaces.Kind.{Kind}
+use Rattle.tg_space.specs.declared.spaces.Kind.TheVariants.{Full, Nursery}
 use Rattle.tg_space.specs.declared.spaces.Root.{Root}
+use Rattle.tg_space.specs.declared.spaces.Root.TheVariants.{Remembered}
+use Rattle.tg_space.proofs.Flat.{get_or-flat_of}
+use Rattle.tg_space.proofs.Tables.{table_list}
+use Rattle.tg_evac.specs.declared.plan.Plan.{Plan}
 use Rattle.tg_evac.specs.declared.win.Win.{Win}
-use Rattle.tg_evac.specs.Claims.{StandsIn, AreWordsOf, cells_won, win_of}
-use Rattle.tg_evac.specs.Copies.{HasCopy, HoldCopies, copy_in}
-use Rattle.tg_evac.proofs.Claiming.{cell_held, win_from_cell}
+use Rattle.tg_evac.specs.Claims.{Claimed, AreClaims, IsPlanFor, IsTracedFrom, StandsIn, AreTraced, AreWordsOf, cells_won, win_at}
+use Rattle.tg_evac.specs.Copies.{HasNewPlace, HasCopy, HoldCopies, IsYoungCopy, IsPlaceIn, copy_of, moved_cell}
+use Rattle.tg_evac.proofs.Claiming.{cell_held, win_from_cell, word_place, word_links, word_to, word_behind, cells_apart}
+use Rattle.tg_evac.proofs.Reasons.{all_in_old, are_aged, goes_to}
+use Rattle.tg_evac.proofs.Adopted.{old_place, aged_place, new_is, find_place, free_is_not_young}
 
 -- what the pairs of a whole collection are, whoever won them, and in whatever order
-pub record AreWins (h : SpaceList) (roots : List Root) (forward : List ℕ) (won : List Win) : Type 0 where
+pub record AreWins (kind : Kind) (h : SpaceList) (roots : List Root) (forward : List ℕ) (won : List Win) : Type 0 where
   pub whole : length forward ≡ length (cells_of h)
   pub words : AreWordsOf won forward
-  pub reached : (n : ℕ) → Contains (cells_won won) n ↔ IsInClosure (all_root_targets every_space h roots) (targets_of every_space h) n
-  pub links : (w : Win) → Contains won w → w.word ≡ link_to (place_in w.word)
+  pub traced : AreTraced kind h roots won
+  pub reached : (n : ℕ) → Contains (cells_won won) n ↔ IsInClosure (all_root_targets (from_space kind) h roots) (targets_of (from_space kind) h) n
+  pub places : All (HasNewPlace (kept_blocks kind h)) won
   pub apart : (v w : Win) → Contains won v → Contains won w → v.word ≡ w.word → v.cell ≡ w.cell
 
-module _ (h : SpaceList) (roots : List Root) (forward : List ℕ) (won : List Win) (old : BlockList)
-    (are : AreWins h roots forward won) (hold : HoldCopies 0 (copy_in h forward) won old) where
+-- what their copies are, and what was noted
+pub record AreCopies (kind : Kind) (h : SpaceList) (roots : List Root) (forward : List ℕ) (won : List Win) (aged old : BlockList) (notes : List Place) : Type 0 where
+  pub aged_copies : HoldCopies 1 0 (copy_of kind h forward) won aged
+  pub old_copies : HoldCopies 0 (kept_blocks kind h) (copy_of kind h forward) won old
+  pub few : kept_blocks kind h + length old ≤ 2 ^ 20
+  pub noted : (p : Place) → Contains notes p ↔ ((Contains roots (Remembered p) × NamesYoung (moved_cell kind h forward p)) ⊎ IsYoungCopy (copy_of kind h forward) won p)
+
+-- only a nursery collection copies to Aged
+only_nursery : (kind : Kind) (h : SpaceList) (roots : List Root) (forward : List ℕ) (won : List Win) → All (StandsIn forward) won → AreTraced kind h roots won → (w : Win) → Contains won w → (place_in w.word).space ≡ 1 → kind ≡ Nursery
+only_nursery Full h roots forward won stand traced w held aged = absurd (let zero_is = all_in_old h roots forward won stand traced w held in omega arith)
+only_nursery Nursery h roots forward won stand traced w held aged = refl
+
+in_generations : (kind : Kind) (h : SpaceList) (roots : List Root) (forward : List ℕ) (won : List Win) → IsSpaceList h → AreWins kind h roots forward won → AreInGenerations kind h roots forward
+in_generations Full h roots forward won is are = λ c low some.
+    let found = are.words.every c (rw are.whole low) some in
+    let st : StandsIn forward found.0 = All-contains (StandsIn forward) won found.0 are.words.stand found.1 in
+    let to = all_in_old h roots forward won are.words.stand are.traced found.0 found.1 in
+    let goes = goes_to forward found.0 st in
+    record { some = some; there = ap (λ (n : ℕ). (place_in (get_or forward n 0)).space) (sym found.2) ∙ goes.there ∙ to }
+in_generations Nursery h roots forward won is are =
+    are_aged h roots forward won is are.words (λ w held. (All-contains (HasNewPlace (kept_blocks Nursery h)) won w are.places held).two) are.traced are.whole
+
+module _ (kind : Kind) (h : SpaceList) (roots : List Root) (forward : List ℕ) (won : List Win) (aged old : BlockList) (notes : List Place)
+    (is : IsSpaceList h) (are : AreWins kind h roots forward won) (copies : AreCopies kind h roots forward won aged old notes) where
   stands : (w : Win) → Contains won w → StandsIn forward w
   stands w held = All-contains (StandsIn forward) won w are.words.stand held
 
-  -- the pair of a forwarded cell
-  pair_of : (c : ℕ) → IsForwarded h forward c → Contains won (win_of c (get_or forward c 0))
-  pair_of c is = are.words.every c (rw are.whole is.0) is.1
+  place_of_win : (w : Win) → Contains won w → HasNewPlace (kept_blocks kind h) w
+  place_of_win w held = All-contains (HasNewPlace (kept_blocks kind h)) won w are.places held
 
-  reached_ok : (c : ℕ) → c < length (cells_of h) → get_or forward c 0 ≢ 0 ↔ IsInClosure (all_root_targets every_space h roots) (targets_of every_space h) c
+  -- the copy of a pair stands at its place
+  copy_stands : (w : Win) → Contains won w → IsNewPlace kind h aged old (place_in w.word) × (cell_at (adopted kind h aged old) (place_in w.word) ≡ copy_of kind h forward w.cell)
+  copy_stands w held = ⊎_elim
+      (λ (in_old : (place_in w.word).space ≡ 0).
+      let has = copies.old_copies.copied w held in_old in let there = old_place h aged old (place_in w.word) kind has.place in
+      (there.0, there.1 ∙ has.words))
+      (λ (other : (place_in w.word).space ≢ 0).
+      let two = (place_of_win w held).two in
+      let one : (place_in w.word).space ≡ 1 = omega arith in
+      let has = copies.aged_copies.copied w held one in let there = aged_place h aged old (place_in w.word) has.place in
+      let nursery : Nursery ≡ kind = sym (only_nursery kind h roots forward won are.words.stand are.traced w held one) in
+      let at : cell_at (adopted Nursery h aged old) (place_in w.word) ≡ copy_of kind h forward w.cell = there.1 ∙ has.words in (
+        subst (λ (k : Kind). IsNewPlace k h aged old (place_in w.word)) nursery there.0,
+        subst (λ (k : Kind). cell_at (adopted k h aged old) (place_in w.word) ≡ copy_of kind h forward w.cell) nursery at,
+      ))
+      (cases_eq (place_in w.word).space 0)
+
+  -- the pair of a forwarded cell
+  pair_of : (c : ℕ) → IsForwarded h forward c → (w : Win) × Contains won w × (w.cell ≡ c) × (get_or forward c 0 ≡ w.word)
+  pair_of c fw =
+      let found = are.words.every c (rw are.whole fw.0) fw.1 in
+      (found.0, found.1, found.2, ap (λ (n : ℕ). get_or forward n 0) (sym found.2) ∙ (stands found.0 found.1).word)
+
+  reached_ok : (c : ℕ) → c < length (cells_of h) → get_or forward c 0 ≢ 0 ↔ IsInClosure (all_root_targets (from_space kind) h roots) (targets_of (from_space kind) h) c
   reached_ok c low = (
-    (λ ne. (are.reached c).0 (cell_held won (win_of c (get_or forward c 0)) (pair_of c (low, ne)))),
-    (λ r zero.
+    (λ ne. let found = pair_of c (low, ne) in (are.reached c).0 (subst (λ (n : ℕ). Contains (cells_won won) n) found.2 (cell_held won found.0 found.1))),
+    (λ r zero_is.
         let found = win_from_cell won c ((are.reached c).1 r) in
         let st = stands found.0 found.1 in
         let word : get_or forward c 0 ≡ found.0.word = ap (λ (n : ℕ). get_or forward n 0) (sym found.2) ∙ st.word in
-        st.some (sym word ∙ zero)),
+        st.some (sym word ∙ zero_is)),
   )
 
   words_ok : (c : ℕ) → IsForwarded h forward c → get_or forward c 0 ≡ link_to (new_place forward c)
-  words_ok c is = are.links (win_of c (get_or forward c 0)) (pair_of c is)
+  words_ok c fw = let found = pair_of c fw in found.3 ∙ (place_of_win found.0 found.1).link ∙ ap (λ (n : ℕ). link_to (place_in n)) (sym found.3)
 
-  copy_ok : (c : ℕ) → IsForwarded h forward c → HasCopy 0 (copy_in h forward) old (win_of c (get_or forward c 0))
-  copy_ok c is = All-contains (HasCopy 0 (copy_in h forward) old) won (win_of c (get_or forward c 0)) hold.copied (pair_of c is)
+  placed_ok : (c : ℕ) → IsForwarded h forward c → IsNewPlace kind h aged old (new_place forward c)
+  placed_ok c fw =
+      let found = pair_of c fw in
+      subst (λ (n : ℕ). IsNewPlace kind h aged old (place_in n)) (sym found.3) (copy_stands found.0 found.1).0
 
-  placed_ok : (c : ℕ) → IsForwarded h forward c → IsNewPlace old (new_place forward c)
-  placed_ok c is =
-      let has = copy_ok c is in
-      record { space = has.place.space; block = has.place.block; cell = has.place.cell }
+  copied_ok : (c : ℕ) → IsForwarded h forward c → cell_at (adopted kind h aged old) (new_place forward c) ≡ image_of (from_space kind) h (new_place forward) (get_or (cells_of h) c [])
+  copied_ok c fw =
+      let found = pair_of c fw in
+      ap (λ (n : ℕ). cell_at (adopted kind h aged old) (place_in n)) found.3 ∙ (copy_stands found.0 found.1).1 ∙ ap (copy_of kind h forward) found.2
 
   apart_ok : (c d : ℕ) → IsForwarded h forward c → d < length (cells_of h) → get_or forward c 0 ≡ get_or forward d 0 → c ≡ d
-  apart_ok c d is low e =
-      let other : IsForwarded h forward d = (low, λ z. is.1 (e ∙ z)) in
-      are.apart (win_of c (get_or forward c 0)) (win_of d (get_or forward d 0)) (pair_of c is) (pair_of d other) e
+  apart_ok c d fw low e =
+      let other : IsForwarded h forward d = (low, λ z. fw.1 (e ∙ z)) in
+      let x = pair_of c fw in let y = pair_of d other in
+      sym x.2 ∙ are.apart x.0 y.0 x.1 y.1 (sym x.3 ∙ e ∙ y.3) ∙ y.2
 
-  rest_ok : (p : Place) → IsNewPlace old p → ((c : ℕ) → c < length (cells_of h) → get_or forward c 0 ≢ link_to p) → new_cell old p ≡ free_cell
-  rest_ok p new none =
-      hold.rest p (record { space = new.space; block = new.block; cell = new.cell }) (λ w held e.
+  -- no pair has a place to which no cell goes
+  no_pair : (p : Place) → ((c : ℕ) → c < length (cells_of h) → get_or forward c 0 ≢ link_to p) → (w : Win) → Contains won w → place_in w.word ≢ p
+  no_pair p none w held e =
       let st = stands w held in
-      none w.cell (rw (← are.whole) st.cell) (st.word ∙ are.links w held ∙ ap link_to e))
+      none w.cell (rw (← are.whole) st.cell) (st.word ∙ (place_of_win w held).link ∙ ap link_to e)
 
-  pub is_full_collection : IsFullCollection h roots forward old
-  is_full_collection = record {
+  rest_ok : (p : Place) → IsNewPlace kind h aged old p → ((c : ℕ) → c < length (cells_of h) → get_or forward c 0 ≢ link_to p) → cell_at (adopted kind h aged old) p ≡ free_cell
+  rest_ok p new none = ⊎_elim
+      (λ (in_old : IsPlaceIn 0 (kept_blocks kind h) old p). (old_place h aged old p kind in_old).1 ∙ copies.old_copies.rest p in_old (no_pair p none))
+      (λ in_aged.
+      let free = (aged_place h aged old p in_aged.1).1 ∙ copies.aged_copies.rest p in_aged.1 (no_pair p none) in
+      subst (λ (k : Kind). cell_at (adopted k h aged old) p ≡ free_cell) (sym in_aged.0) free)
+      (new_is h aged old p kind new)
+
+  -- ---- notes
+
+  young_copy : (p : Place) → IsNewPlace kind h aged old p → p.space ≡ 0 → NamesYoung (cell_at (adopted kind h aged old) p) → IsYoungCopy (copy_of kind h forward) won p
+  young_copy p new zero_is names = ⊎_elim
+      (λ (in_old : IsPlaceIn 0 (kept_blocks kind h) old p). ⊎_elim
+      (λ found.
+      let stands_there = copy_stands found.0 found.1 in
+      record {
+        win = found.0;
+        is = found.1;
+        at = found.2;
+        old = zero_is;
+        names = subst (λ (ws : List ℕ). NamesYoung ws) (ap (λ (q : Place). cell_at (adopted kind h aged old) q) (sym found.2) ∙ stands_there.1) names;
+      })
+      (λ none. absurd (free_is_not_young (subst (λ (ws : List ℕ). NamesYoung ws) ((old_place h aged old p kind in_old).1 ∙ copies.old_copies.rest p in_old none) names)))
+      (find_place won p))
+      (λ in_aged. absurd (let one = in_aged.1.space in omega arith))
+      (new_is h aged old p kind new)
+
+  noted_ok : (p : Place) → Contains notes p ↔ ((words : List ℕ) × IsMadeInOld kind h roots forward aged old p words × NamesYoung words)
+  noted_ok p = (forth, back)
+    where
+      forth : Contains notes p → (words : List ℕ) × IsMadeInOld kind h roots forward aged old p words × NamesYoung words
+      forth held = ⊎_elim
+          (λ root. (moved_cell kind h forward p, inr (root.0, refl), root.1))
+          (λ (y : IsYoungCopy (copy_of kind h forward) won p).
+          let there = copy_stands y.win y.is in
+          let new : IsNewPlace kind h aged old p = subst (λ (q : Place). IsNewPlace kind h aged old q) y.at there.0 in
+          let cell : cell_at (adopted kind h aged old) p ≡ copy_of kind h forward y.win.cell = ap (λ (q : Place). cell_at (adopted kind h aged old) q) (sym y.at) ∙ there.1 in
+          (cell_at (adopted kind h aged old) p, inl (new, y.old, refl), subst (λ (ws : List ℕ). NamesYoung ws) (sym cell) y.names))
+          ((copies.noted p).0 held)
+
+      back : ((words : List ℕ) × IsMadeInOld kind h roots forward aged old p words × NamesYoung words) → Contains notes p
+      back made = ⊎_elim
+          (λ copy. (copies.noted p).1 (inr (young_copy p copy.0 copy.1 (subst (λ (ws : List ℕ). NamesYoung ws) copy.2 made.2))))
+          (λ root. (copies.noted p).1 (inl (root.0, subst (λ (ws : List ℕ). NamesYoung ws) root.1 made.2)))
+          made.1
+
+  pub is_collection : IsCollection kind h roots forward aged old notes
+  is_collection = record {
     whole = are.whole;
     reached = reached_ok;
     words = words_ok;
     placed = placed_ok;
-    copied = λ c is. (copy_ok c is).words;
+    copied = copied_ok;
     apart = apart_ok;
     rest = rest_ok;
+    generations = in_generations kind h roots forward won is are;
+    noted = noted_ok;
+    few = copies.few;
   }
+
+-- ---- from the claims
+
+pub new_places : (c : Claimed) → AreClaims c → All (HasNewPlace c.plan.kept) c.won
+new_places c are = All-from_get_or (HasNewPlace c.plan.kept) c.won (win_at [] 0) (λ k low.
+    let held : Contains c.won (win_at c.won k) = Contains-get_or c.won k (win_at [] 0) low in
+    record {
+      place = word_place c are (win_at c.won k) held;
+      link = word_links c are (win_at c.won k) held;
+      two = word_to c are (win_at c.won k) held;
+      behind = word_behind c are (win_at c.won k) held;
+    })
+
+module _ (kind : Kind) (t : SpaceTable) (roots : List Root) (plan : Plan) (is_plan : IsPlanFor kind t plan) (table : IsSpaceTable t)
+    (c : Claimed) (claims : AreClaims c) (same : c.plan ≡ plan) (traced : IsTracedFrom kind t.spaces roots c) where
+  kept_is : c.plan.kept ≡ kept_blocks kind t.spaces
+  kept_is = ap (λ (p : Plan). p.kept) same ∙ is_plan.kept
+
+  wins : AreWins kind t.spaces roots c.forward c.won
+  wins = record {
+    whole = traced.whole;
+    words = claims.words;
+    traced = traced.traced;
+    reached = traced.reached;
+    places = subst (λ (n : ℕ). All (HasNewPlace n) c.won) kept_is (new_places c claims);
+    apart = cells_apart c claims;
+  }
+
+  pub collected : (aged old : BlockList) (before between after : List Place) → before ≡ [] →
+      ((p : Place) → Contains between p ↔ (Contains before p ⊎ (Contains roots (Remembered p) × NamesYoung (moved_cell kind t.spaces c.forward p)))) →
+      ((p : Place) → Contains after p ↔ (Contains between p ⊎ IsYoungCopy (copy_of plan.kind t.spaces c.forward) c.won p)) →
+      HoldCopies 1 0 (copy_of plan.kind t.spaces c.forward) c.won aged → HoldCopies 0 plan.kept (copy_of plan.kind t.spaces c.forward) c.won old →
+      plan.kept + length old ≤ 2 ^ 20 → IsCollection kind t.spaces roots c.forward aged old after
+  collected aged old before between after none first then in_aged in_old few =
+      is_collection kind t.spaces roots c.forward c.won aged old after (table_list t table) wins (record {
+        aged_copies = subst (λ (k : Kind). HoldCopies 1 0 (copy_of k t.spaces c.forward) c.won aged) is_plan.same in_aged;
+        old_copies = subst (λ (n : ℕ). HoldCopies 0 n (copy_of kind t.spaces c.forward) c.won old) is_plan.kept
+            (subst (λ (k : Kind). HoldCopies 0 plan.kept (copy_of k t.spaces c.forward) c.won old) is_plan.same in_old);
+        few = subst (λ (n : ℕ). n + length old ≤ 2 ^ 20) is_plan.kept few;
+        noted = noted;
+      })
+    where
+      young : (p : Place) → Contains after p ↔ (Contains between p ⊎ IsYoungCopy (copy_of kind t.spaces c.forward) c.won p)
+      young p = subst (λ (k : Kind). Contains after p ↔ (Contains between p ⊎ IsYoungCopy (copy_of k t.spaces c.forward) c.won p)) is_plan.same (then p)
+
+      nothing : (p : Place) → Contains before p → ⊥
+      nothing p held = let empty : Contains [] p = subst (λ (ps : List Place). Contains ps p) none held in absurd (let low = empty.1 in omega arith)
+
+      noted : (p : Place) → Contains after p ↔ ((Contains roots (Remembered p) × NamesYoung (moved_cell kind t.spaces c.forward p)) ⊎ IsYoungCopy (copy_of kind t.spaces c.forward) c.won p)
+      noted p = (
+        (λ held. ⊎_elim (λ (b : Contains between p). ⊎_elim (λ (e : Contains before p). absurd (nothing p e)) (λ root. inl root) ((first p).0 b)) (λ y. inr y) ((young p).0 held)),
+        (λ has. (young p).1 (⊎_elim (λ root. inl ((first p).1 (inr root))) (λ y. inr y) has)),
+      )

@@ -1,181 +1,232 @@
 -- Steps of the copy phase.
-use Rattle.std.proofs.Common.{◌≡◌, ◌≢◌, ℕ, ◌<◌, ◌≤◌, ◌+◌, ◌/◌, ◌%◌, ◌^◌, List, [], ◌∷◌, ◌++◌, length, get_or, set, take, drop, map, refl, sym, ap, subst, arith, ◌∙◌, add-zero, lit<, ⊎_elim}
+use Rattle.std.proofs.Common.{◌≡◌, ◌≢◌, ℕ, ◌<◌, ◌≤◌, ◌+◌, ◌-◌, ◌⊎◌, ◌↔◌, List, [], ◌∷◌, ◌++◌, length, get_or, set, take, refl, sym, ap, subst, arith, ◌∙◌, lit<, inl, inr, ⊎_elim}
 use Rattle.std.specs.List.{All, Contains}
-use Rattle.std.proofs.lemmas.List.{take_more_set, map_more, drop-set-lt, drop-drop, get_or-drop, get_or-set_same, get_or-set_other, get_or-replicate, length-set, length_push, get_or_append_left, get_or_push, take_more, length-take-le, get_or-take}
-use Rattle.std.proofs.lemmas.List.Elements.{All-push, All-nil, All-weaker, All-get_or, All-contains, Contains-append_left, Contains-append_right, Contains-get_or}
+use Rattle.std.proofs.lemmas.List.{get_or-map, length-map, get_or-set_same, get_or-set_other, get_or-replicate, length-set, length_push, get_or_append_left, get_or_push, take_more, length-take-le, get_or-take}
+use Rattle.std.proofs.lemmas.List.Elements.{All-get_or, All-contains, Contains-append_left, Contains-append_right, Contains-get_or}
 use Rattle.std.proofs.lemmas.Bool.{cases_lt, cases_eq}
 use Rattle.tg_block.specs.Cells.{IsBlock, cell_of, free_block, free_cell}
 use Rattle.tg_word.specs.declared.Place.{Place}
-use Rattle.tg_word.specs.Word.{place_in}
-use Rattle.tg_space.specs.Collection.{new_cell}
-use Rattle.tg_space.specs.SpaceList.{BlockList, IsSpace}
-use Rattle.tg_space.specs.SpaceTable.{place_in_space}
+use Rattle.tg_word.specs.Word.{link_to, place_in}
+use Rattle.tg_space.specs.Generations.{NamesYoung}
+use Rattle.tg_space.specs.SpaceList.{BlockList}
+use Rattle.tg_space.specs.declared.spaces.Root.{Root}
+use Rattle.tg_space.specs.declared.spaces.Root.TheVariants.{Remembered}
 use Rattle.tg_evac.specs.declared.win.Win.{Win}
-use Rattle.tg_evac.specs.Claims.{AreInOrder}
-use Rattle.tg_evac.proofs.Claiming.{nth_place}
-use Rattle.tg_evac.specs.Copies.{IsPlaceIn, HasCopy, HoldCopies, with_cell}
+use Rattle.tg_evac.specs.Claims.{AreApart, words_won, win_at}
+use Rattle.tg_evac.specs.Copies.{HasNewPlace, IsPlaceIn, IsGrown, PutsCell, HasCopy, HoldCopies, IsYoungCopy, new_cell}
 
--- ---- the words of one cell
+-- ---- one more element
 
-same_at : (xs ys : List ℕ) (i : ℕ) → drop i xs ≡ drop i ys → get_or xs i 0 ≡ get_or ys i 0
-same_at xs ys i e =
-    let p : get_or xs (i + 0) 0 ≡ get_or ys (i + 0) 0 = sym (get_or-drop i xs 0 0) ∙ ap (λ (l : List ℕ). get_or l 0 0) e ∙ get_or-drop i ys 0 0 in
-    rw add-zero at p
+-- an element of the longer list is the new one, or one before
+pub earlier_or_last : {X : Type 0} (xs : List X) (x y : X) → Contains (xs ++ x ∷ []) y → Contains xs y ⊎ (x ≡ y)
+earlier_or_last xs x y held =
+    let long = length_push xs x in let low = held.1 in
+    ⊎_elim
+    (λ (early : held.0 < length xs). inl (held.0, early, sym (get_or_append_left xs (x ∷ []) y held.0 early) ∙ held.2))
+    (λ (past : length xs ≤ held.0). let at : length xs ≡ held.0 = omega arith in inr (sym (get_or_push xs x y held.0 at) ∙ held.2))
+    (cases_lt held.0 (length xs))
 
-module _ (f : ℕ → ℕ) (xs ys : List ℕ) (i v : ℕ) (long : length xs ≡ length ys) (inside : i < length ys)
-    (done : take i xs ≡ map f (take i ys)) (left : drop i xs ≡ drop i ys) where
-  pub same_here : get_or xs i 0 ≡ get_or ys i 0
-  same_here = same_at xs ys i left
+pub last_held : {X : Type 0} (xs : List X) (x : X) → Contains (xs ++ x ∷ []) x
+last_held xs x = Contains-append_right xs (x ∷ []) x (0, lit< tt, refl)
 
-  pub moved_more : v ≡ f (get_or xs i 0) → take (i + 1) (set xs i v) ≡ map f (take (i + 1) ys)
-  moved_more is =
-      take_more_set xs i v (omega arith) ∙ ap (λ (l : List ℕ). l ++ v ∷ []) done ∙ ap (λ (x : ℕ). map f (take i ys) ++ x ∷ []) (is ∙ ap f same_here) ∙ sym (map_more f ys i 0 inside)
+-- two places of a space that differ, differ in their block or their cell
+pub same_place : (p q : Place) → p.space ≡ q.space → p.block ≡ q.block → p.cell ≡ q.cell → p ≡ q
+same_place p q s b c i = record { space = s i; block = b i; cell = c i }
 
-  pub left_more : drop (i + 1) (set xs i v) ≡ drop (i + 1) ys
-  left_more = drop-set-lt (i + 1) xs i v (omega arith) ∙ sym (drop-drop 1 i xs) ∙ ap (drop 1) left ∙ drop-drop 1 i ys
+-- ---- blocks that grow
 
--- ---- blocks with copies
+pub grown_none : (blocks : BlockList) → IsGrown blocks blocks
+grown_none blocks = record { longer = omega arith; kept = λ b low. refl; free = λ b low high. absurd (omega arith) }
+
+pub grown_more : (before now after : BlockList) → IsGrown before now → after ≡ now ++ free_block ∷ [] → IsGrown before after
+grown_more before now after grown is = subst (λ (bs : BlockList). IsGrown before bs) (sym is) (record {
+  longer = let longer = grown.longer in omega (arith, length_push now free_block);
+  kept = λ b low. let longer = grown.longer in get_or_append_left now (free_block ∷ []) [] b (omega arith) ∙ grown.kept b low;
+  free = λ b low high. ⊎_elim
+      (λ (early : b < length now). get_or_append_left now (free_block ∷ []) [] b early ∙ grown.free b low early)
+      (λ (past : length now ≤ b). get_or_push now free_block [] b (let long = length_push now free_block in omega arith))
+      (cases_lt b (length now));
+})
+
+-- ---- one more copy in these blocks
+
+module _ (to kept : ℕ) (copy : ℕ → List ℕ) (won : List Win) (before after : BlockList) (hold : HoldCopies to kept copy won before)
+    (w : Win) (words : List ℕ) (place : Place) (at : place ≡ place_in w.word) (space : place.space ≡ to) (behind : kept ≤ place.block) (cell : place.cell < 64)
+    (put : PutsCell kept place words before after) (fresh : (v : Win) → Contains won v → place_in v.word ≢ place) (is : words ≡ copy w.cell) where
+  abbrev block : List (List ℕ)
+  block = get_or put.grown (place.block - kept) []
+
+  long : length after ≡ length put.grown
+  long = ap length put.is ∙ length-set put.grown (place.block - kept) (set block place.cell words)
+
+  read_same : new_cell kept after place ≡ words
+  read_same =
+      let of_block : length block ≡ 64 = (All-get_or IsBlock put.grown (place.block - kept) [] put.there put.whole).0 in
+      ap (λ (bs : BlockList). new_cell kept bs place) put.is ∙
+      ap (λ (b : List (List ℕ)). cell_of b place.cell) (get_or-set_same put.grown (place.block - kept) (set block place.cell words) [] put.there) ∙
+      get_or-set_same block place.cell words [] (omega arith)
+
+  -- any other cell is as it was before, or free
+  read_other : (p : Place) → p.space ≡ to → kept ≤ p.block → p ≢ place → new_cell kept after p ≡ new_cell kept put.grown p
+  read_other p in_space past apart =
+      ap (λ (bs : BlockList). new_cell kept bs p) put.is ∙
+      ⊎_elim
+      (λ (same : p.block - kept ≡ place.block - kept).
+      let block_is : p.block ≡ place.block = omega arith in
+      let other : p.cell ≢ place.cell = λ e. apart (same_place p place (in_space ∙ sym space) block_is e) in
+      ap (λ (n : ℕ). cell_of (get_or (set put.grown (place.block - kept) (set block place.cell words)) n []) p.cell) same ∙
+      ap (λ (b : List (List ℕ)). cell_of b p.cell) (get_or-set_same put.grown (place.block - kept) (set block place.cell words) [] put.there) ∙
+      get_or-set_other block place.cell p.cell words [] other ∙
+      ap (λ (n : ℕ). cell_of (get_or put.grown n []) p.cell) (sym same))
+      (λ (other : p.block - kept ≢ place.block - kept).
+      ap (λ (b : List (List ℕ)). cell_of b p.cell) (get_or-set_other put.grown (place.block - kept) (p.block - kept) (set block place.cell words) [] other))
+      (cases_eq (p.block - kept) (place.block - kept))
+
+  kept_cell : (p : Place) → p.block - kept < length before → new_cell kept put.grown p ≡ new_cell kept before p
+  kept_cell p low = ap (λ (b : List (List ℕ)). cell_of b p.cell) (put.grows.kept (p.block - kept) low)
+
+  free_there : (p : Place) → length before ≤ p.block - kept → p.block - kept < length put.grown → p.cell < 64 → new_cell kept put.grown p ≡ free_cell
+  free_there p low high inside =
+      ap (λ (b : List (List ℕ)). cell_of b p.cell) (put.grows.free (p.block - kept) low high) ∙ get_or-replicate 64 p.cell free_cell [] inside
+
+  copied_more : (v : Win) → Contains (won ++ w ∷ []) v → (place_in v.word).space ≡ to → HasCopy to kept copy after v
+  copied_more v held in_space = ⊎_elim
+      (λ (early : Contains won v).
+      let has : HasCopy to kept copy before v = hold.copied v early in_space in
+      let low = has.place.block in let longer = put.grows.longer in let same = long in
+      record {
+        place = record { space = has.place.space; behind = has.place.behind; block = omega arith; cell = has.place.cell };
+        words = read_other (place_in v.word) has.place.space has.place.behind (fresh v early) ∙ kept_cell (place_in v.word) has.place.block ∙ has.words;
+      })
+      (λ (last : w ≡ v).
+      subst (λ (x : Win). HasCopy to kept copy after x) last (record {
+        place = subst (λ (p : Place). IsPlaceIn to kept after p) at (record { space = space; behind = behind; block = let there = put.there in let same = long in omega arith; cell = cell });
+        words = subst (λ (p : Place). new_cell kept after p ≡ copy w.cell) at (read_same ∙ is);
+      }))
+      (earlier_or_last won w v held)
+
+  rest_more : (p : Place) → IsPlaceIn to kept after p → ((v : Win) → Contains (won ++ w ∷ []) v → place_in v.word ≢ p) → new_cell kept after p ≡ free_cell
+  rest_more p inside apart =
+      let other : p ≢ place = λ e. apart w (last_held won w) (sym at ∙ sym e) in
+      read_other p inside.space inside.behind other ∙ ⊎_elim
+      (λ (early : p.block - kept < length before).
+      kept_cell p early ∙ hold.rest p (record { space = inside.space; behind = inside.behind; block = early; cell = inside.cell }) (λ v held. apart v (Contains-append_left won (w ∷ []) v held)))
+      (λ (past : length before ≤ p.block - kept). let low = inside.block in let same = long in free_there p past (omega arith) inside.cell)
+      (cases_lt (p.block - kept) (length before))
+
+  pub copies_more : HoldCopies to kept copy (won ++ w ∷ []) after
+  copies_more = record { copied = copied_more; rest = rest_more }
+
+-- a pair whose copy is elsewhere
+pub copies_elsewhere : (to kept : ℕ) (copy : ℕ → List ℕ) (won : List Win) (blocks : BlockList) → HoldCopies to kept copy won blocks → (w : Win) → (place_in w.word).space ≢ to → HoldCopies to kept copy (won ++ w ∷ []) blocks
+copies_elsewhere to kept copy won blocks hold w other = record {
+  copied = λ v held in_space. ⊎_elim (λ (early : Contains won v). hold.copied v early in_space)
+      (λ (last : w ≡ v). absurd (other (ap (λ (x : Win). (place_in x.word).space) last ∙ in_space))) (earlier_or_last won w v held);
+  rest = λ p inside apart. hold.rest p inside (λ v held. apart v (Contains-append_left won (w ∷ []) v held));
+}
 
 -- no block holds no copy
-pub copies_none : (to : ℕ) (copy : ℕ → List ℕ) → HoldCopies to copy [] []
-copies_none to copy = record { copied = All-nil (HasCopy to copy []); rest = λ p place apart. absurd (let low = place.block in omega arith) }
+pub copies_none : (to kept : ℕ) (copy : ℕ → List ℕ) → HoldCopies to kept copy [] []
+copies_none to kept copy = record { copied = λ w held. absurd (let low = held.1 in omega arith); rest = λ p place apart. absurd (let low = place.block in omega arith) }
 
--- one more block of free cells
-module _ (to : ℕ) (copy : ℕ → List ℕ) (won : List Win) (blocks : BlockList) (hold : HoldCopies to copy won blocks) where
-  grown : BlockList
-  grown = blocks ++ free_block ∷ []
+-- ---- one more of those that were won
 
-  kept_cell : (p : Place) → p.block < length blocks → new_cell grown p ≡ new_cell blocks p
-  unfolding grown
-  kept_cell p low = ap (λ (b : List (List ℕ)). cell_of b p.cell) (get_or_append_left blocks (free_block ∷ []) [] p.block low)
+module _ (kept : ℕ) (copy : ℕ → List ℕ) (won : List Win) (new : All (HasNewPlace kept) won) (apart : AreApart (words_won won)) (i : ℕ) (inside : i < length won) where
+  here : Contains won (win_at won i)
+  here = Contains-get_or won i (win_at [] 0) inside
 
-  added_cell : (p : Place) → p.block ≡ length blocks → p.cell < 64 → new_cell grown p ≡ free_cell
-  unfolding grown
-  added_cell p at low =
-      ap (λ (b : List (List ℕ)). cell_of b p.cell) (get_or_push blocks free_block [] p.block (sym at)) ∙ get_or-replicate 64 p.cell free_cell [] low
+  pub place_of_now : HasNewPlace kept (win_at won i)
+  place_of_now = All-contains (HasNewPlace kept) won (win_at won i) new here
 
-  pub copies_grown : HoldCopies to copy won (blocks ++ free_block ∷ [])
-  unfolding grown
-  copies_grown = record {
-    copied = All-weaker (HasCopy to copy blocks) (HasCopy to copy (blocks ++ free_block ∷ [])) (λ w has. record {
-      place = record { space = has.place.space; block = omega (arith, length_push blocks free_block, has.place.block); cell = has.place.cell };
-      words = kept_cell (place_in w.word) has.place.block ∙ has.words;
-    }) won hold.copied;
-    rest = λ p place apart. ⊎_elim
-        (λ (low : p.block < length blocks). kept_cell p low ∙ hold.rest p (record { space = place.space; block = low; cell = place.cell }) apart)
-        (λ (past : length blocks ≤ p.block). added_cell p (let high = place.block in omega (arith, length_push blocks free_block)) place.cell)
-        (cases_lt p.block (length blocks));
-  }
+  -- its place is none of those before
+  pub fresh_now : (v : Win) → Contains (take i won) v → place_in v.word ≢ place_in (win_at won i).word
+  fresh_now v held e =
+      let long = length-take-le i won (omega arith) in
+      let early : held.0 < i = let low = held.1 in omega arith in
+      let j : held.0 < length won = omega arith in
+      let is : get_or won held.0 v ≡ v = sym (get_or-take i won held.0 v early) ∙ held.2 in
+      let there : HasNewPlace kept v = All-contains (HasNewPlace kept) won v new (held.0, j, is) in
+      let words : v.word ≡ (win_at won i).word = there.link ∙ ap link_to e ∙ sym place_of_now.link in
+      let at_v : get_or (words_won won) held.0 0 ≡ v.word = get_or-map (λ (w : Win). w.word) won held.0 v 0 j ∙ ap (λ (w : Win). w.word) is in
+      let at_i : get_or (words_won won) i 0 ≡ (win_at won i).word = get_or-map (λ (w : Win). w.word) won i (win_at [] 0) 0 inside in
+      let high : i < length (words_won won) = let same = length-map won (λ (w : Win). w.word) in omega arith in
+      apart held.0 i early high (at_v ∙ words ∙ sym at_i)
 
--- one more copy
-module _ (to : ℕ) (copy : ℕ → List ℕ) (won : List Win) (blocks : BlockList) (hold : HoldCopies to copy won blocks) (whole : All IsBlock blocks)
-    (w : Win) (words : List ℕ) (place : IsPlaceIn to blocks (place_in w.word))
-    (fresh : (v : Win) → Contains won v → place_in v.word ≢ place_in w.word) (is : words ≡ copy w.cell) where
-  here : Place
-  here = place_in w.word
+  more : take (i + 1) won ≡ take i won ++ win_at won i ∷ []
+  more = take_more won i (win_at [] 0) inside
 
-  block : List (List ℕ)
-  block = get_or blocks (place_in w.word).block []
+  module _ (place : Place) (words : List ℕ) (at : place ≡ place_in (win_at won i).word) (is : words ≡ copy (win_at won i).cell) where
+    -- the blocks of a space, where the copy is put into them, or they are left
+    pub held_now : (to base : ℕ) (before after : BlockList) → HoldCopies to base copy (take i won) before → (place.space ≡ to → base ≤ place.block) →
+        (place.space ≡ to → PutsCell base place words before after) → (place.space ≢ to → after ≡ before) → HoldCopies to base copy (take (i + 1) won) after
+    held_now to base before after hold behind put left =
+        subst (λ (ws : List Win). HoldCopies to base copy ws after) (sym more)
+        (⊎_elim
+        (λ (same : place.space ≡ to).
+        copies_more to base copy (take i won) before after hold (win_at won i) words place at same (behind same)
+        (let cell = place_of_now.place.cell in let e = ap (λ (p : Place). p.cell) at in omega arith) (put same)
+        (λ v held e. fresh_now v held (e ∙ at)) is)
+        (λ (other : place.space ≢ to).
+        subst (λ (bs : BlockList). HoldCopies to base copy (take i won ++ win_at won i ∷ []) bs) (sym (left other))
+        (copies_elsewhere to base copy (take i won) before hold (win_at won i) (λ e. other (ap (λ (p : Place). p.space) at ∙ e))))
+        (cases_eq place.space to))
 
-  changed : BlockList
-  changed = with_cell blocks (place_in w.word) words
+    -- the places that were noted
+    pub noted_now : (noted before after : List Place) →
+        ((p : Place) → Contains before p ↔ (Contains noted p ⊎ IsYoungCopy copy (take i won) p)) →
+        ((p : Place) → Contains after p ↔ (Contains before p ⊎ ((p ≡ place) × (place.space ≡ 0) × NamesYoung words))) →
+        (p : Place) → Contains after p ↔ (Contains noted p ⊎ IsYoungCopy copy (take (i + 1) won) p)
+    noted_now noted before after was step p = (forth, back)
+      where
+        wider : IsYoungCopy copy (take i won) p → IsYoungCopy copy (take (i + 1) won) p
+        wider y = record { win = y.win; is = subst (λ (ws : List Win). Contains ws y.win) (sym more) (Contains-append_left (take i won) (win_at won i ∷ []) y.win y.is); at = y.at; old = y.old; names = y.names }
 
-  long : length changed ≡ length blocks
-  unfolding changed block here
-  long = length-set blocks (place_in w.word).block (set block (place_in w.word).cell words)
+        forth : Contains after p → Contains noted p ⊎ IsYoungCopy copy (take (i + 1) won) p
+        forth held = ⊎_elim
+            (λ (early : Contains before p). ⊎_elim (λ n. inl n) (λ y. inr (wider y)) ((was p).0 early))
+            (λ new_one. inr (record {
+              win = win_at won i;
+              is = subst (λ (ws : List Win). Contains ws (win_at won i)) (sym more) (last_held (take i won) (win_at won i));
+              at = sym at ∙ sym new_one.0;
+              old = ap (λ (q : Place). q.space) new_one.0 ∙ new_one.1;
+              names = subst (λ (ws : List ℕ). NamesYoung ws) is new_one.2;
+            }))
+            ((step p).0 held)
 
-  read_same : new_cell changed (place_in w.word) ≡ words
-  unfolding changed block here
-  read_same =
-      let of_block : length block ≡ 64 = (All-get_or IsBlock blocks (place_in w.word).block [] place.block whole).0 in
-      let inside = place.cell in
-      let low : (place_in w.word).cell < length block = omega arith in
-      ap (λ (b : List (List ℕ)). cell_of b (place_in w.word).cell) (get_or-set_same blocks (place_in w.word).block (set block (place_in w.word).cell words) [] place.block) ∙
-      get_or-set_same block (place_in w.word).cell words [] low
+        back : Contains noted p ⊎ IsYoungCopy copy (take (i + 1) won) p → Contains after p
+        back has = ⊎_elim
+            (λ n. (step p).1 (inl ((was p).1 (inl n))))
+            (λ (y : IsYoungCopy copy (take (i + 1) won) p). ⊎_elim
+            (λ (early : Contains (take i won) y.win). (step p).1 (inl ((was p).1 (inr (record { win = y.win; is = early; at = y.at; old = y.old; names = y.names })))))
+            (λ (last : win_at won i ≡ y.win).
+            let here_is : p ≡ place = sym y.at ∙ ap (λ (w : Win). place_in w.word) (sym last) ∙ sym at in
+            (step p).1 (inr (here_is, sym (ap (λ (q : Place). q.space) here_is) ∙ y.old, subst (λ (ws : List ℕ). NamesYoung ws) (ap (λ (w : Win). copy w.cell) (sym last) ∙ sym is) y.names)))
+            (earlier_or_last (take i won) (win_at won i) y.win (subst (λ (ws : List Win). Contains ws y.win) more y.is)))
+            has
 
-  read_other : (p : Place) → p.space ≡ to → p ≢ place_in w.word → new_cell changed p ≡ new_cell blocks p
-  unfolding changed block here
-  read_other p space apart = ⊎_elim
-      (λ (same : p.block ≡ (place_in w.word).block).
-      let cell : p.cell ≢ (place_in w.word).cell = λ e. apart (same_place same e) in
-      ap (λ (n : ℕ). cell_of (get_or (set blocks (place_in w.word).block (set block (place_in w.word).cell words)) n []) p.cell) same ∙
-      ap (λ (b : List (List ℕ)). cell_of b p.cell) (get_or-set_same blocks (place_in w.word).block (set block (place_in w.word).cell words) [] place.block) ∙
-      get_or-set_other block (place_in w.word).cell p.cell words [] cell ∙
-      ap (λ (n : ℕ). cell_of (get_or blocks n []) p.cell) (sym same))
-      (λ (other : p.block ≢ (place_in w.word).block).
-      ap (λ (b : List (List ℕ)). cell_of b p.cell) (get_or-set_other blocks (place_in w.word).block p.block (set block (place_in w.word).cell words) [] other))
-      (cases_eq p.block (place_in w.word).block)
+-- ---- one more root
+
+module _ (roots : List Root) (i : ℕ) (d : Root) (inside : i < length roots) (young : Place → Type 0) (noted before after : List Place)
+    (was : (p : Place) → Contains before p ↔ (Contains noted p ⊎ (Contains (take i roots) (Remembered p) × young p)))
+    (step : (p : Place) → Contains after p ↔ (Contains before p ⊎ ((get_or roots i d ≡ Remembered p) × young p))) where
+  one_more : take (i + 1) roots ≡ take i roots ++ get_or roots i d ∷ []
+  one_more = take_more roots i d inside
+
+  pub noted_root : (p : Place) → Contains after p ↔ (Contains noted p ⊎ (Contains (take (i + 1) roots) (Remembered p) × young p))
+  noted_root p = (forth, back)
     where
-      same_place : p.block ≡ (place_in w.word).block → p.cell ≡ (place_in w.word).cell → p ≡ place_in w.word
-      same_place b c =
-          let s : p.space ≡ (place_in w.word).space = space ∙ sym place.space in
-          λ i. record { space = s i; block = b i; cell = c i }
+      forth : Contains after p → Contains noted p ⊎ (Contains (take (i + 1) roots) (Remembered p) × young p)
+      forth held = ⊎_elim
+          (λ (early : Contains before p). ⊎_elim (λ n. inl n)
+          (λ root. inr (subst (λ (rs : List Root). Contains rs (Remembered p)) (sym one_more) (Contains-append_left (take i roots) (get_or roots i d ∷ []) (Remembered p) root.0), root.1)) ((was p).0 early))
+          (λ last. inr (subst (λ (rs : List Root). Contains rs (Remembered p)) (sym one_more) (subst (λ (r : Root). Contains (take i roots ++ get_or roots i d ∷ []) r) last.0 (last_held (take i roots) (get_or roots i d))), last.1))
+          ((step p).0 held)
 
-  still_copy : (v : Win) → Contains won v → HasCopy to copy changed v
-  still_copy v held =
-      let has : HasCopy to copy blocks v = All-contains (HasCopy to copy blocks) won v hold.copied held in
-      record {
-        place = record { space = has.place.space; block = omega (arith, long, has.place.block); cell = has.place.cell };
-        words = read_other (place_in v.word) has.place.space (fresh v held) ∙ has.words;
-      }
-
-  new_copy : HasCopy to copy changed w
-  new_copy = record {
-    place = record { space = place.space; block = omega (arith, long, place.block); cell = place.cell };
-    words = read_same ∙ is;
-  }
-
-  pub copies_more : HoldCopies to copy (won ++ w ∷ []) (with_cell blocks (place_in w.word) words)
-  unfolding changed
-  copies_more = record {
-    copied = All-push (HasCopy to copy changed) won w (λ k d low. still_copy (get_or won k d) (Contains-get_or won k d low)) new_copy;
-    rest = λ p at apart.
-        let old : IsPlaceIn to blocks p = record { space = at.space; block = omega (arith, long, at.block); cell = at.cell } in
-        let other : p ≢ place_in w.word = λ e. apart w (Contains-append_right won (w ∷ []) w (0, lit< tt, refl)) (sym e) in
-        read_other p at.space other ∙ hold.rest p old (λ v held. apart v (Contains-append_left won (w ∷ []) v held));
-  }
-
--- ---- one more cell of those that were won, in order
-module _ (copy : ℕ → List ℕ) (won : List Win) (order : AreInOrder 0 won) (few : length won ≤ 2 ^ 26) (i : ℕ) (d : Win) (inside : i < length won)
-    (old new : BlockList) (kept : i / 64 < length old → new ≡ old) (added : length old ≤ i / 64 → new ≡ old ++ free_block ∷ [])
-    (many : length old ≡ (i + 63) / 64) where
-  win : Win
-  win = get_or won i d
-
-  at : place_in win.word ≡ place_in_space 0 i
-  unfolding win
-  at = nth_place won order few i d inside
-
-  pub many_more : length new ≡ (i + 1 + 63) / 64
-  many_more = ⊎_elim
-      (λ (low : i / 64 < length old). let same = ap length (kept low) in omega arith)
-      (λ (past : length old ≤ i / 64). let same = ap length (added past) in let push = length_push old free_block in omega arith)
-      (cases_lt (i / 64) (length old))
-
-  pub copy_more : (place : Place) (words : List ℕ) → place ≡ place_in (get_or won i d).word → HoldCopies 0 copy (take i won) old → IsSpace new →
-      words ≡ copy (get_or won i d).cell → HoldCopies 0 copy (take (i + 1) won) (with_cell new place words)
-  unfolding win
-  copy_more place words is hold whole same =
-      let now : HoldCopies 0 copy (take i won) new = ⊎_elim
-      (λ (low : i / 64 < length old). subst (λ (bs : BlockList). HoldCopies 0 copy (take i won) bs) (sym (kept low)) hold)
-      (λ (past : length old ≤ i / 64). subst (λ (bs : BlockList). HoldCopies 0 copy (take i won) bs) (sym (added past)) (copies_grown 0 copy (take i won) old hold))
-      (cases_lt (i / 64) (length old)) in
-      let grown = many_more in
-      let block : (place_in (get_or won i d).word).block ≡ i / 64 = ap (λ (p : Place). p.block) at in
-      let cell : (place_in (get_or won i d).word).cell ≡ i % 64 = ap (λ (p : Place). p.cell) at in
-      let there : IsPlaceIn 0 new (place_in (get_or won i d).word) = record { space = ap (λ (p : Place). p.space) at; block = omega arith; cell = omega arith } in
-      let one = copies_more 0 copy (take i won) new now whole.1 (get_or won i d) words there fresh same in
-      subst (λ (ws : List Win). HoldCopies 0 copy ws (with_cell new place words)) (sym (take_more won i d inside))
-      (subst (λ (p : Place). HoldCopies 0 copy (take i won ++ get_or won i d ∷ []) (with_cell new p words)) (sym is) one)
-    where
-      fresh : (v : Win) → Contains (take i won) v → place_in v.word ≢ place_in (get_or won i d).word
-      fresh v held e =
-          let long = length-take-le i won (omega arith) in
-          let early : held.0 < i = let low = held.1 in omega arith in
-          let j : held.0 < length won = omega arith in
-          let is : get_or won held.0 v ≡ v = sym (get_or-take i won held.0 v early) ∙ held.2 in
-          let p : place_in_space 0 held.0 ≡ place_in_space 0 i =
-          sym (ap (λ (w : Win). place_in w.word) (sym is) ∙ nth_place won order few held.0 v j) ∙ e ∙ at in
-          let block : held.0 / 64 ≡ i / 64 = ap (λ (q : Place). q.block) p in
-          let cell : held.0 % 64 ≡ i % 64 = ap (λ (q : Place). q.cell) p in
-          absurd (omega arith)
+      back : Contains noted p ⊎ (Contains (take (i + 1) roots) (Remembered p) × young p) → Contains after p
+      back has = ⊎_elim
+          (λ n. (step p).1 (inl ((was p).1 (inl n))))
+          (λ root. ⊎_elim
+          (λ (early : Contains (take i roots) (Remembered p)). (step p).1 (inl ((was p).1 (inr (early, root.1)))))
+          (λ (last : get_or roots i d ≡ Remembered p). (step p).1 (inr (last, root.1)))
+          (earlier_or_last (take i roots) (get_or roots i d) (Remembered p) (subst (λ (rs : List Root). Contains rs (Remembered p)) one_more root.0)))
+          has

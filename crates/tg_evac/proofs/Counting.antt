@@ -1,77 +1,30 @@
--- No more cells are won than there are cells that are not free.
-use Rattle.std.proofs.Common.{◌≡◌, ◌≢◌, ℕ, zero, suc, ◌<◌, ◌≤◌, ◌+◌, ◌⊎◌, ◌==◌, Bool, true, false, not, cond, eqb, List, [], ◌∷◌, length, get_or, refl, ap, subst, arith, ◌∙◌, inl, inr, ⊎_elim}
-use Rattle.std.specs.List.{All, Contains, list_any, IsDistinct, count_by}
-use Rattle.std.proofs.lemmas.List.{get_or_past}
-use Rattle.std.proofs.lemmas.List.Elements.{All-nil, All-cons, All-append, All-head, All-tail, All-contains, All-from_get_or, Contains-get_or, Contains-append_right}
+-- No more cells are won than there are cells of from-space that are not free.
+use Rattle.std.proofs.Common.{◌≡◌, ◌≢◌, ℕ, zero, suc, ◌<◌, ◌≤◌, ◌+◌, ◌-◌, ◌*◌, ◌==◌, Bool, true, false, not, cond, eqb, List, [], ◌∷◌, length, get_or, refl, sym, ap, subst, arith, ◌∙◌}
+use Rattle.std.specs.List.{All, Contains, list_any, IsDistinct, count_by, flat_map}
+use Rattle.std.proofs.lemmas.List.{get_or-append_right}
+use Rattle.std.proofs.lemmas.List.Elements.{All-head, All-tail, All-contains, Contains-append_right}
 use Rattle.std.proofs.lemmas.List.Sums.{sum_by-cons}
-use Rattle.std.proofs.lemmas.Bool.{cases_lt}
-use Rattle.std.proofs.lemmas.Bool.Decides.{nat_tests, eqb_tells, Decides-eqb}
+use Rattle.std.proofs.lemmas.Bool.Decides.{nat_tests, Decides-eqb}
 use Rattle.std.proofs.lemmas.Map.Made.{length-le_from_is_member}
 use Rattle.std.proofs.lemmas.Map.Views.{Contains-from_any, list_any-from_Contains}
 use Rattle.std.specs.Cmp.{nat_eq_equiv}
-use Rattle.tg_model.specs.Walks.{begins, goes}
 use Rattle.tg_word.specs.declared.Place.{Place}
-use Rattle.tg_word.specs.Word.{place_in}
 use Rattle.tg_block.specs.Cells.{all_are_zero}
-use Rattle.tg_space.specs.Closure.{IsInClosure, IsTraced}
-use Rattle.tg_space.specs.Collection.{used_cells}
-use Rattle.tg_space.specs.Soundness.{IsPointer, NamesCell, IsRootIn}
-use Rattle.tg_space.specs.SpaceList.{SpaceList, IsSpaceList, Holds, cell_at, flat_of, cells_of}
-use Rattle.tg_space.specs.Targets.{every_space, cell_numbered, pointers_of, target_in, named_by, targets_of, root_targets_of, all_root_targets}
-use Rattle.tg_space.specs.declared.spaces.Root.{Root}
-use Rattle.tg_space.specs.declared.spaces.Root.TheVariants.{Row}
-use Rattle.tg_space.proofs.Flat.{get_or-flat_of}
-use Rattle.tg_space.proofs.Pointing.{used_object}
-use Rattle.tg_space.proofs.Tracing.{reached_from_won}
-use Rattle.tg_evac.specs.Claims.{Claimed, HavePointers, IsFull, cells_won}
+use Rattle.tg_space.specs.Collection.{moved_cells, used_cells}
+use Rattle.tg_space.specs.SpaceList.{SpaceList, BlockList, IsSpace, IsSpaceList, Holds, cell_at, flat_of, cells_of, blocks_before}
+use Rattle.tg_space.specs.Targets.{from_space}
+use Rattle.tg_space.specs.declared.spaces.Kind.{Kind}
+use Rattle.tg_space.specs.declared.spaces.Kind.TheVariants.{Full, Nursery}
+use Rattle.tg_space.proofs.Flat.{get_or-flat_of, flat_inside, length-cells_of, length-blocks, before_mono}
+use Rattle.tg_evac.specs.Claims.{Claimed, IsFull, cells_won}
 
--- the cell with a number isn't free
-abbrev pub IsUsed : SpaceList → ℕ → Type 0
-IsUsed h c = 0 < get_or (cell_numbered h c) 0 0
-
-module _ (h : SpaceList) (is : IsSpaceList h) where
-  used_at : (p : Place) → Holds h p → 0 < get_or (cell_at h p) 0 0 → IsUsed h (flat_of h p)
-  used_at p holds low = rw (get_or-flat_of h is.spaces p holds) low
-
-  used_inside : (c : ℕ) → IsUsed h c → c < length (cells_of h)
-  used_inside c used =
-      ⊎_elim (λ low. low)
-      (λ past. absurd (let e = get_or_past (cells_of h) c [] past in let z : get_or (get_or (cells_of h) c []) 0 0 ≡ 0 = ap (λ (ws : List ℕ). get_or ws 0 0) e in omega arith))
-      (cases_lt c (length (cells_of h)))
-
-  used_named : (words : List ℕ) → All (IsPointer h) words → All (IsUsed h) (named_by every_space h words)
-  used_named [] are = All-nil (IsUsed h)
-  used_named (w ∷ words) are = All-append (IsUsed h) (target_in every_space h w) (named_by every_space h words) (one (eqb_tells w 0)) (used_named words (All-tail (IsPointer h) w words are))
-    where
-      pointer : IsPointer h w
-      pointer = All-head (IsPointer h) w words are
-
-      one : ((w == 0 ≡ true) × (w ≡ 0)) ⊎ ((w == 0 ≡ false) × (w ≢ 0)) → All (IsUsed h) (target_in every_space h w)
-      one (inl z) = rw z.0 (All-nil (IsUsed h))
-      one (inr n) =
-          rw n.0
-          (All-cons (IsUsed h) (flat_of h (place_in w)) [] (⊎_elim (λ e. absurd (n.1 e)) (λ (q : NamesCell h w). used_at (place_in w) q.held q.used) pointer) (All-nil (IsUsed h)))
-
-  used_root : (root : Root) → IsRootIn h root → All (IsUsed h) (root_targets_of every_space h root)
-  used_root (Row place) object =
-      All-cons (IsUsed h) (flat_of h place) [] (used_at place object.held (used_object (cell_at h place) object.is)) (All-nil (IsUsed h))
-
-  used_roots : (roots : List Root) → All (IsRootIn h) roots → All (IsUsed h) (all_root_targets every_space h roots)
-  used_roots [] are = All-nil (IsUsed h)
-  used_roots (r ∷ roots) are =
-      All-append (IsUsed h) (root_targets_of every_space h r) (all_root_targets every_space h roots)
-      (used_root r (All-head (IsRootIn h) r roots are)) (used_roots roots (All-tail (IsRootIn h) r roots are))
-
-  module _ (pointers : HavePointers h) (roots : List Root) (are : All (IsRootIn h) roots) where
-    used_reached : (c : ℕ) → IsInClosure (all_root_targets every_space h roots) (targets_of every_space h) c → IsUsed h c
-    used_reached c (begins root) = All-contains (IsUsed h) (all_root_targets every_space h roots) c (used_roots roots are) root
-    used_reached c (goes {b = d} reached target) =
-        let inside = used_inside d (used_reached d reached) in
-        All-contains (IsUsed h) (targets_of every_space h d) c (used_named (pointers_of (cell_numbered h d)) (pointers d inside)) target
-
-    pub used_traced : (won : List ℕ) → IsTraced (all_root_targets every_space h roots) (targets_of every_space h) won → All (IsUsed h) won
-    used_traced won traced =
-        All-from_get_or (IsUsed h) won 0 (λ k low. used_reached (get_or won k 0) (reached_from_won (all_root_targets every_space h roots) (targets_of every_space h) won traced (get_or won k 0) (Contains-get_or won k 0 low)))
+-- the cell with a number is one of from-space that isn't free
+pub record IsUsed (kind : Kind) (h : SpaceList) (c : ℕ) : Type 0 where
+  pub place : Place
+  pub held : Holds h place
+  pub moved : from_space kind place.space ≡ true
+  pub at : flat_of h place ≡ c
+  pub used : 0 < get_or (cell_at h place) 0 0
 
 -- ---- the numbers of the cells that are not free
 
@@ -124,26 +77,64 @@ in_numbers n (suc k) (words ∷ rest) low used =
     by_test true there = Contains-append_right (n ∷ []) (numbers (suc n) rest) (n + suc k) there
     by_test false there = there
 
-used_is : (h : SpaceList) → count_by is_used (cells_of h) ≡ used_cells h
+used_is : (kind : Kind) (h : SpaceList) → count_by is_used (moved_cells kind h) ≡ used_cells kind h
 unfolding is_used
-used_is h = refl
+used_is kind h = refl
+
+-- ---- where the numbers of from-space begin
+
+-- how many cells stand before those of from-space
+first_moved : Kind → SpaceList → ℕ
+first_moved Full h = 0
+first_moved Nursery [] = 0
+first_moved Nursery (old ∷ rest) = 64 * length old
+
+-- a cell of from-space is one of the list, by its number behind the first
+module _ (h : SpaceList) (is : All IsSpace h) where
+  in_moved : (kind : Kind) (c : ℕ) → IsUsed kind h c → (k : ℕ) × (k < length (moved_cells kind h)) × (0 < get_or (get_or (moved_cells kind h) k []) 0 0) × (first_moved kind h + k ≡ c)
+  unfolding first_moved
+  in_moved Full c u = (
+    c,
+    (let low = flat_inside h is u.place u.held in let at = u.at in omega arith),
+    subst (λ (n : ℕ). 0 < get_or (get_or (cells_of h) n []) 0 0) u.at (rw (get_or-flat_of h is u.place u.held) u.used),
+    omega arith,
+  )
+  in_moved Nursery c u = by_list h is u
+    where
+      by_list : (g : SpaceList) → All IsSpace g → IsUsed Nursery g c → (k : ℕ) × (k < length (moved_cells Nursery g)) × (0 < get_or (get_or (moved_cells Nursery g) k []) 0 0) × (first_moved Nursery g + k ≡ c)
+      by_list [] whole v = absurd (let low = v.held.space in omega arith)
+      by_list (old ∷ rest) whole v =
+          let young : v.place.space ≢ 0 = λ z. absurd (let m : from_space Nursery 0 ≡ true = subst (λ (s : ℕ). from_space Nursery s ≡ true) z v.moved in cc) in
+          let first : blocks_before (old ∷ rest) 1 ≤ blocks_before (old ∷ rest) v.place.space = before_mono (old ∷ rest) 1 v.place.space (omega arith) in
+          let one : blocks_before (old ∷ rest) 1 ≡ length old = sum_by-cons (λ (x : BlockList). length x) old [] ∙ omega arith in
+          let behind : 64 * length old ≤ c = let at = v.at in omega arith in
+          let low = flat_inside (old ∷ rest) whole v.place v.held in
+          let split : length (cells_of (old ∷ rest)) ≡ 64 * length old + length (cells_of rest) =
+          omega (arith, length-cells_of (old ∷ rest) whole, length-cells_of rest (All-tail IsSpace old rest whole), sum_by-cons (λ (x : BlockList). length x) old rest) in
+          let shape = (All-head IsSpace old rest whole).1 in
+          let there : get_or (cells_of (old ∷ rest)) c [] ≡ get_or (cells_of rest) (c - 64 * length old) [] =
+          get_or-append_right (flat_map (λ (b : List (List ℕ)). b) old) (cells_of rest) (64 * length old) c [] (length-blocks old shape) behind in
+          let words : get_or (cells_of (old ∷ rest)) c [] ≡ cell_at (old ∷ rest) v.place = ap (λ (n : ℕ). get_or (cells_of (old ∷ rest)) n []) (sym v.at) ∙ get_or-flat_of (old ∷ rest) whole v.place v.held in (
+            c - 64 * length old,
+            (let at = v.at in omega arith),
+            subst (λ (ws : List ℕ). 0 < get_or ws 0 0) (sym words ∙ there) v.used,
+            omega arith,
+          )
 
 -- cells that differ and aren't free are no more than there are of these
-pub won_few : (h : SpaceList) → IsSpaceList h → (won : List ℕ) → IsDistinct eqb won → All (IsUsed h) won → length won ≤ used_cells h
-won_few h is won distinct used =
-    let ys = numbers 0 (cells_of h) in
+pub won_few : (kind : Kind) (h : SpaceList) → IsSpaceList h → (won : List ℕ) → IsDistinct eqb won → All (IsUsed kind h) won → length won ≤ used_cells kind h
+won_few kind h is won distinct used =
+    let ys = numbers (first_moved kind h) (moved_cells kind h) in
     let held : (q : ℕ) → list_any (eqb q) won ≡ true → list_any (eqb q) ys ≡ true = λ q any.
     let c : Contains won q = Contains-from_any {eq = eqb} (λ x y t. (Decides-eqb x y).0 t) q won any in
-    let u : IsUsed h q = All-contains (IsUsed h) won q used c in
-    let zero_add : 0 + q ≡ q = omega arith in
-    let y : Contains ys q = subst (λ x. Contains ys x) zero_add (in_numbers 0 q (cells_of h) (used_inside h is q u) u) in
+    let found = in_moved h is.spaces kind q (All-contains (IsUsed kind h) won q used c) in
+    let y : Contains ys q = subst (λ x. Contains ys x) found.3 (in_numbers (first_moved kind h) found.0 (moved_cells kind h) found.1 found.2) in
     list_any-from_Contains {eq = eqb} nat_eq_equiv q ys y in
     let le = length-le_from_is_member {eq = eqb} nat_eq_equiv won ys distinct held in
-    omega (arith, le, length_numbers 0 (cells_of h), used_is h)
+    omega (arith, le, length_numbers (first_moved kind h) (moved_cells kind h), used_is kind h)
 
 -- where all the room is won, there is no more room than cells that are not free
-pub full_few : (h : SpaceList) → IsSpaceList h → HavePointers h → (roots : List Root) → All (IsRootIn h) roots →
-    (c : Claimed) → IsTraced (all_root_targets every_space h roots) (targets_of every_space h) (cells_won c.won) → IsFull c → c.room ≤ used_cells h
-full_few h is pointers roots are c traced full =
-    let few = won_few h is (cells_won c.won) full.distinct (used_traced h is pointers roots are (cells_won c.won) traced) in
+pub full_few : (kind : Kind) (h : SpaceList) → IsSpaceList h → (c : Claimed) → All (IsUsed kind h) (cells_won c.won) → IsFull c → c.plan.room ≤ 64 * c.plan.kept + used_cells kind h
+full_few kind h is c used full =
+    let few = won_few kind h is (cells_won c.won) full.distinct used in
     omega (arith, few, full.all)

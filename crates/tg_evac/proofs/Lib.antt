@@ -1,4 +1,10 @@
 pub mod Claiming
 pub mod Counting
+pub mod Chunks
+pub mod Reasons
+pub mod Pieces
 pub mod Copying
+pub mod Adopted
 pub mod Collecting
+pub mod Sound
+pub mod Young

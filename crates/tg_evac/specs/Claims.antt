@@ -1,24 +1,62 @@
 -- What a collection claims: the cells that were won, in order, each with the word of its new place.
-use Rattle.std.specs.Prelude.{◌≡◌, ◌≢◌, ℕ, ◌^◌, ◌<◌, ◌≤◌, ◌↔◌, eqb, List, length, map, slice_index}
-use Rattle.std.specs.List.{All, Contains, IsDistinct}
-use Rattle.tg_word.specs.Word.{link_to}
-use Rattle.tg_space.specs.Closure.{AddsFrom, IsInClosure}
+use Rattle.std.specs.Prelude.{◌≡◌, ◌≢◌, ℕ, ◌+◌, ◌*◌, ◌^◌, ◌<◌, ◌≤◌, ◌↔◌, ◌⊎◌, ◌==◌, ◌||◌, Bool, true, false, if◌then◌else◌, not, eqb, List, ◌++◌, length, map, slice_index, slice_index_or}
+use Rattle.std.specs.List.{All, Contains, IsDistinct, flat_map, take_while}
+use Rattle.tg_word.specs.declared.Place.{Place}
+use Rattle.tg_word.specs.Word.{link_to, place_in}
+use Rattle.tg_space.specs.Closure.{IsInClosure}
 use Rattle.tg_space.specs.Soundness.{IsPointer}
-use Rattle.tg_space.specs.SpaceList.{SpaceList, cells_of}
-use Rattle.tg_space.specs.SpaceTable.{place_in_space}
-use Rattle.tg_space.specs.Targets.{every_space, cell_numbered, pointers_of, targets_of, all_root_targets}
+use Rattle.tg_space.specs.Rows.{chunks_from, link_at}
+use Rattle.tg_space.specs.SpaceList.{SpaceList, Holds, cell_at, cells_of, flat_of}
+use Rattle.tg_space.specs.SpaceTable.{SpaceTable, kept_blocks, place_in_space}
+use Rattle.tg_space.specs.Targets.{from_space, cell_numbered, pointers_of, targets_at, targets_of, root_targets_of, all_root_targets}
+use Rattle.tg_space.specs.declared.spaces.Kind.{Kind}
+use Rattle.tg_space.specs.declared.spaces.Kind.TheVariants.{Full, Nursery}
 use Rattle.tg_space.specs.declared.spaces.Root.{Root}
+use Rattle.tg_space.specs.declared.spaces.Root.TheVariants.{Row, Remembered}
+use Rattle.tg_evac.specs.declared.plan.Plan.{Plan}
 use Rattle.tg_evac.specs.declared.win.Win.{Win}
 
--- every reference and link of a cell is empty, or names a cell that is not free
-abbrev pub HavePointers : SpaceList → Type 0
-HavePointers h = (number : ℕ) → number < length (cells_of h) → All (IsPointer h) (pointers_of (cell_numbered h number))
+-- ---- where copies go
 
--- the forwarding word of each cell, the pairs that were won, and how many there may be
+-- the space for the copy of a cell of this space: Old where it is met straight, or is of Aged, and else Aged
+abbrev pub space_for : Bool → ℕ → ℕ
+space_for straight space = if straight || (space == 1) then 0 else 1
+
+-- whether what is met from a root goes straight to Old
+abbrev pub is_straight : Kind → Root → Bool
+is_straight Full root = true
+is_straight Nursery (Row place) = false
+is_straight Nursery (Remembered place) = true
+
+-- the copy of the cell is in Old
+abbrev pub is_in_old : Win → Bool
+is_in_old w = (place_in w.word).space == 0
+
+-- the plan of a collection of this kind
+pub record IsPlanFor (kind : Kind) (t : SpaceTable) (plan : Plan) : Type 0 where
+  pub same : plan.kind ≡ kind
+  pub kept : plan.kept ≡ kept_blocks kind t.spaces
+  pub room : plan.room ≡ 64 * t.limits.space_blocks
+
+-- every reference and link of a held cell is empty, or names a cell that is not free
+pub record HavePointers (h : SpaceList) : Type 0 where
+  pub words : (p : Place) → Holds h p → All (IsPointer h) (pointers_of (cell_at h p))
+  pub numbered : (number : ℕ) → number < length (cells_of h) → All (IsPointer h) (pointers_of (cell_numbered h number))
+  pub links : (p : Place) → Holds h p → IsPointer h (link_at h p)
+
+-- the targets of the chunks outside from-space to which a link leads, at most so many
+abbrev pub chunk_targets : (ℕ → Bool) → SpaceList → ℕ → ℕ → List ℕ
+chunk_targets from h most link = flat_map (targets_at from h) (take_while (λ q. not (from q.space)) (chunks_from h most link))
+
+-- ---- the rule
+
+-- the plan, the forwarding word of each cell, the pairs that were won, and the number of the next new cell of Old and
+-- of Aged
 pub record Claimed : Type 0 where
+  pub plan : Plan
   pub forward : List ℕ
   pub won : List Win
-  pub room : ℕ
+  pub next : List ℕ
 
 -- the cells, and the words, of pairs
 abbrev pub cells_won : List Win → List ℕ
@@ -27,47 +65,87 @@ cells_won won = map (λ w. w.cell) won
 abbrev pub words_won : List Win → List ℕ
 words_won won = map (λ w. w.word) won
 
--- as many different cells were won as there is room for
-pub record IsFull (c : Claimed) : Type 0 where
-  pub all : c.room ≤ length (cells_won c.won)
-  pub distinct : IsDistinct eqb (cells_won c.won)
-
--- ---- the rule
-
 -- the cell of the pair has the word of the pair, which isn't 0
 pub record StandsIn (forward : List ℕ) (w : Win) : Type 0 where
   pub cell : w.cell < length forward
   pub word : slice_index forward w.cell ≡ w.word
   pub some : w.word ≢ 0
 
-abbrev pub win_of : ℕ → ℕ → Win
-win_of cell word = record { cell = cell; word = word }
-
 -- the pairs are those of the cells that have a word
 pub record AreWordsOf (won : List Win) (forward : List ℕ) : Type 0 where
   pub stand : All (StandsIn forward) won
-  pub every : (c : ℕ) → c < length forward → slice_index forward c ≢ 0 → Contains won (win_of c (slice_index forward c))
+  pub every : (c : ℕ) → c < length forward → slice_index forward c ≢ 0 → (w : Win) × Contains won w × (w.cell ≡ c)
 
--- the k-th pair has the word of the k-th place of the space
-abbrev pub AreInOrder : ℕ → List Win → Type 0
-AreInOrder space won = (k : ℕ) → k < length won → slice_index (words_won won) k ≡ link_to (place_in_space space k)
+-- the word is the link to a cell of Old, behind the blocks that stay, or of Aged, that was given away
+pub record IsGiven (kept : ℕ) (next : List ℕ) (word : ℕ) : Type 0 where
+  pub space : ℕ
+  pub number : ℕ
+  pub two : space < 2
+  pub before : number < slice_index next space
+  pub behind : space ≡ 0 → 64 * kept ≤ number
+  pub is : word ≡ link_to (place_in_space space number)
+
+-- no word is given twice
+abbrev pub AreApart : List ℕ → Type 0
+AreApart words = (i j : ℕ) → i < j → j < length words → slice_index words i ≢ slice_index words j
 
 pub record AreClaims (c : Claimed) : Type 0 where
   pub words : AreWordsOf c.won c.forward
-  -- the cells are won for Old, one place after the other
-  pub order : AreInOrder 0 c.won
-  pub within : length c.won ≤ c.room
-  pub few : c.room ≤ 2 ^ 26
+  pub given : All (IsGiven c.plan.kept c.next) (words_won c.won)
+  pub apart : AreApart (words_won c.won)
+  pub two : length c.next ≡ 2
+  pub counted : 64 * c.plan.kept + length c.won ≡ slice_index c.next 0 + slice_index c.next 1
+  pub behind : 64 * c.plan.kept ≤ slice_index c.next 0
+  pub few : (space : ℕ) → slice_index c.next space ≤ 2 ^ 26
+  pub room : c.plan.room ≤ 2 ^ 26
+
+-- as many different cells were won as there is room for
+pub record IsFull (c : Claimed) : Type 0 where
+  pub all : c.plan.room ≤ 64 * c.plan.kept + length (cells_won c.won)
+  pub distinct : IsDistinct eqb (cells_won c.won)
 
 -- ---- what claiming does
 
--- more cells were claimed, each from `source`
-pub record AddsClaims (source : List ℕ) (before after : Claimed) : Type 0 where
-  pub added : AddsFrom source (cells_won before.won) (cells_won after.won)
+-- the pair is of the cell with this number, and its copy is in this space
+pub record IsWinFor (cell space : ℕ) (w : Win) : Type 0 where
+  pub number : w.cell ≡ cell
+  pub to : (place_in w.word).space ≡ space
+
+-- the pair is of one of these cells, and its copy is in the space that it has to be in
+pub record IsClaimOf (h : SpaceList) (straight : Bool) (cells : List ℕ) (w : Win) : Type 0 where
+  pub one : Contains cells w.cell
+  pub place : Place
+  pub held : Holds h place
+  pub at : flat_of h place ≡ w.cell
+  pub to : (place_in w.word).space ≡ space_for straight place.space
+
+-- the pair is of a target of a root
+pub record IsRootClaim (kind : Kind) (h : SpaceList) (roots : List Root) (w : Win) : Type 0 where
+  pub root : Root
+  pub is : Contains roots root
+  pub claim : IsClaimOf h (is_straight kind root) (root_targets_of (from_space kind) h root) w
+
+-- more pairs were won, each with this reason
+pub record AddsClaims (reason : Win → Type 0) (before after : Claimed) : Type 0 where
+  pub added : List Win
+  pub is : after.won ≡ before.won ++ added
+  pub reasons : All reason added
   pub as_long : length after.forward ≡ length before.forward
-  pub same_room : after.room ≡ before.room
+  pub same_plan : after.plan ≡ before.plan
+
+-- the pair at a number
+abbrev pub win_at : List Win → ℕ → Win
+win_at won k = slice_index_or won k (record { cell = 0; word = 0 })
+
+-- each pair is of a target of a root, or of one of the cell of an earlier pair
+abbrev pub AreTraced : Kind → SpaceList → List Root → List Win → Type 0
+AreTraced kind h roots won =
+    (k : ℕ) → k < length won →
+    IsRootClaim kind h roots (win_at won k)
+    ⊎ ((j : ℕ) × (j < k) × IsClaimOf h (is_in_old (win_at won j)) (targets_of (from_space kind) h (win_at won j).cell) (win_at won k))
 
 -- all that the roots reach was claimed, and nothing else
-pub record IsTracedFrom (h : SpaceList) (roots : List Root) (c : Claimed) : Type 0 where
+pub record IsTracedFrom (kind : Kind) (h : SpaceList) (roots : List Root) (c : Claimed) : Type 0 where
   pub whole : length c.forward ≡ length (cells_of h)
-  pub reached : (n : ℕ) → Contains (cells_won c.won) n ↔ IsInClosure (all_root_targets every_space h roots) (targets_of every_space h) n
+  pub traced : AreTraced kind h roots c.won
+  pub reached : (n : ℕ) → Contains (cells_won c.won) n ↔ IsInClosure (all_root_targets (from_space kind) h roots) (targets_of (from_space kind) h) n

@@ -1,38 +1,83 @@
--- Where the copies of won cells stand.
-use Rattle.std.specs.Prelude.{◌≡◌, ◌≢◌, ℕ, ◌<◌, List, [], length, slice_index_or, slice_set}
+-- Where the copies of won cells stand, and which of them name young cells.
+use Rattle.std.specs.Prelude.{◌≡◌, ◌≢◌, ℕ, ◌-◌, ◌<◌, ◌≤◌, ◌==◌, Bool, not, List, [], length, slice_index_or, slice_set}
 use Rattle.std.specs.List.{All, Contains}
-use Rattle.tg_block.specs.Cells.{free_cell}
+use Rattle.tg_block.specs.Cells.{IsBlock, free_block, free_cell, cell_of}
 use Rattle.tg_word.specs.declared.Place.{Place}
-use Rattle.tg_word.specs.Word.{IsPlace, place_in}
-use Rattle.tg_space.specs.Collection.{new_cell, new_place}
-use Rattle.tg_space.specs.SpaceList.{SpaceList, BlockList}
-use Rattle.tg_space.specs.Targets.{every_space, cell_numbered, image_of}
+use Rattle.tg_word.specs.Word.{IsPlace, link_to, place_in}
+use Rattle.tg_space.specs.Collection.{new_place}
+use Rattle.tg_space.specs.Generations.{NamesYoung}
+use Rattle.tg_space.specs.SpaceList.{SpaceList, BlockList, cell_at}
+use Rattle.tg_space.specs.Targets.{from_space, cell_numbered, image_of}
+use Rattle.tg_space.specs.declared.spaces.Kind.{Kind}
 use Rattle.tg_evac.specs.declared.win.Win.{Win}
 
+-- the words of the cell at a place, with its references and its link moved
+abbrev pub moved_cell : Kind → SpaceList → List ℕ → Place → List ℕ
+moved_cell kind h forward p = image_of (from_space kind) h (new_place forward) (cell_at h p)
+
 -- the copy of the cell with a number
-abbrev pub copy_in : SpaceList → List ℕ → ℕ → List ℕ
-copy_in h forward c = image_of every_space h (new_place forward) (cell_numbered h c)
+abbrev pub copy_of : Kind → SpaceList → List ℕ → ℕ → List ℕ
+copy_of kind h forward c = image_of (from_space kind) h (new_place forward) (cell_numbered h c)
 
 -- each forwarding word that isn't 0 has a place in range
 abbrev pub HavePlaces : List ℕ → Type 0
 HavePlaces forward = All (λ word. IsPlace (place_in word)) forward
 
+-- the word of the pair is the link to a place of Old, behind the blocks that stay, or of Aged
+pub record HasNewPlace (kept : ℕ) (w : Win) : Type 0 where
+  pub place : IsPlace (place_in w.word)
+  pub link : w.word ≡ link_to (place_in w.word)
+  pub two : (place_in w.word).space < 2
+  pub behind : (place_in w.word).space ≡ 0 → kept ≤ (place_in w.word).block
+
+-- ---- new blocks, which stand behind as many other ones of their space
+
 -- the place is in these blocks of the space
-pub record IsPlaceIn (to : ℕ) (blocks : BlockList) (p : Place) : Type 0 where
+pub record IsPlaceIn (to kept : ℕ) (blocks : BlockList) (p : Place) : Type 0 where
   pub space : p.space ≡ to
-  pub block : p.block < length blocks
+  pub behind : kept ≤ p.block
+  pub block : p.block - kept < length blocks
   pub cell : p.cell < 64
 
--- the copy of the pair's cell stands at the place of the pair's word
-pub record HasCopy (to : ℕ) (copy : ℕ → List ℕ) (blocks : BlockList) (w : Win) : Type 0 where
-  pub place : IsPlaceIn to blocks (place_in w.word)
-  pub words : new_cell blocks (place_in w.word) ≡ copy w.cell
-
--- the blocks of the space have the copies of these cells, and nothing else
-pub record HoldCopies (to : ℕ) (copy : ℕ → List ℕ) (won : List Win) (blocks : BlockList) : Type 0 where
-  pub copied : All (HasCopy to copy blocks) won
-  pub rest : (p : Place) → IsPlaceIn to blocks p → ((w : Win) → Contains won w → place_in w.word ≢ p) → new_cell blocks p ≡ free_cell
+-- the cell at a place in these blocks
+abbrev pub new_cell : ℕ → BlockList → Place → List ℕ
+new_cell kept blocks p = cell_of (slice_index_or blocks (p.block - kept) []) p.cell
 
 -- one cell of the blocks changed
-abbrev pub with_cell : BlockList → Place → List ℕ → BlockList
-with_cell blocks p words = slice_set blocks p.block (slice_set (slice_index_or blocks p.block []) p.cell words)
+abbrev pub with_cell : ℕ → BlockList → Place → List ℕ → BlockList
+with_cell kept blocks p words = slice_set blocks (p.block - kept) (slice_set (slice_index_or blocks (p.block - kept) []) p.cell words)
+
+-- blocks of free cells were added
+pub record IsGrown (before after : BlockList) : Type 0 where
+  pub longer : length before ≤ length after
+  pub kept : (b : ℕ) → b < length before → slice_index_or after b [] ≡ slice_index_or before b []
+  pub free : (b : ℕ) → length before ≤ b → b < length after → slice_index_or after b [] ≡ free_block
+
+-- the words were put at a place, after blocks were added up to that
+pub record PutsCell (kept : ℕ) (place : Place) (words : List ℕ) (before after : BlockList) : Type 0 where
+  pub grown : BlockList
+  pub grows : IsGrown before grown
+  pub whole : All IsBlock grown
+  pub there : place.block - kept < length grown
+  pub is : after ≡ with_cell kept grown place words
+  pub few : (most : ℕ) → length before ≤ most → place.block - kept < most → length after ≤ most
+
+-- ---- copies
+
+-- the copy of the pair's cell stands at the place of the pair's word
+pub record HasCopy (to kept : ℕ) (copy : ℕ → List ℕ) (blocks : BlockList) (w : Win) : Type 0 where
+  pub place : IsPlaceIn to kept blocks (place_in w.word)
+  pub words : new_cell kept blocks (place_in w.word) ≡ copy w.cell
+
+-- the blocks of the space have the copies of these cells that are to be there, and nothing else
+pub record HoldCopies (to kept : ℕ) (copy : ℕ → List ℕ) (won : List Win) (blocks : BlockList) : Type 0 where
+  pub copied : (w : Win) → Contains won w → (place_in w.word).space ≡ to → HasCopy to kept copy blocks w
+  pub rest : (p : Place) → IsPlaceIn to kept blocks p → ((w : Win) → Contains won w → place_in w.word ≢ p) → new_cell kept blocks p ≡ free_cell
+
+-- the place is one of Old, of a copy that names a young cell
+pub record IsYoungCopy (copy : ℕ → List ℕ) (won : List Win) (p : Place) : Type 0 where
+  pub win : Win
+  pub is : Contains won win
+  pub at : place_in win.word ≡ p
+  pub old : p.space ≡ 0
+  pub names : NamesYoung (copy win.cell)

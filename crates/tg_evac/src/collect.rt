@@ -1,14 +1,16 @@
 //! The collection: claim, then copy.
-ghost use Rattle.std.specs.Prelude.{◌≡◌, [], IfErr, IfOk};
-ghost use Rattle.tg_space.specs.Collection.{IsFullCollection, MayLackRoom, used_cells};
+ghost use Rattle.std.specs.Prelude.{◌≡◌, IfErr, IfOk};
+ghost use Rattle.tg_space.specs.Collection.{IsCollection, MayLackRoom, used_cells};
 ghost use Rattle.tg_space.specs.Soundness.{AreSound};
+ghost use Rattle.tg_space.specs.SpaceTable.{kept_blocks};
 
 use crate::claims::Claims;
-use crate::copies::copy_won;
+use crate::copies::{copy_won, note_roots};
 use crate::fault::CollectFault;
+use crate::plan::Plan;
 use std::alloc::Global;
-use tg_block::CELLS;
-use tg_space::{Adoption, Kind, Root, Space, Spaces};
+use tg_remember::Remembered;
+use tg_space::{Adoption, Kind, Root, Spaces};
 
 /// What a collection hands over.
 #[derive(Drop)]
@@ -41,26 +43,17 @@ pub fn collect_one(
     ensures collected { IfOk result (λ copied. IsCollection kind spaces.now.spaces roots.now copied.forward.items copied.adoption.aged copied.adoption.old copied.remembered.places) }
     ensures full { IfErr result (λ fault. fault ≡ CollectFault.HeapFull → MayLackRoom spaces.now.limits.space_blocks 1 (kept_blocks kind spaces.now.spaces) (used_cells kind spaces.now.spaces)) }
 {
-    match kind {
-        Kind::Full => collect_full(alloc, spaces, roots),
-    }
-}
-
-// A full collection.
-fn collect_full(alloc: Global, spaces: &Spaces, roots: &[Root]) -> Result<Copied, CollectFault>
-    requires { AreSound spaces.now.spaces roots.now }
-    ensures collected { IfOk result (λ copied. IsFullCollection spaces.now.spaces roots.now copied.forward.items copied.adoption.old) }
-    ensures none_aged { IfOk result (λ copied. copied.adoption.aged ≡ []) }
-    ensures full { IfErr result (λ fault. fault ≡ CollectFault.HeapFull → MayLackRoom spaces.now.limits.space_blocks 1 0 (used_cells spaces.now.spaces)) }
-{
-    let room = CELLS * spaces.limits().space_blocks() as usize;
-    let mut claims = Claims::new(alloc, spaces.cells() as usize, room)?;
+    let cells = spaces.cells() as usize;
+    let plan = Plan::of(kind, spaces);
+    let mut claims = Claims::new(alloc, cells, plan)?;
     claims.trace(spaces, roots)?;
     let Claims { forward, won, .. } = claims;
-    let old = copy_won(alloc, spaces, &forward, &won)?;
-    let aged = Space::new(alloc);
+    let mut remembered = Remembered::new(alloc);
+    note_roots(&mut remembered, spaces, kind, &forward, roots)?;
+    let adoption = copy_won(alloc, spaces, plan, &forward, &won, &mut remembered)?;
     Ok(Copied {
         forward,
-        adoption: Adoption { aged, old },
+        adoption,
+        remembered,
     })
 }

@@ -1,101 +1,183 @@
 //! The copy phase: images of the won cells in new blocks, with the forwarding words frozen.
-ghost use Rattle.std.specs.Prelude.{◌≡◌, ◌<◌, ◌≤◌, ◌^◌, [], ◌∷◌, ◌++◌, length, map, IfErr, IfOk, OnOk};
-ghost use Rattle.std.specs.List.{All};
-ghost use Rattle.tg_block.specs.Cells.{free_block};
-ghost use Rattle.tg_space.specs.Collection.{new_place};
-ghost use Rattle.tg_space.specs.Soundness.{IsPointer};
+ghost use Rattle.std.specs.Prelude.{◌≡◌, ℕ, ◌<◌, ◌≤◌, ◌^◌, ◌+◌, ◌↔◌, ◌⊎◌, length, IfOk, IsTrue, OnOk};
+ghost use Rattle.std.specs.List.{All, Contains};
+ghost use Rattle.tg_word.specs.declared.Place.{Place as PlaceOf};
+ghost use Rattle.tg_space.specs.Generations.{NamesYoung};
+ghost use Rattle.tg_space.specs.Soundness.{IsRootIn};
 ghost use Rattle.tg_space.specs.SpaceList.{IsSpace, cells_of};
-ghost use Rattle.tg_space.specs.Targets.{every_space, moved_word as word_moved};
-ghost use Rattle.tg_evac.specs.Claims.{AreInOrder, HavePointers, StandsIn};
-ghost use Rattle.tg_evac.specs.Copies.{HavePlaces, HoldCopies, copy_in};
+ghost use Rattle.tg_space.specs.declared.spaces.Root.TheVariants.{Remembered as RememberedAt};
+ghost use Rattle.tg_evac.specs.Claims.{AreApart, HavePointers, StandsIn, words_won};
+ghost use Rattle.tg_evac.specs.Copies.{HasNewPlace, HavePlaces, HoldCopies, IsGrown, IsYoungCopy, PutsCell, copy_of, moved_cell};
 
 use crate::fault::CollectFault;
+use crate::plan::{OLD, Plan};
 use crate::win::Win;
 use std::alloc::{AllocError, Global};
 use tg_block::WORDS;
-use tg_space::{Space, Spaces, first_pointer};
-use tg_word::{Slot, pack, place_of, rights_of};
+use tg_remember::Remembered;
+use tg_space::{Adoption, Kind, Root, Space, Spaces, first_pointer};
+use tg_word::{Place, place_of};
 
-/// The copies of the won cells, each at its place, in new blocks.
+/// Notes the remembered cells that will name young ones, in order.
+pub fn note_roots(
+    remembered: &mut Remembered,
+    spaces: &Spaces,
+    kind: Kind,
+    forward: &[u64],
+    roots: &[Root],
+) -> Result<(), AllocError>
+    requires pointers { HavePointers spaces.now.spaces }
+    requires roots { All (IsRootIn spaces.now.spaces) roots.now }
+    requires whole { length forward.now ≡ length (cells_of spaces.now.spaces) }
+    requires places { HavePlaces forward.now }
+    ensures { OnOk result ((p : PlaceOf) → Contains remembered.new.places p ↔ (Contains remembered.old.places p ⊎ (Contains roots.now (RememberedAt p) × NamesYoung (moved_cell kind spaces.now.spaces forward.now p)))) }
+{
+    for root in roots {
+        note_root(remembered, spaces, kind, forward, *root)?;
+    }
+    Ok(())
+}
+
+// Notes the cell of a root, where it is remembered and will name a young one.
+fn note_root(
+    remembered: &mut Remembered,
+    spaces: &Spaces,
+    kind: Kind,
+    forward: &[u64],
+    root: Root,
+) -> Result<(), AllocError>
+    requires pointers { HavePointers spaces.now.spaces }
+    requires root { IsRootIn spaces.now.spaces root }
+    requires whole { length forward.now ≡ length (cells_of spaces.now.spaces) }
+    requires places { HavePlaces forward.now }
+    ensures { OnOk result ((p : PlaceOf) → Contains remembered.new.places p ↔ (Contains remembered.old.places p ⊎ ((root ≡ RememberedAt p) × NamesYoung (moved_cell kind spaces.now.spaces forward.now p)))) }
+{
+    match root {
+        Root::Row(_) => Ok(()),
+        Root::Remembered(place) => {
+            let words = spaces.image(kind, forward, *spaces.words(place));
+            note_young(remembered, place, &words)
+        }
+    }
+}
+
+/// The copies of the won cells, each at its place, in new blocks. Those in Old that name young cells are noted, in order.
 pub fn copy_won(
     alloc: Global,
     spaces: &Spaces,
+    plan: Plan,
     forward: &[u64],
     won: &[Win],
-) -> Result<Space, CollectFault>
+    remembered: &mut Remembered,
+) -> Result<Adoption, AllocError>
     requires pointers { HavePointers spaces.now.spaces }
     requires whole { length forward.now ≡ length (cells_of spaces.now.spaces) }
     requires places { HavePlaces forward.now }
     requires stand { All (StandsIn forward.now) won.now }
-    requires order { AreInOrder 0 won.now }
-    requires few { length won.now ≤ 2 ^ 26 }
-    ensures copies { IfOk result (HoldCopies 0 (copy_in spaces.now.spaces forward.now) won.now) }
-    ensures refused { IfErr result (λ fault. fault ≡ CollectFault.OutOfMemory) }
+    requires new { All (HasNewPlace plan.kept) won.now }
+    requires apart { AreApart (words_won won.now) }
+    requires few { plan.kept ≤ 2 ^ 20 }
+    ensures aged { IfOk result (λ adoption. HoldCopies 1 0 (copy_of plan.kind spaces.now.spaces forward.now) won.now adoption.aged) }
+    ensures old { IfOk result (λ adoption. HoldCopies 0 plan.kept (copy_of plan.kind spaces.now.spaces forward.now) won.now adoption.old) }
+    ensures few { IfOk result (λ adoption. plan.kept + length adoption.old ≤ 2 ^ 20) }
+    ensures noted { OnOk result ((p : PlaceOf) → Contains remembered.new.places p ↔ (Contains remembered.old.places p ⊎ IsYoungCopy (copy_of plan.kind spaces.now.spaces forward.now) won.now p)) }
 {
-    let mut old = Space::new(alloc);
+    let mut adoption = Adoption {
+        aged: Space::new(alloc),
+        old: Space::new(alloc),
+    };
     for win in won {
+        let words = spaces.image(plan.kind, forward, *spaces.numbered_words(win.cell));
         let place = place_of(win.word);
-        reach(alloc, &mut old, place.block)?;
-        old.set_cell(place.block, place.cell, copy_of(spaces, forward, win.cell));
+        put_copy(alloc, &mut adoption, plan.kept, place, words)?;
+        note_young(remembered, place, &words)?;
     }
-    Ok(old)
+    Ok(adoption)
 }
 
-// Adds a block where the one with a number is the next; one before it is there already.
-fn reach(alloc: Global, space: &mut Space, block: u64) -> Result<(), AllocError>
-    requires next { block ≤ length space.old }
-    requires few { block < 2 ^ 20 }
-    ensures kept { OnOk result (block < length space.old → space.new ≡ space.old) }
-    ensures added { OnOk result (length space.old ≤ block → space.new ≡ space.old ++ free_block ∷ []) }
-    ensures there { OnOk result (block < length space.new) }
-    ensures whole { OnOk result (IsSpace space.new) }
+// Puts the words of a copy at a place of Old, behind the blocks that stay, or of Aged.
+fn put_copy(
+    alloc: Global,
+    adoption: &mut Adoption,
+    kept: u64,
+    place: Place,
+    words: [u64; WORDS],
+) -> Result<(), AllocError>
+    requires two { place.space < 2 }
+    requires behind { place.space ≡ 0 → kept ≤ place.block }
+    requires block { place.block < 2 ^ 20 }
+    requires cell { place.cell < 64 }
+    ensures aged { OnOk result (place.space ≡ 1 → PutsCell 0 place words adoption.entry.now.aged adoption.exit.now.aged) }
+    ensures aged_kept { OnOk result (place.space ≡ 0 → adoption.exit.now.aged ≡ adoption.entry.now.aged) }
+    ensures old { OnOk result (place.space ≡ 0 → PutsCell kept place words adoption.entry.now.old adoption.exit.now.old) }
+    ensures old_kept { OnOk result (place.space ≡ 1 → adoption.exit.now.old ≡ adoption.entry.now.old) }
 {
-    if block < space.len() {
-        return Ok(());
-    }
-    space.add_block(alloc)
-}
-
-// The copy of the cell with a number.
-fn copy_of(spaces: &Spaces, forward: &[u64], number: u64) -> [u64; WORDS]
-    requires pointers { HavePointers spaces.now.spaces }
-    requires inside { number < length (cells_of spaces.now.spaces) }
-    requires whole { length forward.now ≡ length (cells_of spaces.now.spaces) }
-    requires places { HavePlaces forward.now }
-    ensures { result ≡ copy_in spaces.now.spaces forward.now number }
-{
-    let mut words = spaces.numbered_cell(number);
-    let first = first_pointer(words[0]);
-    move_words(spaces, forward, &mut words[first..]);
-    words
-}
-
-// Moves each word.
-fn move_words(spaces: &Spaces, forward: &[u64], words: &mut [u64])
-    requires pointers { All (IsPointer spaces.now.spaces) words.old }
-    requires whole { length forward.now ≡ length (cells_of spaces.now.spaces) }
-    requires places { HavePlaces forward.now }
-    ensures { words.new ≡ map (word_moved every_space spaces.now.spaces (new_place forward.now)) words.old }
-{
-    for word in words.iter_mut() {
-        *word = moved_word(spaces, forward, *word);
+    if place.space == OLD {
+        put(alloc, &mut adoption.old, kept, place, words)
+    } else {
+        put(alloc, &mut adoption.aged, 0, place, words)
     }
 }
 
-// The word with the new place of the cell that it names.
+// Puts the words of a cell at a place in new blocks, which stand behind as many other ones.
 #[inline]
-fn moved_word(spaces: &Spaces, forward: &[u64], word: u64) -> u64
-    requires pointer { IsPointer spaces.now.spaces word }
-    requires whole { length forward.now ≡ length (cells_of spaces.now.spaces) }
-    requires places { HavePlaces forward.now }
-    ensures { result ≡ word_moved every_space spaces.now.spaces (new_place forward.now) word }
+fn put(
+    alloc: Global,
+    blocks: &mut Space,
+    kept: u64,
+    place: Place,
+    words: [u64; WORDS],
+) -> Result<(), AllocError>
+    requires behind { kept ≤ place.block }
+    requires block { place.block < 2 ^ 20 }
+    requires cell { place.cell < 64 }
+    ensures { OnOk result (PutsCell kept place words blocks.old blocks.new) }
 {
-    if word == 0 {
-        return 0;
+    let block = place.block - kept;
+    reach(alloc, blocks, block)?;
+    blocks.set_cell(block, place.cell, words);
+    Ok(())
+}
+
+// Adds blocks until there is one with a number.
+fn reach(alloc: Global, blocks: &mut Space, block: u64) -> Result<(), AllocError>
+    requires { block < 2 ^ 20 }
+    ensures grown { OnOk result (IsGrown blocks.old blocks.new) }
+    ensures there { OnOk result (block < length blocks.new) }
+    ensures few { OnOk result ((most : ℕ) → length blocks.old ≤ most → block < most → length blocks.new ≤ most) }
+    ensures whole { OnOk result (IsSpace blocks.new) }
+{
+    while blocks.len() <= block {
+        blocks.add_block(alloc)?;
     }
-    let target = spaces.flat(place_of(word)) as usize;
-    pack(Slot::To {
-        rights: rights_of(word),
-        place: place_of(forward[target]),
-    })
+    Ok(())
+}
+
+// Notes a place of Old, where the words of its cell name a young one.
+fn note_young(
+    remembered: &mut Remembered,
+    place: Place,
+    words: &[u64; WORDS],
+) -> Result<(), AllocError>
+    ensures { OnOk result ((p : PlaceOf) → Contains remembered.new.places p ↔ (Contains remembered.old.places p ⊎ ((p ≡ place) × (place.space ≡ 0) × NamesYoung words.now))) }
+{
+    if place.space == OLD && names_young(words) {
+        remembered.reserve()?;
+        remembered.note(place);
+    }
+    Ok(())
+}
+
+// Whether a reference or link among the words of a cell names a cell of Aged or of a nursery.
+#[inline]
+fn names_young(words: &[u64; WORDS]) -> bool
+    ensures { IsTrue result ↔ NamesYoung words.now }
+{
+    let first = first_pointer(words[0]);
+    for i in 1..WORDS {
+        if first <= i && place_of(words[i]).space != OLD {
+            return true;
+        }
+    }
+    false
 }

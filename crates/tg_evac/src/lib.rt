@@ -44,6 +44,7 @@ mod claims;
 mod collect;
 mod copies;
 mod fault;
+mod plan;
 #[cfg(test)]
 mod tests;
 mod win;

@@ -1,10 +1,10 @@
-//! Random heaps through a collection, beside a plain search for what the roots reach.
+//! Random heaps through collections of both kinds, beside a plain search for what the roots reach.
 ghost use Rattle.std.specs.Prelude.{◌<◌};
 ghost use Rattle.tg_word.specs.Word.{IsPlace};
 
 mod sound;
 
-use crate::{Copied, collect_one};
+use crate::{CollectFault, Copied, collect_one};
 use sound::are_sound;
 use std::alloc::Global;
 use std::process::Abort;
@@ -14,10 +14,12 @@ use tg_rights::{Right, Rights};
 use tg_space::{Kind, Limits, Root, Spaces, first_pointer};
 use tg_word::{Place, Slot, pack, place_of};
 
-// The cells of a heap with one block of Old and one of Aged.
-const CELLS: usize = 128;
+// The cells of a heap with one block of Old, one of Aged and one of a nursery.
+const CELLS: usize = 192;
 
 type Cells = [[u64; WORDS]; CELLS];
+
+type Marks = [bool; CELLS];
 
 // The next number of a sequence that looks random.
 fn draw(seed: &mut u64) -> usize {
@@ -32,7 +34,7 @@ fn place_at(number: usize) -> Place
     ensures { IsPlace result }
 {
     Place {
-        space: number as u64 / 64 % 2,
+        space: number as u64 / 64 % 3,
         block: 0,
         cell: number as u64 % 64,
     }
@@ -40,10 +42,10 @@ fn place_at(number: usize) -> Place
 
 // The number of the cell that a word names.
 fn number_in(word: u64) -> usize
-    ensures { result < 128 }
+    ensures { result < 192 }
 {
     let place = place_of(word);
-    (place.space % 2 * 64 + place.cell % 64) as usize
+    (place.space % 3 * 64 + place.cell % 64) as usize
 }
 
 // Cells of each kind, with references and links as they may be.
@@ -65,11 +67,11 @@ fn random_cells(seed: &mut u64) -> Cells {
     cells
 }
 
-// Gives a cell references to random objects.
+// Gives a cell a reference to a random object.
 fn refer(cells: &mut Cells, from: usize, seed: &mut u64) {
     for i in first_pointer(cells[from % CELLS][0])..7 {
         let target = draw(seed) % CELLS;
-        if cells[target][0] == OBJECT_TAG {
+        if draw(seed) % 4 == 0 && cells[target][0] == OBJECT_TAG {
             cells[from % CELLS][i] = pack(Slot::To {
                 rights: Rights::of(Right::W),
                 place: place_at(target),
@@ -93,42 +95,66 @@ fn link_to(cells: &mut Cells, chunk: usize, seed: &mut u64) {
 fn heap_of(alloc: Global, cells: &Cells) -> Result<Spaces, Fail> {
     let limits = Limits::new(8, 8)?;
     let mut spaces = Spaces::new(alloc, 1, limits)?;
-    for space in 0..2 {
+    for space in 0..3 {
         if space < spaces.nurseries() + 2 {
             spaces.add_block(space)?;
         }
     }
-    for (number, cell) in cells.iter().enumerate() {
-        let place = place_at(number);
-        for (i, word) in cell.iter().enumerate() {
-            if place.space < 2 && i < WORDS && spaces.holds(place) {
-                spaces.write(place, i, *word);
-            }
+    for _ in 0..64 {
+        if spaces.nurseries() == 1 && spaces.used(2) < 64 * spaces.len(2) {
+            spaces.hand_out(2);
         }
+    }
+    for (number, cell) in cells.iter().enumerate() {
+        write_cell(&mut spaces, place_at(number), cell);
     }
     Ok(spaces)
 }
 
-// The cells that are reached from these.
-fn reached_from(cells: &Cells, starts: [usize; 2]) -> [bool; CELLS] {
-    let mut reached = [false; CELLS];
-    reached[starts[0] % CELLS] = true;
-    reached[starts[1] % CELLS] = true;
-    for _ in 0..CELLS {
-        for i in 0..CELLS {
-            if reached[i] {
-                reach_on(&cells[i], &mut reached);
-            }
-        }
+// Writes a cell, where it may be.
+fn write_cell(spaces: &mut Spaces, place: Place, cell: &[u64; WORDS]) {
+    if spaces.holds(place) && 64 * place.block + place.cell < spaces.used(place.space).max(64) {
+        spaces.write_cell(place, *cell);
     }
-    reached
 }
 
-// Marks what a cell names.
-fn reach_on(cell: &[u64; WORDS], reached: &mut [bool; CELLS]) {
+// Whether a collection moves the cell with a number.
+fn moves(kind: Kind, number: usize) -> bool {
+    kind.moves(number as u64 / 64)
+}
+
+// Marks the cells that one names and that are moved.
+fn mark_targets(cell: &[u64; WORDS], kind: Kind, marks: &mut Marks) {
     for i in first_pointer(cell[0])..WORDS {
-        if cell[i] != 0 {
-            reached[number_in(cell[i])] = true;
+        if cell[i] != 0 && moves(kind, number_in(cell[i])) {
+            marks[number_in(cell[i])] = true;
+        }
+    }
+}
+
+// Marks what a row has to keep.
+fn mark_row(cells: &Cells, kind: Kind, object: usize, marks: &mut Marks) {
+    let mut at = object % CELLS;
+    for _ in 0..CELLS {
+        if moves(kind, at) {
+            marks[at] = true;
+            return;
+        }
+        mark_targets(&cells[at], kind, marks);
+        if cells[at][7] == 0 {
+            return;
+        }
+        at = number_in(cells[at][7]);
+    }
+}
+
+// Marks what marked cells name, as far as these cells lead.
+fn spread(cells: &Cells, kind: Kind, through: &Marks, marks: &mut Marks) {
+    for _ in 0..CELLS {
+        for i in 0..CELLS {
+            if marks[i] && through[i] {
+                mark_targets(&cells[i], kind, marks);
+            }
         }
     }
 }
@@ -142,60 +168,132 @@ fn some_object(cells: &Cells, seed: &mut u64) -> usize {
         .unwrap_or(0)
 }
 
-// The copy of a cell: each word is as it was, or moved with the same rights.
-fn check_copy(rt: &impl Abort, cell: &[u64; WORDS], copied: &Copied, word: u64) {
-    let place = place_of(word);
-    assert_eq!(rt; place.space, 0);
-    assert!(rt; place.block < copied.adoption.old.len());
-    assert!(rt; place.cell < 64);
-    let copy = copied.adoption.old.cell(place.block, place.cell);
-    for i in 0..WORDS {
-        if i < first_pointer(cell[0]) || cell[i] == 0 {
-            assert_eq!(rt; copy[i], cell[i]);
-        } else {
-            let moved = copied.forward.get(number_in(cell[i])).copied();
-            assert_eq!(rt; copy[i], moved.unwrap_or(0).wrapping_add(cell[i] % 16));
-        }
-    }
-}
-
-// Exactly the reached cells were copied.
-fn check(rt: &impl Abort, cells: &Cells, starts: [usize; 2], copied: &Copied) {
-    let reached = reached_from(cells, starts);
-    assert_eq!(rt; copied.forward.len(), CELLS);
-    let mut count: u64 = 0;
-    for i in 0..CELLS {
-        let word = copied.forward[i];
-        assert_eq!(rt; word != 0, reached[i]);
-        if word != 0 {
-            count = count.wrapping_add(1);
-            check_copy(rt, &cells[i], copied, word);
-        }
-    }
-    assert_eq!(rt; copied.adoption.old.len(), count.wrapping_add(63) / 64);
-    assert_eq!(rt; copied.adoption.aged.len(), 0);
-}
-
-// One heap, collected from two objects.
-fn collect_random(rt: &impl Abort, alloc: Global, seed: &mut u64) -> Result<(), Fail> {
-    let cells = random_cells(seed);
-    let starts = [some_object(&cells, seed), some_object(&cells, seed)];
-    let spaces = heap_of(alloc, &cells)?;
-    let roots = [
-        Root::Row(place_at(starts[0])),
-        Root::Row(place_at(starts[1])),
-    ];
-    assert!(rt; are_sound(&spaces, &roots));
-    let copied = collect_one(alloc, &spaces, &roots, Kind::Full)?;
-    check(rt, &cells, starts, &copied);
-    Ok(())
-}
-
 #[test]
 fn random_heaps_keep_what_is_reached(rt: HostRuntime) -> Result<(), Fail> {
     let mut seed = 1;
     for _ in 0..50 {
-        collect_random(&rt, rt.alloc(), &mut seed)?;
+        collect_random(&rt, rt.alloc(), &mut seed, Kind::Full)?;
+        collect_random(&rt, rt.alloc(), &mut seed, Kind::Nursery)?;
     }
     Ok(())
+}
+
+// One heap, collected from two rows, and from the cells of Old that name young ones.
+fn collect_random(rt: &impl Abort, alloc: Global, seed: &mut u64, kind: Kind) -> Result<(), Fail> {
+    let cells = random_cells(seed);
+    let mut rows = [false; CELLS];
+    let mut noted = [false; CELLS];
+    let mut roots = Vec::new(alloc);
+    for _ in 0..2 {
+        let object = some_object(&cells, seed);
+        mark_row(&cells, kind, object, &mut rows);
+        roots.push(Root::Row(place_at(object)))?;
+    }
+    for i in 0..64 {
+        if kind == Kind::Nursery && names_young(&cells[i]) {
+            mark_targets(&cells[i], kind, &mut noted);
+            roots.push(Root::Remembered(place_at(i)))?;
+        }
+    }
+    let spaces = heap_of(alloc, &cells)?;
+    assert!(rt; are_sound(&spaces, &roots));
+    let copied = collect_one(alloc, &spaces, &roots, kind)?;
+    check(rt, &cells, kind, &rows, &noted, &copied);
+    Ok(())
+}
+
+// Whether words name a cell outside Old.
+fn names_young(cell: &[u64; WORDS]) -> bool {
+    (first_pointer(cell[0])..WORDS).any(|i| i < WORDS && place_of(cell[i]).space != 0)
+}
+
+// The cells that were copied to a space.
+fn copied_to(copied: &Copied, space: u64) -> Marks {
+    let mut marks = [false; CELLS];
+    for (i, word) in copied.forward.iter().enumerate() {
+        if i < CELLS {
+            marks[i] = *word != 0 && place_of(*word).space == space;
+        }
+    }
+    marks
+}
+
+fn check(rt: &impl Abort, cells: &Cells, kind: Kind, rows: &Marks, noted: &Marks, copied: &Copied) {
+    assert_eq!(rt; copied.forward.len(), CELLS);
+    let mut reached = [false; CELLS];
+    let mut aged = *rows;
+    let mut old = *noted;
+    for i in 0..CELLS {
+        reached[i] = rows[i] || noted[i];
+        old[i] = old[i] || i / 64 == 1 || kind == Kind::Full;
+    }
+    spread(cells, kind, &[true; CELLS], &mut reached);
+    let to_aged = copied_to(copied, 1);
+    let to_old = copied_to(copied, 0);
+    spread(cells, kind, &to_aged, &mut aged);
+    spread(cells, kind, &to_old, &mut old);
+    let mut count: u64 = 0;
+    let mut in_aged: u64 = 0;
+    for i in 0..CELLS {
+        assert_eq!(rt; to_aged[i] || to_old[i], reached[i]);
+        assert!(rt; !to_aged[i] || (aged[i] && i / 64 == 2 && kind == Kind::Nursery));
+        assert!(rt; !to_old[i] || old[i]);
+        if to_old[i] {
+            count = count.wrapping_add(1);
+        }
+        if to_aged[i] {
+            in_aged = in_aged.wrapping_add(1);
+        }
+    }
+    assert_eq!(rt; copied.adoption.old.len(), count.wrapping_add(63) / 64);
+    assert_eq!(rt; copied.adoption.aged.len(), in_aged.wrapping_add(63) / 64);
+    check_cells(rt, cells, kind, copied);
+}
+
+// The words that a cell has to have.
+fn moved(cell: &[u64; WORDS], kind: Kind, copied: &Copied) -> [u64; WORDS] {
+    let mut words = *cell;
+    for i in first_pointer(cell[0])..WORDS {
+        if cell[i] != 0 && moves(kind, number_in(cell[i])) {
+            let word = copied.forward.get(number_in(cell[i])).copied();
+            words[i] = word.unwrap_or(0).wrapping_add(cell[i] % 16);
+        }
+    }
+    words
+}
+
+fn check_cells(rt: &impl Abort, cells: &Cells, kind: Kind, copied: &Copied) {
+    let mut notes: usize = 0;
+    let kept = if kind == Kind::Full { 0 } else { 1 };
+    for i in 0..CELLS {
+        let words = moved(&cells[i], kind, copied);
+        let word = copied.forward.get(i).copied().unwrap_or(0);
+        let place = place_of(word);
+        if word != 0 {
+            let blocks = if place.space == 0 {
+                &copied.adoption.old
+            } else {
+                &copied.adoption.aged
+            };
+            let block = if place.space == 0 {
+                place.block.wrapping_sub(kept)
+            } else {
+                place.block
+            };
+            assert!(rt; block < blocks.len() && place.cell < 64);
+            assert_eq!(rt; blocks.cell(block, place.cell), words);
+            if place.space == 0 {
+                assert_eq!(rt; copied.remembered.contains(place), names_young(&words));
+                notes = notes.wrapping_add(names_young(&words) as usize);
+            }
+        }
+        if kind == Kind::Nursery && i < 64 && names_young(&cells[i]) {
+            assert_eq!(rt;
+                copied.remembered.contains(place_at(i)),
+                names_young(&words)
+            );
+            notes = notes.wrapping_add(names_young(&words) as usize);
+        }
+    }
+    assert_eq!(rt; copied.remembered.len(), notes);
 }

@@ -1,12 +1,12 @@
 -- The spaces once new blocks were adopted: what stays, and what is new.
-use Rattle.std.proofs.Common.{◌≡◌, ◌≢◌, ℕ, zero, suc, ◌<◌, ◌≤◌, ◌+◌, ◌-◌, ◌⊎◌, ◌==◌, ◌++◌, not, Bool, true, false, List, [], ◌∷◌, length, get_or, replicate, refl, sym, ap, subst, arith, ◌∙◌, inl, inr, ⊎_elim}
+use Rattle.std.proofs.Common.{◌≡◌, ◌≢◌, ℕ, zero, suc, ◌<◌, ◌≤◌, ◌-◌, ◌⊎◌, ◌==◌, ◌++◌, not, true, false, List, [], length, get_or, replicate, refl, sym, ap, subst, arith, ◌∙◌, inl, inr, ⊎_elim}
 use Rattle.std.proofs.lemmas.Bool.{cases_eq, cases_lt}
 use Rattle.std.proofs.lemmas.Bool.Decides.{eqb_tells}
 use Rattle.std.proofs.lemmas.List.{get_or_append_left, get_or-replicate, get_or_past, length-append, length-replicate}
 use Rattle.tg_word.specs.declared.Place.{Place}
 use Rattle.tg_block.specs.Cells.{cell_of}
 use Rattle.tg_space.specs.SpaceList.{SpaceList, BlockList, Holds, space_of, cell_at}
-use Rattle.tg_space.specs.SpaceTable.{adopted, kept_blocks}
+use Rattle.tg_space.specs.SpaceTable.{adopted}
 use Rattle.tg_space.specs.Targets.{from_space}
 use Rattle.tg_space.specs.Collection.{IsNewPlace}
 use Rattle.tg_space.specs.declared.spaces.Kind.{Kind}

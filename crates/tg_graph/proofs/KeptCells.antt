@@ -11,7 +11,7 @@ use Rattle.tg_word.proofs.Packing.{place_in-word_at, rights_in-word_at, is_prese
 use Rattle.tg_block.specs.Cells.{kind_of, free_cell}
 use Rattle.tg_block.specs.declared.CellKind.{CellKind}
 use Rattle.tg_block.specs.declared.CellKind.TheVariants.{Object, Chunk, Bad}
-use Rattle.tg_space.specs.SpaceList.{SpaceList, IsSpace, IsSpaceList, Holds, cell_at, flat_of}
+use Rattle.tg_space.specs.SpaceList.{SpaceList, IsSpace, IsSpaceList, Holds, cell_at}
 use Rattle.tg_space.specs.Targets.{first_pointer, pointers_of, moved_word, image_of}
 use Rattle.tg_space.specs.Soundness.{AreSound, HasLayout, HasLayoutOf, IsKindAt, IsReference, RefersTo, IsLink, LinksTo, IsPointer, NamesCell}
 use Rattle.tg_space.specs.Rows.{link_of, link_at}

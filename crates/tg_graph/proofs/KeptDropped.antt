@@ -1,6 +1,9 @@
 -- The payloads that a collection drops.
-use Rattle.std.proofs.Common.{◌≡◌, ◌≢◌, ◌↔◌, ℕ, ◌<◌, ◌≤◌, ◌+◌, ◌*◌, ◌⊎◌, true, List, length, get_or, Option, None, IsSome, refl, sym, ap, subst, arith, ◌∙◌, inl, inr, ⊎_elim}
+use Rattle.std.proofs.Common.{◌≡◌, ◌≢◌, ◌↔◌, ℕ, ◌<◌, ◌≤◌, ◌+◌, ◌*◌, ◌⊎◌, ◌++◌, true, List, [], ◌∷◌, length, get_or, Option, None, IsSome, refl, sym, ap, subst, arith, ◌∙◌, inl, inr, ⊎_elim}
+use Rattle.std.specs.List.{AllPairs, Contains}
 use Rattle.std.proofs.lemmas.Bool.{cases_eq}
+use Rattle.std.proofs.lemmas.List.Elements.{Contains-append_left, Contains-get_or, Contains-push, Contains-push_cases}
+use Rattle.std.proofs.lemmas.List.Quantifiers.{all_pairs_push}
 use Rattle.tg_model.specs.declared.value.Value.{Value}
 use Rattle.tg_word.specs.declared.Place.{Place}
 use Rattle.tg_block.specs.declared.CellKind.TheVariants.{Object}
@@ -14,9 +17,10 @@ use Rattle.tg_payload.specs.Table.{Payloads, Updates, entry}
 use Rattle.tg_graph.specs.Rows.{key_at}
 use Rattle.tg_graph.specs.Heap.{IsGraph}
 use Rattle.tg_graph.specs.Kept.{Drops, HaveKeysApart, IsDeadAt, IsDeadKey, IsKept, KeepsPayloads}
+use Rattle.tg_graph.proofs.Members.{Contains-none}
 use Rattle.tg_graph.proofs.Places.{place_numbered}
 use Rattle.tg_graph.proofs.Layouts.{object_tagged}
-use Rattle.tg_graph.proofs.KeptAdopted.{old_stays, young_moves}
+use Rattle.tg_graph.proofs.KeptAdopted.{young_moves}
 
 -- ---- steps
 
@@ -62,6 +66,11 @@ pub record IsDeadBelow (h : SpaceList) (forward : List ℕ) (first n key : ℕ) 
   pub from_first : first ≤ number
   pub below : number < n
   pub dead : IsDeadAt h forward number key
+
+-- the keys of the dead cells with numbers from first on, below n, each once
+pub record AreKeysBelow (h : SpaceList) (forward : List ℕ) (first n : ℕ) (keys : List ℕ) : Type 0 where
+  pub dead : (key : ℕ) → Contains keys key ↔ IsDeadBelow h forward first n key
+  pub once : AllPairs (λ a b. a ≢ b) keys
 
 module _ (h : SpaceList) (whole : IsSpaceList h) (forward : List ℕ) where
   pub none_below : (first key : ℕ) → IsDeadBelow h forward first first key → ⊥
@@ -144,6 +153,65 @@ module _ (h : SpaceList) (whole : IsSpaceList h) (forward : List ℕ) where
       dead = is.dead;
     },
   )
+
+  -- ---- keys, number by number
+
+  -- two keys of one number are one
+  dead_same : (n a b : ℕ) → IsDeadAt h forward n a → IsDeadAt h forward n b → a ≡ b
+  dead_same n a b one two =
+      let same = same_place h whole.spaces one.place two.place one.object.held two.object.held (one.at ∙ sym two.at) in
+      sym one.key_is ∙ ap (key_at h) same ∙ two.key_is
+
+  pub dead_other : (n a b : ℕ) → IsDeadAt h forward n a → IsDeadAt h forward n b → a ≢ b → ⊥
+  dead_other n a b one two apart = apart (dead_same n a b one two)
+
+  pub below_not : HaveKeysApart h → (first n key : ℕ) → IsDeadAt h forward n key → IsDeadBelow h forward first n key → ⊥
+  below_not apart first n key dead below =
+      let same = dead_once apart below.number n key below.dead dead in
+      let low = below.below in
+      omega arith
+
+  pub keys_none : (first : ℕ) → AreKeysBelow h forward first first []
+  keys_none first = record {
+    dead = λ key. (λ has. absurd (Contains-none key has), λ is. absurd (none_below first key is));
+    once = λ i j d low high. absurd (let none : j < 0 = high in omega arith);
+  }
+
+  module _ (first n : ℕ) (keys : List ℕ) (before : AreKeysBelow h forward first n keys) where
+    pub keys_same : ((key : ℕ) → IsDeadAt h forward n key → ⊥) → AreKeysBelow h forward first (n + 1) keys
+    keys_same alive = record {
+      dead = λ key. (
+        λ has. below_next first n key ((before.dead key).0 has),
+        λ is. (before.dead key).1 (below_back first n key is (alive key)),
+      );
+      once = before.once;
+    }
+
+    pub keys_more : HaveKeysApart h → first ≤ n → (key : ℕ) → IsDeadAt h forward n key → AreKeysBelow h forward first (n + 1) (keys ++ key ∷ [])
+    keys_more apart high key is = record { dead = dead; once = all_pairs_push (λ a b. a ≢ b) keys key before.once other }
+      where
+        dead : (k : ℕ) → Contains (keys ++ key ∷ []) k ↔ IsDeadBelow h forward first (n + 1) k
+        dead k = (
+          λ has. ⊎_elim
+              (λ earlier. below_next first n k ((before.dead k).0 earlier))
+              (λ last. below_here first n k high (subst (λ (m : ℕ). IsDeadAt h forward n m) last is))
+              (Contains-push_cases keys key k has),
+          λ below. ⊎_elim
+              (λ (last : below.number ≡ n).
+              let same = dead_same n key k is (subst (λ (m : ℕ). IsDeadAt h forward m k) last below.dead) in
+              subst (λ (m : ℕ). Contains (keys ++ key ∷ []) m) same (Contains-push keys key))
+              (λ (earlier : below.number ≢ n).
+              let low = below.below in
+              Contains-append_left keys (key ∷ []) k ((before.dead k).1 (record { number = below.number; from_first = below.from_first; below = omega arith; dead = below.dead })))
+              (cases_eq below.number n),
+        )
+
+        other : (k d : ℕ) → k < length keys → get_or keys k d ≢ key
+        other k d low same =
+            let below = (before.dead (get_or keys k d)).0 (Contains-get_or keys k d low) in
+            let one = dead_once apart below.number n key (subst (λ (m : ℕ). IsDeadAt h forward below.number m) same below.dead) is in
+            let inside = below.below in
+            omega arith
 
   -- ---- what is left
 

@@ -1,13 +1,13 @@
 -- What a collection of either kind leaves of a heap.
-use Rattle.std.proofs.Common.{◌≡◌, ◌≢◌, ◌↔◌, ℕ, ◌<◌, ◌≤◌, ◌+◌, ◌⊎◌, ◌++◌, Bool, true, false, List, [], ◌∷◌, length, get_or, map, Option, Some, None, option_map, refl, sym, ap, subst, arith, ◌∙◌, inl, inr, ⊎_elim}
+use Rattle.std.proofs.Common.{◌≡◌, ◌≢◌, ◌↔◌, ℕ, ◌<◌, ◌≤◌, ◌+◌, ◌^◌, ◌⊎◌, ◌++◌, Bool, true, false, List, [], ◌∷◌, length, get_or, map, Option, Some, None, option_map, refl, sym, ap, subst, arith, ◌∙◌, inl, inr, lit<, ⊎_elim}
 use Rattle.std.specs.List.{All, Contains, slice_get}
-use Rattle.std.proofs.lemmas.List.{get_or_default, length-map}
-use Rattle.std.proofs.lemmas.List.Elements.{All-append, All-map, All-contains, Contains-append_cases, Contains-append_left, Contains-append_right}
+use Rattle.std.proofs.lemmas.Bool.{cases_eq}
+use Rattle.std.proofs.lemmas.List.{get_or_default, length-append, length-map}
+use Rattle.std.proofs.lemmas.List.Elements.{All-append, All-map, Contains-append_cases, Contains-append_left, Contains-append_right}
 use Rattle.std.proofs.lemmas.Option.{slice_get-get_or, slice_get-map, slice_get_within}
 use Rattle.tg_model.specs.Walks.{Walk-within, begins}
-use Rattle.tg_model.specs.Graph.{HasEdge}
 use Rattle.tg_word.specs.declared.Place.{Place}
-use Rattle.tg_word.specs.Word.{place_in}
+use Rattle.tg_word.specs.Word.{IsPlace, place_in}
 use Rattle.tg_block.specs.declared.CellKind.TheVariants.{Object}
 use Rattle.tg_space.specs.SpaceList.{SpaceList, BlockList, IsSpaceList, Holds, space_of, cell_at, cells_of, flat_of}
 use Rattle.tg_space.specs.SpaceTable.{IsSpaceTable, adopted}
@@ -20,7 +20,6 @@ use Rattle.tg_space.specs.declared.spaces.Kind.{Kind}
 use Rattle.tg_space.specs.declared.spaces.Kind.TheVariants.{Full, Nursery}
 use Rattle.tg_space.specs.declared.spaces.Root.{Root}
 use Rattle.tg_space.specs.declared.spaces.Root.TheVariants.{Row, Remembered}
-use Rattle.tg_space.proofs.Flat.{flat_inside}
 use Rattle.tg_space.proofs.Tables.{table_list}
 use Rattle.tg_graph.specs.Content.{IsNamed}
 use Rattle.tg_graph.specs.Standing.{IsReached, Keeps, KeepsReached}
@@ -32,7 +31,7 @@ use Rattle.tg_graph.proofs.Layouts.{object_tagged}
 use Rattle.tg_graph.proofs.Lookups.{name_of_vertex}
 use Rattle.tg_graph.proofs.KeptCells.{Moves, sound_after}
 use Rattle.tg_graph.proofs.KeptTargets.{target_held}
-use Rattle.tg_graph.proofs.KeptAdopted.{no_nursery_after, old_stays, only_old_after}
+use Rattle.tg_graph.proofs.KeptAdopted.{adopted_length, no_nursery_after, old_stays, only_old_after}
 use Rattle.tg_graph.proofs.KeptMoves.{AreRooted, IsAfter, collection_moves, needed_after, reached_word, remembered_after, word_reached}
 use Rattle.tg_graph.proofs.KeptGraph.{content_after, graph_after, vertex_after}
 use Rattle.tg_graph.proofs.KeptReached.{AreWorkers, IsInRows, reached_kept, vertex_reached, worker_objects}
@@ -276,3 +275,39 @@ module _ (kind : Kind) (s now : HeapState) (is : IsWellFormed s) (table : IsSpac
       workers = ap length changed.workers ∙ length-map s.workers (moved_place from s.table.spaces (new_place forward));
     };
   }
+
+-- ---- forwarding words
+
+-- a place of the adopted blocks is in range
+adopted_in_range : (h : SpaceList) (aged old : BlockList) → 2 ≤ length h → length h ≤ 66 → length (space_of h 0) + length old ≤ 2 ^ 20 → length aged ≤ 2 ^ 20 → (p : Place) → Holds (adopted Nursery h aged old) p → IsPlace p
+adopted_in_range h aged old some few old_few aged_few p held = record {
+  space = let long = adopted_length h aged old Nursery some in let low = held.space in omega arith;
+  block = by_space (cases_eq p.space 0) (cases_eq p.space 1);
+  cell = held.cell;
+}
+  where
+    block_in : (space : ℕ) → p.space ≡ space → p.block < length (space_of (adopted Nursery h aged old) space)
+    block_in space at = subst (λ (n : ℕ). p.block < length (space_of (adopted Nursery h aged old) n)) at held.block
+
+    by_space : (p.space ≡ 0) ⊎ (p.space ≢ 0) → (p.space ≡ 1) ⊎ (p.space ≢ 1) → p.block < 2 ^ 20
+    by_space (inl first) _ =
+        let low : p.block < length (space_of h 0 ++ old) = block_in 0 first in omega (arith, length-append (space_of h 0) old)
+    by_space (inr _) (inl second) = let low : p.block < length aged = block_in 1 second in omega arith
+    by_space (inr first) (inr second) =
+        let none = no_nursery_after h aged old Nursery p.space (omega arith) in
+        let low : p.block < length {A = List (List ℕ)} [] = subst (λ (blocks : BlockList). p.block < length blocks) none held.block in
+        omega arith
+
+-- the places in forwarding words are in range
+pub forward_in_range : (h : SpaceList) (roots : List Root) (forward : List ℕ) (aged old : BlockList) (notes : List Place) → 2 ≤ length h → length h ≤ 66 → length aged ≤ 2 ^ 20 → IsCollection Nursery h roots forward aged old notes → All (λ word. IsPlace (place_in word)) forward
+forward_in_range h roots forward aged old notes some few aged_few is k d low = by_word (cases_eq (get_or forward k 0) 0)
+  where
+    same : get_or forward k d ≡ get_or forward k 0
+    same = get_or_default forward k d 0 low
+
+    by_word : (get_or forward k 0 ≡ 0) ⊎ (get_or forward k 0 ≢ 0) → IsPlace (place_in (get_or forward k d))
+    by_word (inl none) = subst (λ (word : ℕ). IsPlace (place_in word)) (sym (same ∙ none)) (record { space = lit< tt; block = lit< tt; cell = lit< tt })
+    by_word (inr ne) =
+        let inside : k < length (cells_of h) = let whole = is.whole in omega arith in
+        let old_few = is.few in
+        subst (λ (word : ℕ). IsPlace (place_in word)) (sym same) (adopted_in_range h aged old some few old_few aged_few (place_in (get_or forward k 0)) (is.placed k (inside, ne)).held)

@@ -1,5 +1,5 @@
 -- What a collection of either kind traces: targets in from-space, and what the roots reach.
-use Rattle.std.proofs.Common.{◌≡◌, ◌≢◌, ℕ, ◌<◌, ◌⊎◌, ◌==◌, Bool, cond, true, false, List, [], ◌∷◌, length, take, drop, ◌++◌, not, refl, sym, ap, subst, ◌∙◌, inl, inr, ⊎_elim}
+use Rattle.std.proofs.Common.{◌≡◌, ◌≢◌, ℕ, ◌⊎◌, ◌==◌, Bool, cond, true, false, List, [], ◌∷◌, length, take, drop, ◌++◌, not, sym, ap, subst, inl, inr, ⊎_elim}
 use Rattle.std.specs.List.{All, Contains, flat_map, prefix_len}
 use Rattle.std.proofs.lemmas.Bool.{cases_Bool}
 use Rattle.std.proofs.lemmas.Bool.Decides.{eqb_tells}
@@ -13,7 +13,7 @@ use Rattle.tg_space.specs.SpaceList.{SpaceList, IsSpaceList, Holds, cell_at, cel
 use Rattle.tg_space.specs.Closure.{IsInClosure}
 use Rattle.tg_space.specs.Rows.{chunks_from, link_at, row_of}
 use Rattle.tg_space.specs.Targets.{target_in, named_by, targets_of, targets_at, cells_met, root_targets_of, all_root_targets, pointers_of}
-use Rattle.tg_space.specs.Soundness.{AreSound, IsKindAt, IsOldCell, IsPointer, IsRootIn, NamesCell}
+use Rattle.tg_space.specs.Soundness.{AreSound, IsKindAt, IsPointer, IsRootIn, NamesCell}
 use Rattle.tg_space.specs.declared.spaces.Root.{Root}
 use Rattle.tg_space.specs.declared.spaces.Root.TheVariants.{Row, Remembered}
 use Rattle.tg_space.proofs.Flat.{get_or-flat_of}

@@ -1,17 +1,17 @@
 -- The cells of Old that a nursery collection writes.
-use Rattle.std.proofs.Common.{◌≡◌, ◌≢◌, ◌↔◌, ℕ, ◌<◌, ◌⊎◌, ◌++◌, List, [], ◌∷◌, length, get_or, map, refl, sym, ap, subst, arith, ◌∙◌, inl, inr, ⊎_elim}
-use Rattle.std.specs.List.{All, Contains}
-use Rattle.std.proofs.lemmas.List.{get_or-set_other}
+use Rattle.std.proofs.Common.{◌≡◌, ◌≢◌, ℕ, ◌<◌, ◌⊎◌, ◌+◌, ◌++◌, List, [], ◌∷◌, length, get_or, map, take, Some, refl, sym, ap, subst, ◌∙◌, inl, inr, ⊎_elim}
+use Rattle.std.specs.List.{All, Contains, slice_get}
+use Rattle.std.proofs.lemmas.List.{get_or-set_other, map-append, take_more}
+use Rattle.std.proofs.lemmas.Option.{slice_get-get_or, slice_get_within}
 use Rattle.std.proofs.lemmas.List.Elements.{All-map, Contains-append_left, Contains-push, Contains-push_cases}
 use Rattle.tg_word.specs.declared.Place.{Place}
-use Rattle.tg_space.specs.SpaceList.{SpaceList, BlockList, IsSpaceList, Holds, cell_at, space_of, with_cell_at}
+use Rattle.tg_space.specs.SpaceList.{SpaceList, BlockList, Holds, cell_at, with_cell_at}
 use Rattle.tg_space.specs.SpaceTable.{SpaceTable, IsSpaceTable, adopted, with_adopted, with_spaces}
 use Rattle.tg_space.specs.Soundness.{IsOldCell}
 use Rattle.tg_space.specs.Targets.{from_space, image_of}
 use Rattle.tg_space.specs.Collection.{new_place}
 use Rattle.tg_space.specs.declared.spaces.Kind.TheVariants.{Full, Nursery}
-use Rattle.tg_space.specs.declared.spaces.Root.TheVariants.{Remembered}
-use Rattle.tg_space.proofs.Tables.{block_whole, holds_same, same_holds, shape_cell, table_list}
+use Rattle.tg_space.proofs.Tables.{holds_same, same_holds, shape_cell, table_list}
 use Rattle.tg_space.proofs.Writing.{other_cell}
 use Rattle.tg_graph.specs.declared.settle.Rewritten.{Rewritten}
 use Rattle.tg_graph.specs.Heap.{HeapState, IsWellFormed, roots_of}
@@ -23,6 +23,14 @@ use Rattle.tg_graph.proofs.KeptHeap.{no_row, remembered_cells, remembered_root}
 use Rattle.tg_graph.proofs.KeptMoves.{HasWordsAfter, IsAfter}
 
 -- ---- cell by cell
+
+-- one more element of a list that is mapped from its beginning on
+pub mapped_more : {X Y : Type 0} (f : X → Y) (xs : List X) (i : ℕ) (x : X) → slice_get xs i ≡ Some x → map f (take (i + 1) xs) ≡ map f (take i xs) ++ f x ∷ []
+mapped_more f xs i x found =
+    let low = slice_get_within xs i x found in
+    let here : Some (get_or xs i x) ≡ Some x = sym (slice_get-get_or xs i x low) ∙ found in
+    let same : get_or xs i x ≡ x = cc in
+    ap (map f) (take_more xs i x low) ∙ map-append f (take i xs) (get_or xs i x ∷ []) ∙ ap (λ y. map f (take i xs) ++ f y ∷ []) same
 
 pub written_none : (t : SpaceTable) → AreWritten t t []
 written_none t = record {
@@ -82,6 +90,14 @@ module _ (t now : SpaceTable) (cells : List Rewritten) (cell : Rewritten) (table
         );
         written = λ p. written_at p (same_or_other p cell.place);
       }
+
+-- the next of these cells is written
+pub written_next : (t now new : SpaceTable) (cells : List Rewritten) (i : ℕ) (d : Rewritten) → i < length cells → All (λ cell. IsOldCell t.spaces cell.place) cells → IsSpaceTable now → AreWritten t now (take i cells) →
+    new ≡ with_spaces now (with_cell_at now.spaces (get_or cells i d).place (get_or cells i d).words) → AreWritten t new (take (i + 1) cells)
+written_next t now new cells i d low old table before same =
+    let more : AreWritten t (with_spaces now (with_cell_at now.spaces (get_or cells i d).place (get_or cells i d).words)) (take i cells ++ get_or cells i d ∷ []) = written_more t now (take i cells) (get_or cells i d) table before (old i d low) in
+    subst (λ (table : SpaceTable). AreWritten t table (take (i + 1) cells)) (sym same)
+    (subst (λ (cs : List Rewritten). AreWritten t (with_spaces now (with_cell_at now.spaces (get_or cells i d).place (get_or cells i d).words)) cs) (sym (take_more cells i d low)) more)
 
 -- ---- all of them
 

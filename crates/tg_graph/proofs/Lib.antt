@@ -28,4 +28,5 @@ pub mod KeptReached
 pub mod KeptHeap
 pub mod KeptDropped
 pub mod KeptWritten
+pub mod KeptSettled
 pub mod Counted

@@ -22,7 +22,9 @@ use Rattle.tg_graph.specs.Rows.{name_at, object_named, objects_of}
 use Rattle.tg_graph.specs.Heap.{HeapState, IsUnchanged, content_in, content_of}
 use Rattle.tg_graph.proofs.Members.{Contains-map, find_gives, option_cases}
 use Rattle.tg_graph.specs.Content.{Content, IsNamed, IsContent, IsSameContent, OnlyNamedHold}
-use Rattle.tg_graph.specs.Standing.{StandsFor, IsReached, Keeps}
+use Rattle.tg_graph.specs.Standing.{StandsFor, IsReached, Keeps, KeepsReached}
+use Rattle.tg_space.specs.declared.spaces.Kind.{Kind}
+use Rattle.tg_space.specs.declared.spaces.Kind.TheVariants.{Full, Nursery}
 
 -- where the subjects are the workers
 pub IsSubject-workers : (g : ProtectionGraph) (workers : ℕ) → g.subjects ≡ range_with_len 0 workers → (x : ℕ) → IsSubject g x ↔ (x < workers)
@@ -225,3 +227,9 @@ module _ (old new : Content) (g : ProtectionGraph) (stands : StandsFor old g) wh
       λ named. IsReachable-IsReached old g stands workers subjects x ((keeps.names x).0 named).1,
       λ reachable. (keeps.names x).1 (stands.reachable x reachable, IsReached-IsReachable old g stands workers subjects x reachable),
     )
+
+-- what a collection of either kind keeps
+pub StandsFor-collected : (kind : Kind) (old new : Content) (g : ProtectionGraph) (workers : ℕ) → StandsFor old g → g.subjects ≡ range_with_len 0 workers → KeepsReached kind old new workers → StandsFor new g
+StandsFor-collected Full old new g workers stands subjects keeps = StandsFor-full_collection old new g stands workers subjects keeps
+StandsFor-collected Nursery old new g workers stands subjects keeps =
+    StandsFor-kept old new g stands (IsNamed new) keeps.0 (λ x reachable. keeps.1 x (IsReached-IsReachable old g stands workers subjects x reachable))

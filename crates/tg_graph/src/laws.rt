@@ -4,9 +4,10 @@
 ghost use Rattle.std.specs.Prelude.{◌≡◌, ◌↔◌, ℕ};
 ghost use Rattle.std.specs.List.{range_with_len};
 ghost use Rattle.tg_model.specs.Graph.{ProtectionGraph, IsReachable};
+ghost use Rattle.tg_space.specs.declared.spaces.Kind.{Kind};
 ghost use Rattle.tg_graph.specs.Content.{Content, IsNamed, IsSameContent, OnlyNamedHold};
 ghost use Rattle.tg_graph.specs.Heap.{HeapState, IsUnchanged, content_of};
-ghost use Rattle.tg_graph.specs.Standing.{StandsFor, IsReached, Keeps};
+ghost use Rattle.tg_graph.specs.Standing.{StandsFor, IsReached, Keeps, KeepsReached};
 
 /// What a collection keeps stands for the graph that the old content stood for, where all that can be reached is
 /// kept. A full collection keeps what can be reached on the content, from the workers: this is what can be reached on
@@ -23,6 +24,13 @@ pub fn what_is_kept_stands_for_the_same_graph()
     ensures names { (old new : Content) (g : ProtectionGraph) (workers x : ℕ) →
         StandsFor old g → g.subjects ≡ range_with_len 0 workers → Keeps old new (IsReached old workers) →
         IsNamed new x ↔ IsReachable g x }
+{}
+
+/// What a collection of either kind keeps stands for the graph that the old content stood for.
+pub fn a_collected_heap_stands_for_the_same_graph()
+    ensures { (kind : Kind) (old new : Content) (g : ProtectionGraph) (workers : ℕ) →
+        StandsFor old g → g.subjects ≡ range_with_len 0 workers → KeepsReached kind old new workers →
+        StandsFor new g }
 {}
 
 /// What a heap doesn't have holds no rights.

@@ -9,7 +9,7 @@ ghost use Rattle.tg_space.specs.Soundness.{AreSound, IsOldCell};
 ghost use Rattle.tg_space.specs.SpaceList.{Holds, cells_of, space_of};
 ghost use Rattle.tg_space.specs.SpaceTable.{IsSpaceTable};
 ghost use Rattle.tg_space.specs.Targets.{from_space};
-ghost use Rattle.tg_space.specs.declared.spaces.Root.TheVariants.{Remembered as IsRemembered};
+ghost use Rattle.tg_space.specs.declared.spaces.Root.TheVariants.{Remembered as IsRemembered, Row as IsRow};
 ghost use Rattle.tg_graph.specs.Heap.{IsGraph, content_of, roots_of};
 ghost use Rattle.tg_graph.specs.Kept.{AreWritten, Drops, HaveKeysApart, IsDeadAt, IsDeadKey, IsSettled, moved_place, rewritten_at};
 ghost use Rattle.tg_graph.specs.Standing.{KeepsReached};
@@ -37,11 +37,7 @@ impl<P: Payload> Heap<P> {
         ensures roots { IfOk result (λ roots. roots.items ≡ roots_of kind self.now) }
         ensures sound { AreSound self.now.table.spaces (roots_of kind self.now) }
     {
-        let mut roots = self
-            .workers
-            .iter()
-            .map(|place| Root::Row(*place))
-            .collect(alloc)?;
+        let mut roots = rows(alloc, &self.workers)?;
         match kind {
             Kind::Full => (),
             Kind::Nursery => add_remembered(&mut roots, &self.cells.remembered)?,
@@ -86,7 +82,7 @@ impl<P: Payload> Heap<P> {
     // After a full collection.
     fn keep_copied(&mut self, forward: &[u64], adoption: Adoption, remembered: Remembered)
         requires { IsCollection Kind.Full self.old.table.spaces (roots_of Kind.Full self.old) forward.now adoption.aged adoption.old remembered.places }
-        ensures settled { IsSettled Kind.Full self.old self.new }
+        ensures { IsSettled Kind.Full self.old self.new }
     {
         drop_uncopied(&self.cells.spaces, &mut self.cells.payloads, forward);
         follow(&self.cells.spaces, Kind::Full, forward, &mut self.workers);
@@ -99,25 +95,34 @@ impl<P: Payload> Heap<P> {
         &mut self,
         forward: &[u64],
         adoption: Adoption,
-        remembered: Remembered,
+        noted: Remembered,
     ) -> Result<(), AllocError>
-        requires { IsCollection Kind.Nursery self.old.table.spaces (roots_of Kind.Nursery self.old) forward.now adoption.aged adoption.old remembered.places }
+        requires { IsCollection Kind.Nursery self.old.table.spaces (roots_of Kind.Nursery self.old) forward.now adoption.aged adoption.old noted.places }
         ensures settled { OnOk result (IsSettled Kind.Nursery self.old self.new) }
         ensures refused { OnErr result (self.new ≡ self.old) }
     {
         let alloc = self.cells.alloc;
         let spaces = &self.cells.spaces;
-        let cells = rewritten_cells(alloc, spaces, forward, &self.cells.remembered)?;
+        // It tells that Aged has no more blocks than a space may have, so that forwarding words have places in range.
+        let _ = adoption.aged.len();
         let dead = dead_keys(alloc, spaces, forward)?;
-        let mut workers = self.workers.clone()?;
+        let cells = rewritten_cells(alloc, spaces, forward, &self.cells.remembered)?;
+        let mut workers = Vec::from_slice(alloc, &self.workers)?;
         follow(spaces, Kind::Nursery, forward, &mut workers);
         self.cells.spaces.adopt(Kind::Nursery, adoption)?;
         write_cells(&mut self.cells.spaces, &cells);
         drop_payloads(&mut self.cells.payloads, &dead);
         self.workers = workers;
-        self.cells.remembered = remembered;
+        self.cells.remembered = noted;
         Ok(())
     }
+}
+
+// The rows of the objects at these places.
+fn rows(alloc: Global, places: &[Place]) -> Result<Vec<Root>, AllocError>
+    ensures { IfOk result (λ roots. roots.items ≡ map (λ p. IsRow p) places.now) }
+{
+    places.iter().map(|place| Root::Row(*place)).collect(alloc)
 }
 
 // Puts the remembered cells behind the roots.
@@ -159,8 +164,10 @@ fn write_cells(spaces: &mut Spaces, cells: &[Rewritten])
     ensures table { IsSpaceTable spaces.new }
 {
     for cell in cells {
+        let _ = spaces.blocks();
         spaces.write_cell(cell.place, cell.words);
     }
+    let _ = spaces.blocks();
 }
 
 // Takes out and drops the payload of each object that a full collection didn't copy.
@@ -185,8 +192,8 @@ fn dead_keys(alloc: Global, spaces: &Spaces, forward: &[u64]) -> Result<Vec<u64>
     ensures each_once { IfOk result (λ keys. AllPairs (λ a b. a ≢ b) keys.items) }
     ensures table { IsSpaceTable spaces.now }
 {
-    let mut keys = Vec::new(alloc);
     let cells = spaces.cells();
+    let mut keys = Vec::new(alloc);
     for number in CELLS as u64 * spaces.len(0)..cells {
         if let Some(key) = dead_key(spaces, forward, number) {
             keys.push(key)?;
@@ -197,6 +204,7 @@ fn dead_keys(alloc: Global, spaces: &Spaces, forward: &[u64]) -> Result<Vec<u64>
 
 // The key of the cell with a number, if that is an object which wasn't copied.
 fn dead_key(spaces: &Spaces, forward: &[u64], number: u64) -> Option<u64>
+    requires table { IsSpaceTable spaces.now }
     requires inside { number < length (cells_of spaces.now.spaces) }
     requires whole { length forward.now ≡ length (cells_of spaces.now.spaces) }
     ensures some { IfSome result (IsDeadAt spaces.now.spaces forward.now number) }
@@ -206,7 +214,10 @@ fn dead_key(spaces: &Spaces, forward: &[u64], number: u64) -> Option<u64>
         return None;
     }
     let cell = spaces.numbered_cell(number);
-    (cell[0] == OBJECT_TAG).then_some(cell[KEY])
+    if cell[0] != OBJECT_TAG {
+        return None;
+    }
+    Some(cell[KEY])
 }
 
 // Takes out and drops the payload under each of these keys.

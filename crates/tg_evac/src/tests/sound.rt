@@ -12,11 +12,11 @@ use tg_block::{CHUNK_TAG, OBJECT_TAG, WORDS};
 use tg_space::{Root, Spaces};
 use tg_word::{PRESENT_AT, Place, SPACES, place_of, rights_of};
 
-/// Whether each cell has its layout, no chunk is linked to twice, and the roots are rows. `false` says nothing.
+/// Whether each cell has its layout, no chunk is linked to twice, and the roots are rows or cells of Old. `false` says nothing.
 pub fn are_sound(spaces: &Spaces, roots: &[Root]) -> bool
     ensures { IsTrue result → AreSound spaces.now.spaces roots.now }
 {
-    have_layouts(spaces) && have_own_links(spaces) && are_rows(spaces, roots)
+    have_layouts(spaces) && have_own_links(spaces) && are_roots(spaces, roots)
 }
 
 // Whether each cell has its layout.
@@ -58,23 +58,24 @@ fn is_own_link(spaces: &Spaces, owner: u64, link: u64) -> bool
     true
 }
 
-// Whether the roots are rows.
-fn are_rows(spaces: &Spaces, roots: &[Root]) -> bool
+// Whether the roots are rows or cells of Old.
+fn are_roots(spaces: &Spaces, roots: &[Root]) -> bool
     ensures { IsTrue result → All (IsRootIn spaces.now.spaces) roots.now }
 {
     for root in roots {
-        if !is_row(spaces, *root) {
+        if !is_root(spaces, *root) {
             return false;
         }
     }
     true
 }
 
-fn is_row(spaces: &Spaces, root: Root) -> bool
+fn is_root(spaces: &Spaces, root: Root) -> bool
     ensures { IsTrue result → IsRootIn spaces.now.spaces root }
 {
     match root {
         Root::Row(place) => has_tag(spaces, place, OBJECT_TAG),
+        Root::Remembered(place) => place.space == 0 && spaces.holds(place),
     }
 }
 

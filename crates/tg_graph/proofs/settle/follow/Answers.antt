@@ -3,9 +3,10 @@ use Rattle.std.proofs.Common.{◌≡◌, ℕ, ◌<◌, ◌≤◌, ◌+◌, ◌-�
 use Rattle.std.proofs.lemmas.List.{append-nil, drop_all, get_or-append_right, get_or-drop, get_or_default, length-map, length-take-le, take_all}
 use Rattle.std.proofs.lemmas.List.Edits.{map_over_more}
 use Rattle.tg_word.specs.declared.Place.{Place}
-use Rattle.tg_word.specs.Word.{place_in}
 use Rattle.tg_space.specs.SpaceList.{Holds}
-use Rattle.tg_graph.specs.Kept.{copied_to}
+use Rattle.tg_space.specs.Targets.{from_space}
+use Rattle.tg_space.specs.Collection.{new_place}
+use Rattle.tg_graph.specs.Kept.{moved_place}
 use Rattle.tg_graph.proofs.settle.follow.Goals as goal
 
 still_at : (f : Place → Place) (xs ys : List Place) (i : ℕ) (d : Place) → ys ≡ map f (take i xs) ++ drop i xs → i < length xs → get_or ys i d ≡ get_or xs i d
@@ -17,29 +18,27 @@ still_at f xs ys i d is low =
     ∙ get_or-drop i xs (i - i) d
     ∙ ap (λ (k : ℕ). get_or xs k d) back
 
-pub flat-requires : goal.flat-requires
-flat-requires c =
+pub followed-requires-clause-held : goal.followed-requires-clause-held
+followed-requires-clause-held c =
     let h = c.args.spaces.now.spaces in
     let d : Place = record { space = 0; block = 0; cell = 0 } in
-    let same = still_at (copied_to h c.args.forward.now) c.args.places.now c.loop-place.places c.loop-place.place-index d c.loop-place.invariant c.loop-place-test.true in
+    let same = still_at (moved_place (from_space c.args.kind) h (new_place c.args.forward.now)) c.args.places.now c.loop-place.places c.loop-place.place-index d c.loop-place.invariant c.loop-place-test.true in
     subst (Holds h) (sym same) (c.requires.held c.loop-place.place-index d c.loop-place-test.true)
 
 pub loop-place-preserved : goal.loop-place-preserved
 loop-place-preserved c =
-    let h = c.args.spaces.now.spaces in
-    let forward = c.args.forward.now in
+    let f = moved_place (from_space c.args.kind) c.args.spaces.now.spaces (new_place c.args.forward.now) in
     let d : Place = record { space = 0; block = 0; cell = 0 } in
     let ys = c.loop-place.places in
     let i = c.loop-place.place-index in
     let x = get_or ys i d in
     let low : i < length ys = omega arith in
-    let to : c.place_of.result ≡ copied_to h forward x = c.place_of.ensures ∙ ap (λ (n : ℕ). place_in (get_or forward n 0)) c.flat.ensures.flat in
-    ap (λ (place : Place). set ys i place) to
-    ∙ map_over_more (copied_to h forward) c.args.places.now ys i x c.loop-place-test.true c.loop-place.invariant (get_or_default ys i d x low)
+    ap (λ (place : Place). set ys i place) c.followed.ensures
+    ∙ map_over_more f c.args.places.now ys i x c.loop-place-test.true c.loop-place.invariant (get_or_default ys i d x low)
 
 pub returns : goal.returns
 returns c =
-    let f = copied_to c.args.spaces.now.spaces c.args.forward.now in
+    let f = moved_place (from_space c.args.kind) c.args.spaces.now.spaces (new_place c.args.forward.now) in
     let xs = c.args.places.now in
     let i = c.loop-place.place-index in
     let past : length xs ≤ i = c.loop-place-test.false in

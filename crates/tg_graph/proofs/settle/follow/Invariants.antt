@@ -1,7 +1,9 @@
 use Rattle.std.proofs.Common.{◌≡◌, ◌++◌, take, drop, map}
-use Rattle.tg_graph.specs.Kept.{copied_to}
+use Rattle.tg_space.specs.Targets.{from_space}
+use Rattle.tg_space.specs.Collection.{new_place}
+use Rattle.tg_graph.specs.Kept.{moved_place}
 use Rattle.tg_graph.proofs.settle.follow.Given as goal
 
 abbrev pub invariant-loop-place : goal.invariant-loop-place
 invariant-loop-place l =
-    l.places ≡ map (copied_to l.spaces.spaces l.forward) (take l.place-index l.fn.places) ++ drop l.place-index l.fn.places
+    l.places ≡ map (moved_place (from_space l.kind) l.spaces.spaces (new_place l.forward)) (take l.place-index l.fn.places) ++ drop l.place-index l.fn.places

@@ -1,0 +1,63 @@
+//! What a collection is to do.
+ghost use Rattle.std.specs.Prelude.{◌≡◌, ◌≤◌, ◌^◌};
+ghost use Rattle.tg_space.specs.SpaceTable.{IsSpaceTable};
+ghost use Rattle.tg_evac.specs.Claims.{IsPlanFor, is_straight as straight_from, space_for as space_of_copy};
+
+use tg_block::CELLS;
+use tg_space::{Kind, Root, Spaces};
+
+/// The space of cells that have outlived a collection twice.
+pub const OLD: u64 = 0;
+
+/// The space of cells that have outlived a collection once.
+pub const AGED: u64 = 1;
+
+/// Which cells a collection moves, and what room it has for them.
+#[derive(Clone, Copy)]
+pub struct Plan {
+    /// Which cells are moved.
+    pub kind: Kind,
+    /// How many blocks of Old stay where they are, in front of the new ones.
+    pub kept: u64,
+    /// How many cells Old and Aged may have each.
+    pub room: u64,
+}
+
+impl Plan {
+    /// The plan of a collection of these spaces.
+    pub fn of(kind: Kind, spaces: &Spaces) -> Self
+        requires { IsSpaceTable spaces.now }
+        ensures plan { IsPlanFor kind spaces.now result }
+        ensures kept { result.kept ≤ 2 ^ 20 }
+        ensures room { result.room ≤ 2 ^ 26 }
+    {
+        let kept = match kind {
+            Kind::Full => 0,
+            Kind::Nursery => spaces.len(OLD),
+        };
+        Plan {
+            kind,
+            kept,
+            room: CELLS as u64 * spaces.limits().space_blocks(),
+        }
+    }
+
+    /// Whether what is met first from a root goes straight to Old: all in a full collection, and in a nursery
+    /// collection what a remembered cell names.
+    pub fn is_straight(self, root: Root) -> bool
+        ensures { result ≡ straight_from self.kind root }
+    {
+        match root {
+            Root::Row(_) => self.kind == Kind::Full,
+            Root::Remembered(_) => true,
+        }
+    }
+}
+
+/// The space to which a cell of a space is copied, where it is met straight or not.
+#[inline]
+pub fn space_for(straight: bool, space: u64) -> u64
+    ensures { result ≡ space_of_copy straight space }
+{
+    if straight || space == AGED { OLD } else { AGED }
+}

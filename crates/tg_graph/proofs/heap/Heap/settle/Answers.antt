@@ -1,0 +1,29 @@
+use Rattle.std.proofs.Common.{length, subst, sym}
+use Rattle.tg_space.specs.Generations.{AreNeeded}
+use Rattle.tg_space.specs.declared.spaces.Kind.{Kind}
+use Rattle.tg_graph.specs.Standing.{KeepsReached}
+use Rattle.tg_graph.specs.Heap.{HeapState, content_of}
+use Rattle.tg_graph.specs.Kept.{IsSettled}
+use Rattle.tg_graph.proofs.heap.Heap.settle.Goals.{in-Full, in-Nursery+in_ok-keep_old_and_copied-in-Nursery}
+use Rattle.tg_graph.proofs.heap.Heap.settle.Goals as goal
+
+pub returns-clause-kept : goal.returns-clause-kept
+returns-clause-kept g c =
+    let old : HeapState = c.args.self.now in
+    elim c.match-kind.branch [
+      | in-Full w ↦
+          let done : IsSettled c.args.kind old w.keep_copied.new.self = subst (λ (kind : Kind). IsSettled kind old w.keep_copied.new.self) (sym w.in-Full.is) w.keep_copied.ensures in
+          subst (λ (heap : HeapState). KeepsReached c.args.kind (content_of old) (content_of heap) (length old.workers)) (sym w.self-is) done.keeps
+      | in-Nursery+in_ok-keep_old_and_copied-in-Nursery w ↦
+          let done : IsSettled c.args.kind old w.keep_old_and_copied.new.self = subst (λ (kind : Kind). IsSettled kind old w.keep_old_and_copied.new.self) (sym w.in-Nursery.is) w.in_ok-keep_old_and_copied-in-Nursery.ensures.settled in
+          subst (λ (heap : HeapState). KeepsReached c.args.kind (content_of old) (content_of heap) (length old.workers)) (sym w.self-is) done.keeps
+    ]
+
+pub returns-clause-needed : goal.returns-clause-needed
+returns-clause-needed g c =
+    elim c.match-kind.branch [
+      | in-Full w ↦
+          subst (λ (heap : HeapState). AreNeeded heap.table.spaces heap.remembered) (sym w.self-is) w.keep_copied.ensures.needed
+      | in-Nursery+in_ok-keep_old_and_copied-in-Nursery w ↦
+          subst (λ (heap : HeapState). AreNeeded heap.table.spaces heap.remembered) (sym w.self-is) w.in_ok-keep_old_and_copied-in-Nursery.ensures.settled.needed
+    ]

@@ -1,0 +1,54 @@
+-- The keys of the dead cells before the loop's number.
+use Rattle.std.proofs.Common.{◌≤◌, ◌<◌, ◌+◌, ◌*◌, [], ℕ, List, Vec, Global, length, subst, sym, ap, arith, ◌∙◌, refl}
+use Rattle.tg_space.specs.SpaceList.{cells_of, space_of}
+use Rattle.tg_space.specs.declared.spaces.Kind.TheVariants.{Nursery}
+use Rattle.tg_space.proofs.Tables.{table_list}
+use Rattle.tg_graph.proofs.KeptDropped.{AreKeysBelow, dead_keys_are, keys_more, keys_none, keys_same, young_begin}
+use Rattle.tg_graph.proofs.settle.dead_keys.Goals.{in-Some+in_ok-push, in_default}
+use Rattle.tg_graph.proofs.settle.dead_keys.Goals as goal
+
+pub loop-number-init : goal.loop-number-init
+loop-number-init c =
+    let h = c.args.spaces.now.spaces in
+    let whole = table_list c.args.spaces.now c.cells-cells.ensures.table in
+    record {
+      high = omega (arith, c.len.ensures.blocks);
+      keys =
+          subst (λ (keys : List ℕ). AreKeysBelow h c.args.forward.now (64 * length (space_of h 0)) (64 * c.len.result) keys) (sym c.new-keys.ensures.items)
+          (subst (λ (blocks : ℕ). AreKeysBelow h c.args.forward.now (64 * length (space_of h 0)) (64 * blocks) []) (sym c.len.ensures.blocks) (keys_none h whole c.args.forward.now (64 * length (space_of h 0))));
+    }
+
+pub loop-number-preserved : goal.loop-number-preserved
+loop-number-preserved c =
+    let h = c.args.spaces.now.spaces in
+    let forward = c.args.forward.now in
+    let first = 64 * length (space_of h 0) in
+    let n = c.loop-number.number in
+    let whole = table_list c.args.spaces.now c.cells-cells.ensures.table in
+    record {
+      high = let high = c.loop-number.invariant.high in omega arith;
+      keys = elim c.match-dead_key.branch [
+        | in-Some+in_ok-push w ↦
+            subst (AreKeysBelow h forward first (n + 1)) (sym (ap (λ (v : Vec ℕ Global). v.items) w.keys-is ∙ w.in_ok-push.ensures.items))
+            (keys_more h whole forward first n c.loop-number.keys.items c.loop-number.invariant.keys c.requires.apart c.loop-number.invariant.high w.in-Some.key w.in-Some.ensures.some)
+        | in_default w ↦
+            subst (AreKeysBelow h forward first (n + 1)) (sym (ap (λ (v : Vec ℕ Global). v.items) w.keys-is))
+            (keys_same h whole forward first n c.loop-number.keys.items c.loop-number.invariant.keys (w.in_default.ensures.none refl))
+      ];
+    }
+
+pub returns-clause-keys : goal.returns-clause-keys
+returns-clause-keys c key =
+    let h = c.args.spaces.now.spaces in
+    let forward = c.args.forward.now in
+    let first = 64 * length (space_of h 0) in
+    let whole = table_list c.args.spaces.now c.cells-cells.ensures.table in
+    let some : 0 < length h = let enough = c.cells-cells.ensures.table.enough in omega arith in
+    let end : length (cells_of h) ≤ c.loop-number.number = omega (arith, c.cells-cells.ensures.cells) in
+    let are = dead_keys_are h whole forward Nursery first c.loop-number.number (young_begin h whole forward some) end key in (
+      λ has. are.0 ((c.loop-number.invariant.keys.dead key).0 has),
+      λ is. (c.loop-number.invariant.keys.dead key).1 (are.1 is),
+    )
+
+pub returns-clause-each_once : goal.returns-clause-each_once
+returns-clause-each_once c = c.loop-number.invariant.keys.once

@@ -1,0 +1,10 @@
+use Rattle.std.proofs.Common.{◌*◌, ◌≤◌, length}
+use Rattle.tg_space.specs.SpaceList.{space_of}
+use Rattle.tg_graph.proofs.KeptDropped.{AreKeysBelow}
+use Rattle.tg_graph.proofs.settle.dead_keys.Given as goal
+
+abbrev pub invariant-loop-number : goal.invariant-loop-number
+invariant-loop-number l = record {
+  high : 64 * length (space_of l.spaces.spaces 0) ≤ l.number;
+  keys : AreKeysBelow l.spaces.spaces l.forward (64 * length (space_of l.spaces.spaces 0)) l.number l.keys.items;
+}
