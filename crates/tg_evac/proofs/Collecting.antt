@@ -16,12 +16,11 @@ use Rattle.tg_space.specs.declared.spaces.Kind.{Kind}
 use Rattle.tg_space.specs.declared.spaces.Kind.TheVariants.{Full, Nursery}
 use Rattle.tg_space.specs.declared.spaces.Root.{Root}
 use Rattle.tg_space.specs.declared.spaces.Root.TheVariants.{Remembered}
-use Rattle.tg_space.proofs.Flat.{get_or-flat_of}
 use Rattle.tg_space.proofs.Tables.{table_list}
 use Rattle.tg_evac.specs.declared.plan.Plan.{Plan}
 use Rattle.tg_evac.specs.declared.win.Win.{Win}
 use Rattle.tg_evac.specs.Claims.{Claimed, AreClaims, IsPlanFor, IsTracedFrom, StandsIn, AreTraced, AreWordsOf, cells_won, win_at}
-use Rattle.tg_evac.specs.Copies.{HasNewPlace, HasCopy, HoldCopies, IsYoungCopy, IsPlaceIn, copy_of, moved_cell}
+use Rattle.tg_evac.specs.Copies.{HasNewPlace, HoldCopies, IsYoungCopy, IsPlaceIn, copy_of, moved_cell}
 use Rattle.tg_evac.proofs.Claiming.{cell_held, win_from_cell, word_place, word_links, word_to, word_behind, cells_apart}
 use Rattle.tg_evac.proofs.Reasons.{all_in_old, are_aged, goes_to}
 use Rattle.tg_evac.proofs.Adopted.{old_place, aged_place, new_is, find_place, free_is_not_young}

@@ -1,13 +1,13 @@
 -- Claims of the pieces of a list, one after the other.
 use Rattle.std.proofs.Common.{◌≡◌, ℕ, ◌≢◌, ◌<◌, ◌+◌, ◌++◌, Bool, false, List, [], length, get_or, take, sym, ap, subst, inr, ◌∙◌}
 use Rattle.std.specs.List.{All, Contains, flat_map}
-use Rattle.std.proofs.lemmas.List.{get_or-map, get_or_default}
+use Rattle.std.proofs.lemmas.List.{get_or-map}
 use Rattle.std.proofs.lemmas.List.Elements.{All-append, All-weaker, All-contains, All-contains_itself, Contains-append_left, Contains-append_right, Contains-get_or}
 use Rattle.tg_word.specs.declared.Place.{Place}
 use Rattle.tg_word.specs.Word.{place_in}
 use Rattle.tg_space.specs.Closure.{IsClosed}
 use Rattle.tg_space.specs.Rows.{link_at}
-use Rattle.tg_space.specs.SpaceList.{SpaceList, IsSpaceList, cells_of}
+use Rattle.tg_space.specs.SpaceList.{SpaceList, cells_of}
 use Rattle.tg_space.specs.Targets.{from_space, targets_at, targets_of, root_targets_of, all_root_targets}
 use Rattle.tg_space.specs.declared.spaces.Kind.{Kind}
 use Rattle.tg_space.specs.declared.spaces.Root.{Root}
@@ -17,7 +17,7 @@ use Rattle.tg_evac.specs.declared.plan.Plan.{Plan}
 use Rattle.tg_evac.specs.declared.win.Win.{Win}
 use Rattle.tg_evac.specs.Claims.{Claimed, AddsClaims, AreTraced, IsClaimOf, IsRootClaim, cells_won, chunk_targets, is_in_old, is_straight, win_at}
 use Rattle.tg_evac.proofs.Claiming.{claims_then, claims_weaker, still_held}
-use Rattle.tg_evac.proofs.Chunks.{ChunksPassed, chunk_inside, one_passed, row_kept, targets_from}
+use Rattle.tg_evac.proofs.Chunks.{ChunksPassed, chunk_inside, one_passed, row_kept}
 use Rattle.tg_evac.proofs.Reasons.{adds_cells, traced_more}
 
 -- a claim of one of these cells is one of more cells

@@ -1,5 +1,5 @@
 -- Where the copies of won cells stand, and which of them name young cells.
-use Rattle.std.specs.Prelude.{◌≡◌, ◌≢◌, ℕ, ◌-◌, ◌<◌, ◌≤◌, ◌==◌, Bool, not, List, [], length, slice_index_or, slice_set}
+use Rattle.std.specs.Prelude.{◌≡◌, ◌≢◌, ℕ, ◌-◌, ◌<◌, ◌≤◌, List, [], length, slice_index_or, slice_set}
 use Rattle.std.specs.List.{All, Contains}
 use Rattle.tg_block.specs.Cells.{IsBlock, free_block, free_cell, cell_of}
 use Rattle.tg_word.specs.declared.Place.{Place}

@@ -1,13 +1,12 @@
 //! The claim phase: which cells are copied, and where to.
-ghost use Rattle.std.specs.Prelude.{◌≡◌, ℕ, ◌+◌, ◌<◌, ◌≤◌, ◌^◌, ◌*◌, List, [], ◌∷◌, length, slice_index, slice_index_or, IfErr, IfOk, OnOk};
-ghost use Rattle.std.specs.List.{All, Contains, flat_map};
-ghost use Rattle.tg_word.specs.Word.{place_in};
+ghost use Rattle.std.specs.Prelude.{◌≡◌, ◌+◌, ◌<◌, ◌≤◌, ◌^◌, ◌*◌, List, [], length, slice_index, IfErr, IfOk, OnOk};
+ghost use Rattle.std.specs.List.{All, Contains};
 ghost use Rattle.tg_space.specs.Closure.{IsClosed};
 ghost use Rattle.tg_space.specs.Collection.{used_cells};
 ghost use Rattle.tg_space.specs.Soundness.{IsPointer, IsRootIn};
-ghost use Rattle.tg_space.specs.SpaceList.{Holds, cells_of, flat_of};
+ghost use Rattle.tg_space.specs.SpaceList.{Holds, cells_of};
 ghost use Rattle.tg_space.specs.SpaceTable.{IsSpaceTable};
-ghost use Rattle.tg_space.specs.Targets.{all_root_targets, cells_met, from_space, named_by, pointers_of, root_targets_of, target_in, targets_at, targets_of};
+ghost use Rattle.tg_space.specs.Targets.{all_root_targets, from_space, named_by, pointers_of, root_targets_of, target_in, targets_at, targets_of};
 ghost use Rattle.tg_space.specs.declared.spaces.Root.{Root as RootOf};
 ghost use Rattle.tg_space.specs.declared.spaces.Root.TheVariants.{Row};
 ghost use Rattle.tg_evac.specs.Claims.{AddsClaims, AreTraced, HavePointers, IsClaimOf, IsFull, IsRootClaim, IsTracedFrom, IsWinFor, cells_won, chunk_targets, is_in_old, is_straight, win_at};

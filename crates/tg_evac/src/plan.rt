@@ -6,10 +6,10 @@ ghost use Rattle.tg_evac.specs.Claims.{IsPlanFor, is_straight as straight_from, 
 use tg_block::CELLS;
 use tg_space::{Kind, Root, Spaces};
 
-/// The space of cells that have outlived a collection twice.
+/// The number of Old among the spaces.
 pub const OLD: u64 = 0;
 
-/// The space of cells that have outlived a collection once.
+/// The number of Aged among the spaces.
 pub const AGED: u64 = 1;
 
 /// Which cells a collection moves, and what room it has for them.

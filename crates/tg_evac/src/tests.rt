@@ -4,7 +4,7 @@ ghost use Rattle.tg_word.specs.Word.{IsPlace};
 
 mod sound;
 
-use crate::{CollectFault, Copied, collect_one};
+use crate::{Copied, collect_one};
 use sound::are_sound;
 use std::alloc::Global;
 use std::process::Abort;
@@ -100,20 +100,21 @@ fn heap_of(alloc: Global, cells: &Cells) -> Result<Spaces, Fail> {
             spaces.add_block(space)?;
         }
     }
-    for _ in 0..64 {
-        if spaces.nurseries() == 1 && spaces.used(2) < 64 * spaces.len(2) {
-            spaces.hand_out(2);
-        }
-    }
     for (number, cell) in cells.iter().enumerate() {
-        write_cell(&mut spaces, place_at(number), cell);
+        let place = place_at(number);
+        if place.space < 2 && spaces.holds(place) {
+            spaces.write_cell(place, *cell);
+        } else {
+            put_in_nursery(&mut spaces, cell);
+        }
     }
     Ok(spaces)
 }
 
-// Writes a cell, where it may be.
-fn write_cell(spaces: &mut Spaces, place: Place, cell: &[u64; WORDS]) {
-    if spaces.holds(place) && 64 * place.block + place.cell < spaces.used(place.space).max(64) {
+// Writes to the next cell of the nursery, where there is one.
+fn put_in_nursery(spaces: &mut Spaces, cell: &[u64; WORDS]) {
+    if spaces.nurseries() == 1 && spaces.used(2) < 64 * spaces.len(2) {
+        let place = spaces.hand_out(2);
         spaces.write_cell(place, *cell);
     }
 }
@@ -134,17 +135,18 @@ fn mark_targets(cell: &[u64; WORDS], kind: Kind, marks: &mut Marks) {
 
 // Marks what a row has to keep.
 fn mark_row(cells: &Cells, kind: Kind, object: usize, marks: &mut Marks) {
-    let mut at = object % CELLS;
+    let mut at = object;
     for _ in 0..CELLS {
+        let cell = &cells[at % CELLS];
         if moves(kind, at) {
-            marks[at] = true;
+            marks[at % CELLS] = true;
             return;
         }
-        mark_targets(&cells[at], kind, marks);
-        if cells[at][7] == 0 {
+        mark_targets(cell, kind, marks);
+        if cell[7] == 0 {
             return;
         }
-        at = number_in(cells[at][7]);
+        at = number_in(cell[7]);
     }
 }
 
@@ -199,6 +201,7 @@ fn collect_random(rt: &impl Abort, alloc: Global, seed: &mut u64, kind: Kind) ->
     assert!(rt; are_sound(&spaces, &roots));
     let copied = collect_one(alloc, &spaces, &roots, kind)?;
     check(rt, &cells, kind, &rows, &noted, &copied);
+    check_cells(rt, &cells, kind, &copied);
     Ok(())
 }
 
@@ -218,6 +221,7 @@ fn copied_to(copied: &Copied, space: u64) -> Marks {
     marks
 }
 
+// Exactly the reached cells were copied, each to a space to which a walk leads it.
 fn check(rt: &impl Abort, cells: &Cells, kind: Kind, rows: &Marks, noted: &Marks, copied: &Copied) {
     assert_eq!(rt; copied.forward.len(), CELLS);
     let mut reached = [false; CELLS];
@@ -227,30 +231,19 @@ fn check(rt: &impl Abort, cells: &Cells, kind: Kind, rows: &Marks, noted: &Marks
         reached[i] = rows[i] || noted[i];
         old[i] = old[i] || i / 64 == 1 || kind == Kind::Full;
     }
-    spread(cells, kind, &[true; CELLS], &mut reached);
     let to_aged = copied_to(copied, 1);
     let to_old = copied_to(copied, 0);
+    spread(cells, kind, &[true; CELLS], &mut reached);
     spread(cells, kind, &to_aged, &mut aged);
     spread(cells, kind, &to_old, &mut old);
-    let mut count: u64 = 0;
-    let mut in_aged: u64 = 0;
     for i in 0..CELLS {
         assert_eq!(rt; to_aged[i] || to_old[i], reached[i]);
         assert!(rt; !to_aged[i] || (aged[i] && i / 64 == 2 && kind == Kind::Nursery));
         assert!(rt; !to_old[i] || old[i]);
-        if to_old[i] {
-            count = count.wrapping_add(1);
-        }
-        if to_aged[i] {
-            in_aged = in_aged.wrapping_add(1);
-        }
     }
-    assert_eq!(rt; copied.adoption.old.len(), count.wrapping_add(63) / 64);
-    assert_eq!(rt; copied.adoption.aged.len(), in_aged.wrapping_add(63) / 64);
-    check_cells(rt, cells, kind, copied);
 }
 
-// The words that a cell has to have.
+// The words that the copy of a cell has to have.
 fn moved(cell: &[u64; WORDS], kind: Kind, copied: &Copied) -> [u64; WORDS] {
     let mut words = *cell;
     for i in first_pointer(cell[0])..WORDS {
@@ -262,38 +255,37 @@ fn moved(cell: &[u64; WORDS], kind: Kind, copied: &Copied) -> [u64; WORDS] {
     words
 }
 
+// Each copy has the words that it has to have, and exactly the cells of Old that name young ones are noted.
 fn check_cells(rt: &impl Abort, cells: &Cells, kind: Kind, copied: &Copied) {
     let mut notes: usize = 0;
-    let kept = if kind == Kind::Full { 0 } else { 1 };
     for i in 0..CELLS {
         let words = moved(&cells[i], kind, copied);
+        let is_young = names_young(&words);
         let word = copied.forward.get(i).copied().unwrap_or(0);
-        let place = place_of(word);
+        let mut place = place_of(word);
         if word != 0 {
-            let blocks = if place.space == 0 {
-                &copied.adoption.old
-            } else {
-                &copied.adoption.aged
-            };
-            let block = if place.space == 0 {
-                place.block.wrapping_sub(kept)
-            } else {
-                place.block
-            };
-            assert!(rt; block < blocks.len() && place.cell < 64);
-            assert_eq!(rt; blocks.cell(block, place.cell), words);
-            if place.space == 0 {
-                assert_eq!(rt; copied.remembered.contains(place), names_young(&words));
-                notes = notes.wrapping_add(names_young(&words) as usize);
-            }
+            check_copy(rt, kind, copied, place, &words);
+        } else {
+            place = place_at(i);
         }
-        if kind == Kind::Nursery && i < 64 && names_young(&cells[i]) {
-            assert_eq!(rt;
-                copied.remembered.contains(place_at(i)),
-                names_young(&words)
-            );
-            notes = notes.wrapping_add(names_young(&words) as usize);
+        let is_noted = copied.remembered.contains(place);
+        assert!(rt; !is_noted || (place.space == 0 && is_young));
+        if kind == Kind::Nursery && place.space == 0 && (word != 0 || i < 64) {
+            assert_eq!(rt; is_noted, is_young);
         }
+        notes = notes.wrapping_add(is_noted as usize);
     }
     assert_eq!(rt; copied.remembered.len(), notes);
+}
+
+// The words stand at a place in the new blocks.
+fn check_copy(rt: &impl Abort, kind: Kind, copied: &Copied, place: Place, words: &[u64; WORDS]) {
+    let kept = if kind == Kind::Full { 0 } else { 1 };
+    let (blocks, block) = if place.space == 0 {
+        (&copied.adoption.old, place.block.wrapping_sub(kept))
+    } else {
+        (&copied.adoption.aged, place.block)
+    };
+    assert!(rt; block < blocks.len() && place.cell < 64);
+    assert_eq!(rt; blocks.cell(block, place.cell), *words);
 }

@@ -1,4 +1,4 @@
-use Rattle.std.proofs.Common.{◌≡◌, ◌≢◌, ◌<◌, ◌≤◌, length, get_or, refl, ap, arith, ◌∙◌}
+use Rattle.std.proofs.Common.{◌≢◌, ◌<◌, length, get_or, refl, ap, arith, ◌∙◌}
 use Rattle.tg_word.specs.declared.Place.{Place}
 use Rattle.tg_word.specs.Word.{place_in}
 use Rattle.tg_evac.proofs.Young.{names_at, none_young}

@@ -1,6 +1,6 @@
-use Rattle.std.proofs.Common.{◌≡◌, ℕ, List, take, drop, ◌-◌, OnOk, length, ap, subst, arith}
+use Rattle.std.proofs.Common.{◌≡◌, ℕ, List, OnOk, length, subst, arith}
 use Rattle.std.specs.List.{All, Contains}
-use Rattle.tg_space.specs.Targets.{from_space, named_by, pointers_of}
+use Rattle.tg_space.specs.Targets.{from_space, named_by}
 use Rattle.tg_space.proofs.Pointing.{pointers_are}
 use Rattle.tg_evac.specs.Claims.{cells_won}
 use Rattle.tg_evac.proofs.claims.Claims.claim_pointers.Goals as goal
