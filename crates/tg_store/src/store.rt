@@ -213,8 +213,9 @@ impl<P: Payload> Store<P> {
     /// payload. What isn't kept is given up with its payload.
     ///
     /// A full collection moves all cells that the workers' rows reach to Old, and keeps exactly the vertices that can be
-    /// reached. A nursery collection moves the younger cells alone, to Aged or to Old, and keeps all cells of Old: it
-    /// costs what is young, and may keep vertices that nobody reaches. After either no nursery has a block.
+    /// reached. A nursery collection moves the younger cells alone, to Aged or to Old, and keeps all cells of Old, of
+    /// which it looks at the remembered ones and the workers' rows alone: it may keep vertices that nobody reaches. After
+    /// either no nursery has a block.
     ///
     /// `HeapFull` is answered only where the cells in use that would be moved may not fit into the blocks that a space may
     /// have, and else `OutOfMemory` alone; the store is then as it was.
