@@ -5,4 +5,5 @@ pub mod Rows
 pub mod Targets
 pub mod Soundness
 pub mod Generations
+pub mod Forwarding
 pub mod Collection

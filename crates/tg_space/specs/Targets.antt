@@ -1,5 +1,5 @@
 -- What the cells of a heap name, and what the copy of a cell is.
-use Rattle.std.specs.Prelude.{◌≡◌, ℕ, ◌==◌, ◌++◌, if◌then◌else◌, Bool, true, not, List, [], ◌∷◌, length, take, drop, map, slice_index, slice_index_or}
+use Rattle.std.specs.Prelude.{◌≡◌, ℕ, ◌==◌, ◌++◌, if◌then◌else◌, Bool, true, not, List, [], ◌∷◌, take, drop, map, slice_index, slice_index_or}
 use Rattle.std.specs.List.{flat_map, take_while}
 use Rattle.tg_word.specs.declared.Place.{Place}
 use Rattle.tg_word.specs.Word.{place_in, rights_in, word_at}

@@ -7,6 +7,7 @@ ghost use Rattle.tg_space.specs.Soundness.{IsPointer};
 ghost use Rattle.tg_space.specs.SpaceList.{cells_of};
 ghost use Rattle.tg_space.specs.Targets.{from_space, image_of, moved_word as word_moved, pointers_of};
 
+use crate::forwarding::Forwarding;
 use crate::spaces::{Kind, Spaces, first_pointer};
 use tg_block::WORDS;
 use tg_word::{Slot, pack, place_of, rights_of};
@@ -16,11 +17,11 @@ impl Spaces {
     /// kind moves gets the place in that cell's forwarding word, and keeps its rights. All else is equal. Takes no
     /// memory.
     #[inline]
-    pub fn image(&self, kind: Kind, forward: &[u64], words: [u64; WORDS]) -> [u64; WORDS]
+    pub fn image(&self, kind: Kind, forward: &Forwarding, words: [u64; WORDS]) -> [u64; WORDS]
         requires pointers { All (IsPointer self.now.spaces) (pointers_of words) }
-        requires whole { length forward.now ≡ length (cells_of self.now.spaces) }
-        requires places { All (λ word. IsPlace (place_in word)) forward.now }
-        ensures { result ≡ image_of (from_space kind) self.now.spaces (new_place forward.now) words }
+        requires whole { length forward.now.words ≡ length (cells_of self.now.spaces) }
+        requires places { All (λ word. IsPlace (place_in word)) forward.now.words }
+        ensures { result ≡ image_of (from_space kind) self.now.spaces (new_place forward.now.words) words }
     {
         let first = first_pointer(words[0]);
         [
@@ -40,17 +41,17 @@ impl Spaces {
     fn image_word(
         &self,
         kind: Kind,
-        forward: &[u64],
+        forward: &Forwarding,
         words: &[u64; WORDS],
         first: usize,
         i: usize,
     ) -> u64
         requires inside { i < 8 }
         requires pointers { All (IsPointer self.now.spaces) (drop first words.now) }
-        requires whole { length forward.now ≡ length (cells_of self.now.spaces) }
-        requires places { All (λ word. IsPlace (place_in word)) forward.now }
+        requires whole { length forward.now.words ≡ length (cells_of self.now.spaces) }
+        requires places { All (λ word. IsPlace (place_in word)) forward.now.words }
         ensures below { i < first → result ≡ slice_index words.now i }
-        ensures above { first ≤ i → result ≡ word_moved (from_space kind) self.now.spaces (new_place forward.now) (slice_index words.now i) }
+        ensures above { first ≤ i → result ≡ word_moved (from_space kind) self.now.spaces (new_place forward.now.words) (slice_index words.now i) }
     {
         if i < first {
             return words[i];
@@ -60,11 +61,11 @@ impl Spaces {
 
     // The word with the new place of the cell that it names, where that cell is moved.
     #[inline]
-    fn moved_word(&self, kind: Kind, forward: &[u64], word: u64) -> u64
+    fn moved_word(&self, kind: Kind, forward: &Forwarding, word: u64) -> u64
         requires pointer { IsPointer self.now.spaces word }
-        requires whole { length forward.now ≡ length (cells_of self.now.spaces) }
-        requires places { All (λ word. IsPlace (place_in word)) forward.now }
-        ensures { result ≡ word_moved (from_space kind) self.now.spaces (new_place forward.now) word }
+        requires whole { length forward.now.words ≡ length (cells_of self.now.spaces) }
+        requires places { All (λ word. IsPlace (place_in word)) forward.now.words }
+        ensures { result ≡ word_moved (from_space kind) self.now.spaces (new_place forward.now.words) word }
     {
         if word == 0 {
             return 0;
@@ -73,10 +74,10 @@ impl Spaces {
         if !kind.moves(place.space) {
             return word;
         }
-        let target = self.target_of(word) as usize;
+        let target = self.target_of(word);
         pack(Slot::To {
             rights: rights_of(word),
-            place: place_of(forward[target]),
+            place: place_of(forward.word(target)),
         })
     }
 }

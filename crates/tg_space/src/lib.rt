@@ -30,10 +30,12 @@
 //! tracing: what was traced from the roots, and is complete, is exactly the closure.
 #![tactic(auto)]
 
+pub use forwarding::Forwarding;
 pub use limits::Limits;
 pub use space::Space;
 pub use spaces::{Adoption, AllocateFault, Kind, Root, Spaces, first_pointer};
 
+mod forwarding;
 mod images;
 pub mod laws;
 mod limits;

@@ -344,7 +344,7 @@ impl Spaces {
     /// Aged is its new blocks, and the nurseries have none. That is refused only where memory was; then nothing is
     /// changed.
     pub fn adopt(&mut self, kind: Kind, adoption: Adoption) -> Result<(), AllocError>
-        requires { kept_blocks kind self.old.spaces + length adoption.old ≤ 2 ^ 20 }
+        requires { kind ≡ Kind.Nursery → kept_blocks kind self.old.spaces + length adoption.old ≤ 2 ^ 20 }
         ensures adopted { OnOk result (self.new ≡ with_adopted self.old kind adoption.aged adoption.old) }
         ensures refused { OnErr result (self.new ≡ self.old) }
         ensures full { kind ≡ Kind.Full → IsOk result }

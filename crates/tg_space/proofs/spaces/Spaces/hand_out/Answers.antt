@@ -1,4 +1,4 @@
-use Rattle.std.proofs.Common.{◌≡◌, ◌<◌, ◌∙◌, ap, arith, sym, subst, ◌+◌, ◌≤◌, ◌/◌, ◌%◌, ◌^◌, length, get_or, set, []}
+use Rattle.std.proofs.Common.{◌≡◌, ◌<◌, ◌∙◌, ap, arith, sym, subst, ◌+◌, ◌/◌, ◌%◌, length, get_or, set, []}
 use Rattle.std.proofs.lemmas.List.{get_or_read, get_or-set_same}
 use Rattle.std.proofs.lemmas.List.Elements.{All-get_or}
 use Rattle.tg_word.specs.declared.Place.{Place}

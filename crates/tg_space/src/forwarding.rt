@@ -1,0 +1,61 @@
+//! Where the cells of a heap go.
+ghost use Rattle.std.specs.Prelude.{◌≡◌, ◌<◌, ◌≤◌, ◌++◌, length, replicate, slice_index, slice_set, IfOk};
+
+use std::alloc::{AllocError, Global};
+use std::marker::Model;
+
+/// The forwarding word of each cell, by its flat number: the word of its new place, or 0 where it has none. The first
+/// cells may be skipped: their words are 0 for good, and take no memory.
+///
+/// The idea is that of a collector's forwarding addresses, in a table of their own beside cells that are only read.
+#[derive(Drop)]
+pub struct Forwarding {
+    skipped: u64,
+    words: Vec<u64>,
+}
+
+impl Model for Forwarding {
+    ghost use Rattle.std.specs.Prelude.{◌++◌, replicate};
+    ghost use Rattle.tg_space.specs.Forwarding.{ForwardingWords};
+
+    ghost Value = { ForwardingWords };
+
+    ghost view = { λ f. record { skipped = f.skipped; words = replicate f.skipped 0 ++ f.words.items } };
+}
+
+impl Forwarding {
+    /// A word of 0 for each of as many cells, of which the first ones are skipped.
+    ///
+    /// It is refused only where memory for the words of the others was.
+    pub fn new(alloc: Global, cells: u64, skipped: u64) -> Result<Self, AllocError>
+        requires { skipped ≤ cells }
+        ensures skipped { IfOk result (λ forward. forward.skipped ≡ skipped) }
+        ensures words { IfOk result (λ forward. forward.words ≡ replicate cells 0) }
+    {
+        let words = vec![in alloc; 0; (cells - skipped) as usize]?;
+        Ok(Forwarding { skipped, words })
+    }
+
+    /// The word of a cell.
+    #[inline]
+    pub fn word(&self, cell: u64) -> u64
+        requires { cell < length self.now.words }
+        ensures { result ≡ slice_index self.now.words cell }
+    {
+        if cell < self.skipped {
+            return 0;
+        }
+        self.words[(cell - self.skipped) as usize]
+    }
+
+    /// Sets the word of a cell that isn't skipped.
+    #[inline]
+    pub fn set(&mut self, cell: u64, word: u64)
+        requires inside { cell < length self.old.words }
+        requires kept { self.old.skipped ≤ cell }
+        ensures words { self.new.words ≡ slice_set self.old.words cell word }
+        ensures skipped { self.new.skipped ≡ self.old.skipped }
+    {
+        self.words[(cell - self.skipped) as usize] = word;
+    }
+}
