@@ -7,7 +7,7 @@ ghost use Rattle.tg_space.specs.Collection.{IsCollection, new_place};
 ghost use Rattle.tg_space.specs.Generations.{AreNeeded};
 ghost use Rattle.tg_space.specs.Soundness.{AreSound, IsOldCell};
 ghost use Rattle.tg_space.specs.SpaceList.{Holds, cells_of, space_of};
-ghost use Rattle.tg_space.specs.SpaceTable.{IsSpaceTable};
+ghost use Rattle.tg_space.specs.SpaceTable.{IsSpaceTable, with_adopted};
 ghost use Rattle.tg_space.specs.Targets.{from_space};
 ghost use Rattle.tg_space.specs.declared.spaces.Root.TheVariants.{Remembered as IsRemembered, Row as IsRow};
 ghost use Rattle.tg_graph.specs.Heap.{IsGraph, content_of, roots_of};
@@ -20,7 +20,7 @@ use std::alloc::{AllocError, Global};
 use tg_block::{CELLS, OBJECT_TAG, WORDS};
 use tg_payload::{Payload, PayloadTable};
 use tg_remember::Remembered;
-use tg_space::{Adoption, Kind, Root, Spaces};
+use tg_space::{Adoption, Forwarding, Kind, Root, Spaces};
 use tg_word::{Place, place_of};
 
 // A cell of Old, and the words that it is to have.
@@ -56,12 +56,13 @@ impl<P: Payload> Heap<P> {
     pub fn settle(
         &mut self,
         kind: Kind,
-        forward: Vec<u64>,
+        forward: Forwarding,
         adoption: Adoption,
         remembered: Remembered,
     ) -> Result<u64, AllocError>
-        requires { IsCollection kind self.old.table.spaces (roots_of kind self.old) forward.items adoption.aged adoption.old remembered.places }
+        requires { IsCollection kind self.old.table.spaces (roots_of kind self.old) forward.words adoption.aged adoption.old remembered.places }
         ensures kept { OnOk result (KeepsReached kind (content_of self.old) (content_of self.new) (length self.old.workers)) }
+        ensures blocks { OnOk result (kind ≡ Kind.Full → self.new.table ≡ with_adopted self.old.table Kind.Full adoption.aged adoption.old) }
         ensures only_old { OnOk result (kind ≡ Kind.Full → (space : ℕ) → space ≢ 0 → space_of self.new.table.spaces space ≡ []) }
         ensures no_nursery { OnOk result ((space : ℕ) → 2 ≤ space → space_of self.new.table.spaces space ≡ []) }
         ensures limits { self.new.table.limits ≡ self.old.table.limits }
@@ -80,9 +81,10 @@ impl<P: Payload> Heap<P> {
     }
 
     // After a full collection.
-    fn keep_copied(&mut self, forward: &[u64], adoption: Adoption, remembered: Remembered)
-        requires { IsCollection Kind.Full self.old.table.spaces (roots_of Kind.Full self.old) forward.now adoption.aged adoption.old remembered.places }
-        ensures { IsSettled Kind.Full self.old self.new }
+    fn keep_copied(&mut self, forward: &Forwarding, adoption: Adoption, remembered: Remembered)
+        requires { IsCollection Kind.Full self.old.table.spaces (roots_of Kind.Full self.old) forward.now.words adoption.aged adoption.old remembered.places }
+        ensures blocks { self.new.table ≡ with_adopted self.old.table Kind.Full adoption.aged adoption.old }
+        ensures settled { IsSettled Kind.Full self.old self.new }
     {
         drop_uncopied(&self.cells.spaces, &mut self.cells.payloads, forward);
         follow(&self.cells.spaces, Kind::Full, forward, &mut self.workers);
@@ -93,11 +95,11 @@ impl<P: Payload> Heap<P> {
     // After a nursery collection. What needs the cells of from-space, or memory, comes before these cells go.
     fn keep_old_and_copied(
         &mut self,
-        forward: &[u64],
+        forward: &Forwarding,
         adoption: Adoption,
         noted: Remembered,
     ) -> Result<(), AllocError>
-        requires { IsCollection Kind.Nursery self.old.table.spaces (roots_of Kind.Nursery self.old) forward.now adoption.aged adoption.old noted.places }
+        requires { IsCollection Kind.Nursery self.old.table.spaces (roots_of Kind.Nursery self.old) forward.now.words adoption.aged adoption.old noted.places }
         ensures settled { OnOk result (IsSettled Kind.Nursery self.old self.new) }
         ensures refused { OnErr result (self.new ≡ self.old) }
     {
@@ -139,14 +141,14 @@ fn add_remembered(roots: &mut Vec<Root>, remembered: &Remembered) -> Result<(), 
 fn rewritten_cells(
     alloc: Global,
     spaces: &Spaces,
-    forward: &[u64],
+    forward: &Forwarding,
     remembered: &Remembered,
 ) -> Result<Vec<Rewritten>, AllocError>
     requires sound { AreSound spaces.now.spaces [] }
-    requires whole { length forward.now ≡ length (cells_of spaces.now.spaces) }
-    requires places { All (λ word. IsPlace (place_in word)) forward.now }
+    requires whole { length forward.now.words ≡ length (cells_of spaces.now.spaces) }
+    requires places { All (λ word. IsPlace (place_in word)) forward.now.words }
     requires held { All (IsOldCell spaces.now.spaces) remembered.now.places }
-    ensures { IfOk result (λ cells. cells.items ≡ map (rewritten_at spaces.now.spaces forward.now) remembered.now.places) }
+    ensures { IfOk result (λ cells. cells.items ≡ map (rewritten_at spaces.now.spaces forward.now.words) remembered.now.places) }
 {
     let mut cells = Vec::with_capacity(alloc, remembered.len())?;
     for i in 0..remembered.len() {
@@ -171,10 +173,10 @@ fn write_cells(spaces: &mut Spaces, cells: &[Rewritten])
 }
 
 // Takes out and drops the payload of each object that a full collection didn't copy.
-fn drop_uncopied<P: Payload>(spaces: &Spaces, payloads: &mut PayloadTable<P>, forward: &[u64])
+fn drop_uncopied<P: Payload>(spaces: &Spaces, payloads: &mut PayloadTable<P>, forward: &Forwarding)
     requires graph { IsGraph spaces.now.spaces payloads.old }
-    requires whole { length forward.now ≡ length (cells_of spaces.now.spaces) }
-    ensures dropped { Drops payloads.old payloads.new (IsDeadKey Kind.Full spaces.now.spaces forward.now) }
+    requires whole { length forward.now.words ≡ length (cells_of spaces.now.spaces) }
+    ensures dropped { Drops payloads.old payloads.new (IsDeadKey Kind.Full spaces.now.spaces forward.now.words) }
     ensures table { IsSpaceTable spaces.now }
 {
     for number in 0..spaces.cells() {
@@ -185,10 +187,10 @@ fn drop_uncopied<P: Payload>(spaces: &Spaces, payloads: &mut PayloadTable<P>, fo
 }
 
 // The keys of the objects that a nursery collection didn't copy. It looks at no cell of Old.
-fn dead_keys(alloc: Global, spaces: &Spaces, forward: &[u64]) -> Result<Vec<u64>, AllocError>
+fn dead_keys(alloc: Global, spaces: &Spaces, forward: &Forwarding) -> Result<Vec<u64>, AllocError>
     requires apart { HaveKeysApart spaces.now.spaces }
-    requires whole { length forward.now ≡ length (cells_of spaces.now.spaces) }
-    ensures keys { IfOk result (λ keys. (key : ℕ) → Contains keys.items key ↔ IsDeadKey Kind.Nursery spaces.now.spaces forward.now key) }
+    requires whole { length forward.now.words ≡ length (cells_of spaces.now.spaces) }
+    ensures keys { IfOk result (λ keys. (key : ℕ) → Contains keys.items key ↔ IsDeadKey Kind.Nursery spaces.now.spaces forward.now.words key) }
     ensures each_once { IfOk result (λ keys. AllPairs (λ a b. a ≢ b) keys.items) }
     ensures table { IsSpaceTable spaces.now }
 {
@@ -203,14 +205,14 @@ fn dead_keys(alloc: Global, spaces: &Spaces, forward: &[u64]) -> Result<Vec<u64>
 }
 
 // The key of the cell with a number, if that is an object which wasn't copied.
-fn dead_key(spaces: &Spaces, forward: &[u64], number: u64) -> Option<u64>
+fn dead_key(spaces: &Spaces, forward: &Forwarding, number: u64) -> Option<u64>
     requires table { IsSpaceTable spaces.now }
     requires inside { number < length (cells_of spaces.now.spaces) }
-    requires whole { length forward.now ≡ length (cells_of spaces.now.spaces) }
-    ensures some { IfSome result (IsDeadAt spaces.now.spaces forward.now number) }
-    ensures none { result ≡ None → (key : ℕ) → ¬ IsDeadAt spaces.now.spaces forward.now number key }
+    requires whole { length forward.now.words ≡ length (cells_of spaces.now.spaces) }
+    ensures some { IfSome result (IsDeadAt spaces.now.spaces forward.now.words number) }
+    ensures none { result ≡ None → (key : ℕ) → ¬ IsDeadAt spaces.now.spaces forward.now.words number key }
 {
-    if forward[number as usize] != 0 {
+    if forward.word(number) != 0 {
         return None;
     }
     let cell = spaces.numbered_cell(number);
@@ -232,10 +234,10 @@ fn drop_payloads<P: Payload>(payloads: &mut PayloadTable<P>, keys: &[u64])
 }
 
 // Each of these places becomes the one where a collection of this kind has its cell.
-fn follow(spaces: &Spaces, kind: Kind, forward: &[u64], places: &mut [Place])
+fn follow(spaces: &Spaces, kind: Kind, forward: &Forwarding, places: &mut [Place])
     requires held { All (Holds spaces.now.spaces) places.old }
-    requires whole { length forward.now ≡ length (cells_of spaces.now.spaces) }
-    ensures { places.new ≡ map (moved_place (from_space kind) spaces.now.spaces (new_place forward.now)) places.old }
+    requires whole { length forward.now.words ≡ length (cells_of spaces.now.spaces) }
+    ensures { places.new ≡ map (moved_place (from_space kind) spaces.now.spaces (new_place forward.now.words)) places.old }
 {
     for place in places.iter_mut() {
         *place = followed(spaces, kind, forward, *place);
@@ -243,13 +245,13 @@ fn follow(spaces: &Spaces, kind: Kind, forward: &[u64], places: &mut [Place])
 }
 
 // Where a collection of this kind has the cell at a place.
-fn followed(spaces: &Spaces, kind: Kind, forward: &[u64], place: Place) -> Place
+fn followed(spaces: &Spaces, kind: Kind, forward: &Forwarding, place: Place) -> Place
     requires held { Holds spaces.now.spaces place }
-    requires whole { length forward.now ≡ length (cells_of spaces.now.spaces) }
-    ensures { result ≡ moved_place (from_space kind) spaces.now.spaces (new_place forward.now) place }
+    requires whole { length forward.now.words ≡ length (cells_of spaces.now.spaces) }
+    ensures { result ≡ moved_place (from_space kind) spaces.now.spaces (new_place forward.now.words) place }
 {
     if kind.moves(place.space) {
-        place_of(forward[spaces.flat(place) as usize])
+        place_of(forward.word(spaces.flat(place)))
     } else {
         place
     }

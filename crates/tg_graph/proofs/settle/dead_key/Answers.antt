@@ -7,7 +7,7 @@ use Rattle.tg_graph.proofs.settle.dead_key.Goals as goal
 pub returns-then-cell-ne-OBJECT_TAG-clause-none : goal.returns-then-cell-ne-OBJECT_TAG-clause-none
 returns-then-cell-ne-OBJECT_TAG-clause-none c _ key is =
     let whole = table_list c.args.spaces.now c.requires.table in
-    let tag = dead_tagged c.args.spaces.now.spaces whole c.args.forward.now c.args.number key is in
+    let tag = dead_tagged c.args.spaces.now.spaces whole c.args.forward.now.words c.args.number key is in
     c.if-cell-ne-OBJECT_TAG.true (ap (λ (words : List ℕ). get_or words 0 0) c.numbered_cell-cell.ensures.words ∙ tag)
 
 pub returns-clause-some : goal.returns-clause-some
@@ -15,5 +15,5 @@ returns-clause-some c =
     let h = c.args.spaces.now.spaces in
     let whole = table_list c.args.spaces.now c.requires.table in
     let tag = ap (λ (words : List ℕ). get_or words 0 0) (sym c.numbered_cell-cell.ensures.words) ∙ c.if-cell-ne-OBJECT_TAG.false in
-    subst (λ (words : List ℕ). IsDeadAt h c.args.forward.now c.args.number (get_or words 2 0)) (sym c.numbered_cell-cell.ensures.words)
-    (dead_numbered h whole c.args.forward.now c.args.number c.requires.inside c.if-forward-number-ne0.false tag)
+    subst (λ (words : List ℕ). IsDeadAt h c.args.forward.now.words c.args.number (get_or words 2 0)) (sym c.numbered_cell-cell.ensures.words)
+    (dead_numbered h whole c.args.forward.now.words c.args.number c.requires.inside (sym c.word.ensures ∙ c.if-word-ne0.false) tag)

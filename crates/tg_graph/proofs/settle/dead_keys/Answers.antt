@@ -14,14 +14,14 @@ loop-number-init c =
     record {
       high = omega (arith, c.len.ensures.blocks);
       keys =
-          subst (λ (keys : List ℕ). AreKeysBelow h c.args.forward.now (64 * length (space_of h 0)) (64 * c.len.result) keys) (sym c.new-keys.ensures.items)
-          (subst (λ (blocks : ℕ). AreKeysBelow h c.args.forward.now (64 * length (space_of h 0)) (64 * blocks) []) (sym c.len.ensures.blocks) (keys_none h whole c.args.forward.now (64 * length (space_of h 0))));
+          subst (λ (keys : List ℕ). AreKeysBelow h c.args.forward.now.words (64 * length (space_of h 0)) (64 * c.len.result) keys) (sym c.new-keys.ensures.items)
+          (subst (λ (blocks : ℕ). AreKeysBelow h c.args.forward.now.words (64 * length (space_of h 0)) (64 * blocks) []) (sym c.len.ensures.blocks) (keys_none h whole c.args.forward.now.words (64 * length (space_of h 0))));
     }
 
 pub loop-number-preserved : goal.loop-number-preserved
 loop-number-preserved c =
     let h = c.args.spaces.now.spaces in
-    let forward = c.args.forward.now in
+    let forward = c.args.forward.now.words in
     let first = 64 * length (space_of h 0) in
     let n = c.loop-number.number in
     let whole = table_list c.args.spaces.now c.cells-cells.ensures.table in
@@ -40,7 +40,7 @@ loop-number-preserved c =
 pub returns-clause-keys : goal.returns-clause-keys
 returns-clause-keys c key =
     let h = c.args.spaces.now.spaces in
-    let forward = c.args.forward.now in
+    let forward = c.args.forward.now.words in
     let first = 64 * length (space_of h 0) in
     let whole = table_list c.args.spaces.now c.cells-cells.ensures.table in
     let some : 0 < length h = let enough = c.cells-cells.ensures.table.enough in omega arith in

@@ -6,5 +6,5 @@ use Rattle.tg_graph.proofs.settle.dead_keys.Given as goal
 abbrev pub invariant-loop-number : goal.invariant-loop-number
 invariant-loop-number l = record {
   high : 64 * length (space_of l.spaces.spaces 0) ≤ l.number;
-  keys : AreKeysBelow l.spaces.spaces l.forward (64 * length (space_of l.spaces.spaces 0)) l.number l.keys.items;
+  keys : AreKeysBelow l.spaces.spaces l.forward.words (64 * length (space_of l.spaces.spaces 0)) l.number l.keys.items;
 }

@@ -12,7 +12,7 @@ use Rattle.tg_graph.proofs.settle.drop_uncopied.Goals as goal
 pub take_out-requires : goal.take_out-requires
 take_out-requires g c =
     let h = c.args.spaces.now.spaces in
-    let forward = c.args.forward.now in
+    let forward = c.args.forward.now.words in
     let whole = table_list c.args.spaces.now c.cells-number-end.ensures.table in
     let n = c.loop-number.number in
     let key = c.in-Some.key in
@@ -25,12 +25,12 @@ pub loop-number-init : goal.loop-number-init
 loop-number-init g c =
     let h = c.args.spaces.now.spaces in
     let whole = table_list c.args.spaces.now c.cells-number-end.ensures.table in
-    drops_none c.args.payloads.now (IsDeadBelow h c.args.forward.now 0 0) (none_below h whole c.args.forward.now 0)
+    drops_none c.args.payloads.now (IsDeadBelow h c.args.forward.now.words 0 0) (none_below h whole c.args.forward.now.words 0)
 
 pub loop-number-preserved : goal.loop-number-preserved
 loop-number-preserved g c =
     let h = c.args.spaces.now.spaces in
-    let forward = c.args.forward.now in
+    let forward = c.args.forward.now.words in
     let whole = table_list c.args.spaces.now c.cells-number-end.ensures.table in
     let n = c.loop-number.number in
     elim c.match-dead_key.branch [
@@ -49,7 +49,7 @@ loop-number-preserved g c =
 pub returns-clause-dropped : goal.returns-clause-dropped
 returns-clause-dropped g c =
     let h = c.args.spaces.now.spaces in
-    let forward = c.args.forward.now in
+    let forward = c.args.forward.now.words in
     let whole = table_list c.args.spaces.now c.cells-number-end.ensures.table in
     let end : length (cells_of h) ≤ c.loop-number.number = omega (arith, c.cells-number-end.ensures.cells) in
     drops_same c.args.payloads.now c.loop-number.payloads (IsDeadBelow h forward 0 c.loop-number.number) (IsDeadKey Full h forward) c.loop-number.invariant

@@ -22,12 +22,12 @@ pub followed-requires-clause-held : goal.followed-requires-clause-held
 followed-requires-clause-held c =
     let h = c.args.spaces.now.spaces in
     let d : Place = record { space = 0; block = 0; cell = 0 } in
-    let same = still_at (moved_place (from_space c.args.kind) h (new_place c.args.forward.now)) c.args.places.now c.loop-place.places c.loop-place.place-index d c.loop-place.invariant c.loop-place-test.true in
+    let same = still_at (moved_place (from_space c.args.kind) h (new_place c.args.forward.now.words)) c.args.places.now c.loop-place.places c.loop-place.place-index d c.loop-place.invariant c.loop-place-test.true in
     subst (Holds h) (sym same) (c.requires.held c.loop-place.place-index d c.loop-place-test.true)
 
 pub loop-place-preserved : goal.loop-place-preserved
 loop-place-preserved c =
-    let f = moved_place (from_space c.args.kind) c.args.spaces.now.spaces (new_place c.args.forward.now) in
+    let f = moved_place (from_space c.args.kind) c.args.spaces.now.spaces (new_place c.args.forward.now.words) in
     let d : Place = record { space = 0; block = 0; cell = 0 } in
     let ys = c.loop-place.places in
     let i = c.loop-place.place-index in
@@ -38,7 +38,7 @@ loop-place-preserved c =
 
 pub returns : goal.returns
 returns c =
-    let f = moved_place (from_space c.args.kind) c.args.spaces.now.spaces (new_place c.args.forward.now) in
+    let f = moved_place (from_space c.args.kind) c.args.spaces.now.spaces (new_place c.args.forward.now.words) in
     let xs = c.args.places.now in
     let i = c.loop-place.place-index in
     let past : length xs ≤ i = c.loop-place-test.false in

@@ -6,4 +6,4 @@ use Rattle.tg_graph.proofs.settle.follow.Given as goal
 
 abbrev pub invariant-loop-place : goal.invariant-loop-place
 invariant-loop-place l =
-    l.places ≡ map (moved_place (from_space l.kind) l.spaces.spaces (new_place l.forward)) (take l.place-index l.fn.places) ++ drop l.place-index l.fn.places
+    l.places ≡ map (moved_place (from_space l.kind) l.spaces.spaces (new_place l.forward.words)) (take l.place-index l.fn.places) ++ drop l.place-index l.fn.places

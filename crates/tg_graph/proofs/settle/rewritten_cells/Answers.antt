@@ -29,7 +29,7 @@ image-words-requires-clause-pointers c =
 pub loop-i-preserved : goal.loop-i-preserved
 loop-i-preserved c =
     let h = c.args.spaces.now.spaces in
-    let forward = c.args.forward.now in
+    let forward = c.args.forward.now.words in
     let places = c.args.remembered.now.places in
     let words : c.image-words.result ≡ image_of young_spaces h (new_place forward) (cell_at h c.nth-place.result) = c.image-words.ensures ∙ ap (image_of young_spaces h (new_place forward)) c.cell.ensures.words in
     let of : List ℕ → Rewritten = λ ws. record { place = c.nth-place.result; words = ws } in

@@ -4,6 +4,7 @@ use Rattle.std.specs.List.{All}
 use Rattle.std.specs.Vec.{with_items}
 use Rattle.tg_word.specs.declared.Place.{Place}
 use Rattle.tg_space.specs.SpaceList.{Holds}
+use Rattle.tg_space.specs.SpaceTable.{with_adopted}
 use Rattle.tg_space.specs.Targets.{from_space}
 use Rattle.tg_space.specs.Collection.{new_place}
 use Rattle.tg_space.specs.declared.spaces.Kind.TheVariants.{Full}
@@ -32,7 +33,7 @@ now g c =
 left : (g : Over) (c : After-drop-self-inside-4 g) → IsLeft Full c.args.self.now (now g c)
 left g c =
     let inside = c.self.inside in
-    let forward = c.args.forward.now in
+    let forward = c.args.forward.now.words in
     let s : HeapState = record { table = inside.cells.spaces; payloads = inside.cells.payloads; workers = inside.workers.items; remembered = inside.cells.remembered.places } in
     let f = moved_place (from_space Full) s.table.spaces (new_place forward) in
     let moved : c.follow.new.places ≡ map f s.workers = subst (λ (places : List Place). c.follow.new.places ≡ map f places) c.deref_mut.ensures.value c.follow.ensures in
@@ -46,5 +47,9 @@ left g c =
 pub invariant_of-self : goal.invariant_of-self
 invariant_of-self g c = (left g c).well_formed
 
-pub returns : goal.returns
-returns g c = (left g c).settled
+pub returns-clause-blocks : goal.returns-clause-blocks
+returns-clause-blocks g c =
+    subst (λ (heap : HeapState). c.adopt.new.self ≡ with_adopted heap.table Full c.args.adoption.aged c.args.adoption.old) c.self.view_is (rw c.unwrap.ensures at c.adopt.ensures.adopted)
+
+pub returns-clause-settled : goal.returns-clause-settled
+returns-clause-settled g c = (left g c).settled

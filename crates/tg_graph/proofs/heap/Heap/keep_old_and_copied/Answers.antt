@@ -22,7 +22,7 @@ pub rewritten_cells-requires-clause-places : goal.rewritten_cells-requires-claus
 rewritten_cells-requires-clause-places g c =
     let inside = c.self.inside in
     let s : HeapState = record { table = inside.cells.spaces; payloads = inside.cells.payloads; workers = inside.workers.items; remembered = inside.cells.remembered.places } in
-    words_in_range s c.args.self.now c.self.view_is c.self.invariant c.in_ok-dead.ensures.table c.args.forward.now c.args.adoption.aged c.args.adoption.old c.args.noted.places c.requires c.len.ensures.whole.0
+    words_in_range s c.args.self.now c.self.view_is c.self.invariant c.in_ok-dead.ensures.table c.args.forward.now.words c.args.adoption.aged c.args.adoption.old c.args.noted.places c.requires c.len.ensures.whole.0
 
 pub rewritten_cells-requires-clause-held : goal.rewritten_cells-requires-clause-held
 rewritten_cells-requires-clause-held g c =
@@ -42,7 +42,7 @@ pub write_cells-requires : goal.write_cells-requires
 write_cells-requires g c =
     let inside = c.self.inside in
     let s : HeapState = record { table = inside.cells.spaces; payloads = inside.cells.payloads; workers = inside.workers.items; remembered = inside.cells.remembered.places } in
-    cells_there s c.args.self.now c.self.view_is c.self.invariant c.in_ok-dead.ensures.table c.args.forward.now c.args.adoption.aged c.args.adoption.old c.args.noted.places
+    cells_there s c.args.self.now c.self.view_is c.self.invariant c.in_ok-dead.ensures.table c.args.forward.now.words c.args.adoption.aged c.args.adoption.old c.args.noted.places
     c.adopt.new.self c.deref-2.result.now c.in_ok-adopt.ensures.adopted (c.deref-2.ensures.value ∙ c.in_ok-cells.ensures)
 
 pub drop_payloads-requires-clause-there : goal.drop_payloads-requires-clause-there
@@ -50,7 +50,7 @@ drop_payloads-requires-clause-there g c =
     let inside = c.self.inside in
     let s : HeapState = record { table = inside.cells.spaces; payloads = inside.cells.payloads; workers = inside.workers.items; remembered = inside.cells.remembered.places } in
     subst (λ (keys : List ℕ). All (λ key. IsSome (entry inside.cells.payloads key)) keys) (sym c.deref-3.ensures.value)
-    (payloads_there s c.args.self.now c.self.view_is c.self.invariant c.in_ok-dead.ensures.table c.args.forward.now c.args.adoption.aged c.args.adoption.old c.args.noted.places
+    (payloads_there s c.args.self.now c.self.view_is c.self.invariant c.in_ok-dead.ensures.table c.args.forward.now.words c.args.adoption.aged c.args.adoption.old c.args.noted.places
     c.in_ok-dead.dead.items c.in_ok-dead.ensures.keys)
 
 -- the heap as its parts are at the end
@@ -61,7 +61,7 @@ now g c =
 left : (g : Over) (c : After-drop-dead-2 g) → IsLeft Nursery c.args.self.now (now g c)
 left g c =
     let inside = c.self.inside in
-    let forward = c.args.forward.now in
+    let forward = c.args.forward.now.words in
     let s : HeapState = record { table = inside.cells.spaces; payloads = inside.cells.payloads; workers = inside.workers.items; remembered = inside.cells.remembered.places } in
     let f = moved_place (from_space Nursery) s.table.spaces (new_place forward) in
     let copied = c.in_ok-workers.ensures.items ∙ c.deref.ensures.value in

@@ -12,7 +12,7 @@ returns-clause-kept g c =
     let old : HeapState = c.args.self.now in
     elim c.match-kind.branch [
       | in-Full w ↦
-          let done : IsSettled c.args.kind old w.keep_copied.new.self = subst (λ (kind : Kind). IsSettled kind old w.keep_copied.new.self) (sym w.in-Full.is) w.keep_copied.ensures in
+          let done : IsSettled c.args.kind old w.keep_copied.new.self = subst (λ (kind : Kind). IsSettled kind old w.keep_copied.new.self) (sym w.in-Full.is) w.keep_copied.ensures.settled in
           subst (λ (heap : HeapState). KeepsReached c.args.kind (content_of old) (content_of heap) (length old.workers)) (sym w.self-is) done.keeps
       | in-Nursery+in_ok-keep_old_and_copied-in-Nursery w ↦
           let done : IsSettled c.args.kind old w.keep_old_and_copied.new.self = subst (λ (kind : Kind). IsSettled kind old w.keep_old_and_copied.new.self) (sym w.in-Nursery.is) w.in_ok-keep_old_and_copied-in-Nursery.ensures.settled in
@@ -23,7 +23,7 @@ pub returns-clause-needed : goal.returns-clause-needed
 returns-clause-needed g c =
     elim c.match-kind.branch [
       | in-Full w ↦
-          subst (λ (heap : HeapState). AreNeeded heap.table.spaces heap.remembered) (sym w.self-is) w.keep_copied.ensures.needed
+          subst (λ (heap : HeapState). AreNeeded heap.table.spaces heap.remembered) (sym w.self-is) w.keep_copied.ensures.settled.needed
       | in-Nursery+in_ok-keep_old_and_copied-in-Nursery w ↦
           subst (λ (heap : HeapState). AreNeeded heap.table.spaces heap.remembered) (sym w.self-is) w.in_ok-keep_old_and_copied-in-Nursery.ensures.settled.needed
     ]
