@@ -1,5 +1,5 @@
 //! The heap of one store.
-ghost use Rattle.std.specs.Prelude.{◌==◌, ◌≡◌, ◌↔◌, ◌+◌, ◌<◌, ◌⊎◌, ℕ, Err, IfOk, IfErr, IfSome, IsSome, OnOk, OnErr, length, slice_get, Some};
+ghost use Rattle.std.specs.Prelude.{◌==◌, ◌≡◌, ◌↔◌, ◌+◌, ◌<◌, ◌⊎◌, ℕ, Err, IfOk, IfErr, IfSome, IsErrAnd, IsSome, OnOk, OnErr, length, slice_get, Some};
 ghost use Rattle.std.specs.List.{All, IsDistinct};
 ghost use Rattle.tg_model.specs.Graph.{HasEdge, listing_of, with_rights, without_rights};
 ghost use Rattle.tg_model.specs.Opened.{start_of};
@@ -70,8 +70,8 @@ impl<P: Payload> Heap<P> {
     /// The heap of the graph that an opening starts from. The drafts are those of the workers, by rising name, with the
     /// opening's values. Each worker's object lies in the nursery of that worker, and so do the chunks of its row.
     ///
-    /// Where memory is refused (`OutOfMemory`), or there may be fewer blocks than there are workers (`HeapFull`), the
-    /// drafts come back as they were.
+    /// It is refused where there may be fewer blocks than there are workers (`HeapFull`, exactly then), and where memory
+    /// is (`OutOfMemory`). Then the drafts come back as they were.
     pub fn open(
         alloc: Global,
         opening: &Opening,
@@ -83,7 +83,7 @@ impl<P: Payload> Heap<P> {
         ensures workers { IfOk result (λ heap. length heap.workers ≡ opening.now.workers) }
         ensures limits { IfOk result (λ heap. heap.table.limits ≡ limits) }
         ensures handed_back { IfErr result (λ refused. refused.drafts.items ≡ drafts.items) }
-        ensures full { IfErr result (λ refused. refused.why ≡ AllocateFault.HeapFull → limits.max_blocks < opening.now.workers) }
+        ensures full { IsErrAnd result (λ refused. refused.why ≡ AllocateFault.HeapFull) ↔ (limits.max_blocks < opening.now.workers) }
     {
         let (cells, workers) = opened(alloc, opening, limits, drafts)?;
         Ok(Heap { cells, workers })
@@ -166,12 +166,14 @@ impl<P: Payload> Heap<P> {
         self.cells.state(at)
     }
 
-    /// Writes a number to the vertex at a place. Where that is refused, for want of memory alone, nothing is changed.
+    /// Writes a number to the vertex at a place. It writes to no cell. Where it is refused, for want of memory alone,
+    /// nothing is changed.
     pub fn write(&mut self, at: Place, number: u64) -> Result<(), AllocError>
         requires { IsObject self.old at }
         ensures written { OnOk result (IsContent (content_of self.new) (IsNamed (content_of self.old)) (content_of self.old).label
             (written_at (content_of self.old).value (name_of self.old at) number)) }
         ensures kept { OnOk result (KeepsPlaces self.old self.new) }
+        ensures table { self.new.table ≡ self.old.table }
         ensures remembered { self.new.remembered ≡ self.old.remembered }
         ensures refused { OnErr result (self.new ≡ self.old) }
     {
