@@ -4,6 +4,7 @@ ghost use Rattle.std.specs.List.{All, IsDistinct};
 ghost use Rattle.tg_model.specs.Graph.{HasEdge, listing_of, with_rights, without_rights};
 ghost use Rattle.tg_model.specs.Opened.{start_of};
 ghost use Rattle.tg_model.specs.Rules.{state_of, with_value, written_at};
+ghost use Rattle.tg_space.specs.SpaceList.{space_of};
 ghost use Rattle.tg_space.specs.SpaceTable.{IsSpaceTable};
 ghost use Rattle.tg_graph.specs.Content.{IsContent, IsNamed};
 ghost use Rattle.tg_graph.specs.Heap.{IsObject, IsOutOfCells, IsUnchanged, IsWellFormed, KeepsPlaces, content_of, name_of, rights_found};
@@ -208,12 +209,14 @@ impl<P: Payload> Heap<P> {
     }
 
     /// Takes rights over the vertex with a name from the vertex at a place. A reference that has none left leaves an
-    /// empty place, and chunks stay. Takes no memory.
+    /// empty place, and chunks stay. It takes no cell and no block, and no other memory.
     pub fn drop_rights(&mut self, from: Place, name: u64, label: Label)
         requires { IsObject self.old from }
         ensures dropped { IsContent (content_of self.new) (IsNamed (content_of self.old))
             (without_rights (content_of self.old).label (name_of self.old from) name label) (content_of self.old).value }
         ensures kept { KeepsPlaces self.old self.new }
+        ensures used { self.new.table.used ≡ self.old.table.used }
+        ensures blocks { (space : ℕ) → length (space_of self.new.table.spaces space) ≡ length (space_of self.old.table.spaces space) }
         ensures remembered { self.new.remembered ≡ self.old.remembered }
     {
         self.cells.drop_rights(from, name, label.rights());
