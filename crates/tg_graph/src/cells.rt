@@ -154,6 +154,8 @@ impl<P: Payload> Cells<P> {
         ensures payloads { self.new.payloads ≡ self.old.payloads }
         ensures remembered { AreRemembered self.old.spaces.spaces self.old.remembered.places → AreRemembered self.new.spaces.spaces self.old.remembered.places }
         ensures places { self.new.remembered.places ≡ self.old.remembered.places }
+        ensures used { self.new.spaces.used ≡ self.old.spaces.used }
+        ensures blocks { (space : ℕ) → length (space_of self.new.spaces.spaces space) ≡ length (space_of self.old.spaces.spaces space) }
     {
         if let Spot::Reference { cell, index } = find_spot(&self.spaces, from, name) {
             narrow(&mut self.spaces, cell, index, rights);

@@ -1,9 +1,10 @@
 //! The heap of one store.
-ghost use Rattle.std.specs.Prelude.{◌==◌, ◌≡◌, ◌↔◌, ◌+◌, ◌<◌, ◌⊎◌, ℕ, Err, IfOk, IfErr, IfSome, IsSome, OnOk, OnErr, length, slice_get, Some};
+ghost use Rattle.std.specs.Prelude.{◌==◌, ◌≡◌, ◌↔◌, ◌+◌, ◌<◌, ◌⊎◌, ℕ, Err, IfOk, IfErr, IfSome, IsErrAnd, IsSome, OnOk, OnErr, length, slice_get, Some};
 ghost use Rattle.std.specs.List.{All, IsDistinct};
 ghost use Rattle.tg_model.specs.Graph.{HasEdge, listing_of, with_rights, without_rights};
 ghost use Rattle.tg_model.specs.Opened.{start_of};
 ghost use Rattle.tg_model.specs.Rules.{state_of, with_value, written_at};
+ghost use Rattle.tg_space.specs.SpaceList.{space_of};
 ghost use Rattle.tg_space.specs.SpaceTable.{IsSpaceTable};
 ghost use Rattle.tg_graph.specs.Content.{IsContent, IsNamed};
 ghost use Rattle.tg_graph.specs.Heap.{IsObject, IsOutOfCells, IsUnchanged, IsWellFormed, KeepsPlaces, content_of, name_of, rights_found};
@@ -70,8 +71,8 @@ impl<P: Payload> Heap<P> {
     /// The heap of the graph that an opening starts from. The drafts are those of the workers, by rising name, with the
     /// opening's values. Each worker's object lies in the nursery of that worker, and so do the chunks of its row.
     ///
-    /// Where memory is refused (`OutOfMemory`), or there may be fewer blocks than there are workers (`HeapFull`), the
-    /// drafts come back as they were.
+    /// It is refused where there may be fewer blocks than there are workers (`HeapFull`, exactly then), and where memory
+    /// is (`OutOfMemory`). Then the drafts come back as they were.
     pub fn open(
         alloc: Global,
         opening: &Opening,
@@ -83,7 +84,7 @@ impl<P: Payload> Heap<P> {
         ensures workers { IfOk result (λ heap. length heap.workers ≡ opening.now.workers) }
         ensures limits { IfOk result (λ heap. heap.table.limits ≡ limits) }
         ensures handed_back { IfErr result (λ refused. refused.drafts.items ≡ drafts.items) }
-        ensures full { IfErr result (λ refused. refused.why ≡ AllocateFault.HeapFull → limits.max_blocks < opening.now.workers) }
+        ensures full { IsErrAnd result (λ refused. refused.why ≡ AllocateFault.HeapFull) ↔ (limits.max_blocks < opening.now.workers) }
     {
         let (cells, workers) = opened(alloc, opening, limits, drafts)?;
         Ok(Heap { cells, workers })
@@ -166,12 +167,14 @@ impl<P: Payload> Heap<P> {
         self.cells.state(at)
     }
 
-    /// Writes a number to the vertex at a place. Where that is refused, for want of memory alone, nothing is changed.
+    /// Writes a number to the vertex at a place. It writes to no cell. Where it is refused, for want of memory alone,
+    /// nothing is changed.
     pub fn write(&mut self, at: Place, number: u64) -> Result<(), AllocError>
         requires { IsObject self.old at }
         ensures written { OnOk result (IsContent (content_of self.new) (IsNamed (content_of self.old)) (content_of self.old).label
             (written_at (content_of self.old).value (name_of self.old at) number)) }
         ensures kept { OnOk result (KeepsPlaces self.old self.new) }
+        ensures table { self.new.table ≡ self.old.table }
         ensures remembered { self.new.remembered ≡ self.old.remembered }
         ensures refused { OnErr result (self.new ≡ self.old) }
     {
@@ -206,12 +209,14 @@ impl<P: Payload> Heap<P> {
     }
 
     /// Takes rights over the vertex with a name from the vertex at a place. A reference that has none left leaves an
-    /// empty place, and chunks stay. Takes no memory.
+    /// empty place, and chunks stay. It takes no cell and no block, and no other memory.
     pub fn drop_rights(&mut self, from: Place, name: u64, label: Label)
         requires { IsObject self.old from }
         ensures dropped { IsContent (content_of self.new) (IsNamed (content_of self.old))
             (without_rights (content_of self.old).label (name_of self.old from) name label) (content_of self.old).value }
         ensures kept { KeepsPlaces self.old self.new }
+        ensures used { self.new.table.used ≡ self.old.table.used }
+        ensures blocks { (space : ℕ) → length (space_of self.new.table.spaces space) ≡ length (space_of self.old.table.spaces space) }
         ensures remembered { self.new.remembered ≡ self.old.remembered }
     {
         self.cells.drop_rights(from, name, label.rights());

@@ -1,5 +1,5 @@
 //! Opening a heap.
-ghost use Rattle.std.specs.Prelude.{◌≡◌, ◌≢◌, ◌+◌, ◌<◌, ◌≤◌, ℕ, Some, false, true, [], length, slice_get, slice_index_or, slice_set, Err, IfErr, IfOk, OnOk, vec_capacity};
+ghost use Rattle.std.specs.Prelude.{◌≡◌, ◌≢◌, ◌↔◌, ◌+◌, ◌<◌, ◌≤◌, ℕ, Some, false, true, [], length, slice_get, slice_index_or, slice_set, Err, IfErr, IfOk, IsErrAnd, OnOk, vec_capacity};
 ghost use Rattle.std.specs.List.{All};
 ghost use Rattle.tg_rights.specs.RightSet.{is_none_held, no_rights, union};
 ghost use Rattle.tg_model.specs.Graph.{with_rights};
@@ -50,7 +50,7 @@ pub(crate) fn opened<P: Payload>(
     ensures remembered { IfOk result (λ parts. AreRemembered parts.0.spaces.spaces parts.0.remembered.places) }
     ensures plan { IsPlan opening.now }
     ensures handed_back { IfErr result (λ refused. refused.drafts.items ≡ drafts.items) }
-    ensures full { IfErr result (λ refused. refused.why ≡ AllocateFault.HeapFull → limits.max_blocks < opening.now.workers) }
+    ensures full { IsErrAnd result (λ refused. refused.why ≡ AllocateFault.HeapFull) ↔ (limits.max_blocks < opening.now.workers) }
 {
     let mut room = match with_room(alloc, opening.workers(), limits) {
         Ok(room) => room,
@@ -82,7 +82,7 @@ fn with_room<P: Payload>(
     ensures capacity { IfOk result (λ room. workers ≤ vec_capacity room.places) }
     ensures row { IfOk result (λ room. length room.row.items ≡ workers) }
     ensures remembered { IfOk result (λ room. room.cells.remembered.places ≡ []) }
-    ensures full { IfErr result (λ why. why ≡ AllocateFault.HeapFull → limits.max_blocks < workers) }
+    ensures full { IsErrAnd result (λ why. why ≡ AllocateFault.HeapFull) ↔ (limits.max_blocks < workers) }
 {
     if limits.max_blocks() < workers {
         return Err(AllocateFault::HeapFull);

@@ -1,5 +1,5 @@
 -- What a collection leaves of a store.
-use Rattle.std.proofs.Common.{◌≡◌, ◌↔◌, ◌==◌, ℕ, length, refl, sym, ap, subst, ◌∙◌}
+use Rattle.std.proofs.Common.{◌≡◌, ◌↔◌, ◌==◌, ℕ, length, sym, ap, subst, ◌∙◌}
 use Rattle.std.specs.List.{IsDistinct, range_with_len}
 use Rattle.tg_model.specs.Graph.{ProtectionGraph, IsReachable}
 use Rattle.tg_model.specs.Opened.{start_of}

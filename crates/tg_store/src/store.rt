@@ -56,8 +56,8 @@ impl<P: Payload> Store<P> {
 
     /// A store that starts from the opening, with the payloads of the drafts, one for each worker, and with no entry in
     /// its journal. `PayloadMismatch` is answered exactly where the drafts' laws and states aren't the opening's, with
-    /// the first such place; `HeapFull` only where the heap may have fewer blocks than there are workers; else
-    /// `OutOfMemory` alone. The opening and the drafts are then handed back as they were.
+    /// the first such place; `HeapFull` exactly where they are, and the heap may have fewer blocks than there are
+    /// workers; else `OutOfMemory` alone. The opening and the drafts are then handed back as they were.
     pub fn open(
         alloc: Global,
         opening: Opening,
@@ -69,7 +69,7 @@ impl<P: Payload> Store<P> {
         ensures no_entry { IfOk result (λ store. store.entries ≡ []) }
         ensures limits { IfOk result (λ store. store.heap.table.limits ≡ limits) }
         ensures mismatch { (at : ℕ) → IsErrAnd result (λ refused. refused.why ≡ OpenFault.PayloadMismatch at) ↔ IsFirstDifference opening.values drafts.items at }
-        ensures full { IfErr result (λ refused. refused.why ≡ OpenFault.HeapFull → limits.max_blocks < opening.workers) }
+        ensures full { IsErrAnd result (λ refused. refused.why ≡ OpenFault.HeapFull) ↔ ((drafts.items ≡ opening.values) × (limits.max_blocks < opening.workers)) }
         ensures handed_back { IfErr result (λ refused. (refused.opening ≡ opening) × (refused.drafts.items ≡ drafts.items)) }
     {
         if let Some(at) = first_difference(opening.values(), drafts.as_slice()) {

@@ -1,7 +1,7 @@
-use Rattle.std.proofs.Common.{arith, sym, subst, refl, length}
-use Rattle.std.specs.Prelude.{slice_index}
+use Rattle.std.proofs.Common.{arith, sym, subst, refl, ap, ◌∙◌, length}
+use Rattle.std.specs.Prelude.{slice_index, slice_set}
 use Rattle.std.proofs.lemmas.List.{length-set}
-use Rattle.tg_space.specs.SpaceList.{cell_at, cells_of}
+use Rattle.tg_space.specs.SpaceList.{cell_at, cells_of, space_of}
 use Rattle.tg_space.specs.SpaceTable.{SpaceTable}
 use Rattle.tg_space.specs.Generations.{AreRemembered}
 use Rattle.tg_space.proofs.Tables.{table_list}
@@ -12,6 +12,7 @@ use Rattle.tg_graph.specs.Rows.{name_at}
 use Rattle.tg_space.specs.Rows.{chunks_from, link_at}
 use Rattle.tg_graph.specs.Spots.{narrowed, word_put}
 use Rattle.tg_graph.specs.Steps.{ChangesTo}
+use Rattle.tg_graph.proofs.Changes.{shape_kept}
 use Rattle.tg_graph.proofs.Layouts.{present_place}
 use Rattle.tg_graph.proofs.Finding.{found_refers, none_found, none_refers, reference_found}
 use Rattle.tg_graph.proofs.Growing.{becomes_self, changes}
@@ -53,6 +54,18 @@ returns-in-Reference-clause-remembered g c =
     subst (λ (x : SpaceTable). AreRemembered x.spaces places) (sym c.narrow.ensures)
     (narrowed_remembered t c.find_spot.ensures.table c.args.self.now.payloads c.requires.graph c.args.from c.requires.from c.args.name c.args.rights c.in-Reference.cell c.in-Reference.index c.in-Reference.ensures.spot places before)
 
+pub returns-in-Reference-clause-blocks : goal.returns-in-Reference-clause-blocks
+returns-in-Reference-clause-blocks g c =
+    let t = c.args.self.now.spaces in
+    let cell = c.in-Reference.cell in
+    let words = cell_at t.spaces cell in
+    let reference = reference_found t.spaces c.args.from c.args.name cell c.in-Reference.index c.in-Reference.ensures.spot in
+    let to = reference.to in
+    let can = can_write t c.find_spot.ensures.table c.args.self.now.payloads c.requires.graph c.args.from c.requires.from cell c.in-Reference.index reference.cell (omega arith) in
+    let later = slice_set words c.in-Reference.index (narrowed (slice_index words c.in-Reference.index) c.args.rights) in
+    let shape = shape_kept t.spaces (table_list t c.find_spot.ensures.table) cell can.held later in
+    λ space. ap (λ (x : SpaceTable). length (space_of x.spaces space)) c.narrow.ensures ∙ shape.blocks space
+
 pub returns-in_default : goal.returns-in_default
 returns-in_default g c =
     let t = c.args.self.now.spaces in
@@ -69,4 +82,6 @@ returns-in_default g c =
       payloads = refl;
       remembered = λ before. before;
       places = refl;
+      used = refl;
+      blocks = λ space. refl;
     }
