@@ -118,60 +118,91 @@ fn audited(alloc: Global, entries: &[Entry]) -> Result<Option<u64>, Fail> {
     }
 }
 
+// What the audit finds in the journal, with the state that is said to have been read, and with the one who is denied to
+// write.
+fn audited_with(alloc: Global, state: u64, writer: u64) -> Result<Option<u64>, Fail> {
+    let journal = grant_then_denied_write(alloc, state, writer)?;
+    audited(alloc, journal.entries())
+}
+
+// Who is denied to write by the last of the journal's four entries.
+fn last_writer(alloc: Global) -> Result<u64, Fail> {
+    let journal = grant_then_denied_write(alloc, 0, 1)?;
+    if journal.len() == 4 {
+        Ok(journal.entry(3).worker)
+    } else {
+        Err(Fail::from("no four entries"))
+    }
+}
+
 #[test]
 fn altered_journal(rt: HostRuntime) -> Result<(), Fail> {
     let alloc = rt.alloc();
-    let journal = grant_then_denied_write(alloc, 0, 1)?;
-    assert_eq!(rt; journal.len(), 4);
-    assert_eq!(rt; journal.entry(3).worker, 1);
-    assert_eq!(rt; audited(alloc, journal.entries())?, None);
-    let altered = grant_then_denied_write(alloc, 1, 1)?;
-    assert_eq!(rt; audited(alloc, altered.entries())?, Some(2));
+    let (plain, altered) = (audited_with(alloc, 0, 1)?, audited_with(alloc, 1, 1)?);
+    assert_eq!(rt; last_writer(alloc)?, 1);
+    assert_eq!(rt; (plain, altered), (None, Some(2)));
     Ok(())
+}
+
+// What the audit finds in a part of the journal's four entries.
+fn audited_part(alloc: Global, from: usize, to: usize) -> Result<Option<u64>, Fail> {
+    let journal = grant_then_denied_write(alloc, 0, 1)?;
+    let entries = journal.entries();
+    if entries.len() == 4 && from <= to && to <= 4 {
+        audited(alloc, &entries[from..to])
+    } else {
+        Err(Fail::from("no four entries"))
+    }
+}
+
+// What the audit finds in a journal of the two entries.
+fn audited_pair(alloc: Global, first: Entry, second: Entry) -> Result<Option<u64>, Fail> {
+    let mut journal = Journal::new(alloc);
+    enter(&mut journal, first)?;
+    enter(&mut journal, second)?;
+    audited(alloc, journal.entries())
+}
+
+// What the audit finds in a journal of this entry.
+fn audited_alone(alloc: Global, entry: Entry) -> Result<Option<u64>, Fail> {
+    let mut journal = Journal::new(alloc);
+    enter(&mut journal, entry)?;
+    audited(alloc, journal.entries())
+}
+
+// Worker 0 makes a cell without a state.
+fn misfit(alloc: Global) -> Result<Entry, Fail> {
+    Ok(Entry {
+        worker: 0,
+        deed: Deed::Create {
+            label: label("rw")?,
+            law: Law::Cell,
+            state: Numbers::from_vec(Vec::new(alloc)),
+        },
+        reply: Reply::Name(2),
+    })
+}
+
+// What the audit finds in a journal that has its first entry twice.
+fn audited_twice(alloc: Global) -> Result<Option<u64>, Fail> {
+    audited_pair(alloc, created(alloc)?, created(alloc)?)
+}
+
+// What the audit finds without the first entry, without the last, with an unknown worker, with the first entry twice, and
+// with a state that doesn't fit.
+fn damages(alloc: Global) -> Result<[Option<u64>; 5], Fail> {
+    Ok([
+        audited_part(alloc, 1, 4)?,
+        audited_part(alloc, 0, 3)?,
+        audited_with(alloc, 0, 9)?,
+        audited_twice(alloc)?,
+        audited_alone(alloc, misfit(alloc)?)?,
+    ])
 }
 
 #[test]
 fn damaged_journals(rt: HostRuntime) -> Result<(), Fail> {
-    let alloc = rt.alloc();
-    let journal = grant_then_denied_write(alloc, 0, 1)?;
-    let entries = journal.entries();
-    assert_eq!(rt; entries.len(), 4);
-    assert_eq!(rt;
-        audited(alloc, &entries[1..])?,
-        Some(0),
-        "without its first entry"
-    );
-    assert_eq!(rt;
-        audited(alloc, &entries[..3])?,
-        None,
-        "without its last entry"
-    );
-    let unknown = grant_then_denied_write(alloc, 0, 9)?;
-    assert_eq!(rt;
-        audited(alloc, unknown.entries())?,
-        Some(3),
-        "with an unknown worker"
-    );
-    let mut twice = Journal::new(alloc);
-    enter(&mut twice, created(alloc)?)?;
-    enter(&mut twice, created(alloc)?)?;
-    assert_eq!(rt;
-        audited(alloc, twice.entries())?,
-        Some(1),
-        "with its first entry twice"
-    );
-    let mut misfit = Journal::new(alloc);
-    let mut first = created(alloc)?;
-    first.deed = Deed::Create {
-        label: label("rw")?,
-        law: Law::Cell,
-        state: Numbers::from_vec(Vec::new(alloc)),
-    };
-    enter(&mut misfit, first)?;
-    assert_eq!(rt;
-        audited(alloc, misfit.entries())?,
-        Some(0),
-        "with a state that does not fit"
-    );
+    let wanted = [Some(0), None, Some(3), Some(1), Some(0)];
+    assert_eq!(rt; damages(rt.alloc())?, wanted);
     Ok(())
 }

@@ -45,13 +45,18 @@ fn words_that_are_accepted(rt: HostRuntime) -> Result<(), Fail> {
     Ok(())
 }
 
-// The text of a fault of the words, whose status is 2.
-fn text_of(alloc: Global, words: &[&str]) -> Result<String, Fail> {
+// The text that is written instead of a run, with this status.
+fn text_with(alloc: Global, words: &[&str], status: i32) -> Result<String, Fail> {
     match options(alloc, words) {
         Ok(_) => Err(Fail::from("words that are accepted")),
-        Err(error) if error.exit_code() == 2 => Ok(format!(in alloc; "{error}")?),
-        Err(_) => Err(Fail::from("a status that is not 2")),
+        Err(error) if error.exit_code() == status => Ok(format!(in alloc; "{error}")?),
+        Err(_) => Err(Fail::from("another status")),
     }
+}
+
+// The text of a fault of the words, whose status is 2.
+fn text_of(alloc: Global, words: &[&str]) -> Result<String, Fail> {
+    text_with(alloc, words, 2)
 }
 
 #[test]
@@ -118,11 +123,7 @@ fn words_that_name_no_option(rt: HostRuntime) -> Result<(), Fail> {
 #[test]
 fn help_is_status_0(rt: HostRuntime) -> Result<(), Fail> {
     let alloc = rt.alloc();
-    let Err(help) = options(alloc, ["tgstore", "--help"].as_slice()) else {
-        return Err(Fail::from("no help"));
-    };
-    assert_eq!(rt; help.exit_code(), 0);
-    let text = format!(in alloc; "{help}")?;
+    let text = text_with(alloc, ["tgstore", "--help"].as_slice(), 0)?;
     let lines = [
         "Usage: tgstore [OPTIONS]\n",
         "  --workers <N>   How many workers there are, from 1 to 64. They are named 0, 1, 2, .. [default: 2]\n",
@@ -135,25 +136,33 @@ fn help_is_status_0(rt: HostRuntime) -> Result<(), Fail> {
     Ok(())
 }
 
-#[test]
-fn vertices_below_workers(rt: HostRuntime) -> Result<(), Fail> {
-    let alloc = rt.alloc();
+// The text at which a program stops, with status 2, since fewer vertices may be made than there are workers or since the
+// stock can't be read.
+fn stop_text(alloc: Global, stock: &str) -> Result<String, Fail> {
     let Ok(limits) = Limits::new(1, 1) else {
         return Err(Fail::from("no limits"));
     };
+    let settings = Settings {
+        workers: 2,
+        max_vertices: 1,
+        limits,
+    };
+    let Err(fault) = prepare(alloc, &Options { settings, stock }) else {
+        return Err(Fail::from("it is prepared"));
+    };
+    let stop = Stop::Start(fault);
+    if stop.status() == 2 {
+        Ok(format!(in alloc; "{stop}")?)
+    } else {
+        Err(Fail::from("another status"))
+    }
+}
+
+#[test]
+fn vertices_below_workers(rt: HostRuntime) -> Result<(), Fail> {
     let cases = [("", "bad limits"), ("c0", "bad stock"), ("x", "bad stock")];
     for (stock, line) in cases {
-        let settings = Settings {
-            workers: 2,
-            max_vertices: 1,
-            limits,
-        };
-        let Err(fault) = prepare(alloc, &Options { settings, stock }) else {
-            return Err(Fail::from("it is prepared"));
-        };
-        let stop = Stop::Start(fault);
-        assert_eq!(rt; stop.status(), 2);
-        let text = format!(in alloc; "{stop}")?;
+        let text = stop_text(rt.alloc(), stock)?;
         assert!(rt; text.as_str() == line, "{text}");
     }
     Ok(())
