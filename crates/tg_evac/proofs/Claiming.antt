@@ -14,7 +14,7 @@ use Rattle.tg_word.specs.Word.{IsPlace, link_to, place_in}
 use Rattle.tg_word.proofs.Packing.{place_in-word_at, word_at-above_zero}
 use Rattle.tg_space.specs.SpaceTable.{place_in_space}
 use Rattle.tg_evac.specs.declared.win.Win.{Win}
-use Rattle.tg_evac.specs.Claims.{Claimed, StandsIn, IsGiven, AreApart, AreClaims, AddsClaims, IsFull, cells_won, words_won, win_at}
+use Rattle.tg_evac.specs.Claims.{Claimed, StandsIn, IsGiven, AreApart, AreInOrder, AreClaims, AddsClaims, IsFull, cells_won, words_won, win_at}
 
 -- the place of Old or of Aged with a number
 pub place_inside : (s k : ℕ) → s < 2 → k < 2 ^ 26 → IsPlace (place_in_space s k)
@@ -284,6 +284,28 @@ module _ (c : Claimed) (are : AreClaims c) (w : Win) (space number : ℕ) (two :
       ⊎_elim (λ (e : s ≡ space). let new = ap (λ (k : ℕ). get_or (set c.next space (number + 1)) k 0) e in let is = next_same in omega arith)
       (λ (other : s ≢ space). let same = next_other s other in omega arith) (cases_eq s space)
 
+  only_old_more : ((v : Win) → Contains (c.won ++ w ∷ []) v → (place_in v.word).space ≡ 0) → get_or (set c.next space (number + 1)) 1 0 ≡ 0
+  only_old_more all =
+      let to : (place_in w.word).space ≡ space = ap (λ (n : ℕ). (place_in n).space) is ∙ ap (λ (p : Place). p.space) (place_back space number two small) in
+      let old : (place_in w.word).space ≡ 0 = all w here in
+      next_other 1 (λ e. absurd (omega arith)) ∙ are.only_old (λ v held. all v (Contains-append_left c.won (w ∷ []) v held))
+
+  in_order_more : get_or (set c.next space (number + 1)) 1 0 ≡ 0 → AreInOrder c.plan.kept (c.won ++ w ∷ [])
+  in_order_more none k low =
+      let in_old : space ≡ 0 = ⊎_elim (λ (e : space ≡ 0). e)
+          (λ (ne : space ≢ 0). let e : space ≡ 1 = omega arith in let at = ap (λ (s : ℕ). get_or (set c.next space (number + 1)) s 0) e in let same = next_same in absurd (omega arith)) (cases_eq space 0) in
+      let none_before : get_or c.next 1 0 ≡ 0 = sym (next_other 1 (λ e. absurd (omega arith))) ∙ none in
+      let long = length_push c.won w in
+      ⊎_elim
+      (λ (early : k < length c.won).
+      ap (λ (v : Win). v.word) (get_or_append_left c.won (w ∷ []) (win_at [] 0) k early) ∙ are.in_order none_before k early)
+      (λ (past : length c.won ≤ k).
+      let at : length c.won ≡ k = omega arith in
+      let counted = are.counted in let first = ap (λ (s : ℕ). get_or c.next s 0) in_old in
+      let number_is : number ≡ 64 * c.plan.kept + k = omega arith in
+      ap (λ (v : Win). v.word) (get_or_push c.won w (win_at [] 0) k at) ∙ is ∙ ap (λ (s : ℕ). link_to (place_in_space s number)) in_old ∙ ap (λ (n : ℕ). link_to (place_in_space 0 n)) number_is)
+      (cases_lt k (length c.won))
+
   pub claims_more : AreClaims (record { plan = c.plan; forward = set c.forward w.cell w.word; won = c.won ++ w ∷ []; next = set c.next space (number + 1) })
   claims_more = record {
     words = record { stand = All-push (StandsIn (set c.forward w.cell w.word)) c.won w (All-weaker (StandsIn c.forward) (StandsIn (set c.forward w.cell w.word)) still_stands c.won are.words.stand) new_stands; every = every_more };
@@ -296,6 +318,8 @@ module _ (c : Claimed) (are : AreClaims c) (w : Win) (space number : ℕ) (two :
     behind = let behind = are.behind in let grows = next_grows 0 in omega arith;
     few = few_more;
     room = are.room;
+    only_old = only_old_more;
+    in_order = in_order_more;
   }
 
   pub adds_one : (reason : Win → Type 0) → reason w → AddsClaims reason c (record { plan = c.plan; forward = set c.forward w.cell w.word; won = c.won ++ w ∷ []; next = set c.next space (number + 1) })

@@ -8,3 +8,5 @@ pub mod Adopted
 pub mod Collecting
 pub mod Sound
 pub mod Young
+pub mod Behind
+pub mod InOrder

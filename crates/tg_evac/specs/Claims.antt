@@ -65,6 +65,10 @@ cells_won won = map (λ w. w.cell) won
 abbrev pub words_won : List Win → List ℕ
 words_won won = map (λ w. w.word) won
 
+-- the pair at a number
+abbrev pub win_at : List Win → ℕ → Win
+win_at won k = slice_index_or won k (record { cell = 0; word = 0 })
+
 -- the cell of the pair has the word of the pair, which isn't 0
 pub record StandsIn (forward : List ℕ) (w : Win) : Type 0 where
   pub cell : w.cell < length forward
@@ -89,6 +93,10 @@ pub record IsGiven (kept : ℕ) (next : List ℕ) (word : ℕ) : Type 0 where
 abbrev pub AreApart : List ℕ → Type 0
 AreApart words = (i j : ℕ) → i < j → j < length words → slice_index words i ≢ slice_index words j
 
+-- the pairs have the places of Old one after the other, behind the blocks that stay
+abbrev pub AreInOrder : ℕ → List Win → Type 0
+AreInOrder kept won = (k : ℕ) → k < length won → (win_at won k).word ≡ link_to (place_in_space 0 (64 * kept + k))
+
 pub record AreClaims (c : Claimed) : Type 0 where
   pub words : AreWordsOf c.won c.forward
   pub given : All (IsGiven c.plan.kept c.next) (words_won c.won)
@@ -98,6 +106,9 @@ pub record AreClaims (c : Claimed) : Type 0 where
   pub behind : 64 * c.plan.kept ≤ slice_index c.next 0
   pub few : (space : ℕ) → slice_index c.next space ≤ 2 ^ 26
   pub room : c.plan.room ≤ 2 ^ 26
+  -- where no pair is in Aged, they are in order
+  pub only_old : ((w : Win) → Contains c.won w → (place_in w.word).space ≡ 0) → slice_index c.next 1 ≡ 0
+  pub in_order : slice_index c.next 1 ≡ 0 → AreInOrder c.plan.kept c.won
 
 -- as many different cells were won as there is room for
 pub record IsFull (c : Claimed) : Type 0 where
@@ -132,10 +143,6 @@ pub record AddsClaims (reason : Win → Type 0) (before after : Claimed) : Type 
   pub reasons : All reason added
   pub as_long : length after.forward ≡ length before.forward
   pub same_plan : after.plan ≡ before.plan
-
--- the pair at a number
-abbrev pub win_at : List Win → ℕ → Win
-win_at won k = slice_index_or won k (record { cell = 0; word = 0 })
 
 -- each pair is of a target of a root, or of one of the cell of an earlier pair
 abbrev pub AreTraced : Kind → SpaceList → List Root → List Win → Type 0

@@ -1,5 +1,5 @@
 -- Where the copies of won cells stand, and which of them name young cells.
-use Rattle.std.specs.Prelude.{◌≡◌, ◌≢◌, ℕ, ◌-◌, ◌<◌, ◌≤◌, List, [], length, slice_index_or, slice_set}
+use Rattle.std.specs.Prelude.{◌≡◌, ◌≢◌, ℕ, ◌+◌, ◌*◌, ◌^◌, ◌-◌, ◌<◌, ◌≤◌, List, [], length, slice_index_or, slice_set}
 use Rattle.std.specs.List.{All, Contains}
 use Rattle.tg_block.specs.Cells.{IsBlock, free_block, free_cell, cell_of}
 use Rattle.tg_word.specs.declared.Place.{Place}
@@ -10,6 +10,7 @@ use Rattle.tg_space.specs.SpaceList.{SpaceList, BlockList, cell_at}
 use Rattle.tg_space.specs.Targets.{from_space, cell_numbered, image_of}
 use Rattle.tg_space.specs.declared.spaces.Kind.{Kind}
 use Rattle.tg_evac.specs.declared.win.Win.{Win}
+use Rattle.tg_evac.specs.Claims.{AreInOrder, win_at}
 
 -- the words of the cell at a place, with its references and its link moved
 abbrev pub moved_cell : Kind → SpaceList → List ℕ → Place → List ℕ
@@ -23,12 +24,23 @@ copy_of kind h forward c = image_of (from_space kind) h (new_place forward) (cel
 abbrev pub HavePlaces : List ℕ → Type 0
 HavePlaces forward = All (λ word. IsPlace (place_in word)) forward
 
+-- each forwarding word is 0, or names a place of Old
+abbrev pub AreOld : List ℕ → Type 0
+AreOld forward = All (λ word. (place_in word).space ≡ 0) forward
+
 -- the word of the pair is the link to a place of Old, behind the blocks that stay, or of Aged
 pub record HasNewPlace (kept : ℕ) (w : Win) : Type 0 where
   pub place : IsPlace (place_in w.word)
   pub link : w.word ≡ link_to (place_in w.word)
   pub two : (place_in w.word).space < 2
   pub behind : (place_in w.word).space ≡ 0 → kept ≤ (place_in w.word).block
+
+-- the pairs of a collection that copies to Old alone, whose blocks are numbered from 0
+pub record AreAllOld (kept : ℕ) (forward : List ℕ) (won : List Win) : Type 0 where
+  pub kept_is : kept ≡ 0
+  pub few : length won ≤ 2 ^ 26
+  pub order : AreInOrder 0 won
+  pub old : AreOld forward
 
 -- ---- new blocks, which stand behind as many other ones of their space
 
@@ -63,6 +75,16 @@ pub record PutsCell (kept : ℕ) (place : Place) (words : List ℕ) (before afte
   pub few : (most : ℕ) → length before ≤ most → place.block - kept < most → length after ≤ most
 
 -- ---- copies
+
+-- the block has the copies of the pairs from one on, and free cells behind the last
+pub record HoldsRow (copy : ℕ → List ℕ) (won : List Win) (start : ℕ) (block : List (List ℕ)) : Type 0 where
+  pub copied : (i : ℕ) → i < 64 → start + i < length won → cell_of block i ≡ copy (win_at won (start + i)).cell
+  pub rest : (i : ℕ) → i < 64 → length won ≤ start + i → cell_of block i ≡ free_cell
+
+-- the blocks have the copies of the pairs one after the other, and free cells behind the last
+pub record HoldRows (copy : ℕ → List ℕ) (won : List Win) (blocks : BlockList) : Type 0 where
+  pub rows : (b : ℕ) → b < length blocks → HoldsRow copy won (64 * b) (slice_index_or blocks b [])
+  pub all : length won ≤ 64 * length blocks
 
 -- the copy of the pair's cell stands at the place of the pair's word
 pub record HasCopy (to kept : ℕ) (copy : ℕ → List ℕ) (blocks : BlockList) (w : Win) : Type 0 where

@@ -5,7 +5,7 @@ ghost use Rattle.tg_space.specs.Closure.{IsClosed};
 ghost use Rattle.tg_space.specs.Collection.{used_cells};
 ghost use Rattle.tg_space.specs.Soundness.{IsPointer, IsRootIn};
 ghost use Rattle.tg_space.specs.SpaceList.{Holds, cells_of};
-ghost use Rattle.tg_space.specs.SpaceTable.{IsSpaceTable};
+ghost use Rattle.tg_space.specs.SpaceTable.{IsSpaceTable, kept_blocks};
 ghost use Rattle.tg_space.specs.Targets.{all_root_targets, from_space, named_by, pointers_of, root_targets_of, target_in, targets_at, targets_of};
 ghost use Rattle.tg_space.specs.declared.spaces.Root.{Root as RootOf};
 ghost use Rattle.tg_space.specs.declared.spaces.Root.TheVariants.{Row};
@@ -16,9 +16,12 @@ use crate::plan::{OLD, Plan, space_for};
 use crate::win::Win;
 use std::alloc::Global;
 use std::marker::Model;
-use tg_block::WORDS;
-use tg_space::{Root, Spaces, first_pointer};
+use tg_block::{CELLS, WORDS};
+use tg_space::{Forwarding, Root, Spaces, first_pointer};
 use tg_word::{Place, link, place_of};
+
+// The first word of an object that may name a cell. A slice of known length is passed over without a loop.
+const OBJECT_POINTERS: usize = 4;
 
 // The word of an object or a chunk that links to the next chunk.
 const LINK: usize = WORDS - 1;
@@ -28,7 +31,7 @@ const LINK: usize = WORDS - 1;
 pub struct Claims {
     plan: Plan,
     /// The forwarding word of each cell, 0 where it has none.
-    pub forward: Vec<u64>,
+    pub forward: Forwarding,
     /// The cells that were won, in the order in which they were.
     pub won: Vec<Win>,
     // The number of the next new cell of Old, and of Aged.
@@ -36,20 +39,22 @@ pub struct Claims {
 }
 
 impl Model for Claims {
+    ghost use Rattle.std.specs.Prelude.{◌≡◌, ◌*◌};
     ghost use Rattle.tg_evac.specs.Claims.{Claimed, AreClaims};
 
     ghost Value = { Claimed };
 
-    ghost view = { λ c. record { plan = c.plan; forward = c.forward.items; won = c.won.items; next = c.next } };
+    ghost view = { λ c. record { plan = c.plan; forward = c.forward.words; won = c.won.items; next = c.next } };
 
-    ghost invariant = { λ c. AreClaims (record { plan = c.plan; forward = c.forward.items; won = c.won.items; next = c.next }) };
+    ghost invariant = { λ c. AreClaims (record { plan = c.plan; forward = c.forward.words; won = c.won.items; next = c.next }) × (c.forward.skipped ≡ 64 * c.plan.kept) };
 }
 
 impl Claims {
-    /// No claim yet, over as many cells.
-    pub fn new(alloc: Global, cells: usize, plan: Plan) -> Result<Self, CollectFault>
+    /// No claim yet, over as many cells. Those of the blocks that stay have no forwarding word.
+    pub fn new(alloc: Global, cells: u64, plan: Plan) -> Result<Self, CollectFault>
         requires room { plan.room ≤ 2 ^ 26 }
         requires kept { plan.kept ≤ 2 ^ 20 }
+        requires within { 64 * plan.kept ≤ cells }
         ensures won { IfOk result (λ claims. claims.won ≡ []) }
         ensures whole { IfOk result (λ claims. length claims.forward ≡ cells) }
         ensures plan { IfOk result (λ claims. claims.plan ≡ plan) }
@@ -57,9 +62,9 @@ impl Claims {
     {
         Ok(Claims {
             plan,
-            forward: vec![in alloc; 0; cells]?,
+            forward: Forwarding::new(alloc, cells, CELLS as u64 * plan.kept)?,
             won: Vec::new(alloc),
-            next: [64 * plan.kept, 0],
+            next: [CELLS as u64 * plan.kept, 0],
         })
     }
 
@@ -69,6 +74,7 @@ impl Claims {
         requires pointers { HavePointers spaces.now.spaces }
         requires roots { All (IsRootIn spaces.now.spaces) roots.now }
         requires whole { length self.old.forward ≡ length (cells_of spaces.now.spaces) }
+        requires kept { self.old.plan.kept ≡ kept_blocks self.old.plan.kind spaces.now.spaces }
         requires none_yet { self.old.won ≡ [] }
         ensures traced { OnOk result (IsTracedFrom self.old.plan.kind spaces.now.spaces roots.now self.new) }
         ensures same_plan { self.new.plan ≡ self.old.plan }
@@ -99,6 +105,7 @@ impl Claims {
     // Gives a cell the next place in a space.
     fn give(&mut self, cell: u64, space: u64) -> Result<(), CollectFault>
         requires inside { cell < length self.old.forward }
+        requires moved { 64 * self.old.plan.kept ≤ cell }
         requires none { slice_index self.old.forward cell ≡ 0 }
         requires space { space < 2 }
         ensures added { AddsClaims (IsWinFor cell space) self.old self.new }
@@ -111,29 +118,34 @@ impl Claims {
         }
         let word = link(space, number);
         self.won.push(Win { cell, word })?;
-        self.forward[cell as usize] = word;
+        self.forward.set(cell, word);
         self.next[space as usize] = number + 1;
         Ok(())
     }
 
     // Gives a cell a place in a space, unless it has one.
+    #[inline]
     fn claim(&mut self, cell: u64, space: u64) -> Result<(), CollectFault>
         requires inside { cell < length self.old.forward }
+        requires moved { 64 * self.old.plan.kept ≤ cell }
         requires space { space < 2 }
         ensures added { AddsClaims (IsWinFor cell space) self.old self.new }
         ensures held { OnOk result (Contains (cells_won self.new.won) cell) }
         ensures full { IfErr result (λ fault. fault ≡ CollectFault.HeapFull → IsFull self.new) }
     {
-        if self.forward[cell as usize] != 0 {
+        if self.forward.word(cell) != 0 {
             return Ok(());
         }
         self.give(cell, space)
     }
 
     // Claims the cell that a word names, if it names one that is moved.
+    #[inline]
+    #[tactic(auto, using(crate::proofs::Behind::moved_behind))]
     fn claim_word(&mut self, spaces: &Spaces, word: u64, straight: bool) -> Result<(), CollectFault>
         requires pointer { IsPointer spaces.now.spaces word }
         requires whole { length self.old.forward ≡ length (cells_of spaces.now.spaces) }
+        requires kept { self.old.plan.kept ≡ kept_blocks self.old.plan.kind spaces.now.spaces }
         ensures added { AddsClaims (IsClaimOf spaces.now.spaces straight (target_in (from_space self.old.plan.kind) spaces.now.spaces word)) self.old self.new }
         ensures held { OnOk result (All (Contains (cells_won self.new.won)) (target_in (from_space self.old.plan.kind) spaces.now.spaces word)) }
         ensures full { IfErr result (λ fault. fault ≡ CollectFault.HeapFull → IsFull self.new) }
@@ -146,6 +158,7 @@ impl Claims {
     }
 
     // Claims the cells that the words name.
+    #[inline]
     fn claim_words(
         &mut self,
         spaces: &Spaces,
@@ -154,6 +167,7 @@ impl Claims {
     ) -> Result<(), CollectFault>
         requires pointers { All (IsPointer spaces.now.spaces) words.now }
         requires whole { length self.old.forward ≡ length (cells_of spaces.now.spaces) }
+        requires kept { self.old.plan.kept ≡ kept_blocks self.old.plan.kind spaces.now.spaces }
         ensures added { AddsClaims (IsClaimOf spaces.now.spaces straight (named_by (from_space self.old.plan.kind) spaces.now.spaces words.now)) self.old self.new }
         ensures held { OnOk result (All (Contains (cells_won self.new.won)) (named_by (from_space self.old.plan.kind) spaces.now.spaces words.now)) }
         ensures full { IfErr result (λ fault. fault ≡ CollectFault.HeapFull → IsFull self.new) }
@@ -173,11 +187,15 @@ impl Claims {
     ) -> Result<(), CollectFault>
         requires pointers { All (IsPointer spaces.now.spaces) (pointers_of words.now) }
         requires whole { length self.old.forward ≡ length (cells_of spaces.now.spaces) }
+        requires kept { self.old.plan.kept ≡ kept_blocks self.old.plan.kind spaces.now.spaces }
         ensures added { AddsClaims (IsClaimOf spaces.now.spaces straight (named_by (from_space self.old.plan.kind) spaces.now.spaces (pointers_of words.now))) self.old self.new }
         ensures held { OnOk result (All (Contains (cells_won self.new.won)) (named_by (from_space self.old.plan.kind) spaces.now.spaces (pointers_of words.now))) }
         ensures full { IfErr result (λ fault. fault ≡ CollectFault.HeapFull → IsFull self.new) }
     {
         let first = first_pointer(words[0]);
+        if first == OBJECT_POINTERS {
+            return self.claim_words(spaces, &words[OBJECT_POINTERS..], straight);
+        }
         self.claim_words(spaces, &words[first..], straight)
     }
 
@@ -186,6 +204,7 @@ impl Claims {
         requires pointers { HavePointers spaces.now.spaces }
         requires inside { cell < length (cells_of spaces.now.spaces) }
         requires whole { length self.old.forward ≡ length (cells_of spaces.now.spaces) }
+        requires kept { self.old.plan.kept ≡ kept_blocks self.old.plan.kind spaces.now.spaces }
         ensures added { AddsClaims (IsClaimOf spaces.now.spaces straight (targets_of (from_space self.old.plan.kind) spaces.now.spaces cell)) self.old self.new }
         ensures held { OnOk result (All (Contains (cells_won self.new.won)) (targets_of (from_space self.old.plan.kind) spaces.now.spaces cell)) }
         ensures full { IfErr result (λ fault. fault ≡ CollectFault.HeapFull → IsFull self.new) }
@@ -204,6 +223,7 @@ impl Claims {
         requires pointers { HavePointers spaces.now.spaces }
         requires held { Holds spaces.now.spaces place }
         requires whole { length self.old.forward ≡ length (cells_of spaces.now.spaces) }
+        requires kept { self.old.plan.kept ≡ kept_blocks self.old.plan.kind spaces.now.spaces }
         ensures added { AddsClaims (IsClaimOf spaces.now.spaces straight (targets_at (from_space self.old.plan.kind) spaces.now.spaces place)) self.old self.new }
         ensures held { OnOk result (All (Contains (cells_won self.new.won)) (targets_at (from_space self.old.plan.kind) spaces.now.spaces place)) }
         ensures full { IfErr result (λ fault. fault ≡ CollectFault.HeapFull → IsFull self.new) }
@@ -222,6 +242,7 @@ impl Claims {
         requires pointers { HavePointers spaces.now.spaces }
         requires link { IsPointer spaces.now.spaces first }
         requires whole { length self.old.forward ≡ length (cells_of spaces.now.spaces) }
+        requires kept { self.old.plan.kept ≡ kept_blocks self.old.plan.kind spaces.now.spaces }
         ensures added { AddsClaims (IsClaimOf spaces.now.spaces straight (chunk_targets (from_space self.old.plan.kind) spaces.now.spaces (length (cells_of spaces.now.spaces)) first)) self.old self.new }
         ensures held { OnOk result (All (Contains (cells_won self.new.won)) (chunk_targets (from_space self.old.plan.kind) spaces.now.spaces (length (cells_of spaces.now.spaces)) first)) }
         ensures full { IfErr result (λ fault. fault ≡ CollectFault.HeapFull → IsFull self.new) }
@@ -242,6 +263,7 @@ impl Claims {
     }
 
     // Claims the object of a row where it is moved, and else the targets of the cells that are met outside from-space.
+    #[tactic(auto, using(crate::proofs::Behind::moved_behind))]
     fn claim_row(
         &mut self,
         spaces: &Spaces,
@@ -251,6 +273,7 @@ impl Claims {
         requires pointers { HavePointers spaces.now.spaces }
         requires held { Holds spaces.now.spaces object }
         requires whole { length self.old.forward ≡ length (cells_of spaces.now.spaces) }
+        requires kept { self.old.plan.kept ≡ kept_blocks self.old.plan.kind spaces.now.spaces }
         ensures added { AddsClaims (IsClaimOf spaces.now.spaces straight (root_targets_of (from_space self.old.plan.kind) spaces.now.spaces (Row object))) self.old self.new }
         ensures held { OnOk result (All (Contains (cells_won self.new.won)) (root_targets_of (from_space self.old.plan.kind) spaces.now.spaces (Row object))) }
         ensures full { IfErr result (λ fault. fault ≡ CollectFault.HeapFull → IsFull self.new) }
@@ -267,6 +290,7 @@ impl Claims {
         requires pointers { HavePointers spaces.now.spaces }
         requires root { IsRootIn spaces.now.spaces root }
         requires whole { length self.old.forward ≡ length (cells_of spaces.now.spaces) }
+        requires kept { self.old.plan.kept ≡ kept_blocks self.old.plan.kind spaces.now.spaces }
         ensures added { AddsClaims (IsClaimOf spaces.now.spaces (is_straight self.old.plan.kind root) (root_targets_of (from_space self.old.plan.kind) spaces.now.spaces root)) self.old self.new }
         ensures held { OnOk result (All (Contains (cells_won self.new.won)) (root_targets_of (from_space self.old.plan.kind) spaces.now.spaces root)) }
         ensures full { IfErr result (λ fault. fault ≡ CollectFault.HeapFull → IsFull self.new) }
@@ -283,6 +307,7 @@ impl Claims {
         requires pointers { HavePointers spaces.now.spaces }
         requires roots { All (IsRootIn spaces.now.spaces) roots.now }
         requires whole { length self.old.forward ≡ length (cells_of spaces.now.spaces) }
+        requires kept { self.old.plan.kept ≡ kept_blocks self.old.plan.kind spaces.now.spaces }
         ensures added { AddsClaims (IsRootClaim self.old.plan.kind spaces.now.spaces roots.now) self.old self.new }
         ensures held { OnOk result (All (Contains (cells_won self.new.won)) (all_root_targets (from_space self.old.plan.kind) spaces.now.spaces roots.now)) }
         ensures full { IfErr result (λ fault. fault ≡ CollectFault.HeapFull → IsFull self.new) }
@@ -298,6 +323,7 @@ impl Claims {
     fn scan(&mut self, spaces: &Spaces) -> Result<(), CollectFault>
         requires pointers { HavePointers spaces.now.spaces }
         requires whole { length self.old.forward ≡ length (cells_of spaces.now.spaces) }
+        requires kept { self.old.plan.kept ≡ kept_blocks self.old.plan.kind spaces.now.spaces }
         ensures traced { (roots : List RootOf) → AreTraced self.old.plan.kind spaces.now.spaces roots self.old.won → AreTraced self.old.plan.kind spaces.now.spaces roots self.new.won }
         ensures kept { All (Contains (cells_won self.new.won)) (cells_won self.old.won) }
         ensures closed { OnOk result (IsClosed (targets_of (from_space self.old.plan.kind) spaces.now.spaces) (cells_won self.new.won) (length (cells_won self.new.won))) }

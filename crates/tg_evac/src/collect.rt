@@ -10,13 +10,13 @@ use crate::fault::CollectFault;
 use crate::plan::Plan;
 use std::alloc::Global;
 use tg_remember::Remembered;
-use tg_space::{Adoption, Kind, Root, Spaces};
+use tg_space::{Adoption, Forwarding, Kind, Root, Spaces};
 
 /// What a collection hands over.
 #[derive(Drop)]
 pub struct Copied {
-    /// For each cell, by its flat number, the word of its new place: a link to it, or 0 where it wasn't copied.
-    pub forward: Vec<u64>,
+    /// For each cell the word of its new place: a link to it, or 0 where it wasn't copied.
+    pub forward: Forwarding,
     /// The new blocks.
     pub adoption: Adoption,
     /// The cells of Old that will name young ones: of those that were remembered, and of the copies in Old. None after a
@@ -33,6 +33,7 @@ pub struct Copied {
 ///
 /// The refusals change nothing: `OutOfMemory` where memory was refused, and `HeapFull` where Aged or Old would need more
 /// than `space_blocks` blocks, so that at least as many cells of from-space aren't free as there is room for in Old.
+#[tactic(auto, using(crate::proofs::Behind::kept_within))]
 pub fn collect_one(
     alloc: Global,
     spaces: &Spaces,
@@ -40,10 +41,10 @@ pub fn collect_one(
     kind: Kind,
 ) -> Result<Copied, CollectFault>
     requires { AreSound spaces.now.spaces roots.now }
-    ensures collected { IfOk result (λ copied. IsCollection kind spaces.now.spaces roots.now copied.forward.items copied.adoption.aged copied.adoption.old copied.remembered.places) }
+    ensures collected { IfOk result (λ copied. IsCollection kind spaces.now.spaces roots.now copied.forward.words copied.adoption.aged copied.adoption.old copied.remembered.places) }
     ensures full { IfErr result (λ fault. fault ≡ CollectFault.HeapFull → MayLackRoom spaces.now.limits.space_blocks 1 (kept_blocks kind spaces.now.spaces) (used_cells kind spaces.now.spaces)) }
 {
-    let cells = spaces.cells() as usize;
+    let cells = spaces.cells();
     let plan = Plan::of(kind, spaces);
     let mut claims = Claims::new(alloc, cells, plan)?;
     claims.trace(spaces, roots)?;

@@ -5,17 +5,18 @@ ghost use Rattle.tg_word.specs.declared.Place.{Place as PlaceOf};
 ghost use Rattle.tg_space.specs.Generations.{NamesYoung};
 ghost use Rattle.tg_space.specs.Soundness.{IsRootIn};
 ghost use Rattle.tg_space.specs.SpaceList.{IsSpace, cells_of};
+ghost use Rattle.tg_space.specs.SpaceTable.{IsSpaceTable};
 ghost use Rattle.tg_space.specs.declared.spaces.Root.TheVariants.{Remembered as RememberedAt};
 ghost use Rattle.tg_evac.specs.Claims.{AreApart, HavePointers, StandsIn, words_won};
-ghost use Rattle.tg_evac.specs.Copies.{HasNewPlace, HavePlaces, HoldCopies, IsGrown, IsYoungCopy, PutsCell, copy_of, moved_cell};
+ghost use Rattle.tg_evac.specs.Copies.{AreAllOld, HasNewPlace, HavePlaces, HoldCopies, HoldRows, HoldsRow, IsGrown, IsYoungCopy, PutsCell, copy_of, moved_cell};
 
 use crate::fault::CollectFault;
 use crate::plan::{OLD, Plan};
 use crate::win::Win;
 use std::alloc::{AllocError, Global};
-use tg_block::WORDS;
+use tg_block::{Block, CELLS, WORDS};
 use tg_remember::Remembered;
-use tg_space::{Adoption, Kind, Root, Space, Spaces, first_pointer};
+use tg_space::{Adoption, Forwarding, Kind, Root, Space, Spaces, first_pointer};
 use tg_word::{Place, place_of};
 
 /// Notes the remembered cells that will name young ones, in order.
@@ -23,14 +24,14 @@ pub fn note_roots(
     remembered: &mut Remembered,
     spaces: &Spaces,
     kind: Kind,
-    forward: &[u64],
+    forward: &Forwarding,
     roots: &[Root],
 ) -> Result<(), AllocError>
     requires pointers { HavePointers spaces.now.spaces }
     requires roots { All (IsRootIn spaces.now.spaces) roots.now }
-    requires whole { length forward.now ≡ length (cells_of spaces.now.spaces) }
-    requires places { HavePlaces forward.now }
-    ensures { OnOk result ((p : PlaceOf) → Contains remembered.new.places p ↔ (Contains remembered.old.places p ⊎ (Contains roots.now (RememberedAt p) × NamesYoung (moved_cell kind spaces.now.spaces forward.now p)))) }
+    requires whole { length forward.now.words ≡ length (cells_of spaces.now.spaces) }
+    requires places { HavePlaces forward.now.words }
+    ensures { OnOk result ((p : PlaceOf) → Contains remembered.new.places p ↔ (Contains remembered.old.places p ⊎ (Contains roots.now (RememberedAt p) × NamesYoung (moved_cell kind spaces.now.spaces forward.now.words p)))) }
 {
     for root in roots {
         note_root(remembered, spaces, kind, forward, *root)?;
@@ -43,14 +44,14 @@ fn note_root(
     remembered: &mut Remembered,
     spaces: &Spaces,
     kind: Kind,
-    forward: &[u64],
+    forward: &Forwarding,
     root: Root,
 ) -> Result<(), AllocError>
     requires pointers { HavePointers spaces.now.spaces }
     requires root { IsRootIn spaces.now.spaces root }
-    requires whole { length forward.now ≡ length (cells_of spaces.now.spaces) }
-    requires places { HavePlaces forward.now }
-    ensures { OnOk result ((p : PlaceOf) → Contains remembered.new.places p ↔ (Contains remembered.old.places p ⊎ ((root ≡ RememberedAt p) × NamesYoung (moved_cell kind spaces.now.spaces forward.now p)))) }
+    requires whole { length forward.now.words ≡ length (cells_of spaces.now.spaces) }
+    requires places { HavePlaces forward.now.words }
+    ensures { OnOk result ((p : PlaceOf) → Contains remembered.new.places p ↔ (Contains remembered.old.places p ⊎ ((root ≡ RememberedAt p) × NamesYoung (moved_cell kind spaces.now.spaces forward.now.words p)))) }
 {
     match root {
         Root::Row(_) => Ok(()),
@@ -66,21 +67,106 @@ pub fn copy_won(
     alloc: Global,
     spaces: &Spaces,
     plan: Plan,
-    forward: &[u64],
+    forward: &Forwarding,
     won: &[Win],
     remembered: &mut Remembered,
 ) -> Result<Adoption, AllocError>
     requires pointers { HavePointers spaces.now.spaces }
-    requires whole { length forward.now ≡ length (cells_of spaces.now.spaces) }
-    requires places { HavePlaces forward.now }
-    requires stand { All (StandsIn forward.now) won.now }
+    requires whole { length forward.now.words ≡ length (cells_of spaces.now.spaces) }
+    requires places { HavePlaces forward.now.words }
+    requires stand { All (StandsIn forward.now.words) won.now }
     requires new { All (HasNewPlace plan.kept) won.now }
     requires apart { AreApart (words_won won.now) }
     requires few { plan.kept ≤ 2 ^ 20 }
-    ensures aged { IfOk result (λ adoption. HoldCopies 1 0 (copy_of plan.kind spaces.now.spaces forward.now) won.now adoption.aged) }
-    ensures old { IfOk result (λ adoption. HoldCopies 0 plan.kept (copy_of plan.kind spaces.now.spaces forward.now) won.now adoption.old) }
+    requires table { IsSpaceTable spaces.now }
+    requires full { plan.kind ≡ Kind.Full → AreAllOld plan.kept forward.now.words won.now }
+    ensures aged { IfOk result (λ adoption. HoldCopies 1 0 (copy_of plan.kind spaces.now.spaces forward.now.words) won.now adoption.aged) }
+    ensures old { IfOk result (λ adoption. HoldCopies 0 plan.kept (copy_of plan.kind spaces.now.spaces forward.now.words) won.now adoption.old) }
     ensures few { IfOk result (λ adoption. plan.kept + length adoption.old ≤ 2 ^ 20) }
-    ensures noted { OnOk result ((p : PlaceOf) → Contains remembered.new.places p ↔ (Contains remembered.old.places p ⊎ IsYoungCopy (copy_of plan.kind spaces.now.spaces forward.now) won.now p)) }
+    ensures noted { OnOk result ((p : PlaceOf) → Contains remembered.new.places p ↔ (Contains remembered.old.places p ⊎ IsYoungCopy (copy_of plan.kind spaces.now.spaces forward.now.words) won.now p)) }
+{
+    match plan.kind {
+        Kind::Full => {
+            let old = copy_in_order(alloc, spaces, forward, won)?;
+            Ok(Adoption {
+                aged: Space::new(alloc),
+                old,
+            })
+        }
+        Kind::Nursery => copy_each(alloc, spaces, plan, forward, won, remembered),
+    }
+}
+
+// The copies of cells that all go to Old, one after the other.
+fn copy_in_order(
+    alloc: Global,
+    spaces: &Spaces,
+    forward: &Forwarding,
+    won: &[Win],
+) -> Result<Space, AllocError>
+    requires pointers { HavePointers spaces.now.spaces }
+    requires whole { length forward.now.words ≡ length (cells_of spaces.now.spaces) }
+    requires places { HavePlaces forward.now.words }
+    requires stand { All (StandsIn forward.now.words) won.now }
+    requires few { length won.now ≤ 2 ^ 26 }
+    ensures rows { IfOk result (λ blocks. HoldRows (copy_of Kind.Full spaces.now.spaces forward.now.words) won.now blocks) }
+    ensures few { IfOk result (λ blocks. length blocks ≤ 2 ^ 20) }
+{
+    let mut blocks = Space::new(alloc);
+    let mut start = 0;
+    while start < won.len() {
+        let block = copy_row(alloc, spaces, forward, won, start)?;
+        blocks.push(block)?;
+        start += CELLS;
+    }
+    Ok(blocks)
+}
+
+// A block with the copies of the cells from one on.
+fn copy_row(
+    alloc: Global,
+    spaces: &Spaces,
+    forward: &Forwarding,
+    won: &[Win],
+    start: usize,
+) -> Result<Block, AllocError>
+    requires pointers { HavePointers spaces.now.spaces }
+    requires whole { length forward.now.words ≡ length (cells_of spaces.now.spaces) }
+    requires places { HavePlaces forward.now.words }
+    requires stand { All (StandsIn forward.now.words) won.now }
+    requires inside { start < length won.now }
+    ensures { IfOk result (λ block. HoldsRow (copy_of Kind.Full spaces.now.spaces forward.now.words) won.now start block) }
+{
+    let mut block = Block::new(alloc)?;
+    let count = CELLS.min(won.len() - start);
+    for i in 0..count {
+        let win = won[start + i];
+        let words = spaces.image(Kind::Full, forward, *spaces.numbered_words(win.cell));
+        block.set_cell(i, words);
+    }
+    Ok(block)
+}
+
+// The copies of the won cells, each put at its place. Those in Old that name young cells are noted, in order.
+fn copy_each(
+    alloc: Global,
+    spaces: &Spaces,
+    plan: Plan,
+    forward: &Forwarding,
+    won: &[Win],
+    remembered: &mut Remembered,
+) -> Result<Adoption, AllocError>
+    requires pointers { HavePointers spaces.now.spaces }
+    requires whole { length forward.now.words ≡ length (cells_of spaces.now.spaces) }
+    requires places { HavePlaces forward.now.words }
+    requires stand { All (StandsIn forward.now.words) won.now }
+    requires new { All (HasNewPlace plan.kept) won.now }
+    requires apart { AreApart (words_won won.now) }
+    requires few { plan.kept ≤ 2 ^ 20 }
+    ensures aged { IfOk result (λ adoption. HoldCopies 1 0 (copy_of plan.kind spaces.now.spaces forward.now.words) won.now adoption.aged) }
+    ensures old { IfOk result (λ adoption. HoldCopies 0 plan.kept (copy_of plan.kind spaces.now.spaces forward.now.words) won.now adoption.old) }
+    ensures few { IfOk result (λ adoption. plan.kept + length adoption.old ≤ 2 ^ 20) }
+    ensures noted { OnOk result ((p : PlaceOf) → Contains remembered.new.places p ↔ (Contains remembered.old.places p ⊎ IsYoungCopy (copy_of plan.kind spaces.now.spaces forward.now.words) won.now p)) }
 {
     let mut adoption = Adoption {
         aged: Space::new(alloc),

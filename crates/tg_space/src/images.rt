@@ -10,7 +10,7 @@ ghost use Rattle.tg_space.specs.Targets.{from_space, image_of, moved_word as wor
 use crate::forwarding::Forwarding;
 use crate::spaces::{Kind, Spaces, first_pointer};
 use tg_block::WORDS;
-use tg_word::{Slot, pack, place_of, rights_of};
+use tg_word::{place_of, with_place};
 
 impl Spaces {
     /// These words of a cell with its references and its link moved: one that names a cell which a collection of this
@@ -70,14 +70,9 @@ impl Spaces {
         if word == 0 {
             return 0;
         }
-        let place = place_of(word);
-        if !kind.moves(place.space) {
+        if !kind.moves(place_of(word).space) {
             return word;
         }
-        let target = self.target_of(word);
-        pack(Slot::To {
-            rights: rights_of(word),
-            place: place_of(forward.word(target)),
-        })
+        with_place(word, forward.word(self.target_of(word)))
     }
 }

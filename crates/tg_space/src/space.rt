@@ -99,6 +99,20 @@ impl Space {
         block.set_cell(cell as usize, words);
     }
 
+    /// Adds a block at the end.
+    ///
+    /// It is refused only where memory was; then nothing is changed.
+    #[inline]
+    pub fn push(&mut self, block: Block) -> Result<(), AllocError>
+        requires { length self.old < 2 ^ 20 }
+        ensures added { OnOk result (self.new ≡ self.old ++ block ∷ []) }
+        ensures whole { OnOk result (IsSpace self.new) }
+        ensures refused { OnErr result (self.new ≡ self.old) }
+    {
+        self.blocks.push(block)?;
+        Ok(())
+    }
+
     /// Adds a block of free cells at the end.
     ///
     /// It is refused only where memory was; then nothing is changed.
@@ -108,9 +122,7 @@ impl Space {
         ensures whole { OnOk result (IsSpace self.new) }
         ensures refused { OnErr result (self.new ≡ self.old) }
     {
-        let block = Block::new(alloc)?;
-        self.blocks.push(block)?;
-        Ok(())
+        self.push(Block::new(alloc)?)
     }
 
     /// Puts the blocks of another space behind its own. No block is copied.

@@ -24,7 +24,7 @@
 #![tactic(auto)]
 
 use tg_rights::Rights;
-pub use words::{link, number_of, pack, place_of, rights_of, unpack, words_are_slots};
+pub use words::{link, number_of, pack, place_of, rights_of, unpack, with_place, words_are_slots};
 
 mod words;
 

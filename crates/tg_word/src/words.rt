@@ -93,6 +93,18 @@ pub fn rights_of(word: u64) -> Rights
     Rights::from_bits(field(word, 0, RIGHTS_WIDTH) as u8).unwrap()
 }
 
+/// The present reference with the rights in one word, to the place in another.
+///
+/// It looks at no other bits of either.
+#[inline]
+pub fn with_place(word: u64, other: u64) -> u64
+    ensures { result ≡ word_at (rights_in word) (place_in other) }
+{
+    let place = field(other, CELL_AT, PRESENT_AT - CELL_AT);
+    let rights = field(word, 0, RIGHTS_WIDTH);
+    (1 << PRESENT_AT) + (place << CELL_AT) + rights
+}
+
 // The field of a word that begins at a bit.
 #[inline]
 fn field(word: u64, at: u32, width: u32) -> u64

@@ -11,7 +11,7 @@ use Rattle.tg_evac.proofs.copies.note_root.Goals as goal
 
 pub returns-in-Remembered : goal.returns-in-Remembered
 returns-in-Remembered c =
-    let h = c.args.spaces.now.spaces in let kind = c.args.kind in let forward = c.args.forward.now in let place = c.in-Remembered.place in
+    let h = c.args.spaces.now.spaces in let kind = c.args.kind in let forward = c.args.forward.now.words in let place = c.in-Remembered.place in
     let words : c.image-words.result ≡ moved_cell kind h forward place = c.image-words.ensures ∙ ap (image_of (from_space kind) h (new_place forward)) c.words.ensures.words in
     let old : IsOldCell h place = subst (λ (r : Root). IsRootIn h r) c.in-Remembered.is c.requires.root in
     on_ok_weaker c.note_young.result (λ noted p. (

@@ -8,4 +8,4 @@ use Rattle.tg_evac.proofs.copies.note_roots.Given as goal
 
 abbrev pub invariant-loop-root : goal.invariant-loop-root
 invariant-loop-root l =
-    (p : Place) → Contains l.remembered.places p ↔ (Contains l.initial.remembered.places p ⊎ (Contains (take l.root-index l.roots) (Remembered p) × NamesYoung (moved_cell l.kind l.spaces.spaces l.forward p)))
+    (p : Place) → Contains l.remembered.places p ↔ (Contains l.initial.remembered.places p ⊎ (Contains (take l.root-index l.roots) (Remembered p) × NamesYoung (moved_cell l.kind l.spaces.spaces l.forward.words p)))

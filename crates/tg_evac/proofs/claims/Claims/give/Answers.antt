@@ -12,7 +12,7 @@ use Rattle.tg_evac.proofs.claims.Claims.give.Goals as goal
 pub invariant_of-self-2 : goal.invariant_of-self-2
 invariant_of-self-2 c =
     let inside = c.self.inside in let cell = c.args.cell in let space = c.args.space in
-    let v : Claimed = record { plan = inside.plan; forward = inside.forward.items; won = inside.won.items; next = inside.next } in
+    let v : Claimed = record { plan = inside.plan; forward = inside.forward.words; won = inside.won.items; next = inside.next } in
     let same : v ≡ c.args.self.now = c.self.view_is in
     let number = get_or inside.next space 0 in
     let w : Win = record { cell = cell; word = c.link-word.result } in
@@ -22,13 +22,13 @@ invariant_of-self-2 c =
     let room : number < v.plan.room = omega arith in
     let is : c.link-word.result ≡ link_to (place_in_space space number) = c.link-word.ensures in
     let next : number ≡ get_or v.next space 0 = cc in
-    rw c.in_ok-push.ensures.items (claims_more v c.self.invariant w space number two next low none room is)
+    rw (c.in_ok-push.ensures.items, c.set.ensures.words, c.set.ensures.skipped) (claims_more v c.self.invariant.0 w space number two next low none room is, c.self.invariant.1)
 
 pub returns-then-self-number-clause-full : goal.returns-then-self-number-clause-full
 returns-then-self-number-clause-full c _ =
     let inside = c.self.inside in
-    let v : Claimed = record { plan = inside.plan; forward = inside.forward.items; won = inside.won.items; next = inside.next } in
-    let full : IsFull v = full_at v c.self.invariant c.args.space c.requires.space c.if-self-number.true in
+    let v : Claimed = record { plan = inside.plan; forward = inside.forward.words; won = inside.won.items; next = inside.next } in
+    let full : IsFull v = full_at v c.self.invariant.0 c.args.space c.requires.space c.if-self-number.true in
     subst (λ (x : Claimed). IsFull x) c.self.view_is full
 
 pub returns-clause-held : goal.returns-clause-held
@@ -40,18 +40,19 @@ returns-clause-held c =
 pub returns-clause-added : goal.returns-clause-added
 returns-clause-added c =
     let inside = c.self.inside in let cell = c.args.cell in let space = c.args.space in
-    let v : Claimed = record { plan = inside.plan; forward = inside.forward.items; won = inside.won.items; next = inside.next } in
+    let v : Claimed = record { plan = inside.plan; forward = inside.forward.words; won = inside.won.items; next = inside.next } in
     let same : v ≡ c.args.self.now = c.self.view_is in
     let number = get_or inside.next space 0 in
     let w : Win = record { cell = cell; word = c.link-word.result } in
     let low : cell < length v.forward = subst (λ (x : Claimed). cell < length x.forward) (sym same) c.requires.inside in
     let none : get_or v.forward cell 0 ≡ 0 = subst (λ (x : Claimed). get_or x.forward cell 0 ≡ 0) (sym same) c.requires.none in
     let room : number < v.plan.room = omega arith in
-    let few = c.self.invariant.room in
+    let few = c.self.invariant.0.room in
     let is : c.link-word.result ≡ link_to (place_in_space space number) = c.link-word.ensures in
     let next : number ≡ get_or v.next space 0 = cc in
     let to : IsWinFor cell space w = record { number = refl; to = ap (λ (n : ℕ). (place_in n).space) is ∙ ap (λ (p : Place). p.space) (place_back space number c.requires.space (omega arith)) } in
-    let one = adds_one v c.self.invariant w space number c.requires.space next low none room is (IsWinFor cell space) to in
-    let after : List Win → Claimed = λ (won : List Win). record { plan = v.plan; forward = set v.forward cell c.link-word.result; won = won; next = set v.next space (number + 1) } in
-    let there = subst (λ (won : List Win). AddsClaims (IsWinFor cell space) v (after won)) (sym c.in_ok-push.ensures.items) one in
-    subst (λ (x : Claimed). AddsClaims (IsWinFor cell space) x (after c.push.new.self.items)) same there
+    let one = adds_one v c.self.invariant.0 w space number c.requires.space next low none room is (IsWinFor cell space) to in
+    let after : List Win → List ℕ → Claimed = λ (won : List Win) (forward : List ℕ). record { plan = v.plan; forward = forward; won = won; next = set v.next space (number + 1) } in
+    let first = subst (λ (won : List Win). AddsClaims (IsWinFor cell space) v (after won (set v.forward cell c.link-word.result))) (sym c.in_ok-push.ensures.items) one in
+    let then = subst (λ (forward : List ℕ). AddsClaims (IsWinFor cell space) v (after c.push.new.self.items forward)) (sym c.set.ensures.words) first in
+    subst (λ (x : Claimed). AddsClaims (IsWinFor cell space) x (after c.push.new.self.items c.set.new.self.words)) same then

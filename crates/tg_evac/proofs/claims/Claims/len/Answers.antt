@@ -8,9 +8,9 @@ use Rattle.tg_evac.proofs.claims.Claims.len.Goals as goal
 pub returns-clause-few : goal.returns-clause-few
 returns-clause-few c =
     let inside = c.self.inside in let now = c.args.self.now in
-    let v : Claimed = record { plan = inside.plan; forward = inside.forward.items; won = inside.won.items; next = inside.next } in
+    let v : Claimed = record { plan = inside.plan; forward = inside.forward.words; won = inside.won.items; next = inside.next } in
     let same : v ≡ now = c.self.view_is in
-    let le : length (cells_won now.won) ≤ length now.forward = subst (λ (x : Claimed). length (cells_won x.won) ≤ length x.forward) same (won_le v c.self.invariant) in
+    let le : length (cells_won now.won) ≤ length now.forward = subst (λ (x : Claimed). length (cells_won x.won) ≤ length x.forward) same (won_le v c.self.invariant.0) in
     let long : length (cells_won now.won) ≡ length now.won = length-map now.won (λ (w : Win). w.cell) in
     let count : length v.won ≡ length now.won = ap (λ (x : Claimed). length x.won) same in
     omega (arith, c.len.ensures)
