@@ -188,8 +188,8 @@ fn audited_twice(alloc: Global) -> Result<Option<u64>, Fail> {
     audited_pair(alloc, created(alloc)?, created(alloc)?)
 }
 
-// What the audit finds without the first entry, without the last, with an unknown worker, with the first entry twice, and
-// with a state that doesn't fit.
+// What the audit finds without the first entry, without the last, with an unknown worker, with the first entry twice,
+// and with a state that doesn't fit.
 fn damages(alloc: Global) -> Result<[Option<u64>; 5], Fail> {
     Ok([
         audited_part(alloc, 1, 4)?,

@@ -79,37 +79,29 @@ fn state_after<P: Payload>(
     table.read(key)
 }
 
-// The state of a cell in a box once three numbers were written to it.
-fn cell_after(alloc: Global, numbers: (u64, u64, u64)) -> Result<Numbers, AllocError> {
-    let cell: PayloadBox = Box::new(alloc, CellPayload::new(7))?;
-    state_after(alloc, cell, numbers)
-}
-
-// That of a sum which starts from the largest number.
-fn sum_after(alloc: Global, numbers: (u64, u64, u64)) -> Result<Numbers, AllocError> {
-    let sum: PayloadBox = Box::new(alloc, SumPayload::new(u64::MAX))?;
-    state_after(alloc, sum, numbers)
-}
-
-// That of a maximum.
-fn max_after(alloc: Global, numbers: (u64, u64, u64)) -> Result<Numbers, AllocError> {
-    let max: PayloadBox = Box::new(alloc, MaxPayload::new(7))?;
-    state_after(alloc, max, numbers)
-}
-
-// That of a log with room for two.
-fn log_after(alloc: Global, numbers: (u64, u64, u64)) -> Result<Numbers, AllocError> {
-    let log: PayloadBox = Box::new(alloc, LogPayload::new(alloc, 2))?;
-    state_after(alloc, log, numbers)
-}
-
 #[test]
 fn log_and_sum_payloads(rt: HostRuntime) -> Result<(), Fail> {
     let alloc = rt.alloc();
-    assert_eq!(rt; cell_after(alloc, (1, 2, 3))?.as_slice(), [3].as_slice());
-    assert_eq!(rt; sum_after(alloc, (1, 2, 3))?.as_slice(), [5].as_slice());
-    assert_eq!(rt; max_after(alloc, (5, 9, 8))?.as_slice(), [9].as_slice());
-    assert_eq!(rt; log_after(alloc, (1, 2, 3))?.as_slice(), [2, 3].as_slice());
+    let cell: PayloadBox = Box::new(alloc, CellPayload::new(7))?;
+    let sum: PayloadBox = Box::new(alloc, SumPayload::new(u64::MAX))?;
+    let max: PayloadBox = Box::new(alloc, MaxPayload::new(7))?;
+    let log: PayloadBox = Box::new(alloc, LogPayload::new(alloc, 2))?;
+    assert_eq!(rt;
+        state_after(alloc, cell, (1, 2, 3))?.as_slice(),
+        [3].as_slice()
+    );
+    assert_eq!(rt;
+        state_after(alloc, sum, (1, 2, 3))?.as_slice(),
+        [5].as_slice()
+    );
+    assert_eq!(rt;
+        state_after(alloc, max, (5, 9, 8))?.as_slice(),
+        [9].as_slice()
+    );
+    assert_eq!(rt;
+        state_after(alloc, log, (1, 2, 3))?.as_slice(),
+        [2, 3].as_slice()
+    );
     Ok(())
 }
 
@@ -133,26 +125,20 @@ fn dropped_in_turn<P: Payload>(
     Ok((before, between, drops.load(Ordering::SeqCst)))
 }
 
-// A box with a payload that counts its drop.
-fn counting_box(
-    alloc: Global,
-    number: u64,
-    drops: &Arc<AtomicU64>,
-) -> Result<PayloadBox, AllocError> {
-    let counting = CountingPayload {
-        number,
-        drops: drops.clone()?,
-    };
-    let counting: PayloadBox = Box::new(alloc, counting)?;
-    Ok(counting)
-}
-
 #[test]
 fn two_counting_boxes(rt: HostRuntime) -> Result<(), Fail> {
     let alloc = rt.alloc();
     let drops = Arc::new(alloc, AtomicU64::new(0))?;
-    let first = counting_box(alloc, 1, &drops)?;
-    let second = counting_box(alloc, 2, &drops)?;
+    let first = CountingPayload {
+        number: 1,
+        drops: drops.clone()?,
+    };
+    let second = CountingPayload {
+        number: 2,
+        drops: drops.clone()?,
+    };
+    let first: PayloadBox = Box::new(alloc, first)?;
+    let second: PayloadBox = Box::new(alloc, second)?;
     assert_eq!(rt; dropped_in_turn(alloc, first, second, &drops)?, (0, 1, 2));
     Ok(())
 }

@@ -45,8 +45,24 @@ fn runs(
     written: &[u8],
     outcome: Result<(), ScriptFault>,
 ) -> Result<(), Fail> {
-    let limits = limits_of(4096)?;
-    let ran = ran_in(rt.alloc(), workers, max_vertices, limits, stock, script)?;
+    let settings = Settings {
+        workers,
+        max_vertices,
+        limits: limits_of(4096)?,
+    };
+    runs_in(rt, settings, stock, script, written, outcome)
+}
+
+// Runs the script with these settings, and compares as well.
+fn runs_in(
+    rt: &(impl Abort + AllocGlobal),
+    settings: Settings,
+    stock: &[u8],
+    script: &[u8],
+    written: &[u8],
+    outcome: Result<(), ScriptFault>,
+) -> Result<(), Fail> {
+    let ran = ran_in(rt.alloc(), settings, stock, script)?;
     assert_eq!(rt; ran.written.as_slice(), written);
     assert_eq!(rt; ran.outcome, outcome);
     Ok(())
@@ -60,30 +76,65 @@ fn limits_of(blocks: u64) -> Result<Limits, Fail> {
     }
 }
 
-// Runs the script with so many workers, who store cells.
-fn ran_in(
-    alloc: Global,
-    workers: u64,
-    max_vertices: u64,
-    limits: Limits,
-    stock: &[u8],
-    script: &[u8],
-) -> Result<InMemory, Fail> {
+// A box for each of so many workers, with a cell that stores 0.
+fn worker_boxes(alloc: Global, workers: u64) -> Result<Vec<PayloadBox>, AllocError> {
     let mut cells: Vec<PayloadBox> = Vec::new(alloc);
     for _ in 0..workers {
         cells.push(Box::new(alloc, CellPayload::new(0))?)?;
     }
+    Ok(cells)
+}
+
+// A box of the stock.
+fn stock_box(alloc: Global, item: &StockItem) -> Result<PayloadBox, AllocError> {
+    let payload: PayloadBox = match item {
+        StockItem::Cell => Box::new(alloc, CellPayload::new(0))?,
+        StockItem::Sum => Box::new(alloc, SumPayload::new(0))?,
+        StockItem::Max => Box::new(alloc, MaxPayload::new(0))?,
+        StockItem::Log => Box::new(alloc, LogPayload::new(alloc, 4))?,
+    };
+    Ok(payload)
+}
+
+// The boxes of the items.
+fn boxes_of(alloc: Global, items: &[StockItem]) -> Result<Vec<PayloadBox>, AllocError> {
     let mut boxes: Vec<PayloadBox> = Vec::new(alloc);
-    for item in read_stock(alloc, stock)?.as_slice() {
-        let payload: PayloadBox = match item {
-            StockItem::Cell => Box::new(alloc, CellPayload::new(0))?,
-            StockItem::Sum => Box::new(alloc, SumPayload::new(0))?,
-            StockItem::Max => Box::new(alloc, MaxPayload::new(0))?,
-            StockItem::Log => Box::new(alloc, LogPayload::new(alloc, 4))?,
-        };
-        boxes.push(payload)?;
+    for item in items {
+        boxes.push(stock_box(alloc, item)?)?;
     }
+    Ok(boxes)
+}
+
+// The boxes of a stock.
+fn stock_boxes(alloc: Global, stock: &[u8]) -> Result<Vec<PayloadBox>, Fail> {
+    let items = read_stock(alloc, stock)?;
+    Ok(boxes_of(alloc, items.as_slice())?)
+}
+
+// Runs the script with these settings and with workers who store cells.
+fn ran_in(
+    alloc: Global,
+    settings: Settings,
+    stock: &[u8],
+    script: &[u8],
+) -> Result<InMemory, Fail> {
+    let cells = worker_boxes(alloc, settings.workers)?;
+    let boxes = stock_boxes(alloc, stock)?;
+    let Settings {
+        max_vertices,
+        limits,
+        ..
+    } = settings;
     Ok(run_with(alloc, max_vertices, limits, cells, boxes, script)?)
+}
+
+// So many workers, no limit of vertices that matters, and a heap of two blocks.
+fn two_blocks(workers: u64) -> Result<Settings, Fail> {
+    Ok(Settings {
+        workers,
+        max_vertices: 1_000_000,
+        limits: limits_of(2)?,
+    })
 }
 
 #[test]
@@ -215,34 +266,40 @@ fn ten_edges_and_a_hole(rt: HostRuntime) -> Result<(), Fail> {
     runs(&rt, 1, 1_000_000, b"c11", script, written, Ok(()))
 }
 
+// Adds the lines of 109 creates, of one more, and of 64 removes.
+fn fill_and_remove(alloc: Global, script: &mut String) -> Result<(), Fail> {
+    for _ in 0..110 {
+        script.push_str("0 create r\n")?;
+    }
+    for name in 1..65u64 {
+        script.push_str(format!(in alloc; "0 remove {name} r\n")?.as_str())?;
+    }
+    Ok(())
+}
+
+// Adds what is written for them.
+fn filled_and_removed(alloc: Global, written: &mut String) -> Result<(), Fail> {
+    for name in 1..110u64 {
+        written.push_str(format!(in alloc; "ok {name}\n")?.as_str())?;
+    }
+    written.push_str("refused heap\n")?;
+    for _ in 0..64 {
+        written.push_str("ok\n")?;
+    }
+    Ok(())
+}
+
 // 109 edges fill a block; after 64 of them are removed the heap has room again, once it was collected.
 #[test]
 fn exact_fit_of_one_block(rt: HostRuntime) -> Result<(), Fail> {
     let alloc = rt.alloc();
     let (mut script, mut written) = (String::new(alloc), String::new(alloc));
-    for name in 1..110u64 {
-        script.push_str("0 create r\n")?;
-        written.push_str(format!(in alloc; "ok {name}\n")?.as_str())?;
-    }
-    script.push_str("0 create r\n")?;
-    written.push_str("refused heap\n")?;
-    for name in 1..65u64 {
-        script.push_str(format!(in alloc; "0 remove {name} r\n")?.as_str())?;
-        written.push_str("ok\n")?;
-    }
+    fill_and_remove(alloc, &mut script)?;
+    filled_and_removed(alloc, &mut written)?;
     script.push_str("full\n0 create rw\n0 write 110 5\n0 write 110 5\n0 read 110\n0 create r\n")?;
     written.push_str("ok 46\nok 110\nok\nok\nok 10\nrefused stock\n")?;
-    let ran = ran_in(
-        alloc,
-        1,
-        1_000_000,
-        limits_of(2)?,
-        b"c109s",
-        script.as_bytes(),
-    )?;
-    assert_eq!(rt; ran.written.as_slice(), written.as_bytes());
-    assert_eq!(rt; ran.outcome, Ok(()));
-    Ok(())
+    let (script, written) = (script.as_bytes(), written.as_bytes());
+    runs_in(&rt, two_blocks(1)?, b"c109s", script, written, Ok(()))
 }
 
 #[test]
@@ -254,10 +311,8 @@ fn grant_needs_the_granters_own_right(rt: HostRuntime) -> Result<(), Fail> {
 
 #[test]
 fn no_block_for_the_third_worker(rt: HostRuntime) -> Result<(), Fail> {
-    let ran = ran_in(rt.alloc(), 3, 1_000_000, limits_of(2)?, b"", b"")?;
-    assert_eq!(rt; ran.written.as_slice(), b"".as_slice());
-    assert_eq!(rt; ran.outcome, Err(ScriptFault::HeapFull));
-    Ok(())
+    let full = Err(ScriptFault::HeapFull);
+    runs_in(&rt, two_blocks(3)?, b"", b"", b"", full)
 }
 
 // A payload that counts its drops.
@@ -297,11 +352,8 @@ impl Payload for CountingPayload {
     }
 }
 
-// The second create is refused; what is in the store, and what is left in the stock, is dropped once, at the end.
-#[test]
-fn two_counting_boxes(rt: HostRuntime) -> Result<(), Fail> {
-    let alloc = rt.alloc();
-    let drops = Arc::new(alloc, AtomicU64::new(0))?;
+// Two boxes with payloads that count their drops.
+fn counting_boxes(alloc: Global, drops: &Arc<AtomicU64>) -> Result<Vec<PayloadBox>, Fail> {
     let mut stock: Vec<PayloadBox> = Vec::new(alloc);
     for number in 1..3u64 {
         let payload = CountingPayload {
@@ -310,17 +362,28 @@ fn two_counting_boxes(rt: HostRuntime) -> Result<(), Fail> {
         };
         stock.push(Box::new(alloc, payload)?)?;
     }
-    let mut workers: Vec<PayloadBox> = Vec::new(alloc);
-    workers.push(Box::new(alloc, CellPayload::new(0))?)?;
+    Ok(stock)
+}
+
+// Runs the script with one worker, a stock of these boxes and room for two vertices.
+fn ran_with_counting(
+    alloc: Global,
+    drops: &Arc<AtomicU64>,
+    script: &[u8],
+) -> Result<InMemory, Fail> {
+    let stock = counting_boxes(alloc, drops)?;
+    let workers = worker_boxes(alloc, 1)?;
+    let limits = limits_of(4096)?;
+    Ok(run_with(alloc, 2, limits, workers, stock, script)?)
+}
+
+// The second create is refused; what is in the store, and what is left in the stock, is dropped once, at the end.
+#[test]
+fn two_counting_boxes(rt: HostRuntime) -> Result<(), Fail> {
+    let alloc = rt.alloc();
+    let drops = Arc::new(alloc, AtomicU64::new(0))?;
     let script = b"0 create rw\n0 create rw\n0 read 1\n";
-    let ran = run_with(
-        alloc,
-        2,
-        limits_of(4096)?,
-        workers,
-        stock,
-        script.as_slice(),
-    )?;
+    let ran = ran_with_counting(alloc, &drops, script.as_slice())?;
     assert_eq!(rt;
         ran.written.as_slice(),
         b"ok 1\nrefused vertices\nok 1\n".as_slice()

@@ -1,7 +1,9 @@
 //! Runs between a reader and a writer of which one fails in mid-stream or takes a byte at a time.
 ghost use Rattle.std.specs.Prelude.{◌≡◌, ◌<◌};
 
-use crate::{Count, Limits, OfRead, OfWrite, ScriptFault, Settings, drafts_of, run_script_one};
+use crate::{
+    Count, Limits, OfRead, OfWrite, ScriptFault, Settings, Sink, Source, drafts_of, run_script_one,
+};
 use std::alloc::{AllocError, Global};
 use std::io;
 use std::io::{ErrorKind, Read, Write};
@@ -61,6 +63,25 @@ fn run_between(
     run_counted::<Brand, Brand, Brand>(alloc, asked, read_failures, write_failures, reader, writer)
 }
 
+// Runs the source's script with one worker and a stock of one cell.
+fn run_one<S: Source, K: Sink>(
+    alloc: Global,
+    source: &mut S,
+    sink: &mut K,
+) -> Result<Result<(), ScriptFault>, AllocError> {
+    let Ok(limits) = Limits::new(4096, 1 << 20) else {
+        return Err(AllocError);
+    };
+    let settings = Settings {
+        workers: 1,
+        max_vertices: 1_000_000,
+        limits,
+    };
+    let workers = drafts_of(alloc, vec![in alloc; CellPayload::new(0)]?)?;
+    let stock = drafts_of(alloc, vec![in alloc; CellPayload::new(0)]?)?;
+    Ok(run_script_one(alloc, source, sink, settings, workers, stock))
+}
+
 fn run_counted<A: Ledger, B: Ledger, C: Ledger>(
     alloc: Global,
     asked: Blank,
@@ -79,17 +100,7 @@ fn run_counted<A: Ledger, B: Ledger, C: Ledger>(
         failures: Count::<B>::new(read_failures),
     };
     let mut sink = OfWrite::new(writer, Count::<C>::new(write_failures));
-    let Ok(limits) = Limits::new(4096, 1 << 20) else {
-        return Err(AllocError);
-    };
-    let settings = Settings {
-        workers: 1,
-        max_vertices: 1_000_000,
-        limits,
-    };
-    let workers = drafts_of(alloc, vec![in alloc; CellPayload::new(0)]?)?;
-    let stock = drafts_of(alloc, vec![in alloc; CellPayload::new(0)]?)?;
-    let outcome = run_script_one(alloc, &mut source, &mut sink, settings, workers, stock);
+    let outcome = run_one(alloc, &mut source, &mut sink)?;
     let OfWrite { writer, .. } = sink;
     Ok((writer.taken, outcome))
 }

@@ -136,8 +136,8 @@ fn help_is_status_0(rt: HostRuntime) -> Result<(), Fail> {
     Ok(())
 }
 
-// The text at which a program stops, with status 2, since fewer vertices may be made than there are workers or since the
-// stock can't be read.
+// The text at which a program stops, with status 2, since fewer vertices may be made than there are workers or since
+// the stock can't be read.
 fn stop_text(alloc: Global, stock: &str) -> Result<String, Fail> {
     let Ok(limits) = Limits::new(1, 1) else {
         return Err(Fail::from("no limits"));
