@@ -72,6 +72,15 @@ impl Block {
         Ok(Block { cells })
     }
 
+    /// The block of these cells.
+    #[inline]
+    pub fn of(cells: Vec<[u64; WORDS]>) -> Block
+        requires { IsBlock cells.items }
+        ensures { result ≡ cells.items }
+    {
+        Block { cells }
+    }
+
     /// A word of a cell.
     #[inline]
     pub fn word(&self, cell: usize, i: usize) -> u64

@@ -3,7 +3,7 @@ use Rattle.std.proofs.Common.{◌≡◌, ◌≢◌, ℕ, ◌<◌, ◌≤◌, ◌
 use Rattle.std.specs.List.{All, Contains}
 use Rattle.std.proofs.lemmas.Bool.{cases_eq, cases_lt}
 use Rattle.std.proofs.lemmas.Bool.Decides.{nat_tests}
-use Rattle.std.proofs.lemmas.List.{drop_at, get_or_append_left, get_or_default, get_or_past, get_or_push, get_or-map, get_or-take, length-map, length-take-le, length_push}
+use Rattle.std.proofs.lemmas.List.{drop_at, get_or-map, get_or-take, get_or_append_left, get_or_default, get_or_past, get_or_push, length-append, length-drop, length-map, length-take, length-take-le, length_push}
 use Rattle.std.proofs.lemmas.List.Elements.{All-contains, All-from_get_or, All-get_or, Contains-get_or}
 use Rattle.tg_word.specs.declared.Place.{Place}
 use Rattle.tg_word.specs.Word.{IsPlace, link_to, place_in, rights_in}
@@ -25,6 +25,12 @@ use Rattle.tg_evac.proofs.Copying.{same_place}
 use Rattle.tg_evac.proofs.Reasons.{all_in_old}
 
 -- ---- rows
+
+-- a copy has as many words as its original
+pub image_long : (from : ℕ → Bool) (h : SpaceList) (to : ℕ → Place) (words : List ℕ) → length (image_of from h to words) ≡ length words
+image_long from h to words =
+    let n = first_pointer (get_or words 0 0) in
+    omega (arith, length-append (take n words) (map (moved_word from h to) (drop n words)), length-map (drop n words) (moved_word from h to), length-take n words, length-drop n words)
 
 -- one more row
 pub rows_more : (copy : ℕ → List ℕ) (won : List Win) (blocks after : BlockList) (block : List (List ℕ)) → ((b : ℕ) → b < length blocks → HoldsRow copy won (64 * b) (get_or blocks b [])) → HoldsRow copy won (64 * length blocks) block → after ≡ blocks ++ block ∷ [] → (b : ℕ) → b < length after → HoldsRow copy won (64 * b) (get_or after b [])

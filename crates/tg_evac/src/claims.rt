@@ -60,10 +60,12 @@ impl Claims {
         ensures plan { IfOk result (λ claims. claims.plan ≡ plan) }
         ensures refused { IfErr result (λ fault. fault ≡ CollectFault.OutOfMemory) }
     {
+        // Where all cells are live, the list's last growth ends with as many pairs as there are cells.
+        let moved_blocks = cells / CELLS as u64 - plan.kept;
         Ok(Claims {
             plan,
             forward: Forwarding::new(alloc, cells, CELLS as u64 * plan.kept)?,
-            won: Vec::new(alloc),
+            won: Vec::with_capacity(alloc, moved_blocks as usize)?,
             next: [CELLS as u64 * plan.kept, 0],
         })
     }

@@ -1,6 +1,7 @@
 //! The copy phase: images of the won cells in new blocks, with the forwarding words frozen.
-ghost use Rattle.std.specs.Prelude.{◌≡◌, ℕ, ◌<◌, ◌≤◌, ◌^◌, ◌+◌, ◌↔◌, ◌⊎◌, length, IfOk, IsTrue, OnOk};
+ghost use Rattle.std.specs.Prelude.{◌≡◌, ℕ, ◌<◌, ◌≤◌, ◌^◌, ◌+◌, ◌↔◌, ◌⊎◌, [], length, slice_index_or, IfOk, IsTrue, OnOk};
 ghost use Rattle.std.specs.List.{All, Contains};
+ghost use Rattle.tg_block.specs.Cells.{IsBlock, free_cell};
 ghost use Rattle.tg_word.specs.declared.Place.{Place as PlaceOf};
 ghost use Rattle.tg_space.specs.Generations.{NamesYoung};
 ghost use Rattle.tg_space.specs.Soundness.{IsRootIn};
@@ -137,14 +138,28 @@ fn copy_row(
     requires inside { start < length won.now }
     ensures { IfOk result (λ block. HoldsRow (copy_of Kind.Full spaces.now.spaces forward.now.words) won.now start block) }
 {
-    let mut block = Block::new(alloc)?;
+    let mut cells = Vec::with_capacity(alloc, CELLS)?;
     let count = CELLS.min(won.len() - start);
     for i in 0..count {
         let win = won[start + i];
         let words = spaces.image(Kind::Full, forward, *spaces.numbered_words(win.cell));
-        block.set_cell(i, words);
+        cells.push(words)?;
     }
-    Ok(block)
+    Ok(Block::of(padded(cells)?))
+}
+
+// These cells, and as many free ones as a block has room for behind them.
+fn padded(mut cells: Vec<[u64; WORDS]>) -> Result<Vec<[u64; WORDS]>, AllocError>
+    requires few { length cells.items ≤ 64 }
+    requires words { All (λ words. length words ≡ 8) cells.items }
+    ensures whole { IfOk result (λ padded. IsBlock padded.items) }
+    ensures kept { IfOk result (λ padded. (k : ℕ) → k < length cells.items → slice_index_or padded.items k [] ≡ slice_index_or cells.items k []) }
+    ensures free { IfOk result (λ padded. (k : ℕ) → length cells.items ≤ k → k < 64 → slice_index_or padded.items k [] ≡ free_cell) }
+{
+    while cells.len() < CELLS {
+        cells.push([0; WORDS])?;
+    }
+    Ok(cells)
 }
 
 // The copies of the won cells, each put at its place. Those in Old that name young cells are noted, in order.
