@@ -3,5 +3,6 @@ pub mod ReachLaws
 pub mod SoundLaws
 pub mod NearLaws
 pub mod FitLaws
+pub mod RowLaws
 pub mod PlainLaws
 mod Rows

@@ -1,26 +1,27 @@
--- What changes of the list of triples, and of the values, come to in the graph that they stand for.
+-- What changes of the rows, and of the values, come to in the graph that they stand for.
 use mathlib.Core.Bool.{true≢false}
-use Rattle.std.proofs.Common.{◌≡◌, ◌≢◌, ◌↔◌, ℕ, zero, suc, ◌+◌, ◌<◌, ◌≤◌, ◌&&◌, ◌==◌, List, [], ◌∷◌, ◌++◌, length, get_or, map, drop, Bool, true, false, cond, Option, Some, None, refl, sym, ap, ◌∙◌, subst, arith, add-one, append-nil, length-append, not}
+use Rattle.std.proofs.Common.{◌≡◌, ◌≢◌, ◌⊎◌, inl, inr, ℕ, zero, suc, ◌+◌, ◌<◌, ◌≤◌, ◌&&◌, ◌==◌, List, [], ◌∷◌, ◌++◌, length, get_or, map, take, replicate, Bool, true, false, cond, Option, Some, None, refl, sym, ap, ◌∙◌, subst, arith, length-append, not}
 use Rattle.std.specs.Prelude.{if◌then◌else◌, slice_get, option_map}
-use Rattle.std.specs.List.{range_with_len, Contains}
-use Rattle.std.proofs.Math.ListN.{set, length-set}
-use Rattle.std.proofs.Math.Seq.{drop-cons}
-use Rattle.std.proofs.lemmas.Bool.{lt-ltb, eqb-true, eq-eqb}
+use Rattle.std.specs.List.{All, range_with_len, Contains, filter}
+use Rattle.std.proofs.Math.ListN.{set, length-set, get_or-eq_default}
+use Rattle.std.proofs.lemmas.Bool.{lt-ltb, eqb-true, eqb-false, eq-eqb}
 use Rattle.std.proofs.lemmas.Bool.Decides.{nat_tests}
-use Rattle.std.proofs.lemmas.List.{drop_all}
+use Rattle.std.proofs.lemmas.List.{get_or-set_same, get_or-set_other, get_or-replicate, length-replicate}
 use Rattle.std.proofs.lemmas.Option.{slice_get_past}
-use Rattle.std.proofs.lemmas.List.FromFn.{length-range_with_len, get_or-range_with_len, length-map-range_with_len, get_or-map-range_with_len, filter_of_map_range_with_len_more}
-use Rattle.tg_rights.specs.RightSet as right_set
-use Rattle.tg_rights.specs.RightSet.{RightSet, no_rights, union, minus, is_none_held}
-use Rattle.tg_rights.specs.RightLaws.{union_assoc, none_union, union_none, minus_union}
+use Rattle.std.proofs.lemmas.List.FromFn.{length-range_with_len, get_or-range_with_len}
+use Rattle.tg_rights.specs.RightSet.{RightSet, no_rights, only, union, minus, is_none_held}
+use Rattle.tg_rights.specs.RightLaws.{union_assoc, none_union, union_none, none_held-same, some_minus, some_holds_all}
 use Rattle.tg_model.specs.declared.value.Value.{Value}
-use Rattle.tg_model.specs.declared.triple.Triple.{Triple}
 use Rattle.tg_model.specs.declared.edge.Edge.{Edge}
+use Rattle.tg_rights.specs.declared.Right.TheVariants as right
+use Rattle.tg_model.specs.declared.command.Command.TheVariants.{Take, Grant}
 use Rattle.tg_model.specs.declared.command.Deed.TheVariants.{Create}
-use Rattle.tg_model.specs.Graph.{ProtectionGraph, with_rights, without_rights, listing_of}
-use Rattle.tg_model.specs.Opened.{Plan, label_in, start_of}
-use Rattle.tg_model.specs.Plain.{PlainGraph, label_of, graph_of, after_loss}
-use Rattle.tg_model.specs.Rules.{step, written, written_at, with_value, with_vertex}
+use Rattle.tg_model.specs.Graph.{ProtectionGraph, HasEdge, with_rights, without_rights, listing_of}
+use Rattle.tg_model.specs.Opened.{Plan, IsPlan, JoinsWorkers, label_in, start_of}
+use Rattle.tg_model.specs.Plain.{Edges, PlainGraph, IsPlain, IsEnd, IsRow, rights_in, label_of, graph_of}
+use Rattle.tg_model.specs.Rules.{Holds, denial_of, step, written, written_at, with_value, with_vertex}
+use Rattle.tg_model.proofs.AllowedLaws.{permits-no_denial}
+use Rattle.tg_model.proofs.RowLaws.{changed_at, listed}
 
 -- ---- graphs
 
@@ -31,86 +32,119 @@ graph s n l f v = record { subjects = s; made = n; limit = l; label = f; value =
 pub same_graph : {s t : List ℕ} {m n k l : ℕ} (f g : ℕ → ℕ → RightSet) (u v : ℕ → Option Value) → s ≡ t → m ≡ n → k ≡ l → ((a b : ℕ) → f a b ≡ g a b) → ((a : ℕ) → u a ≡ v a) → graph s m k f u ≡ graph t n l g v
 same_graph f g u v subjects made limit label value = λ i. graph (subjects i) (made i) (limit i) (λ a b. label a b i) (λ a. value a i)
 
--- ---- the rights that triples give together
-
-abbrev pub triple_of : Edge → Triple
-triple_of edge = record { from = edge.from; to = edge.to; rights = edge.label }
-
-pub label_of-edges : (edges : List Edge) (x y : ℕ) → label_of (map triple_of edges) x y ≡ label_in edges x y
-label_of-edges [] x y = refl
-label_of-edges (edge ∷ edges) x y =
-    ap (λ n. cond ((x == edge.from) && (y == edge.to)) (union edge.label n) n) (label_of-edges edges x y)
+-- ---- the edges of an opening
 
 union_chosen : (b : Bool) (r m n : RightSet) → cond b (union r (union m n)) (union m n) ≡ union (cond b (union r m) m) n
 union_chosen true r m n = sym (union_assoc r m n)
 union_chosen false r m n = refl
 
-pub label_of-append : (ts us : List Triple) (x y : ℕ) → label_of (ts ++ us) x y ≡ union (label_of ts x y) (label_of us x y)
-label_of-append [] us x y = sym (none_union (label_of us x y))
-label_of-append (t ∷ ts) us x y =
-    ap (λ n. cond ((x == t.from) && (y == t.to)) (union t.rights n) n) (label_of-append ts us x y)
-    ∙ union_chosen ((x == t.from) && (y == t.to)) t.rights (label_of ts x y) (label_of us x y)
+label_in-append : (es fs : List Edge) (x y : ℕ) → label_in (es ++ fs) x y ≡ union (label_in es x y) (label_in fs x y)
+label_in-append [] fs x y = sym (none_union (label_in fs x y))
+label_in-append (e ∷ es) fs x y =
+    ap (λ n. cond ((x == e.from) && (y == e.to)) (union e.label n) n) (label_in-append es fs x y)
+    ∙ union_chosen ((x == e.from) && (y == e.to)) e.label (label_in es x y) (label_in fs x y)
 
 chosen_none : (b : Bool) (m r : RightSet) → union m (cond b (union r no_rights) no_rights) ≡ cond b (union m r) m
 chosen_none true m r = ap (union m) (union_none r)
 chosen_none false m r = union_none m
 
--- one more triple at the end
-pub label_of-push : (ts : List Triple) (t : Triple) (x y : ℕ) → label_of (ts ++ t ∷ []) x y ≡ cond ((x == t.from) && (y == t.to)) (union (label_of ts x y) t.rights) (label_of ts x y)
-label_of-push ts t x y =
-    label_of-append ts (t ∷ []) x y ∙ chosen_none ((x == t.from) && (y == t.to)) (label_of ts x y) t.rights
+-- one more edge at the end
+pub label_in-push : (es : List Edge) (e : Edge) (x y : ℕ) → label_in (es ++ e ∷ []) x y ≡ with_rights (label_in es) e.from e.to e.label x y
+label_in-push es e x y =
+    label_in-append es (e ∷ []) x y ∙ chosen_none ((x == e.from) && (y == e.to)) (label_in es x y) e.label
 
-chosen_first : (b : Bool) (m r n : RightSet) → union m (cond b (union r n) n) ≡ union (cond b (union m r) m) n
-chosen_first true m r n = sym (union_assoc m r n)
-chosen_first false m r n = refl
+both_true : (a b : Bool) → (a && b) ≡ true → b ≡ true
+both_true true b h = h
+both_true false b h = let no : ⊥ = cc in absurd no
 
-drop_next : (ts : List Triple) (i : ℕ) (t : Triple) → i < length ts → t ≡ get_or ts i t → drop i ts ≡ t ∷ drop (i + 1) ts
-drop_next ts i t l e = rw add-one (drop-cons ts i t l ∙ ap (λ u. u ∷ drop (suc i) ts) (sym e))
+first_true : (a b : Bool) → (a && b) ≡ true → a ≡ true
+first_true true b h = refl
+first_true false b h = h
 
--- one triple further in a search for all rights from x to y, where b says whether it is one from x to y
-pub label_of-next : (ts : List Triple) (i : ℕ) (t : Triple) (x y : ℕ) (r all : RightSet) → i < length ts → t ≡ get_or ts i t → union r (label_of (drop i ts) x y) ≡ all → (b : Bool) (s : RightSet) → b ≡ ((x == t.from) && (y == t.to)) → s ≡ cond b (union r t.rights) r → union s (label_of (drop (i + 1) ts) x y) ≡ all
-label_of-next ts i t x y r all l e so_far b s test new =
-    ap (λ n. union n (label_of (drop (i + 1) ts) x y)) (new ∙ ap (λ b. cond b (union r t.rights) r) test)
-    ∙ sym (chosen_first ((x == t.from) && (y == t.to)) r t.rights (label_of (drop (i + 1) ts) x y))
-    ∙ ap (λ us. union r (label_of us x y)) (sym (drop_next ts i t l e)) ∙ so_far
+target_of_chosen : (b : Bool) (r m : RightSet) (y n w : ℕ) → (b ≡ true → y ≡ n) → n < w → (is_none_held m ≡ false → y < w) → is_none_held (cond b (union r m) m) ≡ false → y < w
+target_of_chosen true r m y n w same below rest some = omega (arith, same refl, below)
+target_of_chosen false r m y n w same below rest some = rest some
 
-pub label_of-end : (ts : List Triple) (i x y : ℕ) (r all : RightSet) → length ts ≤ i → union r (label_of (drop i ts) x y) ≡ all → r ≡ all
-label_of-end ts i x y r all l so_far =
-    sym (union_none r) ∙ ap (λ us. union r (label_of us x y)) (sym (drop_all i ts l)) ∙ so_far
+-- edges that join workers go to workers
+pub targets_in : (es : List Edge) (w : ℕ) → All (JoinsWorkers w) es → (x y : ℕ) → HasEdge (label_in es) x y → y < w
+targets_in [] w joins x y some = absurd (true≢false some)
+targets_in (e ∷ es) w joins x y some =
+    let this = joins 0 e (omega arith) in
+    target_of_chosen ((x == e.from) && (y == e.to)) e.label (label_in es x y) y e.to w
+    (λ same. eqb-true y e.to (both_true (x == e.from) (y == e.to) same)) this.2
+    (targets_in es w (λ k d inside. joins (suc k) d (omega (arith, inside))) x y) some
 
--- ---- what triples lose
+-- an edge of an opening joins workers
+pub opened_edge : (p : Plan) (es : List Edge) (i : ℕ) (e : Edge) → IsPlan p → es ≡ p.edges → i < length es → e ≡ get_or es i e → JoinsWorkers p.workers e
+opened_edge p es i e is_plan all inside here =
+    subst (JoinsWorkers p.workers) (sym (here ∙ ap (λ es. get_or es i e) all)) (is_plan.edges i e (omega (arith, inside, ap length all)))
 
--- the same pair is joined alike
-same_pair : (a b x y from to : ℕ) → ((a == x) && (b == y)) ≡ true → ((a == from) && (b == to)) ≡ ((x == from) && (y == to))
-same_pair a b x y from to same = grind (arith, nat_tests)
+-- where labels agree they agree with more rights too
+pub more_rights : {f g : RightSet} (x y : ℕ) (r : RightSet) (a b : ℕ) → f ≡ g → cond ((a == x) && (b == y)) (union f r) f ≡ cond ((a == x) && (b == y)) (union g r) g
+more_rights x y r a b same = ap (λ s. cond ((a == x) && (b == y)) (union s r) s) same
 
-other_pair : (a b x y from to : ℕ) → ((a == x) && (b == y)) ≡ false → ((x == from) && (y == to)) ≡ true → ((a == from) && (b == to)) ≡ false
-other_pair a b x y from to other here = grind (arith, nat_tests)
+-- ---- the labels that rows give
 
-lost_head : (here : Bool) (t : Triple) (us : List Triple) (r : RightSet) (a b : ℕ) → label_of (cond here (record t { rights = minus t.rights r }) t ∷ us) a b ≡ cond ((a == t.from) && (b == t.to)) (union (cond here (minus t.rights r) t.rights) (label_of us a b)) (label_of us a b)
-lost_head true t us r a b = refl
-lost_head false t us r a b = refl
+row_chosen : (rows : List Edges) (x : ℕ) (new : Edges) (y : ℕ) (f : RightSet → RightSet) → x < length rows → ((b : ℕ) → rights_in new b ≡ changed_at y f (get_or rows x []) b) → (a b : ℕ) (v : Bool) → v ≡ (a == x) → label_of (set rows x new) a b ≡ cond (v && (b == y)) (f (label_of rows a b)) (label_of rows a b)
+row_chosen rows x new y f inside change a b true here =
+    let P : ℕ → Type 0 = λ a. label_of (set rows x new) a b ≡ cond (b == y) (f (label_of rows a b)) (label_of rows a b) in
+    subst P (sym (eqb-true a x (sym here))) (ap (λ row. rights_in row b) (get_or-set_same rows x new [] inside) ∙ change b)
+row_chosen rows x new y f inside change a b false other =
+    ap (λ row. rights_in row b) (get_or-set_other rows x a new [] (eqb-false a x (sym other)))
 
-loss_chosen : (join here same : Bool) (p n r : RightSet) → (same ≡ true → join ≡ here) → (same ≡ false → here ≡ true → join ≡ false) → cond join (union (cond here (minus p r) p) (cond same (minus n r) n)) (cond same (minus n r) n) ≡ cond same (minus (cond join (union p n) n) r) (cond join (union p n) n)
-loss_chosen true true true p n r f g = sym (minus_union p n r)
-loss_chosen true false true p n r f g = absurd (true≢false (f refl))
-loss_chosen false here true p n r f g = refl
-loss_chosen true true false p n r f g = absurd (true≢false (g refl refl))
-loss_chosen true false false p n r f g = refl
-loss_chosen false here false p n r f g = refl
+-- one row, in which the rights over y have changed
+pub row_changed : (rows : List Edges) (x : ℕ) (new : Edges) (y : ℕ) (f : RightSet → RightSet) → x < length rows → ((b : ℕ) → rights_in new b ≡ changed_at y f (get_or rows x []) b) → (a b : ℕ) → label_of (set rows x new) a b ≡ cond ((a == x) && (b == y)) (f (label_of rows a b)) (label_of rows a b)
+row_changed rows x new y f inside change a b = row_chosen rows x new y f inside change a b (a == x) refl
 
-nothing_lost : (b : Bool) (r : RightSet) → no_rights ≡ cond b (minus no_rights r) no_rights
-nothing_lost true r = refl
-nothing_lost false r = refl
+get_or-push : (rows : List Edges) (a : ℕ) → get_or (rows ++ [] ∷ []) a [] ≡ get_or rows a []
+get_or-push [] zero = refl
+get_or-push [] (suc a) = refl
+get_or-push (row ∷ rows) zero = refl
+get_or-push (row ∷ rows) (suc a) = get_or-push rows a
 
--- what the triples come to after each that is from x to y has lost the rights
-pub label_of-lost : (ts : List Triple) (x y : ℕ) (r : RightSet) (a b : ℕ) → label_of (map (after_loss x y r) ts) a b ≡ cond ((a == x) && (b == y)) (minus (label_of ts a b) r) (label_of ts a b)
-label_of-lost [] x y r a b = nothing_lost ((a == x) && (b == y)) r
-label_of-lost (t ∷ ts) x y r a b =
-    lost_head ((x == t.from) && (y == t.to)) t (map (after_loss x y r) ts) r a b
-    ∙ ap (λ n. cond ((a == t.from) && (b == t.to)) (union (cond ((x == t.from) && (y == t.to)) (minus t.rights r) t.rights) n) n) (label_of-lost ts x y r a b)
-    ∙ loss_chosen ((a == t.from) && (b == t.to)) ((x == t.from) && (y == t.to)) ((a == x) && (b == y)) t.rights (label_of ts a b) r
-    (same_pair a b x y t.from t.to) (other_pair a b x y t.from t.to)
+-- one more row, with no edge
+pub label_of-push : (rows : List Edges) (a b : ℕ) → label_of (rows ++ [] ∷ []) a b ≡ label_of rows a b
+label_of-push rows a b = ap (λ row. rights_in row b) (get_or-push rows a)
+
+no_edges_at : (n a : ℕ) → ◌≡◌ {A = Edges} (get_or (replicate n []) a []) []
+no_edges_at zero a = refl
+no_edges_at (suc n) zero = refl
+no_edges_at (suc n) (suc a) = no_edges_at n a
+
+-- rows with no edges
+pub label_of-none : (n : ℕ) (a b : ℕ) → label_of (replicate n []) a b ≡ no_rights
+label_of-none n a b = ap (λ row. rights_in row b) (no_edges_at n a)
+
+-- who has an edge has a row
+has_row : (rows : List Edges) (x y : ℕ) → HasEdge (label_of rows) x y → x < length rows
+has_row [] x y some = absurd (true≢false some)
+has_row (row ∷ rows) zero y some = omega arith
+has_row (row ∷ rows) (suc x) y some = let later = has_row rows x y some in omega (arith, later)
+
+-- who has no row has no rights
+pub no_row : (rows : List Edges) (x y : ℕ) → length rows ≤ x → label_of rows x y ≡ no_rights
+no_row rows x y past = ap (λ row. rights_in row y) (get_or-eq_default rows [] past)
+
+-- an end of an edge was made
+pub end_made : (p : PlainGraph) (x : ℕ) → IsPlain p → IsEnd (label_of p.rows) x → x < length p.values
+end_made p x plain (y, inl from) = let row = has_row p.rows x y from in omega (arith, row, plain.rows)
+end_made p x plain (y, inr to) = plain.targets y x to
+
+-- where a take is served
+pub take_served : (label : ℕ → ℕ → RightSet) (x y z : ℕ) (r : RightSet) → denial_of label x (Take y z r) ≡ None → IsEnd label x × ((v : ℕ) × Holds label v z r)
+take_served label x y z r none =
+    let p = permits-no_denial label x (Take y z r) none in
+    ((y, inl (some_holds_all (label x y) (only right.T) p.3 refl)), (y, p.4))
+
+-- where a grant is served
+pub grant_served : (label : ℕ → ℕ → RightSet) (x y z : ℕ) (r : RightSet) → denial_of label x (Grant y z r) ≡ None → IsEnd label y × ((v : ℕ) × Holds label v z r)
+grant_served label x y z r none =
+    let p = permits-no_denial label x (Grant y z r) none in
+    ((x, inr (some_holds_all (label x y) (only right.G) p.3 refl)), (x, p.4))
+
+-- what someone holds rights over was made
+pub held_made : (p : PlainGraph) (x y : ℕ) (rights : RightSet) → IsPlain p → Holds (label_of p.rows) x y rights → is_none_held rights ≡ false → y < length p.values
+held_made p x y rights plain holds some = plain.targets x y (some_holds_all (label_of p.rows x y) rights holds some)
 
 -- ---- values
 
@@ -154,82 +188,153 @@ slice_get-past vs y v a past =
 
 -- ---- deeds
 
-abbrev pub plain : ℕ → ℕ → List Triple → List Value → PlainGraph
-plain w l ts vs = record { workers = w; limit = l; triples = ts; values = vs }
+abbrev pub plain : ℕ → ℕ → List Edges → List Value → PlainGraph
+plain w l rows vs = record { workers = w; limit = l; rows = rows; values = vs }
 
--- the plain graph of a plan's edges and values is where the plan starts
-pub opened : (p : Plan) (w l : ℕ) (ts : List Triple) (vs : List Value) → length p.values ≡ p.workers → w ≡ p.workers → l ≡ p.limit → ts ≡ map triple_of p.edges → vs ≡ p.values → graph_of (plain w l ts vs) ≡ start_of p
-opened p w l ts vs each workers limit triples values =
-    same_graph (label_of ts) (label_in p.edges) (slice_get vs) (slice_get p.values)
-    (ap (range_with_len 0) workers) (ap length values ∙ each) limit
-    (λ a b. ap (λ ts. label_of ts a b) triples ∙ label_of-edges p.edges a b)
+-- targets stay below the number of vertices where one was added
+added_targets : (label new : ℕ → ℕ → RightSet) (x y n m : ℕ) (r : RightSet) → ((a b : ℕ) → new a b ≡ with_rights label x y r a b) → ((a b : ℕ) → HasEdge label a b → b < n) → n ≤ m → y < m → (a b : ℕ) → HasEdge new a b → b < m
+added_targets label new x y n m r more targets le below a b some =
+    added_target ((a == x) && (b == y)) (λ same. eqb-true b y (both_true (a == x) (b == y) same)) (sym (ap is_none_held (more a b)) ∙ some)
+  where
+    added_target : (v : Bool) → (v ≡ true → b ≡ y) → is_none_held (cond v (union (label a b) r) (label a b)) ≡ false → b < m
+    added_target true same some = omega (arith, same refl, below)
+    added_target false same some = let old = targets a b some in omega (arith, old, le)
+
+lost_edge : (v : Bool) (s r : RightSet) → is_none_held (cond v (minus s r) s) ≡ false → is_none_held s ≡ false
+lost_edge true s r some = some_minus s r some
+lost_edge false s r some = some
+
+-- ---- openings
+
+-- the rows of a plan's edges, and its values, are where the plan starts
+pub opened : (p : Plan) (w l : ℕ) (rows : List Edges) (vs : List Value) → length p.values ≡ p.workers → w ≡ p.workers → l ≡ p.limit → ((a b : ℕ) → label_of rows a b ≡ label_in p.edges a b) → vs ≡ p.values → graph_of (plain w l rows vs) ≡ start_of p
+opened p w l rows vs each workers limit labels values =
+    same_graph (label_of rows) (label_in p.edges) (slice_get vs) (slice_get p.values)
+    (ap (range_with_len 0) workers) (ap length values ∙ each) limit labels
     (λ a. ap (λ vs. slice_get vs a) values)
 
--- one more triple
-pub added : (w l : ℕ) (ts us : List Triple) (vs : List Value) (x y : ℕ) (r : RightSet) (p : PlainGraph) → plain w l ts vs ≡ p → us ≡ ts ++ record { from = x; to = y; rights = r } ∷ [] → graph_of (plain w l us vs) ≡ record (graph_of p) { label = with_rights (label_of p.triples) x y r }
-added w l ts us vs x y r p view more =
-    same_graph (label_of us) (with_rights (label_of ts) x y r) (slice_get vs) (slice_get vs) refl refl refl
-    (λ a b. ap (λ ts. label_of ts a b) more ∙ label_of-push ts (record { from = x; to = y; rights = r }) a b) (λ a. refl)
-    ∙ ap (λ p. record (graph_of p) { label = with_rights (label_of p.triples) x y r }) view
+-- and they are a plain graph
+pub opened_plain : (p : Plan) (w l : ℕ) (rows : List Edges) (vs : List Value) → IsPlan p → w ≡ p.workers → length rows ≡ p.workers → ((a b : ℕ) → label_of rows a b ≡ label_in p.edges a b) → vs ≡ p.values → IsPlain (plain w l rows vs)
+opened_plain p w l rows vs is_plan workers number labels values = record {
+  workers = omega (arith, made, workers);
+  rows = omega (arith, made, number);
+  targets = λ x y some.
+      let below = targets_in p.edges p.workers is_plan.edges x y (sym (ap is_none_held (labels x y)) ∙ some) in omega (arith, made, below);
+}
+  where
+    made : length vs ≡ p.workers
+    made = ap length values ∙ is_plan.values.0
 
--- triples that lost rights
-pub lost : (w l : ℕ) (ts us : List Triple) (vs : List Value) (x y : ℕ) (r : RightSet) (p : PlainGraph) → plain w l ts vs ≡ p → us ≡ map (after_loss x y r) ts → graph_of (plain w l us vs) ≡ record (graph_of p) { label = without_rights (label_of p.triples) x y r }
-lost w l ts us vs x y r p view less =
-    same_graph (label_of us) (without_rights (label_of ts) x y r) (slice_get vs) (slice_get vs) refl refl refl
-    (λ a b. ap (λ ts. label_of ts a b) less ∙ label_of-lost ts x y r a b) (λ a. refl)
-    ∙ ap (λ p. record (graph_of p) { label = without_rights (label_of p.triples) x y r }) view
+-- ---- rights that are added
+
+-- one row, in which the rights over y are more
+pub added : (w l : ℕ) (rows : List Edges) (vs : List Value) (x y : ℕ) (r : RightSet) (new : Edges) (p : PlainGraph) → plain w l rows vs ≡ p → x < length rows → ((b : ℕ) → rights_in new b ≡ changed_at y (λ s. union s r) (get_or rows x []) b) → graph_of (plain w l (set rows x new) vs) ≡ record (graph_of p) { label = with_rights (label_of p.rows) x y r }
+added w l rows vs x y r new p view inside more =
+    same_graph (label_of (set rows x new)) (with_rights (label_of rows) x y r) (slice_get vs) (slice_get vs) refl refl refl
+    (row_changed rows x new y (λ s. union s r) inside more) (λ a. refl)
+    ∙ ap (λ p. record (graph_of p) { label = with_rights (label_of p.rows) x y r }) view
+
+pub added_plain : (w l : ℕ) (rows : List Edges) (vs : List Value) (x y : ℕ) (r : RightSet) (new : Edges) → IsPlain (plain w l rows vs) → x < length rows → y < length vs → ((b : ℕ) → rights_in new b ≡ changed_at y (λ s. union s r) (get_or rows x []) b) → IsPlain (plain w l (set rows x new) vs)
+added_plain w l rows vs x y r new was inside below more = record {
+  workers = was.workers;
+  rows = length-set rows x new ∙ was.rows;
+  targets =
+      added_targets (label_of rows) (label_of (set rows x new)) x y (length vs) (length vs) r
+      (row_changed rows x new y (λ s. union s r) inside more) was.targets (omega arith) below;
+}
+
+-- ---- rights that are lost
+
+-- one row, in which the rights over y are less
+pub lost : (w l : ℕ) (rows : List Edges) (vs : List Value) (x y : ℕ) (r : RightSet) (new : Edges) (p : PlainGraph) → plain w l rows vs ≡ p → x < length rows → ((b : ℕ) → rights_in new b ≡ changed_at y (λ s. minus s r) (get_or rows x []) b) → graph_of (plain w l (set rows x new) vs) ≡ record (graph_of p) { label = without_rights (label_of p.rows) x y r }
+lost w l rows vs x y r new p view inside less =
+    same_graph (label_of (set rows x new)) (without_rights (label_of rows) x y r) (slice_get vs) (slice_get vs) refl refl refl
+    (row_changed rows x new y (λ s. minus s r) inside less) (λ a. refl)
+    ∙ ap (λ p. record (graph_of p) { label = without_rights (label_of p.rows) x y r }) view
+
+pub lost_plain : (w l : ℕ) (rows : List Edges) (vs : List Value) (x y : ℕ) (r : RightSet) (new : Edges) → IsPlain (plain w l rows vs) → x < length rows → ((b : ℕ) → rights_in new b ≡ changed_at y (λ s. minus s r) (get_or rows x []) b) → IsPlain (plain w l (set rows x new) vs)
+lost_plain w l rows vs x y r new was inside less = record {
+  workers = was.workers;
+  rows = length-set rows x new ∙ was.rows;
+  targets = λ a b some.
+      was.targets a b
+      (lost_edge ((a == x) && (b == y)) (label_of rows a b) r
+      (sym (ap is_none_held (row_changed rows x new y (λ s. minus s r) inside less a b)) ∙ some));
+}
+
+-- who has no row loses nothing
+pub lost_none : (p : PlainGraph) (x y : ℕ) (r : RightSet) → length p.rows ≤ x → graph_of p ≡ record (graph_of p) { label = without_rights (label_of p.rows) x y r }
+lost_none p x y r past =
+    same_graph (label_of p.rows) (without_rights (label_of p.rows) x y r) (slice_get p.values) (slice_get p.values) refl refl refl
+    (λ a b. nothing_lost a b ((a == x) && (b == y)) refl) (λ a. refl)
+  where
+    nothing_lost : (a b : ℕ) (v : Bool) → v ≡ ((a == x) && (b == y)) → label_of p.rows a b ≡ cond v (minus (label_of p.rows a b) r) (label_of p.rows a b)
+    nothing_lost a b true here =
+        let same : a ≡ x = eqb-true a x (first_true (a == x) (b == y) (sym here)) in
+        let none : label_of p.rows a b ≡ no_rights = no_row p.rows a b (omega (arith, same, past)) in
+        none ∙ ap (λ s. minus s r) (sym none)
+    nothing_lost a b false other = refl
+
+-- ---- values that are written
 
 -- the values after a write, one of which may have changed
-pub rewritten : (w l : ℕ) (ts : List Triple) (vs us : List Value) (y v : ℕ) (p : PlainGraph) → plain w l ts vs ≡ p → length us ≡ length vs → ((a : ℕ) → slice_get us a ≡ written_at (slice_get vs) y v a) → graph_of (plain w l ts us) ≡ record (graph_of p) { value = written_at (slice_get p.values) y v }
-rewritten w l ts vs us y v p view made values =
-    same_graph (label_of ts) (label_of ts) (slice_get us) (written_at (slice_get vs) y v) refl made refl (λ a b. refl) values
+pub rewritten : (w l : ℕ) (rows : List Edges) (vs us : List Value) (y v : ℕ) (p : PlainGraph) → plain w l rows vs ≡ p → length us ≡ length vs → ((a : ℕ) → slice_get us a ≡ written_at (slice_get vs) y v a) → graph_of (plain w l rows us) ≡ record (graph_of p) { value = written_at (slice_get p.values) y v }
+rewritten w l rows vs us y v p view made values =
+    same_graph (label_of rows) (label_of rows) (slice_get us) (written_at (slice_get vs) y v) refl made refl (λ a b. refl) values
     ∙ ap (λ p. record (graph_of p) { value = written_at (slice_get p.values) y v }) view
 
--- a vertex and the edge to it, at the ends of the two lists
-pub created : (w l : ℕ) (ts us : List Triple) (vs ws : List Value) (x n : ℕ) (r : RightSet) (v : Value) (p : PlainGraph) → plain w l ts vs ≡ p → us ≡ ts ++ record { from = x; to = n; rights = r } ∷ [] → ws ≡ vs ++ v ∷ [] → n ≡ length p.values → n < p.limit → graph_of (plain w l us ws) ≡ step (graph_of p) x (Create r v.law v.state)
-created w l ts us vs ws x n r v p view more values name below =
+pub rewritten_plain : (w l : ℕ) (rows : List Edges) (vs us : List Value) → IsPlain (plain w l rows vs) → length us ≡ length vs → IsPlain (plain w l rows us)
+rewritten_plain w l rows vs us was made = record {
+  workers = omega (arith, was.workers, made);
+  rows = was.rows ∙ sym made;
+  targets = λ a b some. let old = was.targets a b some in omega (arith, old, made);
+}
+
+-- ---- vertices that are made
+
+created_labels : (rows : List Edges) (x n : ℕ) (r : RightSet) (new : Edges) → x < length rows → ((b : ℕ) → rights_in new b ≡ changed_at n (λ s. union s r) (get_or rows x []) b) → (a b : ℕ) → label_of (set rows x new ++ [] ∷ []) a b ≡ with_rights (label_of rows) x n r a b
+created_labels rows x n r new inside more a b =
+    label_of-push (set rows x new) a b ∙ row_changed rows x new n (λ s. union s r) inside more a b
+
+-- a row and a value more, and an edge to the new name
+pub created : (w l : ℕ) (rows : List Edges) (vs : List Value) (x n : ℕ) (r : RightSet) (new : Edges) (v : Value) (p : PlainGraph) → plain w l rows vs ≡ p → x < length rows → ((b : ℕ) → rights_in new b ≡ changed_at n (λ s. union s r) (get_or rows x []) b) → n ≡ length p.values → n < p.limit → graph_of (plain w l (set rows x new ++ [] ∷ []) (vs ++ v ∷ [])) ≡ step (graph_of p) x (Create r v.law v.state)
+created w l rows vs x n r new v p view inside more name below =
     let P : ℕ → Type 0 = λ m. m < p.limit in
     rw (lt-ltb (length p.values) p.limit (subst P name below))
-    (same_graph (label_of us) (with_rights (label_of ts) x (length vs) r) (slice_get ws) (with_value (slice_get vs) (length vs) v)
-    refl (ap length values ∙ length-append vs (v ∷ [])) refl
-    (λ a b. ap (λ ts. label_of ts a b) more ∙ label_of-push ts (record { from = x; to = n; rights = r }) a b
-    ∙ ap (λ m. cond ((a == x) && (b == m)) (union (label_of ts a b) r) (label_of ts a b)) (name ∙ ap (λ p. length p.values) (sym view)))
-    (λ a. ap (λ vs. slice_get vs a) values ∙ slice_get-push vs v a)
+    (same_graph (label_of (set rows x new ++ [] ∷ [])) (with_rights (label_of rows) x (length vs) r) (slice_get (vs ++ v ∷ [])) (with_value (slice_get vs) (length vs) v)
+    refl (length-append vs (v ∷ [])) refl
+    (λ a b. created_labels rows x n r new inside more a b
+    ∙ ap (λ m. with_rights (label_of rows) x m r a b) (name ∙ ap (λ p. length p.values) (sym view)))
+    (λ a. slice_get-push vs v a)
     ∙ ap (λ p. with_vertex (graph_of p) x r v) view)
+
+pub created_plain : (w l : ℕ) (rows : List Edges) (vs : List Value) (x n : ℕ) (r : RightSet) (new : Edges) (v : Value) → IsPlain (plain w l rows vs) → x < length rows → ((b : ℕ) → rights_in new b ≡ changed_at n (λ s. union s r) (get_or rows x []) b) → n ≡ length vs → IsPlain (plain w l (set rows x new ++ [] ∷ []) (vs ++ v ∷ []))
+created_plain w l rows vs x n r new v was inside more name =
+    let one_value = length-append vs (v ∷ []) in
+    let one_row = length-append (set rows x new) ([] ∷ []) in
+    let set_row = length-set rows x new in record {
+      workers = omega (arith, was.workers, one_value);
+      rows = omega (arith, was.rows, one_value, one_row, set_row);
+      targets =
+          added_targets (label_of rows) (label_of (set rows x new ++ [] ∷ [])) x n (length vs) (length (vs ++ v ∷ [])) r
+          (created_labels rows x n r new inside more) was.targets (omega (arith, one_value)) (omega (arith, one_value, name));
+    }
 
 -- ---- listings
 
--- one more name
-listing_more : (f : ℕ → ℕ → RightSet) (n x : ℕ) → listing_of f (n + 1) x ≡ listing_of f n x ++ cond (not (is_none_held (f x n))) ((n, f x n) ∷ []) []
-listing_more f n x = filter_of_map_range_with_len_more (λ e. not (is_none_held e.1)) (λ y. (y, f x y)) 0 n n (omega arith)
+past_none : (s : RightSet) → (is_none_held s ≡ false → ⊥) → s ≡ no_rights
+past_none s past = none_held-same s (must (is_none_held s) past)
+  where
+    must : (v : Bool) → (v ≡ false → ⊥) → v ≡ true
+    must true past = refl
+    must false past = absurd (past refl)
 
-one_more : (b : Bool) (s l : RightSet) (n : ℕ) → cond b None (Some s) ≡ Some l → ◌≡◌ {A = List (ℕ × RightSet)} ((n, l) ∷ []) (cond (not b) ((n, s) ∷ []) [])
-one_more true s l n labelled = cc
-one_more false s l n labelled = cc
-
-none_more : (b : Bool) (s : RightSet) (n : ℕ) → cond b None (Some s) ≡ None → ◌≡◌ {A = List (ℕ × RightSet)} [] (cond (not b) ((n, s) ∷ []) [])
-none_more true s n unlabelled = refl
-none_more false s n unlabelled = cc
-
--- a name that is listed
-pub listed : (f : ℕ → ℕ → RightSet) (n x : ℕ) (l : RightSet) (old new : List (ℕ × RightSet)) → right_set.label_of (f x n) ≡ Some l → old ≡ listing_of f n x → new ≡ old ++ (n, l) ∷ [] → new ≡ listing_of f (n + 1) x
-listed f n x l old new labelled so_far more =
-    more ∙ ap (λ es. es ++ (n, l) ∷ []) so_far
-    ∙ ap (λ es. listing_of f n x ++ es) (one_more (is_none_held (f x n)) (f x n) l n labelled)
-    ∙ sym (listing_more f n x)
-
--- a name that isn't
-pub unlisted : (f : ℕ → ℕ → RightSet) (n x : ℕ) (old new : List (ℕ × RightSet)) → right_set.label_of (f x n) ≡ None → old ≡ listing_of f n x → new ≡ old → new ≡ listing_of f (n + 1) x
-unlisted f n x old new unlabelled so_far same =
-    same ∙ so_far ∙ sym (append-nil (listing_of f n x))
-    ∙ ap (λ es. listing_of f n x ++ es) (none_more (is_none_held (f x n)) (f x n) n unlabelled)
-    ∙ sym (listing_more f n x)
-
--- an element of a row
-pub row_at : (f : ℕ → ℕ → RightSet) (x n i : ℕ) (row : List RightSet) (s : RightSet) → row ≡ map (f x) (range_with_len 0 n) → i < length row → s ≡ get_or row i s → s ≡ f x i
-row_at f x n i row s all inside here =
-    let below : i < n = omega (arith, ap length all, length-map-range_with_len (f x) 0 n) in
-    here ∙ ap (λ xs. get_or xs i s) all ∙ get_or-map-range_with_len (f x) 0 n i i s below (omega arith)
+-- a row is the listing of its vertex
+pub listing_is : (p : PlainGraph) (x : ℕ) → IsPlain p → IsRow (get_or p.rows x []) → listing_of (label_of p.rows) (length p.values) x ≡ get_or p.rows x []
+listing_is p x was is_row =
+    listed (length p.values) 0 (label_of p.rows x)
+    (λ y past. past_none (label_of p.rows x y) (λ some. let below = was.targets x y some in omega (arith, below, past)))
+    (get_or p.rows x []) is_row (λ y _. refl)
 
 -- ---- subjects
 

@@ -5,3 +5,4 @@ pub mod Rules
 pub mod Opened
 pub mod Near
 pub mod Plain
+pub mod Searched

@@ -8,9 +8,9 @@
 //!
 //! What a reader has to believe stands in `specs/`: `Graph` (the graph, edges, reachability), `Rules` (where a
 //! command is served, why it is denied, what it changes, what is answered), `Opened` (openings, and the graph that
-//! one starts from), `Law` (states of payloads) and `Walks`. [`Graph`] is those definitions run on a plain list of
-//! triples: slow, and meant to be believed at a glance (`Plain` says which graph such a list stands for). An audit
-//! replays a journal on it, and tests compare with it.
+//! one starts from), `Law` (states of payloads) and `Walks`. [`Graph`] is those definitions run on a row of edges for
+//! each vertex, with no heap below it, and meant to be believed at a glance (`Plain` says which graph such rows stand
+//! for). An audit replays a journal on it, and tests compare with it.
 //! The crates above speak of heaps and stores in the same words.
 //!
 //! [`laws`] has what holds of the definitions alone: that reach only shrinks but for the new name, that steps leave
@@ -25,9 +25,9 @@ pub mod laws;
 mod numbers;
 mod opening;
 mod reply;
+mod row;
 #[cfg(test)]
 mod tests;
-mod triple;
 mod value;
 
 pub use command::{Command, Deed};
@@ -37,5 +37,4 @@ pub use law::Law;
 pub use numbers::Numbers;
 pub use opening::{MAX_VERTICES, MAX_WORKERS, Opening, OpeningFault};
 pub use reply::{Cause, Denial, Reply, Rule};
-pub use triple::Triple;
 pub use value::Value;

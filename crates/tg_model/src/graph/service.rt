@@ -1,6 +1,5 @@
 //! What deeds change, and what is answered.
-ghost use Rattle.std.specs.Prelude.{◌≡◌, ◌↔◌, Err, IfOk, OnOk, OnErr, length, map};
-ghost use Rattle.std.specs.List.{range_with_len};
+ghost use Rattle.std.specs.Prelude.{◌≡◌, ◌<◌, ◌↔◌, ℕ, Err, None, IfOk, OnOk, OnErr};
 
 use crate::command::{Command, Deed};
 use crate::edge::EdgeList;
@@ -8,15 +7,15 @@ use crate::graph::{Graph, ModelFault};
 use crate::law::Law;
 use crate::numbers::Numbers;
 use crate::reply::Reply;
-use crate::triple::Triple;
+use crate::row::Row;
 use crate::value::Value;
 use std::alloc::AllocError;
-use tg_rights::{Label, Rights};
+use tg_rights::Label;
 
 impl Graph {
     ghost use Rattle.tg_model.specs.Graph.{IsSubject, with_rights, without_rights, listing_of};
-    ghost use Rattle.tg_model.specs.Plain.{graph_of};
-    ghost use Rattle.tg_model.specs.Rules.{DeedFits, step, answer_of, effect, reply_of, state_of};
+    ghost use Rattle.tg_model.specs.Plain.{graph_of, IsEnd};
+    ghost use Rattle.tg_model.specs.Rules.{DeedFits, Holds, denial_of, step, answer_of, effect, reply_of, state_of};
 
     /// Takes a deed of a worker. The answer is that of the rules, and the graph becomes the next one; where a fault is
     /// answered it is as it was. `NoSuchWorker` is answered exactly where no worker has the name, and looked for
@@ -34,8 +33,9 @@ impl Graph {
         Ok(self.carry_out(worker, deed)?)
     }
 
-    // Takes a deed of one who is taken for a worker.
+    // Takes a deed of a worker.
     fn carry_out(&mut self, worker: u64, deed: &Deed) -> Result<Reply, AllocError>
+        requires { worker < self.old.workers }
         ensures reply { IfOk result (λ reply. reply ≡ answer_of (graph_of self.old) worker deed.now) }
         ensures step { OnOk result (graph_of self.new ≡ step (graph_of self.old) worker deed.now) }
         ensures err { OnErr result (self.new ≡ self.old) }
@@ -57,6 +57,7 @@ impl Graph {
         law: Law,
         state: &Numbers,
     ) -> Result<Reply, AllocError>
+        requires { worker < self.old.workers }
         ensures reply { IfOk result (λ reply. reply ≡ answer_of (graph_of self.old) worker (Deed.Create label law state.now)) }
         ensures step { OnOk result (graph_of self.new ≡ step (graph_of self.old) worker (Deed.Create label law state.now)) }
         ensures err { OnErr result (self.new ≡ self.old) }
@@ -66,20 +67,17 @@ impl Graph {
             return Ok(Reply::VerticesFull);
         }
         let state = state.copy(self.alloc)?;
-        self.triples.try_reserve(1)?;
-        self.values.push(Value { law, state })?;
-        self.triples
-            .push(Triple {
-                from: worker,
-                to: name,
-                rights: label.rights(),
-            })
-            .unwrap();
+        self.rows.try_reserve(1)?;
+        self.values.try_reserve(1)?;
+        self.rows[worker as usize].add(name, label)?;
+        self.rows.push(Row::new(self.alloc)).unwrap();
+        self.values.push(Value { law, state }).unwrap();
         Ok(Reply::Name(name))
     }
 
     // Does what a command asks for that is served.
     fn serve(&mut self, worker: u64, command: &Command) -> Result<Reply, AllocError>
+        requires { denial_of (graph_of self.old).label worker command.now ≡ None }
         ensures reply { IfOk result (λ r. r ≡ reply_of (graph_of self.old).label (graph_of self.old).value (graph_of self.old).made worker command.now) }
         ensures step { OnOk result (graph_of self.new ≡ effect (graph_of self.old) worker command.now) }
         ensures err { OnErr result (self.new ≡ self.old) }
@@ -101,17 +99,15 @@ impl Graph {
         }
     }
 
-    // Gives one vertex rights over another.
+    // Gives one vertex, which an edge begins or ends at, rights over another, which someone holds already.
     fn add(&mut self, from: u64, to: u64, label: Label) -> Result<Reply, AllocError>
+        requires end { IsEnd (graph_of self.old).label from }
+        requires held { (x : ℕ) × Holds (graph_of self.old).label x to label }
         ensures done { IfOk result (λ reply. reply ≡ Reply.Done) }
         ensures ok { OnOk result (graph_of self.new ≡ record (graph_of self.old) { label = with_rights (graph_of self.old).label from to label }) }
         ensures err { OnErr result (self.new ≡ self.old) }
     {
-        self.triples.push(Triple {
-            from,
-            to,
-            rights: label.rights(),
-        })?;
+        self.rows[from as usize].add(to, label)?;
         Ok(Reply::Done)
     }
 
@@ -119,8 +115,8 @@ impl Graph {
     fn remove(&mut self, from: u64, to: u64, label: Label)
         ensures { graph_of self.new ≡ record (graph_of self.old) { label = without_rights (graph_of self.old).label from to label } }
     {
-        for triple in self.triples.iter_mut() {
-            triple.lose(from, to, label.rights());
+        if let Some(row) = self.rows.get_mut(from as usize) {
+            row.lose(to, label.rights());
         }
     }
 
@@ -154,24 +150,9 @@ impl Graph {
     fn listing(&self, from: u64) -> Result<EdgeList, AllocError>
         ensures { IfOk result (λ edges. edges ≡ listing_of (graph_of self.now).label (graph_of self.now).made from) }
     {
-        let row = self.row(from)?;
-        let mut edges = Vec::new(self.alloc);
-        for (to, rights) in row.iter().enumerate() {
-            if let Some(label) = Label::new(*rights) {
-                edges.push((to as u64, label))?;
-            }
+        match self.rows.get(from as usize) {
+            Some(row) => row.copy(self.alloc),
+            None => Ok(EdgeList::from_vec(Vec::new(self.alloc))),
         }
-        Ok(EdgeList::from_vec(edges))
-    }
-
-    // The rights of a vertex over each vertex, by rising name, from one pass over the triples.
-    fn row(&self, from: u64) -> Result<Vec<Rights>, AllocError>
-        ensures { IfOk result (λ row. row.items ≡ map ((graph_of self.now).label from) (range_with_len 0 (graph_of self.now).made)) }
-    {
-        let mut row = vec![in self.alloc; Rights::empty(); self.values.len()]?;
-        for triple in &self.triples {
-            triple.add_to_row(from, row.as_mut_slice());
-        }
-        Ok(row)
     }
 }

@@ -1,28 +1,31 @@
-use Rattle.std.proofs.Common.{◌≡◌, ◌∙◌, ap, ap₂, map, append-nil, ◌++◌}
-use Rattle.std.proofs.Math.ListN.{set}
-use Rattle.std.proofs.lemmas.List.{take_all, drop_all, with_items_is}
-use Rattle.std.proofs.lemmas.List.Edits.{map_over_more}
-use Rattle.std.specs.Vec.{with_items}
-use Rattle.tg_model.specs.Plain.{after_loss}
-use Rattle.tg_model.proofs.PlainLaws.{lost}
+use mathlib.Core.Bool.{true≢false}
+use Rattle.std.proofs.Common.{sym, ◌≡◌, ◌<◌, ◌+◌, ◌∙◌, ap, refl, length, get_or, [], arith, vec_len}
+use Rattle.std.proofs.Math.Nat.{lt_of_not-le}
+use Rattle.std.proofs.lemmas.List.{get_or_default}
+use Rattle.tg_rights.specs.RightSet.{minus}
+use Rattle.tg_model.specs.Plain.{graph_of}
+use Rattle.tg_model.proofs.RowLaws.{changed_at}
+use Rattle.tg_model.proofs.PlainLaws.{plain, lost, lost_none}
 use Rattle.tg_model.proofs.graph.Graph.remove.Goals as goal
-
-pub loop-triple-preserved : goal.loop-triple-preserved
-loop-triple-preserved c =
-    let less : c.lose.new.self ≡ after_loss c.args.from c.args.to c.args.label c.triple-item.result =
-    cc (c.lose.ensures, c.rights.ensures.same, c.triple-item.is) in
-    ap (set c.loop-triple.triple-items c.loop-triple.triple-index) less
-    ∙ map_over_more (after_loss c.args.from c.args.to c.args.label) c.deref_mut-triple-items.result.now c.loop-triple.triple-items
-    c.loop-triple.triple-index c.triple-item.result c.loop-triple-test.true c.loop-triple.invariant c.triple-item.is
+use Rattle.tg_model.proofs.graph.Graph.remove.Goals.{in-Some, in_default}
 
 pub returns : goal.returns
 returns c =
-    let f = after_loss c.args.from c.args.to c.args.label in
-    let first = c.deref_mut-triple-items.result.now in
-    let whole : c.loop-triple.triple-items ≡ map f c.self.inside.triples.items =
-    c.loop-triple.invariant
-    ∙ ap₂ (λ xs ys. map f xs ++ ys) (take_all c.loop-triple.triple-index first c.loop-triple-test.false) (drop_all c.loop-triple.triple-index first c.loop-triple-test.false)
-    ∙ append-nil (map f first) ∙ ap (map f) c.deref_mut-triple-items.ensures.value in
-    let kept = with_items_is c.self.inside.triples c.loop-triple.triple-items (c.loop-triple.auto.triple-items ∙ c.deref_mut-triple-items.ensures.len) in
-    lost c.self.inside.workers c.self.inside.max_vertices c.self.inside.triples.items (with_items c.self.inside.triples c.loop-triple.triple-items).items
-    c.self.inside.values.items c.args.from c.args.to c.args.label c.args.self.now c.self.view_is (kept ∙ whole)
+    let rows = c.self.inside.rows.items in
+    let number : vec_len c.self.inside.rows ≡ length rows = c.self.inside.rows.ok.0 in
+    elim c.match-get_mut.branch [
+      | in-Some w ↦
+          let inside : c.args.from < length rows = omega (arith, number, w.in-Some.ensures.variant.0 refl) in
+          let old : w.in-Some.row.now ≡ get_or rows c.args.from [] =
+          w.in-Some.ensures.value ∙ get_or_default rows c.args.from w.in-Some.row.now [] inside in
+          ap (λ s. graph_of (plain s.workers s.max_vertices s.rows.items s.values.items)) w.self-inside-is
+          ∙ lost c.self.inside.workers c.self.inside.max_vertices rows c.self.inside.values.items c.args.from c.args.to c.args.label
+          w.lose.new.self c.args.self.now c.self.view_is inside
+          (λ b. w.lose.ensures b ∙ ap (λ r. changed_at c.args.to (λ s. minus s r) w.in-Some.row.now b) w.rights.ensures.same
+          ∙ ap (λ row. changed_at c.args.to (λ s. minus s c.args.label) row b) old)
+      | in_default w ↦
+          let past : vec_len c.self.inside.rows < c.args.from + 1 = lt_of_not-le (λ le. true≢false (sym (w.in_default.ensures.variant.1 (omega (arith, le))))) in
+          ap (λ s. graph_of (plain s.workers s.max_vertices s.rows.items s.values.items)) w.self-inside-is
+          ∙ ap graph_of c.self.view_is
+          ∙ lost_none c.args.self.now c.args.from c.args.to c.args.label (omega (arith, past, number, ap (λ p. length p.rows) c.self.view_is))
+    ]
