@@ -293,7 +293,7 @@ module _ (c : Claimed) (are : AreClaims c) (w : Win) (space number : ℕ) (two :
   in_order_more : get_or (set c.next space (number + 1)) 1 0 ≡ 0 → AreInOrder c.plan.kept (c.won ++ w ∷ [])
   in_order_more none k low =
       let in_old : space ≡ 0 = ⊎_elim (λ (e : space ≡ 0). e)
-          (λ (ne : space ≢ 0). let e : space ≡ 1 = omega arith in let at = ap (λ (s : ℕ). get_or (set c.next space (number + 1)) s 0) e in let same = next_same in absurd (omega arith)) (cases_eq space 0) in
+      (λ (ne : space ≢ 0). let e : space ≡ 1 = omega arith in let at = ap (λ (s : ℕ). get_or (set c.next space (number + 1)) s 0) e in let same = next_same in absurd (omega arith)) (cases_eq space 0) in
       let none_before : get_or c.next 1 0 ≡ 0 = sym (next_other 1 (λ e. absurd (omega arith))) ∙ none in
       let long = length_push c.won w in
       ⊎_elim

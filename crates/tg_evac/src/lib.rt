@@ -28,12 +28,13 @@
 //! that is moved, and all else is as it was. A block is added when there is a cell to put there, so all but the last of a
 //! space are full. The cells of Old that will name young ones are noted: first those of the remembered ones that still
 //! do, then the copies in Old. In the picture that is the copy of m, since o is in Aged now; a names no young cell any
-//! more.
+//! more. In a full collection all copies are in Old, and their places follow one another in the order of the list: so it
+//! copies 64 pairs into each new block, and looks for no young names.
 //!
 //! So each live cell that is moved is passed over twice and written once, and of the others only remembered cells and the
-//! cells of rows are looked at. A collection takes the new blocks, a word for each cell of the heap, a list of two words
-//! for each cell that is moved, and the notes; nothing grows with the number of references. In a nursery collection the
-//! words of Old's cells stay 0, and they are all of it that grows with Old.
+//! cells of rows are looked at. A collection takes the new blocks, a word for each cell of from-space, a list of two words
+//! for each cell that is moved, and the notes; nothing grows with the number of references, and nothing of a nursery
+//! collection with the cells that Old has.
 //!
 //! **Who may call.** The heap's graph calls [`collect_one`] with the rows of its workers as roots, and for a nursery
 //! collection with its remembered cells, and hands what it gets to `Spaces::adopt`. It may use that the forwarding words,

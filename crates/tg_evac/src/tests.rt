@@ -1,5 +1,6 @@
 //! Random heaps through collections of both kinds, beside a plain search for what the roots reach.
-ghost use Rattle.std.specs.Prelude.{◌<◌};
+ghost use Rattle.std.specs.Prelude.{◌≡◌, ◌<◌, length};
+ghost use Rattle.tg_space.specs.SpaceList.{cells_of};
 ghost use Rattle.tg_word.specs.Word.{IsPlace};
 
 mod sound;
@@ -11,13 +12,15 @@ use std::process::Abort;
 use std::test::Fail;
 use tg_block::{CHUNK_TAG, OBJECT_TAG, WORDS};
 use tg_rights::{Right, Rights};
-use tg_space::{Kind, Limits, Root, Spaces, first_pointer};
+use tg_space::{Forwarding, Kind, Limits, Root, Spaces, first_pointer};
 use tg_word::{Place, Slot, pack, place_of};
 
 // The cells of a heap with one block of Old, one of Aged and one of a nursery.
 const CELLS: usize = 192;
 
 type Cells = [[u64; WORDS]; CELLS];
+
+type Words = [u64; CELLS];
 
 type Marks = [bool; CELLS];
 
@@ -200,9 +203,24 @@ fn collect_random(rt: &impl Abort, alloc: Global, seed: &mut u64, kind: Kind) ->
     let spaces = heap_of(alloc, &cells)?;
     assert!(rt; are_sound(&spaces, &roots));
     let copied = collect_one(alloc, &spaces, &roots, kind)?;
-    check(rt, &cells, kind, &rows, &noted, &copied);
-    check_cells(rt, &cells, kind, &copied);
+    assert_eq!(rt; spaces.cells(), CELLS as u64);
+    let forward = words_of(&spaces, &copied.forward);
+    check(rt, &cells, kind, &rows, &noted, &forward);
+    check_cells(rt, &cells, kind, &copied, &forward);
     Ok(())
+}
+
+// The forwarding word of each cell.
+fn words_of(spaces: &Spaces, forward: &Forwarding) -> Words
+    requires { length forward.now.words ≡ length (cells_of spaces.now.spaces) }
+{
+    let mut words = [0; CELLS];
+    for (i, word) in words.iter_mut().enumerate() {
+        if (i as u64) < spaces.cells() {
+            *word = forward.word(i as u64);
+        }
+    }
+    words
 }
 
 // Whether words name a cell outside Old.
@@ -211,19 +229,16 @@ fn names_young(cell: &[u64; WORDS]) -> bool {
 }
 
 // The cells that were copied to a space.
-fn copied_to(copied: &Copied, space: u64) -> Marks {
+fn copied_to(forward: &Words, space: u64) -> Marks {
     let mut marks = [false; CELLS];
-    for (i, word) in copied.forward.iter().enumerate() {
-        if i < CELLS {
-            marks[i] = *word != 0 && place_of(*word).space == space;
-        }
+    for (i, word) in forward.iter().enumerate() {
+        marks[i] = *word != 0 && place_of(*word).space == space;
     }
     marks
 }
 
 // Exactly the reached cells were copied, each to a space to which a walk leads it.
-fn check(rt: &impl Abort, cells: &Cells, kind: Kind, rows: &Marks, noted: &Marks, copied: &Copied) {
-    assert_eq!(rt; copied.forward.len(), CELLS);
+fn check(rt: &impl Abort, cells: &Cells, kind: Kind, rows: &Marks, noted: &Marks, forward: &Words) {
     let mut reached = [false; CELLS];
     let mut aged = *rows;
     let mut old = *noted;
@@ -231,8 +246,8 @@ fn check(rt: &impl Abort, cells: &Cells, kind: Kind, rows: &Marks, noted: &Marks
         reached[i] = rows[i] || noted[i];
         old[i] = old[i] || i / 64 == 1 || kind == Kind::Full;
     }
-    let to_aged = copied_to(copied, 1);
-    let to_old = copied_to(copied, 0);
+    let to_aged = copied_to(forward, 1);
+    let to_old = copied_to(forward, 0);
     spread(cells, kind, &[true; CELLS], &mut reached);
     spread(cells, kind, &to_aged, &mut aged);
     spread(cells, kind, &to_old, &mut old);
@@ -244,24 +259,23 @@ fn check(rt: &impl Abort, cells: &Cells, kind: Kind, rows: &Marks, noted: &Marks
 }
 
 // The words that the copy of a cell has to have.
-fn moved(cell: &[u64; WORDS], kind: Kind, copied: &Copied) -> [u64; WORDS] {
+fn moved(cell: &[u64; WORDS], kind: Kind, forward: &Words) -> [u64; WORDS] {
     let mut words = *cell;
     for i in first_pointer(cell[0])..WORDS {
         if cell[i] != 0 && moves(kind, number_in(cell[i])) {
-            let word = copied.forward.get(number_in(cell[i])).copied();
-            words[i] = word.unwrap_or(0).wrapping_add(cell[i] % 16);
+            words[i] = forward[number_in(cell[i])].wrapping_add(cell[i] % 16);
         }
     }
     words
 }
 
 // Each copy has the words that it has to have, and exactly the cells of Old that name young ones are noted.
-fn check_cells(rt: &impl Abort, cells: &Cells, kind: Kind, copied: &Copied) {
+fn check_cells(rt: &impl Abort, cells: &Cells, kind: Kind, copied: &Copied, forward: &Words) {
     let mut notes: usize = 0;
     for i in 0..CELLS {
-        let words = moved(&cells[i], kind, copied);
+        let words = moved(&cells[i], kind, forward);
         let is_young = names_young(&words);
-        let word = copied.forward.get(i).copied().unwrap_or(0);
+        let word = forward[i];
         let mut place = place_of(word);
         if word != 0 {
             check_copy(rt, kind, copied, place, &words);

@@ -26,6 +26,6 @@ returns-in_ok-old-in-Full-clause-noted c p =
     let full = c.requires.full c.in-Full.is in (
       (λ held. inl held),
       (λ has. ⊎_elim (λ held. held)
-      (λ young. absurd (none_young_copy h forward c.requires.places full.old won (table_list c.args.spaces.now c.requires.table) c.requires.whole c.requires.stand p
-      (subst (λ (kind : Kind). IsYoungCopy (copy_of kind h forward) won p) c.in-Full.is young))) has),
+          (λ young. absurd (none_young_copy h forward c.requires.places full.old won (table_list c.args.spaces.now c.requires.table) c.requires.whole c.requires.stand p
+          (subst (λ (kind : Kind). IsYoungCopy (copy_of kind h forward) won p) c.in-Full.is young))) has),
     )
