@@ -1,27 +1,22 @@
 -- What changes of the rows, and of the values, come to in the graph that they stand for.
-use mathlib.Core.Bool.{true≢false}
-use Rattle.std.proofs.Common.{◌≡◌, ◌≢◌, ◌⊎◌, inl, inr, ℕ, zero, suc, ◌+◌, ◌<◌, ◌≤◌, ◌&&◌, ◌==◌, List, [], ◌∷◌, ◌++◌, length, get_or, map, take, replicate, Bool, true, false, cond, Option, Some, None, refl, sym, ap, ◌∙◌, subst, arith, length-append, not}
-use Rattle.std.specs.Prelude.{if◌then◌else◌, slice_get, option_map}
-use Rattle.std.specs.List.{All, range_with_len, Contains, filter}
-use Rattle.std.proofs.Math.ListN.{set, length-set, get_or-eq_default}
-use Rattle.std.proofs.lemmas.Bool.{lt-ltb, eqb-true, eqb-false, eq-eqb}
+use Rattle.std.proofs.Common.{◌≡◌, ◌⊎◌, inl, inr, ℕ, zero, suc, ◌<◌, ◌≤◌, ◌&&◌, ◌==◌, List, [], ◌∷◌, ◌++◌, length, get_or, Bool, true, false, cond, Option, Some, None, refl, sym, ap, ◌∙◌, subst, arith, length-append}
+use Rattle.std.specs.Prelude.{slice_get, option_map}
+use Rattle.std.specs.List.{range_with_len, Contains}
+use Rattle.std.proofs.Math.ListN.{set, length-set}
+use Rattle.std.proofs.lemmas.Bool.{lt-ltb, eqb-true}
 use Rattle.std.proofs.lemmas.Bool.Decides.{nat_tests}
-use Rattle.std.proofs.lemmas.List.{get_or-set_same, get_or-set_other, get_or-replicate, length-replicate}
-use Rattle.std.proofs.lemmas.Option.{slice_get_past}
 use Rattle.std.proofs.lemmas.List.FromFn.{length-range_with_len, get_or-range_with_len}
-use Rattle.tg_rights.specs.RightSet.{RightSet, no_rights, only, union, minus, is_none_held}
-use Rattle.tg_rights.specs.RightLaws.{union_assoc, none_union, union_none, none_held-same, some_minus, some_holds_all}
+use Rattle.tg_rights.specs.RightSet.{RightSet, no_rights, union, minus, is_none_held}
+use Rattle.tg_rights.specs.RightLaws.{none_held-same, some_minus, some_union}
 use Rattle.tg_model.specs.declared.value.Value.{Value}
-use Rattle.tg_model.specs.declared.edge.Edge.{Edge}
-use Rattle.tg_rights.specs.declared.Right.TheVariants as right
-use Rattle.tg_model.specs.declared.command.Command.TheVariants.{Take, Grant}
 use Rattle.tg_model.specs.declared.command.Deed.TheVariants.{Create}
 use Rattle.tg_model.specs.Graph.{ProtectionGraph, HasEdge, with_rights, without_rights, listing_of}
-use Rattle.tg_model.specs.Opened.{Plan, IsPlan, JoinsWorkers, label_in, start_of}
-use Rattle.tg_model.specs.Plain.{Edges, PlainGraph, IsPlain, IsEnd, IsRow, rights_in, label_of, graph_of}
-use Rattle.tg_model.specs.Rules.{Holds, denial_of, step, written, written_at, with_value, with_vertex}
-use Rattle.tg_model.proofs.AllowedLaws.{permits-no_denial}
-use Rattle.tg_model.proofs.RowLaws.{changed_at, listed}
+use Rattle.tg_model.specs.Opened.{Plan, IsPlan, label_in, start_of}
+use Rattle.tg_model.specs.Plain.{Edges, PlainGraph, IsPlain, IsRow, rights_in, label_of, graph_of}
+use Rattle.tg_model.specs.Rules.{step, written, written_at, with_value, with_vertex}
+use Rattle.tg_model.proofs.RowLaws.{changed_at}
+use Rattle.tg_model.proofs.RowListing.{listed}
+use Rattle.tg_model.proofs.LabelLaws.{both_true, first_true, targets_in, row_changed, label_of-push, no_row}
 
 -- ---- graphs
 
@@ -31,120 +26,6 @@ graph s n l f v = record { subjects = s; made = n; limit = l; label = f; value =
 -- graphs with the same parts are one
 pub same_graph : {s t : List ℕ} {m n k l : ℕ} (f g : ℕ → ℕ → RightSet) (u v : ℕ → Option Value) → s ≡ t → m ≡ n → k ≡ l → ((a b : ℕ) → f a b ≡ g a b) → ((a : ℕ) → u a ≡ v a) → graph s m k f u ≡ graph t n l g v
 same_graph f g u v subjects made limit label value = λ i. graph (subjects i) (made i) (limit i) (λ a b. label a b i) (λ a. value a i)
-
--- ---- the edges of an opening
-
-union_chosen : (b : Bool) (r m n : RightSet) → cond b (union r (union m n)) (union m n) ≡ union (cond b (union r m) m) n
-union_chosen true r m n = sym (union_assoc r m n)
-union_chosen false r m n = refl
-
-label_in-append : (es fs : List Edge) (x y : ℕ) → label_in (es ++ fs) x y ≡ union (label_in es x y) (label_in fs x y)
-label_in-append [] fs x y = sym (none_union (label_in fs x y))
-label_in-append (e ∷ es) fs x y =
-    ap (λ n. cond ((x == e.from) && (y == e.to)) (union e.label n) n) (label_in-append es fs x y)
-    ∙ union_chosen ((x == e.from) && (y == e.to)) e.label (label_in es x y) (label_in fs x y)
-
-chosen_none : (b : Bool) (m r : RightSet) → union m (cond b (union r no_rights) no_rights) ≡ cond b (union m r) m
-chosen_none true m r = ap (union m) (union_none r)
-chosen_none false m r = union_none m
-
--- one more edge at the end
-pub label_in-push : (es : List Edge) (e : Edge) (x y : ℕ) → label_in (es ++ e ∷ []) x y ≡ with_rights (label_in es) e.from e.to e.label x y
-label_in-push es e x y =
-    label_in-append es (e ∷ []) x y ∙ chosen_none ((x == e.from) && (y == e.to)) (label_in es x y) e.label
-
-both_true : (a b : Bool) → (a && b) ≡ true → b ≡ true
-both_true true b h = h
-both_true false b h = let no : ⊥ = cc in absurd no
-
-first_true : (a b : Bool) → (a && b) ≡ true → a ≡ true
-first_true true b h = refl
-first_true false b h = h
-
-target_of_chosen : (b : Bool) (r m : RightSet) (y n w : ℕ) → (b ≡ true → y ≡ n) → n < w → (is_none_held m ≡ false → y < w) → is_none_held (cond b (union r m) m) ≡ false → y < w
-target_of_chosen true r m y n w same below rest some = omega (arith, same refl, below)
-target_of_chosen false r m y n w same below rest some = rest some
-
--- edges that join workers go to workers
-pub targets_in : (es : List Edge) (w : ℕ) → All (JoinsWorkers w) es → (x y : ℕ) → HasEdge (label_in es) x y → y < w
-targets_in [] w joins x y some = absurd (true≢false some)
-targets_in (e ∷ es) w joins x y some =
-    let this = joins 0 e (omega arith) in
-    target_of_chosen ((x == e.from) && (y == e.to)) e.label (label_in es x y) y e.to w
-    (λ same. eqb-true y e.to (both_true (x == e.from) (y == e.to) same)) this.2
-    (targets_in es w (λ k d inside. joins (suc k) d (omega (arith, inside))) x y) some
-
--- an edge of an opening joins workers
-pub opened_edge : (p : Plan) (es : List Edge) (i : ℕ) (e : Edge) → IsPlan p → es ≡ p.edges → i < length es → e ≡ get_or es i e → JoinsWorkers p.workers e
-opened_edge p es i e is_plan all inside here =
-    subst (JoinsWorkers p.workers) (sym (here ∙ ap (λ es. get_or es i e) all)) (is_plan.edges i e (omega (arith, inside, ap length all)))
-
--- where labels agree they agree with more rights too
-pub more_rights : {f g : RightSet} (x y : ℕ) (r : RightSet) (a b : ℕ) → f ≡ g → cond ((a == x) && (b == y)) (union f r) f ≡ cond ((a == x) && (b == y)) (union g r) g
-more_rights x y r a b same = ap (λ s. cond ((a == x) && (b == y)) (union s r) s) same
-
--- ---- the labels that rows give
-
-row_chosen : (rows : List Edges) (x : ℕ) (new : Edges) (y : ℕ) (f : RightSet → RightSet) → x < length rows → ((b : ℕ) → rights_in new b ≡ changed_at y f (get_or rows x []) b) → (a b : ℕ) (v : Bool) → v ≡ (a == x) → label_of (set rows x new) a b ≡ cond (v && (b == y)) (f (label_of rows a b)) (label_of rows a b)
-row_chosen rows x new y f inside change a b true here =
-    let P : ℕ → Type 0 = λ a. label_of (set rows x new) a b ≡ cond (b == y) (f (label_of rows a b)) (label_of rows a b) in
-    subst P (sym (eqb-true a x (sym here))) (ap (λ row. rights_in row b) (get_or-set_same rows x new [] inside) ∙ change b)
-row_chosen rows x new y f inside change a b false other =
-    ap (λ row. rights_in row b) (get_or-set_other rows x a new [] (eqb-false a x (sym other)))
-
--- one row, in which the rights over y have changed
-pub row_changed : (rows : List Edges) (x : ℕ) (new : Edges) (y : ℕ) (f : RightSet → RightSet) → x < length rows → ((b : ℕ) → rights_in new b ≡ changed_at y f (get_or rows x []) b) → (a b : ℕ) → label_of (set rows x new) a b ≡ cond ((a == x) && (b == y)) (f (label_of rows a b)) (label_of rows a b)
-row_changed rows x new y f inside change a b = row_chosen rows x new y f inside change a b (a == x) refl
-
-get_or-push : (rows : List Edges) (a : ℕ) → get_or (rows ++ [] ∷ []) a [] ≡ get_or rows a []
-get_or-push [] zero = refl
-get_or-push [] (suc a) = refl
-get_or-push (row ∷ rows) zero = refl
-get_or-push (row ∷ rows) (suc a) = get_or-push rows a
-
--- one more row, with no edge
-pub label_of-push : (rows : List Edges) (a b : ℕ) → label_of (rows ++ [] ∷ []) a b ≡ label_of rows a b
-label_of-push rows a b = ap (λ row. rights_in row b) (get_or-push rows a)
-
-no_edges_at : (n a : ℕ) → ◌≡◌ {A = Edges} (get_or (replicate n []) a []) []
-no_edges_at zero a = refl
-no_edges_at (suc n) zero = refl
-no_edges_at (suc n) (suc a) = no_edges_at n a
-
--- rows with no edges
-pub label_of-none : (n : ℕ) (a b : ℕ) → label_of (replicate n []) a b ≡ no_rights
-label_of-none n a b = ap (λ row. rights_in row b) (no_edges_at n a)
-
--- who has an edge has a row
-has_row : (rows : List Edges) (x y : ℕ) → HasEdge (label_of rows) x y → x < length rows
-has_row [] x y some = absurd (true≢false some)
-has_row (row ∷ rows) zero y some = omega arith
-has_row (row ∷ rows) (suc x) y some = let later = has_row rows x y some in omega (arith, later)
-
--- who has no row has no rights
-pub no_row : (rows : List Edges) (x y : ℕ) → length rows ≤ x → label_of rows x y ≡ no_rights
-no_row rows x y past = ap (λ row. rights_in row y) (get_or-eq_default rows [] past)
-
--- an end of an edge was made
-pub end_made : (p : PlainGraph) (x : ℕ) → IsPlain p → IsEnd (label_of p.rows) x → x < length p.values
-end_made p x plain (y, inl from) = let row = has_row p.rows x y from in omega (arith, row, plain.rows)
-end_made p x plain (y, inr to) = plain.targets y x to
-
--- where a take is served
-pub take_served : (label : ℕ → ℕ → RightSet) (x y z : ℕ) (r : RightSet) → denial_of label x (Take y z r) ≡ None → IsEnd label x × ((v : ℕ) × Holds label v z r)
-take_served label x y z r none =
-    let p = permits-no_denial label x (Take y z r) none in
-    ((y, inl (some_holds_all (label x y) (only right.T) p.3 refl)), (y, p.4))
-
--- where a grant is served
-pub grant_served : (label : ℕ → ℕ → RightSet) (x y z : ℕ) (r : RightSet) → denial_of label x (Grant y z r) ≡ None → IsEnd label y × ((v : ℕ) × Holds label v z r)
-grant_served label x y z r none =
-    let p = permits-no_denial label x (Grant y z r) none in
-    ((x, inr (some_holds_all (label x y) (only right.G) p.3 refl)), (x, p.4))
-
--- what someone holds rights over was made
-pub held_made : (p : PlainGraph) (x y : ℕ) (rights : RightSet) → IsPlain p → Holds (label_of p.rows) x y rights → is_none_held rights ≡ false → y < length p.values
-held_made p x y rights plain holds some = plain.targets x y (some_holds_all (label_of p.rows x y) rights holds some)
 
 -- ---- values
 
@@ -177,28 +58,24 @@ slice_get-written (w ∷ vs) (suc y) v u (suc a) here =
     slice_get-written vs y v u a here
     ∙ ap (λ b. cond b (option_map (written v) (slice_get vs a)) (slice_get vs a)) (sym (next_same a y))
 
--- what isn't there isn't written
-chosen_past : (b : Bool) (v : ℕ) (o : Option Value) → (b ≡ true → o ≡ None) → o ≡ cond b (option_map (written v) o) o
-chosen_past true v o past = past refl ∙ ap (option_map (written v)) (sym (past refl))
-chosen_past false v o past = refl
-
-pub slice_get-past : (vs : List Value) (y v a : ℕ) → length vs ≤ y → slice_get vs a ≡ written_at (slice_get vs) y v a
-slice_get-past vs y v a past =
-    chosen_past (a == y) v (slice_get vs a) (λ e. slice_get_past vs a (omega (arith, eqb-true a y e)))
-
 -- ---- deeds
 
 abbrev pub plain : ℕ → ℕ → List Edges → List Value → PlainGraph
 plain w l rows vs = record { workers = w; limit = l; rows = rows; values = vs }
 
--- targets stay below the number of vertices where one was added
-added_targets : (label new : ℕ → ℕ → RightSet) (x y n m : ℕ) (r : RightSet) → ((a b : ℕ) → new a b ≡ with_rights label x y r a b) → ((a b : ℕ) → HasEdge label a b → b < n) → n ≤ m → y < m → (a b : ℕ) → HasEdge new a b → b < m
-added_targets label new x y n m r more targets le below a b some =
-    added_target ((a == x) && (b == y)) (λ same. eqb-true b y (both_true (a == x) (b == y) same)) (sym (ap is_none_held (more a b)) ∙ some)
+-- targets stay below the number of vertices where rights over one of them were added
+added_target : (v : Bool) (s r : RightSet) (b y m : ℕ) → (v ≡ true → b ≡ y) → (is_none_held s ≡ false → b < m) → (is_none_held r ≡ false → y < m) → is_none_held (cond v (union s r) s) ≡ false → b < m
+added_target true s r b y m same old new some = one_of (some_union s r some)
   where
-    added_target : (v : Bool) → (v ≡ true → b ≡ y) → is_none_held (cond v (union (label a b) r) (label a b)) ≡ false → b < m
-    added_target true same some = omega (arith, same refl, below)
-    added_target false same some = let old = targets a b some in omega (arith, old, le)
+    one_of : (is_none_held s ≡ false) ⊎ (is_none_held r ≡ false) → b < m
+    one_of (inl was) = old was
+    one_of (inr is) = let below = new is in omega (arith, same refl, below)
+added_target false s r b y m same old new some = old some
+
+added_targets : (label new : ℕ → ℕ → RightSet) (x y n m : ℕ) (r : RightSet) → ((a b : ℕ) → new a b ≡ with_rights label x y r a b) → ((a b : ℕ) → HasEdge label a b → b < n) → n ≤ m → (is_none_held r ≡ false → y < m) → (a b : ℕ) → HasEdge new a b → b < m
+added_targets label new x y n m r more targets le below a b some =
+    added_target ((a == x) && (b == y)) (label a b) r b y m (λ same. eqb-true b y (both_true (a == x) (b == y) same))
+    (λ was. let old = targets a b was in omega (arith, old, le)) below (sym (ap is_none_held (more a b)) ∙ some)
 
 lost_edge : (v : Bool) (s r : RightSet) → is_none_held (cond v (minus s r) s) ≡ false → is_none_held s ≡ false
 lost_edge true s r some = some_minus s r some
@@ -234,7 +111,7 @@ added w l rows vs x y r new p view inside more =
     (row_changed rows x new y (λ s. union s r) inside more) (λ a. refl)
     ∙ ap (λ p. record (graph_of p) { label = with_rights (label_of p.rows) x y r }) view
 
-pub added_plain : (w l : ℕ) (rows : List Edges) (vs : List Value) (x y : ℕ) (r : RightSet) (new : Edges) → IsPlain (plain w l rows vs) → x < length rows → y < length vs → ((b : ℕ) → rights_in new b ≡ changed_at y (λ s. union s r) (get_or rows x []) b) → IsPlain (plain w l (set rows x new) vs)
+pub added_plain : (w l : ℕ) (rows : List Edges) (vs : List Value) (x y : ℕ) (r : RightSet) (new : Edges) → IsPlain (plain w l rows vs) → x < length rows → (is_none_held r ≡ false → y < length vs) → ((b : ℕ) → rights_in new b ≡ changed_at y (λ s. union s r) (get_or rows x []) b) → IsPlain (plain w l (set rows x new) vs)
 added_plain w l rows vs x y r new was inside below more = record {
   workers = was.workers;
   rows = length-set rows x new ∙ was.rows;
@@ -283,13 +160,6 @@ rewritten w l rows vs us y v p view made values =
     same_graph (label_of rows) (label_of rows) (slice_get us) (written_at (slice_get vs) y v) refl made refl (λ a b. refl) values
     ∙ ap (λ p. record (graph_of p) { value = written_at (slice_get p.values) y v }) view
 
-pub rewritten_plain : (w l : ℕ) (rows : List Edges) (vs us : List Value) → IsPlain (plain w l rows vs) → length us ≡ length vs → IsPlain (plain w l rows us)
-rewritten_plain w l rows vs us was made = record {
-  workers = omega (arith, was.workers, made);
-  rows = was.rows ∙ sym made;
-  targets = λ a b some. let old = was.targets a b some in omega (arith, old, made);
-}
-
 -- ---- vertices that are made
 
 created_labels : (rows : List Edges) (x n : ℕ) (r : RightSet) (new : Edges) → x < length rows → ((b : ℕ) → rights_in new b ≡ changed_at n (λ s. union s r) (get_or rows x []) b) → (a b : ℕ) → label_of (set rows x new ++ [] ∷ []) a b ≡ with_rights (label_of rows) x n r a b
@@ -317,7 +187,7 @@ created_plain w l rows vs x n r new v was inside more name =
       rows = omega (arith, was.rows, one_value, one_row, set_row);
       targets =
           added_targets (label_of rows) (label_of (set rows x new ++ [] ∷ [])) x n (length vs) (length (vs ++ v ∷ [])) r
-          (created_labels rows x n r new inside more) was.targets (omega (arith, one_value)) (omega (arith, one_value, name));
+          (created_labels rows x n r new inside more) was.targets (omega (arith, one_value)) (λ _. omega (arith, one_value, name));
     }
 
 -- ---- listings

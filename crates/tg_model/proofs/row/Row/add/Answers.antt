@@ -1,4 +1,4 @@
-use Rattle.std.proofs.Common.{◌≡◌, ◌∙◌, sym, ap, ap₂, subst, refl}
+use Rattle.std.proofs.Common.{◌∙◌, sym, ap, ap₂, subst, refl}
 use Rattle.tg_rights.specs.RightSet.{RightSet, union}
 use Rattle.tg_model.specs.Plain.{Edges, rights_in, IsRow}
 use Rattle.tg_model.specs.Searched.{IsAt, IsGapFor}

@@ -1,5 +1,4 @@
-use Rattle.std.proofs.Common.{◌≡◌, ◌∙◌, sym, ap, subst, refl}
-use Rattle.tg_rights.specs.RightSet as right_set
+use Rattle.std.proofs.Common.{◌∙◌, sym, ap, subst, refl}
 use Rattle.tg_rights.specs.RightSet.{RightSet, minus}
 use Rattle.tg_model.specs.Plain.{Edges, rights_in, IsRow}
 use Rattle.tg_model.specs.Searched.{IsAt}
