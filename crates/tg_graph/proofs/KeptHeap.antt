@@ -257,6 +257,18 @@ module _ (kind : Kind) (s now : HeapState) (is : IsWellFormed s) (table : IsSpac
       by_list [] none = refl
       by_list (p ∷ places) none = absurd (none p (Contains-here p places))
 
+  -- a nursery collection leaves vertices in Old where they are
+  vertex_stays : kind ≡ Nursery → (x : ℕ) (p : Place) → p.space ≡ 0 → IsVertexAt s.table.spaces x p → IsVertexAt after x p
+  vertex_stays nursery x p old_place vertex =
+      let stays : from_space kind p.space ≡ false = ap (λ (k : Kind). from_space k p.space) nursery ∙ ap (λ (space : ℕ). from_space Nursery space) old_place in
+      let keep : IsKept kind s.table.spaces forward p = record {
+        held = vertex.object.held;
+        used = let tag : get_or (cell_at s.table.spaces p) 0 0 ≡ 1 = (object_tagged (cell_at s.table.spaces p)).0 vertex.object.is in omega arith;
+        copied = λ moves. let no : true ≡ false = sym moves ∙ stays in absurd cc;
+      } in
+      let here : moved_place from s.table.spaces (new_place forward) p ≡ p = rw stays refl in
+      subst (IsVertexAt after x) here (vertex_after move s.payloads now.payloads is.graph changed.payloads x p keep vertex)
+
   pub left_by : IsLeft kind s now
   left_by = record {
     well_formed = record {
@@ -272,6 +284,7 @@ module _ (kind : Kind) (s now : HeapState) (is : IsWellFormed s) (table : IsSpac
       limits = changed.limits;
       needed = needed_now;
       none_needed = none_noted;
+      stays = vertex_stays;
       workers = ap length changed.workers ∙ length-map s.workers (moved_place from s.table.spaces (new_place forward));
     };
   }

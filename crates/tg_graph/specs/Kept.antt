@@ -9,11 +9,11 @@ use Rattle.tg_space.specs.Soundness.{IsKindAt}
 use Rattle.tg_space.specs.Targets.{from_space, image_of, young_spaces}
 use Rattle.tg_space.specs.Collection.{new_place}
 use Rattle.tg_space.specs.declared.spaces.Kind.{Kind}
-use Rattle.tg_space.specs.declared.spaces.Kind.TheVariants.{Full}
+use Rattle.tg_space.specs.declared.spaces.Kind.TheVariants.{Full, Nursery}
 use Rattle.tg_payload.specs.Table.{Payloads, entry}
 use Rattle.tg_graph.specs.declared.settle.Rewritten.{Rewritten}
 use Rattle.tg_space.specs.Generations.{AreNeeded}
-use Rattle.tg_graph.specs.Rows.{key_at}
+use Rattle.tg_graph.specs.Rows.{IsVertexAt, key_at}
 use Rattle.tg_graph.specs.Heap.{HeapState, content_of}
 use Rattle.tg_graph.specs.Standing.{KeepsReached}
 
@@ -95,4 +95,5 @@ pub record IsSettled (kind : Kind) (old new : HeapState) : Type 0 where
   pub limits : new.table.limits ≡ old.table.limits
   pub needed : AreNeeded new.table.spaces new.remembered
   pub none_needed : kind ≡ Full → new.remembered ≡ []
+  pub stays : kind ≡ Nursery → (name : ℕ) (p : Place) → p.space ≡ 0 → IsVertexAt old.table.spaces name p → IsVertexAt new.table.spaces name p
   pub workers : length new.workers ≡ length old.workers

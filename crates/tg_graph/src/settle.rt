@@ -1,6 +1,7 @@
 //! What a collection leaves of a heap.
 ghost use Rattle.std.specs.Prelude.{◌≡◌, ◌≢◌, ◌≤◌, ◌<◌, ◌↔◌, ◌++◌, ℕ, [], IfOk, IfSome, IsOk, IsSome, OnOk, OnErr, None, AllPairs, length, map};
 ghost use Rattle.std.specs.List.{All, Contains};
+ghost use Rattle.tg_word.specs.declared.Place.{Place as PlaceOf};
 ghost use Rattle.tg_word.specs.Word.{IsPlace, place_in};
 ghost use Rattle.tg_payload.specs.Table.{entry};
 ghost use Rattle.tg_space.specs.Collection.{IsCollection, new_place};
@@ -12,6 +13,7 @@ ghost use Rattle.tg_space.specs.Targets.{from_space};
 ghost use Rattle.tg_space.specs.declared.spaces.Root.TheVariants.{Remembered as IsRemembered, Row as IsRow};
 ghost use Rattle.tg_graph.specs.Heap.{IsGraph, content_of, roots_of};
 ghost use Rattle.tg_graph.specs.Kept.{AreWritten, Drops, HaveKeysApart, IsDeadAt, IsDeadKey, IsSettled, moved_place, rewritten_at};
+ghost use Rattle.tg_graph.specs.Rows.{IsVertexAt};
 ghost use Rattle.tg_graph.specs.Standing.{KeepsReached};
 
 use crate::cells::KEY;
@@ -48,8 +50,9 @@ impl<P: Payload> Heap<P> {
     /// Puts what a collection from the heap's own roots made in the place of what it emptied, and answers how many
     /// vertices are left, with the labels and values that they had: after a full one those to which walks along edges
     /// lead from the workers; after a nursery collection all of these, and maybe more. The payloads of all others are
-    /// dropped. No nursery has a block then, and exactly the cells of Old that name young ones are remembered. The
-    /// remembered cells from which a nursery collection started are rewritten once nothing more can be refused.
+    /// dropped. A nursery collection leaves the vertices in Old where they are. No nursery has a block then, and exactly the
+    /// cells of Old that name young ones are remembered. The remembered cells from which a nursery collection started are
+    /// rewritten once nothing more can be refused.
     ///
     /// A full collection takes no memory here, and isn't refused. A nursery collection is refused only where memory was;
     /// then nothing is changed.
@@ -68,6 +71,7 @@ impl<P: Payload> Heap<P> {
         ensures limits { self.new.table.limits ≡ self.old.table.limits }
         ensures needed { OnOk result (AreNeeded self.new.table.spaces self.new.remembered) }
         ensures none_needed { OnOk result (kind ≡ Kind.Full → self.new.remembered ≡ []) }
+        ensures stays { OnOk result (kind ≡ Kind.Nursery → (name : ℕ) (p : PlaceOf) → p.space ≡ 0 → IsVertexAt self.old.table.spaces name p → IsVertexAt self.new.table.spaces name p) }
         ensures workers { length self.new.workers ≡ length self.old.workers }
         ensures left { IfOk result (λ vertices. vertices ≡ length (content_of self.new).names) }
         ensures refused { OnErr result (self.new ≡ self.old) }
