@@ -25,7 +25,7 @@ use Rattle.tg_graph.specs.Content.{IsNamed}
 use Rattle.tg_graph.specs.Standing.{IsReached, Keeps, KeepsReached}
 use Rattle.tg_graph.specs.Rows.{IsVertexAt}
 use Rattle.tg_graph.specs.Heap.{HeapState, IsWellFormed, content_of, roots_of}
-use Rattle.tg_graph.specs.Kept.{IsKept, IsSettled, KeepsPayloads, moved_place}
+use Rattle.tg_graph.specs.Kept.{IsKept, IsSettled, KeepsPayloads, VerticesOfOldStay, moved_place}
 use Rattle.tg_graph.proofs.Members.{Contains-flat_map, Contains-from_map, Contains-here, Contains-map, option_cases}
 use Rattle.tg_graph.proofs.Layouts.{object_tagged}
 use Rattle.tg_graph.proofs.Lookups.{name_of_vertex}
@@ -258,8 +258,8 @@ module _ (kind : Kind) (s now : HeapState) (is : IsWellFormed s) (table : IsSpac
       by_list (p ∷ places) none = absurd (none p (Contains-here p places))
 
   -- a nursery collection leaves vertices in Old where they are
-  vertex_stays : kind ≡ Nursery → (x : ℕ) (p : Place) → p.space ≡ 0 → IsVertexAt s.table.spaces x p → IsVertexAt after x p
-  vertex_stays nursery x p old_place vertex =
+  vertices_stay : kind ≡ Nursery → VerticesOfOldStay s.table.spaces after
+  vertices_stay nursery x p old_place vertex =
       let stays : from_space kind p.space ≡ false = ap (λ (k : Kind). from_space k p.space) nursery ∙ ap (λ (space : ℕ). from_space Nursery space) old_place in
       let keep : IsKept kind s.table.spaces forward p = record {
         held = vertex.object.held;
@@ -284,7 +284,7 @@ module _ (kind : Kind) (s now : HeapState) (is : IsWellFormed s) (table : IsSpac
       limits = changed.limits;
       needed = needed_now;
       none_needed = none_noted;
-      stays = vertex_stays;
+      stay = vertices_stay;
       workers = ap length changed.workers ∙ length-map s.workers (moved_place from s.table.spaces (new_place forward));
     };
   }

@@ -87,6 +87,11 @@ Drops payloads left dead =
 
 -- ---- the heap
 
+-- each vertex in Old is where it was
+abbrev pub VerticesOfOldStay : SpaceList → SpaceList → Type 0
+VerticesOfOldStay h after =
+    (name : ℕ) (p : Place) → p.space ≡ 0 → IsVertexAt h name p → IsVertexAt after name p
+
 -- what a collection of a kind leaves of a heap
 pub record IsSettled (kind : Kind) (old new : HeapState) : Type 0 where
   pub keeps : KeepsReached kind (content_of old) (content_of new) (length old.workers)
@@ -95,5 +100,5 @@ pub record IsSettled (kind : Kind) (old new : HeapState) : Type 0 where
   pub limits : new.table.limits ≡ old.table.limits
   pub needed : AreNeeded new.table.spaces new.remembered
   pub none_needed : kind ≡ Full → new.remembered ≡ []
-  pub stays : kind ≡ Nursery → (name : ℕ) (p : Place) → p.space ≡ 0 → IsVertexAt old.table.spaces name p → IsVertexAt new.table.spaces name p
+  pub stay : kind ≡ Nursery → VerticesOfOldStay old.table.spaces new.table.spaces
   pub workers : length new.workers ≡ length old.workers

@@ -1,7 +1,6 @@
 //! What a collection leaves of a heap.
 ghost use Rattle.std.specs.Prelude.{◌≡◌, ◌≢◌, ◌≤◌, ◌<◌, ◌↔◌, ◌++◌, ℕ, [], IfOk, IfSome, IsOk, IsSome, OnOk, OnErr, None, AllPairs, length, map};
 ghost use Rattle.std.specs.List.{All, Contains};
-ghost use Rattle.tg_word.specs.declared.Place.{Place as PlaceOf};
 ghost use Rattle.tg_word.specs.Word.{IsPlace, place_in};
 ghost use Rattle.tg_payload.specs.Table.{entry};
 ghost use Rattle.tg_space.specs.Collection.{IsCollection, new_place};
@@ -12,8 +11,7 @@ ghost use Rattle.tg_space.specs.SpaceTable.{IsSpaceTable, with_adopted};
 ghost use Rattle.tg_space.specs.Targets.{from_space};
 ghost use Rattle.tg_space.specs.declared.spaces.Root.TheVariants.{Remembered as IsRemembered, Row as IsRow};
 ghost use Rattle.tg_graph.specs.Heap.{IsGraph, content_of, roots_of};
-ghost use Rattle.tg_graph.specs.Kept.{AreWritten, Drops, HaveKeysApart, IsDeadAt, IsDeadKey, IsSettled, moved_place, rewritten_at};
-ghost use Rattle.tg_graph.specs.Rows.{IsVertexAt};
+ghost use Rattle.tg_graph.specs.Kept.{AreWritten, Drops, HaveKeysApart, IsDeadAt, IsDeadKey, IsSettled, VerticesOfOldStay, moved_place, rewritten_at};
 ghost use Rattle.tg_graph.specs.Standing.{KeepsReached};
 
 use crate::cells::KEY;
@@ -71,7 +69,7 @@ impl<P: Payload> Heap<P> {
         ensures limits { self.new.table.limits ≡ self.old.table.limits }
         ensures needed { OnOk result (AreNeeded self.new.table.spaces self.new.remembered) }
         ensures none_needed { OnOk result (kind ≡ Kind.Full → self.new.remembered ≡ []) }
-        ensures stays { OnOk result (kind ≡ Kind.Nursery → (name : ℕ) (p : PlaceOf) → p.space ≡ 0 → IsVertexAt self.old.table.spaces name p → IsVertexAt self.new.table.spaces name p) }
+        ensures stay { OnOk result (kind ≡ Kind.Nursery → VerticesOfOldStay self.old.table.spaces self.new.table.spaces) }
         ensures workers { length self.new.workers ≡ length self.old.workers }
         ensures left { IfOk result (λ vertices. vertices ≡ length (content_of self.new).names) }
         ensures refused { OnErr result (self.new ≡ self.old) }

@@ -45,14 +45,13 @@ impl<P: Payload> Store<P> {
     ghost use Rattle.tg_model.specs.Opened.{start_of};
     ghost use Rattle.tg_model.specs.Rules.{IsAllowed, step, answer_of};
     ghost use Rattle.tg_model.specs.declared.reply.Denial.{Denial};
-    ghost use Rattle.tg_word.specs.declared.Place.{Place as PlaceOf};
     ghost use Rattle.tg_space.specs.Collection.{MayLackRoom, used_cells};
     ghost use Rattle.tg_space.specs.SpaceList.{block_count, space_of};
     ghost use Rattle.tg_space.specs.SpaceTable.{kept_blocks};
     ghost use Rattle.tg_payload.specs.Table.{count};
     ghost use Rattle.tg_graph.specs.Content.{IsNamed};
     ghost use Rattle.tg_graph.specs.Heap.{IsOutOfCells, content_of};
-    ghost use Rattle.tg_graph.specs.Rows.{IsVertexAt};
+    ghost use Rattle.tg_graph.specs.Kept.{VerticesOfOldStay};
     ghost use Rattle.tg_rules.specs.Effect.{AddsEdge};
     ghost use Rattle.tg_store.specs.Store.{Enters, IsCountOf, IsFaithful, IsUnchanged, OnlyEnters, StandsFor};
 
@@ -227,7 +226,7 @@ impl<P: Payload> Store<P> {
         ensures reachable { (g : ProtectionGraph) → StandsFor self.old g → IfOk result (λ number. kind ≡ Kind.Full → IsCountOf (IsReachable g) number) }
         ensures only_old { OnOk result (kind ≡ Kind.Full → (space : ℕ) → space ≢ 0 → space_of self.new.heap.table.spaces space ≡ []) }
         ensures no_nursery { OnOk result ((space : ℕ) → 2 ≤ space → space_of self.new.heap.table.spaces space ≡ []) }
-        ensures stays { OnOk result (kind ≡ Kind.Nursery → (name : ℕ) (p : PlaceOf) → p.space ≡ 0 → IsVertexAt self.old.heap.table.spaces name p → IsVertexAt self.new.heap.table.spaces name p) }
+        ensures stay { OnOk result (kind ≡ Kind.Nursery → VerticesOfOldStay self.old.heap.table.spaces self.new.heap.table.spaces) }
         ensures entries { self.new.entries ≡ self.old.entries }
         ensures full { result ≡ Err CollectFault.HeapFull →
             MayLackRoom self.old.heap.table.limits.space_blocks 1 (kept_blocks kind self.old.heap.table.spaces) (used_cells kind self.old.heap.table.spaces) }

@@ -2,10 +2,9 @@ use Rattle.std.proofs.Common.{◌≡◌, ◌∙◌, length, refl, subst, sym}
 use Rattle.tg_space.specs.Generations.{AreNeeded}
 use Rattle.tg_space.specs.declared.spaces.Kind.{Kind}
 use Rattle.tg_space.specs.declared.spaces.Kind.TheVariants.{Full, Nursery}
-use Rattle.tg_graph.specs.Rows.{IsVertexAt}
 use Rattle.tg_graph.specs.Standing.{KeepsReached}
 use Rattle.tg_graph.specs.Heap.{HeapState, content_of}
-use Rattle.tg_graph.specs.Kept.{IsSettled}
+use Rattle.tg_graph.specs.Kept.{IsSettled, VerticesOfOldStay}
 use Rattle.tg_graph.proofs.heap.Heap.settle.Goals.{in-Full, in-Nursery+in_ok-keep_old_and_copied-in-Nursery}
 use Rattle.tg_graph.proofs.heap.Heap.settle.Goals as goal
 
@@ -30,11 +29,11 @@ returns-clause-needed g c =
           subst (λ (heap : HeapState). AreNeeded heap.table.spaces heap.remembered) (sym w.self-is) w.in_ok-keep_old_and_copied-in-Nursery.ensures.settled.needed
     ]
 
-pub returns-clause-stays : goal.returns-clause-stays
-returns-clause-stays g c =
+pub returns-clause-stay : goal.returns-clause-stay
+returns-clause-stay g c =
     let old : HeapState = c.args.self.now in
     elim c.match-kind.branch [
-      | in-Full w ↦ λ nursery name p old_place vertex. let no : ◌≡◌ {A = Kind} Full Nursery = sym w.in-Full.is ∙ nursery in absurd cc
-      | in-Nursery+in_ok-keep_old_and_copied-in-Nursery w ↦ λ nursery name p old_place vertex.
-          subst (λ (heap : HeapState). IsVertexAt heap.table.spaces name p) (sym w.self-is) (w.in_ok-keep_old_and_copied-in-Nursery.ensures.settled.stays refl name p old_place vertex)
+      | in-Full w ↦ λ nursery. let no : ◌≡◌ {A = Kind} Full Nursery = sym w.in-Full.is ∙ nursery in absurd cc
+      | in-Nursery+in_ok-keep_old_and_copied-in-Nursery w ↦ λ nursery.
+          subst (λ (heap : HeapState). VerticesOfOldStay old.table.spaces heap.table.spaces) (sym w.self-is) (w.in_ok-keep_old_and_copied-in-Nursery.ensures.settled.stay refl)
     ]
