@@ -1,6 +1,7 @@
 -- The heap then has what can be reached, and stands for the same graph.
-use Rattle.std.proofs.Common.{◌∙◌, length, refl, ap}
+use Rattle.std.proofs.Common.{◌∙◌, length, refl, ap, subst}
 use Rattle.tg_graph.specs.Heap.{content_of}
+use Rattle.tg_graph.specs.Kept.{VerticesOfOldStay}
 use Rattle.tg_store.specs.Store.{StoreState, StandsFor, graph_of_store}
 use Rattle.tg_store.proofs.CollectLaws.{IsStore-collected, counted_left, kept_in_full, names_left}
 use Rattle.tg_store.proofs.store.Store.collect.Goals as goal
@@ -28,3 +29,7 @@ returns-clause-reachable g c =
     let here : StandsFor old graph = ap graph_of_store c.self.view_is ∙ stands in
     let keeps = kept_in_full c.args.kind (content_of old.heap) (content_of new.heap) (length old.heap.workers) full c.in_ok-settle.ensures.kept in
     counted_left old new c.self.inside.made c.self.invariant keeps graph c.vertices.result here c.vertices.ensures.number c.vertices.ensures.once
+
+pub returns-clause-stay : goal.returns-clause-stay
+returns-clause-stay g c =
+    λ nursery. subst (λ (state : StoreState). VerticesOfOldStay state.heap.table.spaces c.settle.new.self.table.spaces) c.self.view_is (c.in_ok-settle.ensures.stay nursery)
