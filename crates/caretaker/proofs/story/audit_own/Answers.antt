@@ -1,4 +1,3 @@
-use Rattle.std.proofs.Common.{◌∙◌}
 use Rattle.caretaker.proofs.OwnAudit.{audit_of_legal}
 use Rattle.caretaker.proofs.story.audit_own.Goals as goal
 
