@@ -27,7 +27,7 @@ use Rattle.tg_space.proofs.Tables.{holds_same, length-with_block, shape_cell, sh
 use Rattle.tg_nursery.specs.Allocation.{room_made_for}
 use Rattle.tg_payload.specs.Table.{Payloads, entry}
 use Rattle.tg_graph.specs.Content.{IsNamed}
-use Rattle.tg_graph.specs.Heap.{content_in}
+use Rattle.tg_graph.specs.Heap.{AreAtHome, content_in}
 use Rattle.tg_graph.specs.Opened.{HasBlocks, IsOpened, TakesOneCell, labels_before, no_labels, with_row}
 use Rattle.tg_graph.specs.Rows.{IsVertexAt}
 use Rattle.tg_graph.specs.Spots.{CanPut, chunk_words, table_put, widened}
@@ -325,6 +325,21 @@ one_more_opened t after payloads new places more workers limits values value p n
     one_more_placed t after payloads new places more workers limits values value p opened long
     (subst (λ n. ChangesTo t after new (λ x. IsNamed (content_in t.spaces payloads) x ⊎ (x ≡ n)) (content_in t.spaces payloads).label (with_value (content_in t.spaces payloads).value n value)) named to)
     (subst (λ n. IsVertexAt after.spaces n p) named vertex) blocks same
+
+-- the next worker is in its own nursery too
+pub more_at_home : (places more : List Place) (p : Place) → AreAtHome places → p.space ≡ length places + 2 → more ≡ places ++ p ∷ [] → AreAtHome more
+more_at_home places more p home there same = subst AreAtHome (sym same) (λ x q at. by_place x q at (cases_lt x (length places)))
+  where
+    by_place : (x : ℕ) (q : Place) → slice_get (places ++ p ∷ []) x ≡ Some q → (x < length places) ⊎ (length places ≤ x) → q.space ≡ x + 2
+    by_place x q at (inl low) =
+        let read : get_or places x q ≡ q = sym (get_or_append_left places (p ∷ []) q x low) ∙ get_or_from_slice_get (places ++ p ∷ []) x q q at in
+        home x q (slice_get-get_or places x q low ∙ ap Some read)
+    by_place x q at (inr high) =
+        let inside = slice_get_within (places ++ p ∷ []) x q at in
+        let e = length_push places p in
+        let last : x ≡ length places = omega (arith, inside, e, high) in
+        let here : q ≡ p = sym (get_or_from_slice_get (places ++ p ∷ []) x q q at) ∙ get_or_push places p q x (sym last) in
+        ap (λ (r : Place). r.space) here ∙ there ∙ ap (λ n. n + 2) (sym last)
 
 -- one more cell is counted
 pub used_more : (us : List ℕ) (i j : ℕ) → get_or (set us i (get_or us i 0 + 1)) j 0 ≤ get_or us j 0 + 1

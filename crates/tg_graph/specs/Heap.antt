@@ -102,6 +102,10 @@ abbrev pub rights_found : Option Found → RightSet
 rights_found None = no_rights
 rights_found (Some found) = found.rights
 
+-- each worker's object lies in the nursery of that worker
+abbrev pub AreAtHome : List Place → Type 0
+AreAtHome workers = (x : ℕ) (p : Place) → slice_get workers x ≡ Some p → p.space ≡ x + 2
+
 -- workers, limits and the places of vertices are as they were
 pub record KeepsPlaces (old new : HeapState) : Type 0 where
   pub workers : new.workers ≡ old.workers

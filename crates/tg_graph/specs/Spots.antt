@@ -10,7 +10,9 @@ use Rattle.tg_space.specs.SpaceTable.{SpaceTable, IsHandedOut, place_in_space, u
 use Rattle.tg_remember.specs.Notes.{noted}
 use Rattle.tg_nursery.specs.Allocation.{HasLeft, room_made_for}
 use Rattle.tg_space.specs.Targets.{first_pointer, young_spaces}
-use Rattle.tg_graph.specs.Rows.{name_at, name_in, references_of}
+use Rattle.tg_graph.specs.Heap.{IsOutOfCells}
+use Rattle.tg_graph.specs.Rows.{IsVertexAt, name_at, name_in, references_of}
+use Rattle.tg_graph.specs.Steps.{vertex_words}
 use Rattle.tg_space.specs.Rows.{chunks_from, link_at}
 use Rattle.tg_graph.specs.declared.rows.Spot.{Spot}
 use Rattle.tg_graph.specs.declared.rows.Spot.TheVariants.{Reference, Empty, Full}
@@ -117,6 +119,35 @@ pub record IsPutInRow (old new : SpaceTable) (places later : List Place) (space 
   pub found : IsSpotFor old.spaces (name_at old.spaces to) from spot
   pub put : new ≡ table_put (room_made_for old space (cells_for spot)) space spot rights to
   pub noted : later ≡ with_note places (note_for spot (young_spaces to.space))
+
+-- the next cell of a nursery is an object with this name and an empty row
+abbrev pub vertex_put : SpaceTable → ℕ → ℕ → ℕ → SpaceTable
+vertex_put t space name key =
+    with_spaces (with_one_used t space) (with_cell_at t.spaces (place_in_space space (used_of t space)) (vertex_words name key))
+
+-- A vertex was made for the holder, and rights over it were put where they go in the holder's row: its object is the next
+-- cell of the nursery, nothing else was written, and there is a new block only where the cells left were too few.
+pub record IsMadeInRow (old new : SpaceTable) (places later : List Place) (space holder name : ℕ) (rights : RightSet) : Type 0 where
+  pub row : Place
+  pub held : IsVertexAt old.spaces holder row
+  pub spot : Spot
+  pub found : IsSpotFor old.spaces name row spot
+  pub key : ℕ
+  pub put : new ≡ table_put (vertex_put (room_made_for old space (1 + cells_for spot)) space name key) space spot rights (place_in_space space (used_of old space))
+  pub noted : later ≡ with_note places (note_for spot true)
+
+-- ---- where cells lack
+
+-- Rights of the holder over the vertex with a name go where, with so many others, more cells are needed than the nursery
+-- has left, and it gets no more blocks.
+pub record LacksCellsFor (t : SpaceTable) (space others holder name : ℕ) : Type 0 where
+  pub row : Place
+  pub held : IsVertexAt t.spaces holder row
+  pub spot : Spot
+  pub found : IsSpotFor t.spaces name row spot
+  pub out : IsOutOfCells t space (others + cells_for spot)
+
+-- ---- conditions
 
 -- a word of a cell may be written
 pub record CanWrite (t : SpaceTable) (cell : Place) (index : ℕ) : Type 0 where

@@ -8,15 +8,15 @@ ghost use Rattle.tg_model.specs.Graph.{listing_of, with_rights, without_rights};
 ghost use Rattle.tg_model.specs.Rules.{state_of, with_value, written_at};
 ghost use Rattle.tg_block.specs.declared.CellKind.TheVariants.{Object};
 ghost use Rattle.tg_space.specs.SpaceList.{Holds, cell_at, space_of};
-ghost use Rattle.tg_space.specs.SpaceTable.{IsFull, IsSpaceTable, used_of};
+ghost use Rattle.tg_space.specs.SpaceTable.{IsFull, IsSpaceTable, place_in_space, used_of};
 ghost use Rattle.tg_space.specs.Soundness.{IsKindAt};
 ghost use Rattle.tg_space.specs.Generations.{AreRemembered};
 ghost use Rattle.tg_nursery.specs.Allocation.{HasFewerLeft, HasLeft, room_made_for};
 ghost use Rattle.tg_graph.specs.Content.{IsNamed};
-ghost use Rattle.tg_graph.specs.Heap.{IsGraph, IsOutOfCells, content_in, rights_found};
+ghost use Rattle.tg_graph.specs.Heap.{IsGraph, content_in, rights_found};
 ghost use Rattle.tg_graph.specs.Rows.{IsVertexAt, name_at};
 ghost use Rattle.tg_graph.specs.Opened.{TakesOneCell};
-ghost use Rattle.tg_graph.specs.Spots.{IsPutInRow, with_note};
+ghost use Rattle.tg_graph.specs.Spots.{IsMadeInRow, IsPutInRow, LacksCellsFor, vertex_put, with_note};
 ghost use Rattle.tg_graph.specs.Steps.{ChangesTo, KeepsRows};
 
 use crate::heap::{Found, VertexRefused};
@@ -127,7 +127,8 @@ impl<P: Payload> Cells<P> {
             (with_rights content.label (name_at self.old.spaces.spaces from) (name_at self.old.spaces.spaces to) rights) content.value) }
         ensures payloads { self.new.payloads ≡ self.old.payloads }
         ensures refused { OnErr result (self.new.spaces ≡ self.old.spaces) }
-        ensures full { result ≡ Err AllocateFault.HeapFull → IsOutOfCells self.old.spaces (worker + 2) 1 }
+        ensures full { result ≡ Err AllocateFault.HeapFull →
+            LacksCellsFor self.old.spaces (worker + 2) 0 (name_at self.old.spaces.spaces from) (name_at self.old.spaces.spaces to) }
         ensures had_room { HasLeft self.old.spaces (worker + 2) 1 → length (space_of self.old.spaces.spaces 0) ≡ 0 → IsOk result }
         ensures placed { OnOk result (IsPutInRow self.old.spaces self.new.spaces self.old.remembered.places self.new.remembered.places (worker + 2) from to rights) }
         ensures one_cell { OnOk result (TakesOneCell self.old.spaces self.new.spaces (worker + 2)) }
@@ -186,7 +187,10 @@ impl<P: Payload> Cells<P> {
         ensures payloads { OnErr result (self.new.payloads.entries ≡ self.old.payloads.entries) }
         ensures places { OnErr result (self.new.remembered.places ≡ self.old.remembered.places) }
         ensures remembered { AreRemembered self.old.spaces.spaces self.old.remembered.places → AreRemembered self.new.spaces.spaces self.new.remembered.places }
-        ensures full { IfErr result (λ refused. refused.why ≡ AllocateFault.HeapFull → IsOutOfCells self.old.spaces (worker + 2) 2) }
+        ensures placed { OnOk result (IsMadeInRow self.old.spaces self.new.spaces self.old.remembered.places self.new.remembered.places (worker + 2)
+            (name_at self.old.spaces.spaces from) name rights) }
+        ensures full { IfErr result (λ refused. refused.why ≡ AllocateFault.HeapFull →
+            LacksCellsFor self.old.spaces (worker + 2) 1 (name_at self.old.spaces.spaces from) name) }
     {
         let spot = find_spot(&self.spaces, from, name);
         let note = spot.note(true);
@@ -263,6 +267,8 @@ impl<P: Payload> Cells<P> {
         ensures placed { let content = content_in self.old.spaces.spaces self.old.payloads in
             ChangesTo self.old.spaces self.new.spaces self.new.payloads (λ x. IsNamed content x ⊎ (x ≡ name)) content.label (with_value content.value name draft) }
         ensures vertex { IsVertexAt self.new.spaces.spaces name result }
+        ensures next { result ≡ place_in_space (worker + 2) (used_of self.old.spaces (worker + 2)) }
+        ensures written { (key : ℕ) × (self.new.spaces ≡ vertex_put self.old.spaces (worker + 2) name key) }
         ensures rows { KeepsRows self.old.spaces.spaces self.new.spaces.spaces }
         ensures table { IsSpaceTable self.new.spaces }
         ensures used { self.new.spaces.used ≡ slice_set self.old.spaces.used (worker + 2) (used_of self.old.spaces (worker + 2) + 1) }

@@ -7,9 +7,9 @@ ghost use Rattle.tg_model.specs.Rules.{state_of, with_value, written_at};
 ghost use Rattle.tg_space.specs.SpaceList.{space_of};
 ghost use Rattle.tg_space.specs.SpaceTable.{IsSpaceTable};
 ghost use Rattle.tg_graph.specs.Content.{IsContent, IsNamed};
-ghost use Rattle.tg_graph.specs.Heap.{IsObject, IsOutOfCells, IsUnchanged, IsWellFormed, KeepsPlaces, content_of, name_of, rights_found};
+ghost use Rattle.tg_graph.specs.Heap.{AreAtHome, IsObject, IsUnchanged, IsWellFormed, KeepsPlaces, content_of, name_of, rights_found};
 ghost use Rattle.tg_graph.specs.Rows.{IsVertexAt};
-ghost use Rattle.tg_graph.specs.Spots.{IsPutInRow};
+ghost use Rattle.tg_graph.specs.Spots.{IsMadeInRow, IsPutInRow, LacksCellsFor};
 ghost use Rattle.tg_graph.specs.Standing.{StandsFor};
 
 use crate::cells::Cells;
@@ -82,6 +82,7 @@ impl<P: Payload> Heap<P> {
         requires { drafts.items ≡ opening.now.values }
         ensures stands { IfOk result (λ heap. StandsFor (content_of heap) (start_of opening.now)) }
         ensures workers { IfOk result (λ heap. length heap.workers ≡ opening.now.workers) }
+        ensures nurseries { IfOk result (λ heap. AreAtHome heap.workers) }
         ensures limits { IfOk result (λ heap. heap.table.limits ≡ limits) }
         ensures handed_back { IfErr result (λ refused. refused.drafts.items ≡ drafts.items) }
         ensures full { IsErrAnd result (λ refused. refused.why ≡ AllocateFault.HeapFull) ↔ (limits.max_blocks < opening.now.workers) }
@@ -203,7 +204,7 @@ impl<P: Payload> Heap<P> {
         ensures placed { OnOk result (IsPutInRow self.old.table self.new.table self.old.remembered self.new.remembered (worker + 2) from to label) }
         ensures kept { OnOk result (KeepsPlaces self.old self.new) }
         ensures refused { OnErr result (self.new ≡ self.old) }
-        ensures full { result ≡ Err AllocateFault.HeapFull → IsOutOfCells self.old.table (worker + 2) 1 }
+        ensures full { result ≡ Err AllocateFault.HeapFull → LacksCellsFor self.old.table (worker + 2) 0 (name_of self.old from) (name_of self.old to) }
     {
         self.cells.add_edge(worker, from, to, label.rights())
     }
@@ -240,10 +241,11 @@ impl<P: Payload> Heap<P> {
         requires fresh { ¬ IsNamed (content_of self.old) name }
         ensures made { OnOk result (IsContent (content_of self.new) (λ x. IsNamed (content_of self.old) x ⊎ (x ≡ name))
             (with_rights (content_of self.old).label worker name label) (with_value (content_of self.old).value name draft)) }
+        ensures placed { OnOk result (IsMadeInRow self.old.table self.new.table self.old.remembered self.new.remembered (worker + 2) worker name label) }
         ensures kept { OnOk result (KeepsPlaces self.old self.new) }
         ensures handed_back { IfErr result (λ refused. refused.draft ≡ draft) }
         ensures refused { OnErr result (IsUnchanged self.old self.new) }
-        ensures full { IfErr result (λ refused. refused.why ≡ AllocateFault.HeapFull → IsOutOfCells self.old.table (worker + 2) 2) }
+        ensures full { IfErr result (λ refused. refused.why ≡ AllocateFault.HeapFull → LacksCellsFor self.old.table (worker + 2) 1 worker name) }
     {
         let from = self.worker_place(worker);
         self.cells

@@ -12,7 +12,7 @@ ghost use Rattle.tg_space.specs.Soundness.{IsKindAt};
 ghost use Rattle.tg_space.specs.Generations.{AreRemembered};
 ghost use Rattle.tg_nursery.specs.Allocation.{HasLeft};
 ghost use Rattle.tg_graph.specs.Content.{IsNamed};
-ghost use Rattle.tg_graph.specs.Heap.{IsGraph, content_in};
+ghost use Rattle.tg_graph.specs.Heap.{AreAtHome, IsGraph, content_in};
 ghost use Rattle.tg_graph.specs.Rows.{IsVertexAt, name_at};
 ghost use Rattle.tg_graph.specs.Steps.{ChangesTo};
 ghost use Rattle.tg_graph.specs.Opened.{HasBlocks, IsOpened, TakesOneCell, no_labels, with_row};
@@ -47,6 +47,7 @@ pub(crate) fn opened<P: Payload>(
     requires { drafts.items ≡ opening.now.values }
     ensures opened { IfOk result (λ parts. IsOpened parts.0.spaces parts.0.payloads parts.1.items opening.now.workers limits (label_in opening.now.edges) opening.now.values) }
     ensures workers { IfOk result (λ parts. length parts.1.items ≡ opening.now.workers) }
+    ensures nurseries { IfOk result (λ parts. AreAtHome parts.1.items) }
     ensures remembered { IfOk result (λ parts. AreRemembered parts.0.spaces.spaces parts.0.remembered.places) }
     ensures plan { IsPlan opening.now }
     ensures handed_back { IfErr result (λ refused. refused.drafts.items ≡ drafts.items) }
@@ -152,6 +153,7 @@ fn place_workers<P: Payload>(cells: &mut Cells<P>, places: &mut Vec<Place>, draf
     requires capacity { length drafts.items ≤ vec_capacity places.old }
     ensures opened { IsOpened cells.new.spaces cells.new.payloads places.new.items (length drafts.items) cells.old.spaces.limits no_labels drafts.items }
     ensures count { length places.new.items ≡ length drafts.items }
+    ensures nurseries { AreAtHome places.new.items }
     ensures unused { (x : ℕ) → used_of cells.new.spaces (x + 2) ≤ 1 }
     ensures remembered { cells.new.remembered ≡ cells.old.remembered }
 {

@@ -1,1 +1,2 @@
 pub mod DecisionLaws
+mod FaultLaws

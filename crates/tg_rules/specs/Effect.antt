@@ -1,5 +1,5 @@
 -- What a command does that is served, and how a refused growth is told.
-use Rattle.std.specs.Prelude.{◌≡◌, ℕ, ◌<◌}
+use Rattle.std.specs.Prelude.{◌≡◌, ℕ, ◌+◌, ◌<◌}
 use Rattle.std.specs.List.{All}
 use Rattle.tg_model.specs.declared.command.Command.{Command}
 use Rattle.tg_model.specs.declared.command.Command.TheVariants.{Take, Grant, Remove, Read, Write, List as Listing}
@@ -7,7 +7,9 @@ use Rattle.tg_model.specs.declared.reply.Reply.{Reply}
 use Rattle.tg_model.specs.Rules.{labels_after, values_after, reply_of}
 use Rattle.tg_space.specs.declared.spaces.AllocateFault.{AllocateFault}
 use Rattle.tg_space.specs.declared.spaces.AllocateFault.TheVariants as allocate
+use Rattle.tg_space.specs.SpaceTable.{SpaceTable}
 use Rattle.tg_graph.specs.Content.{Content, IsNamed, IsContent}
+use Rattle.tg_graph.specs.Spots.{LacksCellsFor}
 use Rattle.tg_rules.specs.declared.effect.PerformFault.{PerformFault}
 use Rattle.tg_rules.specs.declared.effect.PerformFault.TheVariants as perform
 
@@ -28,7 +30,7 @@ OnlyLooks (Read y) = Unit {0}
 OnlyLooks (Write y v) = ⊥
 OnlyLooks Listing = Unit {0}
 
--- the command may need a cell for a reference
+-- the command adds an edge, and so may need a cell for a reference
 abbrev pub AddsEdge : Command → Type 0
 AddsEdge (Take y z rights) = Unit {0}
 AddsEdge (Grant y z rights) = Unit {0}
@@ -36,6 +38,15 @@ AddsEdge (Remove y rights) = ⊥
 AddsEdge (Read y) = ⊥
 AddsEdge (Write y v) = ⊥
 AddsEdge Listing = ⊥
+
+-- the edge that the command of x adds goes where more cells are needed than the nursery of x has left and gets
+abbrev pub LacksCellsToServe : SpaceTable → ℕ → Command → Type 0
+LacksCellsToServe t x (Take y z rights) = LacksCellsFor t (x + 2) 0 x z
+LacksCellsToServe t x (Grant y z rights) = LacksCellsFor t (x + 2) 0 y z
+LacksCellsToServe t x (Remove y rights) = ⊥
+LacksCellsToServe t x (Read y) = ⊥
+LacksCellsToServe t x (Write y v) = ⊥
+LacksCellsToServe t x Listing = ⊥
 
 abbrev pub perform_fault_of : AllocateFault → PerformFault
 perform_fault_of allocate.OutOfMemory = perform.OutOfMemory

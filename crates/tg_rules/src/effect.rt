@@ -1,8 +1,8 @@
 //! What a command does that is served.
 ghost use Rattle.std.specs.Prelude.{◌≡◌, ◌≢◌, ◌<◌, ◌+◌, None, Err, IfOk, OnOk, OnErr, length};
 ghost use Rattle.tg_model.specs.Rules.{denial_of};
-ghost use Rattle.tg_graph.specs.Heap.{content_of, IsUnchanged, IsOutOfCells, KeepsPlaces};
-ghost use Rattle.tg_rules.specs.Effect.{IsReplyOn, IsContentAfter, OnlyLooks, AddsEdge};
+ghost use Rattle.tg_graph.specs.Heap.{content_of, IsUnchanged, KeepsPlaces};
+ghost use Rattle.tg_rules.specs.Effect.{IsReplyOn, IsContentAfter, OnlyLooks, AddsEdge, LacksCellsToServe};
 
 use crate::vertex::{target_of, worker_of};
 use std::alloc::AllocError;
@@ -19,7 +19,7 @@ pub enum PerformFault {
     /// Memory for the reply, for a block or for a payload's state was refused.
     #[error("out of memory")]
     OutOfMemory,
-    /// A reference needs a cell, and the nursery of the worker has none left and gets no more blocks.
+    /// A new reference needs a cell, and the nursery of the worker has none left and gets no more blocks.
     #[error("heap full")]
     HeapFull,
 }
@@ -52,8 +52,8 @@ impl From<AllocateFault> for PerformFault {
 /// Performs a command of a worker that is to be served: answers as the rules say on what the heap has, and changes
 /// that as they say. Workers and the vertices that there are stay where they are.
 ///
-/// It is refused where memory was, and a take or a grant also where the reference needs a cell and the heap has none to
-/// give; then nothing is changed.
+/// It is refused where memory was, and a take or a grant also where its reference isn't there yet, the row has no empty
+/// place for it, and the nursery of the worker has no cell left and gets no more blocks; then nothing is changed.
 pub fn perform<P: Payload>(
     heap: &mut Heap<P>,
     worker: u64,
@@ -66,7 +66,7 @@ pub fn perform<P: Payload>(
     ensures kept { OnOk result (KeepsPlaces heap.old heap.new) }
     ensures looks { OnlyLooks command.now → heap.new ≡ heap.old }
     ensures refused { OnErr result (IsUnchanged heap.old heap.new) }
-    ensures full { result ≡ Err PerformFault.HeapFull → AddsEdge command.now × IsOutOfCells heap.old.table (worker + 2) 1 }
+    ensures full { result ≡ Err PerformFault.HeapFull → AddsEdge command.now × LacksCellsToServe heap.old.table worker command.now }
 {
     match *command {
         Command::Take {
@@ -100,7 +100,7 @@ fn take<P: Payload>(
     ensures content { OnOk result (IsContentAfter (content_of heap.old) (content_of heap.new) worker (Command.Take via target rights)) }
     ensures kept { OnOk result (KeepsPlaces heap.old heap.new) }
     ensures refused { OnErr result (IsUnchanged heap.old heap.new) }
-    ensures full { result ≡ Err PerformFault.HeapFull → IsOutOfCells heap.old.table (worker + 2) 1 }
+    ensures full { result ≡ Err PerformFault.HeapFull → LacksCellsToServe heap.old.table worker (Command.Take via target rights) }
 {
     let from = worker_of(heap, worker);
     let via = target_of(heap, from, via);
@@ -123,7 +123,7 @@ fn grant<P: Payload>(
     ensures content { OnOk result (IsContentAfter (content_of heap.old) (content_of heap.new) worker (Command.Grant via target rights)) }
     ensures kept { OnOk result (KeepsPlaces heap.old heap.new) }
     ensures refused { OnErr result (IsUnchanged heap.old heap.new) }
-    ensures full { result ≡ Err PerformFault.HeapFull → IsOutOfCells heap.old.table (worker + 2) 1 }
+    ensures full { result ≡ Err PerformFault.HeapFull → LacksCellsToServe heap.old.table worker (Command.Grant via target rights) }
 {
     let granter = worker_of(heap, worker);
     let from = target_of(heap, granter, via);

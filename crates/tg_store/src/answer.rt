@@ -3,9 +3,9 @@ ghost use Rattle.std.specs.Prelude.{◌≡◌, ◌≢◌, ◌↔◌, ◌<◌, �
 ghost use Rattle.tg_model.specs.Graph.{ProtectionGraph, IsSubject};
 ghost use Rattle.tg_model.specs.Rules.{answer_of, denial_of, step};
 ghost use Rattle.tg_model.specs.declared.command.Deed.TheVariants.{Plain};
-ghost use Rattle.tg_graph.specs.Heap.{IsOutOfCells, IsUnchanged, content_of};
+ghost use Rattle.tg_graph.specs.Heap.{IsUnchanged, content_of};
 ghost use Rattle.tg_graph.specs.Standing.{StandsFor};
-ghost use Rattle.tg_rules.specs.Effect.{AddsEdge, OnlyLooks};
+ghost use Rattle.tg_rules.specs.Effect.{AddsEdge, LacksCellsToServe, OnlyLooks};
 
 use crate::fault::ApplyFault;
 use std::alloc::Global;
@@ -42,7 +42,7 @@ pub(crate) fn answer_command<P: Payload>(
     ensures refused { OnErr result (IsUnchanged heap.old heap.new) }
     ensures worker { result ≢ Err ApplyFault.NoSuchWorker }
     ensures full { result ≡ Err ApplyFault.HeapFull → (denial_of (content_of heap.old).label worker command.now ≡ None)
-        × AddsEdge command.now × IsOutOfCells heap.old.table (worker + 2) 1 }
+        × AddsEdge command.now × LacksCellsToServe heap.old.table worker command.now }
 {
     match decide(heap, worker, command) {
         Verdict::Served => serve(alloc, heap, worker, command),
@@ -79,7 +79,7 @@ fn serve<P: Payload>(
     ensures limits { heap.new.table.limits ≡ heap.old.table.limits }
     ensures refused { OnErr result (IsUnchanged heap.old heap.new) }
     ensures worker { result ≢ Err ApplyFault.NoSuchWorker }
-    ensures full { result ≡ Err ApplyFault.HeapFull → AddsEdge command.now × IsOutOfCells heap.old.table (worker + 2) 1 }
+    ensures full { result ≡ Err ApplyFault.HeapFull → AddsEdge command.now × LacksCellsToServe heap.old.table worker command.now }
 {
     if only_looks(command) {
         look(alloc, heap, worker, command)
@@ -132,7 +132,7 @@ fn change<P: Payload>(
     ensures limits { heap.new.table.limits ≡ heap.old.table.limits }
     ensures refused { OnErr result (IsUnchanged heap.old heap.new) }
     ensures worker { result ≢ Err ApplyFault.NoSuchWorker }
-    ensures full { result ≡ Err ApplyFault.HeapFull → AddsEdge command.now × IsOutOfCells heap.old.table (worker + 2) 1 }
+    ensures full { result ≡ Err ApplyFault.HeapFull → AddsEdge command.now × LacksCellsToServe heap.old.table worker command.now }
 {
     let _done = perform(heap, worker, command)?;
     Ok(Answer {

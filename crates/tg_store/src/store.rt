@@ -50,9 +50,10 @@ impl<P: Payload> Store<P> {
     ghost use Rattle.tg_space.specs.SpaceTable.{kept_blocks};
     ghost use Rattle.tg_payload.specs.Table.{count};
     ghost use Rattle.tg_graph.specs.Content.{IsNamed};
-    ghost use Rattle.tg_graph.specs.Heap.{IsOutOfCells, content_of};
+    ghost use Rattle.tg_graph.specs.Heap.{content_of};
+    ghost use Rattle.tg_graph.specs.Spots.{IsMadeInRow, LacksCellsFor};
     ghost use Rattle.tg_graph.specs.Kept.{VerticesOfOldStay};
-    ghost use Rattle.tg_rules.specs.Effect.{AddsEdge};
+    ghost use Rattle.tg_rules.specs.Effect.{AddsEdge, LacksCellsToServe};
     ghost use Rattle.tg_store.specs.Store.{Enters, IsCountOf, IsFaithful, IsUnchanged, OnlyEnters, StandsFor};
 
     /// A store that starts from the opening, with the payloads of the drafts, one for each worker, and with no entry in
@@ -126,7 +127,7 @@ impl<P: Payload> Store<P> {
     /// the journal. A denial is a reply, and changes nothing else.
     ///
     /// `NoSuchWorker` is answered exactly where no worker has the name, and looked for first; `HeapFull` only where the
-    /// command is allowed, needs a cell for a reference, and the nursery of the worker has none left and gets no more
+    /// command is allowed, a new reference needs a cell, and the nursery of the worker has none left and gets no more
     /// blocks; else `OutOfMemory` alone. After a fault the store is as it was, with no entry.
     pub fn apply(&mut self, worker: u64, command: Command) -> Result<Reply, ApplyFault>
         ensures entry { IfOk result (λ reply. Enters self.old self.new worker (Deed.Plain command) reply) }
@@ -135,7 +136,7 @@ impl<P: Payload> Store<P> {
         ensures denied { (denial : Denial) → result ≡ Ok (Reply.Denied denial) → OnlyEnters self.old self.new worker (Deed.Plain command) (Reply.Denied denial) }
         ensures no_such_worker { (g : ProtectionGraph) → StandsFor self.old g → (result ≡ Err ApplyFault.NoSuchWorker) ↔ (¬ IsSubject g worker) }
         ensures full { (g : ProtectionGraph) → StandsFor self.old g → result ≡ Err ApplyFault.HeapFull →
-            IsAllowed g worker (Deed.Plain command) × AddsEdge command × IsOutOfCells self.old.heap.table (worker + 2) 1 }
+            IsAllowed g worker (Deed.Plain command) × AddsEdge command × LacksCellsToServe self.old.heap.table worker command }
         ensures refused { OnErr result (IsUnchanged self.old self.new) }
         ensures opening { self.new.opening ≡ self.old.opening }
         ensures limits { self.new.heap.table.limits ≡ self.old.heap.table.limits }
@@ -159,8 +160,8 @@ impl<P: Payload> Store<P> {
     ///
     /// `NoSuchWorker` is answered exactly where no worker has the name, and looked for first; `VerticesFull` only where
     /// as many vertices were made as may be, and then no other answer than it and `OutOfMemory`; `HeapFull` only where
-    /// a vertex may be made and the nursery of the worker has too few cells left and gets no more blocks; else
-    /// `OutOfMemory` alone. After a fault the draft is handed back and the store is as it was; but `VerticesFull` has an
+    /// a vertex may be made, and it and the reference to it need more cells than the nursery of the worker has left and
+    /// gets; else `OutOfMemory` alone. A block is added only there where the cells left are too few. After a fault the draft is handed back and the store is as it was; but `VerticesFull` has an
     /// entry.
     pub fn create(
         &mut self,
@@ -172,12 +173,14 @@ impl<P: Payload> Store<P> {
         ensures name { (g : ProtectionGraph) → StandsFor self.old g → IfOk result (λ name. answer_of g worker (Deed.Create label draft.law draft.state) ≡ Reply.Name name) }
         ensures step { (g : ProtectionGraph) → StandsFor self.old g → OnOk result (StandsFor self.new (step g worker (Deed.Create label draft.law draft.state))) }
         ensures stored { IfOk result (λ name. IsNamed (content_of self.new.heap) name × ((content_of self.new.heap).value name ≡ Some draft)) }
+        ensures placed { IfOk result (λ name. IsMadeInRow self.old.heap.table self.new.heap.table self.old.heap.remembered self.new.heap.remembered
+            (worker + 2) worker name label) }
         ensures no_such_worker { (g : ProtectionGraph) → StandsFor self.old g → IsErrAnd result (λ refused. refused.why ≡ CreateFault.NoSuchWorker) ↔ (¬ IsSubject g worker) }
         ensures no_more { (g : ProtectionGraph) → StandsFor self.old g → IfErr result (λ refused. refused.why ≡ CreateFault.VerticesFull → IsSubject g worker × (g.limit ≤ g.made)) }
         ensures no_more_entry { IfErr result (λ refused. refused.why ≡ CreateFault.VerticesFull →
             OnlyEnters self.old self.new worker (Deed.Create label draft.law draft.state) Reply.VerticesFull) }
         ensures full { (g : ProtectionGraph) → StandsFor self.old g → IfErr result (λ refused. refused.why ≡ CreateFault.HeapFull →
-            IsAllowed g worker (Deed.Create label draft.law draft.state) × IsOutOfCells self.old.heap.table (worker + 2) 2) }
+            IsAllowed g worker (Deed.Create label draft.law draft.state) × LacksCellsFor self.old.heap.table (worker + 2) 1 worker g.made) }
         ensures refused { IfErr result (λ refused. refused.why ≢ CreateFault.VerticesFull → IsUnchanged self.old self.new) }
         ensures same_graph { (g : ProtectionGraph) → StandsFor self.old g → OnErr result (StandsFor self.new g) }
         ensures handed_back { IfErr result (λ refused. refused.draft ≡ draft) }

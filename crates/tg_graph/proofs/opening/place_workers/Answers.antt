@@ -1,11 +1,13 @@
 use Rattle.std.proofs.Common.{◌≡◌, ◌≢◌, ◌∙◌, ◌+◌, ℕ, List, length, get_or, ap, sym, subst, arith, ⊎_elim, if◌then◌else◌, [], ◌++◌, ◌∷◌, refl}
 use Rattle.std.specs.Prelude.{is_ok}
 use Rattle.std.proofs.lemmas.Bool.{cases_eq}
+use Rattle.std.proofs.lemmas.Option.{slice_get_within}
 use Rattle.std.proofs.lemmas.List.{length_push, get_or-set_other}
 use Rattle.tg_word.specs.declared.Place.{Place}
 use Rattle.tg_space.specs.SpaceTable.{used_of}
+use Rattle.tg_graph.specs.Heap.{AreAtHome}
 use Rattle.tg_graph.specs.Opened.{IsOpened, no_labels}
-use Rattle.tg_graph.proofs.Openings.{nothing_opened, one_more_opened, used_more}
+use Rattle.tg_graph.proofs.Openings.{more_at_home, nothing_opened, one_more_opened, used_more}
 use Rattle.tg_graph.proofs.opening.place_workers.Goals as goal
 
 pub place_vertex-place-requires-clause-fresh : goal.place_vertex-place-requires-clause-fresh
@@ -20,6 +22,7 @@ loop-draft-init g c =
     record {
       opened = subst (λ (ps : List Place). IsOpened t payloads ps workers t.limits no_labels []) (sym c.requires.places)
           (nothing_opened t payloads workers t.limits c.requires.blocks c.requires.table c.requires.payloads);
+      home = subst AreAtHome (sym c.requires.places) (λ x p at. let low = slice_get_within [] x p at in omega arith);
       count = ap (λ (ps : List Place). length ps) c.requires.places;
       table = c.requires.table;
       used = λ x. let e = c.requires.blocks.unused (x + 2) in omega arith;
@@ -50,6 +53,7 @@ loop-draft-preserved g c =
     record {
       opened = one_more_opened t after c.loop-draft.cells.payloads c.place_vertex-place.new.self.payloads places c.push.new.self.items (length c.args.drafts.items) c.args.cells.now.spaces.limits yielded draft place name
           before.opened before.count named step.placed step.vertex step.blocks pushed;
+      home = more_at_home places c.push.new.self.items place before.home (ap (λ (p : Place). p.space) step.next ∙ ap (λ n. n + 2) named) pushed;
       count = let e = ap (λ (ps : List Place). length ps) pushed in let more = length_push places place in omega (arith, e, more, long, count);
       table = step.table;
       used = λ x. ⊎_elim

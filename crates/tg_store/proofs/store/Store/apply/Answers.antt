@@ -6,7 +6,8 @@ use Rattle.tg_model.specs.declared.reply.Reply.{Reply}
 use Rattle.tg_model.specs.declared.reply.Reply.TheVariants.{Denied}
 use Rattle.tg_model.specs.Graph.{ProtectionGraph, IsSubject}
 use Rattle.tg_model.specs.Rules.{Permits, answer_of}
-use Rattle.tg_graph.specs.Heap.{IsOutOfCells, content_of}
+use Rattle.tg_graph.specs.Heap.{content_of}
+use Rattle.tg_rules.specs.Effect.{LacksCellsToServe}
 use Rattle.tg_store.specs.Store.{StoreState, Enters, IsUnchanged, OnlyEnters, StandsFor, graph_of_store}
 use Rattle.tg_store.proofs.AnswerLaws.{denial-answered, made-plain, permitted}
 use Rattle.tg_store.proofs.StandLaws.{IsStore-unchanged, IsStore-entered, StandsFor-entered, subject_here, no_subject}
@@ -57,7 +58,7 @@ returns-in_err-reply-clause-full g c =
     let allowed = permitted (content_of old.heap) (graph_of_store old) c.self.invariant.faithful.stands c.args.worker c.args.command subject full.0 in (
       subst (λ (h : ProtectionGraph). Permits h.label c.args.worker c.args.command) here allowed,
       full.1,
-      subst (λ (s : StoreState). IsOutOfCells s.heap.table (c.args.worker + 2) 1) c.self.view_is full.2,
+      subst (λ (s : StoreState). LacksCellsToServe s.heap.table c.args.worker c.args.command) c.self.view_is full.2,
     )
 
 pub invariant_of-self-2 : goal.invariant_of-self-2

@@ -7,7 +7,8 @@ use Rattle.tg_model.specs.declared.command.Deed.TheVariants.{Create}
 use Rattle.tg_model.specs.declared.reply.Reply.TheVariants.{Name, VerticesFull}
 use Rattle.tg_model.specs.Graph.{ProtectionGraph}
 use Rattle.tg_model.specs.Rules.{answer_of}
-use Rattle.tg_graph.specs.Heap.{IsOutOfCells, content_of}
+use Rattle.tg_graph.specs.Heap.{content_of}
+use Rattle.tg_graph.specs.Spots.{LacksCellsFor}
 use Rattle.tg_store.specs.Store.{StoreState, Enters, IsUnchanged, StandsFor, graph_of_store}
 use Rattle.tg_store.proofs.CreateLaws as create
 use Rattle.tg_store.proofs.StandLaws.{IsStore-unchanged, StandsFor-entered, subject_here, no_subject}
@@ -113,7 +114,9 @@ returns-in_err-new_vertex-clause-full g c =
     rw (given.1, given.2)
     (λ e. (
       subst (λ (h : ProtectionGraph). h.made < h.limit) here room,
-      subst (λ (s : StoreState). IsOutOfCells s.heap.table (c.args.worker + 2) 2) c.self.view_is (c.in_err-new_vertex.ensures.full (create.heap_full _ e)),
+      subst (λ (h : ProtectionGraph). LacksCellsFor c.args.self.now.heap.table (c.args.worker + 2) 1 c.args.worker h.made) here
+      (subst (λ n. LacksCellsFor c.args.self.now.heap.table (c.args.worker + 2) 1 c.args.worker n) c.self.invariant.is_made
+      (subst (λ (s : StoreState). LacksCellsFor s.heap.table (c.args.worker + 2) 1 c.args.worker c.self.inside.made) c.self.view_is (c.in_err-new_vertex.ensures.full (create.heap_full _ e)))),
     ))
 
 pub invariant_of-self-2 : goal.invariant_of-self-2

@@ -1,0 +1,21 @@
+-- How a refusal of the heap is told.
+use Rattle.std.proofs.Common.{◌≡◌, ◌+◌, ℕ, refl, subst, ap, ◌∙◌}
+use Rattle.tg_space.specs.declared.spaces.AllocateFault.{AllocateFault}
+use Rattle.tg_space.specs.declared.spaces.AllocateFault.TheVariants as allocate
+use Rattle.tg_graph.specs.Heap.{HeapState, name_of}
+use Rattle.tg_graph.specs.Spots.{LacksCellsFor}
+use Rattle.tg_rules.specs.declared.effect.PerformFault.TheVariants as perform
+use Rattle.tg_rules.specs.declared.vertex.Vertex.{Vertex}
+use Rattle.tg_rules.specs.Effect.{perform_fault_of}
+use Rattle.tg_rules.specs.Verdict.{HasVertex}
+
+pub heap_full : (fault : AllocateFault) → perform_fault_of fault ≡ perform.HeapFull → fault ≡ allocate.HeapFull
+heap_full allocate.OutOfMemory e = absurd (cc e)
+heap_full allocate.HeapFull e = refl
+
+-- the vertices at two places are those with these names
+pub lacks_by_name : (s : HeapState) (space x y : ℕ) (from to : Vertex) → HasVertex s from → HasVertex s to → from.name ≡ x → to.name ≡ y →
+    LacksCellsFor s.table space 0 (name_of s from.place) (name_of s to.place) → LacksCellsFor s.table space 0 x y
+lacks_by_name s space x y from to there target named target_named lacks =
+    subst (λ n. LacksCellsFor s.table space 0 x n) (target.named ∙ target_named)
+    (subst (λ n. LacksCellsFor s.table space 0 n (name_of s to.place)) (there.named ∙ named) lacks)
