@@ -113,7 +113,7 @@ impl Block {
     }
 
     /// The words of a cell, where they stand.
-    #[inline]
+    #[inline(always)]
     pub fn words(&self, at: usize) -> &[u64; WORDS]
         requires { at < 64 }
         ensures words { result.now ≡ cell_of self.now at }

@@ -1,8 +1,9 @@
 -- Facts on the claims of a collection.
-use Rattle.std.proofs.Common.{◌≡◌, ◌≢◌, ℕ, ◌<◌, ◌≤◌, ◌+◌, ◌*◌, ◌/◌, ◌%◌, ◌^◌, ◌++◌, ◌∷◌, ◌⊎◌, [], List, length, get_or, set, refl, sym, ap, subst, arith, ◌∙◌, eqb, lit<, inl, inr, ⊎_elim}
+use Rattle.std.proofs.Common.{◌≡◌, ◌≢◌, ℕ, ◌<◌, ◌≤◌, ◌+◌, ◌-◌, ◌*◌, ◌/◌, ◌%◌, ◌^◌, ◌++◌, ◌∷◌, ◌⊎◌, ◌==◌, true, false, cond, [], List, length, get_or, set, refl, sym, ap, subst, arith, ◌∙◌, eqb, lit<, inl, inr, ⊎_elim}
 use Rattle.std.specs.List.{All, Contains, IsDistinct}
 use Rattle.std.proofs.lemmas.List.{get_or_default, get_or-set_same, get_or-set_other, length-set, get_or-map, length-map, map-append, get_or_append_left, get_or_push, length_push, append-nil, append_assoc}
-use Rattle.std.proofs.lemmas.List.Elements.{All-push, All-nil, All-append, All-weaker, All-contains, All-from_get_or, All-get_or, Contains-append_left, Contains-append_right, Contains-get_or}
+use Rattle.std.proofs.lemmas.List.Elements.{All-push, All-nil, All-head, All-tail, All-append, All-weaker, All-contains, All-from_get_or, All-get_or, Contains-append_left, Contains-append_right, Contains-get_or, filter-append}
+use Rattle.std.proofs.lemmas.List.Sums.{sum_by-set}
 use Rattle.std.proofs.lemmas.Map.Steps.{length-le_from_distinct_below}
 use Rattle.std.proofs.lemmas.Map.Keys.{IsDistinct-from_apart}
 use Rattle.std.proofs.lemmas.Map.Views.{Contains-from_any}
@@ -12,9 +13,12 @@ use Rattle.tg_rights.specs.RightSet.{no_rights}
 use Rattle.tg_word.specs.declared.Place.{Place}
 use Rattle.tg_word.specs.Word.{IsPlace, link_to, place_in}
 use Rattle.tg_word.proofs.Packing.{place_in-word_at, word_at-above_zero}
+use Rattle.tg_space.specs.Collection.{AreFewBlocks, blocks_for, copies_in, is_copy_in}
+use Rattle.tg_space.specs.SpaceList.{BlockList}
 use Rattle.tg_space.specs.SpaceTable.{place_in_space}
 use Rattle.tg_evac.specs.declared.win.Win.{Win}
-use Rattle.tg_evac.specs.Claims.{Claimed, StandsIn, IsGiven, AreApart, AreInOrder, AreClaims, AddsClaims, IsFull, cells_won, words_won, win_at}
+use Rattle.tg_evac.specs.Claims.{Claimed, StandsIn, IsGiven, AreApart, AreInOrder, AreClaims, AddsClaims, IsFull, cells_won, first_new, is_in, won_in, words_won, win_at}
+use Rattle.tg_evac.specs.Copies.{AreBelow}
 
 -- the place of Old or of Aged with a number
 pub place_inside : (s k : ℕ) → s < 2 → k < 2 ^ 26 → IsPlace (place_in_space s k)
@@ -59,6 +63,50 @@ win_from_cell won c held =
     let w : Win = win_at won held.0 in
     let is : get_or (cells_won won) held.0 0 ≡ c = get_or_default (cells_won won) held.0 0 c held.1 ∙ held.2 in
     (w, Contains-get_or won held.0 (win_at [] 0) low, sym (get_or-map (λ (v : Win). v.cell) won held.0 (win_at [] 0) 0 low) ∙ is)
+
+-- ---- the pairs of a space
+
+is_in_one : (space : ℕ) (w : Win) → (place_in w.word).space ≡ space → is_in space w ≡ true
+is_in_one space w here = grind (arith, nat_tests)
+
+is_in_other : (space : ℕ) (w : Win) → (place_in w.word).space ≢ space → is_in space w ≡ false
+is_in_other space w other = grind (arith, nat_tests)
+
+pub in_push : (space : ℕ) (won : List Win) (w : Win) → (place_in w.word).space ≡ space → won_in space (won ++ w ∷ []) ≡ won_in space won ++ w ∷ []
+in_push space won w here =
+    let one : won_in space (w ∷ []) ≡ w ∷ [] = rw (is_in_one space w here) refl in
+    filter-append (is_in space) won (w ∷ []) ∙ ap (λ (ws : List Win). won_in space won ++ ws) one
+
+pub in_other : (space : ℕ) (won : List Win) (w : Win) → (place_in w.word).space ≢ space → won_in space (won ++ w ∷ []) ≡ won_in space won
+in_other space won w other =
+    let none : won_in space (w ∷ []) ≡ [] = rw (is_in_other space w other) refl in
+    filter-append (is_in space) won (w ∷ []) ∙ ap (λ (ws : List Win). won_in space won ++ ws) none ∙ append-nil (won_in space won)
+
+-- where all are in it
+pub in_all : (space : ℕ) (won : List Win) → All (λ (w : Win). (place_in w.word).space ≡ space) won → won_in space won ≡ won
+in_all space [] all = refl
+in_all space (w ∷ won) all =
+    let here = All-head (λ (v : Win). (place_in v.word).space ≡ space) w won all in
+    let rest = in_all space won (All-tail (λ (v : Win). (place_in v.word).space ≡ space) w won all) in
+    rw (is_in_one space w here) (ap (λ (ws : List Win). w ∷ ws) rest)
+
+-- one more pair, with the next number
+order_push : (space first : ℕ) (won : List Win) (w : Win) → AreInOrder space first won → w.word ≡ link_to (place_in_space space (first + length won)) → AreInOrder space first (won ++ w ∷ [])
+order_push space first won w order is k low =
+    let long = length_push won w in
+    ⊎_elim
+    (λ (early : k < length won). ap (λ (v : Win). v.word) (get_or_append_left won (w ∷ []) (win_at [] 0) k early) ∙ order k early)
+    (λ (past : length won ≤ k).
+    let at : length won ≡ k = omega arith in
+    ap (λ (v : Win). v.word) (get_or_push won w (win_at [] 0) k at) ∙ is ∙ ap (λ (n : ℕ). link_to (place_in_space space (first + n))) at)
+    (cases_lt k (length won))
+
+-- a word is set that was 0
+copies_set : (space : ℕ) (forward : List ℕ) (i word : ℕ) → i < length forward → get_or forward i 0 ≡ 0 → copies_in (set forward i word) space ≡ copies_in forward space + cond (is_copy_in space word) 1 0
+copies_set space forward i word low none =
+    let sum = sum_by-set (λ (x : ℕ). cond (is_copy_in space x) 1 0) forward i word 0 low in
+    let zero : ◌≡◌ {A = ℕ} (cond (is_copy_in space (get_or forward i 0)) 1 0) 0 = rw none refl in
+    omega (arith, sum, zero)
 
 -- ---- what the rule says of each pair
 
@@ -160,6 +208,41 @@ module _ (c : Claimed) (are : AreClaims c) where
           let found = are.words.every n low some in
           let word : get_or c.forward n 0 ≡ found.0.word = ap (λ (m : ℕ). get_or c.forward m 0) (sym found.2) ∙ (stands found.0 found.1).word in
           subst (λ (w : ℕ). IsPlace (place_in w)) (sym word) (word_place found.0 found.1)
+
+-- the blocks that the pairs of a space need
+module _ (c : Claimed) (are : AreClaims c) where
+  pub aged_below : AreBelow 1 0 (blocks_for (copies_in c.forward 1)) c.won
+  aged_below w held here =
+      let g = given_of c are w held in let at = place_is c are w held in
+      let space = ap (λ (p : Place). p.space) at in let block = ap (λ (p : Place). p.block) at in
+      let one : g.space ≡ 1 = sym space ∙ here in
+      let before = g.before in let next = ap (λ (s : ℕ). get_or c.next s 0) one in
+      let ends = are.ends 1 (lit< tt) in let copies = are.copies 1 (lit< tt) in
+      omega arith
+
+  pub old_below : AreBelow 0 c.plan.kept (blocks_for (copies_in c.forward 0)) c.won
+  old_below w held here =
+      let g = given_of c are w held in let at = place_is c are w held in
+      let space = ap (λ (p : Place). p.space) at in let block = ap (λ (p : Place). p.block) at in
+      let zero_is : g.space ≡ 0 = sym space ∙ here in
+      let before = g.before in let behind = g.behind zero_is in let next = ap (λ (s : ℕ). get_or c.next s 0) zero_is in
+      let ends = are.ends 0 (lit< tt) in let copies = are.copies 0 (lit< tt) in
+      omega arith
+
+  -- are within the limit
+  pub few_blocks : (space_blocks kept : ℕ) (forward : List ℕ) (aged old : BlockList) → c.plan.room ≡ 64 * space_blocks → c.plan.kept ≡ kept → forward ≡ c.forward →
+      ((most : ℕ) → AreBelow 1 0 most c.won → length aged ≤ most) → ((most : ℕ) → AreBelow 0 c.plan.kept most c.won → length old ≤ most) → AreFewBlocks space_blocks kept 0 forward aged old
+  few_blocks space_blocks kept forward aged old room kept_is same in_aged in_old =
+      let aged_few = in_aged (blocks_for (copies_in c.forward 1)) aged_below in let old_few = in_old (blocks_for (copies_in c.forward 0)) old_below in
+      let aged_ends = are.ends 1 (lit< tt) in let old_ends = are.ends 0 (lit< tt) in
+      let aged_copies = are.copies 1 (lit< tt) in let old_copies = are.copies 0 (lit< tt) in
+      let aged_within = are.within 1 (lit< tt) in let old_within = are.within 0 (lit< tt) in
+      subst (λ (ws : List ℕ). AreFewBlocks space_blocks kept 0 ws aged old) (sym same) (record {
+        aged_within = omega arith;
+        old_within = omega arith;
+        aged_needed = omega arith;
+        old_needed = omega arith;
+      })
 
 -- where a space has no room for one more, all the room is won
 pub full_at : (c : Claimed) → AreClaims c → (space : ℕ) → space < 2 → c.plan.room ≤ get_or c.next space 0 → IsFull c
@@ -284,27 +367,59 @@ module _ (c : Claimed) (are : AreClaims c) (w : Win) (space number : ℕ) (two :
       ⊎_elim (λ (e : s ≡ space). let new = ap (λ (k : ℕ). get_or (set c.next space (number + 1)) k 0) e in let is = next_same in omega arith)
       (λ (other : s ≢ space). let same = next_other s other in omega arith) (cases_eq s space)
 
-  only_old_more : ((v : Win) → Contains (c.won ++ w ∷ []) v → (place_in v.word).space ≡ 0) → get_or (set c.next space (number + 1)) 1 0 ≡ 0
-  only_old_more all =
-      let to : (place_in w.word).space ≡ space = ap (λ (n : ℕ). (place_in n).space) is ∙ ap (λ (p : Place). p.space) (place_back space number two small) in
-      let old : (place_in w.word).space ≡ 0 = all w here in
-      next_other 1 (λ e. absurd (omega arith)) ∙ are.only_old (λ v held. all v (Contains-append_left c.won (w ∷ []) v held))
+  to_space : (place_in w.word).space ≡ space
+  to_space = ap (λ (n : ℕ). (place_in n).space) is ∙ ap (λ (p : Place). p.space) (place_back space number two small)
 
-  in_order_more : get_or (set c.next space (number + 1)) 1 0 ≡ 0 → AreInOrder c.plan.kept (c.won ++ w ∷ [])
-  in_order_more none k low =
-      let in_old : space ≡ 0 = ⊎_elim (λ (e : space ≡ 0). e)
-      (λ (ne : space ≢ 0). let e : space ≡ 1 = omega arith in let at = ap (λ (s : ℕ). get_or (set c.next space (number + 1)) s 0) e in let same = next_same in absurd (omega arith)) (cases_eq space 0) in
-      let none_before : get_or c.next 1 0 ≡ 0 = sym (next_other 1 (λ e. absurd (omega arith))) ∙ none in
-      let long = length_push c.won w in
+  in_order_more : (s : ℕ) → s < 2 → AreInOrder s (first_new c.plan.kept s) (won_in s (c.won ++ w ∷ []))
+  in_order_more s inside = ⊎_elim
+      (λ (here : (place_in w.word).space ≡ s).
+      let same : space ≡ s = sym to_space ∙ here in
+      let at : number ≡ first_new c.plan.kept space + length (won_in space c.won) = next ∙ sym (are.ends space two) in
+      let word : w.word ≡ link_to (place_in_space s (first_new c.plan.kept s + length (won_in s c.won))) =
+      is ∙ ap (λ (n : ℕ). link_to (place_in_space space n)) at ∙ ap (λ (t : ℕ). link_to (place_in_space t (first_new c.plan.kept t + length (won_in t c.won)))) same in
+      subst (λ (ws : List Win). AreInOrder s (first_new c.plan.kept s) ws) (sym (in_push s c.won w here)) (order_push s (first_new c.plan.kept s) (won_in s c.won) w (are.in_order s inside) word))
+      (λ (other : (place_in w.word).space ≢ s).
+      subst (λ (ws : List Win). AreInOrder s (first_new c.plan.kept s) ws) (sym (in_other s c.won w other)) (are.in_order s inside))
+      (cases_eq (place_in w.word).space s)
+
+  ends_more : (s : ℕ) → s < 2 → first_new c.plan.kept s + length (won_in s (c.won ++ w ∷ [])) ≡ get_or (set c.next space (number + 1)) s 0
+  ends_more s inside =
+      let ends = are.ends s inside in
       ⊎_elim
-      (λ (early : k < length c.won).
-      ap (λ (v : Win). v.word) (get_or_append_left c.won (w ∷ []) (win_at [] 0) k early) ∙ are.in_order none_before k early)
-      (λ (past : length c.won ≤ k).
-      let at : length c.won ≡ k = omega arith in
-      let counted = are.counted in let first = ap (λ (s : ℕ). get_or c.next s 0) in_old in
-      let number_is : number ≡ 64 * c.plan.kept + k = omega arith in
-      ap (λ (v : Win). v.word) (get_or_push c.won w (win_at [] 0) k at) ∙ is ∙ ap (λ (s : ℕ). link_to (place_in_space s number)) in_old ∙ ap (λ (n : ℕ). link_to (place_in_space 0 n)) number_is)
-      (cases_lt k (length c.won))
+      (λ (here : (place_in w.word).space ≡ s).
+      let same : s ≡ space = sym here ∙ to_space in
+      let long = ap length (in_push s c.won w here) ∙ length_push (won_in s c.won) w in
+      let now = ap (λ (k : ℕ). get_or (set c.next space (number + 1)) k 0) same ∙ next_same in let before = ap (λ (k : ℕ). get_or c.next k 0) same in
+      omega (arith, next))
+      (λ (other : (place_in w.word).space ≢ s).
+      let long = ap length (in_other s c.won w other) in let now = next_other s (λ e. other (to_space ∙ sym e)) in
+      omega arith)
+      (cases_eq (place_in w.word).space s)
+
+  copies_more : (s : ℕ) → s < 2 → copies_in (set c.forward w.cell w.word) s ≡ length (won_in s (c.won ++ w ∷ []))
+  copies_more s low =
+      let copies = are.copies s low in
+      let sum = copies_set s c.forward w.cell w.word inside none in
+      let ne = some in
+      let is_some : (w.word == 0) ≡ false = grind (arith, nat_tests) in
+      ⊎_elim
+      (λ (here : (place_in w.word).space ≡ s).
+      let long = ap length (in_push s c.won w here) ∙ length_push (won_in s c.won) w in
+      let one : ◌≡◌ {A = ℕ} (cond (is_copy_in s w.word) 1 0) 1 = rw (is_some, is_in_one s w here) refl in
+      omega arith)
+      (λ (other : (place_in w.word).space ≢ s).
+      let long = ap length (in_other s c.won w other) in
+      let zero : ◌≡◌ {A = ℕ} (cond (is_copy_in s w.word) 1 0) 0 = rw (is_some, is_in_other s w other) refl in
+      omega arith)
+      (cases_eq (place_in w.word).space s)
+
+  within_more : (s : ℕ) → s < 2 → get_or (set c.next space (number + 1)) s 0 - first_new c.plan.kept s ≤ c.plan.room - first_new c.plan.kept s
+  within_more s inside =
+      let before = are.within s inside in
+      ⊎_elim
+      (λ (same : s ≡ space). let now = ap (λ (k : ℕ). get_or (set c.next space (number + 1)) k 0) same ∙ next_same in omega arith)
+      (λ (other : s ≢ space). let now = next_other s other in omega arith)
+      (cases_eq s space)
 
   pub claims_more : AreClaims (record { plan = c.plan; forward = set c.forward w.cell w.word; won = c.won ++ w ∷ []; next = set c.next space (number + 1) })
   claims_more = record {
@@ -318,8 +433,10 @@ module _ (c : Claimed) (are : AreClaims c) (w : Win) (space number : ℕ) (two :
     behind = let behind = are.behind in let grows = next_grows 0 in omega arith;
     few = few_more;
     room = are.room;
-    only_old = only_old_more;
     in_order = in_order_more;
+    ends = ends_more;
+    copies = copies_more;
+    within = within_more;
   }
 
   pub adds_one : (reason : Win → Type 0) → reason w → AddsClaims reason c (record { plan = c.plan; forward = set c.forward w.cell w.word; won = c.won ++ w ∷ []; next = set c.next space (number + 1) })

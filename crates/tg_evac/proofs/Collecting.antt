@@ -38,6 +38,7 @@ pub record AreWins (kind : Kind) (h : SpaceList) (roots : List Root) (forward : 
 pub record AreCopies (kind : Kind) (h : SpaceList) (roots : List Root) (forward : List ℕ) (won : List Win) (aged old : BlockList) (notes : List Place) : Type 0 where
   pub aged_copies : HoldCopies 1 0 (copy_of kind h forward) won aged
   pub old_copies : HoldCopies 0 (kept_blocks kind h) (copy_of kind h forward) won old
+  pub none_aged : kind ≡ Full → aged ≡ []
   pub few : kept_blocks kind h + length old ≤ 2 ^ 20
   pub noted : (p : Place) → Contains notes p ↔ ((Contains roots (Remembered p) × NamesYoung (moved_cell kind h forward p)) ⊎ IsYoungCopy (copy_of kind h forward) won p)
 
@@ -179,6 +180,7 @@ module _ (kind : Kind) (h : SpaceList) (roots : List Root) (forward : List ℕ) 
     rest = rest_ok;
     generations = in_generations kind h roots forward won is are;
     noted = noted_ok;
+    none_aged = copies.none_aged;
     few = copies.few;
   }
 
@@ -213,12 +215,13 @@ module _ (kind : Kind) (t : SpaceTable) (roots : List Root) (plan : Plan) (is_pl
       ((p : Place) → Contains between p ↔ (Contains before p ⊎ (Contains roots (Remembered p) × NamesYoung (moved_cell kind t.spaces c.forward p)))) →
       ((p : Place) → Contains after p ↔ (Contains between p ⊎ IsYoungCopy (copy_of plan.kind t.spaces c.forward) c.won p)) →
       HoldCopies 1 0 (copy_of plan.kind t.spaces c.forward) c.won aged → HoldCopies 0 plan.kept (copy_of plan.kind t.spaces c.forward) c.won old →
-      plan.kept + length old ≤ 2 ^ 20 → IsCollection kind t.spaces roots c.forward aged old after
-  collected aged old before between after none first then in_aged in_old few =
+      (plan.kind ≡ Full → aged ≡ []) → plan.kept + length old ≤ 2 ^ 20 → IsCollection kind t.spaces roots c.forward aged old after
+  collected aged old before between after none first then in_aged in_old none_aged few =
       is_collection kind t.spaces roots c.forward c.won aged old after (table_list t table) wins (record {
         aged_copies = subst (λ (k : Kind). HoldCopies 1 0 (copy_of k t.spaces c.forward) c.won aged) is_plan.same in_aged;
         old_copies = subst (λ (n : ℕ). HoldCopies 0 n (copy_of kind t.spaces c.forward) c.won old) is_plan.kept
             (subst (λ (k : Kind). HoldCopies 0 plan.kept (copy_of k t.spaces c.forward) c.won old) is_plan.same in_old);
+        none_aged = λ full. none_aged (is_plan.same ∙ full);
         few = subst (λ (n : ℕ). n + length old ≤ 2 ^ 20) is_plan.kept few;
         noted = noted;
       })

@@ -13,7 +13,7 @@ use Rattle.tg_space.specs.declared.spaces.Root.{Root}
 use Rattle.tg_space.specs.declared.spaces.Root.TheVariants.{Remembered}
 use Rattle.tg_evac.specs.declared.win.Win.{Win}
 use Rattle.tg_evac.specs.Claims.{AreApart, words_won, win_at}
-use Rattle.tg_evac.specs.Copies.{HasNewPlace, IsPlaceIn, IsGrown, PutsCell, HasCopy, HoldCopies, IsYoungCopy, new_cell}
+use Rattle.tg_evac.specs.Copies.{AreBelow, HasNewPlace, IsPlaceIn, IsGrown, PutsCell, HasCopy, HoldCopies, IsYoungCopy, new_cell}
 
 -- ---- one more element
 
@@ -170,6 +170,20 @@ module _ (kept : ℕ) (copy : ℕ → List ℕ) (won : List Win) (new : All (Has
         subst (λ (bs : BlockList). HoldCopies to base copy (take i won ++ win_at won i ∷ []) bs) (sym (left other))
         (copies_elsewhere to base copy (take i won) before hold (win_at won i) (λ e. other (ap (λ (p : Place). p.space) at ∙ e))))
         (cases_eq place.space to))
+
+    -- and how many they are
+    pub few_now : (to base : ℕ) (before after : BlockList) → ((most : ℕ) → AreBelow to base most (take i won) → length before ≤ most) →
+        (place.space ≡ to → PutsCell base place words before after) → (place.space ≢ to → after ≡ before) → (most : ℕ) → AreBelow to base most (take (i + 1) won) → length after ≤ most
+    few_now to base before after was put left most below =
+        let both : AreBelow to base most (take i won ++ win_at won i ∷ []) = subst (λ (ws : List Win). AreBelow to base most ws) more below in
+        let few = was most (λ w held. both w (Contains-append_left (take i won) (win_at won i ∷ []) w held)) in
+        ⊎_elim
+        (λ (same : place.space ≡ to).
+        let space = ap (λ (p : Place). p.space) at in let block = ap (λ (p : Place). p.block) at in
+        let here = both (win_at won i) (last_held (take i won) (win_at won i)) (sym space ∙ same) in
+        (put same).few most few (omega arith))
+        (λ (other : place.space ≢ to). let long = ap length (left other) in omega arith)
+        (cases_eq place.space to)
 
     -- the places that were noted
     pub noted_now : (noted before after : List Place) →

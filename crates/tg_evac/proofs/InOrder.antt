@@ -18,9 +18,9 @@ use Rattle.tg_space.specs.declared.spaces.Kind.TheVariants.{Full}
 use Rattle.tg_space.specs.declared.spaces.Root.{Root}
 use Rattle.tg_space.proofs.Flat.{all_cells_whole}
 use Rattle.tg_evac.specs.declared.win.Win.{Win}
-use Rattle.tg_evac.specs.Claims.{AreClaims, AreInOrder, Claimed, IsTracedFrom, StandsIn, win_at}
-use Rattle.tg_evac.specs.Copies.{AreAllOld, AreOld, HasCopy, HavePlaces, HoldCopies, HoldRows, HoldsRow, IsPlaceIn, IsYoungCopy, copy_of, new_cell}
-use Rattle.tg_evac.proofs.Claiming.{place_back, stands}
+use Rattle.tg_evac.specs.Claims.{AreClaims, AreInOrder, Claimed, IsTracedFrom, StandsIn, first_new, win_at, won_in}
+use Rattle.tg_evac.specs.Copies.{AreAllOld, AreBelow, AreOld, HasCopy, HavePlaces, HoldCopies, HoldRows, HoldsRow, IsPlaceIn, IsYoungCopy, copy_of, new_cell}
+use Rattle.tg_evac.proofs.Claiming.{in_all, place_back, stands}
 use Rattle.tg_evac.proofs.Copying.{same_place}
 use Rattle.tg_evac.proofs.Reasons.{all_in_old}
 
@@ -47,10 +47,10 @@ rows_more copy won blocks after block rows row is b low =
     (cases_lt b (length blocks)))
 
 -- the place of the pair with a number
-module _ (won : List Win) (order : AreInOrder 0 won) (few : length won ≤ 2 ^ 26) where
+module _ (won : List Win) (order : AreInOrder 0 0 won) (few : length won ≤ 2 ^ 26) where
   pub place_at : (k : ℕ) → k < length won → place_in (win_at won k).word ≡ place_in_space 0 k
   place_at k low =
-      let here : 64 * 0 + k ≡ k = omega arith in
+      let here : 0 + k ≡ k = omega arith in
       ap place_in (order k low ∙ ap (λ (n : ℕ). link_to (place_in_space 0 n)) here) ∙ place_back 0 k (lit< tt) (omega arith)
 
   pub all_old : (w : Win) → Contains won w → (place_in w.word).space ≡ 0
@@ -63,6 +63,18 @@ module _ (won : List Win) (order : AreInOrder 0 won) (few : length won ≤ 2 ^ 2
     copied = λ w held in_space. let old = all_old w held in absurd (omega arith);
     rest = λ p inside apart. absurd (let low = inside.block in omega arith);
   }
+
+  -- so many blocks hold them that have no block to spare
+  pub few_in_order : (blocks most : ℕ) → 64 * blocks < length won + 64 → AreBelow 0 0 most won → blocks ≤ most
+  few_in_order blocks most needed below = ⊎_elim
+      (λ (none : blocks ≡ 0). omega arith)
+      (λ (some : blocks ≢ 0).
+      let low : 64 * (blocks - 1) < length won = omega arith in
+      let at = place_at (64 * (blocks - 1)) low in
+      let here = below (win_at won (64 * (blocks - 1))) (Contains-get_or won (64 * (blocks - 1)) (win_at [] 0) low) (ap (λ (p : Place). p.space) at) in
+      let block : (place_in (win_at won (64 * (blocks - 1))).word).block ≡ 64 * (blocks - 1) / 64 = ap (λ (p : Place). p.block) at in
+      omega arith)
+      (cases_eq blocks 0)
 
   module _ (copy : ℕ → List ℕ) (blocks : BlockList) (hold : HoldRows copy won blocks) where
     copy_at : (k : ℕ) → k < length won → HasCopy 0 0 copy blocks (win_at won k)
@@ -169,13 +181,17 @@ module _ (h : SpaceList) (roots : List Root) (c : Claimed) (are : AreClaims c) (
           let word : get_or c.forward n 0 ≡ found.0.word = ap (λ (m : ℕ). get_or c.forward m 0) (sym found.2) ∙ (stands c are found.0 found.1).word in
           ap (λ (w : ℕ). (place_in w).space) word ∙ to_old found.0 found.1
 
+  -- they are all in Old
+  won_old : won_in 0 c.won ≡ c.won
+  won_old = in_all 0 c.won (All-from_get_or (λ (w : Win). (place_in w.word).space ≡ 0) c.won (win_at [] 0) (λ k low. to_old (win_at c.won k) (Contains-get_or c.won k (win_at [] 0) low)))
+
   pub are_all_old : AreAllOld c.plan.kept c.forward c.won
   are_all_old =
-      let none = are.only_old to_old in
-      let counted = are.counted in let few = are.few 0 in
+      let ends = are.ends 0 (lit< tt) in let few = are.few 0 in let long = ap length won_old in
+      let first : first_new c.plan.kept 0 ≡ 0 = ap (λ (n : ℕ). first_new n 0) kept in
       record {
         kept_is = kept;
         few = omega arith;
-        order = subst (λ (n : ℕ). AreInOrder n c.won) kept (are.in_order none);
+        order = subst (λ (ws : List Win). AreInOrder 0 0 ws) won_old (subst (λ (n : ℕ). AreInOrder 0 n (won_in 0 c.won)) first (are.in_order 0 (lit< tt)));
         old = words_old;
       }

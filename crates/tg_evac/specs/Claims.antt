@@ -1,9 +1,10 @@
 -- What a collection claims: the cells that were won, in order, each with the word of its new place.
-use Rattle.std.specs.Prelude.{◌≡◌, ◌≢◌, ℕ, ◌+◌, ◌*◌, ◌^◌, ◌<◌, ◌≤◌, ◌↔◌, ◌⊎◌, ◌==◌, ◌||◌, Bool, true, false, if◌then◌else◌, not, eqb, List, ◌++◌, length, map, slice_index, slice_index_or}
-use Rattle.std.specs.List.{All, Contains, IsDistinct, flat_map, take_while}
+use Rattle.std.specs.Prelude.{◌≡◌, ◌≢◌, ℕ, ◌+◌, ◌-◌, ◌*◌, ◌^◌, ◌<◌, ◌≤◌, ◌↔◌, ◌⊎◌, ◌==◌, ◌||◌, Bool, true, false, if◌then◌else◌, not, eqb, List, ◌++◌, length, map, slice_index, slice_index_or}
+use Rattle.std.specs.List.{All, Contains, IsDistinct, filter, flat_map, take_while}
 use Rattle.tg_word.specs.declared.Place.{Place}
 use Rattle.tg_word.specs.Word.{link_to, place_in}
 use Rattle.tg_space.specs.Closure.{IsInClosure}
+use Rattle.tg_space.specs.Collection.{copies_in}
 use Rattle.tg_space.specs.Soundness.{IsPointer}
 use Rattle.tg_space.specs.Rows.{chunks_from, link_at}
 use Rattle.tg_space.specs.SpaceList.{SpaceList, Holds, cell_at, cells_of, flat_of}
@@ -28,9 +29,13 @@ is_straight Full root = true
 is_straight Nursery (Row place) = false
 is_straight Nursery (Remembered place) = true
 
--- the copy of the cell is in Old
+-- the copy of the cell is in a space
+abbrev pub is_in : ℕ → Win → Bool
+is_in space w = (place_in w.word).space == space
+
+-- it is in Old
 abbrev pub is_in_old : Win → Bool
-is_in_old w = (place_in w.word).space == 0
+is_in_old w = is_in 0 w
 
 -- the plan of a collection of this kind
 pub record IsPlanFor (kind : Kind) (t : SpaceTable) (plan : Plan) : Type 0 where
@@ -93,9 +98,17 @@ pub record IsGiven (kept : ℕ) (next : List ℕ) (word : ℕ) : Type 0 where
 abbrev pub AreApart : List ℕ → Type 0
 AreApart words = (i j : ℕ) → i < j → j < length words → slice_index words i ≢ slice_index words j
 
--- the pairs have the places of Old one after the other, behind the blocks that stay
-abbrev pub AreInOrder : ℕ → List Win → Type 0
-AreInOrder kept won = (k : ℕ) → k < length won → (win_at won k).word ≡ link_to (place_in_space 0 (64 * kept + k))
+-- the pairs whose copies are in a space
+abbrev pub won_in : ℕ → List Win → List Win
+won_in space won = filter (is_in space) won
+
+-- the number of the first new cell of Old, behind the blocks that stay, or of Aged
+abbrev pub first_new : ℕ → ℕ → ℕ
+first_new kept space = if space == 0 then 64 * kept else 0
+
+-- the pairs have the places of a space one after the other, from a number on
+abbrev pub AreInOrder : ℕ → ℕ → List Win → Type 0
+AreInOrder space first won = (k : ℕ) → k < length won → (win_at won k).word ≡ link_to (place_in_space space (first + k))
 
 pub record AreClaims (c : Claimed) : Type 0 where
   pub words : AreWordsOf c.won c.forward
@@ -106,9 +119,12 @@ pub record AreClaims (c : Claimed) : Type 0 where
   pub behind : 64 * c.plan.kept ≤ slice_index c.next 0
   pub few : (space : ℕ) → slice_index c.next space ≤ 2 ^ 26
   pub room : c.plan.room ≤ 2 ^ 26
-  -- where no pair is in Aged, they are in order
-  pub only_old : ((w : Win) → Contains c.won w → (place_in w.word).space ≡ 0) → slice_index c.next 1 ≡ 0
-  pub in_order : slice_index c.next 1 ≡ 0 → AreInOrder c.plan.kept c.won
+  -- the pairs of each space stand in order, up to the next number, and are all copies there
+  pub in_order : (space : ℕ) → space < 2 → AreInOrder space (first_new c.plan.kept space) (won_in space c.won)
+  pub ends : (space : ℕ) → space < 2 → first_new c.plan.kept space + length (won_in space c.won) ≡ slice_index c.next space
+  pub copies : (space : ℕ) → space < 2 → copies_in c.forward space ≡ length (won_in space c.won)
+  -- where one has new cells, they are within the room
+  pub within : (space : ℕ) → space < 2 → slice_index c.next space - first_new c.plan.kept space ≤ c.plan.room - first_new c.plan.kept space
 
 -- as many different cells were won as there is room for
 pub record IsFull (c : Claimed) : Type 0 where

@@ -39,8 +39,12 @@ pub record HasNewPlace (kept : ℕ) (w : Win) : Type 0 where
 pub record AreAllOld (kept : ℕ) (forward : List ℕ) (won : List Win) : Type 0 where
   pub kept_is : kept ≡ 0
   pub few : length won ≤ 2 ^ 26
-  pub order : AreInOrder 0 won
+  pub order : AreInOrder 0 0 won
   pub old : AreOld forward
+
+-- each pair with a copy in the space has it in one of so many blocks
+abbrev pub AreBelow : ℕ → ℕ → ℕ → List Win → Type 0
+AreBelow to kept most won = (w : Win) → Contains won w → (place_in w.word).space ≡ to → (place_in w.word).block - kept < most
 
 -- ---- new blocks, which stand behind as many other ones of their space
 

@@ -88,6 +88,7 @@ impl Claims {
     }
 
     // How many cells were won.
+    #[inline(always)]
     fn len(&self) -> usize
         ensures count { result ≡ length self.now.won }
         ensures few { result ≤ length self.now.forward }
@@ -96,6 +97,7 @@ impl Claims {
     }
 
     // The pair that was won as the k-th.
+    #[inline(always)]
     fn win(&self, k: usize) -> Win
         requires { k < length self.now.won }
         ensures win { result ≡ win_at self.now.won k }
@@ -105,6 +107,7 @@ impl Claims {
     }
 
     // Gives a cell the next place in a space.
+    #[inline(always)]
     fn give(&mut self, cell: u64, space: u64) -> Result<(), CollectFault>
         requires inside { cell < length self.old.forward }
         requires moved { 64 * self.old.plan.kept ≤ cell }
@@ -126,7 +129,7 @@ impl Claims {
     }
 
     // Gives a cell a place in a space, unless it has one.
-    #[inline]
+    #[inline(always)]
     fn claim(&mut self, cell: u64, space: u64) -> Result<(), CollectFault>
         requires inside { cell < length self.old.forward }
         requires moved { 64 * self.old.plan.kept ≤ cell }
@@ -142,7 +145,7 @@ impl Claims {
     }
 
     // Claims the cell that a word names, if it names one that is moved.
-    #[inline]
+    #[inline(always)]
     #[tactic(auto, using(crate::proofs::Behind::moved_behind))]
     fn claim_word(&mut self, spaces: &Spaces, word: u64, straight: bool) -> Result<(), CollectFault>
         requires pointer { IsPointer spaces.now.spaces word }
@@ -160,7 +163,7 @@ impl Claims {
     }
 
     // Claims the cells that the words name.
-    #[inline]
+    #[inline(always)]
     fn claim_words(
         &mut self,
         spaces: &Spaces,
@@ -181,6 +184,7 @@ impl Claims {
     }
 
     // Claims what the references and the link of a cell with these words name.
+    #[inline(always)]
     fn claim_pointers(
         &mut self,
         spaces: &Spaces,

@@ -1,6 +1,6 @@
 //! The collection: claim, then copy.
 ghost use Rattle.std.specs.Prelude.{◌≡◌, IfErr, IfOk};
-ghost use Rattle.tg_space.specs.Collection.{IsCollection, MayLackRoom, used_cells};
+ghost use Rattle.tg_space.specs.Collection.{AreFewBlocks, IsCollection, MayLackRoom, used_cells};
 ghost use Rattle.tg_space.specs.Soundness.{AreSound};
 ghost use Rattle.tg_space.specs.SpaceTable.{kept_blocks};
 
@@ -42,6 +42,7 @@ pub fn collect_one(
 ) -> Result<Copied, CollectFault>
     requires { AreSound spaces.now.spaces roots.now }
     ensures collected { IfOk result (λ copied. IsCollection kind spaces.now.spaces roots.now copied.forward.words copied.adoption.aged copied.adoption.old copied.remembered.places) }
+    ensures few { IfOk result (λ copied. AreFewBlocks spaces.now.limits.space_blocks (kept_blocks kind spaces.now.spaces) 0 copied.forward.words copied.adoption.aged copied.adoption.old) }
     ensures full { IfErr result (λ fault. fault ≡ CollectFault.HeapFull → MayLackRoom spaces.now.limits.space_blocks 1 (kept_blocks kind spaces.now.spaces) (used_cells kind spaces.now.spaces)) }
 {
     let cells = spaces.cells();

@@ -1,5 +1,5 @@
 //! The copy phase: images of the won cells in new blocks, with the forwarding words frozen.
-ghost use Rattle.std.specs.Prelude.{◌≡◌, ℕ, ◌<◌, ◌≤◌, ◌^◌, ◌+◌, ◌↔◌, ◌⊎◌, [], length, slice_index_or, IfOk, IsTrue, OnOk};
+ghost use Rattle.std.specs.Prelude.{◌≡◌, ℕ, ◌<◌, ◌≤◌, ◌^◌, ◌*◌, ◌+◌, ◌↔◌, ◌⊎◌, [], length, slice_index_or, IfOk, IsTrue, OnOk};
 ghost use Rattle.std.specs.List.{All, Contains};
 ghost use Rattle.tg_block.specs.Cells.{IsBlock, free_cell};
 ghost use Rattle.tg_word.specs.declared.Place.{Place as PlaceOf};
@@ -9,7 +9,7 @@ ghost use Rattle.tg_space.specs.SpaceList.{IsSpace, cells_of};
 ghost use Rattle.tg_space.specs.SpaceTable.{IsSpaceTable};
 ghost use Rattle.tg_space.specs.declared.spaces.Root.TheVariants.{Remembered as RememberedAt};
 ghost use Rattle.tg_evac.specs.Claims.{AreApart, HavePointers, StandsIn, words_won};
-ghost use Rattle.tg_evac.specs.Copies.{AreAllOld, HasNewPlace, HavePlaces, HoldCopies, HoldRows, HoldsRow, IsGrown, IsYoungCopy, PutsCell, copy_of, moved_cell};
+ghost use Rattle.tg_evac.specs.Copies.{AreAllOld, AreBelow, HasNewPlace, HavePlaces, HoldCopies, HoldRows, HoldsRow, IsGrown, IsYoungCopy, PutsCell, copy_of, moved_cell};
 
 use crate::fault::CollectFault;
 use crate::plan::{OLD, Plan};
@@ -20,7 +20,7 @@ use tg_remember::Remembered;
 use tg_space::{Adoption, Forwarding, Kind, Root, Space, Spaces, first_pointer};
 use tg_word::{Place, place_of};
 
-/// Notes the remembered cells that will name young ones, in order.
+/// Notes the remembered cells that will name young ones.
 pub fn note_roots(
     remembered: &mut Remembered,
     spaces: &Spaces,
@@ -63,7 +63,7 @@ fn note_root(
     }
 }
 
-/// The copies of the won cells, each at its place, in new blocks. Those in Old that name young cells are noted, in order.
+/// The copies of the won cells, each at its place, in new blocks. Those in Old that name young cells are noted.
 pub fn copy_won(
     alloc: Global,
     spaces: &Spaces,
@@ -83,7 +83,10 @@ pub fn copy_won(
     requires full { plan.kind ≡ Kind.Full → AreAllOld plan.kept forward.now.words won.now }
     ensures aged { IfOk result (λ adoption. HoldCopies 1 0 (copy_of plan.kind spaces.now.spaces forward.now.words) won.now adoption.aged) }
     ensures old { IfOk result (λ adoption. HoldCopies 0 plan.kept (copy_of plan.kind spaces.now.spaces forward.now.words) won.now adoption.old) }
+    ensures none_aged { IfOk result (λ adoption. plan.kind ≡ Kind.Full → adoption.aged ≡ []) }
     ensures few { IfOk result (λ adoption. plan.kept + length adoption.old ≤ 2 ^ 20) }
+    ensures aged_needed { IfOk result (λ adoption. (most : ℕ) → AreBelow 1 0 most won.now → length adoption.aged ≤ most) }
+    ensures old_needed { IfOk result (λ adoption. (most : ℕ) → AreBelow 0 plan.kept most won.now → length adoption.old ≤ most) }
     ensures noted { OnOk result ((p : PlaceOf) → Contains remembered.new.places p ↔ (Contains remembered.old.places p ⊎ IsYoungCopy (copy_of plan.kind spaces.now.spaces forward.now.words) won.now p)) }
 {
     match plan.kind {
@@ -112,6 +115,7 @@ fn copy_in_order(
     requires few { length won.now ≤ 2 ^ 26 }
     ensures rows { IfOk result (λ blocks. HoldRows (copy_of Kind.Full spaces.now.spaces forward.now.words) won.now blocks) }
     ensures few { IfOk result (λ blocks. length blocks ≤ 2 ^ 20) }
+    ensures needed { IfOk result (λ blocks. 64 * length blocks < length won.now + 64) }
 {
     let mut blocks = Space::new(alloc);
     let mut start = 0;
@@ -162,7 +166,7 @@ fn padded(mut cells: Vec<[u64; WORDS]>) -> Result<Vec<[u64; WORDS]>, AllocError>
     Ok(cells)
 }
 
-// The copies of the won cells, each put at its place. Those in Old that name young cells are noted, in order.
+// The copies of the won cells, each put at its place. Those in Old that name young cells are noted.
 fn copy_each(
     alloc: Global,
     spaces: &Spaces,
@@ -181,6 +185,8 @@ fn copy_each(
     ensures aged { IfOk result (λ adoption. HoldCopies 1 0 (copy_of plan.kind spaces.now.spaces forward.now.words) won.now adoption.aged) }
     ensures old { IfOk result (λ adoption. HoldCopies 0 plan.kept (copy_of plan.kind spaces.now.spaces forward.now.words) won.now adoption.old) }
     ensures few { IfOk result (λ adoption. plan.kept + length adoption.old ≤ 2 ^ 20) }
+    ensures aged_needed { IfOk result (λ adoption. (most : ℕ) → AreBelow 1 0 most won.now → length adoption.aged ≤ most) }
+    ensures old_needed { IfOk result (λ adoption. (most : ℕ) → AreBelow 0 plan.kept most won.now → length adoption.old ≤ most) }
     ensures noted { OnOk result ((p : PlaceOf) → Contains remembered.new.places p ↔ (Contains remembered.old.places p ⊎ IsYoungCopy (copy_of plan.kind spaces.now.spaces forward.now.words) won.now p)) }
 {
     let mut adoption = Adoption {

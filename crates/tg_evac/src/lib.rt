@@ -26,8 +26,8 @@
 //! *Copy.* The forwarding words stay as they are from here on. Each won cell is copied, in the same order, to its place:
 //! the place in each of its references and links is replaced by the place in the forwarding word of what it names, where
 //! that is moved, and all else is as it was. A block is added when there is a cell to put there, so all but the last of a
-//! space are full. The cells of Old that will name young ones are noted: first those of the remembered ones that still
-//! do, then the copies in Old. In the picture that is the copy of m, since o is in Aged now; a names no young cell any
+//! space are full. The cells of Old that will name young ones are noted: those of the remembered ones that still do, and
+//! the copies in Old. In the picture that is the copy of m, since o is in Aged now; a names no young cell any
 //! more. In a full collection all copies are in Old, and their places follow one another in the order of the list: so it
 //! copies 64 pairs into each new block, and looks for no young names.
 //!
@@ -36,10 +36,11 @@
 //! for each cell that is moved, and the notes; nothing grows with the number of references, and nothing of a nursery
 //! collection with the cells that Old has.
 //!
-//! **Who may call.** The heap's graph calls [`collect_one`] with the rows of its workers as roots, and for a nursery
-//! collection with its remembered cells, and hands what it gets to `Spaces::adopt`. It may use that the forwarding words,
-//! the new blocks and the notes are a collection of the spaces (`IsCollection` of `tg_space`). A collection that is
-//! refused has changed nothing.
+//! **Who may call.** The store calls [`collect_one`] with the rows of the heap's workers as roots, and for a nursery
+//! collection with its remembered cells, and hands what it gets to the heap's graph, which settles there. It may use that
+//! the forwarding words, the new blocks and the notes are a collection of the spaces (`IsCollection` of `tg_space`), with no
+//! more blocks than its copies need, and within the limit (`AreFewBlocks`). A collection that is refused has changed
+//! nothing.
 //!
 //! **What other collectors may use.** That won pairs with their copies are a collection is proved of any list of pairs,
 //! in whatever order and by whomever they were won (`proofs/Collecting.antt`), where each was claimed for a reason: that
@@ -50,6 +51,7 @@
 
 pub use collect::{Copied, collect_one};
 pub use fault::CollectFault;
+pub use tg_space::Root;
 pub use win::Win;
 
 mod claims;

@@ -1,5 +1,5 @@
 -- What a collection leaves: one forwarding word for each cell, the new blocks, and the cells of Old to be remembered.
-use Rattle.std.specs.Prelude.{◌≡◌, ◌≢◌, ◌↔◌, ℕ, ◌+◌, ◌-◌, ◌*◌, ◌^◌, ◌<◌, ◌≤◌, ◌⊎◌, List, drop, length, slice_index, not, count_by}
+use Rattle.std.specs.Prelude.{◌≡◌, ◌≢◌, ◌↔◌, ℕ, ◌+◌, ◌-◌, ◌*◌, ◌/◌, ◌^◌, ◌<◌, ◌≤◌, ◌⊎◌, ◌==◌, ◌&&◌, Bool, List, [], drop, length, slice_index, not, count_by}
 use Rattle.std.specs.List.{Contains}
 use Rattle.tg_word.specs.declared.Place.{Place}
 use Rattle.tg_word.specs.Word.{link_to, place_in}
@@ -29,6 +29,26 @@ used_cells kind h = count_by (λ words. not (all_are_zero words)) (moved_cells k
 -- may have to go there are more than the blocks that it may get can be sure to hold, as each helper may leave one open
 abbrev pub MayLackRoom : ℕ → ℕ → ℕ → ℕ → Type 0
 MayLackRoom space_blocks helpers kept cells = 64 * (space_blocks + 1 - helpers - kept) ≤ cells
+
+-- how many blocks so many cells need
+abbrev pub blocks_for : ℕ → ℕ
+blocks_for cells = (cells + 63) / 64
+
+-- the word is that of a copy in a space
+abbrev pub is_copy_in : ℕ → ℕ → Bool
+is_copy_in space word = not (word == 0) && ((place_in word).space == space)
+
+-- how many copies are in a space
+abbrev pub copies_in : List ℕ → ℕ → ℕ
+copies_in forward space = count_by (is_copy_in space) forward
+
+-- The new blocks, behind those that Old keeps, stay within the limit, and each space has as many as its copies need; or
+-- at most this many more, where several helpers fill blocks of their own.
+pub record AreFewBlocks (space_blocks kept more : ℕ) (forward : List ℕ) (aged old : BlockList) : Type 0 where
+  pub aged_within : length aged ≤ space_blocks
+  pub old_within : length old ≤ space_blocks - kept
+  pub aged_needed : length aged ≤ blocks_for (copies_in forward 1) + more
+  pub old_needed : length old ≤ blocks_for (copies_in forward 0) + more
 
 -- ---- places
 
@@ -72,5 +92,7 @@ pub record IsCollection (kind : Kind) (h : SpaceList) (roots : List Root) (forwa
   pub generations : AreInGenerations kind h roots forward
   -- the notes are exactly the cells of Old that will name young ones
   pub noted : (p : Place) → Contains notes p ↔ ((words : List ℕ) × IsMadeInOld kind h roots forward aged old p words × NamesYoung words)
+  -- a full collection leaves no cell in Aged
+  pub none_aged : kind ≡ Full → aged ≡ []
   -- Old has room for the new blocks
   pub few : kept_blocks kind h + length old ≤ 2 ^ 20

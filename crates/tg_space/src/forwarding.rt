@@ -37,7 +37,7 @@ impl Forwarding {
     }
 
     /// The word of a cell.
-    #[inline]
+    #[inline(always)]
     pub fn word(&self, cell: u64) -> u64
         requires { cell < length self.now.words }
         ensures { result ≡ slice_index self.now.words cell }
@@ -49,7 +49,7 @@ impl Forwarding {
     }
 
     /// Sets the word of a cell that isn't skipped.
-    #[inline]
+    #[inline(always)]
     pub fn set(&mut self, cell: u64, word: u64)
         requires inside { cell < length self.old.words }
         requires kept { self.old.skipped ≤ cell }

@@ -16,7 +16,7 @@ impl Spaces {
     /// These words of a cell with its references and its link moved: one that names a cell which a collection of this
     /// kind moves gets the place in that cell's forwarding word, and keeps its rights. All else is equal. Takes no
     /// memory.
-    #[inline]
+    #[inline(always)]
     pub fn image(&self, kind: Kind, forward: &Forwarding, words: [u64; WORDS]) -> [u64; WORDS]
         requires pointers { All (IsPointer self.now.spaces) (pointers_of words) }
         requires whole { length forward.now.words ≡ length (cells_of self.now.spaces) }
@@ -37,7 +37,7 @@ impl Spaces {
     }
 
     // A word of the image of a cell whose words may name cells from one on.
-    #[inline]
+    #[inline(always)]
     fn image_word(
         &self,
         kind: Kind,
@@ -60,7 +60,7 @@ impl Spaces {
     }
 
     // The word with the new place of the cell that it names, where that cell is moved.
-    #[inline]
+    #[inline(always)]
     fn moved_word(&self, kind: Kind, forward: &Forwarding, word: u64) -> u64
         requires pointer { IsPointer self.now.spaces word }
         requires whole { length forward.now.words ≡ length (cells_of self.now.spaces) }

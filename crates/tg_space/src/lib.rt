@@ -22,11 +22,12 @@
 //!
 //! **Who may call.** The heap's graph reads and writes words and allocates; a collection only reads, builds new
 //! blocks in a `Space` of its own, and hands them over by `adopt`. So a collection that is refused leaves all as it
-//! was. Only `new`, `add_block`, `adopt` and `Space::add_block` take memory.
+//! was. Only `new`, `add_block`, `adopt`, `Forwarding::new`, and of a `Space` `push`, `add_block` and `append` take
+//! memory.
 //!
 //! **What stands here for several crates above**, as definitions in `specs/`: the targets of cells and roots, the
 //! closure of the roots as the least set, the image of a cell under a map to new places, which spaces and roots are
-//! sound, and what a full collection leaves. The module `laws` says what follows from them, above all the law of
+//! sound, and what a collection of either kind leaves. The module `laws` says what follows from them, above all the law of
 //! tracing: what was traced from the roots, and is complete, is exactly the closure.
 #![tactic(auto)]
 

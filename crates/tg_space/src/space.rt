@@ -65,7 +65,7 @@ impl Space {
     }
 
     /// The words of a cell of a block, where they stand.
-    #[inline]
+    #[inline(always)]
     pub fn words(&self, block: u64, cell: u64) -> &[u64; WORDS]
         requires block_inside { block < length self.now }
         requires cell_inside { cell < 64 }

@@ -24,7 +24,7 @@ pub enum Kind {
 
 impl Kind {
     /// Whether a collection moves the cells of a space: a full one all, a nursery collection all but those of Old.
-    #[inline]
+    #[inline(always)]
     pub fn moves(self, space: u64) -> bool
         ensures { result ≡ from_space self space }
     {
@@ -207,7 +207,7 @@ impl Spaces {
     }
 
     /// The words of a cell, where they stand.
-    #[inline]
+    #[inline(always)]
     pub fn words(&self, place: Place) -> &[u64; WORDS]
         requires { Holds self.now.spaces place }
         ensures words { result.now ≡ cell_at self.now.spaces place }
@@ -229,7 +229,7 @@ impl Spaces {
 
     /// The number of a cell: the cells of Old come first, then those of Aged and of the nurseries, each space block
     /// by block. It takes the same short time in every heap.
-    #[inline]
+    #[inline(always)]
     pub fn flat(&self, place: Place) -> u64
         requires { Holds self.now.spaces place }
         ensures flat { result ≡ flat_of self.now.spaces place }
@@ -239,7 +239,7 @@ impl Spaces {
     }
 
     /// The number of the cell that a word names.
-    #[inline]
+    #[inline(always)]
     pub fn target_of(&self, word: u64) -> u64
         requires { Holds self.now.spaces (place_in word) }
         ensures flat { result ≡ flat_of self.now.spaces (place_in word) }
@@ -250,6 +250,7 @@ impl Spaces {
     }
 
     /// The place of the cell with a number.
+    #[inline(always)]
     pub fn unflat(&self, number: u64) -> Place
         requires { number < length (cells_of self.now.spaces) }
         ensures held { Holds self.now.spaces result }
@@ -277,7 +278,7 @@ impl Spaces {
     }
 
     /// The words of the cell with a number, where they stand.
-    #[inline]
+    #[inline(always)]
     pub fn numbered_words(&self, number: u64) -> &[u64; WORDS]
         requires { number < length (cells_of self.now.spaces) }
         ensures words { result.now ≡ slice_index_or (cells_of self.now.spaces) number [] }
@@ -440,7 +441,7 @@ fn count_blocks(spaces: &[Space], starts: &mut [u64])
 
 /// The first word of a cell with this tag that may name a cell: 4 of an object, 1 of a chunk, and 8, past the last,
 /// of any other.
-#[inline]
+#[inline(always)]
 pub fn first_pointer(tag: u64) -> usize
     ensures word { result ≡ first_pointer_of tag }
     ensures inside { result ≤ 8 }

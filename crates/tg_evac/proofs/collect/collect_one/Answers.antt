@@ -1,4 +1,4 @@
-use Rattle.std.proofs.Common.{◌≡◌, ◌↔◌, ◌⊎◌, List, ap, sym, subst, ◌∙◌}
+use Rattle.std.proofs.Common.{◌≡◌, ◌↔◌, ◌⊎◌, ◌≤◌, ℕ, length, refl, List, ap, sym, subst, ◌∙◌}
 use Rattle.std.specs.List.{All, Contains}
 use Rattle.tg_word.specs.declared.Place.{Place}
 use Rattle.tg_space.proofs.Tables.{table_list}
@@ -8,8 +8,8 @@ use Rattle.tg_space.specs.SpaceTable.{kept_blocks}
 use Rattle.tg_evac.specs.declared.plan.Plan.{Plan}
 use Rattle.tg_evac.specs.declared.win.Win.{Win}
 use Rattle.tg_evac.specs.Claims.{Claimed, IsTracedFrom, StandsIn}
-use Rattle.tg_evac.specs.Copies.{AreAllOld, HasNewPlace, HoldCopies, IsYoungCopy, copy_of}
-use Rattle.tg_evac.proofs.Claiming.{have_places}
+use Rattle.tg_evac.specs.Copies.{AreAllOld, AreBelow, HasNewPlace, HoldCopies, IsYoungCopy, copy_of}
+use Rattle.tg_evac.proofs.Claiming.{few_blocks, have_places}
 use Rattle.tg_evac.proofs.Sound.{have_pointers}
 use Rattle.tg_evac.proofs.Collecting.{collected, new_places}
 use Rattle.tg_evac.proofs.InOrder.{are_all_old}
@@ -86,4 +86,15 @@ returns-clause-collected c =
     let in_old : HoldCopies 0 plan.kept (copy_of plan.kind h forward) won c.in_ok-adoption.adoption.old =
     subst (λ (ws : List Win). HoldCopies 0 plan.kept (copy_of plan.kind h forward) ws c.in_ok-adoption.adoption.old) c.deref.ensures.value made.old in
     collected c.args.kind c.args.spaces.now roots plan c.of-plan.ensures.plan c.cells-cells.ensures.table (claims_of from) c.claims.invariant.0 (plan_is from) (traced from)
-    c.in_ok-adoption.adoption.aged c.in_ok-adoption.adoption.old c.new-remembered.result.places c.note_roots.new.remembered.places c.copy_won.new.remembered.places c.new-remembered.ensures c.in_ok-note_roots.ensures young in_aged in_old made.few
+    c.in_ok-adoption.adoption.aged c.in_ok-adoption.adoption.old c.new-remembered.result.places c.note_roots.new.remembered.places c.copy_won.new.remembered.places c.new-remembered.ensures c.in_ok-note_roots.ensures young in_aged in_old made.none_aged made.few
+
+pub returns-clause-few : goal.returns-clause-few
+unfolding claims_of
+returns-clause-few c =
+    let from = (goal.at.returns-clause-few c).In_ok-trace in let made = c.in_ok-adoption.ensures in
+    let plan = plan_is from in let is = c.of-plan.ensures.plan in
+    few_blocks (claims_of from) c.claims.invariant.0 c.args.spaces.now.limits.space_blocks (kept_blocks c.args.kind c.args.spaces.now.spaces) c.claims.inside.forward.words
+    c.in_ok-adoption.adoption.aged c.in_ok-adoption.adoption.old (ap (λ (p : Plan). p.room) plan ∙ is.room) (ap (λ (p : Plan). p.kept) plan ∙ is.kept) refl
+    (subst (λ (ws : List Win). (most : ℕ) → AreBelow 1 0 most ws → length c.in_ok-adoption.adoption.aged ≤ most) c.deref.ensures.value made.aged_needed)
+    (subst (λ (p : Plan). (most : ℕ) → AreBelow 0 p.kept most c.claims.inside.won.items → length c.in_ok-adoption.adoption.old ≤ most) (sym plan)
+    (subst (λ (ws : List Win). (most : ℕ) → AreBelow 0 c.of-plan.result.kept most ws → length c.in_ok-adoption.adoption.old ≤ most) c.deref.ensures.value made.old_needed))

@@ -8,7 +8,7 @@ use Rattle.tg_space.specs.Targets.{from_space, image_of}
 use Rattle.tg_evac.specs.declared.win.Win.{Win}
 use Rattle.tg_evac.specs.Claims.{win_at}
 use Rattle.tg_evac.specs.Copies.{IsYoungCopy, copy_of}
-use Rattle.tg_evac.proofs.Copying.{place_of_now, held_now, noted_now}
+use Rattle.tg_evac.proofs.Copying.{place_of_now, few_now, held_now, noted_now}
 use Rattle.tg_evac.proofs.copies.copy_each.Goals as goal
 
 pub loop-win-preserved : goal.loop-win-preserved
@@ -34,6 +34,8 @@ loop-win-preserved c =
           (λ (e : place.space ≡ 0). let past = behind e in let most = (put.old e).few (2 ^ 20 - kept) (omega arith) (omega arith) in omega arith)
           (λ (ne : place.space ≢ 0). let one : place.space ≡ 1 = omega arith in let same = ap length (put.old_kept one) in omega arith)
           (cases_eq place.space 0);
+      aged_needed = few_now kept copy won c.requires.new c.requires.apart i inside place words at is 1 0 before.aged after.aged c.loop-win.invariant.aged_needed put.aged (λ ne. put.aged_kept (omega arith));
+      old_needed = few_now kept copy won c.requires.new c.requires.apart i inside place words at is 0 kept before.old after.old c.loop-win.invariant.old_needed put.old (λ ne. put.old_kept (omega arith));
       noted = noted_now kept copy won c.requires.new c.requires.apart i inside place words at is c.args.remembered.now.places c.loop-win.remembered.places c.note_young.new.remembered.places c.loop-win.invariant.noted c.in_ok-note_young.ensures;
     }
 

@@ -1,10 +1,10 @@
-use Rattle.std.proofs.Common.{ℕ, inl, sym, subst, ⊎_elim}
+use Rattle.std.proofs.Common.{ℕ, length, ap, arith, inl, sym, subst, ⊎_elim}
 use Rattle.tg_space.proofs.Tables.{table_list}
 use Rattle.tg_space.specs.declared.spaces.Kind.{Kind}
 use Rattle.tg_space.specs.declared.spaces.Kind.TheVariants.{Full}
 use Rattle.tg_space.specs.SpaceList.{BlockList}
-use Rattle.tg_evac.specs.Copies.{HoldCopies, IsYoungCopy, copy_of}
-use Rattle.tg_evac.proofs.InOrder.{copies_in_order, none_aged, none_young_copy}
+use Rattle.tg_evac.specs.Copies.{AreBelow, HoldCopies, IsYoungCopy, copy_of}
+use Rattle.tg_evac.proofs.InOrder.{copies_in_order, few_in_order, none_aged, none_young_copy}
 use Rattle.tg_evac.proofs.copies.copy_won.Goals as goal
 
 pub returns-in_ok-old-in-Full-clause-aged : goal.returns-in_ok-old-in-Full-clause-aged
@@ -29,3 +29,12 @@ returns-in_ok-old-in-Full-clause-noted c p =
           (λ young. absurd (none_young_copy h forward c.requires.places full.old won (table_list c.args.spaces.now c.requires.table) c.requires.whole c.requires.stand p
           (subst (λ (kind : Kind). IsYoungCopy (copy_of kind h forward) won p) c.in-Full.is young))) has),
     )
+
+pub returns-in_ok-old-in-Full-clause-aged_needed : goal.returns-in_ok-old-in-Full-clause-aged_needed
+returns-in_ok-old-in-Full-clause-aged_needed c most below = let none = ap length c.new.ensures in omega arith
+
+pub returns-in_ok-old-in-Full-clause-old_needed : goal.returns-in_ok-old-in-Full-clause-old_needed
+returns-in_ok-old-in-Full-clause-old_needed c most below =
+    let full = c.requires.full c.in-Full.is in
+    few_in_order c.args.won.now full.order full.few (length c.in_ok-old-in-Full.old) most c.in_ok-old-in-Full.ensures.needed
+    (subst (λ (n : ℕ). AreBelow 0 n most c.args.won.now) full.kept_is below)
