@@ -1,6 +1,6 @@
 //! The race of three cells event by event, and helpers on threads over one table.
 use crate::tests::trials::{Found, race, win_and_look};
-use crate::{Event, Forwarding, Record, Shape, World};
+use crate::{Event, RaceTable, Record, Shape, World};
 use std::alloc::{AllocError, Global};
 use std::test::Fail;
 use tg_word::{Place, place_of};
@@ -123,7 +123,7 @@ fn race_of_three_cells(rt: HostRuntime) -> Result<(), Fail> {
 
 #[test]
 fn one_helper_at_the_table(rt: HostRuntime) -> Result<(), Fail> {
-    let (table, mut helper) = Forwarding::open(rt.alloc(), 5, 9, 3, 1)?;
+    let (table, mut helper) = RaceTable::open(rt.alloc(), 5, 9, 3, 1)?;
     assert!(rt; helper.claim_roots(&table) == 0);
     assert!(rt; helper.look(&table, 4).is_none());
     assert!(rt; helper.claim_block(&table, false) == 3);
