@@ -2,7 +2,7 @@
 use crate::race::trials::{Found, race, win_and_look};
 use std::alloc::{AllocError, Global};
 use std::test::Fail;
-use tg_race::{Event, Forwarding, Record, Shape, World};
+use tg_race::{Event, RaceTable, Record, Shape, World};
 use tg_word::{Place, place_of};
 
 mod trials;
@@ -123,7 +123,7 @@ fn race_of_three_cells(rt: HostRuntime) -> Result<(), Fail> {
 
 #[test]
 fn one_helper_at_the_table(rt: HostRuntime) -> Result<(), Fail> {
-    let (table, mut helper) = Forwarding::open(rt.alloc(), 5, 9, 3, 1)?;
+    let (table, mut helper) = RaceTable::open(rt.alloc(), 5, 9, 3, 1)?;
     assert!(rt; helper.claim_roots(&table) == 0);
     assert!(rt; helper.look(&table, 4).is_none());
     assert!(rt; helper.claim_block(&table, false) == 3);

@@ -14,9 +14,13 @@ use Rattle.tg_word.specs.Word.{IsPlace}
 use Rattle.tg_race.specs.Words.{word_of, place_of, IsForward}
 use Rattle.tg_race.proofs.PlaceWords.{place_of-word_of}
 use Rattle.tg_race.specs.Weights.{weigh}
+use Rattle.std.specs.List.{All}
+use Rattle.std.proofs.Common.{inl, inr}
+use Rattle.tg_race.proofs.Drawn.{drawn_under}
+use Rattle.tg_race.proofs.Standing.{won_stands, seen_at, unmet}
 use Rattle.tg_race.specs.Words.{place_at}
-use Rattle.tg_race.specs.Race.{Rule, empty, past, with_chunk, with_seen, with_won, with_block, both, less_one}
-use Rattle.tg_race.specs.Board.{Holds, AreSmall, IsClosed, words_of, drew_chunk, drew_aged, drew_old, looked, tried}
+use Rattle.tg_race.specs.Race.{Rule, HasMet, empty, past, with_chunk, with_seen, with_won, with_block, both, less_one}
+use Rattle.tg_race.specs.Board.{Holds, AreSmall, IsClosed, IsKnown, words_of, drew_chunk, drew_aged, drew_old, looked, tried}
 use Rattle.tg_race.proofs.Parts.{open_aged, open_old, claims_of, rule_of, parts_of}
 use Rattle.tg_race.proofs.Steps.{claim_keeps, claim_aged_keeps, claim_old_keeps, win_keeps, look_keeps, split_keeps, join_keeps, starts, alone_keeps, few_chunks, few_aged, few_old}
 
@@ -44,7 +48,7 @@ draws_chunk k slots id m none_past alive s h len at fits =
         rule = rule_of _ _ (claim_keeps k r id m.0 (parts_of k h.race h.rule) (in_race k s h id m.0 at) none_past alive);
         small = small;
       },
-      refl,
+      (refl, subst (λ (x : ℕ). All (λ c. c < x) m.0.chunks) (sym is) (drawn_under 0 r.next_chunk (λ u. u.chunks) r.records id m.0 h.rule.chunks_once (in_race k s h id m.0 at))),
     )
 
 pub draws_aged : (k : Counts) (slots id : ℕ) (m : Me ℕ Record) → open_aged m.0 ≡ 0 → 0 < m.0.share
@@ -67,7 +71,7 @@ draws_aged k slots id m none_open alive s h len at fits =
         rule = rule_of _ _ (claim_aged_keeps k r id m.0 (parts_of k h.race h.rule) (in_race k s h id m.0 at) none_open alive);
         small = small;
       },
-      refl,
+      (refl, subst (λ (x : ℕ). All (λ b. b < x) m.0.aged_blocks) (sym is) (drawn_under 0 r.next_aged (λ u. u.aged_blocks) r.records id m.0 h.rule.blocks_once.0 (in_race k s h id m.0 at))),
     )
 
 pub draws_old : (k : Counts) (slots id : ℕ) (m : Me ℕ Record) → open_old m.0 ≡ 0 → 0 < m.0.share
@@ -90,7 +94,7 @@ draws_old k slots id m none_open alive s h len at fits =
         rule = rule_of _ _ (claim_old_keeps k r id m.0 (parts_of k h.race h.rule) (in_race k s h id m.0 at) none_open alive);
         small = small;
       },
-      refl,
+      (refl, subst (λ (x : ℕ). All (λ b. b < x) m.0.old_blocks) (sym is) (drawn_under k.kept r.next_old (λ u. u.old_blocks) r.records id m.0 h.rule.blocks_once.1 (in_race k s h id m.0 at))),
     )
 
 module _ (k : Counts) (slots id : ℕ) (m : Me ℕ Record) (alive : 0 < m.0.share) (s : State ℕ Record) (h : Holds k s) (at : get_elem? s.views id ≡ some m.0) where
@@ -145,9 +149,17 @@ module _ (k : Counts) (slots id : ℕ) (m : Me ℕ Record) (alive : 0 < m.0.shar
   back : (c : ℕ) → c + 3 - 3 ≡ c
   back c = omega arith
 
+  -- the word of a cell is that of the place with which the record has met it, and isn't 0 if it has
+  known : (c : ℕ) → IsKnown m.0 (c + 3 - 3) (slice_index s.words (c + 3))
+  known c = subst (λ (i : ℕ). IsKnown m.0 i (slice_index s.words (c + 3))) (sym (back c)) (here, λ none. unmet k h.race h.rule id m.0 (in_race k s h id m.0 at) c (sym (word_is c) ∙ none))
+    where
+      here : (p : Place) → HasMet m.0 c p → slice_index s.words (c + 3) ≡ word_of p
+      here p (inl won) = word_is c ∙ won_stands k h.race h.rule id m.0 (in_race k s h id m.0 at) c p won
+      here p (inr seen) = word_is c ∙ seen_at h.race.words m.0.seen c p (h.rule.seen_stands id m.0 (in_race k s h id m.0 at)) seen
+
   looks_free : (c : ℕ) → slice_index s.words (c + 3) ≡ 0 → GoesOn (c + 3) (slice_index s.words (c + 3)) (looked (step slots (c + 3) 0 0 none) m (slice_index s.words (c + 3)))
   looks_free c e = let n : ℕ = slice_index s.words (c + 3) in
-      (m.0, keeps, tt, stays c, ((λ ne. absurd (ne e)), ap (λ (v : Record). (v, m.1)) (sym (cond-true (eqb n 0) m.0 (with_seen m.0 (c + 3 - 3, place_of n)) (eq-eqb n 0 e)))))
+      (m.0, keeps, tt, stays c, ((λ ne. absurd (ne e)), ap (λ (v : Record). (v, m.1)) (sym (cond-true (eqb n 0) m.0 (with_seen m.0 (c + 3 - 3, place_of n)) (eq-eqb n 0 e))), known c))
 
   looks_taken : (c : ℕ) → c < k.cells → slice_index s.words (c + 3) ≢ 0 → GoesOn (c + 3) (slice_index s.words (c + 3)) (looked (step slots (c + 3) 0 0 none) m (slice_index s.words (c + 3)))
   looks_taken c inside ne = let n : ℕ = slice_index s.words (c + 3) in (
@@ -158,6 +170,7 @@ module _ (k : Counts) (slots id : ℕ) (m : Me ℕ Record) (alive : 0 < m.0.shar
     (
       forward_at c inside,
       ap (λ (v : Record). (v, m.1)) (sym (cond-false (eqb n 0) m.0 (with_seen m.0 (c + 3 - 3, place_of n)) (ne_eqb n 0 ne) ∙ ap (λ (i : ℕ). with_seen m.0 (i, place_of n)) (back c))),
+      known c,
     ),
   )
 

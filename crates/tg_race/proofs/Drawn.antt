@@ -1,9 +1,14 @@
--- What 'drawn' says of one number.
-use Rattle.std.proofs.Common.{◌≡◌, ℕ, ◌<◌, ◌≤◌, List, arith}
+-- What 'drawn' says of one number, and of the numbers of one record.
+use Rattle.std.proofs.Common.{◌≡◌, ℕ, ◌+◌, ◌<◌, ◌≤◌, List, [], ◌∷◌, Bool, true, false, if◌then◌else◌, length, get_or, eqb, eqb-true, eq-eqb, refl, ⊎_elim, arith}
+use Rattle.std.specs.List.{All, Contains}
+use Rattle.std.proofs.lemmas.Bool.{cond-true, cases_lt}
+use Rattle.std.proofs.lemmas.List.Elements.{Contains-append_right}
+use mathlib.Core.Option.{some}
+use lib.ListN.{get_elem?}
 use Rattle.tg_race.specs.declared.record.Record.{Record}
 use Rattle.tg_race.specs.Weights.{weigh, one_at}
 use Rattle.tg_race.specs.Race.{IsDrawn}
-use Rattle.tg_race.proofs.Sums.{one_below, one_past, one_here}
+use Rattle.tg_race.proofs.Sums.{one_below, one_past, one_here, weigh_at, weigh_one_le}
 
 module _ (start counter : ℕ) (of : Record → List ℕ) (records : List Record) (drawn : IsDrawn start counter of records) (n : ℕ) where
   pub drawn_once : start ≤ n → n < counter → weigh (λ v. weigh (one_at n) (of v)) records ≡ 1
@@ -20,3 +25,28 @@ module _ (start counter : ℕ) (of : Record → List ℕ) (records : List Record
   drawn_above above =
       let d = drawn (one_at n) in
       omega (arith, one_past n counter above)
+
+-- a number weighs in a list that has it
+pub weighs_at : (xs : List ℕ) (i d : ℕ) → i < length xs → 0 < weigh (one_at (get_or xs i d)) xs
+weighs_at xs i d low =
+    let n : ℕ = get_or xs i d in
+    omega (arith, weigh_at (one_at n) xs i d low, cond-true {A = ℕ} (eqb n n) 1 0 (eq-eqb n n refl))
+
+-- the numbers that a record has drawn are below the counter
+pub drawn_under : (start counter : ℕ) (of : Record → List ℕ) (records : List Record) (id : ℕ) (v : Record) → IsDrawn start counter of records → get_elem? records id ≡ some v → All (λ n. n < counter) (of v)
+drawn_under start counter of records id v drawn at = λ i d low. ⊎_elim
+    (λ lt. lt)
+    (λ (above : counter ≤ get_or (of v) i d). absurd (
+    let none = drawn_above start counter of records drawn (get_or (of v) i d) above in
+    let one = weigh_one_le (λ (u : Record). weigh (one_at (get_or (of v) i d)) (of u)) records id v at in
+    let mine = weighs_at (of v) i d low in omega arith))
+    (cases_lt (get_or (of v) i d) counter)
+
+-- a number that weighs is in the list
+pub number_found : (n : ℕ) (xs : List ℕ) → 0 < weigh (one_at n) xs → Contains xs n
+number_found n [] weight = absurd (omega arith)
+number_found n (x ∷ xs) weight = go (eqb x n) refl weight (number_found n xs)
+  where
+    go : (b : Bool) → eqb x n ≡ b → 0 < (if b then 1 else 0) + weigh (one_at n) xs → (0 < weigh (one_at n) xs → Contains xs n) → Contains (x ∷ xs) n
+    go true e w more = (0, omega arith, eqb-true x n e)
+    go false e w more = Contains-append_right (x ∷ []) xs n (more (omega arith))

@@ -5,7 +5,8 @@ pub mod Needs
 pub mod Steps
 pub mod Courses
 pub mod Closure
-pub mod Allowed
 pub mod Nets
 pub mod Drawn
 pub mod Standing
+pub mod Allowed
+pub mod Closed

@@ -1,14 +1,19 @@
 -- Won pairs and the words: each won pair stands in the table, and each place in the table was won.
-use Rattle.std.proofs.Common.{◌≡◌, ◌≢◌, ◌↔◌, ℕ, zero, suc, ◌+◌, ◌*◌, ◌<◌, ◌≤◌, ◌==◌, ◌&&◌, List, [], ◌∷◌, length, get_or, slice_index, Bool, true, false, if◌then◌else◌, IsTrue, eqb, eqb-true, eq-eqb, ne_eqb, sym, refl, ap, ◌∙◌, ⊎_elim, arith}
-use Rattle.std.proofs.lemmas.Bool.{cond-true, cond-false, and_parts, eqb-false, cases_lt}
+use Rattle.std.proofs.Common.{◌≡◌, ◌≢◌, ◌↔◌, ℕ, zero, suc, ◌+◌, ◌*◌, ◌<◌, ◌≤◌, ◌==◌, ◌&&◌, ◌||◌, List, [], ◌∷◌, length, get_or, slice_index, Bool, true, false, if◌then◌else◌, IsTrue, eqb, eqb-true, eq-eqb, ne_eqb, sym, refl, ap, ◌∙◌, ⊎_elim, arith}
+use Rattle.std.proofs.lemmas.Bool.{cond-true, cond-false, and_parts, eqb-false, cases_lt, false≢true}
+use Rattle.std.specs.List.{All, list_any}
+use Rattle.std.proofs.lemmas.List.Elements.{All-head, All-tail}
 use Rattle.tg_word.specs.declared.Place.{Place}
 use Rattle.tg_word.specs.Word.{IsPlace}
 use Rattle.tg_race.specs.declared.record.Counts.{Counts}
 use Rattle.tg_race.specs.declared.record.Record.{Record}
 use Rattle.tg_race.specs.Weights.{weigh, one_at}
-use Rattle.tg_race.specs.Words.{word_of, place_of, same_place, same_pair, has_pair, weigh_words}
+use Rattle.tg_race.specs.Words.{word_of, place_of, same_place, same_pair, has_pair, weigh_words, IsPair}
 use Rattle.tg_race.specs.Race.{Race, Rule, EachRecord, has}
 use Rattle.tg_race.specs.Board.{IsClosed}
+use Rattle.tg_race.specs.Course.{has_met}
+use mathlib.Core.Option.{some}
+use lib.ListN.{get_elem?}
 use Rattle.tg_race.proofs.PlaceWords.{place_of-word_of, word_of-some}
 use Rattle.tg_race.proofs.Sums.{weigh_one_le, any_weighs, weighs_any}
 use Rattle.tg_race.proofs.Steps.{same_place_is, aged_few, old_few}
@@ -18,7 +23,7 @@ use Rattle.tg_race.proofs.Drawn.{drawn_above}
 abbrev pair_at : ℕ → Place → ℕ × Place → ℕ
 pair_at c p q = if same_pair c p q then 1 else 0
 
-same_place_self : (p : Place) → same_place p p ≡ true
+pub same_place_self : (p : Place) → same_place p p ≡ true
 same_place_self p =
     λ i. eq-eqb p.space p.space refl i && (eq-eqb p.block p.block refl i && eq-eqb p.cell p.cell refl i)
 
@@ -64,6 +69,17 @@ taken_pair n i zero p (w ∷ ws) is here inside =
     omega (arith, cond-false (eqb w 0) 0 (pair_at n p (i, place_of w)) (ne_eqb w 0 some_), cond-true {A = ℕ} (same_pair n p (i, place_of w)) 1 0 test)
 taken_pair n i (suc c) p (w ∷ ws) is here inside = omega (arith, taken_pair n (suc i) c p ws (omega arith) here inside)
 
+-- a pair of the list stands in the words, where all of it do
+pub seen_at : (words : List ℕ) (l : List (ℕ × Place)) (c : ℕ) (p : Place) → All (IsPair words) l → IsTrue (has_pair c p l) → slice_index words c ≡ word_of p
+seen_at words [] c p all h = absurd (false≢true h)
+seen_at words (q ∷ l) c p all h = go (same_pair c p q) refl h (seen_at words l c p (All-tail (IsPair words) q l all))
+  where
+    go : (b : Bool) → same_pair c p q ≡ b → (b || list_any (same_pair c p) l) ≡ true → (IsTrue (has_pair c p l) → slice_index words c ≡ word_of p) → slice_index words c ≡ word_of p
+    go true t h later =
+        let test = and_parts (q.0 == c) (same_place q.1 p) t in
+        ap (λ (n : ℕ). get_or words n 0) (sym (eqb-true q.0 c test.0)) ∙ (All-head (IsPair words) q l all ∙ ap word_of (same_place_is q.1 p test.1))
+    go false t h later = later h
+
 -- a pair that a record has won stands in the table
 pub won_stands : (k : Counts) (r : Race) → Rule k r → EachRecord (λ v. (cell : ℕ) (p : Place) → IsTrue (has_pair cell p v.won) → slice_index r.words cell ≡ word_of p) r.records
 won_stands k r rule id v at cell p won =
@@ -76,6 +92,36 @@ won_stands k r rule id v at cell p won =
     let is : found.at ≡ cell = (let here = eqb-true found.cell cell test.0 in let e = found.is in omega arith) in
     let forward = rule.wins_once.forward found.at 0 found.inside found.taken in
     ap (λ (n : ℕ). get_or r.words n 0) (sym is) ∙ (sym forward.1 ∙ ap word_of (same_place_is (place_of w) p test.1))
+
+-- a seen cell has a word
+seen_taken : (words : List ℕ) (c : ℕ) (l : List (ℕ × Place)) → All (IsPair words) l → list_any (λ q. q.0 == c) l ≡ true → get_or words c 0 ≢ 0
+seen_taken words c [] all h = absurd (false≢true h)
+seen_taken words c (q ∷ l) all h = go (q.0 == c) refl h (seen_taken words c l (All-tail (IsPair words) q l all))
+  where
+    go : (b : Bool) → (q.0 == c) ≡ b → (b || list_any (λ (x : ℕ × Place). x.0 == c) l) ≡ true → (list_any (λ (x : ℕ × Place). x.0 == c) l ≡ true → get_or words c 0 ≢ 0) → get_or words c 0 ≢ 0
+    go true is h more = λ none. word_of-some q.1 (sym (All-head (IsPair words) q l all) ∙ (ap (λ (n : ℕ). get_or words n 0) (eqb-true q.0 c is) ∙ none))
+    go false is h more = more h
+
+-- the word of a cell that a record has met isn't 0
+met_taken : (k : Counts) (r : Race) → Rule k r → (id : ℕ) (v : Record) → get_elem? r.records id ≡ some v → (c : ℕ) → has_met v c ≡ true → get_or r.words c 0 ≢ 0
+met_taken k r rule id v at c met = go (list_any (λ (q : ℕ × Place). q.0 == c) v.won) refl met
+  where
+    go : (b : Bool) → list_any (λ (q : ℕ × Place). q.0 == c) v.won ≡ b → (b || list_any (λ (q : ℕ × Place). q.0 == c) v.seen) ≡ true → get_or r.words c 0 ≢ 0
+    go false e h = seen_taken r.words c v.seen (rule.seen_stands id v at) h
+    go true e h = λ none.
+        let mine = any_weighs (λ (q : ℕ × Place). q.0 == c) v.won e in
+        let one = weigh_one_le (λ (u : Record). weigh (λ (q : ℕ × Place). if q.0 == c then 1 else 0) u.won) r.records id v at in
+        let all = rule.wins_once.won (λ (q : ℕ × Place). if q.0 == c then 1 else 0) in
+        let found = weighed_passes (λ (q : ℕ × Place). q.0 == c) 0 r.words (omega arith) in
+        let is : found.at ≡ c = (let here = eqb-true found.cell c found.passes in let e = found.is in omega arith) in
+        found.taken (ap (λ (n : ℕ). get_or r.words n 0) is ∙ none)
+
+pub unmet : (k : Counts) (r : Race) → Rule k r → (id : ℕ) (v : Record) → get_elem? r.records id ≡ some v → (c : ℕ) → get_or r.words c 0 ≡ 0 → has_met v c ≡ false
+unmet k r rule id v at c none = go (has_met v c) refl
+  where
+    go : (b : Bool) → has_met v c ≡ b → b ≡ false
+    go false e = refl
+    go true e = absurd (met_taken k r rule id v at c e none)
 
 -- the places in a closed table are those of the pairs that were won
 pub closed_pairs : (k : Counts) (words : List ℕ) (done : Record) → IsClosed k words done → (cell : ℕ) (p : Place) → IsPlace p → (slice_index words cell ≡ word_of p) ↔ IsTrue (has_pair cell p done.won)

@@ -27,6 +27,18 @@ module _ {A : Type 0} where
   weigh_one_le g (x ∷ xs) zero v e = omega (arith, ap g (some-injective x v e))
   weigh_one_le g (x ∷ xs) (suc j) v e = omega (arith, weigh_one_le g xs j v e)
 
+  -- the weights of one place of a list, and of two
+  pub weigh_at : (f : A → ℕ) (l : List A) (i : ℕ) (d : A) → i < length l → f (get_or l i d) ≤ weigh f l
+  weigh_at f [] i d low = absurd (omega arith)
+  weigh_at f (x ∷ xs) zero d low = omega arith
+  weigh_at f (x ∷ xs) (suc i) d low = omega (arith, weigh_at f xs i d (omega arith))
+
+  pub weigh_two : (f : A → ℕ) (l : List A) (i j : ℕ) (d : A) → i < j → j < length l → f (get_or l i d) + f (get_or l j d) ≤ weigh f l
+  weigh_two f [] i j d lt low = absurd (omega arith)
+  weigh_two f (x ∷ xs) i zero d lt low = absurd (omega arith)
+  weigh_two f (x ∷ xs) zero (suc j) d lt low = omega (arith, weigh_at f xs j d (omega arith))
+  weigh_two f (x ∷ xs) (suc i) (suc j) d lt low = omega (arith, weigh_two f xs i j d (omega arith) (omega arith))
+
   pub weigh-le : (f g : A → ℕ) → ((x : A) → f x ≤ g x) → (l : List A) → weigh f l ≤ weigh g l
   weigh-le f g below [] = omega arith
   weigh-le f g below (x ∷ xs) = omega (arith, below x, weigh-le f g below xs)

@@ -1,10 +1,12 @@
 -- The table: the counters are the words 0, 1 and 2, and the word of the cell i is the word i + 3. What each step tells.
-use Rattle.std.specs.Prelude.{◌≡◌, ◌≢◌, ℕ, ◌-◌, ◌^◌, ◌<◌, ◌≤◌, ◌==◌, true, false, List, [], ◌∷◌, if◌then◌else◌}
+use Rattle.std.specs.Prelude.{◌≡◌, ◌≢◌, ℕ, ◌-◌, ◌^◌, ◌<◌, ◌≤◌, ◌==◌, true, false, List, [], ◌∷◌, if◌then◌else◌, All}
+use Rattle.tg_word.specs.declared.Place.{Place}
 use Rattle.atomic_table.specs.Table.{State, Me, Step}
 use Rattle.tg_race.specs.declared.record.Counts.{Counts}
 use Rattle.tg_race.specs.declared.record.Record.{Record}
-use Rattle.tg_race.specs.Words.{place_of, IsForward}
-use Rattle.tg_race.specs.Race.{Race, Rule, with_chunk, with_seen, with_won, with_block}
+use Rattle.tg_race.specs.Words.{place_of, word_of, IsForward}
+use Rattle.tg_race.specs.Race.{Race, Rule, HasMet, with_chunk, with_seen, with_won, with_block}
+use Rattle.tg_race.specs.Course.{has_met}
 
 abbrev pub words_of : Race → List ℕ
 words_of r = r.next_chunk ∷ r.next_aged ∷ r.next_old ∷ r.words
@@ -21,20 +23,24 @@ pub record Holds (k : Counts) (s : State ℕ Record) : Type 0 where
   pub rule : Rule k race
   pub small : AreSmall k
 
--- what a step at a counter tells: the record has drawn the number that was found
+-- what a step at a counter tells: the record has drawn the number that was found, which is above all that it had
 abbrev pub drew_chunk : Step ℕ → Me ℕ Record → ℕ → Me ℕ Record → Type 0
-drew_chunk st m n m' = m' ≡ (with_chunk m.0 n, m.1)
+drew_chunk st m n m' = (m' ≡ (with_chunk m.0 n, m.1)) × All (λ c. c < n) m.0.chunks
 
 abbrev pub drew_aged : Step ℕ → Me ℕ Record → ℕ → Me ℕ Record → Type 0
-drew_aged st m n m' = m' ≡ (with_block true m.0 n, m.1)
+drew_aged st m n m' = (m' ≡ (with_block true m.0 n, m.1)) × All (λ b. b < n) m.0.aged_blocks
 
 abbrev pub drew_old : Step ℕ → Me ℕ Record → ℕ → Me ℕ Record → Type 0
-drew_old st m n m' = m' ≡ (with_block false m.0 n, m.1)
+drew_old st m n m' = (m' ≡ (with_block false m.0 n, m.1)) × All (λ b. b < n) m.0.old_blocks
 
--- what a load of a cell's word tells: it was 0, or names the place that the record has now seen
+-- the word is that of the place with which the record has met the cell, and isn't 0 if it has
+abbrev pub IsKnown : Record → ℕ → ℕ → Type 0
+IsKnown v cell n = ((p : Place) → HasMet v cell p → n ≡ word_of p) × (n ≡ 0 → has_met v cell ≡ false)
+
+-- what a load of a cell's word tells: it was 0, or names the place that the record has now seen; and what the record knew
 abbrev pub looked : Step ℕ → Me ℕ Record → ℕ → Me ℕ Record → Type 0
 looked st m n m' =
-    (n ≢ 0 → IsForward n) × (m' ≡ ((if n == 0 then m.0 else with_seen m.0 (st.word - 3, place_of n)), m.1))
+    (n ≢ 0 → IsForward n) × (m' ≡ ((if n == 0 then m.0 else with_seen m.0 (st.word - 3, place_of n)), m.1)) × IsKnown m.0 (st.word - 3) n
 
 -- what an exchange at a cell's word tells: where it was 0 the cell is won, else the place that was found is seen
 abbrev pub tried : Step ℕ → Me ℕ Record → ℕ → Me ℕ Record → Type 0

@@ -1,13 +1,13 @@
 -- What the helpers of one collection share, what each has done, and the rule between the two.
-use Rattle.std.specs.Prelude.{◌≡◌, ℕ, ◌+◌, ◌-◌, ◌/◌, ◌≤◌, ◌==◌, Bool, true, false, List, [], ◌∷◌, ◌++◌, length, if◌then◌else◌, nat_lt, All}
-use Rattle.std.specs.List.{list_any}
+use Rattle.std.specs.Prelude.{◌≡◌, ◌≢◌, ◌↔◌, ◌<◌, ℕ, ◌+◌, ◌-◌, ◌/◌, ◌≤◌, ◌==◌, Bool, true, false, List, [], ◌∷◌, ◌++◌, length, if◌then◌else◌, nat_lt, All, IsTrue, ◌⊎◌}
+use Rattle.std.specs.List.{list_any, AllPairs, Contains}
 use mathlib.Core.Option.{some}
 use lib.ListN.{get_elem?}
 use Rattle.tg_race.specs.declared.record.Counts.{Counts}
 use Rattle.tg_race.specs.declared.record.Record.{Record}
 use Rattle.tg_word.specs.declared.Place.{Place}
 use Rattle.tg_race.specs.Weights.{weigh, weigh_below}
-use Rattle.tg_race.specs.Words.{weigh_words, AreForward, IsPair, place_at, lies_in, OLD, AGED}
+use Rattle.tg_race.specs.Words.{weigh_words, AreForward, IsPair, has_pair, place_at, lies_in, OLD, AGED}
 
 -- the counter of chunks of roots, those of the blocks of Aged and of Old, a word for each cell, and the record of each helper
 pub record Race : Type 0 where
@@ -63,6 +63,11 @@ abbrev pub IsDrawn : ℕ → ℕ → (Record → List ℕ) → List Record → T
 IsDrawn start counter of records =
     (h : ℕ → ℕ) → weigh_below h start + weigh (λ v. weigh h (of v)) records ≡ weigh_below h counter
 
+-- the numbers differ, and are those from `start` on with no gap
+pub record AreConsecutive (start : ℕ) (numbers : List ℕ) : Type 0 where
+  pub differ : AllPairs (λ m n. m ≢ n) numbers
+  pub exactly : (n : ℕ) → Contains numbers n ↔ ((start ≤ n) × (n < start + length numbers))
+
 -- each record has the property
 abbrev pub EachRecord : (Record → Type 0) → List Record → Type 0
 EachRecord P records = (id : ℕ) (v : Record) → get_elem? records id ≡ some v → P v
@@ -102,6 +107,10 @@ pub record Rule (k : Counts) (r : Race) : Type 0 where
   pub within_share : EachRecord (IsWithinShare k) r.records × (weigh (λ v. v.share) r.records ≡ k.helpers)
   -- a record with no share is spent: it is empty, and stands for no helper
   pub spent : EachRecord (λ v. v.share ≡ 0 → v ≡ empty 0) r.records
+
+-- the record has won or seen the cell with this place
+abbrev pub HasMet : Record → ℕ → Place → Type 0
+HasMet v cell p = IsTrue (has_pair cell p v.won) ⊎ IsTrue (has_pair cell p v.seen)
 
 -- ---- what each event makes of a record
 

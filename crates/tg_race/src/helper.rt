@@ -1,13 +1,15 @@
 //! A helper: a seat at the table. Each call is one event of the race, and ensures what that event does to the record.
-ghost use Rattle.std.specs.Prelude.{◌≡◌, ◌<◌, IfSome, IfNone, IsTrue};
+ghost use Rattle.std.specs.Prelude.{◌≡◌, ◌<◌, false, IfSome, IfNone, IsTrue, Some, All};
+ghost use Rattle.tg_word.specs.declared.Place.{Place as PlaceOf};
 ghost use Rattle.tg_word.specs.Word.{IsPlace};
-ghost use Rattle.tg_race.specs.Race.{empty, with_chunk, with_seen, with_block, both, less_one};
-ghost use Rattle.tg_race.specs.Conditions.{can_claim_roots, can_claim_block, can_use, can_part};
+ghost use Rattle.tg_race.specs.Race.{HasMet, empty, with_chunk, with_seen, with_block, both, less_one};
+ghost use Rattle.tg_race.specs.Conditions.{blocks_of, can_claim_roots, can_claim_block, can_use, can_part};
+ghost use Rattle.tg_race.specs.Course.{has_met};
 ghost use Rattle.tg_race.specs.Claims.{claimed, place_found};
 
-use crate::forwarding::Forwarding;
 use crate::links::{place_in, word_to};
 use crate::plays::{Cut, DrawAged, DrawChunk, DrawOld, Glue, Look, Try};
+use crate::race_table::RaceTable;
 use crate::record::Record;
 use atomic_table::Seat;
 use std::marker::Model;
@@ -43,7 +45,7 @@ impl Model for Helper {
 
 impl Helper {
     /// Makes another helper, of share 1, and keeps the rest of its own share.
-    pub fn split(&mut self, table: &Forwarding) -> Helper
+    pub fn split(&mut self, table: &RaceTable) -> Helper
         requires own { self.old.table ≡ table.now.table }
         requires allowed { IsTrue (can_part self.old.done) }
         ensures kept { self.new ≡ record self.old { done = less_one self.old.done } }
@@ -54,7 +56,7 @@ impl Helper {
     }
 
     /// Takes in all that another helper has done, with its share.
-    pub fn join(&mut self, table: &Forwarding, other: Helper)
+    pub fn join(&mut self, table: &RaceTable, other: Helper)
         requires own { self.old.table ≡ table.now.table }
         requires other { other.table ≡ table.now.table }
         ensures { self.new ≡ record self.old { done = both self.old.done other.done } }
@@ -63,11 +65,13 @@ impl Helper {
         table.table.shared.join_seat::<Glue>(&mut self.seat, seat);
     }
 
-    /// Claims the next chunk of roots, and answers its number, which may be past the last.
-    pub fn claim_roots(&mut self, table: &Forwarding) -> u64
+    /// Claims the next chunk of roots, and answers its number, which may be past the last. It is greater than those of
+    /// all chunks that the helper claimed before.
+    pub fn claim_roots(&mut self, table: &RaceTable) -> u64
         requires own { self.old.table ≡ table.now.table }
         requires allowed { IsTrue (can_claim_roots table.now.counts self.old.done) }
-        ensures { self.new ≡ record self.old { done = with_chunk self.old.done result } }
+        ensures drawn { self.new ≡ record self.old { done = with_chunk self.old.done result } }
+        ensures fresh { All (λ c. c < result) self.old.done.chunks }
     {
         table
             .table
@@ -75,13 +79,16 @@ impl Helper {
             .fetch_add::<DrawChunk>(&mut self.seat, 0, 1)
     }
 
-    /// The place that a cell has got, if it has one. The helper has then seen it.
-    pub fn look(&mut self, table: &Forwarding, cell: u64) -> Option<Place>
+    /// The place that a cell has got, if it has one. The helper has then seen it. A cell that the helper has won or seen
+    /// before has one, and it is the same.
+    pub fn look(&mut self, table: &RaceTable, cell: u64) -> Option<Place>
         requires own { self.old.table ≡ table.now.table }
         requires inside { cell < table.now.counts.cells }
         ensures none { IfNone result (self.new ≡ self.old) }
         ensures some { IfSome result (λ p. self.new ≡ record self.old { done = with_seen self.old.done (cell, p) }) }
         ensures place { IfSome result IsPlace }
+        ensures unmet { IfNone result (has_met self.old.done cell ≡ false) }
+        ensures known { (p : PlaceOf) → IsPlace p → HasMet self.old.done cell p → result ≡ Some p }
     {
         let word = table
             .table
@@ -97,7 +104,7 @@ impl Helper {
     /// Gives a cell this place, if it has none. The place is unused, in a block that the helper has claimed.
     ///
     /// Whether the cell was won or lost is decided by one exchange: a place that a cell has never changes.
-    pub fn claim_cell(&mut self, table: &Forwarding, cell: u64, place: Place) -> Claim
+    pub fn claim_cell(&mut self, table: &RaceTable, cell: u64, place: Place) -> Claim
         requires own { self.old.table ≡ table.now.table }
         requires inside { cell < table.now.counts.cells }
         requires place { IsPlace place }
@@ -115,11 +122,13 @@ impl Helper {
         Claim::Lost(place_in(found))
     }
 
-    /// Claims the next block of Aged or of Old, and answers its number. The helper's blocks of that space are full.
-    pub fn claim_block(&mut self, table: &Forwarding, aged: bool) -> u64
+    /// Claims the next block of Aged or of Old, and answers its number, which is greater than those of all blocks of that
+    /// space that the helper claimed before. These are full.
+    pub fn claim_block(&mut self, table: &RaceTable, aged: bool) -> u64
         requires own { self.old.table ≡ table.now.table }
         requires allowed { IsTrue (can_claim_block aged self.old.done) }
-        ensures { self.new ≡ record self.old { done = with_block aged self.old.done result } }
+        ensures drawn { self.new ≡ record self.old { done = with_block aged self.old.done result } }
+        ensures fresh { All (λ b. b < result) (blocks_of aged self.old.done) }
     {
         if aged {
             table

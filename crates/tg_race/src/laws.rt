@@ -1,5 +1,5 @@
 //! The laws of the race, each the contract of a function that does nothing.
-ghost use Rattle.std.specs.Prelude.{◌≡◌, ◌≢◌, ◌↔◌, ◌+◌, ◌*◌, ◌<◌, ◌≤◌, ℕ, List, [], ◌∷◌, IsTrue, length, slice_index};
+ghost use Rattle.std.specs.Prelude.{◌≡◌, ◌≢◌, ◌↔◌, ◌+◌, ◌*◌, ◌<◌, ◌≤◌, ℕ, List, [], ◌∷◌, IsTrue, length, slice_index, AllPairs};
 ghost use lib.ListN.{get_elem?};
 ghost use mathlib.Core.Option.{some};
 ghost use Rattle.tg_race.specs.declared.record.Counts.{Counts};
@@ -10,7 +10,7 @@ ghost use Rattle.tg_word.specs.Word.{IsPlace};
 ghost use Rattle.tg_race.specs.Words.{word_of, has_pair};
 ghost use Rattle.tg_race.specs.Board.{IsClosed};
 ghost use Rattle.tg_race.specs.Weights.{weigh, one_at};
-ghost use Rattle.tg_race.specs.Race.{Race, Rule, EachRecord, IsDrawn, both, has};
+ghost use Rattle.tg_race.specs.Race.{Race, Rule, EachRecord, IsDrawn, AreConsecutive, both, has};
 ghost use Rattle.tg_race.specs.Course.{Net, Course, counts_of, KeepsRule, AreEarned, IsComplete, IsReached, word_at, can_happen, happens, course_after, starting};
 
 /// After every list of events of any number of helpers the rule holds.
@@ -38,6 +38,20 @@ pub fn wins_stand_in_the_table()
 /// The places in a closed table are those of the pairs that its one record has won, and no other.
 pub fn a_closed_table_has_the_wins()
     ensures { (k : Counts) (words : List ℕ) (done : Record) → IsClosed k words done → (cell : ℕ) (p : Place) → IsPlace p → (slice_index words cell ≡ word_of p) ↔ IsTrue (has_pair cell p done.won) }
+{}
+
+/// No cell of a closed table was won twice, and no place was given twice: an equal place is that of an equal cell.
+pub fn wins_of_a_closed_table_differ()
+    ensures cells { (k : Counts) (words : List ℕ) (done : Record) → IsClosed k words done → AllPairs (λ q r. q.0 ≢ r.0) done.won }
+    ensures places { (k : Counts) (words : List ℕ) (done : Record) → IsClosed k words done → AllPairs (λ q r. q.1 ≢ r.1) done.won }
+    ensures one_cell { (k : Counts) (words : List ℕ) (done : Record) → IsClosed k words done → (cell other : ℕ) (p : Place) → IsTrue (has_pair cell p done.won) → IsTrue (has_pair other p done.won) → cell ≡ other }
+{}
+
+/// The numbers of chunks, and those of blocks, that were claimed at a closed table differ and have no gap.
+pub fn numbers_of_a_closed_table_have_no_gap()
+    ensures chunks { (k : Counts) (words : List ℕ) (done : Record) → IsClosed k words done → AreConsecutive 0 done.chunks }
+    ensures aged_blocks { (k : Counts) (words : List ℕ) (done : Record) → IsClosed k words done → AreConsecutive 0 done.aged_blocks }
+    ensures old_blocks { (k : Counts) (words : List ℕ) (done : Record) → IsClosed k words done → AreConsecutive k.kept done.old_blocks }
 {}
 
 /// Where the record of a closed table is complete and its wins were earned, the cells with a place are the closure of

@@ -29,7 +29,7 @@
 //! The rule stands twice, over the same definitions. [`World`] is the race as a state machine, with no atomic: whatever
 //! events any number of helpers do, in any order, the rule holds after each (`laws`), no event changes a place that a
 //! cell has, and where one complete record is left, the cells with a place are exactly the closure of the roots.
-//! [`Forwarding`] is the table itself, over the crate `atomic_table`, and [`Helper`] a seat at it: between any two steps
+//! [`RaceTable`] is the table itself, over the crate `atomic_table`, and [`Helper`] a seat at it: between any two steps
 //! of any threads the rule holds, but for *wins_earned*, which speaks of targets and stays with each helper. Each call of
 //! a helper ensures what its event does to the record, and requires the event's condition by the same test that the
 //! world makes (`specs/Conditions.antt`).
@@ -38,24 +38,24 @@
 //! (`laws::blocks_are_few`): that bounds the counters, and it is why a collection may answer that the heap is full only
 //! where it nearly is.
 //!
-//! The layer above starts helpers on threads, and cites: the contracts of `Helper`, `Forwarding::close` (the words, and
+//! The layer above starts helpers on threads, and cites: the contracts of `Helper`, `RaceTable::close` (the words, and
 //! the one record under the rule), the laws of [`laws`], and `IsComplete`.
 #![tactic(auto)]
 
 pub use event::Event;
-pub use forwarding::Forwarding;
 pub use helper::{Claim, Helper};
+pub use race_table::RaceTable;
 pub use record::{Counts, Record};
 pub use shape::Shape;
 pub use world::World;
 
 mod conditions;
 mod event;
-mod forwarding;
 mod helper;
 pub mod laws;
 mod links;
 mod plays;
+mod race_table;
 mod record;
 mod shape;
 mod world;

@@ -5,7 +5,7 @@ ghost use Rattle.tg_race.specs.Conditions.{uses};
 
 use std::alloc::{AllocError, Global};
 use std::thread::{Threads, join};
-use tg_race::{Claim, Forwarding, Helper};
+use tg_race::{Claim, Helper, RaceTable};
 use tg_word::Place;
 
 /// A cell that a helper tried, and the place that it had then.
@@ -23,7 +23,7 @@ fn follow(seed: u64) -> u64 {
 }
 
 // Tries the place with the number `used` of the block on the cell. No place from that number on was used before.
-fn try_cell(helper: &mut Helper, table: &Forwarding, cell: u64, block: u64, used: u64) -> Found
+fn try_cell(helper: &mut Helper, table: &RaceTable, cell: u64, block: u64, used: u64) -> Found
     requires own { helper.old.table ≡ table.now.table }
     requires inside { cell < table.now.counts.cells }
     requires range { (block < 2 ^ 20) × (used < 64) }
@@ -54,7 +54,7 @@ fn try_cell(helper: &mut Helper, table: &Forwarding, cell: u64, block: u64, used
 
 /// What a helper sees of a cell that it has won.
 pub(crate) fn win_and_look(alloc: Global) -> Result<Option<Place>, AllocError> {
-    let (table, mut helper) = Forwarding::open(alloc, 5, 0, 0, 1)?;
+    let (table, mut helper) = RaceTable::open(alloc, 5, 0, 0, 1)?;
     let block = helper.claim_block(&table, true);
     if block >= 1_048_576 {
         return Ok(None);
@@ -66,7 +66,7 @@ pub(crate) fn win_and_look(alloc: Global) -> Result<Option<Place>, AllocError> {
 // Claims a block of Aged, and tries each of its places on a cell.
 fn work(
     alloc: Global,
-    table: &Forwarding,
+    table: &RaceTable,
     mut helper: Helper,
     cells: u64,
     seed: u64,
@@ -100,7 +100,7 @@ fn gather(found: &mut Vec<Found>, more: &Vec<Found>) -> Result<(), AllocError> {
 fn work_by_all<R: Threads + Sync>(
     rt: &R,
     alloc: Global,
-    table: &Forwarding,
+    table: &RaceTable,
     mut helper: Helper,
     helpers: u32,
     cells: u64,
@@ -142,7 +142,7 @@ pub(crate) fn race<R: Threads + Sync>(
 ) -> Result<(Vec<u64>, Vec<Found>), AllocError>
     requires { (0 < helpers) × (0 < cells) × (cells < 2 ^ 61) }
 {
-    let (table, helper) = Forwarding::open(alloc, cells, 0, 0, helpers)?;
+    let (table, helper) = RaceTable::open(alloc, cells, 0, 0, helpers)?;
     let (helper, found) = work_by_all(rt, alloc, &table, helper, helpers, cells)?;
     Ok((table.close(helper), found))
 }

@@ -6,7 +6,7 @@ use Rattle.tg_race.specs.Race.{empty}
 use Rattle.tg_race.specs.declared.record.Counts.{Counts}
 use Rattle.tg_race.specs.Board.{Holds, AreSmall}
 use Rattle.tg_race.proofs.Allowed.{opens}
-use Rattle.tg_race.proofs.forwarding.Forwarding.open.Goals as goal
+use Rattle.tg_race.proofs.race_table.RaceTable.open.Goals as goal
 
 pub of_words-requires : goal.of_words-requires
 of_words-requires c =

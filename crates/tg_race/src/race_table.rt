@@ -14,16 +14,16 @@ use std::marker::Model;
 /// The table that the helpers of one collection share: three counters, and a word for each cell.
 ///
 /// A clause sees which table it is and the numbers with which it was opened. All helpers use it at once, each through
-/// its own `Helper` and a `&Forwarding`.
+/// its own `Helper` and a `&RaceTable`.
 #[derive(Drop)]
-pub struct Forwarding {
+pub struct RaceTable {
     pub(crate) table: Table<u8, Record, Counts, Forwards, Global>,
     pub(crate) counts: Counts,
     // as many words as there are cells: the room for the answer of `close`, which takes no memory
     pub(crate) words: Vec<u64>,
 }
 
-impl Model for Forwarding {
+impl Model for RaceTable {
     ghost use Rattle.std.specs.Prelude.{◌≡◌, ◌+◌, vec_len};
     ghost use Rattle.tg_race.specs.Seats.{Board};
 
@@ -34,7 +34,7 @@ impl Model for Forwarding {
     ghost invariant = { λ f. (f.table.shared.key ≡ f.counts) × (f.table.shared.table_id.words ≡ f.counts.cells + 3) × (vec_len f.words ≡ f.counts.cells) × (f.table.shared.table_id.slots ≡ 0) };
 }
 
-impl Forwarding {
+impl RaceTable {
     /// A table in which no cell has a place, and its first helper, who stands for all.
     ///
     /// It is the only call here that takes memory: two words for each cell. `kept` is Old's first block number.
@@ -44,7 +44,7 @@ impl Forwarding {
         roots: u64,
         kept: u64,
         helpers: u32,
-    ) -> Result<(Forwarding, Helper), AllocError>
+    ) -> Result<(RaceTable, Helper), AllocError>
         requires { (cells < 2 ^ 61) × (kept ≤ 2 ^ 20) × (0 < helpers) }
         ensures counts { IfOk result (λ t. t.0.counts ≡ record { cells = cells; roots = roots; kept = kept; helpers = helpers }) }
         ensures first { IfOk result (λ t. (t.1.table ≡ t.0.table) × (t.1.done ≡ empty helpers)) }
@@ -61,7 +61,7 @@ impl Forwarding {
         let (table, seat) = Table::of_words(alloc, words.as_slice(), &counts)?;
         words.truncate(cells);
         Ok((
-            Forwarding {
+            RaceTable {
                 table,
                 counts,
                 words,
@@ -78,7 +78,7 @@ impl Forwarding {
         requires all { helper.done.share ≡ self.counts.helpers }
         ensures { IsClosed self.counts result.items helper.done }
     {
-        let Forwarding {
+        let RaceTable {
             table,
             counts: _,
             mut words,
