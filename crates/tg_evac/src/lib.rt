@@ -57,6 +57,4 @@ mod collect;
 mod copies;
 mod fault;
 mod plan;
-#[cfg(test)]
-mod tests;
 mod win;

@@ -23,8 +23,6 @@ mod entry;
 mod journal;
 pub mod laws;
 mod replay;
-#[cfg(test)]
-mod tests;
 
 pub use entry::Entry;
 pub use journal::Journal;

@@ -96,5 +96,6 @@ grant_needs_the_granters_own_right : answers (opened 2 1000 (edge 0 1 g ∷ []))
     ≡ Name 2 ∷ denied rule.Grant 0 2 t ∷ Done ∷ Edges ((2, w) ∷ []) ∷ []
 grant_needs_the_granters_own_right = refl
 
-edge_lines_unite : answers (opened 2 1000 (edge 0 1 r ∷ edge 0 1 w ∷ [])) ((0, Plain Listing) ∷ []) ≡ Edges ((1, union r w) ∷ []) ∷ []
+edge_lines_unite : answers (opened 2 1000 (edge 0 1 r ∷ edge 0 1 g ∷ [])) ((0, Plain Listing) ∷ (1, make (union w t)) ∷ (1, Plain Listing) ∷ [])
+    ≡ Edges ((1, union r g) ∷ []) ∷ Name 2 ∷ Edges ((2, union w t) ∷ []) ∷ []
 edge_lines_unite = refl

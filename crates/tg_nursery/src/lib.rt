@@ -23,9 +23,6 @@ pub use tg_space::AllocateFault;
 use tg_space::Spaces;
 use tg_word::Place;
 
-#[cfg(test)]
-mod tests;
-
 /// Allocates a cell in a worker's nursery.
 ///
 /// The cell is free, and nothing else changes but that the nursery may have one more block. The refusals change

@@ -31,8 +31,6 @@ mod max;
 mod payload;
 mod sum;
 mod table;
-#[cfg(test)]
-mod tests;
 
 pub use cell::CellPayload;
 pub use draft::{Draft, DraftRefused};

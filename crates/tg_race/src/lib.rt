@@ -58,6 +58,4 @@ mod links;
 mod plays;
 mod record;
 mod shape;
-#[cfg(test)]
-mod tests;
 mod world;

@@ -18,11 +18,7 @@ pub mod laws;
 mod opening;
 mod run;
 mod run_script;
-#[cfg(test)]
-mod run_tests;
 mod script;
-#[cfg(test)]
-mod stream_tests;
 mod supply;
 
 pub use drafts::drafts_of;

@@ -34,8 +34,6 @@ mod census;
 mod fault;
 pub mod laws;
 mod store;
-#[cfg(test)]
-mod tests;
 
 pub use census::Census;
 pub use fault::{ApplyFault, CreateFault, CreateRefused, OpenFault, OpenRefused};

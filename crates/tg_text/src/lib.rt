@@ -28,8 +28,6 @@ mod reply;
 mod sink;
 mod source;
 mod stock;
-#[cfg(test)]
-mod stock_tests;
 mod stream;
 mod word;
 

@@ -1,0 +1,168 @@
+//! The race of three cells event by event, and helpers on threads over one table.
+use crate::race::trials::{Found, race, win_and_look};
+use std::alloc::{AllocError, Global};
+use std::test::Fail;
+use tg_race::{Event, Forwarding, Record, Shape, World};
+use tg_word::{Place, place_of};
+
+mod trials;
+
+const FIRST: Place = Place {
+    space: 1,
+    block: 0,
+    cell: 0,
+};
+
+const SECOND: Place = Place {
+    space: 1,
+    block: 0,
+    cell: 1,
+};
+
+// Two roots, to the cells 0 and 1, which lead to one another; nothing leads to the cell 2.
+fn three_cells(alloc: Global) -> Result<World, AllocError> {
+    let roots = vec![in alloc; vec![in alloc; 0u64]?, vec![in alloc; 1]?]?;
+    let targets = vec![in alloc; vec![in alloc; 1u64]?, vec![in alloc; 0]?, Vec::new(alloc)]?;
+    World::start(
+        alloc,
+        Shape {
+            roots,
+            targets,
+            kept: 0,
+            space_blocks: 4,
+            helpers: 2,
+        },
+    )
+}
+
+// Whether the word is a reference with no rights to the place.
+fn leads_to(word: u64, place: Place) -> bool {
+    word >> 37 == 1 && word & 15 == 0 && place_of(word) == place
+}
+
+fn has_won(record: &Record, cell: u64, place: Place) -> bool {
+    record
+        .won
+        .iter()
+        .any(|pair| pair.0 == cell && pair.1 == place)
+}
+
+fn has_seen(record: &Record, cell: u64, place: Place) -> bool {
+    record
+        .seen
+        .iter()
+        .any(|pair| pair.0 == cell && pair.1 == place)
+}
+
+// What the helper 0 does before it meets the other, and which of it could happen.
+fn events_of_0(world: &mut World) -> Result<[bool; 7], AllocError> {
+    let win = |cell: u64, place: Place| -> Event { Event::Win { cell, place } };
+    Ok([
+        world.event(0, Event::Part)?,
+        world.event(0, Event::Claim)?,
+        world.event(0, Event::Block { aged: true })?,
+        world.event(0, win(0, FIRST))?,
+        world.event(0, win(1, FIRST))?,
+        world.event(0, win(2, SECOND))?,
+        world.event(0, win(1, SECOND))?,
+    ])
+}
+
+// What the helper 1 does.
+fn events_of_1(world: &mut World) -> Result<[bool; 3], AllocError> {
+    let lost = Event::Win {
+        cell: 0,
+        place: FIRST,
+    };
+    Ok([
+        world.event(1, Event::Claim)?,
+        world.event(1, lost)?,
+        world.event(1, Event::Look { cell: 1 })?,
+    ])
+}
+
+// The helper 1 has claimed chunk 1, which is past the last, and has seen where the cell 1 went.
+fn has_looked(record: Option<&Record>) -> bool {
+    match record {
+        Some(v) => {
+            v.chunks.len() == 1 && v.chunks.iter().all(|c| *c == 1) && has_seen(v, 1, SECOND)
+        }
+        None => false,
+    }
+}
+
+// One record stands for both helpers and is complete: it has the chunk past the last, and has won all targets.
+fn has_all(record: Option<&Record>) -> bool {
+    match record {
+        Some(v) => {
+            v.share == 2
+                && v.chunks.iter().any(|c| *c == 1)
+                && v.won.len() == 2
+                && has_won(v, 0, FIRST)
+                && has_won(v, 1, SECOND)
+        }
+        None => false,
+    }
+}
+
+#[test]
+fn race_of_three_cells(rt: HostRuntime) -> Result<(), Fail> {
+    let mut world = three_cells(rt.alloc())?;
+    // the place FIRST is used, and nothing that was claimed or won leads to the cell 2
+    assert!(rt; events_of_0(&mut world)? == [true, true, true, true, false, false, true]);
+    assert!(rt; events_of_1(&mut world)? == [true, false, true]);
+    assert!(rt; has_looked(world.record_of(1)));
+    assert!(rt; world.event(0, Event::Meet { other: 1 })?);
+    assert!(rt; !world.event(1, Event::Claim)?);
+    assert!(rt; has_all(world.record_of(0)) && world.record_of(2).is_none());
+    let words = world.words();
+    assert!(rt; words.len() == 3 && words[2] == 0);
+    assert!(rt; leads_to(words[0], FIRST) && leads_to(words[1], SECOND));
+    Ok(())
+}
+
+#[test]
+fn one_helper_at_the_table(rt: HostRuntime) -> Result<(), Fail> {
+    let (table, mut helper) = Forwarding::open(rt.alloc(), 5, 9, 3, 1)?;
+    assert!(rt; helper.claim_roots(&table) == 0);
+    assert!(rt; helper.look(&table, 4).is_none());
+    assert!(rt; helper.claim_block(&table, false) == 3);
+    assert!(rt; helper.claim_block(&table, true) == 0);
+    let words = table.close(helper);
+    assert!(rt; words.len() == 5 && words.iter().all(|word| *word == 0));
+    Ok(())
+}
+
+#[test]
+fn a_won_cell_is_seen(rt: HostRuntime) -> Result<(), Fail> {
+    assert!(rt; matches!(win_and_look(rt.alloc())?, Some(place) if place == FIRST));
+    Ok(())
+}
+
+// Whether each word is that of the one win of its cell, and what was lost was lost to that win.
+fn are_words_of(words: &[u64], found: &[Found]) -> bool {
+    let wins = found.iter().filter(|f| f.won).count();
+    let taken = words.iter().filter(|word| **word != 0).count();
+    wins == taken && found.iter().all(|f| is_word_of(words, *f))
+}
+
+fn is_word_of(words: &[u64], found: Found) -> bool {
+    match words.get(found.cell as usize) {
+        Some(word) => leads_to(*word, found.place),
+        None => false,
+    }
+}
+
+#[test]
+fn two_helpers_on_threads(rt: HostRuntime) -> Result<(), Fail> {
+    let (words, found) = race(&rt, rt.alloc(), 2, 90)?;
+    assert!(rt; found.len() == 128 && are_words_of(words.as_slice(), found.as_slice()));
+    Ok(())
+}
+
+#[test]
+fn eight_helpers_on_threads(rt: HostRuntime) -> Result<(), Fail> {
+    let (words, found) = race(&rt, rt.alloc(), 8, 200)?;
+    assert!(rt; found.len() == 512 && are_words_of(words.as_slice(), found.as_slice()));
+    Ok(())
+}

@@ -1,0 +1,101 @@
+//! Boxes of several kinds, through generic code.
+ghost use Rattle.std.specs.Prelude.{◌≡◌, Some, None, IfOk};
+ghost use Rattle.tg_payload.specs.Table.{entry, Updates};
+
+use crate::counting_payload::counting_box;
+use std::alloc::{AllocError, Global};
+use std::sync::Arc;
+use std::sync::atomic::{AtomicU64, Ordering};
+use std::test::Fail;
+use tg_model::Numbers;
+use tg_payload::{
+    CellPayload, Draft, LogPayload, MaxPayload, Payload, PayloadBox, PayloadTable, SumPayload,
+};
+
+// Puts the payload into the table.
+fn insert<P: Payload>(
+    alloc: Global,
+    table: &mut PayloadTable<P>,
+    payload: P,
+) -> Result<u64, AllocError>
+    ensures inserted { IfOk result (λ key. Updates table.old table.new key (Some (P.value payload))) }
+    ensures fresh { IfOk result (λ key. entry table.old key ≡ None) }
+{
+    let Ok(draft) = Draft::new(alloc, payload) else {
+        return Err(AllocError);
+    };
+    let Ok(key) = table.insert(draft) else {
+        return Err(AllocError);
+    };
+    Ok(key)
+}
+
+// The state of the payload once three numbers were written to it in a table.
+fn state_after<P: Payload>(
+    alloc: Global,
+    payload: P,
+    numbers: (u64, u64, u64),
+) -> Result<Numbers, AllocError> {
+    let mut table = PayloadTable::new(alloc);
+    let key = insert(alloc, &mut table, payload)?;
+    table.write(key, numbers.0)?;
+    table.write(key, numbers.1)?;
+    table.write(key, numbers.2)?;
+    table.read(key)
+}
+
+#[test]
+fn log_and_sum_payloads(rt: HostRuntime) -> Result<(), Fail> {
+    let alloc = rt.alloc();
+    let cell: PayloadBox = Box::new(alloc, CellPayload::new(7))?;
+    let sum: PayloadBox = Box::new(alloc, SumPayload::new(u64::MAX))?;
+    let max: PayloadBox = Box::new(alloc, MaxPayload::new(7))?;
+    let log: PayloadBox = Box::new(alloc, LogPayload::new(alloc, 2))?;
+    assert_eq!(rt;
+        state_after(alloc, cell, (1, 2, 3))?.as_slice(),
+        [3].as_slice()
+    );
+    assert_eq!(rt;
+        state_after(alloc, sum, (1, 2, 3))?.as_slice(),
+        [5].as_slice()
+    );
+    assert_eq!(rt;
+        state_after(alloc, max, (5, 9, 8))?.as_slice(),
+        [9].as_slice()
+    );
+    assert_eq!(rt;
+        state_after(alloc, log, (1, 2, 3))?.as_slice(),
+        [2, 3].as_slice()
+    );
+    Ok(())
+}
+
+// Puts two payloads into a table with room for them, takes the first out and drops it, and then the table. Answers
+// how many were dropped before each of the two, and at the end.
+fn dropped_in_turn<P: Payload>(
+    alloc: Global,
+    first: P,
+    second: P,
+    drops: &AtomicU64,
+) -> Result<(u64, u64, u64), AllocError> {
+    let mut table = PayloadTable::new(alloc);
+    table.reserve(2)?;
+    let key = insert(alloc, &mut table, first)?;
+    let _ = insert(alloc, &mut table, second)?;
+    let payload = table.take_out(key);
+    let before = drops.load(Ordering::SeqCst);
+    drop(payload);
+    let between = drops.load(Ordering::SeqCst);
+    drop(table);
+    Ok((before, between, drops.load(Ordering::SeqCst)))
+}
+
+#[test]
+fn two_counting_boxes(rt: HostRuntime) -> Result<(), Fail> {
+    let alloc = rt.alloc();
+    let drops = Arc::new(alloc, AtomicU64::new(0))?;
+    let first = counting_box(alloc, 1, &drops)?;
+    let second = counting_box(alloc, 2, &drops)?;
+    assert_eq!(rt; dropped_in_turn(alloc, first, second, &drops)?, (0, 1, 2));
+    Ok(())
+}

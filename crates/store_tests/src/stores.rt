@@ -1,0 +1,643 @@
+//! Boxes in a store, through generic code.
+use crate::counting_payload::counting_box;
+use std::alloc::Global;
+use std::sync::Arc;
+use std::sync::atomic::{AtomicU64, Ordering};
+use std::test::Fail;
+use tg_journal::{AuditFault, Entry, audit};
+use tg_model::{Command, Deed, Law, Numbers, Opening, Reply, Value};
+use tg_payload::{CellPayload, Draft, Payload, PayloadBox};
+use tg_rights::{Label, Right, Rights};
+use tg_store::{
+    ApplyFault, Census, CollectFault, CreateFault, CreateRefused, Kind, Limits, OpenFault,
+    OpenRefused, Store,
+};
+
+// A cell with the number.
+fn cell_of(alloc: Global, number: u64) -> Option<Value> {
+    let mut state = Vec::new(alloc);
+    state.push(number).ok()?;
+    Some(Value {
+        law: Law::Cell,
+        state: Numbers::from_vec(state),
+    })
+}
+
+// An opening of one worker, who stores a cell with the number.
+fn opening_of_one(alloc: Global, number: u64, max_vertices: u64) -> Option<Opening> {
+    let mut values = Vec::new(alloc);
+    values.push(cell_of(alloc, number)?).ok()?;
+    Opening::new(1, Vec::new(alloc), values, max_vertices).ok()
+}
+
+// Opens a store of one worker, who is to store a cell with 0.
+fn open_one<P: Payload>(
+    alloc: Global,
+    payload: P,
+    max_vertices: u64,
+) -> Option<Result<Store<P>, OpenRefused<P>>> {
+    let opening = opening_of_one(alloc, 0, max_vertices)?;
+    let mut drafts = Vec::new(alloc);
+    let draft = Draft::new(alloc, payload).ok()?;
+    drafts.push(draft).ok()?;
+    let limits = Limits::new(4, 4).ok()?;
+    Some(Store::open(alloc, opening, limits, drafts))
+}
+
+// Such a store, where it is opened.
+fn opened_one<P: Payload>(alloc: Global, payload: P, max_vertices: u64) -> Option<Store<P>> {
+    open_one(alloc, payload, max_vertices)?.ok()
+}
+
+// What comes back with the payload where it isn't taken for a cell with 0.
+fn not_opened<P: Payload>(alloc: Global, payload: P) -> Option<OpenRefused<P>> {
+    open_one(alloc, payload, 1)?.err()
+}
+
+// The first number of the first draft.
+fn first_number<P: Payload>(drafts: &[Draft<P>]) -> Option<u64> {
+    let number = drafts.first()?.value().state.as_slice().first()?;
+    Some(*number)
+}
+
+// Why the payload isn't taken for a cell with 0, and the first number of the draft that comes back.
+fn refused_draft<P: Payload>(alloc: Global, payload: P) -> Option<(OpenFault, u64)> {
+    let OpenRefused { drafts, why, .. } = not_opened(alloc, payload)?;
+    Some((why, first_number(drafts.as_slice())?))
+}
+
+// A box with a cell that stores the number.
+fn cell_box(alloc: Global, number: u64) -> Option<PayloadBox> {
+    let cell: PayloadBox = Box::new(alloc, CellPayload::new(number)).ok()?;
+    Some(cell)
+}
+
+// What is answered of a box with a cell that stores 1.
+fn refused_box(alloc: Global) -> Option<(OpenFault, u64)> {
+    refused_draft(alloc, cell_box(alloc, 1)?)
+}
+
+#[test]
+fn mismatched_draft(rt: HostRuntime) -> Result<(), Fail> {
+    let seen = refused_box(rt.alloc()).ok_or("a store")?;
+    assert_eq!(rt; seen, (OpenFault::PayloadMismatch { at: 0 }, 1));
+    Ok(())
+}
+
+// Makes a vertex of the worker for the payload.
+fn create<P: Payload>(
+    alloc: Global,
+    store: &mut Store<P>,
+    worker: u64,
+    rights: Rights,
+    payload: P,
+) -> Option<Result<u64, CreateRefused<P>>> {
+    let label = Label::new(rights)?;
+    let draft = Draft::new(alloc, payload).ok()?;
+    Some(store.create(worker, label, draft))
+}
+
+// What is refused when the second of two vertices is made in a store with room for one.
+fn refuse_second<P: Payload>(
+    alloc: Global,
+    store: &mut Store<P>,
+    first: P,
+    second: P,
+) -> Option<CreateRefused<P>> {
+    let read = Rights::of(Right::R);
+    let _name = create(alloc, store, 0, read, first)?.ok()?;
+    create(alloc, store, 0, read, second)?.err()
+}
+
+// Makes a vertex for each of the two payloads in a store with room for one. Answers why the second is refused, and how
+// many were dropped before its draft, and after it.
+fn dropped_with_draft<P: Payload>(
+    alloc: Global,
+    store: &mut Store<P>,
+    first: P,
+    second: P,
+    drops: &AtomicU64,
+) -> Option<(CreateFault, u64, u64)> {
+    let CreateRefused { draft, why } = refuse_second(alloc, store, first, second)?;
+    let before = drops.load(Ordering::SeqCst);
+    drop(draft);
+    Some((why, before, drops.load(Ordering::SeqCst)))
+}
+
+// Does so in a store of its own, which is dropped at the end.
+fn dropped_with_store<P: Payload>(
+    alloc: Global,
+    workers: P,
+    first: P,
+    second: P,
+    drops: &AtomicU64,
+) -> Option<(CreateFault, u64, u64)> {
+    let mut store = opened_one(alloc, workers, 2)?;
+    dropped_with_draft(alloc, &mut store, first, second, drops)
+}
+
+// Makes a vertex for each of the two payloads in a store with room for one. Answers why the second is refused, and how
+// many were dropped before its draft, before the store, and at the end.
+fn dropped_in_turn<P: Payload>(
+    alloc: Global,
+    workers: P,
+    first: P,
+    second: P,
+    drops: &AtomicU64,
+) -> Option<(CreateFault, u64, u64, u64)> {
+    let (why, before, between) = dropped_with_store(alloc, workers, first, second, drops)?;
+    Some((why, before, between, drops.load(Ordering::SeqCst)))
+}
+
+// What `dropped_in_turn` answers of two boxes with payloads that count their drops.
+fn boxes_in_turn(alloc: Global, drops: &Arc<AtomicU64>) -> Option<(CreateFault, u64, u64, u64)> {
+    let workers = cell_box(alloc, 0)?;
+    let first = counting_box(alloc, 1, drops).ok()?;
+    let second = counting_box(alloc, 2, drops).ok()?;
+    dropped_in_turn(alloc, workers, first, second, drops)
+}
+
+#[test]
+fn two_counting_boxes(rt: HostRuntime) -> Result<(), Fail> {
+    let alloc = rt.alloc();
+    let drops = Arc::new(alloc, AtomicU64::new(0))?;
+    let seen = boxes_in_turn(alloc, &drops).ok_or("a refusal")?;
+    assert_eq!(rt; seen, (CreateFault::VerticesFull, 0, 1, 2));
+    Ok(())
+}
+
+// An opening of two workers, who store cells with 0.
+fn opening_of_two(alloc: Global, max_vertices: u64) -> Option<Opening> {
+    let mut values = Vec::new(alloc);
+    values.push(cell_of(alloc, 0)?).ok()?;
+    values.push(cell_of(alloc, 0)?).ok()?;
+    Opening::new(2, Vec::new(alloc), values, max_vertices).ok()
+}
+
+// A draft for each of the two payloads.
+fn two_drafts<P: Payload>(alloc: Global, payloads: (P, P)) -> Option<Vec<Draft<P>>> {
+    let (first, second) = payloads;
+    let mut drafts = Vec::new(alloc);
+    drafts.push(Draft::new(alloc, first).ok()?).ok()?;
+    drafts.push(Draft::new(alloc, second).ok()?).ok()?;
+    Some(drafts)
+}
+
+// A store of two workers, who store cells with 0.
+fn open_two<P: Payload>(
+    alloc: Global,
+    payloads: (P, P),
+    max_vertices: u64,
+    limits: Limits,
+) -> Option<Store<P>> {
+    let opening = opening_of_two(alloc, max_vertices)?;
+    let drafts = two_drafts(alloc, payloads)?;
+    Store::open(alloc, opening, limits, drafts).ok()
+}
+
+// Makes vertices for the payloads until one is refused. Answers the last name, and why the next is refused.
+fn fill<P: Payload>(
+    alloc: Global,
+    store: &mut Store<P>,
+    payloads: Vec<P>,
+) -> Option<(u64, CreateFault)> {
+    let mut last = 1;
+    for payload in payloads {
+        match create(alloc, store, 0, Rights::of(Right::R), payload)? {
+            Ok(name) => last = name,
+            Err(CreateRefused { why, .. }) => return Some((last, why)),
+        }
+    }
+    None
+}
+
+// Why a collection of the kind is refused.
+fn why_not_collected<P: Payload>(store: &mut Store<P>, kind: Kind) -> Option<CollectFault> {
+    store.collect(kind).err()
+}
+
+// Makes vertices for the payloads until one is refused. Answers the last name, why the next is refused, why a
+// collection of either kind then is, and the census.
+fn fill_and_collect<P: Payload>(
+    alloc: Global,
+    store: &mut Store<P>,
+    payloads: Vec<P>,
+) -> Option<(u64, CreateFault, CollectFault, CollectFault, Census)> {
+    let (last, why) = fill(alloc, store, payloads)?;
+    let full = why_not_collected(store, Kind::Full)?;
+    let nursery = why_not_collected(store, Kind::Nursery)?;
+    Some((last, why, full, nursery, store.census()))
+}
+
+// A store of two workers, whose heap may have one block a space.
+fn open_small<P: Payload>(alloc: Global, workers: (P, P)) -> Option<Store<P>> {
+    let limits = Limits::new(4, 1).ok()?;
+    open_two(alloc, workers, 1000, limits)
+}
+
+// What this answers in such a store.
+fn filled<P: Payload>(
+    alloc: Global,
+    workers: (P, P),
+    payloads: Vec<P>,
+) -> Option<(u64, CreateFault, CollectFault, CollectFault, Census)> {
+    let mut store = open_small(alloc, workers)?;
+    fill_and_collect(alloc, &mut store, payloads)
+}
+
+// So many boxes, each with a cell that stores 0.
+fn cell_boxes(alloc: Global, number: u64) -> Option<Vec<PayloadBox>> {
+    let mut payloads = Vec::new(alloc);
+    for _ in 0..number {
+        payloads.push(cell_box(alloc, 0)?).ok()?;
+    }
+    Some(payloads)
+}
+
+// What `filled` answers of two workers and so many payloads, each of them in a box.
+fn filled_with_boxes(
+    alloc: Global,
+    number: u64,
+) -> Option<(u64, CreateFault, CollectFault, CollectFault, Census)> {
+    let payloads = cell_boxes(alloc, number)?;
+    filled(alloc, (cell_box(alloc, 0)?, cell_box(alloc, 0)?), payloads)
+}
+
+#[test]
+fn one_block_a_space(rt: HostRuntime) -> Result<(), Fail> {
+    let seen = filled_with_boxes(rt.alloc(), 55).ok_or("no refusal")?;
+    let counts = Census {
+        vertices: 56,
+        payloads: 56,
+        blocks: 2,
+    };
+    let full = CollectFault::HeapFull;
+    assert_eq!(rt; seen, (55, CreateFault::HeapFull, full, full, counts));
+    Ok(())
+}
+
+// The rights to read and to grant.
+fn read_and_grant() -> Rights {
+    Rights::of(Right::R).union(Rights::of(Right::G))
+}
+
+// Makes a vertex for each payload, with rights to read it and to grant.
+fn create_each<P: Payload>(alloc: Global, store: &mut Store<P>, payloads: Vec<P>) -> Option<()> {
+    for payload in payloads {
+        let _name = create(alloc, store, 0, read_and_grant(), payload)?.ok()?;
+    }
+    Some(())
+}
+
+// Lets the worker command, and passes over the reply.
+fn command<P: Payload>(store: &mut Store<P>, worker: u64, command: Command) -> Option<()> {
+    let _reply = store.apply(worker, command).ok()?;
+    Some(())
+}
+
+// Lets each of the first three vertices have an edge to the next in turn.
+fn close_cycle<P: Payload>(store: &mut Store<P>) -> Option<()> {
+    let rights = Label::new(Rights::of(Right::R))?;
+    for via in 1..4 {
+        let grant = Command::Grant {
+            via,
+            target: via % 3 + 1,
+            rights,
+        };
+        command(store, 0, grant)?;
+    }
+    Some(())
+}
+
+// Gives up all rights over the first three vertices.
+fn give_up_cycle<P: Payload>(store: &mut Store<P>) -> Option<()> {
+    let rights = Label::new(read_and_grant())?;
+    for target in 1..4 {
+        command(store, 0, Command::Remove { target, rights })?;
+    }
+    Some(())
+}
+
+// How many vertices a collection of the kind leaves.
+fn left_by<P: Payload>(store: &mut Store<P>, kind: Kind) -> Option<u64> {
+    store.collect(kind).ok()
+}
+
+// Makes a cycle of vertices, one for each of three payloads, over which nobody has rights.
+fn make_dead_cycle<P: Payload>(
+    alloc: Global,
+    store: &mut Store<P>,
+    payloads: Vec<P>,
+) -> Option<()> {
+    create_each(alloc, store, payloads)?;
+    close_cycle(store)?;
+    give_up_cycle(store)
+}
+
+// Makes a vertex for each of three payloads, lets each have an edge to the next in turn, and gives up all rights over
+// them. Answers how many were dropped before any collection, what a nursery collection and a full one then answer, and
+// how many were dropped by both.
+fn dropped_by_a_collection<P: Payload>(
+    alloc: Global,
+    store: &mut Store<P>,
+    payloads: Vec<P>,
+    drops: &AtomicU64,
+) -> Option<(u64, u64, u64, u64)> {
+    make_dead_cycle(alloc, store, payloads)?;
+    let before = drops.load(Ordering::SeqCst);
+    let young = left_by(store, Kind::Nursery)?;
+    let left = left_by(store, Kind::Full)?;
+    Some((before, young, left, drops.load(Ordering::SeqCst)))
+}
+
+// So many boxes, with payloads that count their drops.
+fn counting_boxes(alloc: Global, number: u64, drops: &Arc<AtomicU64>) -> Option<Vec<PayloadBox>> {
+    let mut payloads = Vec::new(alloc);
+    for at in 0..number {
+        payloads.push(counting_box(alloc, at, drops).ok()?).ok()?;
+    }
+    Some(payloads)
+}
+
+// What this answers in a store with room for the three.
+fn dropped_in_a_store<P: Payload>(
+    alloc: Global,
+    worker: P,
+    payloads: Vec<P>,
+    drops: &AtomicU64,
+) -> Option<(u64, u64, u64, u64)> {
+    let mut store = opened_one(alloc, worker, 4)?;
+    dropped_by_a_collection(alloc, &mut store, payloads, drops)
+}
+
+// What this answers of boxes with payloads that count their drops.
+fn dropped_boxes(alloc: Global, drops: &Arc<AtomicU64>) -> Option<(u64, u64, u64, u64)> {
+    let payloads = counting_boxes(alloc, 3, drops)?;
+    dropped_in_a_store(alloc, cell_box(alloc, 0)?, payloads, drops)
+}
+
+#[test]
+fn cycle_of_dead_boxes(rt: HostRuntime) -> Result<(), Fail> {
+    let alloc = rt.alloc();
+    let drops = Arc::new(alloc, AtomicU64::new(0))?;
+    let seen = dropped_boxes(alloc, &drops).ok_or("a refusal")?;
+    assert_eq!(rt; seen, (0, 1, 1, 3));
+    Ok(())
+}
+
+// What the worker is answered who makes a vertex that stores a cell with 0.
+fn create_cell(
+    alloc: Global,
+    store: &mut Store<CellPayload>,
+    worker: u64,
+) -> Option<Result<u64, CreateFault>> {
+    let made = create(
+        alloc,
+        store,
+        worker,
+        Rights::of(Right::R),
+        CellPayload::new(0),
+    )?;
+    Some(made.map_err(|refused| refused.why))
+}
+
+// A store of two workers, in which so many vertices may be made.
+fn open_cells(alloc: Global, max_vertices: u64, limits: Limits) -> Option<Store<CellPayload>> {
+    let cells = (CellPayload::new(0), CellPayload::new(0));
+    open_two(alloc, cells, max_vertices, limits)
+}
+
+// A store of two workers, in which three vertices may be made.
+fn open_three(alloc: Global) -> Option<Store<CellPayload>> {
+    open_cells(alloc, 3, Limits::new(4, 1).ok()?)
+}
+
+// Lets both workers make a vertex in such a store. What the second is answered.
+fn fill_by_two(alloc: Global, store: &mut Store<CellPayload>) -> Option<Result<u64, CreateFault>> {
+    let Ok(2) = create_cell(alloc, store, 0)? else {
+        return None;
+    };
+    create_cell(alloc, store, 1)
+}
+
+// Whether the worker is answered that it has no edges.
+fn lists_nothing(store: &mut Store<CellPayload>, worker: u64) -> bool {
+    match store.apply(worker, Command::List) {
+        Ok(Reply::Edges(edges)) => edges.as_slice().is_empty(),
+        _ => false,
+    }
+}
+
+// Whether the worker's listing is refused since no worker has the name.
+fn is_unknown(store: &mut Store<CellPayload>, worker: u64) -> bool {
+    matches!(
+        store.apply(worker, Command::List),
+        Err(ApplyFault::NoSuchWorker)
+    )
+}
+
+// What the second worker is answered when no more vertices may be made, whether its listing is then empty, whether
+// another worker isn't known, and how many entries the journal has.
+fn seen_once_filled(
+    alloc: Global,
+    store: &mut Store<CellPayload>,
+) -> Option<(Result<u64, CreateFault>, bool, bool, u64)> {
+    let second = fill_by_two(alloc, store)?;
+    let empty = lists_nothing(store, 1);
+    let unknown = is_unknown(store, 7);
+    Some((second, empty, unknown, store.journal().len()))
+}
+
+// What is seen in a store in which three vertices may be made.
+fn seen_in_three(alloc: Global) -> Option<(Result<u64, CreateFault>, bool, bool, u64)> {
+    let mut store = open_three(alloc)?;
+    seen_once_filled(alloc, &mut store)
+}
+
+#[test]
+fn vertex_limit_and_unknown_worker(rt: HostRuntime) -> Result<(), Fail> {
+    let seen = seen_in_three(rt.alloc()).ok_or("no vertex")?;
+    assert_eq!(rt; seen, (Err(CreateFault::VerticesFull), true, true, 3));
+    Ok(())
+}
+
+// The entries of a journal, but for one whose reply is another.
+fn with_altered(alloc: Global, entries: &[Entry], altered: u64) -> Option<Vec<Entry>> {
+    let mut copies = Vec::new(alloc);
+    for (at, entry) in entries.iter().enumerate() {
+        let deed = match &entry.deed {
+            Deed::Create { label, law, state } => Deed::Create {
+                label: *label,
+                law: *law,
+                state: state.copy(alloc).ok()?,
+            },
+            Deed::Plain(command) => Deed::Plain(*command),
+        };
+        let reply = if at as u64 == altered {
+            Reply::Name(9)
+        } else {
+            entry.reply.copy(alloc).ok()?
+        };
+        let worker = entry.worker;
+        copies
+            .push(Entry {
+                worker,
+                deed,
+                reply,
+            })
+            .ok()?;
+    }
+    Some(copies)
+}
+
+// What the audit finds in the store's journal.
+fn audit_of(alloc: Global, store: &Store<CellPayload>) -> Result<(), AuditFault> {
+    audit(alloc, store.opening(), store.journal().entries())
+}
+
+// What the audit finds in the store's journal once the reply of an entry is another.
+fn audit_of_altered(
+    alloc: Global,
+    store: &Store<CellPayload>,
+    altered: u64,
+) -> Option<Result<(), AuditFault>> {
+    let entries = with_altered(alloc, store.journal().entries(), altered)?;
+    Some(audit(alloc, store.opening(), &entries))
+}
+
+// What the audit finds in the journal, and once its first or its second entry has another reply.
+fn audits_once_filled(
+    alloc: Global,
+    store: &mut Store<CellPayload>,
+) -> Option<[Result<(), AuditFault>; 3]> {
+    let _second = fill_by_two(alloc, store)?;
+    let first = audit_of_altered(alloc, store, 0)?;
+    let second = audit_of_altered(alloc, store, 1)?;
+    Some([audit_of(alloc, store), first, second])
+}
+
+// What it finds in a store in which three vertices may be made.
+fn audits_in_three(alloc: Global) -> Option<[Result<(), AuditFault>; 3]> {
+    let mut store = open_three(alloc)?;
+    audits_once_filled(alloc, &mut store)
+}
+
+#[test]
+fn altered_journal(rt: HostRuntime) -> Result<(), Fail> {
+    let seen = audits_in_three(rt.alloc()).ok_or("no vertex or no memory")?;
+    let first = AuditFault::BadEntry { at: 0 };
+    let second = AuditFault::BadEntry { at: 1 };
+    assert_eq!(rt; seen, [Ok(()), Err(first), Err(second)]);
+    Ok(())
+}
+
+// The next number of a sequence that looks random, below 2^31.
+fn draw(seed: &mut u64) -> u64 {
+    *seed = seed
+        .wrapping_mul(6_364_136_223_846_793_005)
+        .wrapping_add(1_442_695_040_888_963_407);
+    *seed >> 33
+}
+
+// Some command over the first eight vertices.
+fn some_command(seed: &mut u64) -> Option<Command> {
+    let via = draw(seed) % 8;
+    let target = draw(seed) % 8;
+    let rights = Label::new(Rights::from_bits((draw(seed) % 16) as u8)?)?;
+    Some(match draw(seed) % 6 {
+        0 => Command::Take {
+            via,
+            target,
+            rights,
+        },
+        1 => Command::Grant {
+            via,
+            target,
+            rights,
+        },
+        2 => Command::Remove { target, rights },
+        3 => Command::Read { target },
+        4 => Command::Write { target, value: via },
+        _ => Command::List,
+    })
+}
+
+// Makes a vertex of the worker, with all rights over it.
+fn create_with_all(alloc: Global, store: &mut Store<CellPayload>, worker: u64) -> Option<()> {
+    let _name = create(
+        alloc,
+        store,
+        worker,
+        Rights::from_bits(15)?,
+        CellPayload::new(0),
+    )?
+    .ok()?;
+    Some(())
+}
+
+// Collects, or makes a vertex, or lets a worker command something.
+fn take_step(alloc: Global, store: &mut Store<CellPayload>, seed: &mut u64) -> Option<()> {
+    let worker = draw(seed) % 2;
+    match draw(seed) % 12 {
+        0 => {
+            let _left = left_by(store, Kind::Full)?;
+        }
+        1 | 2 => {
+            let _left = left_by(store, Kind::Nursery)?;
+        }
+        3 => create_with_all(alloc, store, worker)?,
+        _ => {
+            if let Some(some) = some_command(seed) {
+                command(store, worker, some)?;
+            }
+        }
+    }
+    Some(())
+}
+
+// Takes so many steps, with collections of both kinds at random moments.
+fn take_steps(
+    alloc: Global,
+    store: &mut Store<CellPayload>,
+    steps: u64,
+    seed: &mut u64,
+) -> Option<()> {
+    for _ in 0..steps {
+        take_step(alloc, store, seed)?;
+    }
+    Some(())
+}
+
+// What the audit finds in the journal after so many steps.
+fn audit_after_steps(
+    alloc: Global,
+    store: &mut Store<CellPayload>,
+    steps: u64,
+    seed: &mut u64,
+) -> Option<Result<(), AuditFault>> {
+    take_steps(alloc, store, steps, seed)?;
+    Some(audit_of(alloc, store))
+}
+
+// A store of two workers with a large heap.
+fn open_large(alloc: Global) -> Option<Store<CellPayload>> {
+    open_cells(alloc, 1000, Limits::new(64, 16).ok()?)
+}
+
+// What the audit finds in the journal of such a store after 400 steps.
+fn audit_of_steps(alloc: Global, seed: &mut u64) -> Option<Result<(), AuditFault>> {
+    let mut store = open_large(alloc)?;
+    audit_after_steps(alloc, &mut store, 400, seed)
+}
+
+// The audit replays the journal on the plain graph, which no collection enters.
+#[test]
+fn random_commands_between_collections(rt: HostRuntime) -> Result<(), Fail> {
+    let alloc = rt.alloc();
+    let mut seed = 1;
+    for _ in 0..20 {
+        let outcome = audit_of_steps(alloc, &mut seed).ok_or("a refusal")?;
+        assert_eq!(rt; outcome, Ok(()));
+    }
+    Ok(())
+}
