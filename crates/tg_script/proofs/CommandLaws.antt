@@ -10,11 +10,12 @@ use Rattle.tg_script.specs.declared.script.Script.{Script}
 use Rattle.tg_script.specs.declared.run.Run.{Run}
 use Rattle.tg_text.specs.Texts.{answer_text}
 use Rattle.tg_text.specs.Sinks.{Wrote, WroteSome}
-use Rattle.tg_script.specs.Script.{Scene, IsAdmissible}
-use Rattle.tg_script.specs.Lines.{ReadsFrom, Passes, Follows, IsOfReading}
+use Rattle.tg_script.specs.Script.{Scene, Serves, IsAdmissible, IsCut}
+use Rattle.tg_script.specs.Lines.{ReadsFrom, Passes, Follows, IsBehind, IsOfReading}
 use Rattle.tg_script.specs.Opening.{IsCommand}
-use Rattle.tg_script.specs.Run.{Shows, Serves, Handles}
-use Rattle.tg_script.specs.Running.{IsTold, StandsTold, TellsAll}
+use Rattle.tg_script.specs.Run.{Shows, Handles}
+use Rattle.tg_script.specs.Running.{IsTold, StandsTold, CutsTold, TellsAll}
+use Rattle.tg_script.proofs.LinesLaws.{reads_behind, behind-append, may_stop_writing}
 
 -- ---- one line and those behind it
 
@@ -32,6 +33,7 @@ pub record Under {P : Type 0} (start : Script) (bytes : List ℕ) (t : Scene) (f
   pub shows : Shows r scene
   pub leaves : left ≡ Some rest
   pub took : taken ≡ Some (before ++ sofar)
+  pub cuts : (lines : List Line) (behind cut : List ℕ) → ReadsFrom s rest lines (Some fault.WriteFailed) behind → IsBehind lines rest behind → IsCut scene (l ∷ lines) cut → CutsTold start bytes t first behind (sofar ++ cut)
   pub goes_on : (lines : List Line) (wants : ℕ) (end : Option ScriptFault) (behind text : List ℕ) → ReadsFrom s rest lines end behind → IsAdmissible scene (l ∷ lines) wants text → IsTold start bytes t first end behind (sofar ++ text)
 
 pub under_first : {P : Type 0} (start : Script) (bytes : List ℕ) (t : Scene) (first : Line) (before : List ℕ) (r : Run P) (left taken : Option (List ℕ)) → Shows r t → left ≡ Some bytes → taken ≡ Some before → Under start bytes t first before start r first left taken
@@ -42,6 +44,7 @@ under_first start bytes t first before r left taken shows leaves took = record {
   shows = shows;
   leaves = leaves;
   took = took ∙ ap Some (sym (append-nil before));
+  cuts = λ lines behind cut reads is_behind is_cut. (lines, reads, is_behind, is_cut);
   goes_on = λ lines wants end behind text reads admissible. (lines, wants, reads, admissible);
 }
 
@@ -66,16 +69,10 @@ under_end start bytes t first before s r l left taken a r' after end behind h ha
 pub under_cut : (T : Type 0) {P : Type 0} (start : Script) (bytes : List ℕ) (t : Scene) (first : Line) (before : List ℕ) (s : Script) (r : Run P) (l : Line) (left taken : Option (List ℕ)) (a : Answer) (r' : Run P) (after : Option (List ℕ)) → Under start bytes t first before s r l left taken → Handles r l a r' → WroteSome taken (answer_text a) after → (rest : List ℕ) × (left ≡ Some rest) × TellsAll {T = T} start bytes t first before (Err fault.WriteFailed) rest after
 under_cut T start bytes t first before s r l left taken a r' after h handles wrote =
     let v = handles h.scene h.shows in
-    let k = told_then h.scene v.0 l a [] 0 [] v.2 (refl, refl) in
-    let w = wrote_some_known taken after (before ++ h.sofar) (answer_text a) h.took wrote in
-    let P : List ℕ → Type 0 = λ x. IsTold start bytes t first (Some fault.WriteFailed) h.rest (h.sofar ++ x) in (
+    let w = wrote_some_known taken after (before ++ h.sofar) (answer_text a) h.took wrote in (
       h.rest,
       h.leaves,
-      (
-        h.sofar ++ answer_text a,
-        subst P (append-nil (answer_text a)) (h.goes_on [] k.0 (Some fault.WriteFailed) h.rest (answer_text a ++ []) refl k.1),
-        (h.sofar ++ w.0, w.1, ap (λ x. h.sofar ++ x) w.2 ∙ sym (append_assoc h.sofar w.0 w.1), w.3 ∙ ap Some (append_assoc before h.sofar w.0)),
-      ),
+      inr (h.sofar ++ w.0, w.3 ∙ ap Some (append_assoc before h.sofar w.0), h.cuts [] h.rest w.0 (may_stop_writing s.workers s.lines.room s.count s.opening h.rest) refl (a, v.0, w.1, v.2, w.2)),
     )
 
 -- the answer is written, and a further line is read
@@ -90,6 +87,11 @@ under_next start bytes t first before s r l left taken a r' after next s' left' 
       shows = v.1;
       leaves = n.1;
       took = wrote_known taken after (before ++ h.sofar) (answer_text a) h.took wrote ∙ ap Some (append_assoc before h.sofar (answer_text a));
+      cuts = λ lines behind cut reads is_behind is_cut.
+          let one = reads_behind (next ∷ []) s.workers s.lines.room s.count s.opening h.rest n.0 (n.2 [] (Some fault.OutOfMemory) n.0 refl) in
+          subst (λ x. CutsTold start bytes t first behind x) (sym (append_assoc h.sofar (answer_text a) cut))
+          (h.cuts (next ∷ lines) behind (answer_text a ++ cut) (n.2 lines (Some fault.WriteFailed) behind reads)
+          (behind-append (next ∷ []) lines h.rest n.0 behind one is_behind) (a, v.0, cut, v.2, refl, is_cut));
       goes_on = λ lines wants end behind text reads admissible.
           let k = told_then h.scene v.0 l a (next ∷ lines) wants text v.2 admissible in
           subst (λ x. IsTold start bytes t first end behind x) (sym (append_assoc h.sofar (answer_text a) text))
@@ -103,7 +105,7 @@ tells_fault T fault.ReadFailed s bytes t first before left after r h = (r, h)
 tells_fault T fault.InputTooLong s bytes t first before left after r h = (r, h)
 tells_fault T (fault.LineTooLong n) s bytes t first before left after r h = (r, h)
 tells_fault T (fault.BadLine n) s bytes t first before left after r h = (r, h)
-tells_fault T fault.WriteFailed s bytes t first before left after r h = absurd r
+tells_fault T fault.WriteFailed s bytes t first before left after r h = inl h
 tells_fault T fault.OutOfMemory s bytes t first before left after r h = absurd r
 tells_fault T fault.HeapFull s bytes t first before left after r h = absurd r
 tells_fault T fault.BadLimits s bytes t first before left after r h = absurd r

@@ -16,7 +16,7 @@ use Rattle.tg_model.specs.declared.opening.OpeningFault.{OpeningFault}
 use Rattle.tg_model.specs.declared.opening.OpeningFault.TheVariants.{BadWorkers, BadLimits, BadEdge, BadValues}
 use Rattle.tg_model.specs.Opened.{Plan, JoinsWorkers, ValueFits, HasWorkers, HasLimits, HasValues, IsFirstWithout, IsValuesFault, IsFaultOf}
 use Rattle.tg_script.specs.Lines.{ReadsFrom, Passes, Behind, Follows, IsOfReading}
-use Rattle.tg_script.specs.Opening.{edge_lines, ReadsEdges, IsOfEdges, IsCommand}
+use Rattle.tg_script.specs.Opening.{edge_lines, ReadsEdges, IsCommand}
 use Rattle.tg_script.proofs.LinesLaws.{behind_more}
 
 edge_lines-push : (edges : List Edge) (edge : Edge) → edge_lines (edges ++ edge ∷ []) ≡ edge_lines edges ++ line.Edge edge ∷ []
@@ -32,24 +32,28 @@ edges_more s t u bytes rest after edges more edge same b p =
     let P : List Line → Type 0 = λ x. Behind s bytes x u after in
     subst P (sym (edge_lines-push edges edge) ∙ ap edge_lines (sym same)) (behind_more s t u bytes rest after (edge_lines edges) (line.Edge edge) b p)
 
-of_edges : (f : ScriptFault) → IsOfReading f → IsOfEdges f
-of_edges fault.ReadFailed h = h
-of_edges fault.InputTooLong h = h
-of_edges (fault.LineTooLong n) h = h
-of_edges (fault.BadLine n) h = h
-of_edges fault.WriteFailed h = h
-of_edges fault.OutOfMemory h = tt
-of_edges fault.HeapFull h = h
-of_edges fault.BadLimits h = h
+read_fault : (f : ScriptFault) (s u : Script) (bytes : List ℕ) (edges : List Edge) (left : List ℕ) → IsOfReading f → ReadsFrom s bytes (edge_lines edges) (Some f) left → ReadsEdges s bytes (Err f) u left
+read_fault fault.ReadFailed s u bytes edges left r h = (r, edges, h)
+read_fault fault.InputTooLong s u bytes edges left r h = (r, edges, h)
+read_fault (fault.LineTooLong n) s u bytes edges left r h = (r, edges, h)
+read_fault (fault.BadLine n) s u bytes edges left r h = (r, edges, h)
+read_fault fault.WriteFailed s u bytes edges left r h = (r, edges, h)
+read_fault fault.OutOfMemory s u bytes edges left r h = absurd r
+read_fault fault.HeapFull s u bytes edges left r h = absurd r
+read_fault fault.BadLimits s u bytes edges left r h = absurd r
 
 pub edges_fault : (s t u : Script) (bytes rest : List ℕ) (edges : List Edge) (f : ScriptFault) (left : List ℕ) → Behind s bytes (edge_lines edges) t rest → IsOfReading f → ReadsFrom t rest [] (Some f) left → ReadsEdges s bytes (Err f) u left
-edges_fault s t u bytes rest edges f left b of_reading h = (of_edges f of_reading, edges, behind_all s t bytes rest (edge_lines edges) (Some f) left b h)
+edges_fault s t u bytes rest edges f left b of_reading h = read_fault f s u bytes edges left of_reading (behind_all s t bytes rest (edge_lines edges) (Some f) left b h)
+
+some_edge : (edges : List Edge) (edge : Edge) → edges ++ edge ∷ [] ≡ [] → ⊥
+some_edge [] edge none = cc
+some_edge (e ∷ edges) edge none = cc
 
 -- there was no memory for an edge
 pub edges_unkept : (s t u v : Script) (bytes rest after : List ℕ) (edges : List Edge) (edge : Edge) → Behind s bytes (edge_lines edges) t rest → Passes t rest (line.Edge edge) u after → ReadsEdges s bytes (Err fault.OutOfMemory) v after
 edges_unkept s t u v bytes rest after edges edge b p =
     let more = edges ++ edge ∷ [] in
-    (tt, more, behind_all s u bytes after (edge_lines more) (Some fault.OutOfMemory) after (edges_more s t u bytes rest after edges more edge refl b p) refl)
+    (more, some_edge edges edge, behind_all s u bytes after (edge_lines more) (Some fault.OutOfMemory) after (edges_more s t u bytes rest after edges more edge refl b p) refl)
 
 -- ---- one more line
 

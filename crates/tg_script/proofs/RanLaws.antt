@@ -1,9 +1,9 @@
 -- What was written for the whole of a script.
 use mathlib.Core.Bool.{false≢true}
 use Rattle.std.specs.Prelude.{IsOk, IfSome}
-use Rattle.std.proofs.Common.{◌≡◌, inl, inr, ℕ, ◌≤◌, Bool, true, false, List, [], ◌∷◌, ◌++◌, length, Option, Some, None, Result, Ok, Err, refl, sym, ap, ◌∙◌, subst, arith, append_assoc, append-nil}
+use Rattle.std.proofs.Common.{◌≡◌, ◌≢◌, inl, inr, ℕ, ◌≤◌, Bool, true, false, List, [], ◌∷◌, ◌++◌, length, Option, Some, None, Result, Ok, Err, refl, sym, ap, ◌∙◌, subst, arith, append_assoc, append-nil}
 use Rattle.tg_model.specs.declared.edge.Edge.{Edge}
-use Rattle.tg_model.specs.Opened.{Plan, start_of}
+use Rattle.tg_model.specs.Opened.{Plan, HasLimits, start_of}
 use Rattle.tg_text.specs.declared.line.Line.{Line}
 use Rattle.tg_text.specs.declared.line.Line.TheVariants as line
 use Rattle.tg_text.specs.declared.fault.ScriptFault.{ScriptFault}
@@ -11,11 +11,11 @@ use Rattle.tg_text.specs.declared.fault.ScriptFault.TheVariants as fault
 use Rattle.tg_script.specs.declared.script.Script.{Script}
 use Rattle.tg_text.specs.Sinks.{Keeps}
 use Rattle.tg_text.specs.Reading.{Reads, ReadsScript}
-use Rattle.tg_script.specs.Script.{Scene, IsAdmissible, Start, edges_of, commands_of, scene_of, IsScriptOutput}
-use Rattle.tg_script.specs.Lines.{ReadsFrom, Behind}
+use Rattle.tg_script.specs.Script.{Scene, IsAdmissible, IsCut, Start, HasRoom, CanOpen, edges_of, commands_of, scene_of, IsScriptOutput}
+use Rattle.tg_script.specs.Lines.{ReadsFrom, Behind, IsBehind}
 use Rattle.tg_script.specs.Opening.{IsCommand, edge_lines, ReadsFirst, ReadsEdges, Opens}
-use Rattle.tg_script.specs.Running.{HasRoom, IsWritten, IsUnopened, Ran, IsTold, StandsTold, TellsAll, Finishes}
-use Rattle.tg_script.proofs.LinesLaws.{MayStop, reads_stop}
+use Rattle.tg_script.specs.Running.{IsWritten, IsUnopened, IsUnkept, IsCutOff, Ran, IsTold, StandsTold, StandsCut, TellsAll, Finishes}
+use Rattle.tg_script.proofs.LinesLaws.{MayStop, reads_stop, reads_end, reads_behind, behind-append, may_stop_writing, keeps_known}
 use Rattle.tg_script.proofs.OpeningLaws.{behind_all}
 
 -- a script of which no line was read, with so many workers
@@ -42,20 +42,21 @@ commands_of-edges (e ∷ edges) = commands_of-edges edges
 edges_output : (start : Start) (s : Script) (bytes : List ℕ) (edges : List Edge) (end : Option ScriptFault) (left : List ℕ) → IsFresh s start.workers → ReadsFrom s bytes (edge_lines edges) end left → IsScriptOutput start bytes end left []
 edges_output start s bytes edges end left fresh h =
     let P : List Line → Type 0 = λ x. IsAdmissible (scene_of start (edge_lines edges)) x 0 [] in
-    (edge_lines edges, 0, fresh_reads s start.workers bytes (edge_lines edges) end left fresh h, subst P (sym (commands_of-edges edges)) (refl, refl))
+    (edge_lines edges, 0, fresh_reads s start.workers bytes (edge_lines edges) end left fresh h, inl (commands_of-edges edges), subst P (sym (commands_of-edges edges)) (refl, refl))
 
 edges_written : (start : Start) (s : Script) (bytes before : List ℕ) (edges : List Edge) (end : Option ScriptFault) (left : List ℕ) (after : Option (List ℕ)) → IsFresh s start.workers → ReadsFrom s bytes (edge_lines edges) end left → after ≡ Some before → IsWritten start bytes before end left after
 edges_written start s bytes before edges end left after fresh h same =
     ([], same ∙ ap Some (sym (append-nil before)), edges_output start s bytes edges end left fresh h)
 
--- nothing but edge lines was read
-edges_unopened : (start : Start) (s : Script) (bytes : List ℕ) (edges : List Edge) (f : ScriptFault) (left : List ℕ) → IsFresh s start.workers → ReadsFrom s bytes (edge_lines edges) (Some f) left → IsUnopened start bytes f left
-edges_unopened start s bytes edges f left fresh h =
-    let none = ap length (commands_of-edges edges) in
-    (edge_lines edges, fresh_reads s start.workers bytes (edge_lines edges) (Some f) left fresh h, omega (arith, none))
+-- there was no memory for an edge
+edges_unkept_whole : (start : Start) (s : Script) (bytes : List ℕ) (edges : List Edge) (left : List ℕ) → IsFresh s start.workers → edges ≢ [] → ReadsFrom s bytes (edge_lines edges) (Some fault.OutOfMemory) left → IsUnkept start bytes left
+edges_unkept_whole start s bytes [] left fresh some h = absurd (some refl)
+edges_unkept_whole start s bytes (e ∷ edges) left fresh some h =
+    let none : edge_lines (e ∷ edges) ≢ [] = λ same. cc in
+    (edge_lines (e ∷ edges), fresh_reads s start.workers bytes (edge_lines (e ∷ edges)) (Some fault.OutOfMemory) left fresh h, none, commands_of-edges edges)
 
 -- the input ended behind the edge lines
-pub ran_edges : {T : Type 0} (done : T) (start : Start) (s : Script) (bytes before : List ℕ) (edges : List Edge) (left : List ℕ) (after : Option (List ℕ)) → IsFresh s start.workers → HasRoom start → ReadsFrom s bytes (edge_lines edges) None left → after ≡ Some before → Ran {T = T} start bytes before (Ok done) left after
+pub ran_edges : {T : Type 0} (done : T) (start : Start) (s : Script) (bytes before : List ℕ) (edges : List Edge) (left : List ℕ) (after : Option (List ℕ)) → IsFresh s start.workers → CanOpen start → ReadsFrom s bytes (edge_lines edges) None left → after ≡ Some before → Ran {T = T} start bytes before (Ok done) left after
 ran_edges done start s bytes before edges left after fresh room h same = (room, edges_written start s bytes before edges None left after fresh h same)
 
 -- a fault came behind the edge lines
@@ -64,8 +65,8 @@ ran_edges_fault T fault.ReadFailed start s t bytes before left after fresh h sam
 ran_edges_fault T fault.InputTooLong start s t bytes before left after fresh h same = edges_written start s bytes before h.1 (Some fault.InputTooLong) left after fresh h.2 same
 ran_edges_fault T (fault.LineTooLong n) start s t bytes before left after fresh h same = edges_written start s bytes before h.1 (Some (fault.LineTooLong n)) left after fresh h.2 same
 ran_edges_fault T (fault.BadLine n) start s t bytes before left after fresh h same = edges_written start s bytes before h.1 (Some (fault.BadLine n)) left after fresh h.2 same
-ran_edges_fault T fault.OutOfMemory start s t bytes before left after fresh h same = (edges_unopened start s bytes h.1 fault.OutOfMemory left fresh h.2, same)
-ran_edges_fault T fault.WriteFailed start s t bytes before left after fresh h same = absurd h.0
+ran_edges_fault T fault.OutOfMemory start s t bytes before left after fresh h same = (inl (edges_unkept_whole start s bytes h.0 left fresh h.1 h.2), same)
+ran_edges_fault T fault.WriteFailed start s t bytes before left after fresh h same = inl (edges_written start s bytes before h.1 (Some fault.WriteFailed) left after fresh h.2 same)
 ran_edges_fault T fault.HeapFull start s t bytes before left after fresh h same = absurd h.0
 ran_edges_fault T fault.BadLimits start s t bytes before left after fresh h same = absurd h.0
 
@@ -93,15 +94,20 @@ pub first_command : (first : Option Line) (t : Script) → IfSome first (λ l. I
 first_command None t h = tt
 first_command (Some l) t h = h.0
 
-one_command : (edges : List Edge) (l : Line) → IsCommand l → length (commands_of (edge_lines edges ++ l ∷ [])) ≤ 1
-one_command edges l command = let one = ap length (commands_of-front edges l [] command) in omega (arith, one)
-
 unopened : (start : Start) (s t : Script) (bytes rest : List ℕ) (edges : List Edge) (first : Option Line) (f : ScriptFault) → IsFresh s start.workers → IfSome first IsCommand → ReadsFirst s bytes edges first t rest → MayStop f → IsUnopened start bytes f rest
 unopened start s t bytes rest edges None f fresh command h stop =
-    edges_unopened start s bytes edges f rest fresh (reads_stop f stop (edge_lines edges) s.workers s.lines.room s.count s.opening bytes rest h)
+    let lines = edge_lines edges in (
+      lines,
+      fresh_reads s start.workers bytes lines (Some f) rest fresh (reads_stop f stop lines s.workers s.lines.room s.count s.opening bytes rest h),
+      inr (commands_of-edges edges, reads_end lines s.workers s.lines.room s.count s.opening bytes rest h),
+    )
 unopened start s t bytes rest edges (Some l) f fresh command h stop =
     let lines = edge_lines edges ++ l ∷ [] in
-    (lines, fresh_reads s start.workers bytes lines (Some f) rest fresh (behind_all s t bytes rest lines (Some f) rest h (stop t.workers t.lines.room t.count t.opening rest)), one_command edges l command)
+    (lines, fresh_reads s start.workers bytes lines (Some f) rest fresh (behind_all s t bytes rest lines (Some f) rest h (stop t.workers t.lines.room t.count t.opening rest)), inl (ap length (commands_of-front edges l [] command)))
+
+-- whether there is room for the workers is told by the plan
+room_of : (p : Plan) (start : Start) → p.workers ≡ start.workers → p.limit ≡ start.limit → HasLimits p → HasRoom start
+room_of p start workers limit h = (omega (arith, h.0, limit), omega (arith, h.1, limit), omega (arith, h.2, workers, limit))
 
 pub ran_store_fault : (T : Type 0) (p : Plan) (f : ScriptFault) (start : Start) (s t : Script) (bytes before rest : List ℕ) (edges : List Edge) (first : Option Line) (after : Option (List ℕ)) → p.workers ≡ start.workers → p.limit ≡ start.limit → Opens p start.blocks (Err f) → IsFresh s start.workers → IfSome first IsCommand → ReadsFirst s bytes edges first t rest → after ≡ Some before → Ran {T = T} start bytes before (Err f) rest after
 ran_store_fault T p fault.ReadFailed start s t bytes before rest edges first after workers limit h fresh command reads same = absurd h
@@ -110,9 +116,9 @@ ran_store_fault T p (fault.LineTooLong n) start s t bytes before rest edges firs
 ran_store_fault T p (fault.BadLine n) start s t bytes before rest edges first after workers limit h fresh command reads same = absurd h
 ran_store_fault T p fault.WriteFailed start s t bytes before rest edges first after workers limit h fresh command reads same = absurd h
 ran_store_fault T p fault.OutOfMemory start s t bytes before rest edges first after workers limit h fresh command reads same =
-    (unopened start s t bytes rest edges first fault.OutOfMemory fresh command reads (λ w r c o b. refl), same)
+    (inr (room_of p start workers limit h, unopened start s t bytes rest edges first fault.OutOfMemory fresh command reads (λ w r c o b. refl)), same)
 ran_store_fault T p fault.HeapFull start s t bytes before rest edges first after workers limit h fresh command reads same =
-    (omega (arith, h, workers), unopened start s t bytes rest edges first fault.HeapFull fresh command reads (λ w r c o b. refl), same)
+    (room_of p start workers limit h.0, omega (arith, h.1, workers), unopened start s t bytes rest edges first fault.HeapFull fresh command reads (λ w r c o b. refl), same)
 ran_store_fault T p fault.BadLimits start s t bytes before rest edges first after workers limit h fresh command reads same =
     ((λ room. h (omega (arith, room.0, limit), omega (arith, room.1, limit), omega (arith, room.2, workers, limit))), unopened start s t bytes rest edges first fault.BadLimits fresh command reads (λ w r c o b. refl), same)
 
@@ -125,8 +131,8 @@ scene_with start edges = record {
   stock = start.stock;
 }
 
-told_output : (start : Start) (s t : Script) (bytes rest : List ℕ) (edges : List Edge) (l : Line) (end : Option ScriptFault) (left text : List ℕ) → IsFresh s start.workers → IsCommand l → Behind s bytes (edge_lines edges ++ l ∷ []) t rest → IsTold t rest (scene_with start edges) l end left text → IsScriptOutput start bytes end left text
-told_output start s t bytes rest edges l end left text fresh command behind h =
+told_output : (start : Start) (s t : Script) (bytes rest : List ℕ) (edges : List Edge) (l : Line) (end : Option ScriptFault) (left text : List ℕ) → IsFresh s start.workers → CanOpen start → IsCommand l → Behind s bytes (edge_lines edges ++ l ∷ []) t rest → IsTold t rest (scene_with start edges) l end left text → IsScriptOutput start bytes end left text
+told_output start s t bytes rest edges l end left text fresh can command behind h =
     let lines = edge_lines edges ++ l ∷ h.0 in
     let P : List Line → Type 0 = λ x. ReadsFrom s bytes x end left in
     let Q : List Edge → Type 0 = λ x. IsAdmissible (scene_with start x) (commands_of lines) h.1 text in
@@ -134,29 +140,51 @@ told_output start s t bytes rest edges l end left text fresh command behind h =
       lines,
       h.1,
       fresh_reads s start.workers bytes lines end left fresh (subst P (append_assoc (edge_lines edges) (l ∷ []) h.0) (behind h.0 end left h.2)),
+      inr can,
       subst Q (sym (edges_of-front edges l h.0 command)) (subst R (sym (commands_of-front edges l h.0 command)) h.3),
     )
 
-told_written : (start : Start) (s t : Script) (bytes rest : List ℕ) (edges : List Edge) (l : Line) (before : List ℕ) (end : Option ScriptFault) (left : List ℕ) (after : Option (List ℕ)) → IsFresh s start.workers → IsCommand l → Behind s bytes (edge_lines edges ++ l ∷ []) t rest → StandsTold t rest (scene_with start edges) l before end left after → IsWritten start bytes before end left after
-told_written start s t bytes rest edges l before end left after fresh command behind h =
-    (h.0, h.1, told_output start s t bytes rest edges l end left h.0 fresh command behind h.2)
+told_written : (start : Start) (s t : Script) (bytes rest : List ℕ) (edges : List Edge) (l : Line) (before : List ℕ) (end : Option ScriptFault) (left : List ℕ) (after : Option (List ℕ)) → IsFresh s start.workers → CanOpen start → IsCommand l → Behind s bytes (edge_lines edges ++ l ∷ []) t rest → StandsTold t rest (scene_with start edges) l before end left after → IsWritten start bytes before end left after
+told_written start s t bytes rest edges l before end left after fresh can command behind h =
+    (h.0, h.1, told_output start s t bytes rest edges l end left h.0 fresh can command behind h.2)
 
-pub ran_commands : {T : Type 0} (r : Result T ScriptFault) (start : Start) (s t : Script) (bytes rest : List ℕ) (edges : List Edge) (l : Line) (before left : List ℕ) (after : Option (List ℕ)) → IsFresh s start.workers → HasRoom start → IsCommand l → Behind s bytes (edge_lines edges ++ l ∷ []) t rest → TellsAll t rest (scene_with start edges) l before r left after → Ran start bytes before r left after
-ran_commands (Ok done) start s t bytes rest edges l before left after fresh room command behind h = (room, told_written start s t bytes rest edges l before None left after fresh command behind h)
-ran_commands (Err fault.ReadFailed) start s t bytes rest edges l before left after fresh room command behind h = told_written start s t bytes rest edges l before (Some fault.ReadFailed) left after fresh command behind h.1
-ran_commands (Err fault.InputTooLong) start s t bytes rest edges l before left after fresh room command behind h = told_written start s t bytes rest edges l before (Some fault.InputTooLong) left after fresh command behind h.1
-ran_commands (Err (fault.LineTooLong n)) start s t bytes rest edges l before left after fresh room command behind h = told_written start s t bytes rest edges l before (Some (fault.LineTooLong n)) left after fresh command behind h.1
-ran_commands (Err (fault.BadLine n)) start s t bytes rest edges l before left after fresh room command behind h = told_written start s t bytes rest edges l before (Some (fault.BadLine n)) left after fresh command behind h.1
-ran_commands (Err fault.WriteFailed) start s t bytes rest edges l before left after fresh room command behind h =
-    (h.0, told_output start s t bytes rest edges l (Some fault.WriteFailed) left h.0 fresh command behind h.1, h.2)
+-- a reply was cut off
+cut_off : (start : Start) (s t : Script) (bytes rest : List ℕ) (edges : List Edge) (l : Line) (before left : List ℕ) (after : Option (List ℕ)) → IsFresh s start.workers → CanOpen start → IsCommand l → Behind s bytes (edge_lines edges ++ l ∷ []) t rest → StandsCut t rest (scene_with start edges) l before left after → IsCutOff start bytes before left after
+cut_off start s t bytes rest edges l before left after fresh can command behind h =
+    let front = h.0 in
+    let more = h.2.0 in
+    let lines = edge_lines edges ++ l ∷ more in
+    let first = edge_lines edges ++ l ∷ [] in
+    let joined : first ++ more ≡ lines = append_assoc (edge_lines edges) (l ∷ []) more in
+    let begun = reads_behind first s.workers s.lines.room s.count s.opening bytes rest (behind_all s t bytes rest first (Some fault.OutOfMemory) rest behind refl) in
+    let P : List Line → Type 0 = λ x. ReadsFrom s bytes x (Some fault.WriteFailed) left in
+    let B : List Line → Type 0 = λ x. IsBehind x bytes left in
+    let Q : List Edge → Type 0 = λ x. IsCut (scene_with start x) (commands_of lines) front in
+    let R : List Line → Type 0 = λ x. IsCut (scene_with start edges) x front in (
+      lines,
+      front,
+      fresh_reads s start.workers bytes lines (Some fault.WriteFailed) left fresh (subst P joined (behind more (Some fault.WriteFailed) left h.2.1)),
+      subst B joined (behind-append first more bytes rest left begun h.2.2),
+      can,
+      subst Q (sym (edges_of-front edges l more command)) (subst R (sym (commands_of-front edges l more command)) h.2.3),
+      h.1,
+    )
+
+pub ran_commands : {T : Type 0} (r : Result T ScriptFault) (start : Start) (s t : Script) (bytes rest : List ℕ) (edges : List Edge) (l : Line) (before left : List ℕ) (after : Option (List ℕ)) → IsFresh s start.workers → CanOpen start → IsCommand l → Behind s bytes (edge_lines edges ++ l ∷ []) t rest → TellsAll t rest (scene_with start edges) l before r left after → Ran start bytes before r left after
+ran_commands (Ok done) start s t bytes rest edges l before left after fresh room command behind h = (room, told_written start s t bytes rest edges l before None left after fresh room command behind h)
+ran_commands (Err fault.ReadFailed) start s t bytes rest edges l before left after fresh room command behind h = told_written start s t bytes rest edges l before (Some fault.ReadFailed) left after fresh room command behind h.1
+ran_commands (Err fault.InputTooLong) start s t bytes rest edges l before left after fresh room command behind h = told_written start s t bytes rest edges l before (Some fault.InputTooLong) left after fresh room command behind h.1
+ran_commands (Err (fault.LineTooLong n)) start s t bytes rest edges l before left after fresh room command behind h = told_written start s t bytes rest edges l before (Some (fault.LineTooLong n)) left after fresh room command behind h.1
+ran_commands (Err (fault.BadLine n)) start s t bytes rest edges l before left after fresh room command behind h = told_written start s t bytes rest edges l before (Some (fault.BadLine n)) left after fresh room command behind h.1
+ran_commands (Err fault.WriteFailed) start s t bytes rest edges l before left after fresh room command behind (inl h) =
+    inl (told_written start s t bytes rest edges l before (Some fault.WriteFailed) left after fresh room command behind h)
+ran_commands (Err fault.WriteFailed) start s t bytes rest edges l before left after fresh room command behind (inr h) =
+    inr (cut_off start s t bytes rest edges l before left after fresh room command behind h)
 ran_commands (Err fault.OutOfMemory) start s t bytes rest edges l before left after fresh room command behind h = absurd h.0
 ran_commands (Err fault.HeapFull) start s t bytes rest edges l before left after fresh room command behind h = absurd h.0
 ran_commands (Err fault.BadLimits) start s t bytes rest edges l before left after fresh room command behind h = absurd h.0
 
 -- ---- the sink is finished
-
-keeps_known : (mid after : Option (List ℕ)) (known : List ℕ) → mid ≡ Some known → Keeps mid after → after ≡ Some known
-keeps_known mid after known is keeps = let P : Option (List ℕ) → Type 0 = λ x. Keeps x after in subst P is keeps
 
 written_keeps : (start : Start) (bytes before : List ℕ) (end : Option ScriptFault) (left : List ℕ) (mid after : Option (List ℕ)) → IsWritten start bytes before end left mid → Keeps mid after → IsWritten start bytes before end left after
 written_keeps start bytes before end left mid after h keeps = (h.0, keeps_known mid after (before ++ h.0) h.1 keeps, h.2)
@@ -167,20 +195,21 @@ ran_keeps (Err fault.ReadFailed) start bytes before left mid after h keeps = wri
 ran_keeps (Err fault.InputTooLong) start bytes before left mid after h keeps = written_keeps start bytes before (Some fault.InputTooLong) left mid after h keeps
 ran_keeps (Err (fault.LineTooLong n)) start bytes before left mid after h keeps = written_keeps start bytes before (Some (fault.LineTooLong n)) left mid after h keeps
 ran_keeps (Err (fault.BadLine n)) start bytes before left mid after h keeps = written_keeps start bytes before (Some (fault.BadLine n)) left mid after h keeps
-ran_keeps (Err fault.WriteFailed) start bytes before left mid after h keeps =
-    (h.0, h.1, (h.2.0, h.2.1, h.2.2, keeps_known mid after (before ++ h.2.0) h.2.3 keeps))
+ran_keeps (Err fault.WriteFailed) start bytes before left mid after (inl h) keeps = inl (written_keeps start bytes before (Some fault.WriteFailed) left mid after h keeps)
+ran_keeps (Err fault.WriteFailed) start bytes before left mid after (inr h) keeps =
+    inr (h.0, h.1, h.2, h.3, h.4, h.5, keeps_known mid after (before ++ h.1) h.6 keeps)
 ran_keeps (Err fault.OutOfMemory) start bytes before left mid after h keeps = (h.0, keeps_known mid after before h.1 keeps)
-ran_keeps (Err fault.HeapFull) start bytes before left mid after h keeps = (h.0, h.1, keeps_known mid after before h.2 keeps)
+ran_keeps (Err fault.HeapFull) start bytes before left mid after h keeps = (h.0, h.1, h.2, keeps_known mid after before h.3 keeps)
 ran_keeps (Err fault.BadLimits) start bytes before left mid after h keeps = (h.0, h.1, keeps_known mid after before h.2 keeps)
 
 -- the whole text was written, but the sink was not finished
 ran_unfinished : {T : Type 0} (r : Result T ScriptFault) (start : Start) (bytes before left : List ℕ) (mid after : Option (List ℕ)) → IsOk r → Ran start bytes before r left mid → Keeps mid after → Ran {T = T} start bytes before (Err fault.WriteFailed) left after
 ran_unfinished (Err f) start bytes before left mid after fine h keeps = absurd (false≢true fine)
-ran_unfinished (Ok done) start bytes before left mid after fine (room, h) keeps =
-    let stop : MayStop fault.WriteFailed = λ w r c o b. refl in (
+ran_unfinished (Ok done) start bytes before left mid after fine (can, h) keeps =
+    inl (
       h.0,
-      (h.2.0, h.2.1, reads_stop fault.WriteFailed stop h.2.0 start.workers 1048576 0 true bytes left h.2.2, h.2.3),
-      (h.0, [], sym (append-nil h.0), keeps_known mid after (before ++ h.0) h.1 keeps),
+      keeps_known mid after (before ++ h.0) h.1 keeps,
+      (h.2.0, h.2.1, reads_stop fault.WriteFailed may_stop_writing h.2.0 start.workers 1048576 0 true bytes left h.2.2, h.2.3, h.2.4),
     )
 
 pub ran_finished : {T : Type 0} (outcome r : Result T ScriptFault) (start : Start) (bytes before left : List ℕ) (mid after : Option (List ℕ)) (f g : ℕ) → Ran start bytes before outcome left mid → Finishes mid f outcome r after g → Ran start bytes before r left after

@@ -1,5 +1,6 @@
 -- What comes of the next line of a script, and what that says of how its bytes are read.
 use Rattle.std.specs.Prelude.{◌≡◌, ℕ, ◌+◌, List, [], ◌∷◌, ◌++◌, Option, Some, None, Result, Ok, Err}
+use Rattle.std.specs.List.{flat_map}
 use Rattle.tg_text.specs.declared.line.Line.{Line}
 use Rattle.tg_text.specs.declared.fault.ScriptFault.{ScriptFault}
 use Rattle.tg_text.specs.declared.fault.ScriptFault.TheVariants as fault
@@ -16,9 +17,10 @@ abbrev pub Passes : Script → List ℕ → Line → Script → List ℕ → Typ
 Passes s bytes l t rest =
     (lines : List Line) (end : Option ScriptFault) (left : List ℕ) → ReadsFrom t rest lines end left → ReadsFrom s bytes (l ∷ lines) end left
 
--- a fault that is met in reading
+-- a fault that is met in reading, or in finishing what was written before more is read
 abbrev pub IsOfReading : ScriptFault → Type 0
 IsOfReading fault.ReadFailed = Unit {0}
+IsOfReading fault.WriteFailed = Unit {0}
 IsOfReading f = IsOfBytes (Some f)
 
 -- a line, the end of the input, or the first fault, and the bytes that are left behind it
@@ -39,6 +41,14 @@ abbrev pub TakesLine : Script → Result (Option Line) ScriptFault → Script �
 TakesLine s (Ok (Some l)) t = LineFits l × (s.buffer ≡ line_text l) × Follows s l t × (t.lines ≡ s.lines)
 TakesLine s (Ok None) t = ⊥
 TakesLine s (Err f) t = (f ≡ fault.BadLine (s.count + 1)) × IsBadText s.workers s.opening s.buffer × (t ≡ s)
+
+-- the bytes of a line, with its line feed
+abbrev pub line_bytes : Line → List ℕ
+line_bytes l = line_text l ++ 10 ∷ []
+
+-- what is left is all that stands behind these lines
+abbrev pub IsBehind : List Line → List ℕ → List ℕ → Type 0
+IsBehind lines bytes left = bytes ≡ flat_map line_bytes lines ++ left
 
 -- how many failures of the source an outcome is
 abbrev pub read_failures : {T : Type 0} → Result T ScriptFault → ℕ

@@ -1,5 +1,5 @@
 -- What the opening of a run comes to: the edge lines in front of a script, and the store that they make.
-use Rattle.std.specs.Prelude.{ℕ, ◌<◌, false, List, [], ◌∷◌, ◌++◌, map, Option, Some, None, Result, Ok, Err}
+use Rattle.std.specs.Prelude.{◌≢◌, ℕ, ◌<◌, ◌≤◌, false, List, [], ◌∷◌, ◌++◌, map, Option, Some, None, Result, Ok, Err}
 use Rattle.tg_model.specs.declared.edge.Edge.{Edge}
 use Rattle.tg_model.specs.Opened.{Plan, HasLimits, start_of}
 use Rattle.tg_store.specs.Store.{StoreState, StandsFor}
@@ -24,21 +24,18 @@ abbrev pub ReadsFirst : Script → List ℕ → List Edge → Option Line → Sc
 ReadsFirst s bytes edges None t rest = ReadsFrom s bytes (edge_lines edges) None rest
 ReadsFirst s bytes edges (Some l) t rest = Behind s bytes (edge_lines edges ++ l ∷ []) t rest
 
--- a fault that is met in reading, or memory was wanting for an edge
-abbrev pub IsOfEdges : ScriptFault → Type 0
-IsOfEdges fault.OutOfMemory = Unit {0}
-IsOfEdges f = IsOfReading f
-
--- the edge lines, up to the first other line or to the end; or edge lines up to the first fault; and what is left behind them
+-- the edge lines, up to the first other line or to the end; or edge lines up to the last, for which there was no memory, or up to
+-- the first fault; and what is left behind them
 abbrev pub ReadsEdges : Script → List ℕ → Result Front ScriptFault → Script → List ℕ → Type 0
 ReadsEdges s bytes (Ok front) t rest = ReadsFirst s bytes front.edges.items front.first t rest
-ReadsEdges s bytes (Err f) t rest = IsOfEdges f × (edges : List Edge) × ReadsFrom s bytes (edge_lines edges) (Some f) rest
+ReadsEdges s bytes (Err fault.OutOfMemory) t rest = (edges : List Edge) × (edges ≢ []) × ReadsFrom s bytes (edge_lines edges) (Some fault.OutOfMemory) rest
+ReadsEdges s bytes (Err f) t rest = IsOfReading f × (edges : List Edge) × ReadsFrom s bytes (edge_lines edges) (Some f) rest
 
--- The store stands for the graph that the plan starts from; or a limit of the plan is out of its range, or memory was wanting,
--- or a block for each worker where the heap may have so many.
+-- The store stands for the graph that the plan starts from; or a limit of the plan is out of its range, or else memory was
+-- wanting, or a block for each worker where the heap may have so many.
 abbrev pub Opens : Plan → ℕ → Result StoreState ScriptFault → Type 0
-Opens p blocks (Ok store) = HasLimits p × StandsFor store (start_of p)
+Opens p blocks (Ok store) = HasLimits p × (p.workers ≤ blocks) × StandsFor store (start_of p)
 Opens p blocks (Err fault.BadLimits) = ¬ HasLimits p
 Opens p blocks (Err fault.OutOfMemory) = HasLimits p
-Opens p blocks (Err fault.HeapFull) = blocks < p.workers
+Opens p blocks (Err fault.HeapFull) = HasLimits p × (blocks < p.workers)
 Opens p blocks (Err f) = ⊥

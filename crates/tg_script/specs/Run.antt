@@ -8,7 +8,7 @@ use Rattle.tg_text.specs.declared.answer.Answer.TheVariants as told
 use Rattle.tg_text.specs.declared.answer.Refusal.{Refusal}
 use Rattle.tg_script.specs.declared.run.Run.{Run}
 use Rattle.tg_script.specs.Supply.{values_left}
-use Rattle.tg_script.specs.Script.{Scene, Answers, MayRefuse}
+use Rattle.tg_script.specs.Script.{Scene, Serves}
 
 -- the store stands for the scene's graph, and its stock is left
 abbrev pub ShowsBy : StoreState → List Value → Scene → Type 0
@@ -16,10 +16,6 @@ ShowsBy store values s = StandsFor store s.graph × (values ≡ s.stock)
 
 abbrev pub Shows : {P : Type 0} → Run P → Scene → Type 0
 Shows r t = ShowsBy r.store (values_left r.supply) t
-
--- the line is answered, or refused for want with the scene as it was
-abbrev pub Serves : Scene → Line → Answer → Scene → Type 0
-Serves s l a t = Answers s l a t ⊎ ((r : Refusal) × MayRefuse s l r × (a ≡ told.Refused r) × (t ≡ s))
 
 -- whatever scene was shown, the run now shows one by which the line was served
 abbrev pub HandlesBy : {P : Type 0} → StoreState → List Value → Line → Answer → Run P → Type 0

@@ -1,40 +1,49 @@
 -- What a run's answer says of the bytes that were read and of those that were written.
-use Rattle.std.specs.Prelude.{◌≡◌, ◌⊎◌, ℕ, ◌+◌, ◌<◌, ◌≤◌, IsOk, List, [], ◌∷◌, ◌++◌, length, Option, Some, None, Result, Ok, Err}
+use Rattle.std.specs.Prelude.{◌≡◌, ◌≢◌, ◌⊎◌, ℕ, ◌+◌, ◌<◌, ◌≤◌, IsOk, List, [], ◌∷◌, ◌++◌, length, Option, Some, None, Result, Ok, Err}
 use Rattle.tg_text.specs.declared.fault.ScriptFault.{ScriptFault}
 use Rattle.tg_text.specs.declared.fault.ScriptFault.TheVariants as fault
-use Rattle.tg_text.specs.Sinks.{WroteSome, Keeps, Writes}
-use Rattle.tg_model.specs.Opened.{HasLimits}
+use Rattle.tg_text.specs.Sinks.{Keeps, Writes}
 use Rattle.tg_text.specs.declared.line.Line.{Line}
 use Rattle.tg_script.specs.declared.script.Script.{Script}
 use Rattle.tg_text.specs.declared.answer.Answer.{Answer}
 use Rattle.tg_script.specs.declared.run.Run.{Run}
 use Rattle.tg_text.specs.Texts.{answer_text}
 use Rattle.tg_script.specs.Run.{Handles}
-use Rattle.tg_script.specs.Lines.{ReadsFrom, IsOfReading}
+use Rattle.tg_script.specs.Lines.{ReadsFrom, IsBehind, IsOfReading}
 use Rattle.tg_text.specs.Reading.{ReadsScript}
-use Rattle.tg_script.specs.Script.{Scene, IsAdmissible, Start, IsScriptOutput, commands_of}
+use Rattle.tg_script.specs.Script.{Scene, IsAdmissible, IsCut, Start, HasRoom, CanOpen, IsScriptOutput, commands_of, scene_of}
 
 -- the text for the script, read up to this fault or to its end, stands behind what was written before
 abbrev pub IsWritten : Start → List ℕ → List ℕ → Option ScriptFault → List ℕ → Option (List ℕ) → Type 0
 IsWritten start bytes before end left after = (text : List ℕ) × (after ≡ Some (before ++ text)) × IsScriptOutput start bytes end left text
 
--- the script is read no further than the first line that is no edge line, which this fault then ended
+-- the script is read to its end, or to the first line that is no edge line, and no further, which this fault then ended
 abbrev pub IsUnopened : Start → List ℕ → ScriptFault → List ℕ → Type 0
-IsUnopened start bytes f left = (lines : List Line) × ReadsScript start.workers bytes lines (Some f) left × (length (commands_of lines) ≤ 1)
+IsUnopened start bytes f left =
+    (lines : List Line) × ReadsScript start.workers bytes lines (Some f) left × ((length (commands_of lines) ≡ 1) ⊎ ((commands_of lines ≡ []) × (left ≡ [])))
 
--- the limit leaves room for the workers
-abbrev pub HasRoom : Start → Type 0
-HasRoom start = HasLimits (record { workers = start.workers; edges = []; values = start.values; limit = start.limit })
+-- there was no memory for the last of these lines, an edge line
+abbrev pub IsUnkept : Start → List ℕ → List ℕ → Type 0
+IsUnkept start bytes left =
+    (lines : List Line) × ReadsScript start.workers bytes lines (Some fault.OutOfMemory) left × (lines ≢ []) × (commands_of lines ≡ [])
+
+-- the reply to the last of the lines that were read was cut off; no byte behind that line was read
+abbrev pub IsCutOff : Start → List ℕ → List ℕ → List ℕ → Option (List ℕ) → Type 0
+IsCutOff start bytes before left after =
+    (lines : List Line) × (front : List ℕ) × ReadsScript start.workers bytes lines (Some fault.WriteFailed) left × IsBehind lines bytes left
+    × CanOpen start × IsCut (scene_of start lines) (commands_of lines) front × (after ≡ Some (before ++ front))
 
 -- What stands in the sink after a run over these bytes, where `before` stood in it, and what is left of them: the text for
--- all of the script, or for the lines before its first fault. Where the sink failed, a front of the text for the lines that
--- were read; where the store wasn't opened, for want of memory, of a block for each worker, or for the limit, nothing more. No byte behind the end of the run is read.
+-- all of the script, or for the lines before its first fault. Where the sink failed, all of that text, or all but the end of
+-- the last reply; where the store wasn't opened, for want of memory, of a block for each worker, or for the limit, nothing
+-- more. No byte behind the end of the run is read.
 abbrev pub Ran : {T : Type 0} → Start → List ℕ → List ℕ → Result T ScriptFault → List ℕ → Option (List ℕ) → Type 0
-Ran start bytes before (Ok done) left after = HasRoom start × IsWritten start bytes before None left after
-Ran start bytes before (Err fault.WriteFailed) left after =
-    (text : List ℕ) × IsScriptOutput start bytes (Some fault.WriteFailed) left text × WroteSome (Some before) text after
-Ran start bytes before (Err fault.OutOfMemory) left after = IsUnopened start bytes fault.OutOfMemory left × (after ≡ Some before)
-Ran start bytes before (Err fault.HeapFull) left after = (start.blocks < start.workers) × IsUnopened start bytes fault.HeapFull left × (after ≡ Some before)
+Ran start bytes before (Ok done) left after = CanOpen start × IsWritten start bytes before None left after
+Ran start bytes before (Err fault.WriteFailed) left after = IsWritten start bytes before (Some fault.WriteFailed) left after ⊎ IsCutOff start bytes before left after
+Ran start bytes before (Err fault.OutOfMemory) left after =
+    (IsUnkept start bytes left ⊎ (HasRoom start × IsUnopened start bytes fault.OutOfMemory left)) × (after ≡ Some before)
+Ran start bytes before (Err fault.HeapFull) left after =
+    HasRoom start × (start.blocks < start.workers) × IsUnopened start bytes fault.HeapFull left × (after ≡ Some before)
 Ran start bytes before (Err fault.BadLimits) left after = (¬ HasRoom start) × IsUnopened start bytes fault.BadLimits left × (after ≡ Some before)
 Ran start bytes before (Err f) left after = IsWritten start bytes before (Some f) left after
 
@@ -48,11 +57,20 @@ IsTold s bytes t first end left text = (lines : List Line) × (wants : ℕ) × R
 abbrev pub StandsTold : Script → List ℕ → Scene → Line → List ℕ → Option ScriptFault → List ℕ → Option (List ℕ) → Type 0
 StandsTold s bytes t first before end left after = (text : List ℕ) × (after ≡ Some (before ++ text)) × IsTold s bytes t first end left text
 
+-- a reply of theirs was cut off, and this much of the text stands
+abbrev pub CutsTold : Script → List ℕ → Scene → Line → List ℕ → List ℕ → Type 0
+CutsTold s bytes t first left front =
+    (lines : List Line) × ReadsFrom s bytes lines (Some fault.WriteFailed) left × IsBehind lines bytes left × IsCut t (first ∷ lines) front
+
+-- such a part of a text stands behind what was written before
+abbrev pub StandsCut : Script → List ℕ → Scene → Line → List ℕ → List ℕ → Option (List ℕ) → Type 0
+StandsCut s bytes t first before left after = (front : List ℕ) × (after ≡ Some (before ++ front)) × CutsTold s bytes t first left front
+
 -- what stands in the sink after the lines from the first on that is no edge line, and what is left behind them
 abbrev pub TellsAll : {T : Type 0} → Script → List ℕ → Scene → Line → List ℕ → Result T ScriptFault → List ℕ → Option (List ℕ) → Type 0
 TellsAll s bytes t first before (Ok done) left after = StandsTold s bytes t first before None left after
 TellsAll s bytes t first before (Err fault.WriteFailed) left after =
-    (text : List ℕ) × IsTold s bytes t first (Some fault.WriteFailed) left text × WroteSome (Some before) text after
+    StandsTold s bytes t first before (Some fault.WriteFailed) left after ⊎ StandsCut s bytes t first before left after
 TellsAll s bytes t first before (Err f) left after = IsOfReading f × StandsTold s bytes t first before (Some f) left after
 
 -- the line was answered, and the answer was written or a front of it

@@ -1,12 +1,12 @@
 -- What is written for the lines of a script. Nothing here knows how lines are fetched or replies are put out.
-use Rattle.std.specs.Prelude.{◌≡◌, ◌≢◌, ◌⊎◌, ℕ, ◌+◌, ◌<◌, List, [], ◌∷◌, ◌++◌, Option, Some, None, nat_lt, if◌then◌else◌}
+use Rattle.std.specs.Prelude.{◌≡◌, ◌≢◌, ◌⊎◌, ℕ, ◌+◌, ◌<◌, ◌≤◌, List, [], ◌∷◌, ◌++◌, Option, Some, None, nat_lt, if◌then◌else◌}
 use Rattle.tg_rights.specs.RightSet.{RightSet}
 use Rattle.tg_model.specs.declared.value.Value.{Value}
 use Rattle.tg_model.specs.declared.edge.Edge.{Edge}
 use Rattle.tg_model.specs.declared.command.Deed.TheVariants as deed
 use Rattle.tg_model.specs.Graph.{ProtectionGraph, IsSubject, IsReachable}
 use Rattle.tg_model.specs.Rules.{IsAllowed, step, answer_of}
-use Rattle.tg_model.specs.Opened.{start_of}
+use Rattle.tg_model.specs.Opened.{HasLimits, start_of}
 use Rattle.tg_rules.specs.Effect.{AddsEdge}
 use Rattle.tg_store.specs.Store.{IsCountOf}
 use Rattle.tg_text.specs.declared.line.Line.{Line}
@@ -61,6 +61,10 @@ MayRefuse s line.Full refusal.Heap = Unit {0}
 MayRefuse s line.Minor refusal.Heap = Unit {0}
 MayRefuse s l r = ⊥
 
+-- the line is answered, or refused for want with the scene as it was
+abbrev pub Serves : Scene → Line → Answer → Scene → Type 0
+Serves s l a t = Answers s l a t ⊎ ((r : Refusal) × MayRefuse s l r × (a ≡ told.Refused r) × (t ≡ s))
+
 -- ---- the text for many lines
 
 -- The text for the lines, where nothing is wanting.
@@ -76,6 +80,12 @@ IsAdmissible s (l ∷ lines) wants text =
     ((a : Answer) × (t : Scene) × (rest : List ℕ) × Answers s l a t × (text ≡ answer_text a ++ rest) × IsAdmissible t lines wants rest)
     ⊎ ((r : Refusal) × (fewer : ℕ) × (rest : List ℕ) × MayRefuse s l r × (wants ≡ fewer + 1) × (text ≡ answer_text (told.Refused r) ++ rest)
     × IsAdmissible s lines fewer rest)
+
+-- What stands of the text for the lines where writing came to an error: the whole of each reply but the last, and a front of that.
+abbrev pub IsCut : Scene → List Line → List ℕ → Type 0
+IsCut s [] front = ⊥
+IsCut s (l ∷ []) front = (a : Answer) × (t : Scene) × (rest : List ℕ) × Serves s l a t × (answer_text a ≡ front ++ rest)
+IsCut s (l ∷ m ∷ lines) front = (a : Answer) × (t : Scene) × (rest : List ℕ) × Serves s l a t × (front ≡ answer_text a ++ rest) × IsCut t (m ∷ lines) rest
 
 -- ---- the whole of a script
 
@@ -113,8 +123,20 @@ scene_of start lines = record {
   stock = start.stock;
 }
 
+-- the limit leaves room for the workers
+abbrev pub HasRoom : Start → Type 0
+HasRoom start = HasLimits (record { workers = start.workers; edges = []; values = start.values; limit = start.limit })
+
+-- a store can be opened: there is room for the workers, and there may be a block for each
+abbrev pub CanOpen : Start → Type 0
+CanOpen start = HasRoom start × (start.workers ≤ start.blocks)
+
+-- where a line is no edge line the store was opened
+abbrev pub MayAnswer : Start → List Line → Type 0
+MayAnswer start lines = (commands_of lines ≡ []) ⊎ CanOpen start
+
 -- the text is what may be written for a script of these bytes, which is read up to this fault, or to its end, so that these
 -- bytes are left
 abbrev pub IsScriptOutput : Start → List ℕ → Option ScriptFault → List ℕ → List ℕ → Type 0
 IsScriptOutput start bytes end left text =
-    (lines : List Line) × (wants : ℕ) × ReadsScript start.workers bytes lines end left × IsAdmissible (scene_of start lines) (commands_of lines) wants text
+    (lines : List Line) × (wants : ℕ) × ReadsScript start.workers bytes lines end left × MayAnswer start lines × IsAdmissible (scene_of start lines) (commands_of lines) wants text

@@ -2,6 +2,7 @@
 ghost use Rattle.std.specs.Prelude.{◌≡◌, ◌+◌, ◌<◌, ◌≤◌, ℕ, List, length, Some, true, false, IfOk, IfSome};
 ghost use Rattle.std.specs.List.{All};
 ghost use Rattle.tg_model.specs.Opened.{Plan, JoinsWorkers};
+ghost use Rattle.tg_text.specs.Sinks.{Keeps};
 ghost use Rattle.tg_script.specs.Lines.{read_failures, write_failures};
 ghost use Rattle.tg_script.specs.Opening.{ReadsEdges, IsCommand, Opens};
 
@@ -11,7 +12,7 @@ use std::alloc::Global;
 use tg_model::{Edge, MAX_VERTICES, Opening};
 use tg_payload::{Draft, Payload};
 use tg_store::{Limits, OpenFault, Store};
-use tg_text::{Line, ScriptFault, Source};
+use tg_text::{Line, ScriptFault, Sink, Source};
 
 /// The edges in front of a script, and the line behind them.
 #[derive(Drop)]
@@ -21,22 +22,24 @@ pub(crate) struct Front {
 }
 
 /// Reads the edge lines in front of a script, and the line behind them where one comes.
-pub(crate) fn read_edges<S: Source>(
+pub(crate) fn read_edges<S: Source, K: Sink>(
     alloc: Global,
     script: &mut Script,
     source: &mut S,
+    sink: &mut K,
 ) -> Result<Front, ScriptFault>
     requires { script.old.opening ≡ true }
     ensures edges { IfOk result (λ front. All (JoinsWorkers script.old.workers) front.edges.items) }
     ensures first { IfOk result (λ front. IfSome front.first (λ line. IsCommand line × (script.new.opening ≡ false))) }
     ensures bytes { (bytes : List ℕ) → S.left source.old ≡ Some bytes → (rest : List ℕ) × (S.left source.new ≡ Some rest) × ReadsEdges script.old bytes result script.new rest }
     ensures failures { S.failures source.new ≡ S.failures source.old + read_failures result }
-    ensures unwritten { write_failures result ≡ 0 }
+    ensures taken { Keeps (K.taken sink.old) (K.taken sink.new) }
+    ensures write_failures { K.failures sink.new ≡ K.failures sink.old + write_failures result }
     ensures asked { S.asked source.new + script.new.lines.room ≤ S.asked source.old + script.old.lines.room + 1 }
     ensures asked_of_line { IfOk result (λ front. IfSome front.first (λ _. S.asked source.new + script.new.lines.room ≡ S.asked source.old + script.old.lines.room)) }
 {
     let mut edges = Vec::new(alloc);
-    while let Some(line) = script.next(source)? {
+    while let Some(line) = script.next(source, sink)? {
         let Line::Edge(edge) = line else {
             let first = Some(line);
             return Ok(Front { edges, first });

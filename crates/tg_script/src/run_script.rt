@@ -31,9 +31,9 @@ pub struct Settings {
 /// Runs the script, with one payload for each worker, by rising name, and a stock of payloads for the vertices that the
 /// script makes: a create line takes the first that is left, and where no vertex is made it stands in front again. The
 /// store opens at the first line that is no edge line, or at the end of the input; each reply is written before the
-/// next line is run. What is written is the text for the lines before the first fault, and after `WriteFailed` a
-/// front of it. The source is asked for at most 1,048,577 bytes. The sink is finished at the end, after a fault too,
-/// which then stands.
+/// next line is run, and what was written is finished before the source is asked for what it doesn't hold. What is written is
+/// the text for the lines before the first fault, and after `WriteFailed` all of it but a part of the last reply. The
+/// source is asked for at most 1,048,577 bytes. The sink is finished at the end, after a fault too, which then stands.
 pub fn run_script_one<P: Payload, S: Source, K: Sink>(
     alloc: Global,
     source: &mut S,
@@ -141,7 +141,7 @@ fn run_lines<P: Payload, S: Source, K: Sink>(
     ensures write_failed { K.failures sink.new ≡ K.failures sink.old + write_failures result }
 {
     let mut script = Script::new(settings.workers);
-    let front = read_edges(alloc, &mut script, source)?;
+    let front = read_edges(alloc, &mut script, source, sink)?;
     let Front { edges, first } = front;
     let store = open_store(
         alloc,
@@ -180,7 +180,7 @@ fn run_commands<P: Payload, S: Source, K: Sink>(
         let Ok(()) = run_line(run, sink, line) else {
             return Err(ScriptFault::WriteFailed);
         };
-        let came = script.next(source)?;
+        let came = script.next(source, sink)?;
         let Some(next) = came else {
             return Ok(());
         };

@@ -3,7 +3,7 @@ ghost use Rattle.std.specs.Prelude.{◌≡◌, ◌+◌, ◌<◌, ◌≤◌, ◌�
 ghost use Rattle.tg_text.specs.Grammar.{LineFits, line_text};
 ghost use Rattle.tg_text.specs.Reading.{MayStand, IsBadText, opening_after};
 
-use tg_text::{Fetched, Line, LineBuffer, Lines, ScriptFault, Source, read_line};
+use tg_text::{Fetched, Line, LineBuffer, Lines, ScriptFault, Sink, Source, read_line};
 
 /// A script, as far as it was read.
 #[derive(Drop)]
@@ -24,6 +24,7 @@ pub(crate) struct Script {
 impl Script {
     ghost use Rattle.std.specs.Prelude.{◌≡◌, ◌+◌, ◌<◌, ◌≤◌, ℕ, List, Some, Ok, true, IfOk, IfSome};
     ghost use Rattle.tg_text.specs.Reading.{MayStand, opening_after};
+    ghost use Rattle.tg_text.specs.Sinks.{Keeps};
     ghost use Rattle.tg_script.specs.Lines.{NextLine, TakesLine, Follows, read_failures, write_failures};
 
     /// No line was read.
@@ -42,24 +43,31 @@ impl Script {
         }
     }
 
-    /// The next line, or `None` at the end of the input, or else the first fault.
-    pub(crate) fn next<S: Source>(&mut self, source: &mut S) -> Result<Option<Line>, ScriptFault>
+    /// The next line, or `None` at the end of the input, or else the first fault. What was put into the sink is finished before
+    /// the source is asked for what it doesn't hold.
+    pub(crate) fn next<S: Source, K: Sink>(
+        &mut self,
+        source: &mut S,
+        sink: &mut K,
+    ) -> Result<Option<Line>, ScriptFault>
         ensures bytes { (bytes : List ℕ) → S.left source.old ≡ Some bytes → (rest : List ℕ) × (S.left source.new ≡ Some rest) × NextLine self.old bytes result self.new rest }
         ensures follows { IfOk result (λ next. IfSome next (λ line. Follows self.old line self.new)) }
         ensures shorter { IfOk result (λ next. IfSome next (λ _. self.new.lines.room < self.old.lines.room)) }
         ensures failures { S.failures source.new ≡ S.failures source.old + read_failures result }
-        ensures unwritten { write_failures result ≡ 0 }
+        ensures taken { Keeps (K.taken sink.old) (K.taken sink.new) }
+        ensures write_failures { K.failures sink.new ≡ K.failures sink.old + write_failures result }
         ensures asked { S.asked source.new + self.new.lines.room ≤ S.asked source.old + self.old.lines.room + 1 }
         ensures asked_of_line { IfOk result (λ next. IfSome next (λ line. S.asked source.new + self.new.lines.room ≡ S.asked source.old + self.old.lines.room)) }
     {
         let number = self.count + 1;
-        match self.lines.next_line(source, &mut self.buffer) {
+        match self.lines.next_line(source, sink, &mut self.buffer) {
             Fetched::Line => self.take_line(),
             Fetched::End => Ok(None),
             Fetched::Unfinished => Err(ScriptFault::BadLine { line: number }),
             Fetched::LineTooLong => Err(ScriptFault::LineTooLong { line: number }),
             Fetched::InputTooLong => Err(ScriptFault::InputTooLong),
             Fetched::Failed => Err(ScriptFault::ReadFailed),
+            Fetched::WriteFailed => Err(ScriptFault::WriteFailed),
         }
     }
 

@@ -25,6 +25,8 @@ Fetches room bytes fetched.InputTooLong line rest =
     (byte : ℕ) × (bytes ≡ line ++ byte ∷ rest) × (length line ≡ room) × IsOneLine line × (length line ≤ 256)
 -- the source failed behind these bytes
 Fetches room bytes fetched.Failed line rest = (bytes ≡ line ++ rest) × IsOneLine line × (length line ≤ 256) × (length line ≤ room)
+-- what was written couldn't be finished behind these bytes
+Fetches room bytes fetched.WriteFailed line rest = (bytes ≡ line ++ rest) × IsOneLine line × (length line ≤ 256) × (length line ≤ room)
 
 -- the same, where it is known which bytes were left
 abbrev pub FetchesKnown : ℕ → Option (List ℕ) → Fetched → List ℕ → Option (List ℕ) → Type 0
@@ -39,3 +41,9 @@ failures_of fetched.Unfinished = 0
 failures_of fetched.LineTooLong = 0
 failures_of fetched.InputTooLong = 0
 failures_of fetched.Failed = 1
+failures_of fetched.WriteFailed = 0
+
+-- how many failures of the sink an outcome is
+abbrev pub write_failures_of : Fetched → ℕ
+write_failures_of fetched.WriteFailed = 1
+write_failures_of outcome = 0

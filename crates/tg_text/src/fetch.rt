@@ -3,9 +3,12 @@
 //! The source is asked for one byte at a time, and never for a byte behind the first fault: that is why a fault is
 //! looked for at each byte, and not when a line is whole. Bytes of a line lie in one buffer, which serves all lines.
 ghost use Rattle.std.specs.Prelude.{◌≡◌, ◌+◌, ◌-◌, ◌<◌, ◌≤◌, length};
-ghost use Rattle.tg_text.specs.Fetching.{FetchesKnown, failures_of};
+ghost use Rattle.tg_text.specs.Fetching.{FetchesKnown, failures_of, write_failures_of};
+ghost use Rattle.tg_text.specs.Sinks.{Keeps};
 
 use crate::buffer::LineBuffer;
+use crate::exchange::next_byte;
+use crate::sink::Sink;
 use crate::source::{Fetched, Next, Source};
 
 /// The most bytes that a script may have, line feeds included.
@@ -30,20 +33,31 @@ impl Lines {
     }
 
     /// Reads the next line into the buffer, without its line feed, and says what came of it: a line, no more bytes, or
-    /// the first fault, looked for at each byte in this order: the source failed, more bytes came than may, the line
-    /// has more than [`MOST_LINE_BYTES`]; or the input ended within a line. The source is asked once for each byte of
-    /// the line and for what ended it, and not again. Takes no memory.
-    pub fn next_line<S: Source>(&mut self, source: &mut S, line: &mut LineBuffer) -> Fetched
+    /// the first fault, looked for at each byte in this order: what was written couldn't be finished, the source failed, more
+    /// bytes came than may, the line has more than [`MOST_LINE_BYTES`]; or the input ended within a line. The source is asked
+    /// once for each byte of the line and for what ended it, and not again. What was put into the sink is finished before the
+    /// source is asked for what it doesn't hold. Takes no memory.
+    pub fn next_line<S: Source, K: Sink>(
+        &mut self,
+        source: &mut S,
+        sink: &mut K,
+        line: &mut LineBuffer,
+    ) -> Fetched
         ensures bytes { FetchesKnown self.old.room (S.left source.old) result line.new (S.left source.new) }
         ensures room { result ≡ Fetched.Line → self.new.room + length line.new + 1 ≡ self.old.room }
         ensures shrinks { self.new.room ≤ self.old.room }
         ensures failures { S.failures source.new ≡ S.failures source.old + failures_of result }
+        ensures taken { Keeps (K.taken sink.old) (K.taken sink.new) }
+        ensures write_failures { K.failures sink.new ≡ K.failures sink.old + write_failures_of result }
         ensures asked { S.asked source.new + self.new.room ≤ S.asked source.old + self.old.room + 1 }
         ensures asked_of_line { result ≡ Fetched.Line → S.asked source.new + self.new.room ≡ S.asked source.old + self.old.room }
     {
         line.clear();
         for _ in 0..257u32 {
-            match source.next() {
+            let Ok(next) = next_byte(source, sink) else {
+                return Fetched::WriteFailed;
+            };
+            match next {
                 Next::Failed => return Fetched::Failed,
                 Next::End => {
                     return if line.len() == 0 {

@@ -17,6 +17,7 @@
 mod answer;
 mod buffer;
 mod count;
+mod exchange;
 mod fault;
 mod fetch;
 pub mod laws;
@@ -33,6 +34,7 @@ mod word;
 pub use answer::{Answer, Refusal};
 pub use buffer::LineBuffer;
 pub use count::Count;
+pub use exchange::next_byte;
 pub use fault::ScriptFault;
 pub use fetch::{Lines, MOST_BYTES, MOST_LINE_BYTES};
 pub use line::Line;

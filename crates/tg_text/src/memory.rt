@@ -1,5 +1,5 @@
 //! A source and a sink in memory.
-ghost use Rattle.std.specs.Prelude.{◌≡◌, Some, []};
+ghost use Rattle.std.specs.Prelude.{◌≡◌, Some, [], true};
 
 use crate::count::Count;
 use crate::sink::{Put, Sink};
@@ -7,7 +7,7 @@ use crate::source::{Next, Source};
 use std::alloc::Global;
 use std::sync::ledger::Ledger;
 
-/// Bytes in memory, as a source. It never fails.
+/// Bytes in memory, as a source. It never fails, and never waits.
 #[derive(Drop)]
 pub struct Bytes<'a, L: Ledger> {
     pub bytes: &'a [u8],
@@ -30,6 +30,12 @@ impl<'a, L: Ledger> Source for Bytes<'a, L> {
     ghost failures = { λ s. 0 };
 
     ghost asked = { λ s. s.asked };
+
+    ghost ready = { λ s. true };
+
+    fn is_ready(&self) -> bool {
+        true
+    }
 
     fn next(&mut self) -> Next {
         self.asked.tick();

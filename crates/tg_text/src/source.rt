@@ -1,5 +1,5 @@
 //! Where the bytes of a script come from.
-ghost use Rattle.std.specs.Prelude.{◌≡◌, ◌+◌, List, ℕ, Option};
+ghost use Rattle.std.specs.Prelude.{◌≡◌, ◌+◌, List, ℕ, Bool, Option};
 
 /// What a source answers when it is asked for the next byte.
 #[derive(Clone, Copy, PartialEq, Eq, Debug)]
@@ -26,10 +26,12 @@ pub enum Fetched {
     InputTooLong,
     /// The source failed.
     Failed,
+    /// What was written before couldn't be finished.
+    WriteFailed,
 }
 
-/// Bytes that come one by one. Contracts see the bytes that are left, where they are known, and two counts: how often
-/// the source was asked, and how often it failed. The counts have no greatest value.
+/// Bytes that come one by one. Contracts see the bytes that are left, where they are known, whether the next answer needs
+/// no waiting, and two counts: how often the source was asked, and how often it failed. The counts have no greatest value.
 pub trait Source {
     ghost use Rattle.tg_text.specs.Sources.{Tells, failures_of};
 
@@ -41,6 +43,13 @@ pub trait Source {
 
     /// How often it was asked.
     ghost asked: { Self → ℕ };
+
+    /// Whether the next answer needs no waiting.
+    ghost ready: { Self → Bool };
+
+    /// Whether the next answer needs no waiting: it is held already.
+    fn is_ready(&self) -> bool
+        ensures { result ≡ ready self.now };
 
     /// The next byte, the end, or that reading came to an error, which takes no byte.
     fn next(&mut self) -> Next

@@ -1,41 +1,80 @@
 //! std's readers and writers as a source and a sink.
+ghost use Rattle.std.specs.Prelude.{◌≡◌, nat_lt};
+ghost use Rattle.tg_text.specs.Sources.{Tells};
 
 use crate::count::Count;
 use crate::sink::{Put, Sink};
 use crate::source::{Next, Source};
-use std::io::{Read, Write};
+use std::io::{BufRead, Write};
 use std::sync::ledger::Ledger;
 
-/// A reader as a source. Each byte is asked for by one read, so wrap the reader in a buffer that reads in large chunks.
-/// An error fails, an interruption included.
+/// A reader as a source. An error fails, an interruption included.
 #[derive(Drop)]
-pub struct OfRead<R: Read + Drop, A: Ledger, F: Ledger> {
+pub struct OfRead<R: BufRead + Drop, A: Ledger, F: Ledger> {
     pub reader: R,
+    /// How many bytes the reader still held when it was last asked.
+    pub held: usize,
     /// How often a byte was asked for.
     pub asked: Count<A>,
     /// How often reading came to an error.
     pub failures: Count<F>,
 }
 
-impl<R: Read + Drop, A: Ledger, F: Ledger> Source for OfRead<R, A, F> {
+impl<R: BufRead + Drop, A: Ledger, F: Ledger> OfRead<R, A, F> {
+    ghost use Rattle.std.specs.Prelude.{◌≡◌};
+
+    /// The reader as it is; the counts say how often it was asked and how often it failed.
+    pub fn new(reader: R, asked: Count<A>, failures: Count<F>) -> OfRead<R, A, F>
+        ensures reader { result.reader ≡ reader }
+        ensures asked { result.asked ≡ asked }
+        ensures failures { result.failures ≡ failures }
+    {
+        OfRead {
+            reader,
+            held: 0,
+            asked,
+            failures,
+        }
+    }
+}
+
+impl<R: BufRead + Drop, A: Ledger, F: Ledger> Source for OfRead<R, A, F> {
     ghost left = { λ s. R.remaining s.reader };
 
     ghost failures = { λ s. s.failures };
 
     ghost asked = { λ s. s.asked };
 
+    ghost ready = { λ s. nat_lt 0 s.held };
+
+    fn is_ready(&self) -> bool {
+        self.held > 0
+    }
+
     fn next(&mut self) -> Next {
         self.asked.tick();
-        let mut byte = [0u8; 1];
-        let Ok(count) = self.reader.read(&mut byte) else {
+        let (next, held) = take_byte(&mut self.reader);
+        self.held = held;
+        if next == Next::Failed {
             self.failures.tick();
-            return Next::Failed;
-        };
-        if count == 0 {
-            return Next::End;
         }
-        Next::Byte(byte[0])
+        next
     }
+}
+
+// Takes the first byte that is left, and says how many more the reader holds.
+fn take_byte<R: BufRead>(reader: &mut R) -> (Next, usize)
+    ensures { Tells (R.remaining reader.old) result.0 (R.remaining reader.new) }
+{
+    let Ok(bytes) = reader.fill_buf() else {
+        return (Next::Failed, 0);
+    };
+    let [byte, rest @ ..] = bytes else {
+        return (Next::End, 0);
+    };
+    let (byte, held) = (*byte, rest.len());
+    reader.consume(1);
+    (Next::Byte(byte), held)
 }
 
 /// A writer as a sink. Each put is one write, so wrap the writer in a buffer where many small texts come; `finish`

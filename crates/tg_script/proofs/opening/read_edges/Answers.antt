@@ -1,7 +1,7 @@
-use Rattle.std.proofs.Common.{sym, arith, None, refl}
+use Rattle.std.proofs.Common.{sym, arith, None}
 use Rattle.std.proofs.lemmas.Result.{err_from_is_err_and}
 use Rattle.tg_script.specs.Opening.{edge_lines}
-use Rattle.tg_script.proofs.LinesLaws.{behind_more}
+use Rattle.tg_script.proofs.LinesLaws.{behind_more, keeps_then}
 use Rattle.tg_script.proofs.OpeningLaws.{behind_all, edges_more, edges_fault, edges_unkept, pushed, edge_taken, command_taken, joined}
 use Rattle.tg_script.proofs.opening.read_edges.Goals as goal
 
@@ -26,7 +26,8 @@ returns-in_default-line g c =
           let n = came i.0 i.1 in
           (n.0, n.1, behind_more c.args.script.now c.loop-edges.script c.next.new.self bytes i.0 n.0 (edge_lines c.loop-edges.edges.items) c.in-Some.line i.2 n.2);
       failures = omega (arith, c.in_ok-line.ensures.failures, c.loop-edges.invariant.failures);
-      unwritten = refl;
+      taken = keeps_then (g.K.Sink.taken c.args.sink.now) (g.K.Sink.taken c.loop-edges.sink) (g.K.Sink.taken c.next.new.sink) c.loop-edges.invariant.taken c.in_ok-line.ensures.taken;
+      write_failures = omega (arith, c.in_ok-line.ensures.write_failures, c.loop-edges.invariant.written);
       asked = omega (arith, asked, c.loop-edges.invariant.asked);
       asked_of_line = omega (arith, asked, c.loop-edges.invariant.asked);
     }
@@ -56,6 +57,8 @@ loop-edges-preserved g c =
           let passes = rw c.in-Edge.is at n.2 in
           (n.0, n.1, edges_more c.args.script.now c.loop-edges.script c.next.new.self bytes i.0 n.0 c.loop-edges.edges.items c.push.new.self.items c.in-Edge.edge more i.2 passes);
       failures = omega (arith, c.in_ok-line.ensures.failures, c.loop-edges.invariant.failures);
+      taken = keeps_then (g.K.Sink.taken c.args.sink.now) (g.K.Sink.taken c.loop-edges.sink) (g.K.Sink.taken c.next.new.sink) c.loop-edges.invariant.taken c.in_ok-line.ensures.taken;
+      written = omega (arith, c.in_ok-line.ensures.write_failures, c.loop-edges.invariant.written);
       asked = omega (arith, asked, c.loop-edges.invariant.asked);
     }
 
@@ -66,7 +69,7 @@ returns-clause-bytes g c = λ bytes known.
     let n = came i.0 i.1 in
     (n.0, n.1, behind_all c.args.script.now c.loop-edges.script bytes i.0 (edge_lines c.loop-edges.edges.items) None n.0 i.2 n.2)
 
-pub returns-in_err-line-clause-unwritten : goal.returns-in_err-line-clause-unwritten
-returns-in_err-line-clause-unwritten g c =
+pub returns-in_err-line-clause-write_failures : goal.returns-in_err-line-clause-write_failures
+returns-in_err-line-clause-write_failures g c =
     let p = err_from_is_err_and c.from_residual.result c.from_residual.ensures.1 in
-    rw (p.1, p.2) c.in_err-line.ensures.unwritten
+    rw (p.1, p.2) (omega (arith, c.in_err-line.ensures.write_failures, c.loop-edges.invariant.written))

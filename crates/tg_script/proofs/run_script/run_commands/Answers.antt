@@ -1,5 +1,7 @@
 use Rattle.std.proofs.Common.{refl, ◌+◌, arith, Some, None}
 use Rattle.std.proofs.lemmas.Result.{err_from_is_err_and}
+use Rattle.tg_text.specs.Texts.{answer_text}
+use Rattle.tg_script.proofs.LinesLaws.{wrote_keeps}
 use Rattle.tg_script.proofs.CommandLaws.{under_first, under_end, under_cut, under_next, tells_fault, next_command}
 use Rattle.tg_script.proofs.run_script.run_commands.Goals as goal
 
@@ -32,19 +34,20 @@ returns-in_err-came-clause-written g c = λ t rest before shows left taken.
     let p = err_from_is_err_and c.from_residual.result c.from_residual.ensures.1 in
     let u = c.lines.invariant.under t rest before shows left taken in
     let n = c.in_err-came.ensures.bytes u.rest u.leaves in
+    let wrote = wrote_keeps (k.taken c.lines.sink) (k.taken c.run_line.new.sink) (k.taken c.next.new.sink) (answer_text w.0) w.2.0 c.in_err-came.ensures.taken in
     rw (p.1, p.2) (
       n.0,
       n.1,
-      tells_fault (Unit {0}) c.in_err-came.field-0.0 c.args.script.now rest t c.args.first before n.0 (k.taken c.run_line.new.sink) n.2.0
-          (under_end c.args.script.now rest t c.args.first before c.lines.script c.lines.run c.lines.line (s.left c.lines.source) (k.taken c.lines.sink) w.0 c.run_line.new.run (k.taken c.run_line.new.sink)
-          (Some c.in_err-came.field-0.0) n.0 u w.1 w.2.0 n.2.1),
+      tells_fault (Unit {0}) c.in_err-came.field-0.0 c.args.script.now rest t c.args.first before n.0 (k.taken c.next.new.sink) n.2.0
+          (under_end c.args.script.now rest t c.args.first before c.lines.script c.lines.run c.lines.line (s.left c.lines.source) (k.taken c.lines.sink) w.0 c.run_line.new.run (k.taken c.next.new.sink)
+          (Some c.in_err-came.field-0.0) n.0 u w.1 wrote n.2.1),
     )
 
 pub returns-in_err-came-clause-write_failed : goal.returns-in_err-came-clause-write_failed
 returns-in_err-came-clause-write_failed g c =
     let w = c.in-Ok.ensures in
     let p = err_from_is_err_and c.from_residual.result c.from_residual.ensures.1 in
-    rw (p.1, p.2) (omega (arith, c.in_err-came.ensures.unwritten, w.2.1, c.lines.invariant.wrote))
+    rw (p.1, p.2) (omega (arith, c.in_err-came.ensures.write_failures, w.2.1, c.lines.invariant.wrote))
 
 pub returns-in_default-came-clause-written : goal.returns-in_default-came-clause-written
 returns-in_default-came-clause-written g c = λ t rest before shows left taken.
@@ -53,11 +56,12 @@ returns-in_default-came-clause-written g c = λ t rest before shows left taken.
     let w = c.in-Ok.ensures in
     let ends = rw c.in_default-came.is at c.in_ok-came.ensures.bytes in
     let u = c.lines.invariant.under t rest before shows left taken in
+    let wrote = wrote_keeps (k.taken c.lines.sink) (k.taken c.run_line.new.sink) (k.taken c.next.new.sink) (answer_text w.0) w.2.0 c.in_ok-came.ensures.taken in
     let n = ends u.rest u.leaves in (
       n.0,
       n.1,
-      under_end c.args.script.now rest t c.args.first before c.lines.script c.lines.run c.lines.line (s.left c.lines.source) (k.taken c.lines.sink) w.0 c.run_line.new.run (k.taken c.run_line.new.sink)
-          None n.0 u w.1 w.2.0 n.2,
+      under_end c.args.script.now rest t c.args.first before c.lines.script c.lines.run c.lines.line (s.left c.lines.source) (k.taken c.lines.sink) w.0 c.run_line.new.run (k.taken c.next.new.sink)
+          None n.0 u w.1 wrote n.2,
     )
 
 pub lines-preserved : goal.lines-preserved
@@ -68,14 +72,15 @@ lines-preserved g c =
     let came = rw c.in-Some.is at c.in_ok-came.ensures.bytes in
     let follows = rw c.in-Some.is at c.in_ok-came.ensures.follows in
     let asked = rw c.in-Some.is at c.in_ok-came.ensures.asked_of_line in
+    let wrote = wrote_keeps (k.taken c.lines.sink) (k.taken c.run_line.new.sink) (k.taken c.next.new.sink) (answer_text w.0) w.2.0 c.in_ok-came.ensures.taken in
     let n = next_command c.lines.script c.in-Some.next c.next.new.self c.lines.invariant.opening follows in
     record {
       command = n.0;
       opening = n.1;
       under = λ t rest before shows left taken.
-          under_next c.args.script.now rest t c.args.first before c.lines.script c.lines.run c.lines.line (s.left c.lines.source) (k.taken c.lines.sink) w.0 c.run_line.new.run (k.taken c.run_line.new.sink)
-          c.in-Some.next c.next.new.self (s.left c.next.new.source) (c.lines.invariant.under t rest before shows left taken) w.1 w.2.0 came;
+          under_next c.args.script.now rest t c.args.first before c.lines.script c.lines.run c.lines.line (s.left c.lines.source) (k.taken c.lines.sink) w.0 c.run_line.new.run (k.taken c.next.new.sink)
+          c.in-Some.next c.next.new.self (s.left c.next.new.source) (c.lines.invariant.under t rest before shows left taken) w.1 wrote came;
       read = omega (arith, c.in_ok-came.ensures.failures, c.lines.invariant.read);
-      wrote = omega (arith, w.2.1, c.lines.invariant.wrote);
+      wrote = omega (arith, c.in_ok-came.ensures.write_failures, w.2.1, c.lines.invariant.wrote);
       asked = omega (arith, asked, c.lines.invariant.asked);
     }

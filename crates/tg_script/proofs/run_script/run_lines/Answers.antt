@@ -2,6 +2,7 @@ use Rattle.std.proofs.Common.{refl}
 use Rattle.std.proofs.lemmas.Result.{err_from_is_err_and}
 use Rattle.tg_model.specs.Opened.{Plan}
 use Rattle.tg_script.specs.Script.{Start}
+use Rattle.tg_script.proofs.LinesLaws.{keeps_known}
 use Rattle.tg_script.proofs.RanLaws.{IsFresh, scene_with, first_command, ran_edges, ran_edges_fault, ran_store_fault, ran_commands}
 use Rattle.tg_script.proofs.run_script.run_lines.Goals as goal
 
@@ -11,8 +12,12 @@ returns-in_err-front-clause-output g c = λ bytes before left taken.
     let fresh : IsFresh c.new-script.result c.args.settings.workers = record { workers = c.new-script.ensures.workers; room = c.new-script.ensures.room; count = c.new-script.ensures.count; opening = c.new-script.ensures.opening } in
     let p = err_from_is_err_and c.from_residual.result c.from_residual.ensures.1 in
     let n = c.in_err-front.ensures.bytes bytes left in
-    rw (p.1, p.2)
-    (n.0, n.1, ran_edges_fault (Unit {0}) c.in_err-front.field-0.0 start c.new-script.result c.read_edges.new.script bytes before n.0 (g.K.Sink.taken c.args.sink.now) fresh n.2 taken)
+    rw (p.1, p.2) (
+      n.0,
+      n.1,
+      ran_edges_fault (Unit {0}) c.in_err-front.field-0.0 start c.new-script.result c.read_edges.new.script bytes before n.0 (g.K.Sink.taken c.read_edges.new.sink) fresh n.2
+          (keeps_known (g.K.Sink.taken c.args.sink.now) (g.K.Sink.taken c.read_edges.new.sink) before taken c.in_err-front.ensures.taken),
+    )
 
 pub returns-in_err-store-clause-output : goal.returns-in_err-store-clause-output
 returns-in_err-store-clause-output g c = λ bytes before left taken.
@@ -25,8 +30,9 @@ returns-in_err-store-clause-output g c = λ bytes before left taken.
     rw (p.1, p.2) (
       n.0,
       n.1,
-      ran_store_fault (Unit {0}) plan c.in_err-store.field-0.0 start c.new-script.result c.read_edges.new.script bytes before n.0 front.edges.items front.first (g.K.Sink.taken c.args.sink.now) refl refl
-          c.in_err-store.ensures fresh (first_command front.first c.read_edges.new.script c.in_ok-front.ensures.first) n.2 taken,
+      ran_store_fault (Unit {0}) plan c.in_err-store.field-0.0 start c.new-script.result c.read_edges.new.script bytes before n.0 front.edges.items front.first (g.K.Sink.taken c.read_edges.new.sink) refl refl
+          c.in_err-store.ensures fresh (first_command front.first c.read_edges.new.script c.in_ok-front.ensures.first) n.2
+          (keeps_known (g.K.Sink.taken c.args.sink.now) (g.K.Sink.taken c.read_edges.new.sink) before taken c.in_ok-front.ensures.taken),
     )
 
 pub returns-in_default-clause-output : goal.returns-in_default-clause-output
@@ -35,8 +41,12 @@ returns-in_default-clause-output g c = λ bytes before left taken.
     let fresh : IsFresh c.new-script.result c.args.settings.workers = record { workers = c.new-script.ensures.workers; room = c.new-script.ensures.room; count = c.new-script.ensures.count; opening = c.new-script.ensures.opening } in
     let read = c.in_ok-front.ensures.bytes bytes left in
     let reads = rw c.in_default.is at read in
-    let done : Unit {0} = tt in
-    (reads.0, reads.1, ran_edges done start c.new-script.result bytes before c.in_ok-front.front.edges.items reads.0 (g.K.Sink.taken c.args.sink.now) fresh c.in_ok-store.ensures.0 reads.2 taken)
+    let done : Unit {0} = tt in (
+      reads.0,
+      reads.1,
+      ran_edges done start c.new-script.result bytes before c.in_ok-front.front.edges.items reads.0 (g.K.Sink.taken c.read_edges.new.sink) fresh (c.in_ok-store.ensures.0, c.in_ok-store.ensures.1) reads.2
+          (keeps_known (g.K.Sink.taken c.args.sink.now) (g.K.Sink.taken c.read_edges.new.sink) before taken c.in_ok-front.ensures.taken),
+    )
 
 pub returns-clause-output : goal.returns-clause-output
 returns-clause-output g c = λ bytes before left taken.
@@ -46,9 +56,10 @@ returns-clause-output g c = λ bytes before left taken.
     let read = c.in_ok-front.ensures.bytes bytes left in
     let b = rw c.in-Some.is at read in
     let command = rw c.in-Some.is at c.in_ok-front.ensures.first in
-    let told = c.run_commands.ensures.written (scene_with start edges) b.0 before (c.in_ok-store.ensures.1, c.new-supply.ensures) b.1 taken in (
+    let kept = keeps_known (g.K.Sink.taken c.args.sink.now) (g.K.Sink.taken c.read_edges.new.sink) before taken c.in_ok-front.ensures.taken in
+    let told = c.run_commands.ensures.written (scene_with start edges) b.0 before (c.in_ok-store.ensures.2, c.new-supply.ensures) b.1 kept in (
       told.0,
       told.1,
       ran_commands c.run_commands.result start c.new-script.result c.read_edges.new.script bytes b.0 edges c.in-Some.first before told.0 (g.K.Sink.taken c.run_commands.new.sink)
-          fresh c.in_ok-store.ensures.0 command.0 b.2 told.2,
+          fresh (c.in_ok-store.ensures.0, c.in_ok-store.ensures.1) command.0 b.2 told.2,
     )

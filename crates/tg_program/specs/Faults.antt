@@ -1,0 +1,26 @@
+-- How faults are told, and the statuses of the program.
+use Rattle.std.specs.Prelude.{ℕ, Result, Ok, Err}
+use Rattle.tg_text.specs.declared.stock.StockFault.{StockFault}
+use Rattle.tg_text.specs.declared.stock.StockFault.TheVariants as stock
+use Rattle.tg_program.specs.declared.start.StartFault.{StartFault}
+use Rattle.tg_program.specs.declared.start.StartFault.TheVariants as start
+use Rattle.tg_program.specs.declared.stop.Stop.{Stop}
+use Rattle.tg_program.specs.declared.stop.Stop.TheVariants as stop
+
+abbrev pub start_fault_of : StockFault → StartFault
+start_fault_of stock.OutOfMemory = start.OutOfMemory
+start_fault_of stock.BadStock = start.BadStock
+
+-- 2 where the words are at fault, else 1
+abbrev pub status_of : Stop → ℕ
+status_of stop.BadWords = 2
+status_of stop.HelpUnwritten = 1
+status_of (stop.Start start.BadStock) = 2
+status_of (stop.Start start.BadLimits) = 2
+status_of (stop.Start start.OutOfMemory) = 1
+status_of (stop.Script fault) = 1
+
+-- the status that was answered, or that of what ended the program before
+abbrev pub exit_status : Result ℕ Stop → ℕ
+exit_status (Ok status) = status
+exit_status (Err why) = status_of why

@@ -1,0 +1,34 @@
+-- What a run reads and writes.
+use Rattle.std.specs.Prelude.{◌≡◌, ℕ, List, map, replicate, Option, Some, Result, Ok, Err}
+use Rattle.tg_text.specs.declared.stock.StockItem.TheVariants.{Cell}
+use Rattle.tg_script.specs.Script.{Start as ScriptStart}
+use Rattle.tg_script.specs.Running.{Ran}
+use Rattle.tg_program.specs.Boxes.{value_of}
+use Rattle.tg_program.specs.declared.start.Start.{Start}
+use Rattle.tg_program.specs.declared.start.StartFault.TheVariants.{OutOfMemory}
+use Rattle.tg_program.specs.declared.stop.Stop.{Stop}
+use Rattle.tg_program.specs.declared.stop.Stop.TheVariants as stop
+
+-- what the script is run with: these settings, a cell with 0 for each worker, and a new box of each kind of the stock
+abbrev pub script_start_of : Start → ScriptStart
+script_start_of start = record {
+  workers = start.settings.workers;
+  limit = start.settings.max_vertices;
+  blocks = start.settings.limits.max_blocks;
+  values = replicate start.settings.workers (value_of Cell);
+  stock = map value_of start.stock.items;
+}
+
+-- The script of these bytes was run, and this is left of them and stands in the writer; or there was no memory for drafts, and
+-- nothing was read or written.
+abbrev pub Served : {T : Type 0} → Start → List ℕ → List ℕ → Result T Stop → List ℕ → Option (List ℕ) → Type 0
+Served {T} start bytes before (Ok done) left after = Ran (script_start_of start) bytes before (Ok done) left after
+Served {T} start bytes before (Err (stop.Script fault)) left after = Ran {T = T} (script_start_of start) bytes before (Err fault) left after
+Served {T} start bytes before (Err (stop.Start OutOfMemory)) left after = (left ≡ bytes) × (after ≡ Some before)
+Served {T} start bytes before (Err why) left after = ⊥
+
+-- the run was begun: memory wasn't wanting before it
+abbrev pub HasRun : {T : Type 0} → Result T Stop → Type 0
+HasRun (Ok done) = Unit {0}
+HasRun (Err (stop.Script fault)) = Unit {0}
+HasRun (Err why) = ⊥

@@ -1,0 +1,43 @@
+-- What the words of the command line say. How they are taken apart is clap's matter: behind the program's name `--NAME` takes
+-- the next word, `--NAME=TEXT` takes the text, and no option comes twice.
+use Rattle.std.specs.Prelude.{◌≡◌, ℕ, List, [], Option, Some, codes, unwrap_or}
+use Rattle.std.specs.Option.{option_map_or}
+use Rattle.std.specs.Str.Parse.{digits_value, without_leading_plus}
+use Rattle.clap.specs.Words.{App, Rule, first_of, matches_of, new_app, new_rule, one_of, with_rule}
+use Rattle.clap.specs.declared.builder.action.ArgAction.TheVariants.{Set}
+use Rattle.clap.specs.declared.builder.value_parser.ValueParser.TheVariants.{Unsigned}
+use Rattle.tg_program.specs.declared.settings.Options.{Options}
+
+-- an option with one value
+abbrev pub option_rule : List ℕ → Rule
+option_rule name = record (new_rule name) { long = Some name; action = Some Set; value_names = 1 }
+
+-- an option whose value is a number
+abbrev pub number_rule : List ℕ → Rule
+number_rule name = record (option_rule name) { parser = Some (Unsigned 0 18446744073709551615) }
+
+-- the options that there are
+abbrev pub command_line : App
+command_line =
+    with_rule (with_rule (with_rule (with_rule (new_app (codes "tgstore")) (number_rule (codes "workers"))) (number_rule (codes "vertices"))) (number_rule (codes "blocks")))
+    (option_rule (codes "stock"))
+
+-- the number that a text writes, or this one where there is no text
+abbrev pub number_or : ℕ → Option (List ℕ) → ℕ
+number_or default text = option_map_or (λ digits. digits_value 10 (without_leading_plus digits)) text default
+
+-- the number that an option has in the words, or this one where they don't have it
+abbrev pub number_said : List ℕ → ℕ → List (List ℕ) → ℕ
+number_said name default words = number_or default (one_of name (matches_of command_line words))
+
+-- the text that an option has in the words, or the empty one
+abbrev pub text_said : List ℕ → List (List ℕ) → List ℕ
+text_said name words = unwrap_or (first_of name (matches_of command_line words)) []
+
+-- the options are those of the words; no space has more than 1,048,576 blocks
+pub record AreSaid (words : List (List ℕ)) (o : Options) : Type 0 where
+  pub workers : o.settings.workers ≡ number_said (codes "workers") 2 words
+  pub vertices : o.settings.max_vertices ≡ number_said (codes "vertices") 1000000 words
+  pub blocks : o.settings.limits.max_blocks ≡ number_said (codes "blocks") 4096 words
+  pub space_blocks : o.settings.limits.space_blocks ≡ 1048576
+  pub stock : o.stock.now ≡ text_said (codes "stock") words

@@ -1,0 +1,61 @@
+//! Why the program ends before the whole script was run.
+ghost use Rattle.std.specs.Prelude.{◌≡◌};
+ghost use Rattle.tg_program.specs.Faults.{status_of};
+
+use crate::start::StartFault;
+use std::alloc::{AllocError, AllocFailed};
+use tg_script::ScriptFault;
+use thiserror::Error;
+
+/// Why the program ended before the whole script was run: the line on standard error, after its name.
+#[derive(Clone, Copy, PartialEq, Eq, Debug, Error)]
+pub enum Stop {
+    /// A word of the command line is no text.
+    #[error("bad words")]
+    BadWords,
+    /// The help couldn't be written.
+    #[error("write failed")]
+    HelpUnwritten,
+    /// Nothing was read, since a run can't start.
+    #[error("{0}")]
+    Start(StartFault),
+    /// The run met this fault.
+    #[error("{0}")]
+    Script(ScriptFault),
+}
+
+impl From<AllocError> for Stop {
+    ghost use Rattle.std.specs.Prelude.{◌≡◌};
+    ghost use Rattle.tg_program.specs.declared.start.StartFault.TheVariants.{OutOfMemory};
+    ghost use Rattle.tg_program.specs.declared.stop.Stop.TheVariants.{Start};
+
+    ghost from_gives = { λ _ stop. stop ≡ Start OutOfMemory };
+
+    fn from(_error: AllocError) -> Stop {
+        Stop::Start(StartFault::OutOfMemory)
+    }
+}
+
+impl<T: Drop> From<AllocFailed<T>> for Stop {
+    ghost use Rattle.std.specs.Prelude.{◌≡◌};
+    ghost use Rattle.tg_program.specs.declared.start.StartFault.TheVariants.{OutOfMemory};
+    ghost use Rattle.tg_program.specs.declared.stop.Stop.TheVariants.{Start};
+
+    ghost from_gives = { λ _ stop. stop ≡ Start OutOfMemory };
+
+    fn from(_refused: AllocFailed<T>) -> Stop {
+        Stop::Start(StartFault::OutOfMemory)
+    }
+}
+
+impl Stop {
+    /// The exit status: 2 where the words of the command line are at fault, else 1.
+    pub fn status(self) -> u8
+        ensures { result ≡ status_of self }
+    {
+        match self {
+            Stop::BadWords | Stop::Start(StartFault::BadStock | StartFault::BadLimits) => 2,
+            Stop::HelpUnwritten | Stop::Start(StartFault::OutOfMemory) | Stop::Script(_) => 1,
+        }
+    }
+}

@@ -1,0 +1,147 @@
+//! The words of the command line.
+ghost use Rattle.std.specs.Prelude.{◌≡◌, ◌≤◌, IfOk, false, map, codes};
+ghost use Rattle.clap.specs.Words.{app_of, found_of, one_text, rule_of};
+ghost use Rattle.tg_program.specs.Ranges.{AreInRange};
+ghost use Rattle.tg_program.specs.Words.{AreSaid, command_line, number_or, number_rule, option_rule};
+
+use crate::help;
+use crate::settings::Options;
+use clap::error::ErrorKind;
+use clap::{Arg, ArgAction, ArgMatches, Command, Error};
+use std::alloc::Global;
+use std::convert::AsStr;
+use tg_model::{MAX_VERTICES, MAX_WORKERS};
+use tg_script::{Limits, Settings};
+
+const DEFAULT_WORKERS: u64 = 2;
+
+const DEFAULT_VERTICES: u64 = 1_000_000;
+
+const DEFAULT_BLOCKS: u64 = 4096;
+
+/// The most blocks that a heap may be given.
+const MOST_BLOCKS: u64 = 65_536;
+
+/// The most blocks of one space.
+const MOST_SPACE_BLOCKS: u64 = 1_048_576;
+
+/// Reads the words, the first of which is the program's name: the options that they say, and the defaults of those that
+/// they don't. `Ok` only where each number is in its range: workers from 1 to 64, vertices from 1 to 2^24,
+/// blocks from 1 to 65,536. An `Err` is the text for the user, of the help as of a fault, or want of memory.
+pub fn options<'a, S: AsStr>(alloc: Global, words: &'a [S]) -> Result<Options<'a>, Error>
+    ensures said { IfOk result (AreSaid (map S.text words.entry.now)) }
+    ensures in_range { IfOk result (λ o. AreInRange o.settings) }
+{
+    let mut command = command(alloc)?;
+    let matches = command.try_get_matches_from_mut(words)?;
+    let settings = Settings {
+        workers: number(
+            alloc,
+            &mut command,
+            &matches,
+            "workers",
+            DEFAULT_WORKERS,
+            MAX_WORKERS,
+        )?,
+        max_vertices: number(
+            alloc,
+            &mut command,
+            &matches,
+            "vertices",
+            DEFAULT_VERTICES,
+            MAX_VERTICES,
+        )?,
+        limits: limits_of(number(
+            alloc,
+            &mut command,
+            &matches,
+            "blocks",
+            DEFAULT_BLOCKS,
+            MOST_BLOCKS,
+        )?),
+    };
+    Ok(Options {
+        settings,
+        stock: matches.get_str("stock").unwrap_or(""),
+    })
+}
+
+// The limits of a heap that may have so many blocks.
+fn limits_of(blocks: u64) -> Limits
+    requires { (1 ≤ blocks) × (blocks ≤ 65536) }
+    ensures blocks { result.max_blocks ≡ blocks }
+    ensures space_blocks { result.space_blocks ≡ 1048576 }
+{
+    // Both numbers are in their ranges.
+    let Ok(limits) = Limits::new(blocks, MOST_SPACE_BLOCKS) else {
+        unreachable!()
+    };
+    limits
+}
+
+// The command line.
+fn command<'a>(alloc: Global) -> Result<Command<'a>, Error>
+    ensures { IfOk result (λ command. app_of command ≡ command_line) }
+{
+    let command = Command::new(alloc, "tgstore")
+        .bin_name("tgstore")?
+        .about(help::ABOUT)
+        .after_help(help::MANUAL)
+        .arg(number_arg(alloc, "workers", help::WORKERS))?
+        .arg(number_arg(alloc, "vertices", help::VERTICES))?
+        .arg(number_arg(alloc, "blocks", help::BLOCKS))?
+        .arg(stock_arg(alloc))?;
+    Ok(command)
+}
+
+// An option whose value is a number.
+fn number_arg<'a>(alloc: Global, name: &'a str, help: &'a str) -> Arg<'a>
+    ensures rule { rule_of result ≡ number_rule name.entry.now }
+    ensures local { result.global ≡ false }
+{
+    Arg::new(alloc, name)
+        .long(name)
+        .value_name("N")
+        .help(help)
+        .action(ArgAction::Set)
+        .value_parser(clap::value_parser!(u64))
+}
+
+// The option of the stock.
+fn stock_arg<'a>(alloc: Global) -> Arg<'a>
+    ensures rule { rule_of result ≡ option_rule (codes "stock") }
+    ensures local { result.global ≡ false }
+{
+    Arg::new(alloc, "stock")
+        .long("stock")
+        .value_name("TEXT")
+        .help(help::STOCK)
+        .action(ArgAction::Set)
+}
+
+// The number of an option, from 1 to `most`, or the default where the words don't have the option.
+fn number(
+    alloc: Global,
+    command: &mut Command,
+    matches: &ArgMatches,
+    name: &str,
+    default: u64,
+    most: u64,
+) -> Result<u64, Error>
+    requires least { 1 ≤ default }
+    requires most { default ≤ most }
+    ensures in_range { IfOk result (λ n. (1 ≤ n) × (n ≤ most)) }
+    ensures said { IfOk result (λ n. n ≡ number_or default (one_text (found_of matches.now) name.now)) }
+{
+    match matches.try_get_one::<u64>(name) {
+        Ok(None) => Ok(default),
+        Ok(Some(n)) if 1 <= n && n <= most => Ok(n),
+        _ => {
+            let text = matches.get_str(name).unwrap_or("");
+            let message = format!(in alloc;
+                "invalid value '{text}' for '--{name} <N>': {text} is not in 1..={most}"
+            )?;
+            Err(command.error(ErrorKind::ValueValidation, message.as_str())?)
+        }
+    }
+}
