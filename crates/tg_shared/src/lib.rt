@@ -32,6 +32,7 @@
 
 mod call;
 mod closing;
+pub mod laws;
 mod locked;
 mod receipt;
 mod round;
