@@ -1,0 +1,5 @@
+pub mod Matching
+pub mod Fresh
+pub mod Balances
+pub mod Sharing
+pub mod Replies

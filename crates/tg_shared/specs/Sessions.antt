@@ -1,0 +1,80 @@
+-- What contracts see of a session and of the value behind the lock, and what a call does to them.
+use Rattle.std.specs.Prelude.{◌≡◌, ◌≢◌, ℕ, ◌+◌, ◌≤◌, ◌==◌, List, [], ◌∷◌, ◌++◌, length, map}
+use Rattle.std.specs.List.{All, AllPairs, count_by, filter, sum_by}
+use Rattle.tg_model.specs.declared.command.Deed.{Deed}
+use Rattle.tg_model.specs.declared.reply.Reply.{Reply}
+use Rattle.tg_journal.specs.declared.entry.Entry.{Entry}
+use Rattle.tg_store.specs.Store.{StoreState, Enters, IsUnchanged, graph_of_store}
+use Rattle.tg_shared.specs.declared.receipt.Receipt.{Receipt}
+use Rattle.tg_shared.specs.Receipts.{ReceiptsMatch, receipt_of}
+
+-- A session: the name of its subject, its receipts in order, for how many more there is room, and the copy of a state
+-- that the next receipt may need.
+pub record SessionState : Type 0 where
+  pub worker : ℕ
+  pub receipts : List Receipt
+  pub spare : ℕ
+  pub copy : List ℕ
+
+-- What is behind the lock: the store, and how many sessions were made.
+pub record LockedState : Type 0 where
+  pub store : StoreState
+  pub sessions : ℕ
+
+-- ---- what a call does
+
+-- the same receipts
+abbrev pub KeepsReceipts : SessionState → SessionState → Type 0
+KeepsReceipts old new = (new.worker ≡ old.worker) × (new.receipts ≡ old.receipts)
+
+-- exactly one receipt more: at this place, with the session's worker, this deed and this reply
+abbrev pub AddsReceipt : SessionState → SessionState → ℕ → Deed → Reply → Type 0
+AddsReceipt old new at deed reply =
+    (new.worker ≡ old.worker)
+    × (new.receipts ≡ old.receipts ++ receipt_of at (record { worker = old.worker; deed = deed; reply = reply }) ∷ [])
+
+-- the same, at some place
+abbrev pub HasReceipt : SessionState → SessionState → Deed → Reply → Type 0
+HasReceipt old new deed reply = (at : ℕ) × AddsReceipt old new at deed reply
+
+-- exactly one entry more, and exactly one receipt of it, at the place of the entry
+pub record Records (old new : StoreState) (before after : SessionState) (deed : Deed) (reply : Reply) : Type 0 where
+  pub entry : Enters old new before.worker deed reply
+  pub receipt : AddsReceipt before after (length old.entries) deed reply
+
+-- the store is as it was but for room, and the receipts are the same
+abbrev pub RecordsNothing : StoreState → StoreState → SessionState → SessionState → Type 0
+RecordsNothing old new before after = IsUnchanged old new × KeepsReceipts before after
+
+-- one session for each of the subjects, with no receipt
+abbrev pub AreFresh : List ℕ → List SessionState → Type 0
+AreFresh subjects sessions = (map (λ s. s.worker) sessions ≡ subjects) × All (λ s. s.receipts ≡ []) sessions
+
+-- what holds of the value behind the lock: the book has counted the entries since the start, the parts of the ledger are
+-- the sessions' and the rest, and there are enough of them for a session of each vertex that may ever be made
+pub record IsBalanced (store : StoreState) (start sessions total rest parts : ℕ) : Type 0 where
+  pub counted : length store.entries ≡ start + total
+  pub cut : sessions + rest ≡ parts
+  pub enough : parts ≡ store.opening.limit + 1
+  pub made : sessions ≤ (graph_of_store store).made
+
+-- ---- what a close finds
+
+-- the session's receipts match the journal, and none is of an entry before the start
+unfoldable pub MatchesSince : List Entry → ℕ → SessionState → Type 0
+MatchesSince entries start s = ReceiptsMatch entries s.worker s.receipts × All (λ r. start ≤ r.at) s.receipts
+
+-- Sessions may close: the receipts of each match the journal since the start, and no two are of one worker.
+pub record MayClose (entries : List Entry) (start : ℕ) (sessions : List SessionState) : Type 0 where
+  pub matching : All (MatchesSince entries start) sessions
+  pub apart : AllPairs (λ s t. s.worker ≢ t.worker) sessions
+
+-- how many receipts the sessions have
+abbrev pub count_of : List SessionState → ℕ
+count_of sessions = sum_by (λ s. length s.receipts) sessions
+
+-- The entries are shared out: each is of exactly one of the sessions, and the receipts of each session are all its
+-- entries, in their order, each once.
+pub record AreSharedOut (entries : List Entry) (sessions : List SessionState) : Type 0 where
+  pub each_of_one : All (λ e. count_by (λ s. s.worker == e.worker) sessions ≡ 1) entries
+  pub own : All (λ s. map (λ r. r.entry) s.receipts ≡ filter (λ e. e.worker == s.worker) entries) sessions

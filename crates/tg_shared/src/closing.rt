@@ -1,0 +1,130 @@
+//! The end of a round.
+ghost use Rattle.std.specs.Prelude.{◌≡◌, ◌≢◌, ◌↔◌, ◌<◌, ◌≤◌, ◌+◌, IsTrue, IfOk, IfErr, IsErrAnd, OnOk, length, drop};
+ghost use Rattle.std.specs.List.{All, AllPairs};
+ghost use Rattle.tg_shared.specs.Sessions.{MatchesSince, MayClose};
+
+use crate::locked::Locked;
+use crate::receipt::{Receipt, receipts_match};
+use crate::round::Round;
+use crate::session::Session;
+use tg_journal::Journal;
+use tg_payload::Payload;
+use tg_store::Store;
+use thiserror::Error;
+
+/// Why a round does not end. Nothing is changed by it.
+#[derive(Clone, Copy, PartialEq, Eq, Debug, Error)]
+pub enum CloseFault {
+    /// There are fewer sessions than were made.
+    #[error("sessions are missing")]
+    SessionsMissing,
+    /// The receipts of a session don't match the journal, or one is of an entry that was made before the store was
+    /// shared, or two sessions are of one worker.
+    #[error("receipts don't match the journal")]
+    ReceiptMismatch,
+}
+
+/// A round did not end. What is behind the lock comes back with the sessions.
+#[derive(Drop)]
+pub struct LockedRefused<L: Round, P: Payload> {
+    pub locked: Locked<L, P>,
+    pub sessions: Vec<Session<L>>,
+    pub why: CloseFault,
+}
+
+impl<L: Round, P: Payload> Locked<L, P> {
+    ghost use Rattle.tg_shared.specs.Sessions.{AreSharedOut, MayClose, count_of};
+
+    /// Ends a round: hands out the store, where all sessions are given back and their receipts are right. Then the journal
+    /// has grown by as many entries as there are receipts, and they are shared out among the sessions.
+    ///
+    /// `SessionsMissing` is answered exactly where there are fewer sessions than were made, and looked for first;
+    /// `ReceiptMismatch` exactly where there are as many, and they may not close. What was handed in then comes back. Takes
+    /// no memory.
+    pub fn close(self, sessions: Vec<Session<L>>) -> Result<Store<P>, LockedRefused<L, P>>
+        ensures store { IfOk result (λ store. store ≡ self.store) }
+        ensures matching { OnOk result (MayClose self.store.entries L.start sessions.items) }
+        ensures all { OnOk result (length sessions.items ≡ self.sessions) }
+        ensures count { OnOk result (length self.store.entries ≡ L.start + count_of sessions.items) }
+        ensures shared_out { OnOk result (AreSharedOut (drop L.start self.store.entries) sessions.items) }
+        ensures missing { IsErrAnd result (λ refused. refused.why ≡ CloseFault.SessionsMissing) ↔ (length sessions.items < self.sessions) }
+        ensures mismatch { IsErrAnd result (λ refused. refused.why ≡ CloseFault.ReceiptMismatch) ↔
+            ((self.sessions ≤ length sessions.items) × (¬ MayClose self.store.entries L.start sessions.items)) }
+        ensures handed_back { IfErr result (λ refused. (refused.locked ≡ self) × (refused.sessions.items ≡ sessions.items)) }
+    {
+        if (sessions.len() as u64) < self.sessions {
+            return Err(LockedRefused {
+                locked: self,
+                sessions,
+                why: CloseFault::SessionsMissing,
+            });
+        }
+        if !may_close(self.store.journal(), self.start, sessions.as_slice()) {
+            return Err(LockedRefused {
+                locked: self,
+                sessions,
+                why: CloseFault::ReceiptMismatch,
+            });
+        }
+        let Locked {
+            store,
+            start: _,
+            sessions: _,
+            mut book,
+            rest: mut whole,
+        } = self;
+        for session in sessions {
+            session.give_up(&mut whole);
+        }
+        book.audit(&mut whole);
+        Ok(store)
+    }
+}
+
+// Whether the sessions may close.
+fn may_close<L: Round>(journal: &Journal, start: u64, sessions: &[Session<L>]) -> bool
+    ensures { IsTrue result ↔ MayClose journal.now.entries start sessions.now }
+{
+    all_match(journal, start, sessions) && are_apart(sessions)
+}
+
+fn all_match<L: Round>(journal: &Journal, start: u64, sessions: &[Session<L>]) -> bool
+    ensures { IsTrue result ↔ All (MatchesSince journal.now.entries start) sessions.now }
+{
+    sessions
+        .iter()
+        .all(|session| matches_since(journal, start, session))
+}
+
+// Whether the session's receipts match the journal, and none is of an entry before the start.
+#[tactic(auto, unfolding(crate::specs::Sessions::MatchesSince))]
+fn matches_since<L: Round>(journal: &Journal, start: u64, session: &Session<L>) -> bool
+    ensures { IsTrue result ↔ MatchesSince journal.now.entries start session.now }
+{
+    receipts_match(journal, session.worker(), session.receipts())
+        && are_since(start, session.receipts())
+}
+
+fn are_since(start: u64, receipts: &[Receipt]) -> bool
+    ensures { IsTrue result ↔ All (λ r. start ≤ r.at) receipts.now }
+{
+    receipts.iter().all(|receipt| start <= receipt.at)
+}
+
+// Whether no two sessions are of one worker.
+fn are_apart<L: Round>(sessions: &[Session<L>]) -> bool
+    ensures { IsTrue result ↔ AllPairs (λ s t. s.worker ≢ t.worker) sessions.now }
+{
+    for i in 0..sessions.len() {
+        if !none_of(sessions[i].worker(), &sessions[i + 1..]) {
+            return false;
+        }
+    }
+    true
+}
+
+fn none_of<L: Round>(worker: u64, sessions: &[Session<L>]) -> bool
+    ensures { IsTrue result ↔ All (λ s. worker ≢ s.worker) sessions.now }
+{
+    sessions.iter().all(|session| worker != session.worker())
+}

@@ -1,0 +1,48 @@
+//! The locked store: a store that many threads use, and a proof at the end that nothing was lost.
+//!
+//! [`SharedStore::new`] puts a store behind a lock and gives one [`Session`] for each subject. A session may go to a
+//! thread of its own. Each of its calls takes the lock, makes one call of the store, and lets go:
+//!
+//! ```text
+//!     session 0   [receipts] --call--+
+//!                                    |      +--lock--------------------------+
+//!     session 1   [receipts] --call--+----> | store: heap and journal        |
+//!                                    |      | book: how many entries since   |
+//!     session 2   [receipts] --call--+      +--------------------------------+
+//! ```
+//!
+//! A call that makes an entry of the journal leaves a [`Receipt`] with the session: the entry and its place. So a session
+//! has what it was answered, and [`close`] compares: it takes all sessions back, looks whether each receipt is the
+//! journal's entry at its place, and hands out the store.
+//!
+//! What a call does to the value behind the lock stands in the contracts of [`Locked`], the type that is locked: each of
+//! its calls is one call of the store and makes at most one receipt. A caller of a session can't name what was behind the
+//! lock then; it is told of its own receipts. Whenever the lock is free, the store keeps its promise
+//! ([`Locked::store`]), and the book that stands beside it has counted each entry since.
+//!
+//! **Why the count is known.** The book is that of a ledger ([`std::sync::ledger`]), whose parts are cut once: each
+//! session has one, and what is left lies behind the lock. With each entry the book and the share of the session grow by
+//! one. Where all parts are back together, their amount is the book's total: so at a successful close there are as many
+//! receipts as entries were made, and since each receipt matches, each entry stands in exactly one.
+//!
+//! **Why nothing is refused between an entry and its receipt.** A session makes room for the receipt, and copies the state
+//! of a vertex to be made, before it takes the lock ([`Session::make_room`]); the reply moves into the receipt. So under
+//! the lock memory is wanted by the store's call alone, which is refused before it makes an entry.
+#![tactic(auto)]
+
+mod call;
+mod closing;
+pub mod laws;
+mod locked;
+mod receipt;
+mod round;
+mod same;
+mod session;
+mod shared;
+
+pub use closing::{CloseFault, LockedRefused};
+pub use locked::Locked;
+pub use receipt::{Receipt, receipts_match};
+pub use round::Round;
+pub use session::Session;
+pub use shared::{CloseRefused, Shared, SharedRefused, SharedStore, close};

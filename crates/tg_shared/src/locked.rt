@@ -1,0 +1,222 @@
+//! The value behind the lock, and what each call does to it.
+ghost use Rattle.std.specs.Prelude.{◌≡◌, ◌≢◌, ◌↔◌, ◌<◌, ◌≤◌, ◌+◌, ℕ, [], Err, Some, IfOk, IfErr, IsErrAnd, OnOk, OnErr, length, map};
+ghost use Rattle.std.specs.List.{range_with_len};
+ghost use Rattle.tg_shared.specs.Sessions.{AreFresh};
+
+use crate::round::Round;
+use crate::session::Session;
+use std::alloc::{AllocError, Global};
+use std::marker::Model;
+use std::sync::ledger::{Blank, Book, Share};
+use tg_journal::Entry;
+use tg_model::{Command, Deed, Reply};
+use tg_payload::{Draft, Payload};
+use tg_rights::Label;
+use tg_store::{ApplyFault, CollectFault, CreateFault, CreateRefused, Kind, Store};
+
+/// What is behind the lock: the store, the book that counts its entries since it was shared, and the parts of the ledger
+/// that no session has. Each call is one call of the store, with its contract, and makes at most one receipt.
+///
+/// Contracts see a `LockedState`: the store, and how many sessions were made.
+#[derive(Drop)]
+pub struct Locked<L: Round, P: Payload> {
+    pub(crate) store: Store<P>,
+    pub(crate) start: u64,
+    pub(crate) sessions: u64,
+    pub(crate) book: Book<L>,
+    pub(crate) rest: Share<L>,
+}
+
+impl<L: Round, P: Payload> Model for Locked<L, P> {
+    ghost use Rattle.std.specs.Prelude.{◌≡◌};
+    ghost use Rattle.tg_shared.specs.Sessions.{LockedState, IsBalanced};
+
+    ghost Value = { LockedState };
+
+    ghost view = { λ a. record { store = a.store; sessions = a.sessions } };
+
+    ghost invariant = { λ a. IsBalanced a.store L.start a.sessions a.book.total a.rest.parts L.parts × (a.start ≡ L.start) × (a.rest.amount ≡ 0) };
+}
+
+impl<L: Round, P: Payload> Locked<L, P> {
+    ghost use Rattle.tg_model.specs.Graph.{ProtectionGraph, IsSubject, IsReachable};
+    ghost use Rattle.tg_model.specs.Rules.{IsAllowed, step, answer_of};
+    ghost use Rattle.tg_model.specs.declared.reply.Denial.{Denial};
+    ghost use Rattle.tg_space.specs.Collection.{MayLackRoom, used_cells};
+    ghost use Rattle.tg_space.specs.SpaceList.{space_of};
+    ghost use Rattle.tg_space.specs.SpaceTable.{kept_blocks};
+    ghost use Rattle.tg_graph.specs.Content.{IsNamed};
+    ghost use Rattle.tg_graph.specs.Heap.{IsOutOfCells, content_of};
+    ghost use Rattle.tg_graph.specs.Kept.{VerticesOfOldStay};
+    ghost use Rattle.tg_rules.specs.Effect.{AddsEdge};
+    ghost use Rattle.tg_store.specs.Store.{IsCountOf, IsFaithful, StandsFor};
+    ghost use Rattle.tg_shared.specs.Sessions.{AreFresh, Records, RecordsNothing};
+
+    /// The store. What holds whenever the lock is free is told here: the store's own promise, that its journal is a legal
+    /// history of its opening and its heap stands for the graph after it; and no entry from before it was shared is gone.
+    pub fn store(&self) -> &Store<P>
+        ensures same { result.now ≡ self.now.store }
+        ensures faithful { IsFaithful self.now.store }
+        ensures grown { L.start ≤ length self.now.store.entries }
+    {
+        let _ = self.store.journal();
+        &self.store
+    }
+
+    /// Shares a store: the value to be locked, and a session for each subject of the graph that the store stands for. The
+    /// blank is spent, and has to have one part more than vertices may be made. Answers only want of memory otherwise, and
+    /// hands the store back.
+    pub fn open(
+        alloc: Global,
+        blank: Blank,
+        store: Store<P>,
+    ) -> Result<(Locked<L, P>, Vec<Session<L>>), Store<P>>
+        requires name { blank.name ≡ L.name }
+        requires parts { (blank.parts ≡ L.parts) × (blank.parts ≡ store.opening.limit + 1) }
+        requires start { length store.entries ≡ L.start }
+        ensures store { IfOk result (λ opened. opened.0.store ≡ store) }
+        ensures sessions { (g : ProtectionGraph) → StandsFor store g → IfOk result (λ opened. AreFresh g.subjects opened.1.items) }
+        ensures number { IfOk result (λ opened. opened.0.sessions ≡ length opened.1.items) }
+        ensures handed_back { IfErr result (λ refused. refused ≡ store) }
+    {
+        let (book, mut rest) = blank.open::<L>();
+        let workers = store.opening().workers();
+        let start = store.journal().len();
+        let Ok(sessions) = sessions_of(alloc, &mut rest, workers) else {
+            return Err(store);
+        };
+        let locked = Locked {
+            store,
+            start,
+            sessions: workers,
+            book,
+            rest,
+        };
+        Ok((locked, sessions))
+    }
+
+    /// Takes a command of the session's subject, by one call of the store. A call that makes an entry adds a receipt with
+    /// the reply, which is that of the rules on the graph that the store stands for; a call that is refused leaves the
+    /// store and the receipts as they were. There has to be room for the receipt.
+    pub fn apply(&mut self, session: &mut Session<L>, command: Command) -> Result<(), ApplyFault>
+        requires room { 0 < session.old.spare }
+        ensures entry { (g : ProtectionGraph) → StandsFor self.old.store g → OnOk result (Records self.old.store self.new.store session.old session.new (Deed.Plain command) (answer_of g session.old.worker (Deed.Plain command))) }
+        ensures step { (g : ProtectionGraph) → StandsFor self.old.store g → OnOk result (StandsFor self.new.store (step g session.old.worker (Deed.Plain command))) }
+        ensures denied { (g : ProtectionGraph) (denial : Denial) → StandsFor self.old.store g → answer_of g session.old.worker (Deed.Plain command) ≡ Reply.Denied denial → OnOk result (self.new.store.heap ≡ self.old.store.heap) }
+        ensures no_such_worker { (g : ProtectionGraph) → StandsFor self.old.store g → (result ≡ Err ApplyFault.NoSuchWorker) ↔ (¬ IsSubject g session.old.worker) }
+        ensures full { (g : ProtectionGraph) → StandsFor self.old.store g → result ≡ Err ApplyFault.HeapFull →
+            IsAllowed g session.old.worker (Deed.Plain command) × AddsEdge command × IsOutOfCells self.old.store.heap.table (session.old.worker + 2) 1 }
+        ensures refused { OnErr result (RecordsNothing self.old.store self.new.store session.old session.new) }
+        ensures opening { self.new.store.opening ≡ self.old.store.opening }
+        ensures limits { self.new.store.heap.table.limits ≡ self.old.store.heap.table.limits }
+        ensures sessions { self.new.sessions ≡ self.old.sessions }
+    {
+        let at = self.store.journal().len();
+        let worker = session.worker();
+        let deed = deed_of(&command);
+        let reply = self.store.apply(worker, command)?;
+        let entry = Entry {
+            worker,
+            deed,
+            reply,
+        };
+        session.note(&mut self.book, at, entry);
+        Ok(())
+    }
+
+    /// Makes a vertex of the session's subject, by one call of the store. A call that makes an entry adds a receipt; so
+    /// does `VerticesFull`. Any other refusal leaves the store and the receipts as they were. There has to be room for the
+    /// receipt, and the session has to have a copy of the draft's state.
+    pub fn create(
+        &mut self,
+        session: &mut Session<L>,
+        label: Label,
+        draft: Draft<P>,
+    ) -> Result<u64, CreateRefused<P>>
+        requires room { 0 < session.old.spare }
+        requires copy { session.old.copy ≡ draft.state }
+        ensures entry { IfOk result (λ name. Records self.old.store self.new.store session.old session.new (Deed.Create label draft.law draft.state) (Reply.Name name)) }
+        ensures name { (g : ProtectionGraph) → StandsFor self.old.store g → IfOk result (λ name. answer_of g session.old.worker (Deed.Create label draft.law draft.state) ≡ Reply.Name name) }
+        ensures step { (g : ProtectionGraph) → StandsFor self.old.store g → OnOk result (StandsFor self.new.store (step g session.old.worker (Deed.Create label draft.law draft.state))) }
+        ensures stored { IfOk result (λ name. IsNamed (content_of self.new.store.heap) name × ((content_of self.new.store.heap).value name ≡ Some draft)) }
+        ensures no_such_worker { (g : ProtectionGraph) → StandsFor self.old.store g → IsErrAnd result (λ refused. refused.why ≡ CreateFault.NoSuchWorker) ↔ (¬ IsSubject g session.old.worker) }
+        ensures no_more { (g : ProtectionGraph) → StandsFor self.old.store g → IfErr result (λ refused. refused.why ≡ CreateFault.VerticesFull → IsSubject g session.old.worker × (g.limit ≤ g.made)) }
+        ensures no_more_entry { IfErr result (λ refused. refused.why ≡ CreateFault.VerticesFull →
+            Records self.old.store self.new.store session.old session.new (Deed.Create label draft.law draft.state) Reply.VerticesFull × (self.new.store.heap ≡ self.old.store.heap)) }
+        ensures full { (g : ProtectionGraph) → StandsFor self.old.store g → IfErr result (λ refused. refused.why ≡ CreateFault.HeapFull →
+            IsAllowed g session.old.worker (Deed.Create label draft.law draft.state) × IsOutOfCells self.old.store.heap.table (session.old.worker + 2) 2) }
+        ensures refused { IfErr result (λ refused. refused.why ≢ CreateFault.VerticesFull → RecordsNothing self.old.store self.new.store session.old session.new) }
+        ensures same_graph { (g : ProtectionGraph) → StandsFor self.old.store g → OnErr result (StandsFor self.new.store g) }
+        ensures handed_back { IfErr result (λ refused. refused.draft ≡ draft) }
+        ensures opening { self.new.store.opening ≡ self.old.store.opening }
+        ensures limits { self.new.store.heap.table.limits ≡ self.old.store.heap.table.limits }
+        ensures sessions { self.new.sessions ≡ self.old.sessions }
+    {
+        let at = self.store.journal().len();
+        let worker = session.worker();
+        let law = draft.value().law;
+        let state = session.take_copy();
+        let created = self.store.create(worker, label, draft);
+        let reply = match &created {
+            Ok(name) => Reply::Name(*name),
+            Err(
+                CreateRefused {
+                    why: CreateFault::VerticesFull,
+                    ..
+                },
+            ) => Reply::VerticesFull,
+            Err(_) => return created,
+        };
+        let deed = Deed::Create { label, law, state };
+        let entry = Entry {
+            worker,
+            deed,
+            reply,
+        };
+        session.note(&mut self.book, at, entry);
+        created
+    }
+
+    /// Collects the heap, by one call of the store. The journal stays as it is, and no session is touched.
+    pub fn collect(&mut self, kind: Kind) -> Result<u64, CollectFault>
+        ensures number { IfOk result (λ number. number ≡ length (content_of self.new.store.heap).names) }
+        ensures names { (g : ProtectionGraph) → StandsFor self.old.store g → OnOk result (kind ≡ Kind.Full → (x : ℕ) → IsNamed (content_of self.new.store.heap) x ↔ IsReachable g x) }
+        ensures reachable { (g : ProtectionGraph) → StandsFor self.old.store g → IfOk result (λ number. kind ≡ Kind.Full → IsCountOf (IsReachable g) number) }
+        ensures only_old { OnOk result (kind ≡ Kind.Full → (space : ℕ) → space ≢ 0 → space_of self.new.store.heap.table.spaces space ≡ []) }
+        ensures no_nursery { OnOk result ((space : ℕ) → 2 ≤ space → space_of self.new.store.heap.table.spaces space ≡ []) }
+        ensures stay { OnOk result (kind ≡ Kind.Nursery → VerticesOfOldStay self.old.store.heap.table.spaces self.new.store.heap.table.spaces) }
+        ensures entries { self.new.store.entries ≡ self.old.store.entries }
+        ensures full { result ≡ Err CollectFault.HeapFull →
+            MayLackRoom self.old.store.heap.table.limits.space_blocks 1 (kept_blocks kind self.old.store.heap.table.spaces) (used_cells kind self.old.store.heap.table.spaces) }
+        ensures refused { OnErr result (self.new ≡ self.old) }
+        ensures opening { self.new.store.opening ≡ self.old.store.opening }
+        ensures limits { self.new.store.heap.table.limits ≡ self.old.store.heap.table.limits }
+        ensures sessions { self.new.sessions ≡ self.old.sessions }
+    {
+        self.store.collect(kind)
+    }
+}
+
+fn deed_of(command: &Command) -> Deed
+    ensures { result ≡ Deed.Plain command.now }
+{
+    Deed::Plain(*command)
+}
+
+// A session for each worker, each with one part of the share.
+fn sessions_of<L: Round>(
+    alloc: Global,
+    rest: &mut Share<L>,
+    workers: u64,
+) -> Result<Vec<Session<L>>, AllocError>
+    requires { (workers < rest.old.parts) × (rest.old.amount ≡ 0) }
+    ensures fresh { IfOk result (λ sessions. AreFresh (range_with_len 0 workers) sessions.items) }
+    ensures rest { OnOk result ((rest.new.parts + workers ≡ rest.old.parts) × (rest.new.amount ≡ 0)) }
+{
+    let mut sessions = Vec::new(alloc);
+    for worker in 0..workers {
+        let share = rest.split_off(1, 0);
+        sessions.push(Session::new(alloc, worker, share))?;
+    }
+    Ok(sessions)
+}

@@ -1,0 +1,84 @@
+//! Whether two entries are the same.
+ghost use Rattle.std.specs.Prelude.{◌≡◌, ◌↔◌, IsTrue};
+
+use tg_journal::Entry;
+use tg_model::{Command, Deed};
+
+// Whether two entries have one worker, one deed and one reply.
+pub(crate) fn same_entry(entry: &Entry, other: &Entry) -> bool
+    ensures { IsTrue result ↔ (entry.now ≡ other.now) }
+{
+    entry.worker == other.worker
+        && same_deed(&entry.deed, &other.deed)
+        && entry.reply.same(&other.reply)
+}
+
+fn same_deed(deed: &Deed, other: &Deed) -> bool
+    ensures { IsTrue result ↔ (deed.now ≡ other.now) }
+{
+    match (deed, other) {
+        (Deed::Plain(command), Deed::Plain(other)) => same_command(command, other),
+        (
+            Deed::Create { label, law, state },
+            Deed::Create {
+                label: other_label,
+                law: other_law,
+                state: other_state,
+            },
+        ) => *label == *other_label && *law == *other_law && state.same(other_state),
+        _ => false,
+    }
+}
+
+fn same_command(command: &Command, other: &Command) -> bool
+    ensures { IsTrue result ↔ (command.now ≡ other.now) }
+{
+    match (command, other) {
+        (
+            Command::Take {
+                via,
+                target,
+                rights,
+            },
+            Command::Take {
+                via: other_via,
+                target: other_target,
+                rights: other_rights,
+            },
+        )
+        | (
+            Command::Grant {
+                via,
+                target,
+                rights,
+            },
+            Command::Grant {
+                via: other_via,
+                target: other_target,
+                rights: other_rights,
+            },
+        ) => *via == *other_via && *target == *other_target && *rights == *other_rights,
+        (
+            Command::Remove { target, rights },
+            Command::Remove {
+                target: other_target,
+                rights: other_rights,
+            },
+        ) => *target == *other_target && *rights == *other_rights,
+        (
+            Command::Read { target },
+            Command::Read {
+                target: other_target,
+            },
+        ) => *target == *other_target,
+        (
+            Command::Write { target, value },
+            Command::Write {
+                target: other_target,
+                value: other_value,
+            },
+        ) => *target == *other_target && *value == *other_value,
+        (Command::List, Command::List) => true,
+        _ => false,
+    }
+}

@@ -1,0 +1,110 @@
+//! The store behind its lock, from sharing it to closing it.
+ghost use Rattle.std.specs.Prelude.{◌≡◌, ◌+◌, IfOk, IfErr, drop, length};
+ghost use Rattle.tg_store.specs.Store.{IsFaithful};
+ghost use Rattle.tg_shared.specs.Sessions.{AreFresh, AreSharedOut, MayClose, count_of};
+
+use crate::closing::{CloseFault, LockedRefused};
+use crate::locked::Locked;
+use crate::round::Round;
+use crate::session::Session;
+use std::alloc::Global;
+use std::sync::Mutex;
+use std::sync::ledger::Blank;
+use tg_payload::Payload;
+use tg_store::Store;
+
+/// A store behind a lock, which many threads use through their sessions.
+#[derive(Drop)]
+pub struct SharedStore<L: Round, P: Payload> {
+    pub(crate) locked: Mutex<Locked<L, P>>,
+}
+
+/// A shared store with its sessions, one for each subject, by rising name.
+#[derive(Drop)]
+pub struct Shared<L: Round, P: Payload> {
+    pub store: SharedStore<L, P>,
+    pub sessions: Vec<Session<L>>,
+}
+
+/// There was no memory for the sessions. The store comes back as it was; the blank is spent.
+#[derive(Drop)]
+pub struct SharedRefused<P: Payload> {
+    pub store: Store<P>,
+}
+
+/// A round did not end. What was handed in comes back.
+#[derive(Drop)]
+pub struct CloseRefused<L: Round, P: Payload> {
+    pub store: SharedStore<L, P>,
+    pub sessions: Vec<Session<L>>,
+    pub why: CloseFault,
+}
+
+impl<L: Round, P: Payload> SharedStore<L, P> {
+    ghost use Rattle.tg_model.specs.Graph.{ProtectionGraph};
+    ghost use Rattle.tg_store.specs.Store.{StandsFor};
+
+    /// Shares a store: puts it behind a lock, and makes a session for each subject of the graph that it stands for. The
+    /// blank is spent, and has to have one part more than vertices may be made. Answers only want of memory otherwise.
+    pub fn new(
+        alloc: Global,
+        blank: Blank,
+        store: Store<P>,
+    ) -> Result<Shared<L, P>, SharedRefused<P>>
+        requires name { blank.name ≡ L.name }
+        requires parts { (blank.parts ≡ L.parts) × (blank.parts ≡ store.opening.limit + 1) }
+        requires start { length store.entries ≡ L.start }
+        ensures sessions { (g : ProtectionGraph) → StandsFor store g → IfOk result (λ shared. AreFresh g.subjects shared.sessions.items) }
+        ensures handed_back { IfErr result (λ refused. refused.store ≡ store) }
+    {
+        match Locked::open(alloc, blank, store) {
+            Ok((locked, sessions)) => Ok(Shared {
+                store: SharedStore {
+                    locked: Mutex::new(locked),
+                },
+                sessions,
+            }),
+            Err(store) => Err(SharedRefused { store }),
+        }
+    }
+}
+
+/// Ends a round: hands out the store, where all sessions are given back and their receipts are right. The store's journal
+/// has then grown by as many entries as there are receipts: each entry since the store was shared stands in exactly one of
+/// them, and the receipts of each session are all its entries, in their order.
+///
+/// `SessionsMissing` is answered where there are fewer sessions than were made, and looked for first; `ReceiptMismatch`
+/// only where the sessions may not close. Store and sessions then come back. Takes no memory, and no lock is waited for.
+pub fn close<L: Round, P: Payload>(
+    store: SharedStore<L, P>,
+    sessions: Vec<Session<L>>,
+) -> Result<Store<P>, CloseRefused<L, P>>
+    ensures matching { IfOk result (λ store. MayClose store.entries L.start sessions.items) }
+    ensures count { IfOk result (λ store. length store.entries ≡ L.start + count_of sessions.items) }
+    ensures shared_out { IfOk result (λ store. AreSharedOut (drop L.start store.entries) sessions.items) }
+    ensures faithful { IfOk result IsFaithful }
+    ensures handed_back { IfErr result (λ refused. refused.sessions.items ≡ sessions.items) }
+{
+    let SharedStore { locked } = store;
+    match locked.into_inner().close(sessions) {
+        Ok(store) => {
+            let _ = store.journal();
+            Ok(store)
+        }
+        Err(refused) => {
+            let LockedRefused {
+                locked,
+                sessions,
+                why,
+            } = refused;
+            let store = SharedStore {
+                locked: Mutex::new(locked),
+            };
+            Err(CloseRefused {
+                store,
+                sessions,
+                why,
+            })
+        }
+    }
+}
