@@ -46,9 +46,10 @@ impl<L: Round, P: Payload> Locked<L, P> {
     ghost use Rattle.tg_space.specs.SpaceList.{space_of};
     ghost use Rattle.tg_space.specs.SpaceTable.{kept_blocks};
     ghost use Rattle.tg_graph.specs.Content.{IsNamed};
-    ghost use Rattle.tg_graph.specs.Heap.{IsOutOfCells, content_of};
+    ghost use Rattle.tg_graph.specs.Heap.{content_of};
+    ghost use Rattle.tg_graph.specs.Spots.{IsMadeInRow, LacksCellsFor};
     ghost use Rattle.tg_graph.specs.Kept.{VerticesOfOldStay};
-    ghost use Rattle.tg_rules.specs.Effect.{AddsEdge};
+    ghost use Rattle.tg_rules.specs.Effect.{AddsEdge, LacksCellsToServe};
     ghost use Rattle.tg_store.specs.Store.{IsCountOf, IsFaithful, StandsFor};
     ghost use Rattle.tg_shared.specs.Sessions.{AreFresh, Records, RecordsNothing};
 
@@ -105,7 +106,7 @@ impl<L: Round, P: Payload> Locked<L, P> {
         ensures denied { (g : ProtectionGraph) (denial : Denial) → StandsFor self.old.store g → answer_of g session.old.worker (Deed.Plain command) ≡ Reply.Denied denial → OnOk result (self.new.store.heap ≡ self.old.store.heap) }
         ensures no_such_worker { (g : ProtectionGraph) → StandsFor self.old.store g → (result ≡ Err ApplyFault.NoSuchWorker) ↔ (¬ IsSubject g session.old.worker) }
         ensures full { (g : ProtectionGraph) → StandsFor self.old.store g → result ≡ Err ApplyFault.HeapFull →
-            IsAllowed g session.old.worker (Deed.Plain command) × AddsEdge command × IsOutOfCells self.old.store.heap.table (session.old.worker + 2) 1 }
+            IsAllowed g session.old.worker (Deed.Plain command) × AddsEdge command × LacksCellsToServe self.old.store.heap.table session.old.worker command }
         ensures refused { OnErr result (RecordsNothing self.old.store self.new.store session.old session.new) }
         ensures opening { self.new.store.opening ≡ self.old.store.opening }
         ensures limits { self.new.store.heap.table.limits ≡ self.old.store.heap.table.limits }
@@ -139,12 +140,14 @@ impl<L: Round, P: Payload> Locked<L, P> {
         ensures name { (g : ProtectionGraph) → StandsFor self.old.store g → IfOk result (λ name. answer_of g session.old.worker (Deed.Create label draft.law draft.state) ≡ Reply.Name name) }
         ensures step { (g : ProtectionGraph) → StandsFor self.old.store g → OnOk result (StandsFor self.new.store (step g session.old.worker (Deed.Create label draft.law draft.state))) }
         ensures stored { IfOk result (λ name. IsNamed (content_of self.new.store.heap) name × ((content_of self.new.store.heap).value name ≡ Some draft)) }
+        ensures placed { IfOk result (λ name. IsMadeInRow self.old.store.heap.table self.new.store.heap.table self.old.store.heap.remembered self.new.store.heap.remembered
+            (session.old.worker + 2) session.old.worker name label) }
         ensures no_such_worker { (g : ProtectionGraph) → StandsFor self.old.store g → IsErrAnd result (λ refused. refused.why ≡ CreateFault.NoSuchWorker) ↔ (¬ IsSubject g session.old.worker) }
         ensures no_more { (g : ProtectionGraph) → StandsFor self.old.store g → IfErr result (λ refused. refused.why ≡ CreateFault.VerticesFull → IsSubject g session.old.worker × (g.limit ≤ g.made)) }
         ensures no_more_entry { IfErr result (λ refused. refused.why ≡ CreateFault.VerticesFull →
             Records self.old.store self.new.store session.old session.new (Deed.Create label draft.law draft.state) Reply.VerticesFull × (self.new.store.heap ≡ self.old.store.heap)) }
         ensures full { (g : ProtectionGraph) → StandsFor self.old.store g → IfErr result (λ refused. refused.why ≡ CreateFault.HeapFull →
-            IsAllowed g session.old.worker (Deed.Create label draft.law draft.state) × IsOutOfCells self.old.store.heap.table (session.old.worker + 2) 2) }
+            IsAllowed g session.old.worker (Deed.Create label draft.law draft.state) × LacksCellsFor self.old.store.heap.table (session.old.worker + 2) 1 session.old.worker g.made) }
         ensures refused { IfErr result (λ refused. refused.why ≢ CreateFault.VerticesFull → RecordsNothing self.old.store self.new.store session.old session.new) }
         ensures same_graph { (g : ProtectionGraph) → StandsFor self.old.store g → OnErr result (StandsFor self.new.store g) }
         ensures handed_back { IfErr result (λ refused. refused.draft ≡ draft) }

@@ -2,8 +2,7 @@ use Rattle.std.proofs.Common.{◌≡◌, ◌+◌, ◌∙◌, ℕ, sym, ap, subst
 use Rattle.std.proofs.lemmas.Result.{err_from_is_err_and}
 use Rattle.tg_model.specs.Graph.{IsSubject}
 use Rattle.tg_model.specs.Rules.{Permits}
-use Rattle.tg_graph.specs.Heap.{IsOutOfCells}
-use Rattle.tg_rules.specs.Effect.{AddsEdge}
+use Rattle.tg_rules.specs.Effect.{AddsEdge, LacksCellsToServe}
 use Rattle.tg_store.specs.Store.{StandsFor, graph_of_store}
 use Rattle.tg_shared.specs.Sessions.{LockedState}
 use Rattle.tg_shared.proofs.Balances.{balanced_entered}
@@ -27,7 +26,7 @@ returns-in_err-reply-clause-full g c =
     λ graph stands same.
     let here : StandsFor c.self.inside.store graph = ap (λ (b : LockedState). graph_of_store b.store) c.self.view_is ∙ stands in
     let told = c.in_err-reply.ensures.full graph here (cc (same, given.1, given.2)) in
-    let full : LockedState → ℕ → Type 0 = λ b w. Permits graph.label w c.args.command × AddsEdge c.args.command × IsOutOfCells b.store.heap.table (w + 2) 1 in
+    let full : LockedState → ℕ → Type 0 = λ b w. Permits graph.label w c.args.command × AddsEdge c.args.command × LacksCellsToServe b.store.heap.table w c.args.command in
     subst (λ (b : LockedState). full b c.args.session.now.worker) c.self.view_is
     (subst (λ (w : ℕ). full (record { store = c.self.inside.store; sessions = c.self.inside.sessions }) w) worker told)
 
