@@ -1,8 +1,8 @@
 -- Facts on the claims of a collection.
 use Rattle.std.proofs.Common.{◌≡◌, ◌≢◌, ℕ, ◌<◌, ◌≤◌, ◌+◌, ◌-◌, ◌*◌, ◌/◌, ◌%◌, ◌^◌, ◌++◌, ◌∷◌, ◌⊎◌, ◌==◌, true, false, cond, [], List, length, get_or, set, refl, sym, ap, subst, arith, ◌∙◌, eqb, lit<, inl, inr, ⊎_elim}
 use Rattle.std.specs.List.{All, Contains, IsDistinct}
-use Rattle.std.proofs.lemmas.List.{get_or_default, get_or-set_same, get_or-set_other, length-set, get_or-map, length-map, map-append, get_or_append_left, get_or_push, length_push, append-nil, append_assoc}
-use Rattle.std.proofs.lemmas.List.Elements.{All-push, All-nil, All-head, All-tail, All-append, All-weaker, All-contains, All-from_get_or, All-get_or, Contains-append_left, Contains-append_right, Contains-get_or, filter-append}
+use Rattle.std.proofs.lemmas.List.{get_or_default, get_or-set_same, get_or-set_other, length-set, get_or-map, length-map, map-append, get_or_append_left, get_or_push, length_push, append-nil}
+use Rattle.std.proofs.lemmas.List.Elements.{All-push, All-nil, All-head, All-tail, All-weaker, All-contains, All-from_get_or, All-get_or, Contains-append_left, Contains-append_right, Contains-get_or, filter-append}
 use Rattle.std.proofs.lemmas.List.Sums.{sum_by-set}
 use Rattle.std.proofs.lemmas.Map.Steps.{length-le_from_distinct_below}
 use Rattle.std.proofs.lemmas.Map.Keys.{IsDistinct-from_apart}
@@ -13,12 +13,12 @@ use Rattle.tg_rights.specs.RightSet.{no_rights}
 use Rattle.tg_word.specs.declared.Place.{Place}
 use Rattle.tg_word.specs.Word.{IsPlace, link_to, place_in}
 use Rattle.tg_word.proofs.Packing.{place_in-word_at, word_at-above_zero}
-use Rattle.tg_space.specs.Collection.{AreFewBlocks, blocks_for, copies_in, is_copy_in}
+use Rattle.tg_space.specs.Collection.{AreFewBlocks, copies_in, is_copy_in, new_place}
 use Rattle.tg_space.specs.SpaceList.{BlockList}
 use Rattle.tg_space.specs.SpaceTable.{place_in_space}
 use Rattle.tg_evac.specs.declared.win.Win.{Win}
-use Rattle.tg_evac.specs.Claims.{Claimed, StandsIn, IsGiven, AreApart, AreInOrder, AreClaims, AddsClaims, IsFull, cells_won, first_new, is_in, won_in, words_won, win_at}
-use Rattle.tg_evac.specs.Copies.{AreBelow}
+use Rattle.tg_evac.specs.Claims.{Claimed, StandsIn, IsGiven, AreApart, AreInOrder, AreClaims, IsFull, cells_won, first_new, is_in, won_in, words_won, win_at}
+use Rattle.tg_evac.specs.Claimers.{AddsWins, HasPlacesOf, walked_of}
 
 -- the place of Old or of Aged with a number
 pub place_inside : (s k : ℕ) → s < 2 → k < 2 ^ 26 → IsPlace (place_in_space s k)
@@ -66,7 +66,7 @@ win_from_cell won c held =
 
 -- ---- the pairs of a space
 
-is_in_one : (space : ℕ) (w : Win) → (place_in w.word).space ≡ space → is_in space w ≡ true
+pub is_in_one : (space : ℕ) (w : Win) → (place_in w.word).space ≡ space → is_in space w ≡ true
 is_in_one space w here = grind (arith, nat_tests)
 
 is_in_other : (space : ℕ) (w : Win) → (place_in w.word).space ≢ space → is_in space w ≡ false
@@ -82,13 +82,12 @@ in_other space won w other =
     let none : won_in space (w ∷ []) ≡ [] = rw (is_in_other space w other) refl in
     filter-append (is_in space) won (w ∷ []) ∙ ap (λ (ws : List Win). won_in space won ++ ws) none ∙ append-nil (won_in space won)
 
--- where all are in it
-pub in_all : (space : ℕ) (won : List Win) → All (λ (w : Win). (place_in w.word).space ≡ space) won → won_in space won ≡ won
-in_all space [] all = refl
-in_all space (w ∷ won) all =
-    let here = All-head (λ (v : Win). (place_in v.word).space ≡ space) w won all in
-    let rest = in_all space won (All-tail (λ (v : Win). (place_in v.word).space ≡ space) w won all) in
-    rw (is_in_one space w here) (ap (λ (ws : List Win). w ∷ ws) rest)
+-- where none is in it
+pub in_none : (space : ℕ) (won : List Win) → All (λ (w : Win). (place_in w.word).space ≢ space) won → won_in space won ≡ []
+in_none space [] all = refl
+in_none space (w ∷ won) all =
+    let other = All-head (λ (v : Win). (place_in v.word).space ≢ space) w won all in
+    rw (is_in_other space w other) (in_none space won (All-tail (λ (v : Win). (place_in v.word).space ≢ space) w won all))
 
 -- one more pair, with the next number
 order_push : (space first : ℕ) (won : List Win) (w : Win) → AreInOrder space first won → w.word ≡ link_to (place_in_space space (first + length won)) → AreInOrder space first (won ++ w ∷ [])
@@ -209,40 +208,28 @@ module _ (c : Claimed) (are : AreClaims c) where
           let word : get_or c.forward n 0 ≡ found.0.word = ap (λ (m : ℕ). get_or c.forward m 0) (sym found.2) ∙ (stands found.0 found.1).word in
           subst (λ (w : ℕ). IsPlace (place_in w)) (sym word) (word_place found.0 found.1)
 
--- the blocks that the pairs of a space need
+-- how many pairs a space has
 module _ (c : Claimed) (are : AreClaims c) where
-  pub aged_below : AreBelow 1 0 (blocks_for (copies_in c.forward 1)) c.won
-  aged_below w held here =
-      let g = given_of c are w held in let at = place_is c are w held in
-      let space = ap (λ (p : Place). p.space) at in let block = ap (λ (p : Place). p.block) at in
-      let one : g.space ≡ 1 = sym space ∙ here in
-      let before = g.before in let next = ap (λ (s : ℕ). get_or c.next s 0) one in
-      let ends = are.ends 1 (lit< tt) in let copies = are.copies 1 (lit< tt) in
-      omega arith
+  pub in_room : (space : ℕ) → space < 2 → length (won_in space c.won) ≤ 2 ^ 26
+  in_room space two = let ends = are.ends space two in let few = are.few space in omega arith
 
-  pub old_below : AreBelow 0 c.plan.kept (blocks_for (copies_in c.forward 0)) c.won
-  old_below w held here =
-      let g = given_of c are w held in let at = place_is c are w held in
-      let space = ap (λ (p : Place). p.space) at in let block = ap (λ (p : Place). p.block) at in
-      let zero_is : g.space ≡ 0 = sym space ∙ here in
-      let before = g.before in let behind = g.behind zero_is in let next = ap (λ (s : ℕ). get_or c.next s 0) zero_is in
-      let ends = are.ends 0 (lit< tt) in let copies = are.copies 0 (lit< tt) in
-      omega arith
-
-  -- are within the limit
-  pub few_blocks : (space_blocks kept : ℕ) (forward : List ℕ) (aged old : BlockList) → c.plan.room ≡ 64 * space_blocks → c.plan.kept ≡ kept → forward ≡ c.forward →
-      ((most : ℕ) → AreBelow 1 0 most c.won → length aged ≤ most) → ((most : ℕ) → AreBelow 0 c.plan.kept most c.won → length old ≤ most) → AreFewBlocks space_blocks kept 0 forward aged old
-  few_blocks space_blocks kept forward aged old room kept_is same in_aged in_old =
-      let aged_few = in_aged (blocks_for (copies_in c.forward 1)) aged_below in let old_few = in_old (blocks_for (copies_in c.forward 0)) old_below in
+  -- blocks that hold a copy of each, and have no block to spare, are within the limit
+  pub few_blocks : (space_blocks kept aged_free old_free : ℕ) → c.plan.room ≡ 64 * space_blocks → c.plan.kept ≡ kept → (aged_blocks old_blocks : BlockList) →
+      64 * length aged_blocks ≡ length (won_in 1 c.won) + aged_free → aged_free < 64 → 64 * length old_blocks ≡ length (won_in 0 c.won) + old_free → old_free < 64 → AreFewBlocks space_blocks kept 0 c.forward aged_blocks old_blocks
+  few_blocks space_blocks kept aged_free old_free room kept_is aged_blocks old_blocks in_aged aged_few in_old old_few =
       let aged_ends = are.ends 1 (lit< tt) in let old_ends = are.ends 0 (lit< tt) in
       let aged_copies = are.copies 1 (lit< tt) in let old_copies = are.copies 0 (lit< tt) in
       let aged_within = are.within 1 (lit< tt) in let old_within = are.within 0 (lit< tt) in
-      subst (λ (ws : List ℕ). AreFewBlocks space_blocks kept 0 ws aged old) (sym same) (record {
+      record {
         aged_within = omega arith;
         old_within = omega arith;
         aged_needed = omega arith;
         old_needed = omega arith;
-      })
+      }
+
+-- the table has the places of the pairs
+pub has_places : (c : Claimed) → AreClaims c → HasPlacesOf c.won (new_place c.forward)
+has_places c are = All-weaker (StandsIn c.forward) (λ (w : Win). new_place c.forward w.cell ≡ place_in w.word) (λ w st. ap place_in st.word) c.won are.words.stand
 
 -- where a space has no room for one more, all the room is won
 pub full_at : (c : Claimed) → AreClaims c → (space : ℕ) → space < 2 → c.plan.room ≤ get_or c.next space 0 → IsFull c
@@ -439,43 +426,14 @@ module _ (c : Claimed) (are : AreClaims c) (w : Win) (space number : ℕ) (two :
     within = within_more;
   }
 
-  pub adds_one : (reason : Win → Type 0) → reason w → AddsClaims reason c (record { plan = c.plan; forward = set c.forward w.cell w.word; won = c.won ++ w ∷ []; next = set c.next space (number + 1) })
+  pub adds_one : (reason : Win → Type 0) → reason w → AddsWins reason (walked_of c) (walked_of (record { plan = c.plan; forward = set c.forward w.cell w.word; won = c.won ++ w ∷ []; next = set c.next space (number + 1) }))
   adds_one reason r = record {
     added = w ∷ [];
     is = refl;
     reasons = All-push reason [] w (All-nil reason) r;
-    as_long = length-set c.forward w.cell w.word;
-    same_plan = refl;
+    still = λ n held. subst (λ (ns : List ℕ). Contains ns n) (sym (map-append (λ (v : Win). v.cell) c.won (w ∷ []))) (Contains-append_left (cells_won c.won) (w.cell ∷ []) n held);
+    same_kind = refl;
+    same_kept = refl;
+    same_room = refl;
+    as_many = length-set c.forward w.cell w.word;
   }
-
--- ---- claims one after the other
-
-pub claims_none : (reason : Win → Type 0) (c : Claimed) → AddsClaims reason c c
-claims_none reason c = record { added = []; is = sym (append-nil c.won); reasons = All-nil reason; as_long = refl; same_plan = refl }
-
-pub claims_then : {reason : Win → Type 0} {a b c : Claimed} → AddsClaims reason a b → AddsClaims reason b c → AddsClaims reason a c
-claims_then {reason} {a} one two = record {
-  added = one.added ++ two.added;
-  is = two.is ∙ ap (λ (ws : List Win). ws ++ two.added) one.is ∙ append_assoc a.won one.added two.added;
-  reasons = All-append reason one.added two.added one.reasons two.reasons;
-  as_long = two.as_long ∙ one.as_long;
-  same_plan = two.same_plan ∙ one.same_plan;
-}
-
-pub claims_weaker : {few many : Win → Type 0} {a b : Claimed} → AddsClaims few a b → ((w : Win) → few w → many w) → AddsClaims many a b
-claims_weaker {few} {many} adds weaker = record {
-  added = adds.added;
-  is = adds.is;
-  reasons = All-weaker few many weaker adds.added adds.reasons;
-  as_long = adds.as_long;
-  same_plan = adds.same_plan;
-}
-
--- what was won stays so
-pub cells_added : {reason : Win → Type 0} {a b : Claimed} (adds : AddsClaims reason a b) → cells_won b.won ≡ cells_won a.won ++ cells_won adds.added
-cells_added {a = a} adds = ap cells_won adds.is ∙ map-append (λ (v : Win). v.cell) a.won adds.added
-
-pub still_held : {reason : Win → Type 0} {a b : Claimed} → AddsClaims reason a b → (xs : List ℕ) → All (Contains (cells_won a.won)) xs → All (Contains (cells_won b.won)) xs
-still_held {a = a} {b = b} adds xs all =
-    All-weaker (Contains (cells_won a.won)) (Contains (cells_won b.won))
-    (λ x h. subst (λ (ys : List ℕ). Contains ys x) (sym (cells_added adds)) (Contains-append_left (cells_won a.won) (cells_won adds.added) x h)) xs all

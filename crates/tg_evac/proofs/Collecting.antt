@@ -1,13 +1,14 @@
 -- The copies of the won cells are a collection.
-use Rattle.std.proofs.Common.{◌≡◌, ◌≢◌, ◌↔◌, ℕ, ◌<◌, ◌≤◌, ◌+◌, ◌^◌, ◌⊎◌, List, [], length, get_or, refl, sym, ap, subst, arith, ◌∙◌, inl, inr, ⊎_elim}
+use Rattle.std.proofs.Common.{◌≡◌, ◌≢◌, ◌↔◌, ℕ, ◌<◌, ◌≤◌, ◌+◌, ◌*◌, ◌^◌, ◌⊎◌, List, [], ◌∷◌, length, get_or, map, lit<, refl, sym, ap, subst, arith, ◌∙◌, inl, inr, ⊎_elim}
 use Rattle.std.specs.List.{All, Contains}
+use Rattle.std.proofs.lemmas.List.{length-map}
 use Rattle.std.proofs.lemmas.List.Elements.{All-contains, All-from_get_or, Contains-get_or}
 use Rattle.std.proofs.lemmas.Bool.{cases_eq}
-use Rattle.tg_block.specs.Cells.{free_cell}
+use Rattle.tg_block.specs.Cells.{IsBlock, free_cell}
 use Rattle.tg_word.specs.declared.Place.{Place}
 use Rattle.tg_word.specs.Word.{link_to, place_in}
 use Rattle.tg_space.specs.Closure.{IsInClosure}
-use Rattle.tg_space.specs.Collection.{IsNewPlace, IsForwarded, IsMadeInOld, IsCollection, new_place}
+use Rattle.tg_space.specs.Collection.{AreFewBlocks, IsNewPlace, IsForwarded, IsMadeInOld, IsCollection, new_place}
 use Rattle.tg_space.specs.Generations.{AreInGenerations, NamesYoung}
 use Rattle.tg_space.specs.SpaceList.{SpaceList, BlockList, IsSpaceList, cell_at, cells_of}
 use Rattle.tg_space.specs.SpaceTable.{SpaceTable, IsSpaceTable, adopted, kept_blocks}
@@ -19,11 +20,13 @@ use Rattle.tg_space.specs.declared.spaces.Root.TheVariants.{Remembered}
 use Rattle.tg_space.proofs.Tables.{table_list}
 use Rattle.tg_evac.specs.declared.plan.Plan.{Plan}
 use Rattle.tg_evac.specs.declared.win.Win.{Win}
-use Rattle.tg_evac.specs.Claims.{Claimed, AreClaims, IsPlanFor, IsTracedFrom, StandsIn, AreTraced, AreWordsOf, cells_won, win_at}
-use Rattle.tg_evac.specs.Copies.{HasNewPlace, HoldCopies, IsYoungCopy, IsPlaceIn, copy_of, moved_cell}
-use Rattle.tg_evac.proofs.Claiming.{cell_held, win_from_cell, word_place, word_links, word_to, word_behind, cells_apart}
+use Rattle.tg_evac.specs.Claims.{Claimed, AreClaims, AreInOrder, IsPlanFor, IsTracedFrom, StandsIn, AreTraced, AreWordsOf, cells_won, win_at, won_in}
+use Rattle.tg_evac.specs.Claimers.{copies_to}
+use Rattle.tg_evac.specs.Copies.{HasNewPlace, HoldCells, HoldCopies, IsPlaceIn, copy_of, moved_cell, new_cell}
+use Rattle.tg_evac.proofs.Claiming.{few_blocks, have_places, in_room, cell_held, win_from_cell, word_place, word_links, word_to, word_behind, cells_apart}
 use Rattle.tg_evac.proofs.Reasons.{all_in_old, are_aged, goes_to}
-use Rattle.tg_evac.proofs.Adopted.{old_place, aged_place, new_is, find_place, free_is_not_young}
+use Rattle.tg_evac.proofs.InOrder.{copies_in_order, held_count, none_in_aged, none_young_block, words_old}
+use Rattle.tg_evac.proofs.Adopted.{old_place, aged_place, new_is}
 
 -- what the pairs of a whole collection are, whoever won them, and in whatever order
 pub record AreWins (kind : Kind) (h : SpaceList) (roots : List Root) (forward : List ℕ) (won : List Win) : Type 0 where
@@ -40,7 +43,7 @@ pub record AreCopies (kind : Kind) (h : SpaceList) (roots : List Root) (forward 
   pub old_copies : HoldCopies 0 (kept_blocks kind h) (copy_of kind h forward) won old
   pub none_aged : kind ≡ Full → aged ≡ []
   pub few : kept_blocks kind h + length old ≤ 2 ^ 20
-  pub noted : (p : Place) → Contains notes p ↔ ((Contains roots (Remembered p) × NamesYoung (moved_cell kind h forward p)) ⊎ IsYoungCopy (copy_of kind h forward) won p)
+  pub noted : (p : Place) → Contains notes p ↔ ((Contains roots (Remembered p) × NamesYoung (moved_cell kind h forward p)) ⊎ (IsPlaceIn 0 (kept_blocks kind h) old p × NamesYoung (new_cell (kept_blocks kind h) old p)))
 
 -- only a nursery collection copies to Aged
 only_nursery : (kind : Kind) (h : SpaceList) (roots : List Root) (forward : List ℕ) (won : List Win) → All (StandsIn forward) won → AreTraced kind h roots won → (w : Win) → Contains won w → (place_in w.word).space ≡ 1 → kind ≡ Nursery
@@ -133,39 +136,24 @@ module _ (kind : Kind) (h : SpaceList) (roots : List Root) (forward : List ℕ) 
 
   -- ---- notes
 
-  young_copy : (p : Place) → IsNewPlace kind h aged old p → p.space ≡ 0 → NamesYoung (cell_at (adopted kind h aged old) p) → IsYoungCopy (copy_of kind h forward) won p
-  young_copy p new zero_is names = ⊎_elim
-      (λ (in_old : IsPlaceIn 0 (kept_blocks kind h) old p). ⊎_elim
-      (λ found.
-      let stands_there = copy_stands found.0 found.1 in
-      record {
-        win = found.0;
-        is = found.1;
-        at = found.2;
-        old = zero_is;
-        names = subst (λ (ws : List ℕ). NamesYoung ws) (ap (λ (q : Place). cell_at (adopted kind h aged old) q) (sym found.2) ∙ stands_there.1) names;
-      })
-      (λ none. absurd (free_is_not_young (subst (λ (ws : List ℕ). NamesYoung ws) ((old_place h aged old p kind in_old).1 ∙ copies.old_copies.rest p in_old none) names)))
-      (find_place won p))
-      (λ in_aged. absurd (let one = in_aged.1.space in omega arith))
-      (new_is h aged old p kind new)
-
   noted_ok : (p : Place) → Contains notes p ↔ ((words : List ℕ) × IsMadeInOld kind h roots forward aged old p words × NamesYoung words)
   noted_ok p = (forth, back)
     where
       forth : Contains notes p → (words : List ℕ) × IsMadeInOld kind h roots forward aged old p words × NamesYoung words
       forth held = ⊎_elim
           (λ root. (moved_cell kind h forward p, inr (root.0, refl), root.1))
-          (λ (y : IsYoungCopy (copy_of kind h forward) won p).
-          let there = copy_stands y.win y.is in
-          let new : IsNewPlace kind h aged old p = subst (λ (q : Place). IsNewPlace kind h aged old q) y.at there.0 in
-          let cell : cell_at (adopted kind h aged old) p ≡ copy_of kind h forward y.win.cell = ap (λ (q : Place). cell_at (adopted kind h aged old) q) (sym y.at) ∙ there.1 in
-          (cell_at (adopted kind h aged old) p, inl (new, y.old, refl), subst (λ (ws : List ℕ). NamesYoung ws) (sym cell) y.names))
+          (λ copy.
+          let there = old_place h aged old p kind copy.0 in
+          (cell_at (adopted kind h aged old) p, inl (there.0, copy.0.space, refl), subst (λ (ws : List ℕ). NamesYoung ws) (sym there.1) copy.1))
           ((copies.noted p).0 held)
 
       back : ((words : List ℕ) × IsMadeInOld kind h roots forward aged old p words × NamesYoung words) → Contains notes p
       back made = ⊎_elim
-          (λ copy. (copies.noted p).1 (inr (young_copy p copy.0 copy.1 (subst (λ (ws : List ℕ). NamesYoung ws) copy.2 made.2))))
+          (λ copy. ⊎_elim
+          (λ (in_old : IsPlaceIn 0 (kept_blocks kind h) old p).
+          (copies.noted p).1 (inr (in_old, subst (λ (ws : List ℕ). NamesYoung ws) (copy.2 ∙ (old_place h aged old p kind in_old).1) made.2)))
+          (λ in_aged. absurd (let one = in_aged.1.space in let zero_is = copy.1 in omega arith))
+          (new_is h aged old p kind copy.0))
           (λ root. (copies.noted p).1 (inl (root.0, subst (λ (ws : List ℕ). NamesYoung ws) root.1 made.2)))
           made.1
 
@@ -211,29 +199,61 @@ module _ (kind : Kind) (t : SpaceTable) (roots : List Root) (plan : Plan) (is_pl
     apart = cells_apart c claims;
   }
 
-  pub collected : (aged old : BlockList) (before between after : List Place) → before ≡ [] →
-      ((p : Place) → Contains between p ↔ (Contains before p ⊎ (Contains roots (Remembered p) × NamesYoung (moved_cell kind t.spaces c.forward p)))) →
-      ((p : Place) → Contains after p ↔ (Contains between p ⊎ IsYoungCopy (copy_of plan.kind t.spaces c.forward) c.won p)) →
-      HoldCopies 1 0 (copy_of plan.kind t.spaces c.forward) c.won aged → HoldCopies 0 plan.kept (copy_of plan.kind t.spaces c.forward) c.won old →
-      (plan.kind ≡ Full → aged ≡ []) → plan.kept + length old ≤ 2 ^ 20 → IsCollection kind t.spaces roots c.forward aged old after
-  collected aged old before between after none first then in_aged in_old none_aged few =
-      is_collection kind t.spaces roots c.forward c.won aged old after (table_list t table) wins (record {
-        aged_copies = subst (λ (k : Kind). HoldCopies 1 0 (copy_of k t.spaces c.forward) c.won aged) is_plan.same in_aged;
-        old_copies = subst (λ (n : ℕ). HoldCopies 0 n (copy_of kind t.spaces c.forward) c.won old) is_plan.kept
-            (subst (λ (k : Kind). HoldCopies 0 plan.kept (copy_of k t.spaces c.forward) c.won old) is_plan.same in_old);
-        none_aged = λ full. none_aged (is_plan.same ∙ full);
-        few = subst (λ (n : ℕ). n + length old ≤ 2 ^ 20) is_plan.kept few;
-        noted = noted;
-      })
-    where
-      young : (p : Place) → Contains after p ↔ (Contains between p ⊎ IsYoungCopy (copy_of kind t.spaces c.forward) c.won p)
-      young p = subst (λ (k : Kind). Contains after p ↔ (Contains between p ⊎ IsYoungCopy (copy_of k t.spaces c.forward) c.won p)) is_plan.same (then p)
+  none_kept : kind ≡ Full → c.plan.kept ≡ 0
+  none_kept full = kept_is ∙ ap (λ (k : Kind). kept_blocks k t.spaces) full
 
-      nothing : (p : Place) → Contains before p → ⊥
-      nothing p held = let empty : Contains [] p = subst (λ (ps : List Place). Contains ps p) none held in absurd (let low = empty.1 in omega arith)
+  module _ (aged old : BlockList) (aged_whole : All IsBlock aged) (old_whole : All IsBlock old)
+      (in_aged : HoldCells (copies_to 1 kind t.spaces (new_place c.forward) c.won) aged) (in_old : HoldCells (copies_to 0 kind t.spaces (new_place c.forward) c.won) old) where
+    abbrev copy : ℕ → List ℕ
+    copy = copy_of kind t.spaces c.forward
 
-      noted : (p : Place) → Contains after p ↔ ((Contains roots (Remembered p) × NamesYoung (moved_cell kind t.spaces c.forward p)) ⊎ IsYoungCopy (copy_of kind t.spaces c.forward) c.won p)
-      noted p = (
-        (λ held. ⊎_elim (λ (b : Contains between p). ⊎_elim (λ (e : Contains before p). absurd (nothing p e)) (λ root. inl root) ((first p).0 b)) (λ y. inr y) ((young p).0 held)),
-        (λ has. (young p).1 (⊎_elim (λ root. inl ((first p).1 (inr root))) (λ y. inr y) has)),
-      )
+    aged_count : 64 * length aged ≡ length (won_in 1 c.won) + in_aged.free
+    aged_count = held_count (map (λ (w : Win). copy w.cell) (won_in 1 c.won)) aged in_aged aged_whole ∙ ap (λ (n : ℕ). n + in_aged.free) (length-map (won_in 1 c.won) (λ (w : Win). copy w.cell))
+
+    old_count : 64 * length old ≡ length (won_in 0 c.won) + in_old.free
+    old_count = held_count (map (λ (w : Win). copy w.cell) (won_in 0 c.won)) old in_old old_whole ∙ ap (λ (n : ℕ). n + in_old.free) (length-map (won_in 0 c.won) (λ (w : Win). copy w.cell))
+
+    pub few : (space_blocks : ℕ) → c.plan.room ≡ 64 * space_blocks → AreFewBlocks space_blocks (kept_blocks kind t.spaces) 0 c.forward aged old
+    few space_blocks room = few_blocks c claims space_blocks (kept_blocks kind t.spaces) in_aged.free in_old.free room kept_is aged old aged_count in_aged.few old_count in_old.few
+
+    pub aged_copies : HoldCopies 1 0 copy c.won aged
+    aged_copies = copies_in_order 1 0 (lit< tt) c.won (claims.in_order 1 (lit< tt)) (let room = in_room c claims 1 (lit< tt) in omega arith) copy aged aged_whole in_aged
+
+    old_copies : HoldCopies 0 (kept_blocks kind t.spaces) copy c.won old
+    old_copies =
+        let ends = claims.ends 0 (lit< tt) in let room = claims.few 0 in
+        copies_in_order 0 (kept_blocks kind t.spaces) (lit< tt) c.won (subst (λ (n : ℕ). AreInOrder 0 (64 * n) (won_in 0 c.won)) kept_is (claims.in_order 0 (lit< tt)))
+        (let same = kept_is in omega arith) copy old old_whole in_old
+
+    none_aged : kind ≡ Full → aged ≡ []
+    none_aged full =
+        let none = none_in_aged_of full in let count = aged_count in let free = in_aged.few in
+        nil_from_length aged (omega arith)
+      where
+        none_in_aged_of : kind ≡ Full → length (won_in 1 c.won) ≡ 0
+        none_in_aged_of full = none_in_aged t.spaces roots c claims (subst (λ (k : Kind). IsTracedFrom k t.spaces roots c) full traced) (none_kept full)
+
+        nil_from_length : (blocks : BlockList) → length blocks ≡ 0 → blocks ≡ []
+        nil_from_length [] none = refl
+        nil_from_length (b ∷ bs) none = absurd (omega arith)
+
+    pub old_few : kept_blocks kind t.spaces + length old ≤ 2 ^ 20
+    old_few =
+        let ends = claims.ends 0 (lit< tt) in let room = claims.few 0 in let count = old_count in let free = in_old.few in let same = kept_is in
+        omega arith
+
+    -- in a full collection no copy in Old names a young cell
+    pub none_young : kind ≡ Full → (p : Place) → IsPlaceIn 0 (kept_blocks kind t.spaces) old p → NamesYoung (new_cell (kept_blocks kind t.spaces) old p) → ⊥
+    none_young full = none_young_in kind full old_copies
+      where
+        none_young_in : (k : Kind) → k ≡ Full → HoldCopies 0 (kept_blocks k t.spaces) (copy_of k t.spaces c.forward) c.won old → (p : Place) → IsPlaceIn 0 (kept_blocks k t.spaces) old p → NamesYoung (new_cell (kept_blocks k t.spaces) old p) → ⊥
+        none_young_in Full is hold =
+            none_young_block t.spaces c.forward (have_places c claims) (words_old t.spaces roots c claims (subst (λ (k : Kind). IsTracedFrom k t.spaces roots c) full traced) (none_kept full)) c.won old (table_list t table) traced.whole claims.words.stand hold
+        none_young_in Nursery is hold = absurd cc
+
+    pub collected : (notes : List Place) →
+        ((p : Place) → Contains notes p ↔ ((Contains roots (Remembered p) × NamesYoung (moved_cell kind t.spaces c.forward p)) ⊎ (IsPlaceIn 0 (kept_blocks kind t.spaces) old p × NamesYoung (new_cell (kept_blocks kind t.spaces) old p)))) →
+        IsCollection kind t.spaces roots c.forward aged old notes
+    collected notes noted =
+        is_collection kind t.spaces roots c.forward c.won aged old notes (table_list t table) wins
+        (record { aged_copies = aged_copies; old_copies = old_copies; none_aged = none_aged; few = old_few; noted = noted })

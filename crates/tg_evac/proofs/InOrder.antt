@@ -1,14 +1,15 @@
 -- Copies that stand one after the other, and copies that name no young cell.
-use Rattle.std.proofs.Common.{◌≡◌, ◌≢◌, ℕ, ◌<◌, ◌≤◌, ◌+◌, ◌-◌, ◌*◌, ◌/◌, ◌%◌, ◌^◌, ◌++◌, ◌∷◌, ◌==◌, Bool, true, false, [], List, length, get_or, map, take, drop, refl, sym, ap, subst, arith, ◌∙◌, lit<, inl, inr, ⊎_elim, ◌⊎◌}
-use Rattle.std.specs.List.{All, Contains}
+use Rattle.std.proofs.Common.{◌≡◌, ◌≢◌, ℕ, ◌<◌, ◌≤◌, ◌+◌, ◌-◌, ◌*◌, ◌/◌, ◌%◌, ◌^◌, ◌∷◌, ◌==◌, Bool, true, false, [], List, length, get_or, map, take, drop, replicate, refl, sym, ap, subst, arith, ◌∙◌, lit<, inl, inr, ⊎_elim, ◌⊎◌}
+use Rattle.std.specs.List.{All, Contains, flat_map}
 use Rattle.std.proofs.lemmas.Bool.{cases_eq, cases_lt}
 use Rattle.std.proofs.lemmas.Bool.Decides.{nat_tests}
-use Rattle.std.proofs.lemmas.List.{drop_at, get_or-map, get_or-take, get_or_append_left, get_or_default, get_or_past, get_or_push, length-append, length-drop, length-map, length-take, length-take-le, length_push}
-use Rattle.std.proofs.lemmas.List.Elements.{All-contains, All-from_get_or, All-get_or, Contains-get_or}
+use Rattle.std.proofs.lemmas.List.{drop_at, get_or-append_right, get_or-map, get_or-replicate, get_or-take, get_or_append_left, get_or_default, get_or_past, length-append, length-drop, length-map, length-replicate, length-take, length-take-le}
+use Rattle.std.proofs.lemmas.List.Concat.{get_or-flat_map}
+use Rattle.std.proofs.lemmas.List.Elements.{All-cons, All-contains, All-contains_itself, All-filter, All-from_get_or, All-get_or, All-nil, All-take, All-weaker, Contains-append_right, Contains-get_or}
 use Rattle.tg_word.specs.declared.Place.{Place}
-use Rattle.tg_word.specs.Word.{IsPlace, link_to, place_in, rights_in}
+use Rattle.tg_word.specs.Word.{IsPlace, place_in, rights_in}
 use Rattle.tg_word.proofs.Packing.{place_in-word_at}
-use Rattle.tg_block.specs.Cells.{cell_of, free_cell}
+use Rattle.tg_block.specs.Cells.{IsBlock, cell_of, free_cell}
 use Rattle.tg_space.specs.Collection.{new_place}
 use Rattle.tg_space.specs.Generations.{NamesYoung}
 use Rattle.tg_space.specs.SpaceList.{SpaceList, BlockList, IsSpaceList, cells_of, flat_of}
@@ -16,15 +17,14 @@ use Rattle.tg_space.specs.SpaceTable.{place_in_space}
 use Rattle.tg_space.specs.Targets.{cell_numbered, every_space, first_pointer, image_of, moved_word, pointers_of}
 use Rattle.tg_space.specs.declared.spaces.Kind.TheVariants.{Full}
 use Rattle.tg_space.specs.declared.spaces.Root.{Root}
-use Rattle.tg_space.proofs.Flat.{all_cells_whole}
+use Rattle.tg_space.proofs.Flat.{all_cells_whole, length-blocks}
 use Rattle.tg_evac.specs.declared.win.Win.{Win}
-use Rattle.tg_evac.specs.Claims.{AreClaims, AreInOrder, Claimed, IsTracedFrom, StandsIn, first_new, win_at, won_in}
-use Rattle.tg_evac.specs.Copies.{AreAllOld, AreBelow, AreOld, HasCopy, HavePlaces, HoldCopies, HoldRows, HoldsRow, IsPlaceIn, IsYoungCopy, copy_of, new_cell}
-use Rattle.tg_evac.proofs.Claiming.{in_all, place_back, stands}
+use Rattle.tg_evac.specs.Claims.{AreClaims, AreInOrder, Claimed, IsTracedFrom, StandsIn, is_in, win_at, won_in}
+use Rattle.tg_evac.specs.Copies.{AreOld, HasCopy, HavePlaces, HoldCells, HoldCopies, IsPlaceIn, copy_of, new_cell}
+use Rattle.tg_evac.proofs.Adopted.{find_place, free_is_not_young}
+use Rattle.tg_evac.proofs.Claiming.{in_none, is_in_one, place_back, stands}
 use Rattle.tg_evac.proofs.Copying.{same_place}
 use Rattle.tg_evac.proofs.Reasons.{all_in_old}
-
--- ---- rows
 
 -- a copy has as many words as its original
 pub image_long : (from : ℕ → Bool) (h : SpaceList) (to : ℕ → Place) (words : List ℕ) → length (image_of from h to words) ≡ length words
@@ -32,81 +32,95 @@ image_long from h to words =
     let n = first_pointer (get_or words 0 0) in
     omega (arith, length-append (take n words) (map (moved_word from h to) (drop n words)), length-map (drop n words) (moved_word from h to), length-take n words, length-drop n words)
 
--- one more row
-pub rows_more : (copy : ℕ → List ℕ) (won : List Win) (blocks after : BlockList) (block : List (List ℕ)) → ((b : ℕ) → b < length blocks → HoldsRow copy won (64 * b) (get_or blocks b [])) → HoldsRow copy won (64 * length blocks) block → after ≡ blocks ++ block ∷ [] → (b : ℕ) → b < length after → HoldsRow copy won (64 * b) (get_or after b [])
-rows_more copy won blocks after block rows row is b low =
-    let long = length_push blocks block in
-    let count : length after ≡ length (blocks ++ block ∷ []) = ap length is in
-    subst (λ (bs : BlockList). HoldsRow copy won (64 * b) (get_or bs b [])) (sym is)
-    (⊎_elim
-    (λ (early : b < length blocks).
-    subst (λ (x : List (List ℕ)). HoldsRow copy won (64 * b) x) (sym (get_or_append_left blocks (block ∷ []) [] b early)) (rows b early))
-    (λ (past : length blocks ≤ b).
-    let at : length blocks ≡ b = omega arith in
-    subst (λ (x : List (List ℕ)). HoldsRow copy won (64 * b) x) (sym (get_or_push blocks block [] b at)) (subst (λ (n : ℕ). HoldsRow copy won (64 * n) block) at row))
-    (cases_lt b (length blocks)))
+-- ---- cells in blocks, one after the other
 
--- the place of the pair with a number
-module _ (won : List Win) (order : AreInOrder 0 0 won) (few : length won ≤ 2 ^ 26) where
-  pub place_at : (k : ℕ) → k < length won → place_in (win_at won k).word ≡ place_in_space 0 k
-  place_at k low =
-      let here : 0 + k ≡ k = omega arith in
-      ap place_in (order k low ∙ ap (λ (n : ℕ). link_to (place_in_space 0 n)) here) ∙ place_back 0 k (lit< tt) (omega arith)
+-- the cell of a block is the one with its number
+pub block_cell : (blocks : BlockList) → All IsBlock blocks → (b i : ℕ) → b < length blocks → i < 64 → cell_of (get_or blocks b []) i ≡ get_or (flat_map (λ (block : List (List ℕ)). block) blocks) (64 * b + i) []
+block_cell blocks are b i low inside =
+    let long : length (get_or blocks b []) ≡ 64 = (All-get_or IsBlock blocks b [] low are).0 in
+    let before : length (flat_map (λ (block : List (List ℕ)). block) (take b blocks)) ≡ 64 * b =
+    length-blocks (take b blocks) (All-take IsBlock b blocks are) ∙ ap (λ (n : ℕ). 64 * n) (length-take-le b blocks (omega arith)) in
+    let at : length (flat_map (λ (block : List (List ℕ)). block) (take b blocks)) + i ≡ 64 * b + i = omega arith in
+    sym (ap (λ (n : ℕ). get_or (flat_map (λ (block : List (List ℕ)). block) blocks) n []) (sym at) ∙ get_or-flat_map (λ (block : List (List ℕ)). block) blocks b i [] [] low (omega arith))
 
-  pub all_old : (w : Win) → Contains won w → (place_in w.word).space ≡ 0
-  all_old w held =
-      let is : win_at won held.0 ≡ w = get_or_default won held.0 (win_at [] 0) w held.1 ∙ held.2 in
-      ap (λ (v : Win). (place_in v.word).space) (sym is) ∙ ap (λ (p : Place). p.space) (place_at held.0 held.1)
+module _ (cells : List (List ℕ)) (blocks : BlockList) (hold : HoldCells cells blocks) (are : All IsBlock blocks) where
+  -- how many blocks that takes
+  pub held_count : 64 * length blocks ≡ length cells + hold.free
+  held_count = sym (length-blocks blocks are) ∙ ap length hold.is ∙ length-append cells (replicate hold.free free_cell) ∙ ap (λ (n : ℕ). length cells + n) (length-replicate hold.free free_cell)
 
-  pub none_aged : (copy : ℕ → List ℕ) → HoldCopies 1 0 copy won []
-  none_aged copy = record {
-    copied = λ w held in_space. let old = all_old w held in absurd (omega arith);
-    rest = λ p inside apart. absurd (let low = inside.block in omega arith);
-  }
+  held_cell : (b i : ℕ) → b < length blocks → i < 64 → 64 * b + i < length cells → cell_of (get_or blocks b []) i ≡ get_or cells (64 * b + i) []
+  held_cell b i low inside below =
+      block_cell blocks are b i low inside ∙ ap (λ (cs : List (List ℕ)). get_or cs (64 * b + i) []) hold.is ∙ get_or_append_left cells (replicate hold.free free_cell) [] (64 * b + i) below
 
-  -- so many blocks hold them that have no block to spare
-  pub few_in_order : (blocks most : ℕ) → 64 * blocks < length won + 64 → AreBelow 0 0 most won → blocks ≤ most
-  few_in_order blocks most needed below = ⊎_elim
-      (λ (none : blocks ≡ 0). omega arith)
-      (λ (some : blocks ≢ 0).
-      let low : 64 * (blocks - 1) < length won = omega arith in
-      let at = place_at (64 * (blocks - 1)) low in
-      let here = below (win_at won (64 * (blocks - 1))) (Contains-get_or won (64 * (blocks - 1)) (win_at [] 0) low) (ap (λ (p : Place). p.space) at) in
-      let block : (place_in (win_at won (64 * (blocks - 1))).word).block ≡ 64 * (blocks - 1) / 64 = ap (λ (p : Place). p.block) at in
-      omega arith)
-      (cases_eq blocks 0)
+  held_rest : (b i : ℕ) → b < length blocks → i < 64 → length cells ≤ 64 * b + i → cell_of (get_or blocks b []) i ≡ free_cell
+  held_rest b i low inside past =
+      let count = held_count in
+      block_cell blocks are b i low inside ∙ ap (λ (cs : List (List ℕ)). get_or cs (64 * b + i) []) hold.is
+      ∙ get_or-append_right cells (replicate hold.free free_cell) (length cells) (64 * b + i) [] refl past ∙ get_or-replicate hold.free (64 * b + i - length cells) free_cell [] (omega arith)
 
-  module _ (copy : ℕ → List ℕ) (blocks : BlockList) (hold : HoldRows copy won blocks) where
-    copy_at : (k : ℕ) → k < length won → HasCopy 0 0 copy blocks (win_at won k)
+-- ---- the copies of a space
+
+-- a pair of the space is among those
+in_held : (space : ℕ) (won : List Win) (w : Win) → Contains won w → (place_in w.word).space ≡ space → Contains (won_in space won) w
+in_held space won w held here = All-contains (λ (v : Win). (place_in v.word).space ≡ space → Contains (won_in space won) v) won w (all won) held here
+  where
+    all : (won : List Win) → All (λ (v : Win). (place_in v.word).space ≡ space → Contains (won_in space won) v) won
+    all [] = All-nil (λ (v : Win). (place_in v.word).space ≡ space → Contains (won_in space []) v)
+    all (v ∷ vs) = All-cons (λ (x : Win). (place_in x.word).space ≡ space → Contains (won_in space (v ∷ vs)) x) v vs
+        (λ here. rw (is_in_one space v here) (0, omega arith, refl))
+        (All-weaker (λ (x : Win). (place_in x.word).space ≡ space → Contains (won_in space vs) x) (λ (x : Win). (place_in x.word).space ≡ space → Contains (won_in space (v ∷ vs)) x)
+        (λ x later here. in_more v vs x (later here)) vs (all vs))
+      where
+        in_more : (v : Win) (vs : List Win) (x : Win) → Contains (won_in space vs) x → Contains (won_in space (v ∷ vs)) x
+        in_more v vs x held = by_test (is_in space v) refl
+          where
+            by_test : (b : Bool) → is_in space v ≡ b → Contains (won_in space (v ∷ vs)) x
+            by_test true t = rw t (Contains-append_right (v ∷ []) (won_in space vs) x held)
+            by_test false t = rw t held
+
+module _ (to kept : ℕ) (two : to < 2) (won : List Win) (order : AreInOrder to (64 * kept) (won_in to won)) (few : 64 * kept + length (won_in to won) ≤ 2 ^ 26) where
+  pub place_at : (k : ℕ) → k < length (won_in to won) → place_in (win_at (won_in to won) k).word ≡ place_in_space to (64 * kept + k)
+  place_at k low = ap place_in (order k low) ∙ place_back to (64 * kept + k) two (omega arith)
+
+  module _ (copy : ℕ → List ℕ) (blocks : BlockList) (are : All IsBlock blocks) (hold : HoldCells (map (λ (w : Win). copy w.cell) (won_in to won)) blocks) where
+    abbrev cells : List (List ℕ)
+    cells = map (λ (w : Win). copy w.cell) (won_in to won)
+
+    long : length cells ≡ length (won_in to won)
+    long = length-map (won_in to won) (λ (w : Win). copy w.cell)
+
+    copy_at : (k : ℕ) → k < length (won_in to won) → HasCopy to kept copy blocks (win_at (won_in to won) k)
     copy_at k low =
-        let all = hold.all in
-        let at : place_in_space 0 k ≡ place_in (win_at won k).word = sym (place_at k low) in
+        let count = held_count cells blocks hold are in let same = long in
+        let at : place_in_space to (64 * kept + k) ≡ place_in (win_at (won_in to won) k).word = sym (place_at k low) in
+        let block : (64 * kept + k) / 64 - kept ≡ k / 64 = omega arith in
+        let cell : (64 * kept + k) % 64 ≡ k % 64 = omega arith in
         let whole : 64 * (k / 64) + k % 64 ≡ k = omega arith in
-        let block : k / 64 < length blocks = omega arith in
-        let same : k / 64 - 0 ≡ k / 64 = omega arith in
-        let row = hold.rows (k / 64) block in
         record {
-          place = subst (λ (p : Place). IsPlaceIn 0 0 blocks p) at (record { space = refl; behind = omega arith; block = omega arith; cell = omega arith });
-          words = ap (λ (p : Place). new_cell 0 blocks p) (sym at) ∙ ap (λ (n : ℕ). cell_of (get_or blocks n []) (k % 64)) same
-              ∙ row.copied (k % 64) (omega arith) (omega arith) ∙ ap (λ (n : ℕ). copy (win_at won n).cell) whole;
+          place = subst (λ (p : Place). IsPlaceIn to kept blocks p) at (record { space = refl; behind = omega arith; block = omega arith; cell = omega arith });
+          words = ap (λ (p : Place). new_cell kept blocks p) (sym at) ∙ ap (λ (n : ℕ). cell_of (get_or blocks n []) ((64 * kept + k) % 64)) block ∙ ap (λ (n : ℕ). cell_of (get_or blocks (k / 64) []) n) cell
+              ∙ held_cell cells blocks hold are (k / 64) (k % 64) (omega arith) (omega arith) (omega arith) ∙ ap (λ (n : ℕ). get_or cells n []) whole
+              ∙ get_or-map (λ (w : Win). copy w.cell) (won_in to won) k (win_at [] 0) [] low;
         }
 
-    rest_free : (p : Place) → IsPlaceIn 0 0 blocks p → ((w : Win) → Contains won w → place_in w.word ≢ p) → new_cell 0 blocks p ≡ free_cell
+    rest_free : (p : Place) → IsPlaceIn to kept blocks p → ((w : Win) → Contains won w → place_in w.word ≢ p) → new_cell kept blocks p ≡ free_cell
     rest_free p inside apart =
-        let cell = inside.cell in let block = inside.block in
-        let same : p.block - 0 ≡ p.block = omega arith in
-        let there : p.block < length blocks = omega arith in
-        ap (λ (n : ℕ). cell_of (get_or blocks n []) p.cell) same ∙
+        let cell = inside.cell in let block = inside.block in let behind = inside.behind in let same = long in
+        let n : ℕ = 64 * (p.block - kept) + p.cell in
         ⊎_elim
-        (λ (low : 64 * p.block + p.cell < length won).
-        let is : place_in_space 0 (64 * p.block + p.cell) ≡ p = same_place (place_in_space 0 (64 * p.block + p.cell)) p (sym inside.space) (omega arith) (omega arith) in
-        absurd (apart (win_at won (64 * p.block + p.cell)) (Contains-get_or won (64 * p.block + p.cell) (win_at [] 0) low) (place_at (64 * p.block + p.cell) low ∙ is)))
-        (λ (past : length won ≤ 64 * p.block + p.cell). (hold.rows p.block there).rest p.cell cell past)
-        (cases_lt (64 * p.block + p.cell) (length won))
+        (λ (low : n < length (won_in to won)).
+        let w : Win = win_at (won_in to won) n in
+        let held : Contains won w = All-get_or (Contains won) (won_in to won) n (win_at [] 0) low (All-filter (is_in to) (Contains won) won (All-contains_itself won)) in
+        let is : place_in_space to (64 * kept + n) ≡ p = same_place (place_in_space to (64 * kept + n)) p (sym inside.space) (omega arith) (omega arith) in
+        absurd (apart w held (place_at n low ∙ is)))
+        (λ (past : length (won_in to won) ≤ n). held_rest cells blocks hold are (p.block - kept) p.cell block cell (omega arith))
+        (cases_lt n (length (won_in to won)))
 
-    pub copies_in_order : HoldCopies 0 0 copy won blocks
+    pub copies_in_order : HoldCopies to kept copy won blocks
     copies_in_order = record {
-      copied = λ w held in_space. subst (λ (v : Win). HasCopy 0 0 copy blocks v) (get_or_default won held.0 (win_at [] 0) w held.1 ∙ held.2) (copy_at held.0 held.1);
+      copied = λ w held in_space.
+          let there = in_held to won w held in_space in
+          subst (λ (v : Win). HasCopy to kept copy blocks v) (get_or_default (won_in to won) there.0 (win_at [] 0) w there.1 ∙ there.2) (copy_at there.0 there.1);
       rest = rest_free;
     }
 
@@ -159,11 +173,18 @@ module _ (h : SpaceList) (forward : List ℕ) (places : HavePlaces forward) (old
       let is : m (get_or (drop n words) held.0 0) ≡ names.0 = sym (get_or-map m (drop n words) held.0 0 0 low) ∙ get_or_default (map m (drop n words)) held.0 0 names.0 held.1 ∙ held.2 in
       names.2 (ap (λ (w : ℕ). (place_in w).space) (sym is) ∙ moved_old (get_or (drop n words) held.0 0))
 
-  pub none_young_copy : (won : List Win) → IsSpaceList h → length forward ≡ length (cells_of h) → All (StandsIn forward) won → (p : Place) → IsYoungCopy (copy_of Full h forward) won p → ⊥
-  none_young_copy won are whole stand p young =
-      let st : StandsIn forward young.win = All-contains (StandsIn forward) won young.win stand young.is in
-      let low : young.win.cell < length (cells_of h) = let below = st.cell in omega arith in
-      names_none (cell_numbered h young.win.cell) (All-get_or (λ (ws : List ℕ). length ws ≡ 8) (cells_of h) young.win.cell [] low (all_cells_whole h are.spaces)) young.names
+  -- and neither does a cell of blocks that hold copies
+  pub none_young_block : (won : List Win) (blocks : BlockList) → IsSpaceList h → length forward ≡ length (cells_of h) → All (StandsIn forward) won → HoldCopies 0 0 (copy_of Full h forward) won blocks →
+      (p : Place) → IsPlaceIn 0 0 blocks p → NamesYoung (new_cell 0 blocks p) → ⊥
+  none_young_block won blocks are whole stand hold p inside names = ⊎_elim
+      (λ found.
+      let st : StandsIn forward found.0 = All-contains (StandsIn forward) won found.0 stand found.1 in
+      let low : found.0.cell < length (cells_of h) = let below = st.cell in omega arith in
+      let has = hold.copied found.0 found.1 (ap (λ (q : Place). q.space) found.2 ∙ inside.space) in
+      names_none (cell_numbered h found.0.cell) (All-get_or (λ (ws : List ℕ). length ws ≡ 8) (cells_of h) found.0.cell [] low (all_cells_whole h are.spaces))
+      (subst (λ (ws : List ℕ). NamesYoung ws) (ap (λ (q : Place). new_cell 0 blocks q) (sym found.2) ∙ has.words) names))
+      (λ none. free_is_not_young (subst (λ (ws : List ℕ). NamesYoung ws) (hold.rest p inside none) names))
+      (find_place won p)
 
 -- ---- the pairs of a full collection
 
@@ -171,7 +192,7 @@ module _ (h : SpaceList) (roots : List Root) (c : Claimed) (are : AreClaims c) (
   to_old : (w : Win) → Contains c.won w → (place_in w.word).space ≡ 0
   to_old = all_in_old h roots c.forward c.won are.words.stand traced.traced
 
-  words_old : AreOld c.forward
+  pub words_old : AreOld c.forward
   words_old = All-from_get_or (λ (word : ℕ). (place_in word).space ≡ 0) c.forward 0 (λ n low. by_word n low (cases_eq (get_or c.forward n 0) 0))
     where
       by_word : (n : ℕ) → n < length c.forward → (get_or c.forward n 0 ≡ 0) ⊎ (get_or c.forward n 0 ≡ 0 → ⊥) → (place_in (get_or c.forward n 0)).space ≡ 0
@@ -181,17 +202,6 @@ module _ (h : SpaceList) (roots : List Root) (c : Claimed) (are : AreClaims c) (
           let word : get_or c.forward n 0 ≡ found.0.word = ap (λ (m : ℕ). get_or c.forward m 0) (sym found.2) ∙ (stands c are found.0 found.1).word in
           ap (λ (w : ℕ). (place_in w).space) word ∙ to_old found.0 found.1
 
-  -- they are all in Old
-  won_old : won_in 0 c.won ≡ c.won
-  won_old = in_all 0 c.won (All-from_get_or (λ (w : Win). (place_in w.word).space ≡ 0) c.won (win_at [] 0) (λ k low. to_old (win_at c.won k) (Contains-get_or c.won k (win_at [] 0) low)))
-
-  pub are_all_old : AreAllOld c.plan.kept c.forward c.won
-  are_all_old =
-      let ends = are.ends 0 (lit< tt) in let few = are.few 0 in let long = ap length won_old in
-      let first : first_new c.plan.kept 0 ≡ 0 = ap (λ (n : ℕ). first_new n 0) kept in
-      record {
-        kept_is = kept;
-        few = omega arith;
-        order = subst (λ (ws : List Win). AreInOrder 0 0 ws) won_old (subst (λ (n : ℕ). AreInOrder 0 n (won_in 0 c.won)) first (are.in_order 0 (lit< tt)));
-        old = words_old;
-      }
+  -- none is in Aged
+  pub none_in_aged : length (won_in 1 c.won) ≡ 0
+  none_in_aged = ap length (in_none 1 c.won (All-from_get_or (λ (w : Win). (place_in w.word).space ≢ 1) c.won (win_at [] 0) (λ k low e. absurd (let z = to_old (win_at c.won k) (Contains-get_or c.won k (win_at [] 0) low) in omega arith))))

@@ -2,11 +2,12 @@ pub mod Claiming
 pub mod Counting
 pub mod Chunks
 pub mod Reasons
+pub mod Walking
 pub mod Pieces
 pub mod Copying
 pub mod Adopted
+pub mod InOrder
 pub mod Collecting
 pub mod Sound
 pub mod Young
 pub mod Behind
-pub mod InOrder

@@ -1,133 +1,241 @@
--- Claims of the pieces of a list, one after the other.
-use Rattle.std.proofs.Common.{◌≡◌, ℕ, ◌≢◌, ◌<◌, ◌+◌, ◌++◌, Bool, false, List, [], length, get_or, take, sym, ap, subst, inr, ◌∙◌}
-use Rattle.std.specs.List.{All, Contains, flat_map}
-use Rattle.std.proofs.lemmas.List.{get_or-map}
-use Rattle.std.proofs.lemmas.List.Elements.{All-append, All-weaker, All-contains, All-contains_itself, Contains-append_left, Contains-append_right, Contains-get_or}
+-- Claims of the targets of roots, and of won cells, piece by piece.
+use Rattle.std.proofs.Common.{◌≡◌, ℕ, ◌≢◌, ◌<◌, ◌≤◌, ◌+◌, ◌++◌, ◌∷◌, ◌==◌, Bool, true, false, List, [], length, get_or, map, take, drop, refl, sym, ap, subst, arith, inr, ◌∙◌, ⊎_elim}
+use Rattle.std.specs.List.{All, Contains}
+use Rattle.std.proofs.lemmas.Bool.{cases_eq}
+use Rattle.std.proofs.lemmas.Bool.Decides.{eqb_tells}
+use Rattle.std.proofs.lemmas.List.{get_or-map, get_or_append_left, length-append, length-map, length_push, map-append, take-append-drop, take-append-le, take_more}
+use Rattle.std.proofs.lemmas.List.Elements.{All-append, All-weaker, All-contains_itself, Contains-append_left, Contains-append_right, Contains-get_or, filter-append}
 use Rattle.tg_word.specs.declared.Place.{Place}
 use Rattle.tg_word.specs.Word.{place_in}
 use Rattle.tg_space.specs.Closure.{IsClosed}
 use Rattle.tg_space.specs.Rows.{link_at}
 use Rattle.tg_space.specs.SpaceList.{SpaceList, cells_of}
-use Rattle.tg_space.specs.Targets.{from_space, targets_at, targets_of, root_targets_of, all_root_targets}
+use Rattle.tg_space.specs.Targets.{cell_numbered, from_space, image_of, named_by, pointers_of, targets_at, targets_of, root_targets_of, all_root_targets}
 use Rattle.tg_space.specs.declared.spaces.Kind.{Kind}
 use Rattle.tg_space.specs.declared.spaces.Root.{Root}
 use Rattle.tg_space.specs.declared.spaces.Root.TheVariants.{Row}
-use Rattle.tg_space.proofs.Adding.{piece, held_piece, closed_more}
-use Rattle.tg_evac.specs.declared.plan.Plan.{Plan}
 use Rattle.tg_evac.specs.declared.win.Win.{Win}
-use Rattle.tg_evac.specs.Claims.{Claimed, AddsClaims, AreTraced, IsClaimOf, IsRootClaim, cells_won, chunk_targets, is_in_old, is_straight, win_at}
-use Rattle.tg_evac.proofs.Claiming.{claims_then, claims_weaker, still_held}
+use Rattle.tg_evac.specs.Claims.{AreTraced, Claimed, IsClaimOf, cells_won, IsRootClaim, chunk_targets, is_in, is_in_old, is_straight, win_at, won_in}
+use Rattle.tg_evac.specs.Claimers.{AddsWins, AreScanned, KeepsWins, KnowsMore, Walked, copies_to, image_at, walked_of}
+use Rattle.tg_evac.proofs.Claiming.{in_other, in_push}
 use Rattle.tg_evac.proofs.Chunks.{ChunksPassed, chunk_inside, one_passed, row_kept}
-use Rattle.tg_evac.proofs.Reasons.{adds_cells, traced_more}
-
--- a claim of one of these cells is one of more cells
-pub wider : {h : SpaceList} {straight : Bool} (few many : List ℕ) → All (Contains many) few → (w : Win) → IsClaimOf h straight few w → IsClaimOf h straight many w
-wider few many all w claim = record { one = All-contains (Contains many) few w.cell all claim.one; place = claim.place; held = claim.held; at = claim.at; to = claim.to }
-
--- the plan stays as it was
-module _ {reason : Win → Type 0} {a b : Claimed} (adds : AddsClaims reason a b) where
-  pub same_kind : b.plan.kind ≡ a.plan.kind
-  same_kind = ap (λ (p : Plan). p.kind) adds.same_plan
-
-module _ {X : Type 0} (f : Kind → X → List ℕ) (h : SpaceList) (straight : Bool) (xs : List X) (i : ℕ) (d : X) (inside : i < length xs) {a b c : Claimed}
-    (one : AddsClaims (IsClaimOf h straight (flat_map (f a.plan.kind) xs)) a b) (two : AddsClaims (IsClaimOf h straight (f b.plan.kind (get_or xs i d))) b c) where
-  two_is : AddsClaims (IsClaimOf h straight (f a.plan.kind (get_or xs i d))) b c
-  two_is = subst (λ (k : Kind). AddsClaims (IsClaimOf h straight (f k (get_or xs i d))) b c) (same_kind one) two
-
-  pub claims_piece : AddsClaims (IsClaimOf h straight (flat_map (f a.plan.kind) xs)) a c
-  claims_piece =
-      claims_then one (claims_weaker two_is (wider (f a.plan.kind (get_or xs i d)) (flat_map (f a.plan.kind) xs) (piece (f a.plan.kind) xs i d inside)))
-
-  pub held_more : All (Contains (cells_won b.won)) (flat_map (f a.plan.kind) (take i xs)) → All (Contains (cells_won c.won)) (f b.plan.kind (get_or xs i d)) → All (Contains (cells_won c.won)) (flat_map (f a.plan.kind) (take (i + 1) xs))
-  held_more before here =
-      held_piece (f a.plan.kind) xs i d inside (cells_won b.won) (cells_won c.won)
-      (adds_cells (f a.plan.kind (get_or xs i d)) two_is (λ w claim. claim.one)) before
-      (subst (λ (k : Kind). All (Contains (cells_won c.won)) (f k (get_or xs i d))) (same_kind one) here)
+use Rattle.tg_evac.proofs.Reasons.{traced_more}
+use Rattle.tg_evac.proofs.Walking.{met_piece, still_met, wider, wins_then, wins_weaker}
 
 -- the targets of a root
-module _ (h : SpaceList) (roots : List Root) (i : ℕ) (d : Root) (inside : i < length roots) {a b c : Claimed}
-    (one : AddsClaims (IsRootClaim a.plan.kind h roots) a b)
-    (two : AddsClaims (IsClaimOf h (is_straight b.plan.kind (get_or roots i d)) (root_targets_of (from_space b.plan.kind) h (get_or roots i d))) b c) where
-  root_is : AddsClaims (IsClaimOf h (is_straight a.plan.kind (get_or roots i d)) (root_targets_of (from_space a.plan.kind) h (get_or roots i d))) b c
-  root_is = subst (λ (k : Kind). AddsClaims (IsClaimOf h (is_straight k (get_or roots i d)) (root_targets_of (from_space k) h (get_or roots i d))) b c) (same_kind one) two
+module _ (h : SpaceList) (roots : List Root) (i : ℕ) (d : Root) (inside : i < length roots) {a b c : Walked}
+    (one : AddsWins (IsRootClaim a.kind h roots) a b)
+    (two : AddsWins (IsClaimOf h (is_straight b.kind (get_or roots i d)) (root_targets_of (from_space b.kind) h (get_or roots i d))) b c) where
+  root_is : AddsWins (IsClaimOf h (is_straight a.kind (get_or roots i d)) (root_targets_of (from_space a.kind) h (get_or roots i d))) b c
+  root_is = subst (λ (k : Kind). AddsWins (IsClaimOf h (is_straight k (get_or roots i d)) (root_targets_of (from_space k) h (get_or roots i d))) b c) one.same_kind two
 
-  pub claims_root : AddsClaims (IsRootClaim a.plan.kind h roots) a c
-  claims_root = claims_then one (claims_weaker root_is (λ w claim. record { root = get_or roots i d; is = Contains-get_or roots i d inside; claim = claim }))
+  pub wins_root : AddsWins (IsRootClaim a.kind h roots) a c
+  wins_root = wins_then one (wins_weaker root_is (λ w claim. record { root = get_or roots i d; is = Contains-get_or roots i d inside; claim = claim }))
 
-  pub held_root : All (Contains (cells_won b.won)) (all_root_targets (from_space a.plan.kind) h (take i roots)) → All (Contains (cells_won c.won)) (root_targets_of (from_space b.plan.kind) h (get_or roots i d)) → All (Contains (cells_won c.won)) (all_root_targets (from_space a.plan.kind) h (take (i + 1) roots))
-  held_root before here =
-      held_piece (root_targets_of (from_space a.plan.kind) h) roots i d inside (cells_won b.won) (cells_won c.won)
-      (adds_cells (root_targets_of (from_space a.plan.kind) h (get_or roots i d)) root_is (λ w claim. claim.one)) before
-      (subst (λ (k : Kind). All (Contains (cells_won c.won)) (root_targets_of (from_space k) h (get_or roots i d))) (same_kind one) here)
+  pub met_root : All (Contains b.met) (all_root_targets (from_space a.kind) h (take i roots)) → All (Contains c.met) (root_targets_of (from_space b.kind) h (get_or roots i d)) → All (Contains c.met) (all_root_targets (from_space a.kind) h (take (i + 1) roots))
+  met_root before here =
+      met_piece (root_targets_of (from_space a.kind) h) roots i d inside b.met c.met root_is.still before
+      (subst (λ (k : Kind). All (Contains c.met) (root_targets_of (from_space k) h (get_or roots i d))) one.same_kind here)
 
 -- the targets of one more chunk
-module _ (h : SpaceList) (straight : Bool) (count first passed link : ℕ) (chunk : Place) (is : chunk ≡ place_in link) {a b c : Claimed}
-    (one : AddsClaims (IsClaimOf h straight (chunk_targets (from_space a.plan.kind) h count first)) a b)
-    (two : AddsClaims (IsClaimOf h straight (targets_at (from_space b.plan.kind) h chunk)) b c)
-    (before : ChunksPassed (from_space a.plan.kind) h count first passed link (cells_won b.won)) (more : passed < count) (some : link ≢ 0) (kept : from_space a.plan.kind (place_in link).space ≡ false) where
-  chunk_is : AddsClaims (IsClaimOf h straight (targets_at (from_space a.plan.kind) h (place_in link))) b c
+module _ (h : SpaceList) (straight : Bool) (count first passed link : ℕ) (chunk : Place) (is : chunk ≡ place_in link) {a b c : Walked}
+    (one : AddsWins (IsClaimOf h straight (chunk_targets (from_space a.kind) h count first)) a b)
+    (two : AddsWins (IsClaimOf h straight (targets_at (from_space b.kind) h chunk)) b c)
+    (before : ChunksPassed (from_space a.kind) h count first passed link b.met) (more : passed < count) (some : link ≢ 0) (kept : from_space a.kind (place_in link).space ≡ false) where
+  chunk_is : AddsWins (IsClaimOf h straight (targets_at (from_space a.kind) h (place_in link))) b c
   chunk_is =
-      subst (λ (p : Place). AddsClaims (IsClaimOf h straight (targets_at (from_space a.plan.kind) h p)) b c) is
-      (subst (λ (k : Kind). AddsClaims (IsClaimOf h straight (targets_at (from_space k) h chunk)) b c) (same_kind one) two)
+      subst (λ (p : Place). AddsWins (IsClaimOf h straight (targets_at (from_space a.kind) h p)) b c) is
+      (subst (λ (k : Kind). AddsWins (IsClaimOf h straight (targets_at (from_space k) h chunk)) b c) one.same_kind two)
 
-  pub claims_chunk : AddsClaims (IsClaimOf h straight (chunk_targets (from_space a.plan.kind) h count first)) a c
-  claims_chunk =
-      claims_then one (claims_weaker chunk_is (wider (targets_at (from_space a.plan.kind) h (place_in link)) (chunk_targets (from_space a.plan.kind) h count first) (chunk_inside (from_space a.plan.kind) h before more some kept)))
+  pub wins_chunk : AddsWins (IsClaimOf h straight (chunk_targets (from_space a.kind) h count first)) a c
+  wins_chunk =
+      wins_then one (wins_weaker chunk_is (wider (targets_at (from_space a.kind) h (place_in link)) (chunk_targets (from_space a.kind) h count first) (chunk_inside (from_space a.kind) h before more some kept)))
 
-  pub held_chunk : All (Contains (cells_won c.won)) (targets_at (from_space b.plan.kind) h chunk) → ChunksPassed (from_space a.plan.kind) h count first (passed + 1) (link_at h (place_in link)) (cells_won c.won)
-  held_chunk here =
-      one_passed (from_space a.plan.kind) h before more some kept (cells_won c.won) (still_held chunk_is before.done before.held)
-      (subst (λ (p : Place). All (Contains (cells_won c.won)) (targets_at (from_space a.plan.kind) h p)) is
-      (subst (λ (k : Kind). All (Contains (cells_won c.won)) (targets_at (from_space k) h chunk)) (same_kind one) here))
+  pub met_chunk : All (Contains c.met) (targets_at (from_space b.kind) h chunk) → ChunksPassed (from_space a.kind) h count first (passed + 1) (link_at h (place_in link)) c.met
+  met_chunk here =
+      one_passed (from_space a.kind) h before more some kept c.met (still_met chunk_is before.done before.held)
+      (subst (λ (p : Place). All (Contains c.met) (targets_at (from_space a.kind) h p)) is
+      (subst (λ (k : Kind). All (Contains c.met) (targets_at (from_space k) h chunk)) one.same_kind here))
 
 -- the targets of a row whose object stays
-module _ (h : SpaceList) (straight : Bool) (object : Place) {a b : Claimed} (kept : from_space a.plan.kind object.space ≡ false)
-    (one : AddsClaims (IsClaimOf h straight (targets_at (from_space a.plan.kind) h object)) a b) where
-  pub row_first : AddsClaims (IsClaimOf h straight (root_targets_of (from_space a.plan.kind) h (Row object))) a b
-  row_first = claims_weaker one (wider (targets_at (from_space a.plan.kind) h object) (root_targets_of (from_space a.plan.kind) h (Row object))
-      (subst (λ (ts : List ℕ). All (Contains ts) (targets_at (from_space a.plan.kind) h object)) (sym (row_kept (from_space a.plan.kind) h object kept))
-      (All-weaker (Contains (targets_at (from_space a.plan.kind) h object)) (Contains (targets_at (from_space a.plan.kind) h object ++ chunk_targets (from_space a.plan.kind) h (length (cells_of h)) (link_at h object)))
-      (λ x held. Contains-append_left (targets_at (from_space a.plan.kind) h object) (chunk_targets (from_space a.plan.kind) h (length (cells_of h)) (link_at h object)) x held)
-      (targets_at (from_space a.plan.kind) h object) (All-contains_itself (targets_at (from_space a.plan.kind) h object)))))
+module _ (h : SpaceList) (straight : Bool) (object : Place) {a b : Walked} (kept : from_space a.kind object.space ≡ false)
+    (one : AddsWins (IsClaimOf h straight (targets_at (from_space a.kind) h object)) a b) where
+  pub row_first : AddsWins (IsClaimOf h straight (root_targets_of (from_space a.kind) h (Row object))) a b
+  row_first = wins_weaker one (wider (targets_at (from_space a.kind) h object) (root_targets_of (from_space a.kind) h (Row object))
+      (subst (λ (ts : List ℕ). All (Contains ts) (targets_at (from_space a.kind) h object)) (sym (row_kept (from_space a.kind) h object kept))
+      (All-weaker (Contains (targets_at (from_space a.kind) h object)) (Contains (targets_at (from_space a.kind) h object ++ chunk_targets (from_space a.kind) h (length (cells_of h)) (link_at h object)))
+      (λ x held. Contains-append_left (targets_at (from_space a.kind) h object) (chunk_targets (from_space a.kind) h (length (cells_of h)) (link_at h object)) x held)
+      (targets_at (from_space a.kind) h object) (All-contains_itself (targets_at (from_space a.kind) h object)))))
 
-  module _ {c : Claimed} (two : AddsClaims (IsClaimOf h straight (chunk_targets (from_space b.plan.kind) h (length (cells_of h)) (link_at h object))) b c) where
-    chunks_is : AddsClaims (IsClaimOf h straight (chunk_targets (from_space a.plan.kind) h (length (cells_of h)) (link_at h object))) b c
-    chunks_is = subst (λ (k : Kind). AddsClaims (IsClaimOf h straight (chunk_targets (from_space k) h (length (cells_of h)) (link_at h object))) b c) (same_kind one) two
+  module _ {c : Walked} (two : AddsWins (IsClaimOf h straight (chunk_targets (from_space b.kind) h (length (cells_of h)) (link_at h object))) b c) where
+    chunks_is : AddsWins (IsClaimOf h straight (chunk_targets (from_space a.kind) h (length (cells_of h)) (link_at h object))) b c
+    chunks_is = subst (λ (k : Kind). AddsWins (IsClaimOf h straight (chunk_targets (from_space k) h (length (cells_of h)) (link_at h object))) b c) one.same_kind two
 
-    pub row_both : AddsClaims (IsClaimOf h straight (root_targets_of (from_space a.plan.kind) h (Row object))) a c
-    row_both = claims_then row_first (claims_weaker chunks_is (wider (chunk_targets (from_space a.plan.kind) h (length (cells_of h)) (link_at h object)) (root_targets_of (from_space a.plan.kind) h (Row object))
-        (subst (λ (ts : List ℕ). All (Contains ts) (chunk_targets (from_space a.plan.kind) h (length (cells_of h)) (link_at h object))) (sym (row_kept (from_space a.plan.kind) h object kept))
-        (All-weaker (Contains (chunk_targets (from_space a.plan.kind) h (length (cells_of h)) (link_at h object))) (Contains (targets_at (from_space a.plan.kind) h object ++ chunk_targets (from_space a.plan.kind) h (length (cells_of h)) (link_at h object)))
-        (λ x held. Contains-append_right (targets_at (from_space a.plan.kind) h object) (chunk_targets (from_space a.plan.kind) h (length (cells_of h)) (link_at h object)) x held)
-        (chunk_targets (from_space a.plan.kind) h (length (cells_of h)) (link_at h object)) (All-contains_itself (chunk_targets (from_space a.plan.kind) h (length (cells_of h)) (link_at h object)))))))
+    pub row_both : AddsWins (IsClaimOf h straight (root_targets_of (from_space a.kind) h (Row object))) a c
+    row_both = wins_then row_first (wins_weaker chunks_is (wider (chunk_targets (from_space a.kind) h (length (cells_of h)) (link_at h object)) (root_targets_of (from_space a.kind) h (Row object))
+        (subst (λ (ts : List ℕ). All (Contains ts) (chunk_targets (from_space a.kind) h (length (cells_of h)) (link_at h object))) (sym (row_kept (from_space a.kind) h object kept))
+        (All-weaker (Contains (chunk_targets (from_space a.kind) h (length (cells_of h)) (link_at h object))) (Contains (targets_at (from_space a.kind) h object ++ chunk_targets (from_space a.kind) h (length (cells_of h)) (link_at h object)))
+        (λ x held. Contains-append_right (targets_at (from_space a.kind) h object) (chunk_targets (from_space a.kind) h (length (cells_of h)) (link_at h object)) x held)
+        (chunk_targets (from_space a.kind) h (length (cells_of h)) (link_at h object)) (All-contains_itself (chunk_targets (from_space a.kind) h (length (cells_of h)) (link_at h object)))))))
 
-    pub row_held : All (Contains (cells_won b.won)) (targets_at (from_space a.plan.kind) h object) → All (Contains (cells_won c.won)) (chunk_targets (from_space b.plan.kind) h (length (cells_of h)) (link_at h object)) → All (Contains (cells_won c.won)) (root_targets_of (from_space a.plan.kind) h (Row object))
-    row_held first rest =
-        subst (λ (ts : List ℕ). All (Contains (cells_won c.won)) ts) (sym (row_kept (from_space a.plan.kind) h object kept))
-        (All-append (Contains (cells_won c.won)) (targets_at (from_space a.plan.kind) h object) (chunk_targets (from_space a.plan.kind) h (length (cells_of h)) (link_at h object))
-        (still_held chunks_is (targets_at (from_space a.plan.kind) h object) first)
-        (subst (λ (k : Kind). All (Contains (cells_won c.won)) (chunk_targets (from_space k) h (length (cells_of h)) (link_at h object))) (same_kind one) rest))
+    pub row_met : All (Contains b.met) (targets_at (from_space a.kind) h object) → All (Contains c.met) (chunk_targets (from_space b.kind) h (length (cells_of h)) (link_at h object)) → All (Contains c.met) (root_targets_of (from_space a.kind) h (Row object))
+    row_met first rest =
+        subst (λ (ts : List ℕ). All (Contains c.met) ts) (sym (row_kept (from_space a.kind) h object kept))
+        (All-append (Contains c.met) (targets_at (from_space a.kind) h object) (chunk_targets (from_space a.kind) h (length (cells_of h)) (link_at h object))
+        (still_met chunks_is (targets_at (from_space a.kind) h object) first)
+        (subst (λ (k : Kind). All (Contains c.met) (chunk_targets (from_space k) h (length (cells_of h)) (link_at h object))) one.same_kind rest))
 
--- the targets of one more won cell
-module _ (h : SpaceList) (kind : Kind) (next : ℕ) (w : Win) (old : Bool) {b c : Claimed} (same : b.plan.kind ≡ kind) (low : next < length b.won) (is : w ≡ win_at b.won next) (in_old : old ≡ is_in_old w)
-    (two : AddsClaims (IsClaimOf h old (targets_of (from_space b.plan.kind) h w.cell)) b c) where
-  scan_is : AddsClaims (IsClaimOf h (is_in_old (win_at b.won next)) (targets_of (from_space kind) h (win_at b.won next).cell)) b c
+-- ---- scanned cells
+
+copies_push : (space : ℕ) (kind : Kind) (h : SpaceList) (to : ℕ → Place) (won : List Win) (w : Win) → (place_in w.word).space ≡ space → copies_to space kind h to (won ++ w ∷ []) ≡ copies_to space kind h to won ++ image_at kind h to w.cell ∷ []
+copies_push space kind h to won w here =
+    let f = λ (v : Win). image_at kind h to v.cell in
+    ap (map f) (in_push space won w here) ∙ map-append f (won_in space won) (w ∷ [])
+
+copies_other : (space : ℕ) (kind : Kind) (h : SpaceList) (to : ℕ → Place) (won : List Win) (w : Win) → (place_in w.word).space ≢ space → copies_to space kind h to (won ++ w ∷ []) ≡ copies_to space kind h to won
+copies_other space kind h to won w other = ap (map (λ (v : Win). image_at kind h to v.cell)) (in_other space won w other)
+
+-- what was scanned stays so
+module _ {h : SpaceList} {reason : Win → Type 0} {b c : Walked} {before after : (ℕ → Place) → Type 0} {n : ℕ} {aged old : List (List ℕ)}
+    (so : AreScanned h b before n aged old) (adds : AddsWins reason b c) (grows : KnowsMore before after) where
+  same_win : (k : ℕ) → k < n → win_at c.won k ≡ win_at b.won k
+  same_win k low = let within = so.within in ap (λ (ws : List Win). win_at ws k) adds.is ∙ get_or_append_left b.won adds.added (win_at [] 0) k (omega arith)
+
+  same_first : take n c.won ≡ take n b.won
+  same_first = ap (take n) adds.is ∙ take-append-le n b.won adds.added so.within
+
+  copies_same : (space : ℕ) (to : ℕ → Place) → copies_to space b.kind h to (take n b.won) ≡ copies_to space c.kind h to (take n c.won)
+  copies_same space to =
+      ap (λ (k : Kind). copies_to space k h to (take n b.won)) (sym adds.same_kind) ∙ ap (copies_to space c.kind h to) (sym same_first)
+
+  pub scanned_more : AreScanned h c after n aged old
+  scanned_more = record {
+    within = let within = so.within in let long = ap length adds.is ∙ length-append b.won adds.added in omega arith;
+    met = λ k low.
+        subst (λ (w : Win). All (Contains c.met) (targets_of (from_space c.kind) h w.cell)) (sym (same_win k low))
+        (subst (λ (kind : Kind). All (Contains c.met) (targets_of (from_space kind) h (win_at b.won k).cell)) (sym adds.same_kind)
+        (still_met adds (targets_of (from_space b.kind) h (win_at b.won k).cell) (so.met k low)));
+    aged_long = so.aged_long ∙ ap (λ (ws : List Win). length (won_in 1 ws)) (sym same_first);
+    old_long = so.old_long ∙ ap (λ (ws : List Win). length (won_in 0 ws)) (sym same_first);
+    in_aged = λ to agrees. so.in_aged to (grows to agrees) ∙ copies_same 1 to;
+    in_old = λ to agrees. so.in_old to (grows to agrees) ∙ copies_same 0 to;
+  }
+
+-- one more cell was scanned
+module _ {h : SpaceList} {b : Walked} {knows : (ℕ → Place) → Type 0} {n : ℕ} {aged old : List (List ℕ)} (so : AreScanned h b knows n aged old)
+    (low : n < length b.won) (w : Win) (is : w ≡ win_at b.won n) (met : All (Contains b.met) (targets_of (from_space b.kind) h w.cell))
+    (words : List ℕ) (image : (to : ℕ → Place) → knows to → words ≡ image_at b.kind h to w.cell) where
+  more : take (n + 1) b.won ≡ take n b.won ++ w ∷ []
+  more = take_more b.won n (win_at [] 0) low ∙ ap (λ (v : Win). take n b.won ++ v ∷ []) (sym is)
+
+  module _ (space : ℕ) (before after : List (List ℕ)) where
+    pub copied_long : length before ≡ length (won_in space (take n b.won)) → ((place_in w.word).space ≡ space → after ≡ before ++ words ∷ []) → ((place_in w.word).space ≢ space → after ≡ before) →
+        length after ≡ length (won_in space (take (n + 1) b.won))
+    copied_long was new left = ⊎_elim
+        (λ (here : (place_in w.word).space ≡ space).
+        ap length (new here) ∙ length_push before words ∙ ap (λ (m : ℕ). m + 1) was ∙ sym (ap (λ (ws : List Win). length (won_in space ws)) more ∙ ap length (in_push space (take n b.won) w here) ∙ length_push (won_in space (take n b.won)) w))
+        (λ (other : (place_in w.word).space ≢ space).
+        ap length (left other) ∙ was ∙ sym (ap (λ (ws : List Win). length (won_in space ws)) more ∙ ap length (in_other space (take n b.won) w other)))
+        (cases_eq (place_in w.word).space space)
+
+    pub copied_is : ((to : ℕ → Place) → knows to → before ≡ copies_to space b.kind h to (take n b.won)) → ((place_in w.word).space ≡ space → after ≡ before ++ words ∷ []) → ((place_in w.word).space ≢ space → after ≡ before) →
+        (to : ℕ → Place) → knows to → after ≡ copies_to space b.kind h to (take (n + 1) b.won)
+    copied_is was new left to agrees = ⊎_elim
+        (λ (here : (place_in w.word).space ≡ space).
+        new here ∙ ap (λ (cells : List (List ℕ)). cells ++ words ∷ []) (was to agrees) ∙ ap (λ (ws : List ℕ). copies_to space b.kind h to (take n b.won) ++ ws ∷ []) (image to agrees)
+        ∙ sym (ap (copies_to space b.kind h to) more ∙ copies_push space b.kind h to (take n b.won) w here))
+        (λ (other : (place_in w.word).space ≢ space).
+        left other ∙ was to agrees ∙ sym (ap (copies_to space b.kind h to) more ∙ copies_other space b.kind h to (take n b.won) w other))
+        (cases_eq (place_in w.word).space space)
+
+  pub scanned_next : (aged_after old_after : List (List ℕ)) → ((place_in w.word).space ≡ 1 → aged_after ≡ aged ++ words ∷ []) → ((place_in w.word).space ≢ 1 → aged_after ≡ aged) →
+      ((place_in w.word).space ≡ 0 → old_after ≡ old ++ words ∷ []) → ((place_in w.word).space ≢ 0 → old_after ≡ old) → AreScanned h b knows (n + 1) aged_after old_after
+  scanned_next aged_after old_after aged_new aged_left old_new old_left = record {
+    within = omega arith;
+    met = λ k below. ⊎_elim
+        (λ (last : k ≡ n). subst (λ (v : Win). All (Contains b.met) (targets_of (from_space b.kind) h v.cell)) (is ∙ ap (λ (m : ℕ). win_at b.won m) (sym last)) met)
+        (λ (other : k ≢ n). so.met k (omega arith))
+        (cases_eq k n);
+    aged_long = copied_long 1 aged aged_after so.aged_long aged_new aged_left;
+    old_long = copied_long 0 old old_after so.old_long old_new old_left;
+    in_aged = copied_is 1 aged aged_after so.in_aged aged_new aged_left;
+    in_old = copied_is 0 old old_after so.in_old old_new old_left;
+  }
+
+-- a pair that is not among the first takes the room of one more
+pub room_left : (space : ℕ) (won : List Win) (n : ℕ) → n < length won → (place_in (win_at won n).word).space ≡ space → length (won_in space (take n won)) < length (won_in space won)
+room_left space won n low here =
+    let first : won_in space (take (n + 1) won) ≡ won_in space (take n won) ++ win_at won n ∷ [] =
+    ap (won_in space) (take_more won n (win_at [] 0) low) ∙ in_push space (take n won) (win_at won n) here in
+    let long = ap length first ∙ length_push (won_in space (take n won)) (win_at won n) in
+    let all : won_in space won ≡ won_in space (take (n + 1) won) ++ won_in space (drop (n + 1) won) =
+    ap (won_in space) (sym (take-append-drop (n + 1) won)) ∙ filter-append (is_in space) (take (n + 1) won) (drop (n + 1) won) in
+    let whole = ap length all ∙ length-append (won_in space (take (n + 1) won)) (won_in space (drop (n + 1) won)) in
+    omega arith
+
+-- one more cell is scanned: what it names is claimed, and it is copied
+module _ (h : SpaceList) (n : ℕ) (w : Win) (straight : Bool) (source : List ℕ) {b c : Walked} {before : (ℕ → Place) → Type 0} {aged old : List (List ℕ)}
+    (so : AreScanned h b before n aged old) (low : n < length b.won) (is : w ≡ win_at b.won n) (in_old : straight ≡ is_in_old w) (at : source ≡ cell_numbered h w.cell)
+    (added : AddsWins (IsClaimOf h straight (named_by (from_space b.kind) h (pointers_of source))) b c) where
+  two : AddsWins (IsClaimOf h straight (targets_of (from_space b.kind) h w.cell)) b c
+  two = subst (λ (ws : List ℕ). AddsWins (IsClaimOf h straight (named_by (from_space b.kind) h (pointers_of ws))) b c) at added
+
+  scan_is : AddsWins (IsClaimOf h (is_in_old (win_at b.won n)) (targets_of (from_space b.kind) h (win_at b.won n).cell)) b c
   scan_is =
-      subst (λ (v : Win). AddsClaims (IsClaimOf h (is_in_old v) (targets_of (from_space kind) h v.cell)) b c) is
-      (subst (λ (o : Bool). AddsClaims (IsClaimOf h o (targets_of (from_space kind) h w.cell)) b c) in_old
-      (subst (λ (k : Kind). AddsClaims (IsClaimOf h old (targets_of (from_space k) h w.cell)) b c) same two))
+      subst (λ (v : Win). AddsWins (IsClaimOf h (is_in_old v) (targets_of (from_space b.kind) h v.cell)) b c) is
+      (subst (λ (o : Bool). AddsWins (IsClaimOf h o (targets_of (from_space b.kind) h w.cell)) b c) in_old two)
 
-  pub scan_traced : (roots : List Root) → AreTraced kind h roots b.won → AreTraced kind h roots c.won
-  scan_traced roots traced = traced_more kind h roots scan_is (λ v claim. inr (next, low, claim)) traced
+  pub scan_traced : (roots : List Root) → AreTraced b.kind h roots b.won → AreTraced b.kind h roots c.won
+  scan_traced roots traced = traced_more b.kind h roots scan_is (λ v claim. inr (n, low, claim)) traced
 
-  pub scan_kept : (xs : List ℕ) → All (Contains (cells_won b.won)) xs → All (Contains (cells_won c.won)) xs
-  scan_kept xs held = still_held scan_is xs held
+  pub scan_keeps : KeepsWins b c
+  scan_keeps = wins_weaker two (λ v claim. tt)
 
-  pub scan_closed : next < length (cells_won b.won) → IsClosed (targets_of (from_space kind) h) (cells_won b.won) next → All (Contains (cells_won c.won)) (targets_of (from_space b.plan.kind) h w.cell) → IsClosed (targets_of (from_space kind) h) (cells_won c.won) (next + 1)
-  scan_closed below closed here =
-      let cell : get_or (cells_won b.won) next 0 ≡ w.cell = get_or-map (λ (v : Win). v.cell) b.won next (win_at [] 0) 0 low ∙ ap (λ (v : Win). v.cell) (sym is) in
-      let targets : targets_of (from_space b.plan.kind) h w.cell ≡ targets_of (from_space kind) h (get_or (cells_won b.won) next 0) =
-      ap (λ (k : Kind). targets_of (from_space k) h w.cell) same ∙ ap (targets_of (from_space kind) h) (sym cell) in
-      closed_more [] (targets_of (from_space kind) h)
-      (adds_cells (targets_of (from_space kind) h (win_at b.won next).cell) scan_is (λ v claim. claim.one)) next below closed
-      (subst (λ (ts : List ℕ). All (Contains (cells_won c.won)) ts) targets here)
+  pub scan_room : (space room : ℕ) (cells : List (List ℕ)) → length cells ≡ length (won_in space (take n b.won)) → length (won_in space b.won) ≤ room → (place_in w.word).space ≡ space → length cells < room
+  scan_room space room cells long few here =
+      let left = room_left space b.won n low (ap (λ (v : Win). (place_in v.word).space) (sym is) ∙ here) in omega arith
+
+  pub straight_old : straight ≡ true → (place_in w.word).space ≡ 0
+  straight_old is_true = ⊎_elim (λ (e : ((place_in w.word).space == 0 ≡ true) × ((place_in w.word).space ≡ 0)). e.1)
+      (λ (ne : ((place_in w.word).space == 0 ≡ false) × ((place_in w.word).space ≢ 0)). absurd (let both : true ≡ false = sym is_true ∙ in_old ∙ ne.0 in cc)) (eqb_tells (place_in w.word).space 0)
+
+  pub straight_aged : straight ≡ false → (place_in w.word).space ≢ 0
+  straight_aged isnt = ⊎_elim (λ (e : ((place_in w.word).space == 0 ≡ true) × ((place_in w.word).space ≡ 0)). absurd (let both : true ≡ false = sym e.0 ∙ sym in_old ∙ isnt in cc))
+      (λ (ne : ((place_in w.word).space == 0 ≡ false) × ((place_in w.word).space ≢ 0)). ne.1) (eqb_tells (place_in w.word).space 0)
+
+  pub scan_scanned : {after : (ℕ → Place) → Type 0} → KnowsMore before after → All (Contains c.met) (named_by (from_space b.kind) h (pointers_of source)) → (words : List ℕ) → ((to : ℕ → Place) → after to → words ≡ image_of (from_space b.kind) h to source) → (place_in w.word).space < 2 →
+      (aged_after old_after : List (List ℕ)) → (straight ≡ true → old_after ≡ old ++ words ∷ []) → (straight ≡ false → old_after ≡ old) → (straight ≡ false → aged_after ≡ aged ++ words ∷ []) → (straight ≡ true → aged_after ≡ aged) → AreScanned h c after (n + 1) aged_after old_after
+  scan_scanned {after} grows met words image low_space aged_after old_after old_new old_kept aged_new aged_kept =
+      let kept = scanned_more so two grows in
+      let low_now : n < length c.won = let long = ap length two.is ∙ length-append b.won two.added in omega arith in
+      let is_now : w ≡ win_at c.won n = is ∙ sym (ap (λ (ws : List Win). win_at ws n) two.is ∙ get_or_append_left b.won two.added (win_at [] 0) n low) in
+      let met_now : All (Contains c.met) (targets_of (from_space c.kind) h w.cell) =
+      subst (λ (k : Kind). All (Contains c.met) (targets_of (from_space k) h w.cell)) (sym two.same_kind) (subst (λ (ws : List ℕ). All (Contains c.met) (named_by (from_space b.kind) h (pointers_of ws))) at met) in
+      let image_now : (to : ℕ → Place) → after to → words ≡ image_at c.kind h to w.cell = λ (to : ℕ → Place) (agrees : after to).
+      image to agrees ∙ ap (image_of (from_space b.kind) h to) at ∙ ap (λ (k : Kind). image_at k h to w.cell) (sym two.same_kind) in
+      by_test straight refl kept low_now is_now met_now image_now
+    where
+      by_test : (b : Bool) → straight ≡ b → AreScanned h c after n aged old → n < length c.won → w ≡ win_at c.won n → All (Contains c.met) (targets_of (from_space c.kind) h w.cell) → ((to : ℕ → Place) → after to → words ≡ image_at c.kind h to w.cell) → AreScanned h c after (n + 1) aged_after old_after
+      by_test true is_true kept low_now is_now met_now image_now =
+          let here = straight_old is_true in
+          scanned_next kept low_now w is_now met_now words image_now aged_after old_after (λ one. absurd (omega arith)) (λ other. aged_kept is_true) (λ zero_is. old_new is_true) (λ other. absurd (other here))
+      by_test false isnt kept low_now is_now met_now image_now =
+          let other = straight_aged isnt in
+          scanned_next kept low_now w is_now met_now words image_now aged_after old_after (λ one. aged_new isnt) (λ not_one. absurd (omega arith)) (λ zero_is. absurd (other zero_is)) (λ _. old_kept isnt)
+
+-- ---- the plain table
+
+-- no cell was scanned
+pub none_scanned : (h : SpaceList) (w : Walked) (knows : (ℕ → Place) → Type 0) (scanned : ℕ) (aged old : List (List ℕ)) → scanned ≡ 0 → aged ≡ [] → old ≡ [] → AreScanned h w knows scanned aged old
+none_scanned h w knows scanned aged old none no_aged no_old =
+    rw (none, no_aged, no_old) (record { within = omega arith; met = λ k low. absurd (omega arith); aged_long = refl; old_long = refl; in_aged = λ to agrees. refl; in_old = λ to agrees. refl })
+
+-- the plan stays as it was
+pub plan_kept : (a b : Claimed) {reason : Win → Type 0} → AddsWins reason (walked_of a) (walked_of b) → b.plan ≡ a.plan
+plan_kept a b adds i = record { kind = adds.same_kind i; kept = adds.same_kept i; room = adds.same_room i }
+
+-- where all won cells were scanned, what they name was won
+pub closed_from : (h : SpaceList) (c : Claimed) (knows : (ℕ → Place) → Type 0) {aged old : List (List ℕ)} → AreScanned h (walked_of c) knows (length c.won) aged old → IsClosed (targets_of (from_space c.plan.kind) h) (cells_won c.won) (length (cells_won c.won))
+closed_from h c knows so k low =
+    let below : k < length c.won = rw length-map at low in
+    subst (λ (n : ℕ). All (Contains (cells_won c.won)) (targets_of (from_space c.plan.kind) h n)) (sym (get_or-map (λ (v : Win). v.cell) c.won k (win_at [] 0) 0 below)) (so.met k below)

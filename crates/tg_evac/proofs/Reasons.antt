@@ -2,13 +2,13 @@
 use Rattle.std.proofs.Common.{◌≡◌, ◌≢◌, ℕ, zero, suc, ◌<◌, ◌≤◌, ◌+◌, ◌-◌, ◌*◌, ◌⊎◌, ◌==◌, Bool, true, false, List, [], length, get_or, refl, sym, ap, subst, arith, ◌∙◌, inl, inr, ⊎_elim}
 use Rattle.std.specs.List.{All, Contains}
 use Rattle.std.proofs.lemmas.List.{get_or-map, length-map, length-append, get_or_append_left, get_or-append_right, get_or_default}
-use Rattle.std.proofs.lemmas.List.Elements.{All-weaker, All-map, All-get_or, All-contains, All-from_get_or, Contains-get_or}
+use Rattle.std.proofs.lemmas.List.Elements.{All-map, All-get_or, All-contains, All-from_get_or, Contains-get_or}
 use Rattle.std.proofs.lemmas.Bool.{cases_lt, cases_eq}
 use Rattle.std.proofs.lemmas.Bool.Decides.{eqb_tells}
 use Rattle.tg_model.specs.Walks.{Walk, begins, goes}
 use Rattle.tg_word.specs.declared.Place.{Place}
 use Rattle.tg_word.specs.Word.{place_in}
-use Rattle.tg_space.specs.Closure.{AddsFrom, IsTraced}
+use Rattle.tg_space.specs.Closure.{IsTraced}
 use Rattle.tg_space.specs.Collection.{used_cells}
 use Rattle.tg_space.specs.Generations.{AreAged, GoesTo, IsAgedCell, IsNextIn, IsNurseryCell, IsRememberedTarget, IsRowTarget}
 use Rattle.tg_space.specs.Soundness.{IsRootIn}
@@ -22,8 +22,8 @@ use Rattle.tg_space.proofs.Adding.{piece}
 use Rattle.tg_space.proofs.Flat.{same_place, flat_inside}
 use Rattle.tg_evac.specs.declared.plan.Plan.{Plan}
 use Rattle.tg_evac.specs.declared.win.Win.{Win}
-use Rattle.tg_evac.specs.Claims.{Claimed, HavePointers, IsFull, StandsIn, IsClaimOf, IsRootClaim, AddsClaims, AreTraced, AreWordsOf, cells_won, is_in_old, is_straight, space_for, win_at}
-use Rattle.tg_evac.proofs.Claiming.{cells_added}
+use Rattle.tg_evac.specs.Claims.{Claimed, HavePointers, IsFull, StandsIn, IsClaimOf, IsRootClaim, AreTraced, AreWordsOf, cells_won, is_in_old, is_straight, space_for, win_at}
+use Rattle.tg_evac.specs.Claimers.{AddsWins, Walked}
 use Rattle.tg_evac.proofs.Chunks.{used_root, used_targets, targets_from}
 use Rattle.tg_evac.proofs.Counting.{IsUsed, full_few}
 
@@ -50,7 +50,7 @@ HasReason kind h roots won w =
     IsRootClaim kind h roots w
     ⊎ ((j : ℕ) × (j < length won) × IsClaimOf h (is_in_old (win_at won j)) (targets_of (from_space kind) h (win_at won j).cell) w)
 
-module _ (kind : Kind) (h : SpaceList) (roots : List Root) {reason : Win → Type 0} {a b : Claimed} (adds : AddsClaims reason a b) where
+module _ (kind : Kind) (h : SpaceList) (roots : List Root) {reason : Win → Type 0} {a b : Walked} (adds : AddsWins reason a b) where
   kept_win : (k : ℕ) → k < length a.won → win_at b.won k ≡ win_at a.won k
   kept_win k low = ap (λ (ws : List Win). win_at ws k) adds.is ∙ get_or_append_left a.won adds.added (win_at [] 0) k low
 
@@ -83,14 +83,6 @@ module _ (kind : Kind) (h : SpaceList) (roots : List Root) {reason : Win → Typ
       by_place : (k < length a.won) ⊎ (length a.won ≤ k) → IsRootClaim kind h roots (win_at b.won k) ⊎ ((j : ℕ) × (j < k) × IsClaimOf h (is_in_old (win_at b.won j)) (targets_of (from_space kind) h (win_at b.won j).cell) (win_at b.won k))
       by_place (inl low) = old low (traced k low)
       by_place (inr high) = carry (win_at b.won k) k (omega arith) (allowed (win_at b.won k) (new_win k high inside)) (λ j low. omega arith)
-
--- the cells that were claimed, as cells
-pub adds_cells : {reason : Win → Type 0} {a b : Claimed} (source : List ℕ) → AddsClaims reason a b → ((w : Win) → reason w → Contains source w.cell) → AddsFrom source (cells_won a.won) (cells_won b.won)
-adds_cells {reason} source adds one = record {
-  added = cells_won adds.added;
-  is = cells_added adds;
-  from = All-map (Contains source) (λ (w : Win). w.cell) adds.added (All-weaker reason (λ (w : Win). Contains source w.cell) one adds.added adds.reasons);
-}
 
 -- ---- what a trace says
 

@@ -1,5 +1,5 @@
 -- What a collection claims: the cells that were won, in order, each with the word of its new place.
-use Rattle.std.specs.Prelude.{◌≡◌, ◌≢◌, ℕ, ◌+◌, ◌-◌, ◌*◌, ◌^◌, ◌<◌, ◌≤◌, ◌↔◌, ◌⊎◌, ◌==◌, ◌||◌, Bool, true, false, if◌then◌else◌, not, eqb, List, ◌++◌, length, map, slice_index, slice_index_or}
+use Rattle.std.specs.Prelude.{◌≡◌, ◌≢◌, ℕ, ◌+◌, ◌-◌, ◌*◌, ◌^◌, ◌<◌, ◌≤◌, ◌↔◌, ◌⊎◌, ◌==◌, ◌||◌, Bool, true, false, if◌then◌else◌, not, eqb, List, length, map, slice_index, slice_index_or}
 use Rattle.std.specs.List.{All, Contains, IsDistinct, filter, flat_map, take_while}
 use Rattle.tg_word.specs.declared.Place.{Place}
 use Rattle.tg_word.specs.Word.{link_to, place_in}
@@ -151,14 +151,6 @@ pub record IsRootClaim (kind : Kind) (h : SpaceList) (roots : List Root) (w : Wi
   pub root : Root
   pub is : Contains roots root
   pub claim : IsClaimOf h (is_straight kind root) (root_targets_of (from_space kind) h root) w
-
--- more pairs were won, each with this reason
-pub record AddsClaims (reason : Win → Type 0) (before after : Claimed) : Type 0 where
-  pub added : List Win
-  pub is : after.won ≡ before.won ++ added
-  pub reasons : All reason added
-  pub as_long : length after.forward ≡ length before.forward
-  pub same_plan : after.plan ≡ before.plan
 
 -- each pair is of a target of a root, or of one of the cell of an earlier pair
 abbrev pub AreTraced : Kind → SpaceList → List Root → List Win → Type 0

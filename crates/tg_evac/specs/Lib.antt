@@ -1,2 +1,3 @@
 pub mod Claims
+pub mod Claimers
 pub mod Copies

@@ -1,13 +1,20 @@
-//! The collection: claim, then copy.
-ghost use Rattle.std.specs.Prelude.{◌≡◌, IfErr, IfOk};
+//! The collection.
+ghost use Rattle.std.specs.Prelude.{◌≡◌, ℕ, ◌+◌, ◌*◌, ◌≤◌, [], length, IfErr, IfOk, OnOk};
+ghost use Rattle.std.specs.List.{All};
+ghost use Rattle.tg_word.specs.declared.Place.{Place as PlaceOf};
 ghost use Rattle.tg_space.specs.Collection.{AreFewBlocks, IsCollection, MayLackRoom, used_cells};
-ghost use Rattle.tg_space.specs.Soundness.{AreSound};
-ghost use Rattle.tg_space.specs.SpaceTable.{kept_blocks};
+ghost use Rattle.tg_space.specs.Soundness.{AreSound, IsRootIn};
+ghost use Rattle.tg_space.specs.SpaceList.{cells_of};
+ghost use Rattle.tg_space.specs.SpaceTable.{IsSpaceTable, kept_blocks};
+ghost use Rattle.tg_evac.specs.Claims.{HavePointers, IsTracedFrom};
+ghost use Rattle.tg_evac.specs.Claimers.{HasPlacesOf, copies_to};
 
 use crate::claims::Claims;
-use crate::copies::{copy_won, note_roots};
+use crate::copies::{Copies, scan};
 use crate::fault::CollectFault;
+use crate::notes::notes_of;
 use crate::plan::Plan;
+use crate::roots::claim_roots;
 use std::alloc::Global;
 use tg_remember::Remembered;
 use tg_space::{Adoption, Forwarding, Kind, Root, Spaces};
@@ -48,14 +55,46 @@ pub fn collect_one(
     let cells = spaces.cells();
     let plan = Plan::of(kind, spaces);
     let mut claims = Claims::new(alloc, cells, plan)?;
-    claims.trace(spaces, roots)?;
-    let Claims { forward, won, .. } = claims;
-    let mut remembered = Remembered::new(alloc);
-    note_roots(&mut remembered, spaces, kind, &forward, roots)?;
-    let adoption = copy_won(alloc, spaces, plan, &forward, &won, &mut remembered)?;
+    let copies = trace(alloc, &mut claims, spaces, roots)?;
+    let Claims { forward, .. } = claims;
+    let adoption = copies.finish()?;
+    let remembered = notes_of(
+        alloc,
+        spaces,
+        kind,
+        &forward,
+        roots,
+        &adoption.old,
+        plan.kept,
+    )?;
     Ok(Copied {
         forward,
         adoption,
         remembered,
     })
+}
+
+// Claims and copies all that the roots reach, and nothing else.
+fn trace(
+    alloc: Global,
+    claims: &mut Claims,
+    spaces: &Spaces,
+    roots: &[Root],
+) -> Result<Copies, CollectFault>
+    requires table { IsSpaceTable spaces.now }
+    requires pointers { HavePointers spaces.now.spaces }
+    requires roots { All (IsRootIn spaces.now.spaces) roots.now }
+    requires whole { length claims.old.forward ≡ length (cells_of spaces.now.spaces) }
+    requires kept { claims.old.plan.kept ≡ kept_blocks claims.old.plan.kind spaces.now.spaces }
+    requires none_yet { claims.old.won ≡ [] }
+    ensures traced { OnOk result (IsTracedFrom claims.old.plan.kind spaces.now.spaces roots.now claims.new) }
+    ensures plan { claims.new.plan ≡ claims.old.plan }
+    ensures aged { IfOk result (λ copies. (to : ℕ → PlaceOf) → HasPlacesOf claims.new.won to → copies.aged ≡ copies_to 1 claims.old.plan.kind spaces.now.spaces to claims.new.won) }
+    ensures old { IfOk result (λ copies. (to : ℕ → PlaceOf) → HasPlacesOf claims.new.won to → copies.old ≡ copies_to 0 claims.old.plan.kind spaces.now.spaces to claims.new.won) }
+    ensures full { IfErr result (λ fault. fault ≡ CollectFault.HeapFull → claims.old.plan.room ≤ 64 * claims.old.plan.kept + used_cells claims.old.plan.kind spaces.now.spaces) }
+{
+    let mut copies = Copies::new(alloc)?;
+    claim_roots(claims, spaces, roots)?;
+    scan(claims, spaces, &mut copies)?;
+    Ok(copies)
 }

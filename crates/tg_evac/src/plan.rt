@@ -41,21 +41,21 @@ impl Plan {
             room: CELLS as u64 * spaces.limits().space_blocks(),
         }
     }
+}
 
-    /// Whether what is met first from a root goes straight to Old: all in a full collection, and in a nursery
-    /// collection what a remembered cell names.
-    pub fn is_straight(self, root: Root) -> bool
-        ensures { result ≡ straight_from self.kind root }
-    {
-        match root {
-            Root::Row(_) => self.kind == Kind::Full,
-            Root::Remembered(_) => true,
-        }
+/// Whether what is met first from a root goes straight to Old: all in a full collection, and in a nursery
+/// collection what a remembered cell names.
+pub fn is_straight(kind: Kind, root: Root) -> bool
+    ensures { result ≡ straight_from kind root }
+{
+    match root {
+        Root::Row(_) => kind == Kind::Full,
+        Root::Remembered(_) => true,
     }
 }
 
 /// The space to which a cell of a space is copied, where it is met straight or not.
-#[inline]
+#[inline(always)]
 pub fn space_for(straight: bool, space: u64) -> u64
     ensures { result ≡ space_of_copy straight space }
 {

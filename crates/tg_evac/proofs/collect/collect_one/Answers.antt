@@ -1,100 +1,121 @@
-use Rattle.std.proofs.Common.{◌≡◌, ◌↔◌, ◌⊎◌, ◌≤◌, ℕ, length, refl, List, ap, sym, subst, ◌∙◌}
-use Rattle.std.specs.List.{All, Contains}
+use Rattle.std.proofs.Common.{◌≡◌, ◌↔◌, ◌⊎◌, ℕ, length, List, ap, sym, subst, arith, lit<, ◌∙◌}
+use Rattle.std.specs.List.{Contains}
+use Rattle.std.proofs.lemmas.List.{length-map}
 use Rattle.tg_word.specs.declared.Place.{Place}
 use Rattle.tg_space.proofs.Tables.{table_list}
+use Rattle.tg_space.specs.Collection.{new_place}
+use Rattle.tg_space.specs.Generations.{NamesYoung}
 use Rattle.tg_space.specs.declared.spaces.Kind.{Kind}
 use Rattle.tg_space.specs.declared.spaces.Kind.TheVariants.{Full}
-use Rattle.tg_space.specs.SpaceTable.{kept_blocks}
+use Rattle.tg_space.specs.declared.spaces.Root.TheVariants.{Remembered}
 use Rattle.tg_evac.specs.declared.plan.Plan.{Plan}
 use Rattle.tg_evac.specs.declared.win.Win.{Win}
-use Rattle.tg_evac.specs.Claims.{Claimed, IsTracedFrom, StandsIn}
-use Rattle.tg_evac.specs.Copies.{AreAllOld, AreBelow, HasNewPlace, HoldCopies, IsYoungCopy, copy_of}
-use Rattle.tg_evac.proofs.Claiming.{few_blocks, have_places}
+use Rattle.tg_evac.specs.Claims.{Claimed, IsTracedFrom, won_in}
+use Rattle.tg_evac.specs.Claimers.{HasPlacesOf, copies_to, image_at}
+use Rattle.tg_evac.specs.Copies.{HoldCells, IsPlaceIn, moved_cell, new_cell}
+use Rattle.tg_evac.proofs.Claiming.{has_places, have_places, in_room}
 use Rattle.tg_evac.proofs.Sound.{have_pointers}
-use Rattle.tg_evac.proofs.Collecting.{collected, new_places}
-use Rattle.tg_evac.proofs.InOrder.{are_all_old}
+use Rattle.tg_evac.proofs.Collecting.{collected, few, none_young, old_few}
 use Rattle.tg_evac.proofs.collect.collect_one.Goals as goal
-use Rattle.tg_evac.proofs.collect.collect_one.Goals.{In_ok-trace}
+use Rattle.tg_evac.proofs.collect.collect_one.Goals.{In_ok-copies}
 
 -- the claims, as fields
-claims_of : In_ok-trace → Claimed
+claims_of : In_ok-copies → Claimed
 claims_of c = record { plan = c.claims.inside.plan; forward = c.claims.inside.forward.words; won = c.claims.inside.won.items; next = c.claims.inside.next }
 
-plan_is : (c : In_ok-trace) → c.claims.inside.plan ≡ c.of-plan.result
-plan_is c = ap (λ (v : Claimed). v.plan) c.claims.view_is ∙ c.trace.ensures.same_plan ∙ c.in_ok-claims.ensures.plan
+plan_is : (c : In_ok-copies) → c.claims.inside.plan ≡ c.of-plan.result
+plan_is c = ap (λ (v : Claimed). v.plan) c.claims.view_is ∙ c.trace.ensures.plan ∙ c.in_ok-claims.ensures.plan
 
-traced : (c : In_ok-trace) → IsTracedFrom c.args.kind c.args.spaces.now.spaces c.args.roots.now (claims_of c)
+kind_is : (c : In_ok-copies) → c.in_ok-claims.claims.plan.kind ≡ c.args.kind
+kind_is c = ap (λ (p : Plan). p.kind) c.in_ok-claims.ensures.plan ∙ c.of-plan.ensures.plan.same
+
+traced : (c : In_ok-copies) → IsTracedFrom c.args.kind c.args.spaces.now.spaces c.args.roots.now (claims_of c)
 unfolding claims_of
 traced c =
     let h = c.args.spaces.now.spaces in let roots = c.args.roots.now in
-    let kind : c.in_ok-claims.claims.plan.kind ≡ c.args.kind = ap (λ (p : Plan). p.kind) c.in_ok-claims.ensures.plan ∙ c.of-plan.ensures.plan.same in
-    subst (λ (k : Kind). IsTracedFrom k h roots (claims_of c)) kind
-    (subst (λ (v : Claimed). IsTracedFrom c.in_ok-claims.claims.plan.kind h roots v) (sym c.claims.view_is) c.in_ok-trace.ensures.traced)
+    subst (λ (k : Kind). IsTracedFrom k h roots (claims_of c)) (kind_is c)
+    (subst (λ (v : Claimed). IsTracedFrom c.in_ok-claims.claims.plan.kind h roots v) (sym c.claims.view_is) c.in_ok-copies.ensures.traced)
+
+-- the copies, by the table as it is in the end
+agrees : (c : In_ok-copies) → HasPlacesOf c.trace.new.claims.won (new_place c.claims.inside.forward.words)
+unfolding claims_of
+agrees c =
+    subst (λ (v : Claimed). HasPlacesOf v.won (new_place c.claims.inside.forward.words)) c.claims.view_is (has_places (claims_of c) c.claims.invariant.0)
+
+aged_is : (c : In_ok-copies) → c.in_ok-copies.copies.aged ≡ copies_to 1 c.args.kind c.args.spaces.now.spaces (new_place c.claims.inside.forward.words) c.claims.inside.won.items
+aged_is c =
+    let h = c.args.spaces.now.spaces in let to = new_place c.claims.inside.forward.words in
+    c.in_ok-copies.ensures.aged to (agrees c) ∙ ap (λ (k : Kind). copies_to 1 k h to c.trace.new.claims.won) (kind_is c) ∙ ap (λ (v : Claimed). copies_to 1 c.args.kind h to v.won) (sym c.claims.view_is)
+
+old_is : (c : In_ok-copies) → c.in_ok-copies.copies.old ≡ copies_to 0 c.args.kind c.args.spaces.now.spaces (new_place c.claims.inside.forward.words) c.claims.inside.won.items
+old_is c =
+    let h = c.args.spaces.now.spaces in let to = new_place c.claims.inside.forward.words in
+    c.in_ok-copies.ensures.old to (agrees c) ∙ ap (λ (k : Kind). copies_to 0 k h to c.trace.new.claims.won) (kind_is c) ∙ ap (λ (v : Claimed). copies_to 0 c.args.kind h to v.won) (sym c.claims.view_is)
 
 pub trace-requires-clause-pointers : goal.trace-requires-clause-pointers
 trace-requires-clause-pointers c = have_pointers c.args.spaces.now.spaces c.args.roots.now c.requires (table_list c.args.spaces.now c.cells-cells.ensures.table)
 
-pub note_roots-requires-clause-pointers : goal.note_roots-requires-clause-pointers
-note_roots-requires-clause-pointers c = have_pointers c.args.spaces.now.spaces c.args.roots.now c.requires (table_list c.args.spaces.now c.cells-cells.ensures.table)
+pub notes_of-requires-clause-pointers : goal.notes_of-requires-clause-pointers
+notes_of-requires-clause-pointers c = have_pointers c.args.spaces.now.spaces c.args.roots.now c.requires (table_list c.args.spaces.now c.cells-cells.ensures.table)
 
-pub copy_won-requires-clause-pointers : goal.copy_won-requires-clause-pointers
-copy_won-requires-clause-pointers c = have_pointers c.args.spaces.now.spaces c.args.roots.now c.requires (table_list c.args.spaces.now c.cells-cells.ensures.table)
-
-pub note_roots-requires-clause-places : goal.note_roots-requires-clause-places
+pub finish-requires-clause-aged : goal.finish-requires-clause-aged
 unfolding claims_of
-note_roots-requires-clause-places c = have_places (claims_of (goal.at.note_roots-requires-clause-places c).In_ok-trace) c.claims.invariant.0
+finish-requires-clause-aged c =
+    let from = (goal.at.finish-requires-clause-aged c).In_ok-copies in
+    let long = ap length (aged_is from) ∙ length-map (won_in 1 c.claims.inside.won.items) (λ (w : Win). image_at c.args.kind c.args.spaces.now.spaces (new_place c.claims.inside.forward.words) w.cell) in
+    let room = in_room (claims_of from) c.claims.invariant.0 1 (lit< tt) in
+    omega arith
 
-pub copy_won-requires-clause-places : goal.copy_won-requires-clause-places
+pub finish-requires-clause-old : goal.finish-requires-clause-old
 unfolding claims_of
-copy_won-requires-clause-places c = have_places (claims_of (goal.at.copy_won-requires-clause-places c).In_ok-trace) c.claims.invariant.0
+finish-requires-clause-old c =
+    let from = (goal.at.finish-requires-clause-old c).In_ok-copies in
+    let long = ap length (old_is from) ∙ length-map (won_in 0 c.claims.inside.won.items) (λ (w : Win). image_at c.args.kind c.args.spaces.now.spaces (new_place c.claims.inside.forward.words) w.cell) in
+    let room = in_room (claims_of from) c.claims.invariant.0 0 (lit< tt) in
+    omega arith
 
-pub copy_won-requires-clause-stand : goal.copy_won-requires-clause-stand
-copy_won-requires-clause-stand c =
-    subst (λ (ws : List Win). All (StandsIn c.claims.inside.forward.words) ws) (sym c.deref.ensures.value) c.claims.invariant.0.words.stand
-
-pub copy_won-requires-clause-new : goal.copy_won-requires-clause-new
+pub notes_of-requires-clause-places : goal.notes_of-requires-clause-places
 unfolding claims_of
-copy_won-requires-clause-new c =
-    let from = (goal.at.copy_won-requires-clause-new c).In_ok-trace in
-    let new : All (HasNewPlace c.claims.inside.plan.kept) c.claims.inside.won.items = new_places (claims_of from) c.claims.invariant.0 in
-    subst (λ (ws : List Win). All (HasNewPlace c.of-plan.result.kept) ws) (sym c.deref.ensures.value)
-    (subst (λ (p : Plan). All (HasNewPlace p.kept) c.claims.inside.won.items) (plan_is from) new)
+notes_of-requires-clause-places c = have_places (claims_of (goal.at.notes_of-requires-clause-places c).In_ok-copies) c.claims.invariant.0
 
-pub copy_won-requires-clause-full : goal.copy_won-requires-clause-full
+pub notes_of-requires-clause-few : goal.notes_of-requires-clause-few
 unfolding claims_of
-copy_won-requires-clause-full c is =
-    let h = c.args.spaces.now.spaces in let roots = c.args.roots.now in
-    let from = (goal.at.copy_won-requires-clause-full c).In_ok-trace in
-    let full : c.args.kind ≡ Full = sym c.of-plan.ensures.plan.same ∙ is in
-    let none : c.of-plan.result.kept ≡ 0 = c.of-plan.ensures.plan.kept ∙ ap (λ (k : Kind). kept_blocks k h) full in
-    let kept : c.claims.inside.plan.kept ≡ 0 = ap (λ (p : Plan). p.kept) (plan_is from) ∙ none in
-    let all : AreAllOld c.claims.inside.plan.kept c.claims.inside.forward.words c.claims.inside.won.items =
-    are_all_old h roots (claims_of from) c.claims.invariant.0 (subst (λ (k : Kind). IsTracedFrom k h roots (claims_of from)) full (traced from)) kept in
-    subst (λ (ws : List Win). AreAllOld c.of-plan.result.kept c.claims.inside.forward.words ws) (sym c.deref.ensures.value)
-    (subst (λ (p : Plan). AreAllOld p.kept c.claims.inside.forward.words c.claims.inside.won.items) (plan_is from) all)
+notes_of-requires-clause-few c =
+    let from = (goal.at.notes_of-requires-clause-few c).In_ok-copies in
+    let few = old_few c.args.kind c.args.spaces.now c.args.roots.now c.of-plan.result c.of-plan.ensures.plan c.cells-cells.ensures.table (claims_of from) c.claims.invariant.0 (plan_is from) (traced from)
+    c.in_ok-adoption.adoption.aged c.in_ok-adoption.adoption.old c.in_ok-adoption.ensures.aged.1.1 c.in_ok-adoption.ensures.old.1.1
+    (subst (λ (cells : List (List ℕ)). HoldCells cells c.in_ok-adoption.adoption.aged) (aged_is from) c.in_ok-adoption.ensures.aged.0)
+    (subst (λ (cells : List (List ℕ)). HoldCells cells c.in_ok-adoption.adoption.old) (old_is from) c.in_ok-adoption.ensures.old.0) in
+    let kept = c.of-plan.ensures.plan.kept in
+    omega arith
 
-pub returns-clause-collected : goal.returns-clause-collected
+pub notes_of-requires-clause-full : goal.notes_of-requires-clause-full
 unfolding claims_of
-returns-clause-collected c =
-    let h = c.args.spaces.now.spaces in let roots = c.args.roots.now in let from = (goal.at.returns-clause-collected c).In_ok-trace in
-    let plan = c.of-plan.result in let forward = c.claims.inside.forward.words in let won = c.claims.inside.won.items in
-    let made = c.in_ok-adoption.ensures in
-    let young : (p : Place) → Contains c.copy_won.new.remembered.places p ↔ (Contains c.note_roots.new.remembered.places p ⊎ IsYoungCopy (copy_of plan.kind h forward) won p) =
-    subst (λ (ws : List Win). (p : Place) → Contains c.copy_won.new.remembered.places p ↔ (Contains c.note_roots.new.remembered.places p ⊎ IsYoungCopy (copy_of plan.kind h forward) ws p)) c.deref.ensures.value made.noted in
-    let in_aged : HoldCopies 1 0 (copy_of plan.kind h forward) won c.in_ok-adoption.adoption.aged =
-    subst (λ (ws : List Win). HoldCopies 1 0 (copy_of plan.kind h forward) ws c.in_ok-adoption.adoption.aged) c.deref.ensures.value made.aged in
-    let in_old : HoldCopies 0 plan.kept (copy_of plan.kind h forward) won c.in_ok-adoption.adoption.old =
-    subst (λ (ws : List Win). HoldCopies 0 plan.kept (copy_of plan.kind h forward) ws c.in_ok-adoption.adoption.old) c.deref.ensures.value made.old in
-    collected c.args.kind c.args.spaces.now roots plan c.of-plan.ensures.plan c.cells-cells.ensures.table (claims_of from) c.claims.invariant.0 (plan_is from) (traced from)
-    c.in_ok-adoption.adoption.aged c.in_ok-adoption.adoption.old c.new-remembered.result.places c.note_roots.new.remembered.places c.copy_won.new.remembered.places c.new-remembered.ensures c.in_ok-note_roots.ensures young in_aged in_old made.none_aged made.few
+notes_of-requires-clause-full c =
+    let from = (goal.at.notes_of-requires-clause-full c).In_ok-copies in
+    let old = c.in_ok-adoption.adoption.old in
+    subst (λ (n : ℕ). c.args.kind ≡ Full → (p : Place) → IsPlaceIn 0 n old p → NamesYoung (new_cell n old p) → ⊥) (sym c.of-plan.ensures.plan.kept)
+    (none_young c.args.kind c.args.spaces.now c.args.roots.now c.of-plan.result c.of-plan.ensures.plan c.cells-cells.ensures.table (claims_of from) c.claims.invariant.0 (plan_is from) (traced from)
+    c.in_ok-adoption.adoption.aged c.in_ok-adoption.adoption.old c.in_ok-adoption.ensures.aged.1.1 c.in_ok-adoption.ensures.old.1.1
+    (subst (λ (cells : List (List ℕ)). HoldCells cells c.in_ok-adoption.adoption.aged) (aged_is from) c.in_ok-adoption.ensures.aged.0)
+    (subst (λ (cells : List (List ℕ)). HoldCells cells c.in_ok-adoption.adoption.old) (old_is from) c.in_ok-adoption.ensures.old.0))
 
 pub returns-clause-few : goal.returns-clause-few
 unfolding claims_of
 returns-clause-few c =
-    let from = (goal.at.returns-clause-few c).In_ok-trace in let made = c.in_ok-adoption.ensures in
-    let plan = plan_is from in let is = c.of-plan.ensures.plan in
-    few_blocks (claims_of from) c.claims.invariant.0 c.args.spaces.now.limits.space_blocks (kept_blocks c.args.kind c.args.spaces.now.spaces) c.claims.inside.forward.words
-    c.in_ok-adoption.adoption.aged c.in_ok-adoption.adoption.old (ap (λ (p : Plan). p.room) plan ∙ is.room) (ap (λ (p : Plan). p.kept) plan ∙ is.kept) refl
-    (subst (λ (ws : List Win). (most : ℕ) → AreBelow 1 0 most ws → length c.in_ok-adoption.adoption.aged ≤ most) c.deref.ensures.value made.aged_needed)
-    (subst (λ (p : Plan). (most : ℕ) → AreBelow 0 p.kept most c.claims.inside.won.items → length c.in_ok-adoption.adoption.old ≤ most) (sym plan)
-    (subst (λ (ws : List Win). (most : ℕ) → AreBelow 0 c.of-plan.result.kept most ws → length c.in_ok-adoption.adoption.old ≤ most) c.deref.ensures.value made.old_needed))
+    let from = (goal.at.returns-clause-few c).In_ok-copies in
+    few c.args.kind c.args.spaces.now c.args.roots.now c.of-plan.result c.of-plan.ensures.plan c.cells-cells.ensures.table (claims_of from) c.claims.invariant.0 (plan_is from) (traced from)
+    c.in_ok-adoption.adoption.aged c.in_ok-adoption.adoption.old c.in_ok-adoption.ensures.aged.1.1 c.in_ok-adoption.ensures.old.1.1
+    (subst (λ (cells : List (List ℕ)). HoldCells cells c.in_ok-adoption.adoption.aged) (aged_is from) c.in_ok-adoption.ensures.aged.0)
+    (subst (λ (cells : List (List ℕ)). HoldCells cells c.in_ok-adoption.adoption.old) (old_is from) c.in_ok-adoption.ensures.old.0) c.args.spaces.now.limits.space_blocks (ap (λ (p : Plan). p.room) (plan_is from) ∙ c.of-plan.ensures.plan.room)
+
+pub returns-clause-collected : goal.returns-clause-collected
+unfolding claims_of
+returns-clause-collected c =
+    let from = (goal.at.returns-clause-collected c).In_ok-copies in
+    let h = c.args.spaces.now.spaces in let old = c.in_ok-adoption.adoption.old in let forward = c.claims.inside.forward.words in let noted = c.in_ok-remembered.remembered.places in
+    collected c.args.kind c.args.spaces.now c.args.roots.now c.of-plan.result c.of-plan.ensures.plan c.cells-cells.ensures.table (claims_of from) c.claims.invariant.0 (plan_is from) (traced from)
+    c.in_ok-adoption.adoption.aged c.in_ok-adoption.adoption.old c.in_ok-adoption.ensures.aged.1.1 c.in_ok-adoption.ensures.old.1.1
+    (subst (λ (cells : List (List ℕ)). HoldCells cells c.in_ok-adoption.adoption.aged) (aged_is from) c.in_ok-adoption.ensures.aged.0)
+    (subst (λ (cells : List (List ℕ)). HoldCells cells c.in_ok-adoption.adoption.old) (old_is from) c.in_ok-adoption.ensures.old.0) noted
+    (subst (λ (n : ℕ). (p : Place) → Contains noted p ↔ ((Contains c.args.roots.now (Remembered p) × NamesYoung (moved_cell c.args.kind h forward p)) ⊎ (IsPlaceIn 0 n old p × NamesYoung (new_cell n old p)))) c.of-plan.ensures.plan.kept c.in_ok-remembered.ensures)

@@ -1,0 +1,10 @@
+use Rattle.std.proofs.Common.{◌<◌, ◌+◌, ◌↔◌, ◌⊎◌}
+use Rattle.std.specs.List.{Contains}
+use Rattle.tg_word.specs.declared.Place.{Place}
+use Rattle.tg_space.specs.Generations.{NamesYoung}
+use Rattle.tg_evac.specs.Copies.{IsPlaceIn, new_cell}
+use Rattle.tg_evac.proofs.notes.note_blocks.Given as goal
+
+abbrev pub invariant-loop-block : goal.invariant-loop-block
+invariant-loop-block l =
+    (p : Place) → Contains l.remembered.places p ↔ (Contains l.initial.remembered.places p ⊎ (IsPlaceIn 0 l.kept l.blocks p × (p.block < l.kept + l.block) × NamesYoung (new_cell l.kept l.blocks p)))

@@ -1,0 +1,56 @@
+//! What a walk over the cells asks of a table of claims.
+ghost use Rattle.std.specs.Prelude.{◌≡◌, ℕ, ◌*◌, ◌^◌, ◌<◌, ◌≤◌, IfErr, IfOk, OnOk, length};
+ghost use Rattle.std.specs.List.{Contains};
+ghost use Rattle.tg_word.specs.declared.Place.{Place as PlaceOf};
+ghost use Rattle.tg_word.specs.Word.{place_in};
+ghost use Rattle.tg_evac.specs.Claims.{IsWinFor, win_at, won_in};
+ghost use Rattle.tg_evac.specs.Claimers.{AddsWins, KnowsMore, Walked};
+
+use crate::fault::CollectFault;
+use crate::win::Win;
+use tg_space::Kind;
+
+/// A table in which cells are claimed, each for one new place.
+///
+/// One thread may have it for itself, or several may share it. The walk over the cells is the same: it may use that a
+/// cell which was claimed has a place, and that a place which was given stays.
+pub trait Claimer {
+    /// What was won, and what is known.
+    ghost walked: { Self → Walked };
+
+    /// The map from cells to places agrees with all that is known.
+    ghost knows: { Self → (ℕ → PlaceOf) → Type 0 };
+
+    /// What a refusal for want of room tells.
+    ghost is_full: { Self → Type 0 };
+
+    /// Which cells are moved.
+    fn kind(&self) -> Kind
+        ensures { result ≡ (walked self.now).kind };
+
+    /// How many cells were won: no more than there are, and no more than either space has room for.
+    fn len(&self) -> usize
+        ensures count { result ≡ length (walked self.now).won }
+        ensures few { result ≤ (walked self.now).cells }
+        ensures room { (space : ℕ) → space < 2 → length (won_in space (walked self.now).won) ≤ 2 ^ 26 };
+
+    /// The pair that was won as the k-th. Its copy is in Old or in Aged.
+    fn win(&self, k: usize) -> Win
+        requires { k < length (walked self.now).won }
+        ensures win { result ≡ win_at (walked self.now).won k }
+        ensures inside { result.cell < (walked self.now).cells }
+        ensures two { (place_in result.word).space < 2 };
+
+    /// The word of the place of a cell: a new one in a space, unless it has one.
+    ///
+    /// It may be refused with `OutOfMemory`, or with `HeapFull` where the space has no room.
+    fn claim(&mut self, cell: u64, space: u64) -> Result<u64, CollectFault>
+        requires inside { cell < (walked self.old).cells }
+        requires moved { 64 * (walked self.old).kept ≤ cell }
+        requires space { space < 2 }
+        ensures added { AddsWins (IsWinFor cell space) (walked self.old) (walked self.new) }
+        ensures grows { KnowsMore (knows self.old) (knows self.new) }
+        ensures met { OnOk result (Contains (walked self.new).met cell) }
+        ensures known { IfOk result (λ word. (to : ℕ → PlaceOf) → knows self.new to → to cell ≡ place_in word) }
+        ensures full { IfErr result (λ fault. fault ≡ CollectFault.HeapFull → is_full self.new) };
+}

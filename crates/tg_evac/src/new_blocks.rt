@@ -1,0 +1,103 @@
+//! New blocks of a space, filled cell after cell.
+ghost use Rattle.std.specs.Prelude.{◌≡◌, ◌<◌, ◌≤◌, ◌-◌, ◌^◌, ◌++◌, ◌∷◌, [], length, replicate, IfOk, OnOk};
+ghost use Rattle.std.specs.List.{All};
+ghost use Rattle.tg_block.specs.Cells.{IsBlock, free_cell};
+ghost use Rattle.tg_space.specs.SpaceList.{IsSpace};
+ghost use Rattle.tg_evac.specs.Copies.{HoldCells, IsOpenBlock};
+
+use std::alloc::{AllocError, Global};
+use std::marker::Model;
+use std::mem;
+use tg_block::{Block, CELLS, WORDS};
+use tg_space::Space;
+
+/// The blocks that a collection makes in a space. Contracts see the list of their cells.
+///
+/// A block takes its 4 KiB when its first cell comes, and none of them is zeroed first.
+#[derive(Drop)]
+pub struct NewBlocks {
+    alloc: Global,
+    full: Space,
+    // The cells behind the full blocks.
+    last: Vec<[u64; WORDS]>,
+}
+
+impl Model for NewBlocks {
+    ghost use Rattle.std.specs.Prelude.{ℕ, List, ◌++◌};
+    ghost use Rattle.std.specs.List.{flat_map};
+    ghost use Rattle.tg_space.specs.SpaceList.{IsSpace};
+    ghost use Rattle.tg_evac.specs.Copies.{IsOpenBlock};
+
+    ghost Value = { List (List ℕ) };
+
+    ghost view = { λ b. flat_map (λ block. block) b.full ++ b.last.items };
+
+    ghost invariant = { λ b. IsSpace b.full × IsOpenBlock b.last.items };
+}
+
+impl NewBlocks {
+    /// No cell yet. It is refused only where memory for the first block was.
+    pub fn new(alloc: Global) -> Result<NewBlocks, AllocError>
+        ensures { IfOk result (λ blocks. blocks ≡ []) }
+    {
+        Ok(NewBlocks {
+            alloc,
+            full: Space::new(alloc),
+            last: Vec::with_capacity(alloc, CELLS)?,
+        })
+    }
+
+    /// Puts a cell behind the others. It is refused only where memory was.
+    #[inline(always)]
+    pub fn push(&mut self, words: [u64; WORDS]) -> Result<(), AllocError>
+        requires { length self.old < 2 ^ 26 }
+        ensures { OnOk result (self.new ≡ self.old ++ words ∷ []) }
+    {
+        if self.last.len() == CELLS {
+            close(self.alloc, &mut self.full, &mut self.last)?;
+        }
+        self.last.push(words)?;
+        Ok(())
+    }
+
+    /// The blocks, with free cells behind the last one. It is refused only where memory was.
+    pub fn finish(self) -> Result<Space, AllocError>
+        requires { length self ≤ 2 ^ 26 }
+        ensures cells { IfOk result (λ blocks. HoldCells self blocks) }
+        ensures whole { IfOk result IsSpace }
+    {
+        let NewBlocks { mut full, last, .. } = self;
+        if last.is_empty() {
+            return Ok(full);
+        }
+        full.push(Block::of(padded(last)?))?;
+        Ok(full)
+    }
+}
+
+// Makes the cells of an open block a full one behind the others, and opens the next.
+#[inline(never)]
+fn close(alloc: Global, full: &mut Space, last: &mut Vec<[u64; WORDS]>) -> Result<(), AllocError>
+    requires whole { IsBlock last.old.items }
+    requires space { IsSpace full.old }
+    requires room { length full.old < 2 ^ 20 }
+    ensures space { IsSpace full.new }
+    ensures full { OnOk result (full.new ≡ full.old ++ last.old.items ∷ []) }
+    ensures empty { OnOk result (last.new.items ≡ []) }
+    ensures fits { IsOpenBlock last.new.items }
+{
+    let cells = mem::replace(last, Vec::with_capacity(alloc, CELLS)?);
+    full.push(Block::of(cells))
+}
+
+// These cells, and as many free ones as a block has room for behind them.
+fn padded(mut cells: Vec<[u64; WORDS]>) -> Result<Vec<[u64; WORDS]>, AllocError>
+    requires { IsOpenBlock cells.items }
+    ensures cells { IfOk result (λ padded. padded.items ≡ cells.items ++ replicate (64 - length cells.items) free_cell) }
+    ensures whole { IfOk result (λ padded. IsBlock padded.items) }
+{
+    while cells.len() < CELLS {
+        cells.push([0; WORDS])?;
+    }
+    Ok(cells)
+}

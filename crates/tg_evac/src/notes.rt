@@ -1,0 +1,154 @@
+//! The cells of Old that will name young ones.
+ghost use Rattle.std.specs.Prelude.{◌≡◌, ◌<◌, ◌≤◌, ◌+◌, ◌^◌, ◌↔◌, ◌⊎◌, length, IfOk, IsTrue, OnOk};
+ghost use Rattle.std.specs.List.{All, Contains};
+ghost use Rattle.tg_word.specs.declared.Place.{Place as PlaceOf};
+ghost use Rattle.tg_space.specs.Generations.{NamesYoung};
+ghost use Rattle.tg_space.specs.Soundness.{IsRootIn};
+ghost use Rattle.tg_space.specs.SpaceList.{cells_of};
+ghost use Rattle.tg_space.specs.declared.spaces.Root.TheVariants.{Remembered as RememberedAt};
+ghost use Rattle.tg_evac.specs.Claims.{HavePointers};
+ghost use Rattle.tg_evac.specs.Copies.{HavePlaces, IsPlaceIn, moved_cell, new_cell};
+
+use crate::plan::OLD;
+use std::alloc::{AllocError, Global};
+use tg_block::{CELLS, WORDS};
+use tg_remember::Remembered;
+use tg_space::{Forwarding, Kind, Root, Space, Spaces, first_pointer};
+use tg_word::{Place, place_of};
+
+/// The remembered cells that will name young ones, and those of these blocks of Old that do, which stand behind as many
+/// others. A full collection leaves none.
+///
+/// It is refused only where memory was.
+pub fn notes_of(
+    alloc: Global,
+    spaces: &Spaces,
+    kind: Kind,
+    forward: &Forwarding,
+    roots: &[Root],
+    old: &Space,
+    kept: u64,
+) -> Result<Remembered, AllocError>
+    requires pointers { HavePointers spaces.now.spaces }
+    requires roots { All (IsRootIn spaces.now.spaces) roots.now }
+    requires whole { length forward.now.words ≡ length (cells_of spaces.now.spaces) }
+    requires places { HavePlaces forward.now.words }
+    requires few { kept + length old.now ≤ 2 ^ 20 }
+    requires full { kind ≡ Kind.Full → (p : PlaceOf) → IsPlaceIn 0 kept old.now p → NamesYoung (new_cell kept old.now p) → ⊥ }
+    ensures { IfOk result (λ noted. (p : PlaceOf) → Contains noted.places p ↔ ((Contains roots.now (RememberedAt p) × NamesYoung (moved_cell kind spaces.now.spaces forward.now.words p)) ⊎ (IsPlaceIn 0 kept old.now p × NamesYoung (new_cell kept old.now p)))) }
+{
+    let mut remembered = Remembered::new(alloc);
+    note_roots(&mut remembered, spaces, kind, forward, roots)?;
+    match kind {
+        Kind::Full => Ok(remembered),
+        Kind::Nursery => {
+            note_blocks(&mut remembered, old, kept)?;
+            Ok(remembered)
+        }
+    }
+}
+
+// Notes the remembered cells that will name young ones.
+fn note_roots(
+    remembered: &mut Remembered,
+    spaces: &Spaces,
+    kind: Kind,
+    forward: &Forwarding,
+    roots: &[Root],
+) -> Result<(), AllocError>
+    requires pointers { HavePointers spaces.now.spaces }
+    requires roots { All (IsRootIn spaces.now.spaces) roots.now }
+    requires whole { length forward.now.words ≡ length (cells_of spaces.now.spaces) }
+    requires places { HavePlaces forward.now.words }
+    ensures { OnOk result ((p : PlaceOf) → Contains remembered.new.places p ↔ (Contains remembered.old.places p ⊎ (Contains roots.now (RememberedAt p) × NamesYoung (moved_cell kind spaces.now.spaces forward.now.words p)))) }
+{
+    for root in roots {
+        note_root(remembered, spaces, kind, forward, *root)?;
+    }
+    Ok(())
+}
+
+// Notes the cell of a root, where it is remembered and will name a young one.
+fn note_root(
+    remembered: &mut Remembered,
+    spaces: &Spaces,
+    kind: Kind,
+    forward: &Forwarding,
+    root: Root,
+) -> Result<(), AllocError>
+    requires pointers { HavePointers spaces.now.spaces }
+    requires root { IsRootIn spaces.now.spaces root }
+    requires whole { length forward.now.words ≡ length (cells_of spaces.now.spaces) }
+    requires places { HavePlaces forward.now.words }
+    ensures { OnOk result ((p : PlaceOf) → Contains remembered.new.places p ↔ (Contains remembered.old.places p ⊎ ((root ≡ RememberedAt p) × NamesYoung (moved_cell kind spaces.now.spaces forward.now.words p)))) }
+{
+    match root {
+        Root::Row(_) => Ok(()),
+        Root::Remembered(place) => {
+            let words = spaces.image(kind, forward, *spaces.words(place));
+            note_young(remembered, place, &words)
+        }
+    }
+}
+
+// Notes the cells of these blocks of Old, behind as many other ones, that name young cells.
+fn note_blocks(remembered: &mut Remembered, blocks: &Space, kept: u64) -> Result<(), AllocError>
+    requires { kept + length blocks.now ≤ 2 ^ 20 }
+    ensures { OnOk result ((p : PlaceOf) → Contains remembered.new.places p ↔ (Contains remembered.old.places p ⊎ (IsPlaceIn 0 kept blocks.now p × NamesYoung (new_cell kept blocks.now p)))) }
+{
+    for block in 0..blocks.len() {
+        note_block(remembered, blocks, block, kept)?;
+    }
+    Ok(())
+}
+
+// Notes the cells of one of the blocks that name young cells.
+fn note_block(
+    remembered: &mut Remembered,
+    blocks: &Space,
+    block: u64,
+    kept: u64,
+) -> Result<(), AllocError>
+    requires few { kept + length blocks.now ≤ 2 ^ 20 }
+    requires inside { block < length blocks.now }
+    ensures { OnOk result ((p : PlaceOf) → Contains remembered.new.places p ↔ (Contains remembered.old.places p ⊎ (IsPlaceIn 0 kept blocks.now p × (p.block ≡ kept + block) × NamesYoung (new_cell kept blocks.now p)))) }
+{
+    for cell in 0..CELLS as u64 {
+        let place = Place {
+            space: OLD,
+            block: kept + block,
+            cell,
+        };
+        note_young(remembered, place, blocks.words(block, cell))?;
+    }
+    Ok(())
+}
+
+// Notes a place of Old, where the words of its cell name a young one.
+fn note_young(
+    remembered: &mut Remembered,
+    place: Place,
+    words: &[u64; WORDS],
+) -> Result<(), AllocError>
+    ensures { OnOk result ((p : PlaceOf) → Contains remembered.new.places p ↔ (Contains remembered.old.places p ⊎ ((p ≡ place) × (place.space ≡ 0) × NamesYoung words.now))) }
+{
+    if place.space == OLD && names_young(words) {
+        remembered.reserve()?;
+        remembered.note(place);
+    }
+    Ok(())
+}
+
+// Whether a reference or link among the words of a cell names a cell of Aged or of a nursery.
+#[inline]
+fn names_young(words: &[u64; WORDS]) -> bool
+    ensures { IsTrue result ↔ NamesYoung words.now }
+{
+    let first = first_pointer(words[0]);
+    for i in 1..WORDS {
+        if first <= i && place_of(words[i]).space != OLD {
+            return true;
+        }
+    }
+    false
+}
