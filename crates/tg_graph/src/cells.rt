@@ -59,8 +59,8 @@ impl<P: Payload> Cells<P> {
         }
     }
 
-    // What a reference says.
-    fn found_at(&self, cell: Place, index: usize) -> Found
+    /// What a reference says.
+    pub(crate) fn found_at(&self, cell: Place, index: usize) -> Found
         requires held { Holds self.now.spaces.spaces cell }
         requires inside { index < 8 }
         ensures { let word = slice_index (cell_at self.now.spaces.spaces cell) index in result ≡ record { place = place_in word; rights = rights_in word } }
@@ -203,8 +203,8 @@ impl<P: Payload> Cells<P> {
         Ok(())
     }
 
-    // Makes room for one payload, then for a note, and then for so many cells of a nursery.
-    fn make_vertex_room(
+    /// Makes room for one payload, then for a note, and then for so many cells of a nursery.
+    pub(crate) fn make_vertex_room(
         &mut self,
         worker: u64,
         note: Option<Place>,
@@ -229,8 +229,8 @@ impl<P: Payload> Cells<P> {
         self.make_room(worker, note, cells)
     }
 
-    // Makes room for a note, if there is one, and then for so many cells of a nursery.
-    fn make_room(
+    /// Makes room for a note, if there is one, and then for so many cells of a nursery.
+    pub(crate) fn make_room(
         &mut self,
         worker: u64,
         note: Option<Place>,
@@ -300,8 +300,8 @@ fn reserve_note(remembered: &mut Remembered, note: Option<Place>) -> Result<(), 
     Ok(())
 }
 
-// Remembers a cell, if there is one. There is room for it.
-fn remember(remembered: &mut Remembered, note: Option<Place>)
+/// Remembers a cell, if there is one. There is room for it.
+pub(crate) fn remember(remembered: &mut Remembered, note: Option<Place>)
     requires { IfSome note (λ _. 0 < remembered.old.spare) }
     ensures noted { remembered.new.places ≡ with_note remembered.old.places note }
     ensures members { (q : Place) → Contains remembered.new.places q ↔ (Contains remembered.old.places q ⊎ (note ≡ Some q)) }
