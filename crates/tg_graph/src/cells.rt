@@ -14,6 +14,7 @@ ghost use Rattle.tg_space.specs.Generations.{AreRemembered};
 ghost use Rattle.tg_nursery.specs.Allocation.{HasFewerLeft, HasLeft, room_made_for};
 ghost use Rattle.tg_graph.specs.Content.{IsNamed};
 ghost use Rattle.tg_graph.specs.Heap.{IsGraph, content_in, rights_found};
+ghost use Rattle.tg_graph.specs.Index.{KeepsOtherIndexes};
 ghost use Rattle.tg_graph.specs.Rows.{IsVertexAt, name_at};
 ghost use Rattle.tg_graph.specs.Opened.{TakesOneCell};
 ghost use Rattle.tg_graph.specs.Spots.{IsMadeInRow, IsPutInRow, LacksCellsFor, vertex_put, with_note};
@@ -45,6 +46,14 @@ pub(crate) struct Cells<P: Payload> {
 }
 
 impl<P: Payload> Cells<P> {
+    /// The name of an object.
+    pub(crate) fn name_of(&self, at: Place) -> u64
+        requires { IsKindAt self.now.spaces.spaces Object at }
+        ensures { result ≡ name_at self.now.spaces.spaces at }
+    {
+        self.spaces.read(at, NAME)
+    }
+
     /// The reference in the row of an object to the vertex with a name.
     pub(crate) fn find_edge(&self, from: Place, name: u64) -> Option<Found>
         requires graph { IsGraph self.now.spaces.spaces self.now.payloads }
@@ -59,8 +68,8 @@ impl<P: Payload> Cells<P> {
         }
     }
 
-    // What a reference says.
-    fn found_at(&self, cell: Place, index: usize) -> Found
+    /// What a reference says.
+    pub(crate) fn found_at(&self, cell: Place, index: usize) -> Found
         requires held { Holds self.now.spaces.spaces cell }
         requires inside { index < 8 }
         ensures { let word = slice_index (cell_at self.now.spaces.spaces cell) index in result ≡ record { place = place_in word; rights = rights_in word } }
@@ -131,6 +140,7 @@ impl<P: Payload> Cells<P> {
             LacksCellsFor self.old.spaces (worker + 2) 0 (name_at self.old.spaces.spaces from) (name_at self.old.spaces.spaces to) }
         ensures had_room { HasLeft self.old.spaces (worker + 2) 1 → length (space_of self.old.spaces.spaces 0) ≡ 0 → IsOk result }
         ensures placed { OnOk result (IsPutInRow self.old.spaces self.new.spaces self.old.remembered.places self.new.remembered.places (worker + 2) from to rights) }
+        ensures others { KeepsOtherIndexes self.old.spaces.spaces self.new.spaces.spaces from }
         ensures one_cell { OnOk result (TakesOneCell self.old.spaces self.new.spaces (worker + 2)) }
         ensures remembered { AreRemembered self.old.spaces.spaces self.old.remembered.places → AreRemembered self.new.spaces.spaces self.new.remembered.places }
         ensures places { OnErr result (self.new.remembered.places ≡ self.old.remembered.places) }
@@ -157,6 +167,7 @@ impl<P: Payload> Cells<P> {
         ensures places { self.new.remembered.places ≡ self.old.remembered.places }
         ensures used { self.new.spaces.used ≡ self.old.spaces.used }
         ensures blocks { (space : ℕ) → length (space_of self.new.spaces.spaces space) ≡ length (space_of self.old.spaces.spaces space) }
+        ensures others { KeepsOtherIndexes self.old.spaces.spaces self.new.spaces.spaces from }
     {
         if let Spot::Reference { cell, index } = find_spot(&self.spaces, from, name) {
             narrow(&mut self.spaces, cell, index, rights);
@@ -189,6 +200,7 @@ impl<P: Payload> Cells<P> {
         ensures remembered { AreRemembered self.old.spaces.spaces self.old.remembered.places → AreRemembered self.new.spaces.spaces self.new.remembered.places }
         ensures placed { OnOk result (IsMadeInRow self.old.spaces self.new.spaces self.old.remembered.places self.new.remembered.places (worker + 2)
             (name_at self.old.spaces.spaces from) name rights) }
+        ensures others { KeepsOtherIndexes self.old.spaces.spaces self.new.spaces.spaces from }
         ensures full { IfErr result (λ refused. refused.why ≡ AllocateFault.HeapFull →
             LacksCellsFor self.old.spaces (worker + 2) 1 (name_at self.old.spaces.spaces from) name) }
     {
@@ -203,8 +215,8 @@ impl<P: Payload> Cells<P> {
         Ok(())
     }
 
-    // Makes room for one payload, then for a note, and then for so many cells of a nursery.
-    fn make_vertex_room(
+    /// Makes room for one payload, then for a note, and then for so many cells of a nursery.
+    pub(crate) fn make_vertex_room(
         &mut self,
         worker: u64,
         note: Option<Place>,
@@ -229,8 +241,8 @@ impl<P: Payload> Cells<P> {
         self.make_room(worker, note, cells)
     }
 
-    // Makes room for a note, if there is one, and then for so many cells of a nursery.
-    fn make_room(
+    /// Makes room for a note, if there is one, and then for so many cells of a nursery.
+    pub(crate) fn make_room(
         &mut self,
         worker: u64,
         note: Option<Place>,
@@ -300,8 +312,8 @@ fn reserve_note(remembered: &mut Remembered, note: Option<Place>) -> Result<(), 
     Ok(())
 }
 
-// Remembers a cell, if there is one. There is room for it.
-fn remember(remembered: &mut Remembered, note: Option<Place>)
+/// Remembers a cell, if there is one. There is room for it.
+pub(crate) fn remember(remembered: &mut Remembered, note: Option<Place>)
     requires { IfSome note (λ _. 0 < remembered.old.spare) }
     ensures noted { remembered.new.places ≡ with_note remembered.old.places note }
     ensures members { (q : Place) → Contains remembered.new.places q ↔ (Contains remembered.old.places q ⊎ (note ≡ Some q)) }

@@ -13,7 +13,9 @@ ghost use Rattle.tg_graph.specs.Spots.{IsMadeInRow, IsPutInRow, LacksCellsFor};
 ghost use Rattle.tg_graph.specs.Standing.{StandsFor};
 
 use crate::cells::Cells;
+use crate::index::IndexedRow;
 use crate::opening::opened;
+use indexmap::IndexMap;
 use std::alloc::{AllocError, Global};
 use std::marker::Model;
 use tg_model::{EdgeList, Numbers, Opening};
@@ -55,16 +57,19 @@ pub struct VertexRefused<P: Payload> {
 pub struct Heap<P: Payload> {
     pub(crate) cells: Cells<P>,
     pub(crate) workers: Vec<Place>,
+    // The indexes of long rows, each under the name of the row's vertex.
+    pub(crate) rows: IndexMap<u64, IndexedRow>,
 }
 
 impl<P: Payload> Model for Heap<P> {
     ghost use Rattle.tg_graph.specs.Heap.{HeapState, IsWellFormed};
+    ghost use Rattle.tg_graph.specs.Index.{AreIndexed};
 
     ghost Value = { HeapState };
 
     ghost view = { λ a. record { table = a.cells.spaces; payloads = a.cells.payloads; workers = a.workers.items; remembered = a.cells.remembered.places } };
 
-    ghost invariant = { λ a. IsWellFormed (record { table = a.cells.spaces; payloads = a.cells.payloads; workers = a.workers.items; remembered = a.cells.remembered.places }) };
+    ghost invariant = { λ a. IsWellFormed (record { table = a.cells.spaces; payloads = a.cells.payloads; workers = a.workers.items; remembered = a.cells.remembered.places }) × AreIndexed a.cells.spaces.spaces a.rows.entries };
 }
 
 impl<P: Payload> Heap<P> {
@@ -88,7 +93,11 @@ impl<P: Payload> Heap<P> {
         ensures full { IsErrAnd result (λ refused. refused.why ≡ AllocateFault.HeapFull) ↔ (limits.max_blocks < opening.now.workers) }
     {
         let (cells, workers) = opened(alloc, opening, limits, drafts)?;
-        Ok(Heap { cells, workers })
+        Ok(Heap {
+            cells,
+            workers,
+            rows: IndexMap::new(alloc),
+        })
     }
 
     /// How many workers there are. They are named 0, 1, 2, .. What holds of every heap is told here. Takes no memory.
@@ -148,7 +157,7 @@ impl<P: Payload> Heap<P> {
         ensures some { IsSome result ↔ HasEdge (content_of self.now).label (name_of self.now from) name }
         ensures place { IfSome result (λ found. IsVertexAt self.now.table.spaces name found.place) }
     {
-        self.cells.find_edge(from, name)
+        self.cells.find_edge_in(&self.rows, from, name)
     }
 
     /// The edges of the vertex at a place, by rising name of the target. Sorts once. Answers only want of memory
@@ -206,7 +215,8 @@ impl<P: Payload> Heap<P> {
         ensures refused { OnErr result (self.new ≡ self.old) }
         ensures full { result ≡ Err AllocateFault.HeapFull → LacksCellsFor self.old.table (worker + 2) 0 (name_of self.old from) (name_of self.old to) }
     {
-        self.cells.add_edge(worker, from, to, label.rights())
+        self.cells
+            .add_edge_in(&mut self.rows, worker, from, to, label.rights())
     }
 
     /// Takes rights over the vertex with a name from the vertex at a place. A reference that has none left leaves an
@@ -220,7 +230,8 @@ impl<P: Payload> Heap<P> {
         ensures blocks { (space : ℕ) → length (space_of self.new.table.spaces space) ≡ length (space_of self.old.table.spaces space) }
         ensures remembered { self.new.remembered ≡ self.old.remembered }
     {
-        self.cells.drop_rights(from, name, label.rights());
+        self.cells
+            .drop_rights_in(&mut self.rows, from, name, label.rights());
     }
 
     /// Makes a vertex with a name that none has, which stores the draft's payload, and gives a worker rights over it.
@@ -249,6 +260,6 @@ impl<P: Payload> Heap<P> {
     {
         let from = self.worker_place(worker);
         self.cells
-            .new_vertex(worker, from, name, label.rights(), draft)
+            .new_vertex_in(&mut self.rows, worker, from, name, label.rights(), draft)
     }
 }

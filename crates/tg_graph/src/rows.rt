@@ -1,12 +1,13 @@
 //! Walks along rows.
-ghost use Rattle.std.specs.Prelude.{◌≡◌, ◌+◌, ◌<◌, ◌≤◌, ◌++◌, [], length, option_map, position, IfOk, IfSome, OnOk};
+ghost use Rattle.std.specs.Prelude.{◌≡◌, ◌↔◌, ◌+◌, ◌<◌, ◌≤◌, ◌++◌, [], length, map, option_map, position, IfOk, IfSome, IsTrue, OnOk};
 ghost use Rattle.std.specs.Option.{option_or};
 ghost use Rattle.std.specs.List.{All};
 ghost use Rattle.tg_space.specs.SpaceList.{cells_of};
 ghost use Rattle.tg_space.specs.SpaceTable.{IsSpaceTable};
 ghost use Rattle.tg_space.specs.Soundness.{AreSound, IsReference};
+ghost use Rattle.tg_graph.specs.Index.{slot_of};
 ghost use Rattle.tg_graph.specs.Rows.{IsRow, edges_in, row_words};
-ghost use Rattle.tg_space.specs.Rows.{chunks_from, link_at};
+ghost use Rattle.tg_space.specs.Rows.{chunks_from, link_at, row_of};
 ghost use Rattle.tg_graph.specs.Spots.{IsSpotFor, cells_for, is_empty, note_for, old_cell_if, refers_to, spot_for_new as new_spot};
 
 use std::alloc::{AllocError, Global};
@@ -19,6 +20,9 @@ pub(crate) const LINK: usize = 7;
 
 /// The word of an object that is its name.
 pub(crate) const NAME: usize = 1;
+
+/// How many cells of a row may be walked along; a longer row gets an index.
+pub(crate) const SHORT: usize = 4;
 
 /// Where the reference to a name stands in a row, or where it may be put.
 #[derive(Clone, Copy, PartialEq, Eq, Debug)]
@@ -63,6 +67,22 @@ fn old_cell(cell: Place, wanted: bool) -> Option<Place>
         return Some(cell);
     }
     None
+}
+
+/// Whether the row of an object has more than `SHORT` cells.
+pub(crate) fn is_long(spaces: &Spaces, from: Place) -> bool
+    requires { IsRow spaces.now.spaces from }
+    ensures { IsTrue result ↔ (4 < length (row_of spaces.now.spaces from)) }
+{
+    let mut at = from;
+    for _step in 0..SHORT {
+        let link = spaces.read(at, LINK);
+        if link == 0 {
+            return false;
+        }
+        at = place_of(link);
+    }
+    true
 }
 
 /// Finds where the reference to a name stands in the row of an object, or else the first empty place in chain order,
@@ -186,4 +206,60 @@ fn push_edges(
         }
     }
     Ok(())
+}
+
+/// The name at each place of the row of an object, in chain order, and the cells of the row. Answers only want of memory
+/// otherwise.
+pub(crate) fn places_of(
+    alloc: Global,
+    spaces: &Spaces,
+    from: Place,
+) -> Result<(Vec<Option<u64>>, Vec<Place>), AllocError>
+    requires sound { AreSound spaces.now.spaces [] }
+    requires row { IsRow spaces.now.spaces from }
+    ensures table { OnOk result (IsSpaceTable spaces.now) }
+    ensures names { IfOk result (λ places. places.0.items ≡ map (slot_of spaces.now.spaces) (row_words spaces.now.spaces from)) }
+    ensures cells { IfOk result (λ places. places.1.items ≡ row_of spaces.now.spaces from) }
+{
+    let mut names = Vec::new(alloc);
+    let mut cells = Vec::new(alloc);
+    let mut at = from;
+    let mut left = spaces.cells();
+    'row: loop {
+        let cell = spaces.cell(at);
+        let first = first_pointer(cell[0]);
+        push_names(spaces, &cell[first..LINK], &mut names)?;
+        cells.push(at)?;
+        if cell[LINK] == 0 {
+            return Ok((names, cells));
+        }
+        at = place_of(cell[LINK]);
+        left -= 1;
+    }
+}
+
+// Puts the names to which these references refer at the end.
+fn push_names(
+    spaces: &Spaces,
+    words: &[u64],
+    names: &mut Vec<Option<u64>>,
+) -> Result<(), AllocError>
+    requires { All (IsReference spaces.now.spaces) words.now }
+    ensures { OnOk result (names.new.items ≡ names.old.items ++ map (slot_of spaces.now.spaces) words.now) }
+{
+    for word in words {
+        names.push(name_of_target(spaces, *word))?;
+    }
+    Ok(())
+}
+
+// The name to which a reference refers, if it isn't empty.
+fn name_of_target(spaces: &Spaces, word: u64) -> Option<u64>
+    requires { IsReference spaces.now.spaces word }
+    ensures { result ≡ slot_of spaces.now.spaces word }
+{
+    if word == 0 {
+        return None;
+    }
+    Some(spaces.read(place_of(word), NAME))
 }

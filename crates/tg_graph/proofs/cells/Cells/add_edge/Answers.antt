@@ -7,6 +7,7 @@ use Rattle.tg_graph.proofs.Openings.{takes_one_cell}
 use Rattle.tg_word.specs.declared.Place.{Place}
 use Rattle.tg_graph.proofs.Growing.{added_can, added_changes, added_remembered}
 use Rattle.tg_graph.proofs.Remembering.{AreNoted, cells_few, is_young, nothing_noted}
+use Rattle.tg_graph.proofs.IndexOthers.{others_added}
 use Rattle.tg_graph.proofs.cells.Cells.add_edge.Goals as goal
 
 pub put-requires-clause-can : goal.put-requires-clause-can
@@ -66,3 +67,11 @@ returns-in_err-make_room-clause-had_room g c =
     let nothing = nothing_noted t c.find_spot-spot.ensures.table c.args.self.now.payloads c.requires.graph c.args.from c.requires.from none c.read-name.result c.find_spot-spot.result c.moves.result c.find_spot-spot.ensures.spot in
     let ok : false ≡ true = c.in_err-make_room.ensures.had_room (omega (arith, left, few, c.cells.ensures)) (c.note-note.ensures ∙ nothing) in
     absurd cc
+
+pub returns-clause-others : goal.returns-clause-others
+returns-clause-others g c =
+    let made = c.in_ok-make_room.ensures in
+    λ r s places other at index.
+    others_added c.args.self.now.spaces c.make_room.new.self.spaces c.args.self.now.payloads c.find_spot-spot.ensures.table made.table c.requires.graph (c.args.worker + 2) c.cells.result c.requires.worker made.spaces
+    c.args.from c.requires.from c.read-name.result c.find_spot-spot.result c.find_spot-spot.ensures.spot made.left c.cells.ensures
+    c.args.to c.requires.to c.read-name.ensures c.args.rights c.requires.some (omega arith) c.put.new.spaces c.put.ensures r s places other at index

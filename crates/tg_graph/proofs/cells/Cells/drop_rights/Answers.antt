@@ -10,6 +10,8 @@ use Rattle.tg_graph.specs.Content.{IsNamed}
 use Rattle.tg_graph.specs.Heap.{content_in}
 use Rattle.tg_graph.specs.Rows.{name_at}
 use Rattle.tg_space.specs.Rows.{chunks_from, link_at}
+use Rattle.tg_graph.specs.Index.{IsRowIndex}
+use Rattle.tg_graph.proofs.IndexKept.{other_index}
 use Rattle.tg_graph.specs.Spots.{narrowed, word_put}
 use Rattle.tg_graph.specs.Steps.{ChangesTo}
 use Rattle.tg_graph.proofs.Changes.{shape_kept}
@@ -66,6 +68,19 @@ returns-in-Reference-clause-blocks g c =
     let shape = shape_kept t.spaces (table_list t c.find_spot.ensures.table) cell can.held later in
     λ space. ap (λ (x : SpaceTable). length (space_of x.spaces space)) c.narrow.ensures ∙ shape.blocks space
 
+pub returns-in-Reference-clause-others : goal.returns-in-Reference-clause-others
+returns-in-Reference-clause-others g c =
+    let t = c.args.self.now.spaces in
+    let q = c.in-Reference.cell in
+    let i = c.in-Reference.index in
+    let found = c.in-Reference.ensures.spot in
+    let word = narrowed (slice_index (cell_at t.spaces q) i) c.args.rights in
+    let sound = (narrowed_becomes t c.find_spot.ensures.table c.args.self.now.payloads c.requires.graph c.args.from c.requires.from c.args.name c.args.rights q i found).graph.sound in
+    let reference = reference_found t.spaces c.args.from c.args.name q i found in
+    λ r s places other at index.
+    subst (λ (x : SpaceTable). IsRowIndex x.spaces r s places) (sym c.narrow.ensures)
+    (other_index t.spaces c.args.self.now.payloads (table_list t c.find_spot.ensures.table) c.requires.graph c.args.from q i word c.requires.from reference.cell (reference.from, reference.to) sound r at other s places index)
+
 pub returns-in_default : goal.returns-in_default
 returns-in_default g c =
     let t = c.args.self.now.spaces in
@@ -84,4 +99,5 @@ returns-in_default g c =
       places = refl;
       used = refl;
       blocks = λ space. refl;
+      others = λ r s places other at index. index;
     }

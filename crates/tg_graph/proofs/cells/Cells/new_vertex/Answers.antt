@@ -1,7 +1,14 @@
-use Rattle.std.proofs.Common.{◌≡◌, ◌∙◌, ◌+◌, List, Option, arith, ap, subst}
+use Rattle.std.proofs.Common.{◌≡◌, ◌∙◌, ◌+◌, List, Option, arith, ap, subst, sym}
 use Rattle.tg_remember.specs.Notes.{Notes}
 use Rattle.tg_word.specs.declared.Place.{Place}
-use Rattle.tg_graph.proofs.Growing.{grown_graph, placed_can, still_fresh, vertex_made, vertex_remembered}
+use Rattle.tg_space.specs.SpaceTable.{SpaceTable}
+use Rattle.tg_space.proofs.Tables.{table_list}
+use Rattle.tg_graph.specs.Index.{IsRowIndex}
+use Rattle.tg_graph.specs.Spots.{with_note}
+use Rattle.tg_graph.proofs.IndexMoved.{kept_rows_index}
+use Rattle.tg_graph.proofs.IndexOthers.{others_put}
+use Rattle.tg_graph.proofs.MadeVertices.{made_in_row}
+use Rattle.tg_graph.proofs.Growing.{found_placed, left_over, made_room, object_placed, grown_graph, placed_can, still_fresh, vertex_made, vertex_remembered}
 use Rattle.tg_graph.proofs.Remembering.{AreNoted}
 use Rattle.tg_graph.proofs.cells.Cells.new_vertex.Goals as goal
 
@@ -56,3 +63,39 @@ returns-clause-remembered g c =
     c.args.from c.requires.from c.args.name c.find_spot-spot.result c.find_spot-spot.ensures.spot
     c.args.draft step.placed step.rows c.place_vertex-to.result step.vertex step.used (step.blocks (c.args.worker + 2)) made.left (ap (λ n. 1 + n) c.cells.ensures)
     (omega arith) c.args.rights places later noted (step.remembered places) c.put.new.spaces c.put.ensures before
+
+pub returns-clause-placed : goal.returns-clause-placed
+returns-clause-placed g c =
+    let t = c.args.self.now.spaces in
+    let spot = c.find_spot-spot.result in
+    let made = c.in_default.ensures in
+    let step = c.place_vertex-to.ensures in
+    let places = c.args.self.now.remembered.places in
+    let kept : c.place_vertex-to.new.self.remembered.places ≡ places = ap (λ (r : Notes). r.places) step.notes ∙ made.remembered in
+    made_in_row t c.make_vertex_room.new.self.spaces c.place_vertex-to.new.self.spaces c.put.new.spaces places c.remember.new.remembered.places (c.args.worker + 2) c.cells.result c.args.from c.requires.from c.args.name c.args.rights spot
+    c.find_spot-spot.ensures.spot c.cells.ensures made.spaces step.written c.place_vertex-to.result step.next c.put.ensures
+    (c.remember.ensures.noted ∙ ap (λ (ps : List Place). with_note ps c.note-note.result) kept ∙ ap (with_note places) c.note-note.ensures)
+
+pub returns-clause-others : goal.returns-clause-others
+returns-clause-others g c =
+    let t = c.args.self.now.spaces in
+    let payloads = c.args.self.now.payloads in
+    let made = c.in_default.ensures in
+    let grown = c.make_vertex_room.new.self in
+    let placed = c.place_vertex-to.new.self in
+    let step = c.place_vertex-to.ensures in
+    let space = c.args.worker + 2 in
+    let spot = c.find_spot-spot.result in
+    let found = c.find_spot-spot.ensures.spot in
+    let cells = ap (λ n. 1 + n) c.cells.ensures in
+    let room = made_room t grown.spaces placed.spaces payloads grown.payloads placed.payloads c.find_spot-spot.ensures.table made.table step.table c.requires.graph space (1 + c.cells.result) c.requires.worker made.spaces made.payloads c.args.from c.requires.from c.args.name spot found in
+    let graph = grown_graph t grown.spaces placed.spaces payloads grown.payloads placed.payloads c.find_spot-spot.ensures.table made.table step.table c.requires.graph space (1 + c.cells.result) c.requires.worker made.spaces made.payloads c.args.from c.requires.from c.args.name spot found in
+    let object = object_placed t grown.spaces placed.spaces payloads grown.payloads placed.payloads c.find_spot-spot.ensures.table made.table step.table c.requires.graph space (1 + c.cells.result) c.requires.worker made.spaces made.payloads c.args.from c.requires.from c.args.name spot found c.args.draft step.placed step.rows c.place_vertex-to.result step.vertex step.used (step.blocks space) made.left cells in
+    let there = found_placed t grown.spaces placed.spaces payloads grown.payloads placed.payloads c.find_spot-spot.ensures.table made.table step.table c.requires.graph space (1 + c.cells.result) c.requires.worker made.spaces made.payloads c.args.from c.requires.from c.args.name spot found c.args.draft step.placed step.rows c.place_vertex-to.result step.vertex step.used (step.blocks space) made.left cells in
+    let left = left_over t grown.spaces placed.spaces payloads grown.payloads placed.payloads c.find_spot-spot.ensures.table made.table step.table c.requires.graph space (1 + c.cells.result) c.requires.worker made.spaces made.payloads c.args.from c.requires.from c.args.name spot found c.args.draft step.placed step.rows c.place_vertex-to.result step.vertex step.used (step.blocks space) made.left cells in
+    λ r s places other at index.
+    let still = kept_rows_index grown.spaces.spaces placed.spaces.spaces grown.payloads (table_list grown.spaces made.table) graph step.rows r (room.rows.objects r at) s places
+    (kept_rows_index t.spaces grown.spaces.spaces payloads (table_list t c.find_spot-spot.ensures.table) c.requires.graph room.rows r at s places index) in
+    subst (λ (x : SpaceTable). IsRowIndex x.spaces r s places) (sym c.put.ensures)
+    (others_put placed.spaces step.table placed.payloads step.placed.graph c.args.from object c.args.name space (omega arith, omega (arith, c.requires.worker, room.spaces, step.placed.spaces))
+    c.place_vertex-to.result step.vertex.object step.vertex.named c.args.rights c.requires.some r s places other (step.rows.objects r (room.rows.objects r at)) still spot there left)

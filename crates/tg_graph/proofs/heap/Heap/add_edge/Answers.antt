@@ -13,47 +13,49 @@ pub invariant_of-self : goal.invariant_of-self
 invariant_of-self g c =
     let s : HeapState = record { table = c.self.inside.cells.spaces; payloads = c.self.inside.cells.payloads; workers = c.self.inside.workers.items; remembered = c.self.inside.cells.remembered.places } in
     let content = content_of s in
-    let new = c.add_edge.new.self in
-    let label = with_rights content.label (name_of s c.args.from) (name_of s c.args.to) c.rights.result in
-    either_way c.add_edge.result c.add_edge.ensures.added (both_errors (new.spaces ≡ s.table) (new.remembered.places ≡ s.remembered) c.add_edge.result c.add_edge.ensures.refused c.add_edge.ensures.places)
-    (λ added.
-    let to = subst (λ p. ChangesTo s.table new.spaces p (IsNamed content) label content.value) (sym c.add_edge.ensures.payloads) added in
-    well_formed_after s new.spaces new.payloads new.remembered.places (IsNamed content) label content.value to (c.add_edge.ensures.remembered c.self.invariant.remembered) c.self.invariant)
-    (λ same. well_formed_same s new.spaces new.payloads new.remembered.places c.self.invariant same.0 c.add_edge.ensures.payloads same.1)
+    let new = c.add_edge_in.new.self in
+    let label = with_rights content.label (name_of s c.args.from) (name_of s c.args.to) c.rights.result in (
+      either_way c.add_edge_in.result c.add_edge_in.ensures.added (both_errors (new.spaces ≡ s.table) (new.remembered.places ≡ s.remembered) c.add_edge_in.result c.add_edge_in.ensures.refused c.add_edge_in.ensures.places)
+          (λ added.
+          let to = subst (λ p. ChangesTo s.table new.spaces p (IsNamed content) label content.value) (sym c.add_edge_in.ensures.payloads) added in
+          well_formed_after s new.spaces new.payloads new.remembered.places (IsNamed content) label content.value to (c.add_edge_in.ensures.remembered c.self.invariant.0.remembered) c.self.invariant.0)
+          (λ same. well_formed_same s new.spaces new.payloads new.remembered.places c.self.invariant.0 same.0 c.add_edge_in.ensures.payloads same.1),
+      c.add_edge_in.ensures.indexed,
+    )
 
 pub returns-clause-added : goal.returns-clause-added
 returns-clause-added g c =
     let s : HeapState = record { table = c.self.inside.cells.spaces; payloads = c.self.inside.cells.payloads; workers = c.self.inside.workers.items; remembered = c.self.inside.cells.remembered.places } in
     let content = content_of s in
-    let new = c.add_edge.new.self in
+    let new = c.add_edge_in.new.self in
     let after = heap_with s new.spaces new.payloads new.remembered.places in
     let label = with_rights content.label (name_of s c.args.from) (name_of s c.args.to) c.rights.result in
     let Added : HeapState → Type 0 = λ x. IsContent (content_of after) (IsNamed (content_of x)) (with_rights (content_of x).label (name_of x c.args.from) (name_of x c.args.to) c.args.label) (content_of x).value in
-    IfOk-weaker c.add_edge.result (λ _. ChangesTo s.table new.spaces s.payloads (IsNamed content) label content.value) (λ _. Added c.args.self.now)
+    IfOk-weaker c.add_edge_in.result (λ _. ChangesTo s.table new.spaces s.payloads (IsNamed content) label content.value) (λ _. Added c.args.self.now)
     (λ _ added.
-    let to = subst (λ p. ChangesTo s.table new.spaces p (IsNamed content) label content.value) (sym c.add_edge.ensures.payloads) added in
+    let to = subst (λ p. ChangesTo s.table new.spaces p (IsNamed content) label content.value) (sym c.add_edge_in.ensures.payloads) added in
     let here = subst (λ r. IsContent (content_of after) (IsNamed content) (with_rights content.label (name_of s c.args.from) (name_of s c.args.to) r) content.value) c.rights.ensures.same
     (content_after s new.spaces new.payloads new.remembered.places (IsNamed content) label content.value to) in
     subst Added c.self.view_is here)
-    c.add_edge.ensures.added
+    c.add_edge_in.ensures.added
 
 pub returns-clause-kept : goal.returns-clause-kept
 returns-clause-kept g c =
     let s : HeapState = record { table = c.self.inside.cells.spaces; payloads = c.self.inside.cells.payloads; workers = c.self.inside.workers.items; remembered = c.self.inside.cells.remembered.places } in
     let content = content_of s in
-    let new = c.add_edge.new.self in
+    let new = c.add_edge_in.new.self in
     let after = heap_with s new.spaces new.payloads new.remembered.places in
     let label = with_rights content.label (name_of s c.args.from) (name_of s c.args.to) c.rights.result in
-    IfOk-weaker c.add_edge.result (λ _. ChangesTo s.table new.spaces s.payloads (IsNamed content) label content.value) (λ _. KeepsPlaces c.args.self.now after)
+    IfOk-weaker c.add_edge_in.result (λ _. ChangesTo s.table new.spaces s.payloads (IsNamed content) label content.value) (λ _. KeepsPlaces c.args.self.now after)
     (λ _ added.
-    let to = subst (λ p. ChangesTo s.table new.spaces p (IsNamed content) label content.value) (sym c.add_edge.ensures.payloads) added in
+    let to = subst (λ p. ChangesTo s.table new.spaces p (IsNamed content) label content.value) (sym c.add_edge_in.ensures.payloads) added in
     subst (λ (x : HeapState). KeepsPlaces x after) c.self.view_is (places_kept s new.spaces new.payloads new.remembered.places (IsNamed content) label content.value to))
-    c.add_edge.ensures.added
+    c.add_edge_in.ensures.added
 
 pub returns-clause-placed : goal.returns-clause-placed
 returns-clause-placed g c =
     let s : HeapState = record { table = c.self.inside.cells.spaces; payloads = c.self.inside.cells.payloads; workers = c.self.inside.workers.items; remembered = c.self.inside.cells.remembered.places } in
-    let new = c.add_edge.new.self in
+    let new = c.add_edge_in.new.self in
     let Placed : HeapState → RightSet → Type 0 = λ x r. IsPutInRow x.table new.spaces x.remembered new.remembered.places (c.args.worker + 2) c.args.from c.args.to r in
-    IfOk-weaker c.add_edge.result (λ _. Placed s c.rights.result) (λ _. Placed c.args.self.now c.args.label)
-    (λ _ placed. subst (λ (x : HeapState). Placed x c.args.label) c.self.view_is (subst (λ r. Placed s r) c.rights.ensures.same placed)) c.add_edge.ensures.placed
+    IfOk-weaker c.add_edge_in.result (λ _. Placed s c.rights.result) (λ _. Placed c.args.self.now c.args.label)
+    (λ _ placed. subst (λ (x : HeapState). Placed x c.args.label) c.self.view_is (subst (λ r. Placed s r) c.rights.ensures.same placed)) c.add_edge_in.ensures.placed

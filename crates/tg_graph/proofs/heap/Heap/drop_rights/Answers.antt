@@ -12,19 +12,19 @@ pub invariant_of-self : goal.invariant_of-self
 invariant_of-self g c =
     let s : HeapState = record { table = c.self.inside.cells.spaces; payloads = c.self.inside.cells.payloads; workers = c.self.inside.workers.items; remembered = c.self.inside.cells.remembered.places } in
     let content = content_of s in
-    let new = c.drop_rights.new.self in
+    let new = c.drop_rights_in.new.self in
     let label = without_rights content.label (name_of s c.args.from) c.args.name c.rights.result in
-    let to = subst (λ p. ChangesTo s.table new.spaces p (IsNamed content) label content.value) (sym c.drop_rights.ensures.payloads) c.drop_rights.ensures.dropped in
-    well_formed_after s new.spaces new.payloads new.remembered.places (IsNamed content) label content.value to (subst (λ (ps : List Place). AreRemembered new.spaces.spaces ps) (sym c.drop_rights.ensures.places) (c.drop_rights.ensures.remembered c.self.invariant.remembered)) c.self.invariant
+    let to = subst (λ p. ChangesTo s.table new.spaces p (IsNamed content) label content.value) (sym c.drop_rights_in.ensures.payloads) c.drop_rights_in.ensures.dropped in
+    (well_formed_after s new.spaces new.payloads new.remembered.places (IsNamed content) label content.value to (subst (λ (ps : List Place). AreRemembered new.spaces.spaces ps) (sym c.drop_rights_in.ensures.places) (c.drop_rights_in.ensures.remembered c.self.invariant.0.remembered)) c.self.invariant.0, c.drop_rights_in.ensures.indexed)
 
 pub returns-clause-dropped : goal.returns-clause-dropped
 returns-clause-dropped g c =
     let s : HeapState = record { table = c.self.inside.cells.spaces; payloads = c.self.inside.cells.payloads; workers = c.self.inside.workers.items; remembered = c.self.inside.cells.remembered.places } in
     let content = content_of s in
-    let new = c.drop_rights.new.self in
+    let new = c.drop_rights_in.new.self in
     let after = heap_with s new.spaces new.payloads new.remembered.places in
     let label = without_rights content.label (name_of s c.args.from) c.args.name c.rights.result in
-    let to = subst (λ p. ChangesTo s.table new.spaces p (IsNamed content) label content.value) (sym c.drop_rights.ensures.payloads) c.drop_rights.ensures.dropped in
+    let to = subst (λ p. ChangesTo s.table new.spaces p (IsNamed content) label content.value) (sym c.drop_rights_in.ensures.payloads) c.drop_rights_in.ensures.dropped in
     let Dropped : HeapState → Type 0 = λ x. IsContent (content_of after) (IsNamed (content_of x)) (without_rights (content_of x).label (name_of x c.args.from) c.args.name c.args.label) (content_of x).value in
     let here = subst (λ r. IsContent (content_of after) (IsNamed content) (without_rights content.label (name_of s c.args.from) c.args.name r) content.value) c.rights.ensures.same
     (content_after s new.spaces new.payloads new.remembered.places (IsNamed content) label content.value to) in
@@ -34,8 +34,8 @@ pub returns-clause-kept : goal.returns-clause-kept
 returns-clause-kept g c =
     let s : HeapState = record { table = c.self.inside.cells.spaces; payloads = c.self.inside.cells.payloads; workers = c.self.inside.workers.items; remembered = c.self.inside.cells.remembered.places } in
     let content = content_of s in
-    let new = c.drop_rights.new.self in
+    let new = c.drop_rights_in.new.self in
     let after = heap_with s new.spaces new.payloads new.remembered.places in
     let label = without_rights content.label (name_of s c.args.from) c.args.name c.rights.result in
-    let to = subst (λ p. ChangesTo s.table new.spaces p (IsNamed content) label content.value) (sym c.drop_rights.ensures.payloads) c.drop_rights.ensures.dropped in
+    let to = subst (λ p. ChangesTo s.table new.spaces p (IsNamed content) label content.value) (sym c.drop_rights_in.ensures.payloads) c.drop_rights_in.ensures.dropped in
     subst (λ (x : HeapState). KeepsPlaces x after) c.self.view_is (places_kept s new.spaces new.payloads new.remembered.places (IsNamed content) label content.value to)

@@ -15,13 +15,14 @@ use Rattle.tg_graph.proofs.KeptReached.{worker_objects}
 use Rattle.tg_graph.proofs.KeptSettled.{full_left, items_mapped}
 use Rattle.tg_graph.proofs.heap.Heap.keep_copied.Given.{Over}
 use Rattle.tg_graph.proofs.heap.Heap.keep_copied.Goals.{After-drop-self-inside-4}
+use Rattle.tg_graph.proofs.IndexedRows.{no_indexes}
 use Rattle.tg_graph.proofs.heap.Heap.keep_copied.Goals as goal
 
 pub follow-requires-clause-held : goal.follow-requires-clause-held
 follow-requires-clause-held g c =
     let inside = c.self.inside in
     let s : HeapState = record { table = inside.cells.spaces; payloads = inside.cells.payloads; workers = inside.workers.items; remembered = inside.cells.remembered.places } in
-    let objects = worker_objects s.table.spaces s.workers (workers_of s c.self.invariant) in
+    let objects = worker_objects s.table.spaces s.workers (workers_of s c.self.invariant.0) in
     let held : All (Holds s.table.spaces) s.workers = λ k d low. (objects k d low).held in
     subst (All (Holds s.table.spaces)) (sym c.deref_mut.ensures.value) held
 
@@ -37,7 +38,7 @@ left g c =
     let s : HeapState = record { table = inside.cells.spaces; payloads = inside.cells.payloads; workers = inside.workers.items; remembered = inside.cells.remembered.places } in
     let f = moved_place (from_space Full) s.table.spaces (new_place forward) in
     let moved : c.follow.new.places ≡ map f s.workers = subst (λ (places : List Place). c.follow.new.places ≡ map f places) c.deref_mut.ensures.value c.follow.ensures in
-    full_left s c.args.self.now c.self.view_is c.self.invariant c.drop_uncopied.ensures.table forward c.args.adoption.aged c.args.adoption.old c.args.remembered.places c.requires (now g c)
+    full_left s c.args.self.now c.self.view_is c.self.invariant.0 c.drop_uncopied.ensures.table forward c.args.adoption.aged c.args.adoption.old c.args.remembered.places c.requires (now g c)
     (rw c.unwrap.ensures at c.adopt.ensures.adopted)
     (rw c.unwrap.ensures at c.adopt.ensures.table)
     c.drop_uncopied.ensures.dropped
@@ -45,7 +46,7 @@ left g c =
     refl
 
 pub invariant_of-self : goal.invariant_of-self
-invariant_of-self g c = (left g c).well_formed
+invariant_of-self g c = ((left g c).well_formed, no_indexes c.adopt.new.self.spaces c.clear.new.self.entries c.clear.ensures.empty)
 
 pub returns-clause-blocks : goal.returns-clause-blocks
 returns-clause-blocks g c =

@@ -16,25 +16,26 @@ use Rattle.tg_graph.proofs.KeptReached.{worker_objects}
 use Rattle.tg_graph.proofs.KeptSettled.{cells_there, items_mapped, nursery_left, payloads_there, words_in_range}
 use Rattle.tg_graph.proofs.heap.Heap.keep_old_and_copied.Given.{Over}
 use Rattle.tg_graph.proofs.heap.Heap.keep_old_and_copied.Goals.{After-drop-dead-2}
+use Rattle.tg_graph.proofs.IndexedRows.{no_indexes}
 use Rattle.tg_graph.proofs.heap.Heap.keep_old_and_copied.Goals as goal
 
 pub rewritten_cells-requires-clause-places : goal.rewritten_cells-requires-clause-places
 rewritten_cells-requires-clause-places g c =
     let inside = c.self.inside in
     let s : HeapState = record { table = inside.cells.spaces; payloads = inside.cells.payloads; workers = inside.workers.items; remembered = inside.cells.remembered.places } in
-    words_in_range s c.args.self.now c.self.view_is c.self.invariant c.in_ok-dead.ensures.table c.args.forward.now.words c.args.adoption.aged c.args.adoption.old c.args.noted.places c.requires c.len.ensures.whole.0
+    words_in_range s c.args.self.now c.self.view_is c.self.invariant.0 c.in_ok-dead.ensures.table c.args.forward.now.words c.args.adoption.aged c.args.adoption.old c.args.noted.places c.requires c.len.ensures.whole.0
 
 pub rewritten_cells-requires-clause-held : goal.rewritten_cells-requires-clause-held
 rewritten_cells-requires-clause-held g c =
     let inside = c.self.inside in
     let s : HeapState = record { table = inside.cells.spaces; payloads = inside.cells.payloads; workers = inside.workers.items; remembered = inside.cells.remembered.places } in
-    remembered_cells s c.self.invariant
+    remembered_cells s c.self.invariant.0
 
 pub follow-requires-clause-held : goal.follow-requires-clause-held
 follow-requires-clause-held g c =
     let inside = c.self.inside in
     let s : HeapState = record { table = inside.cells.spaces; payloads = inside.cells.payloads; workers = inside.workers.items; remembered = inside.cells.remembered.places } in
-    let objects = worker_objects s.table.spaces s.workers (workers_of s c.self.invariant) in
+    let objects = worker_objects s.table.spaces s.workers (workers_of s c.self.invariant.0) in
     let held : All (Holds s.table.spaces) s.workers = λ k d low. (objects k d low).held in
     subst (All (Holds s.table.spaces)) (sym (c.deref_mut.ensures.value ∙ c.in_ok-workers.ensures.items ∙ c.deref.ensures.value)) held
 
@@ -42,7 +43,7 @@ pub write_cells-requires : goal.write_cells-requires
 write_cells-requires g c =
     let inside = c.self.inside in
     let s : HeapState = record { table = inside.cells.spaces; payloads = inside.cells.payloads; workers = inside.workers.items; remembered = inside.cells.remembered.places } in
-    cells_there s c.args.self.now c.self.view_is c.self.invariant c.in_ok-dead.ensures.table c.args.forward.now.words c.args.adoption.aged c.args.adoption.old c.args.noted.places
+    cells_there s c.args.self.now c.self.view_is c.self.invariant.0 c.in_ok-dead.ensures.table c.args.forward.now.words c.args.adoption.aged c.args.adoption.old c.args.noted.places
     c.adopt.new.self c.deref-2.result.now c.in_ok-adopt.ensures.adopted (c.deref-2.ensures.value ∙ c.in_ok-cells.ensures)
 
 pub drop_payloads-requires-clause-there : goal.drop_payloads-requires-clause-there
@@ -50,7 +51,7 @@ drop_payloads-requires-clause-there g c =
     let inside = c.self.inside in
     let s : HeapState = record { table = inside.cells.spaces; payloads = inside.cells.payloads; workers = inside.workers.items; remembered = inside.cells.remembered.places } in
     subst (λ (keys : List ℕ). All (λ key. IsSome (entry inside.cells.payloads key)) keys) (sym c.deref-3.ensures.value)
-    (payloads_there s c.args.self.now c.self.view_is c.self.invariant c.in_ok-dead.ensures.table c.args.forward.now.words c.args.adoption.aged c.args.adoption.old c.args.noted.places
+    (payloads_there s c.args.self.now c.self.view_is c.self.invariant.0 c.in_ok-dead.ensures.table c.args.forward.now.words c.args.adoption.aged c.args.adoption.old c.args.noted.places
     c.in_ok-dead.dead.items c.in_ok-dead.ensures.keys)
 
 -- the heap as its parts are at the end
@@ -66,7 +67,7 @@ left g c =
     let f = moved_place (from_space Nursery) s.table.spaces (new_place forward) in
     let copied = c.in_ok-workers.ensures.items ∙ c.deref.ensures.value in
     let moved : c.follow.new.places ≡ map f c.in_ok-workers.workers.items = subst (λ (places : List Place). c.follow.new.places ≡ map f places) c.deref_mut.ensures.value c.follow.ensures in
-    nursery_left s c.args.self.now c.self.view_is c.self.invariant c.in_ok-dead.ensures.table forward c.args.adoption.aged c.args.adoption.old c.args.noted.places c.requires (now g c)
+    nursery_left s c.args.self.now c.self.view_is c.self.invariant.0 c.in_ok-dead.ensures.table forward c.args.adoption.aged c.args.adoption.old c.args.noted.places c.requires (now g c)
     c.adopt.new.self c.in_ok-cells.cells.items c.in_ok-dead.dead.items c.in_ok-adopt.ensures.adopted c.in_ok-cells.ensures
     (subst (λ (cells : List Rewritten). AreWritten c.adopt.new.self c.write_cells.new.spaces cells) c.deref-2.ensures.value c.write_cells.ensures.written)
     c.write_cells.ensures.table
@@ -76,7 +77,7 @@ left g c =
     refl
 
 pub invariant_of-self-2 : goal.invariant_of-self-2
-invariant_of-self-2 g c = (left g c).well_formed
+invariant_of-self-2 g c = ((left g c).well_formed, no_indexes c.write_cells.new.spaces.spaces c.clear.new.self.entries c.clear.ensures.empty)
 
 pub returns-clause-settled : goal.returns-clause-settled
 returns-clause-settled g c = (left g c).settled

@@ -6,6 +6,7 @@ use Rattle.tg_space.specs.SpaceTable.{SpaceTable}
 use Rattle.tg_space.specs.Generations.{AreRemembered}
 use Rattle.tg_graph.specs.Content.{IsContent, IsNamed}
 use Rattle.tg_graph.specs.Heap.{HeapState, KeepsPlaces, content_of, name_of}
+use Rattle.tg_graph.specs.Index.{AreIndexed}
 use Rattle.tg_graph.specs.Steps.{ChangesTo}
 use Rattle.tg_graph.proofs.Heaps.{content_after, either_way, heap_with, places_kept, well_formed_after, well_formed_same}
 use Rattle.tg_graph.proofs.heap.Heap.write.Goals as goal
@@ -14,10 +15,12 @@ pub invariant_of-self : goal.invariant_of-self
 invariant_of-self g c =
     let s : HeapState = record { table = c.self.inside.cells.spaces; payloads = c.self.inside.cells.payloads; workers = c.self.inside.workers.items; remembered = c.self.inside.cells.remembered.places } in
     let content = content_of s in
-    let new = c.write.new.self in
-    either_way c.write.result c.write.ensures.written c.write.ensures.refused
-    (λ to. well_formed_after s new.spaces new.payloads new.remembered.places (IsNamed content) content.label (written_at content.value (name_of s c.args.at) c.args.number) to (subst (λ (x : SpaceTable). AreRemembered x.spaces new.remembered.places) (sym c.write.ensures.spaces) (subst (λ (ps : List Place). AreRemembered s.table.spaces ps) (sym c.write.ensures.places) c.self.invariant.remembered)) c.self.invariant)
-    (λ same. well_formed_same s new.spaces new.payloads new.remembered.places c.self.invariant c.write.ensures.spaces same c.write.ensures.places)
+    let new = c.write.new.self in (
+      either_way c.write.result c.write.ensures.written c.write.ensures.refused
+          (λ to. well_formed_after s new.spaces new.payloads new.remembered.places (IsNamed content) content.label (written_at content.value (name_of s c.args.at) c.args.number) to (subst (λ (x : SpaceTable). AreRemembered x.spaces new.remembered.places) (sym c.write.ensures.spaces) (subst (λ (ps : List Place). AreRemembered s.table.spaces ps) (sym c.write.ensures.places) c.self.invariant.0.remembered)) c.self.invariant.0)
+          (λ same. well_formed_same s new.spaces new.payloads new.remembered.places c.self.invariant.0 c.write.ensures.spaces same c.write.ensures.places),
+      subst (λ (x : SpaceTable). AreIndexed x.spaces c.self.inside.rows.entries) (sym c.write.ensures.spaces) c.self.invariant.1,
+    )
 
 pub returns-clause-written : goal.returns-clause-written
 returns-clause-written g c =

@@ -1,0 +1,13 @@
+use Rattle.std.proofs.Common.{◌≡◌, ℕ, List, Option, length, subst, sym, ap, ◌∙◌}
+use Rattle.tg_index.specs.Slots.{IsIndexOf, listed_row}
+use Rattle.tg_graph.proofs.Indexing.{listed_index, names_once}
+use Rattle.tg_graph.proofs.cells.Cells.index_of.Goals as goal
+
+pub of_row-requires : goal.of_row-requires
+of_row-requires g c =
+    names_once c.args.self.now.spaces.spaces c.args.self.now.payloads c.requires.graph c.args.from c.requires.from c.deref.result.now (c.deref.ensures.value ∙ c.in_ok-names.ensures.names)
+
+pub returns : goal.returns
+returns g c =
+    listed_index c.args.self.now.spaces.spaces c.args.self.now.payloads c.requires.graph c.args.from c.requires.from c.deref.result.now (c.deref.ensures.value ∙ c.in_ok-names.ensures.names)
+    c.in_ok-names.cells.items c.in_ok-names.ensures.cells c.in_ok-of_row.field-0 c.in_ok-of_row.ensures.index c.in_ok-of_row.ensures.len

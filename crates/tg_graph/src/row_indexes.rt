@@ -1,0 +1,193 @@
+//! The graph in the cells, where some rows have an index: each call goes by the index of the row, if it has one, and else
+//! walks.
+ghost use Rattle.std.specs.Prelude.{◌≡◌, ◌+◌, ◌<◌, ◌⊎◌, ℕ, false, length, Err, IfErr, IfOk, IfSome, OnErr, OnOk};
+ghost use Rattle.tg_rights.specs.RightSet.{is_none_held};
+ghost use Rattle.tg_model.specs.Graph.{with_rights, without_rights};
+ghost use Rattle.tg_model.specs.Rules.{with_value};
+ghost use Rattle.tg_block.specs.declared.CellKind.TheVariants.{Object};
+ghost use Rattle.tg_space.specs.SpaceList.{space_of};
+ghost use Rattle.tg_space.specs.Soundness.{IsKindAt};
+ghost use Rattle.tg_space.specs.Generations.{AreRemembered};
+ghost use Rattle.tg_graph.specs.Content.{IsNamed};
+ghost use Rattle.tg_graph.specs.Heap.{IsGraph, content_in, rights_found};
+ghost use Rattle.tg_graph.specs.Index.{AreIndexed, IsRowIndex};
+ghost use Rattle.tg_graph.specs.Rows.{IsVertexAt, name_at};
+ghost use Rattle.tg_graph.specs.Spots.{IsMadeInRow, IsPutInRow, LacksCellsFor};
+ghost use Rattle.tg_graph.specs.Steps.{ChangesTo};
+
+use crate::cells::Cells;
+use crate::heap::{Found, VertexRefused};
+use crate::index::IndexedRow;
+use crate::rows::{is_long, places_of};
+use indexmap::IndexMap;
+use std::alloc::AllocError;
+use tg_index::RowIndex;
+use tg_nursery::AllocateFault;
+use tg_payload::{Draft, Payload};
+use tg_rights::Rights;
+use tg_word::Place;
+
+impl<P: Payload> Cells<P> {
+    /// The index of the row of an object, along which it walks once. Answers only want of memory otherwise.
+    pub(crate) fn index_of(&self, from: Place) -> Result<IndexedRow, AllocError>
+        requires graph { IsGraph self.now.spaces.spaces self.now.payloads }
+        requires from { IsKindAt self.now.spaces.spaces Object from }
+        ensures { IfOk result (λ row. IsRowIndex self.now.spaces.spaces from row.names row.cells.items) }
+    {
+        let (names, cells) = places_of(self.alloc, &self.spaces, from)?;
+        Ok(IndexedRow {
+            names: RowIndex::of_row(self.alloc, &names)?,
+            cells,
+        })
+    }
+
+    /// Gives the row of an object an index, where it has none and has more cells than a walk may pass. Where memory was
+    /// refused, nothing is changed.
+    pub(crate) fn index_long_row(
+        &self,
+        rows: &mut IndexMap<u64, IndexedRow>,
+        from: Place,
+    ) -> Result<(), AllocError>
+        requires graph { IsGraph self.now.spaces.spaces self.now.payloads }
+        requires from { IsKindAt self.now.spaces.spaces Object from }
+        requires indexed { AreIndexed self.now.spaces.spaces rows.old.entries }
+        ensures indexed { AreIndexed self.now.spaces.spaces rows.new.entries }
+    {
+        let name = self.name_of(from);
+        if rows.contains_key(&name) || !is_long(&self.spaces, from) {
+            return Ok(());
+        }
+        let row = self.index_of(from)?;
+        let Ok(_) = rows.insert(name, row) else {
+            return Err(AllocError);
+        };
+        Ok(())
+    }
+
+    /// The reference in the row of an object to the vertex with a name.
+    pub(crate) fn find_edge_in(
+        &self,
+        rows: &IndexMap<u64, IndexedRow>,
+        from: Place,
+        name: u64,
+    ) -> Option<Found>
+        requires graph { IsGraph self.now.spaces.spaces self.now.payloads }
+        requires from { IsKindAt self.now.spaces.spaces Object from }
+        requires indexed { AreIndexed self.now.spaces.spaces rows.now.entries }
+        ensures rights { rights_found result ≡ (content_in self.now.spaces.spaces self.now.payloads).label (name_at self.now.spaces.spaces from) name }
+        ensures some { IfSome result (λ found. is_none_held found.rights ≡ false) }
+        ensures place { IfSome result (λ found. IsVertexAt self.now.spaces.spaces name found.place) }
+    {
+        match rows.get(&self.name_of(from)) {
+            Some(row) => self.find_edge_by_index(row, from, name),
+            None => self.find_edge(from, name),
+        }
+    }
+
+    /// Gives one object rights over another, and notes the written cell if it has to be remembered. Growth comes first,
+    /// that of the spaces last: where it is refused, there may be room for one more note, and else nothing is changed.
+    pub(crate) fn add_edge_in(
+        &mut self,
+        rows: &mut IndexMap<u64, IndexedRow>,
+        worker: u64,
+        from: Place,
+        to: Place,
+        rights: Rights,
+    ) -> Result<(), AllocateFault>
+        requires worker { worker + 2 < length self.old.spaces.spaces }
+        requires graph { IsGraph self.old.spaces.spaces self.old.payloads }
+        requires from { IsKindAt self.old.spaces.spaces Object from }
+        requires to { IsKindAt self.old.spaces.spaces Object to }
+        requires some { is_none_held rights ≡ false }
+        requires indexed { AreIndexed self.old.spaces.spaces rows.old.entries }
+        ensures added { let content = content_in self.old.spaces.spaces self.old.payloads in
+            OnOk result (ChangesTo self.old.spaces self.new.spaces self.old.payloads (IsNamed content)
+            (with_rights content.label (name_at self.old.spaces.spaces from) (name_at self.old.spaces.spaces to) rights) content.value) }
+        ensures payloads { self.new.payloads ≡ self.old.payloads }
+        ensures refused { OnErr result (self.new.spaces ≡ self.old.spaces) }
+        ensures full { result ≡ Err AllocateFault.HeapFull →
+            LacksCellsFor self.old.spaces (worker + 2) 0 (name_at self.old.spaces.spaces from) (name_at self.old.spaces.spaces to) }
+        ensures placed { OnOk result (IsPutInRow self.old.spaces self.new.spaces self.old.remembered.places self.new.remembered.places (worker + 2) from to rights) }
+        ensures remembered { AreRemembered self.old.spaces.spaces self.old.remembered.places → AreRemembered self.new.spaces.spaces self.new.remembered.places }
+        ensures places { OnErr result (self.new.remembered.places ≡ self.old.remembered.places) }
+        ensures indexed { AreIndexed self.new.spaces.spaces rows.new.entries }
+    {
+        let Ok(()) = self.index_long_row(rows, from) else {
+            return Err(AllocateFault::OutOfMemory);
+        };
+        match rows.get_mut(&self.name_of(from)) {
+            Some(row) => self.add_edge_indexed(row, worker, from, to, rights),
+            None => self.add_edge(worker, from, to, rights),
+        }
+    }
+
+    /// Takes rights over a vertex from an object. A reference that has none left becomes the empty word. What is
+    /// remembered stays.
+    pub(crate) fn drop_rights_in(
+        &mut self,
+        rows: &mut IndexMap<u64, IndexedRow>,
+        from: Place,
+        name: u64,
+        rights: Rights,
+    )
+        requires graph { IsGraph self.old.spaces.spaces self.old.payloads }
+        requires from { IsKindAt self.old.spaces.spaces Object from }
+        requires indexed { AreIndexed self.old.spaces.spaces rows.old.entries }
+        ensures dropped { let content = content_in self.old.spaces.spaces self.old.payloads in
+            ChangesTo self.old.spaces self.new.spaces self.old.payloads (IsNamed content)
+            (without_rights content.label (name_at self.old.spaces.spaces from) name rights) content.value }
+        ensures payloads { self.new.payloads ≡ self.old.payloads }
+        ensures remembered { AreRemembered self.old.spaces.spaces self.old.remembered.places → AreRemembered self.new.spaces.spaces self.old.remembered.places }
+        ensures places { self.new.remembered.places ≡ self.old.remembered.places }
+        ensures used { self.new.spaces.used ≡ self.old.spaces.used }
+        ensures blocks { (space : ℕ) → length (space_of self.new.spaces.spaces space) ≡ length (space_of self.old.spaces.spaces space) }
+        ensures indexed { AreIndexed self.new.spaces.spaces rows.new.entries }
+    {
+        match rows.get_mut(&self.name_of(from)) {
+            Some(row) => self.drop_indexed(row, from, name, rights),
+            None => self.drop_rights(from, name, rights),
+        }
+    }
+
+    /// Makes an object with a name that none has, gives another one rights over it, and notes the written cell if it has
+    /// to be remembered. Growth comes first, that of the spaces last: where it is refused, there may be room for one more
+    /// payload and one more note, and else nothing is changed.
+    pub(crate) fn new_vertex_in(
+        &mut self,
+        rows: &mut IndexMap<u64, IndexedRow>,
+        worker: u64,
+        from: Place,
+        name: u64,
+        rights: Rights,
+        draft: Draft<P>,
+    ) -> Result<(), VertexRefused<P>>
+        requires worker { worker + 2 < length self.old.spaces.spaces }
+        requires graph { IsGraph self.old.spaces.spaces self.old.payloads }
+        requires from { IsKindAt self.old.spaces.spaces Object from }
+        requires some { is_none_held rights ≡ false }
+        requires fresh { ¬ IsNamed (content_in self.old.spaces.spaces self.old.payloads) name }
+        requires indexed { AreIndexed self.old.spaces.spaces rows.old.entries }
+        ensures made { let content = content_in self.old.spaces.spaces self.old.payloads in
+            OnOk result (ChangesTo self.old.spaces self.new.spaces self.new.payloads (λ x. IsNamed content x ⊎ (x ≡ name))
+            (with_rights content.label (name_at self.old.spaces.spaces from) name rights) (with_value content.value name draft)) }
+        ensures handed_back { IfErr result (λ refused. refused.draft ≡ draft) }
+        ensures spaces { OnErr result (self.new.spaces ≡ self.old.spaces) }
+        ensures payloads { OnErr result (self.new.payloads.entries ≡ self.old.payloads.entries) }
+        ensures places { OnErr result (self.new.remembered.places ≡ self.old.remembered.places) }
+        ensures remembered { AreRemembered self.old.spaces.spaces self.old.remembered.places → AreRemembered self.new.spaces.spaces self.new.remembered.places }
+        ensures placed { OnOk result (IsMadeInRow self.old.spaces self.new.spaces self.old.remembered.places self.new.remembered.places (worker + 2)
+            (name_at self.old.spaces.spaces from) name rights) }
+        ensures full { IfErr result (λ refused. refused.why ≡ AllocateFault.HeapFull →
+            LacksCellsFor self.old.spaces (worker + 2) 1 (name_at self.old.spaces.spaces from) name) }
+        ensures indexed { AreIndexed self.new.spaces.spaces rows.new.entries }
+    {
+        let Ok(()) = self.index_long_row(rows, from) else {
+            let why = AllocateFault::OutOfMemory;
+            return Err(VertexRefused { draft, why });
+        };
+        match rows.get_mut(&self.name_of(from)) {
+            Some(row) => self.new_vertex_indexed(row, worker, from, name, rights, draft),
+            None => self.new_vertex(worker, from, name, rights, draft),
+        }
+    }
+}
