@@ -206,3 +206,23 @@ fn damaged_journals(rt: HostRuntime) -> Result<(), Fail> {
     assert_eq!(rt; damages(rt.alloc())?, wanted);
     Ok(())
 }
+
+// What the audit finds behind the journal's first two entries in 3,000 denied writes, the last of them by this worker.
+fn audited_long(alloc: Global, last: u64) -> Result<Option<u64>, Fail> {
+    let mut journal = Journal::new(alloc);
+    enter(&mut journal, created(alloc)?)?;
+    enter(&mut journal, granted()?)?;
+    for _ in 0..2999 {
+        enter(&mut journal, denied_write(1))?;
+    }
+    enter(&mut journal, denied_write(last))?;
+    audited(alloc, journal.entries())
+}
+
+#[test]
+fn journal_of_three_thousand_entries(rt: HostRuntime) -> Result<(), Fail> {
+    let alloc = rt.alloc();
+    let (plain, unknown) = (audited_long(alloc, 1)?, audited_long(alloc, 9)?);
+    assert_eq!(rt; (plain, unknown), (None, Some(3001)));
+    Ok(())
+}

@@ -1,11 +1,12 @@
 //! The texts and statuses of the command line.
-use crate::settings::Options;
-use crate::start::prepare;
-use crate::stop::Stop;
-use crate::words::options;
 use std::alloc::Global;
 use std::test::Fail;
-use tg_script::{Limits, Settings};
+use tg_block::CELLS;
+use tg_model::{MAX_VERTICES, MAX_WORKERS};
+use tg_program::{
+    DEFAULT_BLOCKS, DEFAULT_VERTICES, DEFAULT_WORKERS, MOST_BLOCKS, Options, Stop, options, prepare,
+};
+use tg_script::{Limits, MOST_BYTES, MOST_LINE_BYTES, Settings};
 
 const FAULT_END: &str = "\n\nUsage: tgstore [OPTIONS]\n\nFor more information, try '--help'.\n";
 
@@ -132,6 +133,29 @@ fn help_is_status_0(rt: HostRuntime) -> Result<(), Fail> {
     ];
     for line in lines {
         assert!(rt; text.as_str().contains(line), "{text}");
+    }
+    Ok(())
+}
+
+// The help has each number as it is in the code.
+#[test]
+fn help_is_true(rt: HostRuntime) -> Result<(), Fail> {
+    let alloc = rt.alloc();
+    let text = text_with(alloc, ["tgstore", "--help"].as_slice(), 0)?;
+    let lines = [
+        format!(in alloc; "How many workers there are, from 1 to {MAX_WORKERS}. ")?,
+        format!(in alloc; "[default: {DEFAULT_WORKERS}]")?,
+        format!(in alloc; "How many vertices may ever be made, from 1 to {MAX_VERTICES}. ")?,
+        format!(in alloc; "[default: {DEFAULT_VERTICES}]")?,
+        format!(in alloc;
+            "How many blocks of {CELLS} cells the heap may have, from 1 to {MOST_BLOCKS}. "
+        )?,
+        format!(in alloc; "[default: {DEFAULT_BLOCKS}]")?,
+        format!(in alloc; "of at most {MOST_LINE_BYTES} bytes")?,
+        format!(in alloc; "at most {} MiB in all", MOST_BYTES >> 20)?,
+    ];
+    for line in &lines {
+        assert!(rt; text.as_str().contains(line.as_str()), "{line}");
     }
     Ok(())
 }

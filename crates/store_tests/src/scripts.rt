@@ -125,12 +125,12 @@ fn ran_in(
     Ok(run_with(alloc, max_vertices, limits, cells, boxes, script)?)
 }
 
-// So many workers, no limit of vertices that matters, and a heap of two blocks.
-fn two_blocks(workers: u64) -> Result<Settings, Fail> {
+// So many workers, no limit of vertices that matters, and a heap of so many blocks.
+fn blocks(workers: u64, most: u64) -> Result<Settings, Fail> {
     Ok(Settings {
         workers,
         max_vertices: 1_000_000,
-        limits: limits_of(2)?,
+        limits: limits_of(most)?,
     })
 }
 
@@ -297,7 +297,58 @@ fn exact_fit_of_one_block(rt: HostRuntime) -> Result<(), Fail> {
     script.push_str("full\n0 create rw\n0 write 110 5\n0 write 110 5\n0 read 110\n0 create r\n")?;
     written.push_str("ok 46\nok 110\nok\nok\nok 10\nrefused stock\n")?;
     let (script, written) = (script.as_bytes(), written.as_bytes());
-    runs_in(&rt, two_blocks(1)?, b"c109s", script, written, Ok(()))
+    runs_in(&rt, blocks(1, 2)?, b"c109s", script, written, Ok(()))
+}
+
+// A nursery collection frees what isn't reached: the same script, with a collection that answers no number.
+#[test]
+fn minor_frees_young_vertices(rt: HostRuntime) -> Result<(), Fail> {
+    let alloc = rt.alloc();
+    let (mut script, mut written) = (String::new(alloc), String::new(alloc));
+    fill_and_remove(alloc, &mut script)?;
+    filled_and_removed(alloc, &mut written)?;
+    script.push_str("minor\n0 create rw\n")?;
+    written.push_str("ok\nok 110\n")?;
+    let (script, written) = (script.as_bytes(), written.as_bytes());
+    runs_in(&rt, blocks(1, 2)?, b"c110", script, written, Ok(()))
+}
+
+// Adds so many lines of creates and what is written for them, with names from the first on.
+fn push_creates(
+    alloc: Global,
+    script: &mut String,
+    written: &mut String,
+    first: u64,
+    count: u64,
+) -> Result<(), Fail> {
+    for at in 0..count {
+        script.push_str("0 create r\n")?;
+        let name = first.saturating_add(at);
+        written.push_str(format!(in alloc; "ok {name}\n")?.as_str())?;
+    }
+    Ok(())
+}
+
+// Of three blocks two go to Old by a full collection: a worker, 80 vertices, and 13 chunks for its 80 edges. A nursery collection
+// leaves them there, though nobody reaches the vertices any more, so 64 cells are left; a full one leaves one block in Old.
+#[test]
+fn minor_frees_no_old_vertices(rt: HostRuntime) -> Result<(), Fail> {
+    let alloc = rt.alloc();
+    let (mut script, mut written) = (String::new(alloc), String::new(alloc));
+    push_creates(alloc, &mut script, &mut written, 1, 80)?;
+    script.push_str("full\n")?;
+    written.push_str("ok 81\n")?;
+    for name in 1..81u64 {
+        script.push_str(format!(in alloc; "0 remove {name} r\n")?.as_str())?;
+        written.push_str("ok\n")?;
+    }
+    script.push_str("minor\n")?;
+    written.push_str("ok\n")?;
+    push_creates(alloc, &mut script, &mut written, 81, 64)?;
+    script.push_str("0 create r\nfull\n0 create r\n")?;
+    written.push_str("refused heap\nok 65\nok 145\n")?;
+    let (script, written) = (script.as_bytes(), written.as_bytes());
+    runs_in(&rt, blocks(1, 3)?, b"c145", script, written, Ok(()))
 }
 
 #[test]
@@ -310,7 +361,10 @@ fn grant_needs_the_granters_own_right(rt: HostRuntime) -> Result<(), Fail> {
 #[test]
 fn no_block_for_the_third_worker(rt: HostRuntime) -> Result<(), Fail> {
     let full = Err(ScriptFault::HeapFull);
-    runs_in(&rt, two_blocks(3)?, b"", b"", b"", full)
+    let bad = Err(ScriptFault::BadLine { line: 1 });
+    // a bad line before the opening means that the store is never opened
+    runs_in(&rt, blocks(3, 2)?, b"", b"garbage\n", b"", bad)?;
+    runs_in(&rt, blocks(3, 2)?, b"", b"", b"", full)
 }
 
 // Two boxes with payloads that count their drops.

@@ -1,10 +1,13 @@
-//! Runs between a reader and a writer of which one fails in mid-stream or takes a byte at a time.
+//! Runs between a reader and a writer: one that fails once and then goes on, one that takes a byte at a time, and a client that
+//! waits for its replies.
 ghost use Rattle.std.specs.Prelude.{◌≡◌, ◌<◌};
 
 use std::alloc::{AllocError, Global};
 use std::io;
-use std::io::{ErrorKind, Read, Write};
+use std::io::{BufRead, BufReader, ErrorKind, Read, Write};
 use std::marker::Brand;
+use std::sync::Arc;
+use std::sync::atomic::{AtomicU64, Ordering};
 use std::sync::ledger::{Blank, Ledger};
 use std::test::Fail;
 use tg_payload::CellPayload;
@@ -14,27 +17,50 @@ use tg_script::{
 
 const SCRIPT: &[u8] = b"0 create rw\n0 list\n";
 
-// Fails behind its bytes where it is to fail.
+const REPLIES: &[u8] = b"ok 1\nok 1:rw\n";
+
+fn broken() -> io::Error {
+    io::Error::from(ErrorKind::BrokenPipe)
+}
+
+// Fails once behind its first bytes where it is to fail, and goes on with the rest.
 #[derive(Drop)]
 struct Cut {
-    bytes: &'static [u8],
+    first: &'static [u8],
+    rest: &'static [u8],
     fails: bool,
 }
 
 impl Read for Cut {
     fn read(&mut self, buf: &mut [u8]) -> io::Result<usize> {
-        if self.fails && self.bytes.is_empty() {
-            return Err(io::Error::from(ErrorKind::BrokenPipe));
+        if !self.first.is_empty() {
+            return self.first.read(buf);
         }
-        self.bytes.read(buf)
+        if self.fails {
+            self.fails = false;
+            return Err(broken());
+        }
+        self.rest.read(buf)
     }
 }
 
-// Takes one byte a call, and fails when it has taken so many.
+// What a writer does once in place of what it is asked for.
+#[derive(Clone, Copy, PartialEq, Eq, Debug)]
+enum Trouble {
+    Nothing,
+    // its second write comes to an error
+    Fails,
+    // its second write takes no byte
+    TakesNone,
+    // its last flush comes to an error
+    CannotFlush,
+}
+
+// Takes one byte a call.
 #[derive(Drop)]
 struct Trickle {
     taken: Vec<u8>,
-    most: usize,
+    trouble: Trouble,
 }
 
 impl Write for Trickle {
@@ -42,25 +68,49 @@ impl Write for Trickle {
         let Some(first) = buf.first() else {
             return Ok(0);
         };
-        if self.taken.len() == self.most || self.taken.push(*first).is_err() {
-            return Err(io::Error::from(ErrorKind::BrokenPipe));
+        let trouble = self.trouble;
+        if self.taken.len() == 1 {
+            self.trouble = Trouble::Nothing;
+            match trouble {
+                Trouble::Fails => return Err(broken()),
+                Trouble::TakesNone => return Ok(0),
+                Trouble::Nothing => {}
+                Trouble::CannotFlush => self.trouble = trouble,
+            }
         }
-        Ok(1)
+        match self.taken.push(*first) {
+            Ok(()) => Ok(1),
+            Err(_) => Err(broken()),
+        }
     }
 
     fn flush(&mut self) -> io::Result<()> {
+        if self.trouble == Trouble::CannotFlush && self.taken.len() == REPLIES.len() {
+            self.trouble = Trouble::Nothing;
+            return Err(broken());
+        }
         Ok(())
     }
 }
 
-// Runs the reader's script with one worker and a stock of one cell, and answers what the writer took.
-fn run_between(
+// Runs the reader's script with one worker and a stock of one cell, and answers the writer.
+fn run_between<R: Read + Drop, W: Write + Drop>(
     alloc: Global,
-    reader: Cut,
-    writer: Trickle,
-) -> Result<(Vec<u8>, Result<(), ScriptFault>), AllocError> {
+    reader: R,
+    writer: W,
+) -> Result<(W, Result<(), ScriptFault>), AllocError> {
     let (asked, read_failures, write_failures) = (Blank::new(1), Blank::new(1), Blank::new(1));
-    run_counted::<Brand, Brand, Brand>(alloc, asked, read_failures, write_failures, reader, writer)
+    let Ok(reader) = BufReader::new(alloc, reader) else {
+        return Err(AllocError);
+    };
+    run_counted::<Brand, Brand, Brand, BufReader<R>, W>(
+        alloc,
+        asked,
+        read_failures,
+        write_failures,
+        reader,
+        writer,
+    )
 }
 
 // Runs the source's script with one worker and a stock of one cell.
@@ -82,54 +132,141 @@ fn run_one<S: Source, K: Sink>(
     Ok(run_script_one(alloc, source, sink, settings, workers, stock))
 }
 
-fn run_counted<A: Ledger, B: Ledger, C: Ledger>(
+fn run_counted<A: Ledger, B: Ledger, C: Ledger, R: BufRead + Drop, W: Write + Drop>(
     alloc: Global,
     asked: Blank,
     read_failures: Blank,
     write_failures: Blank,
-    reader: Cut,
-    writer: Trickle,
-) -> Result<(Vec<u8>, Result<(), ScriptFault>), AllocError>
+    reader: R,
+    writer: W,
+) -> Result<(W, Result<(), ScriptFault>), AllocError>
     requires asked { (asked.name ≡ A.name) × (asked.parts ≡ A.parts) × (0 < asked.parts) }
     requires read_failures { (read_failures.name ≡ B.name) × (read_failures.parts ≡ B.parts) × (0 < read_failures.parts) }
     requires write_failures { (write_failures.name ≡ C.name) × (write_failures.parts ≡ C.parts) × (0 < write_failures.parts) }
 {
-    let mut source = OfRead {
-        reader,
-        asked: Count::<A>::new(asked),
-        failures: Count::<B>::new(read_failures),
-    };
+    let (asked, read_failures) = (Count::<A>::new(asked), Count::<B>::new(read_failures));
+    let mut source = OfRead::new(reader, asked, read_failures);
     let mut sink = OfWrite::new(writer, Count::<C>::new(write_failures));
     let outcome = run_one(alloc, &mut source, &mut sink)?;
     let OfWrite { writer, .. } = sink;
+    Ok((writer, outcome))
+}
+
+// What is written for the script when its second line comes after an error or not, and the writer has this trouble; and how
+// the run ends.
+fn run_in_trouble(
+    alloc: Global,
+    fails: bool,
+    trouble: Trouble,
+) -> Result<(Vec<u8>, Result<(), ScriptFault>), AllocError> {
+    let (first, rest) = SCRIPT.split_at(12);
+    let reader = Cut { first, rest, fails };
+    let writer = Trickle {
+        taken: Vec::new(alloc),
+        trouble,
+    };
+    let (writer, outcome) = run_between(alloc, reader, writer)?;
     Ok((writer.taken, outcome))
 }
 
 #[test]
 fn mid_stream(rt: HostRuntime) -> Result<(), Fail> {
-    let alloc = rt.alloc();
-    let cases: [(&'static [u8], bool, usize, &[u8], Result<(), ScriptFault>); 3] = [
-        // the reader fails behind its first line
+    let failed = Err(ScriptFault::WriteFailed);
+    let cases: [(bool, Trouble, &[u8], Result<(), ScriptFault>); 5] = [
+        (false, Trouble::Nothing, REPLIES, Ok(())),
         (
-            b"0 create rw\n",
             true,
-            100,
+            Trouble::Nothing,
             b"ok 1\n",
             Err(ScriptFault::ReadFailed),
         ),
-        // the writer fails behind its first byte
-        (SCRIPT, false, 1, b"o", Err(ScriptFault::WriteFailed)),
-        // the writer takes a byte a call
-        (SCRIPT, false, 100, b"ok 1\nok 1:rw\n", Ok(())),
+        (false, Trouble::Fails, b"o", failed),
+        (false, Trouble::TakesNone, b"o", failed),
+        (false, Trouble::CannotFlush, REPLIES, failed),
     ];
-    for (bytes, fails, most, written, outcome) in cases {
-        let writer = Trickle {
-            taken: Vec::new(alloc),
-            most,
-        };
-        let (taken, ended) = run_between(alloc, Cut { bytes, fails }, writer)?;
+    for (fails, trouble, written, outcome) in cases {
+        let (taken, ended) = run_in_trouble(rt.alloc(), fails, trouble)?;
         assert_eq!(rt; taken.as_slice(), written);
         assert_eq!(rt; ended, outcome);
     }
+    Ok(())
+}
+
+// A client that sends its next bytes only once it was shown so many bytes of replies.
+#[derive(Drop)]
+struct Client {
+    sends: &'static [(u64, &'static [u8])],
+    shown: Arc<AtomicU64>,
+}
+
+impl Read for Client {
+    fn read(&mut self, buf: &mut [u8]) -> io::Result<usize> {
+        let Some(((replies, line), later)) = self.sends.split_first() else {
+            return Ok(0);
+        };
+        if self.shown.load(Ordering::SeqCst) != *replies {
+            return Err(broken());
+        }
+        self.sends = later;
+        let mut line = *line;
+        line.read(buf)
+    }
+}
+
+// Shows what it was given when it is flushed, and counts how often that was.
+#[derive(Drop)]
+struct Screen {
+    given: u64,
+    shown: Arc<AtomicU64>,
+    flushes: u64,
+}
+
+impl Write for Screen {
+    fn write(&mut self, buf: &[u8]) -> io::Result<usize> {
+        self.given = self.given.saturating_add(buf.len() as u64);
+        Ok(buf.len())
+    }
+
+    fn flush(&mut self) -> io::Result<()> {
+        self.shown.store(self.given, Ordering::SeqCst);
+        self.flushes = self.flushes.saturating_add(1);
+        Ok(())
+    }
+}
+
+// How often the writer was flushed for the client, and how the run ended.
+fn run_for_client(
+    alloc: Global,
+    sends: &'static [(u64, &'static [u8])],
+) -> Result<(u64, Result<(), ScriptFault>), AllocError> {
+    let shown = Arc::new(alloc, AtomicU64::new(0))?;
+    let client = Client {
+        sends,
+        shown: shown.clone()?,
+    };
+    let screen = Screen {
+        given: 0,
+        shown,
+        flushes: 0,
+    };
+    let (screen, outcome) = run_between(alloc, client, screen)?;
+    Ok((screen.flushes, outcome))
+}
+
+// Who sends a line, or a line and a part of the next, and waits, is answered; what comes in one piece is flushed before the next
+// piece is waited for, and not line by line.
+#[test]
+fn client_waits_for_its_replies(rt: HostRuntime) -> Result<(), Fail> {
+    let alloc = rt.alloc();
+    let waits = run_for_client(
+        alloc,
+        &[(0, b"0 create rw\n"), (5, b"0 list\n0 li"), (13, b"st\n")],
+    )?;
+    assert_eq!(rt; waits.1, Ok(()));
+    let whole = run_for_client(
+        alloc,
+        &[(0, b"0 create rw\n0 list\n0 list\n0 list\n0 list\n")],
+    )?;
+    assert_eq!(rt; whole, (3, Ok(())));
     Ok(())
 }

@@ -12,7 +12,7 @@ pub const WORKERS: &str =
 pub const VERTICES: &str = "How many vertices may ever be made, from 1 to 16777216. The workers
 are vertices, so it may not be below their number [default: 1000000]";
 
-pub const BLOCKS: &str = "How many blocks of 128 cells the heap may have, from 1 to 65536. Each
+pub const BLOCKS: &str = "How many blocks of 64 cells the heap may have, from 1 to 65536. Each
 worker needs one [default: 4096]";
 
 pub const STOCK: &str = "The boxes that creates take, first to last, as letters: c keeps the last
@@ -34,10 +34,15 @@ pub const MANUAL: &str = "Script:
   full                 collects, and answers how many vertices can be reached
   minor                collects among the newest objects alone, and answers no number
 
+  Any other line is a bad line, and the run stops there: a blank line, a comment, a carriage return before the line's
+  end, a second space, a number with a sign or a leading zero, rights out of order, or an end without a line feed.
+
 Replies:
+  One line for each command. What was written is shown before more input is waited for, on pipes too.
+
   ok                   with what was asked for after it: a name, values, edges as NAME:RIGHTS
   denied ..            the rule, and the rights that were missing on an edge X->Y
-  refused ..           memory, heap, vertices, worker or stock: what there was too little of
+  refused ..           memory, heap, vertices or stock: what there was too little of; worker: there is no such worker
 
 Exit status:
   0  the whole script was run

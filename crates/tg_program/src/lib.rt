@@ -17,10 +17,9 @@ mod stop;
 mod streams;
 mod words;
 
-pub use help::{ABOUT, BLOCKS, MANUAL, STOCK, VERTICES, WORKERS};
 pub use program::{exit_status, obey};
 pub use settings::Options;
 pub use start::{Start, StartFault, prepare};
 pub use stop::Stop;
 pub use streams::{Payloads, serve};
-pub use words::options;
+pub use words::{DEFAULT_BLOCKS, DEFAULT_VERTICES, DEFAULT_WORKERS, MOST_BLOCKS, options};

@@ -13,14 +13,17 @@ use std::convert::AsStr;
 use tg_model::{MAX_VERTICES, MAX_WORKERS};
 use tg_script::{Limits, Settings};
 
-const DEFAULT_WORKERS: u64 = 2;
+/// How many workers there are where the words don't say it.
+pub const DEFAULT_WORKERS: u64 = 2;
 
-const DEFAULT_VERTICES: u64 = 1_000_000;
+/// How many vertices may ever be made where the words don't say it.
+pub const DEFAULT_VERTICES: u64 = 1_000_000;
 
-const DEFAULT_BLOCKS: u64 = 4096;
+/// How many blocks the heap may have where the words don't say it.
+pub const DEFAULT_BLOCKS: u64 = 4096;
 
 /// The most blocks that a heap may be given.
-const MOST_BLOCKS: u64 = 65_536;
+pub const MOST_BLOCKS: u64 = 65_536;
 
 /// The most blocks of one space.
 const MOST_SPACE_BLOCKS: u64 = 1_048_576;
