@@ -53,23 +53,33 @@ pub fn run_story<P: Payload, R: Print + AllocGlobal>(rt: &R, boxes: Boxes<P>) ->
 
 // A store with two workers, in which the caretaker may hand rights on to the visitor.
 fn open_store<P: Payload>(alloc: Global, caretaker: P, visitor: P) -> Result<Store<P>, Stop> {
-    let caretaker = Draft::new(alloc, caretaker)?;
-    let visitor = Draft::new(alloc, visitor)?;
-    let mut values = Vec::new(alloc);
-    values.push(caretaker.value().copy(alloc)?)?;
-    values.push(visitor.value().copy(alloc)?)?;
+    let drafts = drafts_of(alloc, caretaker, visitor)?;
+    let opening = opening_of(alloc, &drafts)?;
+    let limits = Limits::new(MOST_BLOCKS, MOST_BLOCKS_OF_A_SPACE)?;
+    Ok(Store::open(alloc, opening, limits, drafts)?)
+}
+
+// What the two workers store, by rising name.
+fn drafts_of<P: Payload>(alloc: Global, caretaker: P, visitor: P) -> Result<Vec<Draft<P>>, Stop> {
     let mut drafts = Vec::new(alloc);
-    drafts.push(caretaker)?;
-    drafts.push(visitor)?;
+    drafts.push(Draft::new(alloc, caretaker)?)?;
+    drafts.push(Draft::new(alloc, visitor)?)?;
+    Ok(drafts)
+}
+
+// Workers who store what is in the drafts, and an edge from the caretaker to the visitor.
+fn opening_of<P: Payload>(alloc: Global, drafts: &[Draft<P>]) -> Result<Opening, Stop> {
+    let mut values = Vec::new(alloc);
+    for draft in drafts {
+        values.push(draft.value().copy(alloc)?)?;
+    }
     let mut edges = Vec::new(alloc);
     edges.push(Edge {
         from: CARETAKER,
         to: VISITOR,
         label: label("g")?,
     })?;
-    let opening = Opening::new(WORKERS, edges, values, MOST_VERTICES)?;
-    let limits = Limits::new(MOST_BLOCKS, MOST_BLOCKS_OF_A_SPACE)?;
-    Ok(Store::open(alloc, opening, limits, drafts)?)
+    Ok(Opening::new(WORKERS, edges, values, MOST_VERTICES)?)
 }
 
 // The caretaker makes the document, and hands the right to read it on to the visitor.
