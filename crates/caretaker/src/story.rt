@@ -41,12 +41,25 @@ pub struct Boxes<P: Payload> {
 
 /// Opens a store, tells the story in it, and audits its journal. Each step is a line on standard output.
 pub fn run_story<P: Payload, R: Print + AllocGlobal>(rt: &R, boxes: Boxes<P>) -> Result<(), Stop> {
-    let alloc = rt.alloc();
-    let mut store = open_store(alloc, boxes.caretaker, boxes.visitor)?;
-    let document = hand_on(rt, &mut store, boxes.document)?;
-    visit(rt, &mut store, document)?;
-    take_back(rt, &mut store, document)?;
-    let entries = audit_own(alloc, &store)?;
+    let Boxes {
+        caretaker,
+        visitor,
+        document,
+    } = boxes;
+    let mut store = open_store(rt.alloc(), caretaker, visitor)?;
+    tell_story(rt, &mut store, document)
+}
+
+// Tells the story in the store.
+fn tell_story<P: Payload, R: Print + AllocGlobal>(
+    rt: &R,
+    store: &mut Store<P>,
+    document: P,
+) -> Result<(), Stop> {
+    let document = hand_on(rt, store, document)?;
+    visit(rt, store, document)?;
+    take_back(rt, store, document)?;
+    let entries = audit_own(rt.alloc(), store)?;
     println!(rt; "audit ok, {entries} entries")?;
     Ok(())
 }

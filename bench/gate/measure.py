@@ -1,0 +1,267 @@
+#!/usr/bin/env python3
+"""measure.py whole [LOG]                       what each crate takes of a whole `rt ci`
+measure.py everyday [CRATE [FILE FUNCTION]]  how long a changed body is on its way to green
+
+Both run at the top of the repository that the script stands in, and print Markdown.
+
+`whole` runs the gate once, from nothing, and writes what it says to LOG (out.txt in a temporary folder unless it is
+given). The total is the processor time of the gate and of all that it started, as the kernel counts it once they have
+ended. The shares of the crates are sampled ten times a second, so a little is missing from each. It lists each edit that
+took more than 15 seconds of processor time, and its status is that of the gate.
+
+`everyday` puts a statement that does nothing in front of one body (`census` in `src/heap.rt` of `tg_graph`, unless it
+is told otherwise), runs `rt check` there and in each crate above, puts the file back and checks again. It times each
+check after a first round that is not counted.
+
+Other work on the machine moves all of it: the load is printed beside the figures."""
+import os
+import re
+import resource
+import subprocess
+import sys
+import tempfile
+import threading
+import time
+
+TOP = os.path.abspath(os.path.join(os.path.dirname(os.path.abspath(__file__)), "..", ".."))
+TICKS = os.sysconf("SC_CLK_TCK")
+STAGES = ("proofs", "tests", "edits")
+SLOW = 15
+
+
+def crates():
+    """The crates of crates.txt, each with those of them that it names."""
+    named = {}
+    with open(f"{TOP}/crates.txt", encoding="utf-8") as lines:
+        for line in lines:
+            head, _, below = line.partition("#")[0].partition(":")
+            if head.split():
+                named[head.split()[0]] = below.split()
+    return {name: [it for it in below if it in named] for name, below in named.items()}
+
+
+def edits_of(crate):
+    folder = f"{TOP}/crates/{crate}/must-fail"
+    return sorted(it[:-5] for it in os.listdir(folder) if it.endswith(".edit")) if os.path.isdir(folder) else []
+
+
+def tests_of(crate):
+    count = 0
+    for at, _, files in os.walk(f"{TOP}/crates/{crate}/src"):
+        for name in files:
+            with open(f"{at}/{name}", encoding="utf-8") as it:
+                count += it.read().count("#[test]")
+    return count
+
+
+def processor_seconds():
+    """What all children that have ended took, with their children."""
+    used = resource.getrusage(resource.RUSAGE_CHILDREN)
+    return used.ru_utime + used.ru_stime
+
+
+def said(*words):
+    return subprocess.run(words, cwd=TOP, capture_output=True, text=True, check=False).stdout.strip()
+
+
+def where():
+    """One sentence on what was measured, and on what."""
+    changed = " with changes" if said("git", "status", "--porcelain") else ""
+    commit = said("git", "rev-parse", "--short", "HEAD") or "no commit"
+    processors = len(os.sched_getaffinity(0))
+    return f"{commit}{changed}, {processors} processors, a load of {os.getloadavg()[0]:.1f} before it"
+
+
+class Sampler:
+    """Adds up the processor time of all that a process has started, by crate and stage, while it runs."""
+
+    def __init__(self, root):
+        self.root, self.kinds, self.used, self.rooms, self.over = root, {}, {}, {}, threading.Event()
+        self.thread = threading.Thread(target=self.run)
+        self.thread.start()
+
+    def run(self):
+        while not self.over.wait(0.1):
+            self.sample()
+
+    def stop(self):
+        self.over.set()
+        self.thread.join()
+
+    def sample(self):
+        parents, times = {}, {}
+        for name in os.listdir("/proc"):
+            if name.isdigit():
+                read_process(int(name), parents, times)
+        for pid in times:
+            chain = [pid]
+            while chain[-1] != self.root and chain[-1] in parents:
+                chain.append(parents[chain[-1]])
+            if chain[-1] == self.root:
+                self.note(pid, chain, times)
+
+    def note(self, pid, chain, times):
+        key = pid, times[pid][0]
+        # (a process takes the kind of the nearest one above it that has one, and may change its own when it starts another program)
+        kinds = [kind_of(it) for it in chain]
+        kind = next((it for it in kinds if it), self.kinds.get(key))
+        self.kinds[key], self.used[key] = kind or self.kinds.get(key), times[pid][1]
+        if kind and kind[1] == "edits":
+            self.rooms.setdefault(kind[2], len(self.rooms))
+
+    def by_stage(self):
+        sums = {}
+        for key, used in self.used.items():
+            crate, stage = (self.kinds[key] or ("", "", ""))[:2]
+            sums[crate, stage] = sums.get((crate, stage), 0) + used
+        return sums
+
+    def slow_edits(self):
+        """The edits over the limit. A crate's edits are tried in the order of their names, each in a folder of its own."""
+        rooms = {}
+        for key, used in self.used.items():
+            kind = self.kinds[key]
+            if kind and kind[1] == "edits":
+                rooms[kind] = rooms.get(kind, 0) + used
+        slow, tried = [], {}
+        for kind in sorted(rooms, key=lambda it: self.rooms[it[2]]):
+            crate, names = kind[0], edits_of(kind[0])
+            at = tried[crate] = tried.get(crate, -1) + 1
+            if rooms[kind] > SLOW and at < len(names):
+                slow.append((rooms[kind], crate, names[at], at == 0))
+        return sorted(slow, reverse=True)
+
+
+def read_process(pid, parents, times):
+    """Notes the parent of a process, and when it began and what it has used, unless it has just ended."""
+    try:
+        with open(f"/proc/{pid}/stat", encoding="utf-8", errors="replace") as it:
+            fields = it.read().rpartition(")")[2].split()
+    except OSError:
+        return
+    parents[pid] = int(fields[1])
+    times[pid] = int(fields[19]), (int(fields[11]) + int(fields[12])) / TICKS
+
+
+def kind_of(pid):
+    """The crate and the stage that a process works for, and the folder of its edit, where the process itself shows them."""
+    try:
+        with open(f"/proc/{pid}/cmdline", encoding="utf-8", errors="replace") as it:
+            words = it.read().split("\0")
+        folder = os.readlink(f"/proc/{pid}/cwd")
+    except OSError:
+        return None
+    ran = re.search(r"/rt-run-[^/]+/bin/(.+?)(_tests)?$", next((it for it in words if "/rt-run-" in it), ""))
+    if ran:
+        return ran[1], "runs", ""
+    if "--crate-name" not in words:
+        inside = os.path.relpath(folder, f"{TOP}/crates")
+        is_link = words[0].endswith("rattle-link") and not inside.startswith("..")
+        stage = "tests" if any(it.endswith("_tests") for it in words) else "proofs"
+        return (inside.split("/")[0], stage, "") if is_link else None
+    crate = words[words.index("--crate-name") + 1]
+    if os.path.basename(folder).startswith("rt-edit-"):
+        return crate, "edits", folder
+    return crate, "tests" if "--test" in words else "proofs", ""
+
+
+def whole(log):
+    place, began, before = where(), time.time(), processor_seconds()
+    with open(log, "w", encoding="utf-8") as out:
+        gate = subprocess.Popen(["rt", "ci"], cwd=TOP, stdin=subprocess.DEVNULL, stdout=out, stderr=subprocess.STDOUT)
+        sampler = Sampler(gate.pid)
+        status = gate.wait()
+        sampler.stop()
+    took, total = time.time() - began, processor_seconds() - before
+    with open(log, encoding="utf-8") as it:
+        last = it.read().rstrip().rpartition("\n")[2]
+    print(f"{last}. {place}: {total / 60:.1f} minutes of processor time in {took / 60:.1f} minutes.\n")
+    print_table(sampler.by_stage(), total)
+    print_slow(sampler.slow_edits())
+    return status
+
+
+def print_table(sums, total):
+    minutes = lambda key: sums.get(key, 0) / 60
+    rows = {name: [minutes((name, stage)) for stage in STAGES] for name in crates()}
+    print("| Crate | Proofs | Its tests | Its edits | In all |\n|---|---|---|---|---|")
+    for name in sorted(rows, key=lambda it: -sum(rows[it])):
+        proofs, tests, edits = rows[name]
+        counts = tests_of(name), len(edits_of(name))
+        cells = [f"{it:.1f} ({count})" if count else "-" for it, count in zip((tests, edits), counts)]
+        print(f"| `{name}` | {proofs:.1f} | {cells[0]} | {cells[1]} | {sum(rows[name]):.1f} |")
+    sampled = [sum(it) for it in zip(*rows.values())]
+    print(f"| all | {sampled[0]:.1f} | {sampled[1]:.1f} | {sampled[2]:.1f} | {sum(sampled):.1f} |")
+    runs = sum(used for (_, stage), used in sums.items() if stage == "runs") / 60
+    rest = total / 60 - sum(sampled) - runs
+    print(f"\nRunning programs and tests took {runs:.1f} minutes; {rest:.1f} are `rt` itself and what the sampling missed.")
+
+
+def print_slow(slow):
+    print(f"\nEdits that took more than {SLOW} seconds of processor time:{'' if slow else ' none.'}")
+    for used, crate, name, is_first in slow:
+        print(f"- {used:.0f} s: `{crate}`, `{name}`{' (its first: the whole crate is proved with it)' if is_first else ''}")
+
+
+def above(crate):
+    """The crates that stand on one, lowest first."""
+    named, found = crates(), []
+    has = lambda name: crate in named[name] or any(has(it) for it in named[name])
+    depth = lambda name: 1 + max([depth(it) for it in named[name]], default=0)
+    found = [name for name in named if has(name)]
+    return sorted(found, key=depth)
+
+
+def check(crate):
+    """Checks a crate as a developer would, and answers the seconds that passed and those of the processors."""
+    began, before = time.time(), processor_seconds()
+    ran = subprocess.run(["rt", "check"], cwd=f"{TOP}/crates/{crate}", stdin=subprocess.DEVNULL, capture_output=True, text=True, check=False)
+    if ran.returncode:
+        sys.exit(f"{crate} is not proved:\n{ran.stdout[-2000:]}{ran.stderr[-500:]}")
+    return time.time() - began, processor_seconds() - before
+
+
+def with_statement(text, function):
+    """The text with a statement that does nothing in front of the function's body."""
+    start = re.search(rf"\bfn {function}\b", text)
+    opening = start and re.compile(r"^( *)\{\n", re.M).search(text, start.end())
+    if not opening:
+        sys.exit(f"no function {function} whose body begins on a line of its own")
+    return f"{text[: opening.end()]}{opening[1]}    let _ = ();\n{text[opening.end() :]}"
+
+
+def everyday(crate, file, function):
+    place, path = where(), f"{TOP}/crates/{crate}/{file}"
+    with open(path, encoding="utf-8") as it:
+        text = it.read()
+    changed, order = with_statement(text, function), [crate, *above(crate)]
+    for name in order:
+        check(name)
+    print(f"`{function}` of `{crate}` changed and put back, {place}. Seconds:\n")
+    print("| `rt check` in | passed | processor | put back: passed | processor |\n|---|---|---|---|---|")
+    try:
+        with open(path, "w", encoding="utf-8") as it:
+            it.write(changed)
+        first = [check(name) for name in order]
+    finally:
+        with open(path, "w", encoding="utf-8") as it:
+            it.write(text)
+    second = [check(name) for name in order]
+    for name, (passed, used), (passed_back, used_back) in zip(order, first, second):
+        print(f"| `{name}` | {passed:.0f} | {used:.0f} | {passed_back:.0f} | {used_back:.0f} |")
+    sums = [sum(it) for both in (first, second) for it in zip(*both)]
+    print(f"| all | {' | '.join(f'{it:.0f}' for it in sums)} |")
+    return 0
+
+
+def main(words):
+    if words[:1] == ["whole"] and len(words) <= 2:
+        return whole(words[1] if len(words) == 2 else os.path.join(tempfile.mkdtemp(), "out.txt"))
+    if words[:1] == ["everyday"] and len(words) in (1, 4):
+        return everyday(*(words[1:] or ["tg_graph", "src/heap.rt", "census"]))
+    print(__doc__, file=sys.stderr)
+    return 2
+
+
+if __name__ == "__main__":
+    sys.exit(main(sys.argv[1:]))
