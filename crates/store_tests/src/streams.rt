@@ -196,18 +196,19 @@ fn mid_stream(rt: HostRuntime) -> Result<(), Fail> {
 #[derive(Drop)]
 struct Client {
     sends: &'static [(u64, &'static [u8])],
+    next: usize,
     shown: Arc<AtomicU64>,
 }
 
 impl Read for Client {
     fn read(&mut self, buf: &mut [u8]) -> io::Result<usize> {
-        let Some(((replies, line), later)) = self.sends.split_first() else {
+        let Some((replies, line)) = self.sends.get(self.next) else {
             return Ok(0);
         };
         if self.shown.load(Ordering::SeqCst) != *replies {
             return Err(broken());
         }
-        self.sends = later;
+        self.next = self.next.saturating_add(1);
         let mut line = *line;
         line.read(buf)
     }
@@ -242,6 +243,7 @@ fn run_for_client(
     let shown = Arc::new(alloc, AtomicU64::new(0))?;
     let client = Client {
         sends,
+        next: 0,
         shown: shown.clone()?,
     };
     let screen = Screen {

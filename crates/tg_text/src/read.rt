@@ -1,7 +1,7 @@
 //! How a line is read: it is cut at its spaces, and the words are read one by one.
 //!
-//! No memory is taken, and no byte is read more than a few times. A number is read by its digits and written again, so
-//! that what is no number's one text (a leading zero, a sign) is found by comparing.
+//! No memory is taken, and no byte is read more than a few times. A number is read digit by digit; a leading zero and whatever
+//! is no digit, as a sign, make it none.
 ghost use Rattle.std.specs.Prelude.{◌≡◌, ◌∷◌, [], Some, IfSome, option_map};
 ghost use Rattle.tg_text.specs.declared.line.Line.{Line};
 ghost use Rattle.tg_text.specs.Grammar.{line_text, LineFits};

@@ -77,8 +77,8 @@ fn take_byte<R: BufRead>(reader: &mut R) -> (Next, usize)
     (Next::Byte(byte), held)
 }
 
-/// A writer as a sink. Each put is one write, so wrap the writer in a buffer where many small texts come; `finish`
-/// flushes it. An error fails, an interruption included, and so does a write that takes no byte.
+/// A writer as a sink. Each put is one write, so wrap the writer in a buffer where many small texts come; finishing flushes
+/// it, which tests show and no contract. An error fails, an interruption included, and so does a write that takes no byte.
 #[derive(Drop)]
 pub struct OfWrite<W: Write + Drop, L: Ledger> {
     pub writer: W,
