@@ -1,0 +1,8 @@
+use Rattle.std.proofs.Common.{length}
+use Rattle.deputy.proofs.round.run_shared.Given as goal
+
+abbrev pub ghosts-share-L-Ledger : goal.ghosts-share-L-Ledger
+ghosts-share-L-Ledger g a = record { name = a.blank.name; parts = a.blank.parts }
+
+abbrev pub ghosts-share-L-Round : goal.ghosts-share-L-Round
+ghosts-share-L-Round g a = record { start = length a.store.entries }

@@ -1,0 +1,92 @@
+//! What each of the three does with its session.
+
+use crate::opening::{HAND, cell, label};
+use crate::stop::Stop;
+use std::alloc::Global;
+use std::sync::Wait;
+use tg_model::{Command, Reply};
+use tg_payload::CellPayload;
+use tg_shared::{Round, Session, SharedStore};
+use tg_store::Kind;
+
+// How often the client reads its paper and collects.
+const READS: u64 = 20;
+
+/// What became of the three errands: whether each was done.
+#[derive(Clone, Copy, PartialEq, Eq, Debug)]
+pub struct Errands {
+    /// The ledger, written with the deputy's own rights.
+    pub ledger_by_deputy: bool,
+    /// The client's paper, written with the rights of the hand.
+    pub paper_by_hand: bool,
+    /// The ledger, written with the rights of the hand.
+    pub ledger_by_hand: bool,
+}
+
+/// Makes a vertex that stores 0, which the session's subject may read and write. Answers its name.
+pub fn make<L: Round, R: Wait>(
+    rt: &R,
+    alloc: Global,
+    store: &SharedStore<L, CellPayload>,
+    session: &mut Session<L>,
+) -> Result<u64, Stop> {
+    Ok(session.create(rt, store, label("rw")?, cell(alloc)?)?)
+}
+
+/// Hands the right to write to the paper on to the deputy's hand.
+pub fn hand_on<L: Round, R: Wait>(
+    rt: &R,
+    store: &SharedStore<L, CellPayload>,
+    client: &mut Session<L>,
+    paper: u64,
+) -> Result<(), Stop> {
+    let rights = label("w")?;
+    let grant = Command::Grant {
+        via: HAND,
+        target: paper,
+        rights,
+    };
+    let _granted = client.call(rt, store, grant)?;
+    Ok(())
+}
+
+// Writes 1 to the target, and answers whether that was done.
+fn write<L: Round, R: Wait>(
+    rt: &R,
+    store: &SharedStore<L, CellPayload>,
+    session: &mut Session<L>,
+    target: u64,
+) -> Result<bool, Stop> {
+    let reply = session.call(rt, store, Command::Write { target, value: 1 })?;
+    Ok(matches!(reply, Reply::Done))
+}
+
+/// Runs the client's errands, with the deputy's own rights and with those of its hand.
+pub fn run_errands<L: Round, R: Wait>(
+    rt: &R,
+    store: &SharedStore<L, CellPayload>,
+    deputy: &mut Session<L>,
+    hand: &mut Session<L>,
+    ledger: u64,
+    paper: u64,
+) -> Result<Errands, Stop> {
+    Ok(Errands {
+        ledger_by_deputy: write(rt, store, deputy, ledger)?,
+        paper_by_hand: write(rt, store, hand, paper)?,
+        ledger_by_hand: write(rt, store, hand, ledger)?,
+    })
+}
+
+/// Reads the paper and collects, again and again.
+pub fn read_and_collect<L: Round, R: Wait>(
+    rt: &R,
+    store: &SharedStore<L, CellPayload>,
+    client: &mut Session<L>,
+    paper: u64,
+) -> Result<(), Stop> {
+    for _ in 0..READS {
+        let _read = client.call(rt, store, Command::Read { target: paper })?;
+        let _left = client.collect(rt, store, Kind::Full)?;
+    }
+    Ok(())
+}

@@ -1,0 +1,46 @@
+//! A store of two workers, each of whom may read and write what the other stores.
+
+use std::alloc::Global;
+use tg_model::{Edge, Law, Numbers, Opening, Value};
+use tg_payload::{CellPayload, Draft};
+use tg_rights::{Label, Rights};
+use tg_store::{Limits, Store};
+
+// A cell with 0.
+fn zero(alloc: Global) -> Option<Value> {
+    let state = Vec::from_elem(alloc, 0u64, 1).ok()?;
+    Some(Value {
+        law: Law::Cell,
+        state: Numbers::from_vec(state),
+    })
+}
+
+fn edge(from: u64, to: u64, letters: &str) -> Option<Edge> {
+    let label = Label::new(Rights::read_text(letters.as_bytes())?)?;
+    Some(Edge { from, to, label })
+}
+
+/// An opening of two workers, who store cells with 0, and have these rights over one another.
+pub(crate) fn opening_with(alloc: Global, letters: &str) -> Option<Opening> {
+    let mut edges = Vec::new(alloc);
+    edges.push(edge(0, 1, letters)?).ok()?;
+    edges.push(edge(1, 0, letters)?).ok()?;
+    let mut values = Vec::new(alloc);
+    values.push(zero(alloc)?).ok()?;
+    values.push(zero(alloc)?).ok()?;
+    Opening::new(2, edges, values, 4).ok()
+}
+
+/// A draft of a cell with 0.
+pub(crate) fn draft(alloc: Global) -> Option<Draft<CellPayload>> {
+    Draft::new(alloc, CellPayload::new(0)).ok()
+}
+
+/// A store with such an opening.
+pub(crate) fn store_with(alloc: Global, letters: &str) -> Option<Store<CellPayload>> {
+    let mut drafts = Vec::new(alloc);
+    drafts.push(draft(alloc)?).ok()?;
+    drafts.push(draft(alloc)?).ok()?;
+    let limits = Limits::new(64, 16).ok()?;
+    Store::open(alloc, opening_with(alloc, letters)?, limits, drafts).ok()
+}

@@ -1,0 +1,120 @@
+//! Two sessions on two threads.
+ghost use Rattle.std.specs.Prelude.{◌≡◌, ◌+◌, length};
+
+use crate::opened::{opening_with, store_with};
+use std::alloc::Global;
+use std::marker::Brand;
+use std::sync::Wait;
+use std::sync::ledger::Blank;
+use std::test::Fail;
+use std::thread::{Threads, join};
+use tg_journal::{AuditFault, audit};
+use tg_model::{Command, Reply};
+use tg_payload::CellPayload;
+use tg_shared::{Round, Session, Shared, SharedStore, close};
+use tg_store::{Kind, Store};
+
+// Whether the session may write the value to the target.
+fn writes<L: Round, R: Wait>(
+    rt: &R,
+    store: &SharedStore<L, CellPayload>,
+    session: &mut Session<L>,
+    target: u64,
+    value: u64,
+) -> bool {
+    matches!(
+        session.call(rt, store, Command::Write { target, value }),
+        Ok(Reply::Done)
+    )
+}
+
+// Whether the session reads the value.
+fn reads<L: Round, R: Wait>(
+    rt: &R,
+    store: &SharedStore<L, CellPayload>,
+    session: &mut Session<L>,
+    target: u64,
+    value: u64,
+) -> bool {
+    match session.call(rt, store, Command::Read { target }) {
+        Ok(Reply::Values(values)) => matches!(values.as_slice().first(), Some(v) if *v == value),
+        _ => false,
+    }
+}
+
+// Fifty writes to the other worker's cell, each read back at once, and a full collection in the middle. How many of
+// these calls were answered as they should.
+fn work<L: Round, R: Wait>(
+    rt: &R,
+    store: &SharedStore<L, CellPayload>,
+    mut session: Session<L>,
+) -> (Session<L>, u64) {
+    let target = if session.worker() == 0 { 1 } else { 0 };
+    let mut good = 0u64;
+    for value in 0..50u64 {
+        good = good.wrapping_add(u64::from(writes(rt, store, &mut session, target, value)));
+        good = good.wrapping_add(u64::from(reads(rt, store, &mut session, target, value)));
+        if value == 25 && session.collect(rt, store, Kind::Full).is_ok() {
+            good = good.wrapping_add(1);
+        }
+    }
+    (session, good)
+}
+
+// Lets both sessions work, each on a thread, and closes. How many calls were answered as they should.
+fn work_on_threads<L: Round + Send + Sync, R: Threads + Wait + Sync>(
+    rt: &R,
+    alloc: Global,
+    blank: Blank,
+    store: Store<CellPayload>,
+) -> Option<(Store<CellPayload>, u64, u64)>
+    requires name { blank.name ≡ L.name }
+    requires parts { (blank.parts ≡ L.parts) × (blank.parts ≡ store.opening.limit + 1) }
+    requires start { length store.entries ≡ L.start }
+{
+    let Shared {
+        store,
+        mut sessions,
+    } = SharedStore::<L, CellPayload>::new(alloc, blank, store).ok()?;
+    let second = sessions.pop()?;
+    let first = sessions.pop()?;
+    let shared = &store;
+    let ((first, good), (second, others)) = join(
+        rt,
+        move || work(rt, shared, first),
+        move || work(rt, shared, second),
+    );
+    sessions.push(first).ok()?;
+    sessions.push(second).ok()?;
+    Some((close(store, sessions).ok()?, good, others))
+}
+
+// What is seen of a store whose workers have these rights over one another: how many calls of each were answered as they
+// should, how many entries there are, and what an audit finds that starts from the opening with rw.
+fn seen_with<R: Threads + Wait + Sync>(
+    rt: &R,
+    alloc: Global,
+    letters: &str,
+) -> Option<(u64, u64, u64, Result<(), AuditFault>)> {
+    let kept = opening_with(alloc, "rw")?;
+    let store = store_with(alloc, letters)?;
+    let blank = Blank::new(store.opening().max_vertices().checked_add(1)?);
+    let (store, good, others) = work_on_threads::<Brand, R>(rt, alloc, blank, store)?;
+    let outcome = audit(alloc, &kept, store.journal().entries());
+    Some((good, others, store.journal().len(), outcome))
+}
+
+#[test]
+fn two_sessions_read_their_own_writes(rt: HostRuntime) -> Result<(), Fail> {
+    let seen = seen_with(&rt, rt.alloc(), "rw").ok_or("a refusal")?;
+    assert_eq!(rt; seen, (101, 101, 200, Ok(())));
+    Ok(())
+}
+
+// A store that was opened otherwise than its users were told is found out by an audit from the opening that they kept.
+#[test]
+fn another_opening_behind_the_lock(rt: HostRuntime) -> Result<(), Fail> {
+    let seen = seen_with(&rt, rt.alloc(), "r").ok_or("a refusal")?;
+    assert_eq!(rt; seen, (2, 2, 200, Err(AuditFault::BadEntry { at: 0 })));
+    Ok(())
+}
