@@ -1,5 +1,5 @@
 -- Calls on a place: what the store was found to answer, and what C is told of that.
-use Rattle.std.proofs.Common.{◌≡◌, ℕ, true, false, sym, subst, ap, ◌∙◌, refl, Result, Ok, Err, Option, Some, None, IfOk, option_map}
+use Rattle.std.proofs.Common.{◌≡◌, ℕ, true, false, sym, subst, ap, ◌∙◌, Result, Err, Option, Some, None}
 use Rattle.tg_model.specs.Graph.{ProtectionGraph}
 use Rattle.tg_model.specs.Rules.{answer_of, denial_of, denied_or, state_of}
 use Rattle.tg_model.specs.declared.command.Command.{Command}

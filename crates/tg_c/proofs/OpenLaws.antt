@@ -1,5 +1,5 @@
 -- What an opening is refused for, by the faults of the store's own calls.
-use Rattle.std.proofs.Common.{◌≡◌, ◌<◌, inl, ℕ, List, sym, subst, ap, refl, length, map, slice_get, ◌∙◌}
+use Rattle.std.proofs.Common.{◌≡◌, ◌<◌, inl, ℕ, List, subst, ap, refl, length, map, slice_get, ◌∙◌}
 use Rattle.tg_model.specs.declared.edge.Edge.{Edge}
 use Rattle.tg_model.specs.declared.value.Value.{Value}
 use Rattle.tg_model.specs.declared.opening.OpeningFault.{OpeningFault}

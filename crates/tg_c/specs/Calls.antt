@@ -1,10 +1,10 @@
 -- What the calls of C do to a place and its store. Each but the opening is a call on a place: a closed one is refused
 -- as that, and on an open one the store's answer is told, of which the clauses of the store's own call hold.
-use Rattle.std.specs.Prelude.{◌≡◌, ◌≢◌, ◌↔◌, ◌⊎◌, ◌≤◌, ◌<◌, ◌+◌, ℕ, true, false, List, [], Option, Some, Result, Ok, Err, IfOk, IfErr, OnOk, OnErr, length}
+use Rattle.std.specs.Prelude.{◌≡◌, ◌≢◌, ◌↔◌, ◌⊎◌, ◌≤◌, ◌<◌, ◌+◌, ℕ, true, false, List, [], Some, Result, Ok, Err, IfOk, IfErr, OnOk, OnErr, length}
 use Rattle.tg_rights.specs.RightSet.{RightSet}
 use Rattle.tg_model.specs.Graph.{ProtectionGraph, IsSubject, IsReachable}
 use Rattle.tg_model.specs.Rules.{IsAllowed, step, answer_of}
-use Rattle.tg_model.specs.Opened.{IsPlan, IsFaultOf, start_of}
+use Rattle.tg_model.specs.Opened.{IsFaultOf, start_of}
 use Rattle.tg_model.specs.declared.opening.OpeningFault.TheVariants as fault
 use Rattle.tg_model.specs.declared.command.Command.{Command}
 use Rattle.tg_model.specs.declared.command.Command.TheVariants as command

@@ -1,5 +1,5 @@
 -- What the numbers of C mean: rights as bits, values, edges and limits on the way in; denials and listings on the way out.
-use Rattle.std.specs.Prelude.{◌≡◌, ℕ, ◌==◌, ◌&&◌, ◌++◌, List, [], ◌∷◌, Option, Some, None, if◌then◌else◌, nat_le, length, map, take, drop, option_map}
+use Rattle.std.specs.Prelude.{ℕ, ◌==◌, ◌&&◌, ◌++◌, List, [], ◌∷◌, Option, Some, None, if◌then◌else◌, nat_le, length, map, take, drop}
 use Rattle.std.specs.Option.{IsSome}
 use Rattle.std.specs.List.{All}
 use Rattle.tg_rights.specs.RightSet.{RightSet, no_rights, set_of_bits, label_of, bits_of}

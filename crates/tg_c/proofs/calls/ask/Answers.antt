@@ -1,4 +1,4 @@
-use Rattle.std.proofs.Common.{◌≡◌, ◌∙◌, sym, subst, ap, refl, Ok, Err}
+use Rattle.std.proofs.Common.{◌∙◌, sym, subst, ap, refl, Ok, Err}
 use Rattle.std.proofs.lemmas.Result.{err_from_is_err_and}
 use Rattle.tg_model.specs.Graph.{ProtectionGraph}
 use Rattle.tg_store.specs.Store.{graph_of_store}

@@ -1,4 +1,4 @@
-use Rattle.std.proofs.Common.{◌≡◌, ◌∙◌, sym, ap, Ok}
+use Rattle.std.proofs.Common.{◌∙◌, sym, ap, Ok}
 use Rattle.tg_c.specs.Calls.{Collects}
 use Rattle.tg_c.specs.Statuses.{of_collect, refused_as}
 use Rattle.tg_c.proofs.CallLaws.{served}

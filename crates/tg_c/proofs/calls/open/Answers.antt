@@ -1,7 +1,6 @@
-use Rattle.std.proofs.Common.{◌≡◌, ◌∙◌, sym, subst, ap, Ok, Err, IfErr, arith}
+use Rattle.std.proofs.Common.{◌∙◌, sym, subst, ap, Err, IfErr, arith}
 use Rattle.std.proofs.lemmas.Result.{err_from_is_err_and}
 use Rattle.tg_c.specs.Calls.{MayRefuse}
-use Rattle.tg_c.specs.Statuses.{of_open, of_opening}
 use Rattle.tg_c.proofs.OpenLaws.{refused_plan, refused_store}
 use Rattle.tg_c.proofs.calls.open.Goals as goal
 

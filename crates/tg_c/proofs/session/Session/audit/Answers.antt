@@ -1,4 +1,4 @@
-use Rattle.std.proofs.Common.{◌≡◌, ◌∙◌, sym, subst, ap, IfErr}
+use Rattle.std.proofs.Common.{◌≡◌, ◌∙◌, sym, subst, IfErr}
 use Rattle.std.proofs.lemmas.Result.{err_from_is_err_and}
 use Rattle.tg_journal.specs.declared.replay.AuditFault.TheVariants as audit
 use Rattle.tg_c.proofs.AuditLaws.{fault_of_legal}

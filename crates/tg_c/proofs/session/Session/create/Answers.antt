@@ -1,4 +1,4 @@
-use Rattle.std.proofs.Common.{◌≡◌, inl, subst, ap, Ok, Err}
+use Rattle.std.proofs.Common.{inl, subst, ap, Ok, Err}
 use Rattle.tg_model.specs.declared.value.Value.{Value}
 use Rattle.tg_c.specs.Calls.{Creates}
 use Rattle.tg_c.proofs.session.Session.create.Goals as goal
