@@ -1,0 +1,92 @@
+/* Refuses each allocation of a run in turn. It is linked with --wrap=malloc,--wrap=realloc.
+
+   A call whose allocation was refused answers TG_OUT_OF_MEMORY, and passes when it is made again; but where the refused
+   memory was room that a vector would only have liked to have, the call is served all the same. Both are counted. */
+#include "kovshenul.h"
+#include <stdio.h>
+#include <stdlib.h>
+
+void *__real_malloc(size_t size);
+void *__real_realloc(void *at, size_t size);
+
+static int is_counting;
+static long made;       /* allocations of this run */
+static long refuse_at;  /* the one that is refused, or -1 */
+static long told;       /* calls of this run that answered TG_OUT_OF_MEMORY */
+
+static int is_refused(void) {
+    return is_counting && made++ == refuse_at;
+}
+
+void *__wrap_malloc(size_t size) {
+    return is_refused() ? NULL : __real_malloc(size);
+}
+
+void *__wrap_realloc(void *at, size_t size) {
+    return is_refused() ? NULL : __real_realloc(at, size);
+}
+
+static void stop(int line, tg_status status) {
+    fprintf(stderr, "fail: allocation %ld, line %d: status %u\n", refuse_at, line, (unsigned)status);
+    exit(1);
+}
+
+/* The call, and once more where memory was refused. */
+#define CALL(it)                                                                                                       \
+    do {                                                                                                               \
+        tg_status status = (it);                                                                                       \
+        if (status == TG_OUT_OF_MEMORY) {                                                                              \
+            told++;                                                                                                    \
+            status = (it);                                                                                             \
+        }                                                                                                              \
+        if (status != TG_DONE)                                                                                         \
+            stop(__LINE__, status);                                                                                    \
+    } while (0)
+
+static uint64_t tell_story(void) {
+    static const tg_value workers[2] = { { TG_CELL, 0, 0 }, { TG_LOG, 3, 0 } };
+    static const tg_value kinds[4] = { { TG_CELL, 0, 1 }, { TG_SUM, 0, 2 }, { TG_MAX, 0, 3 }, { TG_LOG, 4, 0 } };
+    static const tg_edge edges[2] = { { 0, 1, TG_GRANT | TG_TAKE }, { 1, 0, TG_GRANT } };
+    static const tg_limits limits = { 1000, 64, 64 };
+    tg_store store = TG_STORE_INIT;
+    tg_target row[64];
+    tg_denial why;
+    uint64_t name, count, entries, numbers[64];
+    CALL(tg_open(&store, workers, 2, edges, 2, &limits));
+    for (uint32_t i = 0; i < 12; i++) {
+        CALL(tg_create(&store, 0, TG_READ | TG_WRITE, &kinds[i % 4], &name));
+        CALL(tg_grant(&store, 0, 1, name, TG_READ, &why));
+        for (uint64_t k = 0; k < 6; k++)
+            CALL(tg_write(&store, 0, name, k, &why));
+        CALL(tg_read(&store, 1, name, numbers, 64, &count, &why));
+        CALL(tg_list(&store, 1, row, 64, &count));
+        if (i % 3 == 2) {
+            CALL(tg_remove(&store, 0, name, TG_READ | TG_WRITE, &why));
+            CALL(tg_remove(&store, 1, name, TG_READ, &why));
+            CALL(tg_collect(&store, i % 2, &count));
+        }
+    }
+    CALL(tg_entries(&store, &entries));
+    CALL(tg_audit(&store, &count));
+    if (tg_close(&store) != TG_DONE || count != entries)
+        stop(__LINE__, 0);
+    return entries;
+}
+
+int main(void) {
+    long all, refused = 0, unnoticed = 0;
+    refuse_at = -1;
+    is_counting = 1;
+    uint64_t entries = tell_story();
+    all = made;
+    for (refuse_at = 0; refuse_at < all; refuse_at++) {
+        made = told = 0;
+        if (tell_story() != entries || told > 1)
+            stop(__LINE__, 0);
+        refused += told;
+        unnoticed += 1 - told;
+    }
+    is_counting = 0;
+    printf("fail ok: of %ld allocations refused in turn %ld were told, and %ld were served without\n", all, refused, unnoticed);
+    return 0;
+}

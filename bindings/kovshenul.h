@@ -1,0 +1,189 @@
+/* Kovshenul for C: an object store with take-grant access control.
+
+   A store has workers and vertices, named 0, 1, 2, ..: first the workers, then each vertex that is made. Between two
+   vertices stand rights. A worker asks for something, and is served exactly where the take-grant rules allow it.
+
+   Each function answers a status. What a status below 16 says, and which status comes when, is proved at the library's
+   exports (crates/tg_c/specs); what this header asks of its caller is not checked by anything.
+
+   What C owes:
+   - Each pointer is to memory of the stated type, which no other argument of the call overlaps, and which nobody else uses
+     while the call runs. It is never NULL, not for an array of 0 items either.
+   - A tg_store is all zero before tg_open, and its bytes are changed by these functions alone. It may be moved, and never
+     copied: of two copies only one may be used from then on.
+   - A bool in it is 0 or 1.
+   - Calls on one store come one after the other, from the thread that opened it. Not from a signal handler, and not in
+     the forked child of a process with threads. Two stores share nothing: each may have a thread of its own.
+   - An open store that isn't closed keeps its memory. */
+#ifndef KOVSHENUL_H
+#define KOVSHENUL_H
+
+#include <stdbool.h>
+#include <stddef.h>
+#include <stdint.h>
+
+#ifdef __cplusplus
+extern "C" {
+#endif
+
+/* The number of the interface that this header tells of. tg_abi() answers that of the library. */
+#define TG_ABI 1
+
+/* A store: 16 bytes, all zero while it is closed. */
+typedef struct tg_store {
+    bool is_open;
+    struct {
+        void *at;
+    } handle;
+} tg_store;
+
+#define TG_STORE_INIT { false, { NULL } }
+
+/* Rights over a vertex: a set of bits. At least one, and no other bit, is what each call takes. */
+enum {
+    TG_READ = 1,
+    TG_WRITE = 2,
+    TG_TAKE = 4,
+    TG_GRANT = 8
+};
+
+/* From 16 on the call was refused. It wrote to none of its out parameters, and the store is as it was, with one exception
+   (TG_VERTICES_FULL). Numbers that aren't named are kept for later editions. */
+typedef uint32_t tg_status;
+enum {
+    TG_DONE = 0,
+    TG_DENIED = 1,            /* the rules don't allow it; nothing changed but that the journal has it */
+
+    TG_NOT_OPEN = 16,         /* exactly where the store is closed and what was asked for is no TG_BAD_.. */
+    TG_ALREADY_OPEN = 17,     /* tg_open: exactly where the store is open */
+
+    TG_OUT_OF_MEMORY = 32,    /* malloc or realloc gave none; the same call may be made again */
+    TG_HEAP_FULL = 33,        /* no cell or block is left, by the limits; after tg_collect there may be */
+    TG_VERTICES_FULL = 34,    /* tg_create: as many vertices were made as may be; the journal has an entry of it */
+
+    TG_NO_SUCH_WORKER = 48,   /* no worker has the name */
+
+    TG_BAD_RIGHTS = 64,       /* no right, or a bit that is none */
+    TG_BAD_LAW = 65,          /* no such law, or a log of 0 or of more than 64 numbers */
+    TG_BAD_KIND = 66,         /* tg_collect: no such kind */
+
+    TG_BAD_WORKERS = 80,      /* tg_open: not from 1 to 64 workers */
+    TG_BAD_LIMITS = 81,       /* tg_open: a limit is out of its range */
+    TG_BAD_EDGE = 82,         /* tg_open: an edge from a worker to itself, or with an end that is no worker */
+    TG_BAD_VALUES = 83,       /* tg_open: kept; no value that a tg_value can say gives it */
+
+    TG_BAD_ENTRY = 96         /* tg_audit: never, while nobody but these functions wrote to the store's memory */
+};
+
+/* What a write does to the state of a vertex. */
+enum {
+    TG_CELL = 0,              /* keeps the last number */
+    TG_SUM = 1,               /* adds, modulo 2^64 */
+    TG_MAX = 2,               /* keeps the greatest */
+    TG_LOG = 3                /* keeps the last few, oldest first */
+};
+
+/* What a vertex stores at first: 16 bytes. */
+typedef struct tg_value {
+    uint32_t law;             /* TG_CELL .. TG_LOG */
+    uint32_t most;            /* of a log alone: how many numbers it keeps, from 1 to 64. It begins with none */
+    uint64_t number;          /* of the other laws: the first number */
+} tg_value;
+
+/* Rights of worker `from` over worker `to`, at the opening: 24 bytes. */
+typedef struct tg_edge {
+    uint64_t from, to, rights;
+} tg_edge;
+
+/* 24 bytes. */
+typedef struct tg_limits {
+    uint64_t max_vertices;        /* that may ever be made, workers included: from their number to 2^24 */
+    uint64_t max_blocks;          /* of 64 cells of 64 bytes, in all: from 1 to 65,536, and one a worker at least */
+    uint64_t max_space_blocks;    /* in one space: from 1 to 2^20 */
+} tg_limits;
+
+enum {
+    TG_RULE_TAKE = 0,
+    TG_RULE_GRANT = 1,
+    TG_RULE_REMOVE = 2,
+    TG_RULE_READ = 3,
+    TG_RULE_WRITE = 4
+};
+
+enum {
+    TG_NOT_DISTINCT = 0,      /* two vertices that must differ are one; from, to and rights are 0 */
+    TG_MISSING = 1            /* the rights are missing on the edge from `from` to `to` */
+};
+
+/* Why a command was denied, which is the first check that failed: 32 bytes. */
+typedef struct tg_denial {
+    uint32_t rule;            /* TG_RULE_TAKE .. TG_RULE_WRITE */
+    uint32_t cause;           /* TG_NOT_DISTINCT or TG_MISSING */
+    uint64_t from, to, rights;
+} tg_denial;
+
+/* Rights over a vertex, as they are listed: 16 bytes. */
+typedef struct tg_target {
+    uint64_t to, rights;
+} tg_target;
+
+/* What the heap has, those that nobody reaches included until a full collection: 24 bytes. */
+typedef struct tg_counts {
+    uint64_t vertices, payloads, blocks;
+} tg_counts;
+
+enum {
+    TG_FULL = 0,              /* keeps exactly the vertices that can be reached from a worker */
+    TG_NURSERY = 1            /* looks at the young cells alone, and may keep vertices that nobody reaches */
+};
+
+/* The number of the library's interface. */
+uint32_t tg_abi(void);
+
+/* Opens a store: as many workers as values, and the edges between them. A refused *store is as it was. */
+tg_status tg_open(tg_store *store, const tg_value *workers, size_t worker_count, const tg_edge *edges, size_t edge_count,
+                  const tg_limits *limits);
+
+/* Gives back all memory of the store. *store is closed then, and may be opened again. */
+tg_status tg_close(tg_store *store);
+
+/* The rules. TG_DENIED alone writes to *denial. Each command that is done or denied has its entry in the journal.
+
+   take: the worker takes rights over the target that `via` has, by its own t over `via`.
+   grant: the worker grants rights over the target to `via`, by its g over `via` and its own rights over the target.
+   remove: the worker gives up its own rights over the target.
+   write: the worker writes to the target, by its w over it. */
+tg_status tg_take(tg_store *store, uint64_t worker, uint64_t via, uint64_t target, uint64_t rights, tg_denial *denial);
+tg_status tg_grant(tg_store *store, uint64_t worker, uint64_t via, uint64_t target, uint64_t rights, tg_denial *denial);
+tg_status tg_remove(tg_store *store, uint64_t worker, uint64_t target, uint64_t rights, tg_denial *denial);
+tg_status tg_write(tg_store *store, uint64_t worker, uint64_t target, uint64_t value, tg_denial *denial);
+
+/* Makes a vertex over which the worker has the rights. Its name goes to *name. Where there is no memory for the value,
+   that is answered before the worker is looked at. */
+tg_status tg_create(tg_store *store, uint64_t worker, uint64_t rights, const tg_value *value, uint64_t *name);
+
+/* The state of the target, at most 64 numbers, by the worker's r over it: the first `room` of them go to numbers, and how
+   many there are to *count. */
+tg_status tg_read(tg_store *store, uint64_t worker, uint64_t target, uint64_t *numbers, size_t room, uint64_t *count,
+                  tg_denial *denial);
+
+/* The worker's edges by rising name: the first `room` of them go to edges, and how many there are to *count. The journal
+   gets the whole list each time, so ask with room for as many as there may be. Never denied. */
+tg_status tg_list(tg_store *store, uint64_t worker, tg_target *edges, size_t room, uint64_t *count);
+
+/* Collects, by TG_FULL or TG_NURSERY. How many vertices the heap then has goes to *left. No reply and no right changes. */
+tg_status tg_collect(tg_store *store, uint32_t kind, uint64_t *left);
+
+/* Counts what the heap has. */
+tg_status tg_census(tg_store *store, tg_counts *counts);
+
+/* Counts the journal's entries. Nothing trims the journal while the store is open. */
+tg_status tg_entries(tg_store *store, uint64_t *count);
+
+/* Replays the journal from the opening, on a plain graph that was never collected, and counts its entries. */
+tg_status tg_audit(tg_store *store, uint64_t *count);
+
+#ifdef __cplusplus
+}
+#endif
+#endif

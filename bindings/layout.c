@@ -1,0 +1,51 @@
+/* The sizes, offsets and constants of the header, as the library was proved with them. It is compiled, and not run. */
+#include "kovshenul.h"
+
+#define SAME(is, wanted) _Static_assert((is) == (wanted), #is)
+
+SAME(sizeof(bool), 1);
+SAME(sizeof(void *), 8);
+SAME(sizeof(size_t), 8);
+
+SAME(sizeof(tg_store), 16);
+SAME(offsetof(tg_store, is_open), 0);
+SAME(offsetof(tg_store, handle.at), 8);
+
+SAME(sizeof(tg_value), 16);
+SAME(offsetof(tg_value, law), 0);
+SAME(offsetof(tg_value, most), 4);
+SAME(offsetof(tg_value, number), 8);
+
+SAME(sizeof(tg_edge), 24);
+SAME(offsetof(tg_edge, from), 0);
+SAME(offsetof(tg_edge, to), 8);
+SAME(offsetof(tg_edge, rights), 16);
+
+SAME(sizeof(tg_limits), 24);
+SAME(offsetof(tg_limits, max_vertices), 0);
+SAME(offsetof(tg_limits, max_blocks), 8);
+SAME(offsetof(tg_limits, max_space_blocks), 16);
+
+SAME(sizeof(tg_denial), 32);
+SAME(offsetof(tg_denial, rule), 0);
+SAME(offsetof(tg_denial, cause), 4);
+SAME(offsetof(tg_denial, from), 8);
+SAME(offsetof(tg_denial, to), 16);
+SAME(offsetof(tg_denial, rights), 24);
+
+SAME(sizeof(tg_target), 16);
+SAME(offsetof(tg_target, to), 0);
+SAME(offsetof(tg_target, rights), 8);
+
+SAME(sizeof(tg_counts), 24);
+SAME(offsetof(tg_counts, vertices), 0);
+SAME(offsetof(tg_counts, payloads), 8);
+SAME(offsetof(tg_counts, blocks), 16);
+
+SAME(TG_READ | TG_WRITE << 8 | TG_TAKE << 16 | TG_GRANT << 24, 0x08040201);
+SAME(TG_CELL | TG_SUM << 8 | TG_MAX << 16 | TG_LOG << 24, 0x03020100);
+SAME(TG_RULE_TAKE | TG_RULE_GRANT << 8 | TG_RULE_REMOVE << 16 | TG_RULE_READ << 24, 0x03020100);
+SAME(TG_RULE_WRITE, 4);
+SAME(TG_NOT_DISTINCT | TG_MISSING << 8, 0x0100);
+SAME(TG_FULL | TG_NURSERY << 8, 0x0100);
+SAME(TG_DONE | TG_DENIED << 8, 0x0100);

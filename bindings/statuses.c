@@ -1,0 +1,180 @@
+/* Each export and each status that C can meet, and that a refused call writes to no out parameter. */
+#include "kovshenul.h"
+#include <stdio.h>
+#include <stdlib.h>
+
+#define WANT(it)                                                                                                       \
+    do {                                                                                                               \
+        if (!(it)) {                                                                                                   \
+            fprintf(stderr, "statuses: line %d: %s\n", __LINE__, #it);                                                \
+            exit(1);                                                                                                   \
+        }                                                                                                              \
+    } while (0)
+
+enum { UNTOUCHED = 99 };
+
+static const tg_value cell = { TG_CELL, 0, 7 };
+static const tg_value sum = { TG_SUM, 0, 40 };
+static const tg_value greatest = { TG_MAX, 0, 5 };
+static const tg_value last_two = { TG_LOG, 2, 0 };
+static const tg_value workers[2] = { { TG_CELL, 0, 0 }, { TG_CELL, 0, 0 } };
+static const tg_edge edges[2] = { { 0, 1, TG_TAKE | TG_GRANT }, { 1, 0, TG_GRANT } };
+static const tg_limits limits = { 12, 8, 4 };
+
+static uint64_t number = UNTOUCHED;
+static uint64_t numbers[64];
+static tg_denial why = { UNTOUCHED, UNTOUCHED, UNTOUCHED, UNTOUCHED, UNTOUCHED };
+
+static int is_untouched(void) {
+    return number == UNTOUCHED && why.rule == UNTOUCHED && why.cause == UNTOUCHED && why.from == UNTOUCHED
+        && why.to == UNTOUCHED && why.rights == UNTOUCHED;
+}
+
+static void closed(void) {
+    tg_store store = TG_STORE_INIT;
+    tg_target row[1];
+    tg_counts counts;
+    WANT(tg_close(&store) == TG_NOT_OPEN);
+    WANT(tg_take(&store, 0, 1, 2, TG_READ, &why) == TG_NOT_OPEN);
+    WANT(tg_grant(&store, 0, 1, 2, TG_READ, &why) == TG_NOT_OPEN);
+    WANT(tg_remove(&store, 0, 1, TG_READ, &why) == TG_NOT_OPEN);
+    WANT(tg_write(&store, 0, 1, 2, &why) == TG_NOT_OPEN);
+    WANT(tg_create(&store, 0, TG_READ, &cell, &number) == TG_NOT_OPEN);
+    WANT(tg_read(&store, 0, 1, numbers, 64, &number, &why) == TG_NOT_OPEN);
+    WANT(tg_list(&store, 0, row, 1, &number) == TG_NOT_OPEN);
+    WANT(tg_collect(&store, TG_FULL, &number) == TG_NOT_OPEN);
+    WANT(tg_census(&store, &counts) == TG_NOT_OPEN);
+    WANT(tg_entries(&store, &number) == TG_NOT_OPEN);
+    WANT(tg_audit(&store, &number) == TG_NOT_OPEN);
+    WANT(is_untouched() && !store.is_open && store.handle.at == NULL);
+}
+
+/* One opening that must be refused. */
+static void refused(tg_status status, const tg_value *values, size_t count, tg_edge edge, tg_limits bounds) {
+    tg_store store = TG_STORE_INIT;
+    WANT(tg_open(&store, values, count, &edge, 1, &bounds) == status);
+    WANT(!store.is_open && store.handle.at == NULL);
+}
+
+static void openings(void) {
+    static tg_value many[65];
+    const tg_edge edge = { 0, 1, TG_GRANT };
+    const tg_value bad[2] = { { TG_CELL, 0, 0 }, { 4, 0, 0 } };
+    const tg_value none_kept[2] = { { TG_LOG, 0, 0 }, { TG_CELL, 0, 0 } };
+    const tg_value most_kept[2] = { { TG_LOG, 65, 0 }, { TG_CELL, 0, 0 } };
+    refused(TG_BAD_LAW, bad, 2, edge, limits);
+    refused(TG_BAD_LAW, none_kept, 2, edge, limits);
+    refused(TG_BAD_LAW, most_kept, 2, edge, limits);
+    refused(TG_BAD_RIGHTS, workers, 2, (tg_edge){ 0, 1, 16 }, limits);
+    refused(TG_BAD_RIGHTS, workers, 2, (tg_edge){ 0, 1, 0 }, limits);
+    refused(TG_BAD_WORKERS, workers, 0, edge, limits);
+    refused(TG_BAD_WORKERS, many, 65, edge, (tg_limits){ 100, 100, 100 });
+    refused(TG_BAD_LIMITS, workers, 2, edge, (tg_limits){ 1, 8, 4 });
+    refused(TG_BAD_LIMITS, workers, 2, edge, (tg_limits){ 12, 65537, 4 });
+    refused(TG_BAD_LIMITS, workers, 2, edge, (tg_limits){ 12, 8, 0 });
+    refused(TG_BAD_EDGE, workers, 2, (tg_edge){ 0, 0, TG_READ }, limits);
+    refused(TG_BAD_EDGE, workers, 2, (tg_edge){ 0, 2, TG_READ }, limits);
+    refused(TG_HEAP_FULL, workers, 2, edge, (tg_limits){ 12, 1, 4 });
+}
+
+static void bad_requests(tg_store *store) {
+    const tg_value bad = { 7, 0, 0 };
+    tg_target row[1];
+    WANT(tg_open(store, workers, 2, edges, 2, &limits) == TG_ALREADY_OPEN);
+    WANT(tg_create(store, 0, TG_READ, &bad, &number) == TG_BAD_LAW);
+    WANT(tg_create(store, 0, 0, &sum, &number) == TG_BAD_RIGHTS);
+    WANT(tg_create(store, 0, 1u << 30, &sum, &number) == TG_BAD_RIGHTS);
+    WANT(tg_create(store, 2, TG_READ, &sum, &number) == TG_NO_SUCH_WORKER);
+    WANT(tg_take(store, 0, 1, 2, 16, &why) == TG_BAD_RIGHTS);
+    WANT(tg_grant(store, 0, 1, 2, UINT64_MAX, &why) == TG_BAD_RIGHTS);
+    WANT(tg_remove(store, 0, 1, 256, &why) == TG_BAD_RIGHTS);
+    WANT(tg_write(store, 5, 0, 2, &why) == TG_NO_SUCH_WORKER);
+    WANT(tg_read(store, 5, 0, numbers, 64, &number, &why) == TG_NO_SUCH_WORKER);
+    WANT(tg_list(store, 5, row, 1, &number) == TG_NO_SUCH_WORKER);
+    WANT(tg_collect(store, 2, &number) == TG_BAD_KIND);
+    WANT(is_untouched());
+    WANT(tg_entries(store, &number) == TG_DONE && number == 0);
+}
+
+static void rules(tg_store *store) {
+    WANT(tg_create(store, 0, TG_READ | TG_WRITE, &sum, &number) == TG_DONE && number == 2);
+    WANT(tg_take(store, 0, 1, 2, TG_READ, &why) == TG_DENIED);
+    WANT(why.rule == TG_RULE_TAKE && why.cause == TG_MISSING && why.from == 1 && why.to == 2 && why.rights == TG_READ);
+    WANT(tg_grant(store, 0, 1, 2, TG_READ, &why) == TG_DONE);
+    WANT(tg_take(store, 0, 1, 2, TG_READ, &why) == TG_DONE);
+    WANT(tg_take(store, 0, 0, 2, TG_READ, &why) == TG_DENIED && why.cause == TG_NOT_DISTINCT && why.rule == TG_RULE_TAKE);
+    WANT(why.from == 0 && why.to == 0 && why.rights == 0);
+    WANT(tg_grant(store, 1, 0, 2, TG_WRITE, &why) == TG_DENIED && why.rule == TG_RULE_GRANT && why.rights == TG_WRITE);
+    WANT(tg_remove(store, 1, 2, TG_WRITE, &why) == TG_DENIED && why.rule == TG_RULE_REMOVE);
+    WANT(tg_write(store, 1, 2, 9, &why) == TG_DENIED && why.rule == TG_RULE_WRITE);
+    WANT(tg_read(store, 1, 0, numbers, 64, &number, &why) == TG_DENIED && why.rule == TG_RULE_READ);
+    WANT(tg_entries(store, &number) == TG_DONE && number == 9);
+}
+
+static void laws(tg_store *store) {
+    uint64_t log, most, count;
+    WANT(tg_write(store, 0, 2, UINT64_MAX, &why) == TG_DONE);
+    WANT(tg_read(store, 1, 2, numbers, 64, &count, &why) == TG_DONE && count == 1 && numbers[0] == 39);
+    WANT(tg_create(store, 0, TG_READ | TG_WRITE, &last_two, &log) == TG_DONE && log == 3);
+    WANT(tg_read(store, 0, log, numbers, 64, &count, &why) == TG_DONE && count == 0 && numbers[0] == 39);
+    for (uint64_t i = 0; i < 5; i++)
+        WANT(tg_write(store, 0, log, i, &why) == TG_DONE);
+    numbers[1] = UNTOUCHED;
+    WANT(tg_read(store, 0, log, numbers, 1, &count, &why) == TG_DONE && count == 2);
+    WANT(numbers[0] == 3 && numbers[1] == UNTOUCHED);
+    WANT(tg_create(store, 0, TG_READ | TG_WRITE, &greatest, &most) == TG_DONE && most == 4);
+    WANT(tg_write(store, 0, most, 3, &why) == TG_DONE);
+    WANT(tg_read(store, 0, most, numbers, 64, &count, &why) == TG_DONE && numbers[0] == 5);
+}
+
+static void counts(tg_store *store) {
+    tg_target row[4] = { { 0, 0 }, { 0, 0 }, { 0, 0 }, { UNTOUCHED, UNTOUCHED } };
+    tg_counts has;
+    uint64_t left, entries, count;
+    WANT(tg_list(store, 0, row, 3, &count) == TG_DONE && count == 4);
+    WANT(row[0].to == 1 && row[0].rights == (TG_TAKE | TG_GRANT));
+    WANT(row[1].to == 2 && row[1].rights == (TG_READ | TG_WRITE));
+    WANT(row[2].to == 3 && row[3].to == UNTOUCHED && row[3].rights == UNTOUCHED);
+    WANT(tg_remove(store, 0, 4, TG_READ | TG_WRITE, &why) == TG_DONE);
+    WANT(tg_census(store, &has) == TG_DONE && has.vertices == 5 && has.payloads == 5);
+    WANT(tg_collect(store, TG_NURSERY, &left) == TG_DONE && left >= 4);
+    WANT(tg_collect(store, TG_FULL, &left) == TG_DONE && left == 4);
+    WANT(tg_census(store, &has) == TG_DONE && has.vertices == 4 && has.payloads == 4 && has.blocks >= 1);
+    for (uint64_t i = 5; i < limits.max_vertices; i++)
+        WANT(tg_create(store, 1, TG_READ, &cell, &count) == TG_DONE && count == i);
+    WANT(tg_entries(store, &entries) == TG_DONE);
+    number = UNTOUCHED;
+    WANT(tg_create(store, 1, TG_READ, &cell, &number) == TG_VERTICES_FULL && number == UNTOUCHED);
+    WANT(tg_audit(store, &count) == TG_DONE && count == entries + 1);
+}
+
+/* A nursery of one block is used up: 64 cells, with one for the worker. */
+static void full_heap(void) {
+    const tg_limits small = { 1000, 1, 1 };
+    tg_store store = TG_STORE_INIT;
+    tg_status status = TG_DONE;
+    uint64_t made = 0, name, entries;
+    WANT(tg_open(&store, workers, 1, edges, 0, &small) == TG_DONE);
+    while ((status = tg_create(&store, 0, TG_READ, &cell, &name)) == TG_DONE)
+        made++;
+    WANT(status == TG_HEAP_FULL && made > 0);
+    WANT(tg_entries(&store, &entries) == TG_DONE && entries == made);
+    WANT(tg_close(&store) == TG_DONE);
+}
+
+int main(void) {
+    tg_store store = TG_STORE_INIT;
+    WANT(tg_abi() == TG_ABI);
+    closed();
+    openings();
+    WANT(tg_open(&store, workers, 2, edges, 2, &limits) == TG_DONE && store.is_open && store.handle.at != NULL);
+    bad_requests(&store);
+    rules(&store);
+    laws(&store);
+    counts(&store);
+    WANT(tg_close(&store) == TG_DONE && !store.is_open && store.handle.at == NULL);
+    WANT(tg_close(&store) == TG_NOT_OPEN);
+    full_heap();
+    puts("statuses ok");
+    return 0;
+}

@@ -1,0 +1,51 @@
+"""The caretaker's story of story.c, in Python."""
+from kovshenul import GRANT, READ, WRITE, Cell, Denied, Edge, Limits, Store, Sum
+
+CARETAKER, VISITOR = 0, 1
+
+
+def tell(what, command, *arguments):
+    """Prints how a command ended."""
+    try:
+        answer = command(*arguments)
+    except Denied as denial:
+        print(f"{what}: denied, {denial}")
+    else:
+        print(f"{what}: ok" if answer is None else f"{what}: ok, {answer}")
+
+
+def collect(store):
+    print(f"full collection: {store.collect()} vertices are left")
+
+
+def hand_on(store):
+    document = store.create(CARETAKER, READ | WRITE, Sum(40))
+    print(f"caretaker makes a document: ok, its name is {document}")
+    tell("caretaker hands r on", store.grant, CARETAKER, VISITOR, document, READ)
+    return document
+
+
+def visit(store, document):
+    tell("visitor reads", store.read, VISITOR, document)
+    collect(store)
+    tell("visitor reads", store.read, VISITOR, document)
+    tell("caretaker writes 2", store.write, CARETAKER, document, 2)
+    tell("visitor reads", store.read, VISITOR, document)
+    tell("visitor writes 2", store.write, VISITOR, document, 2)
+
+
+def take_back(store, document):
+    tell("visitor gives r back", store.remove, VISITOR, document, READ)
+    collect(store)
+    tell("visitor reads", store.read, VISITOR, document)
+    tell("caretaker gives up rw", store.remove, CARETAKER, document, READ | WRITE)
+    tell("caretaker hands r on", store.grant, CARETAKER, VISITOR, document, READ)
+    collect(store)
+    tell("visitor reads", store.read, VISITOR, document)
+
+
+with Store([Cell(0), Cell(0)], [Edge(CARETAKER, VISITOR, GRANT)], Limits(10, 8, 4)) as store:
+    document = hand_on(store)
+    visit(store, document)
+    take_back(store, document)
+    print(f"audit ok, {store.audit()} entries")

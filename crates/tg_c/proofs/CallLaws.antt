@@ -1,0 +1,75 @@
+-- Calls on a place: what the store was found to answer, and what C is told of that.
+use Rattle.std.proofs.Common.{◌≡◌, ℕ, true, false, sym, subst, ap, ◌∙◌, Result, Err, Option, Some, None}
+use Rattle.tg_model.specs.Graph.{ProtectionGraph}
+use Rattle.tg_model.specs.Rules.{answer_of, denial_of, denied_or, state_of}
+use Rattle.tg_model.specs.declared.command.Command.{Command}
+use Rattle.tg_model.specs.declared.command.Command.TheVariants as command
+use Rattle.tg_model.specs.declared.command.Deed.TheVariants.{Plain}
+use Rattle.tg_model.specs.declared.reply.Denial.{Denial}
+use Rattle.tg_model.specs.declared.reply.Reply.{Reply}
+use Rattle.tg_model.specs.declared.reply.Reply.TheVariants.{Denied, Done, Values}
+use Rattle.tg_store.specs.Store.{StoreState}
+use Rattle.tg_c.specs.declared.place.Place.{Place}
+use Rattle.tg_c.specs.declared.refusal.Refusal.{Refusal}
+use Rattle.tg_c.specs.declared.refusal.Refusal.TheVariants.{NotOpen}
+use Rattle.tg_c.specs.Calls.{IsCall, IsDoneOrDenied, IsReadOrDenied, IsReplyTo, state_in}
+use Rattle.tg_c.specs.Statuses.{refused_as}
+
+-- a closed place: the call was refused
+pub not_open : {T E : Type 0} (name : E → Refusal) (holds : StoreState → StoreState → Result T E → Type 0) (old new : Place) (result : Result T Refusal)
+    → old.is_open ≡ false → new.is_open ≡ false → result ≡ Err NotOpen → IsCall name holds old new (λ told. result ≡ told)
+not_open name holds old new result was is told = record { not_open = λ _. (told, is); served = λ is_open. absurd (cc (was, is_open)) }
+
+-- an open place: the store, which was and is in it, gave this answer
+pub served : {T E : Type 0} (name : E → Refusal) (holds : StoreState → StoreState → Result T E → Type 0) (old new : Place) (result : Result T Refusal)
+    (before after : StoreState) (answer : Result T E)
+    → old.is_open ≡ true → new.is_open ≡ true → state_in old ≡ before → state_in new ≡ after → result ≡ refused_as name answer
+    → holds before after answer → IsCall name holds old new (λ told. result ≡ told)
+served name holds old new result before after answer was is first last told held = record {
+  not_open = λ closed. absurd (cc (closed, was));
+  served = λ _. record {
+    answer = answer;
+    told = told;
+    stays_open = is;
+    holds_of = subst (λ s. holds s (state_in new) answer) (sym first) (subst (λ s. holds before s answer) (sym last) held);
+  };
+}
+
+-- what the call answered is what C is told
+pub hears : {T E : Type 0} (name : E → Refusal) (holds : StoreState → StoreState → Result T E → Type 0) (old new : Place) (result : Result T Refusal)
+    (tells : Result T Refusal → Type 0) → IsCall name holds old new (λ told. result ≡ told) → tells result → IsCall name holds old new tells
+hears name holds old new result tells call told = record {
+  not_open = λ closed. (subst tells (call.not_open closed).0 told, (call.not_open closed).1);
+  served = λ is_open. record {
+    answer = (call.served is_open).answer;
+    told = subst tells (call.served is_open).told told;
+    stays_open = (call.served is_open).stays_open;
+    holds_of = (call.served is_open).holds_of;
+  };
+}
+
+-- a denial or this reply, each of which may be told
+denied_or_told : (P : Reply → Type 0) (denial : Option Denial) (r : Reply) → ((why : Denial) → P (Denied why)) → P r → P (denied_or denial r)
+denied_or_told P None r may is = is
+denied_or_told P (Some denial) r may is = may denial
+
+-- the graph's answer to a command is one that the command can have
+pub reply_fits : (asked : Command) (g : ProtectionGraph) (x : ℕ) → IsReplyTo asked (answer_of g x (Plain asked))
+reply_fits (command.Take via target rights) g x = denied_or_told (λ r. IsDoneOrDenied r) (denial_of g.label x (command.Take via target rights)) Done (λ why. tt) tt
+reply_fits (command.Grant via target rights) g x = denied_or_told (λ r. IsDoneOrDenied r) (denial_of g.label x (command.Grant via target rights)) Done (λ why. tt) tt
+reply_fits (command.Remove target rights) g x = denied_or_told (λ r. IsDoneOrDenied r) (denial_of g.label x (command.Remove target rights)) Done (λ why. tt) tt
+reply_fits (command.Read target) g x = denied_or_told (λ r. IsReadOrDenied r) (denial_of g.label x (command.Read target)) (Values (state_of (g.value target))) (λ why. tt) tt
+reply_fits (command.Write target value) g x = denied_or_told (λ r. IsDoneOrDenied r) (denial_of g.label x (command.Write target value)) Done (λ why. tt) tt
+reply_fits command.List g x = tt
+
+or_else : {X : Type 0} → X → Option X → X
+or_else other None = other
+or_else other (Some x) = x
+
+-- the same, where what was asked for is what is asked about
+pub hears_at : {X T E : Type 0} (name : E → Refusal) (holds : X → StoreState → StoreState → Result T E → Type 0) (o : Option X) (made asked : X)
+    (old new : Place) (result : Result T Refusal) (tells : Result T Refusal → Type 0) → o ≡ Some made → o ≡ Some asked
+    → IsCall name (holds made) old new (λ told. result ≡ told) → tells result → IsCall name (holds asked) old new tells
+unfolding or_else
+hears_at name holds o made asked old new result tells first second call told =
+    subst (λ x. IsCall name (holds x) old new tells) (ap (or_else made) (sym first ∙ second)) (hears name (holds made) old new result tells call told)

@@ -1,0 +1,25 @@
+use Rattle.std.proofs.Common.{◌∙◌, sym, ap, Ok}
+use Rattle.tg_c.specs.Calls.{Collects}
+use Rattle.tg_c.specs.Statuses.{of_collect, refused_as}
+use Rattle.tg_c.proofs.CallLaws.{served}
+use Rattle.tg_c.proofs.calls.collect.Goals as goal
+
+pub returns : goal.returns
+returns c =
+    let told = c.collect-left.ensures in
+    served of_collect (Collects c.args.kind) c.args.place.now c.put.new.self (Ok c.in_ok-left.field-0)
+    c.deref_mut.result.now.store c.collect-left.new.self c.collect-left.result
+    c.in-Some.ensures.taken.0 c.put.ensures.open (sym (ap (λ s. s.store) (c.deref_mut.ensures.value ∙ c.in-Some.ensures.taken.1))) (ap (λ s. s.store) c.put.ensures.session)
+    (sym (ap (λ a. refused_as of_collect a) c.in_ok-left.was)) (record {
+      number = told.number;
+      names = told.names;
+      reachable = told.reachable;
+      only_old = told.only_old;
+      no_nursery = told.no_nursery;
+      stay = told.stay;
+      entries = told.entries;
+      full = told.full;
+      refused = told.refused;
+      opening = told.opening;
+      limits = told.limits;
+    })

@@ -1,0 +1,40 @@
+use Rattle.std.proofs.Common.{inl, subst, ap, Ok, Err}
+use Rattle.tg_model.specs.declared.value.Value.{Value}
+use Rattle.tg_c.specs.Calls.{Creates}
+use Rattle.tg_c.proofs.session.Session.create.Goals as goal
+
+pub returns-in-Ok-create : goal.returns-in-Ok-create
+returns-in-Ok-create c =
+    let told = c.in-Ok-create.ensures in
+    subst (λ (v : Value). Creates c.args.worker c.args.label v c.args.self.now.store c.create.new.self (Ok c.in-Ok-create.name)) c.in-Ok.ensures.made (record {
+      entry = told.entry;
+      named = told.name;
+      next = told.step;
+      stored = told.stored;
+      no_such_worker = λ g stands is. absurd (cc is);
+      no_worker = λ g stands none. absurd ((told.no_such_worker g stands).1 none);
+      no_more = λ g stands is. absurd (cc is);
+      no_more_entry = λ is. absurd (cc is);
+      full = λ g stands is. absurd (cc is);
+      refused = tt;
+      opening = told.opening;
+      limits = told.limits;
+    })
+
+pub returns-in-Err : goal.returns-in-Err
+returns-in-Err c =
+    let told = c.in-Err.ensures in
+    subst (λ (v : Value). Creates c.args.worker c.args.label v c.args.self.now.store c.create.new.self (Err c.in-Err.refused.why)) c.in-Ok.ensures.made (record {
+      entry = tt;
+      named = λ g stands. tt;
+      next = λ g stands. tt;
+      stored = tt;
+      no_such_worker = λ g stands is. (told.no_such_worker g stands).0 (cc is);
+      no_worker = λ g stands none. inl (ap Err ((told.no_such_worker g stands).1 none));
+      no_more = λ g stands is. told.no_more g stands (cc is);
+      no_more_entry = λ is. told.no_more_entry (cc is);
+      full = λ g stands is. told.full g stands (cc is);
+      refused = told.refused;
+      opening = told.opening;
+      limits = told.limits;
+    })

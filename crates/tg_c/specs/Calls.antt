@@ -1,0 +1,228 @@
+-- What the calls of C do to a place and its store. Each but the opening is a call on a place: a closed one is refused
+-- as that, and on an open one the store's answer is told, of which the clauses of the store's own call hold.
+use Rattle.std.specs.Prelude.{◌≡◌, ◌≢◌, ◌↔◌, ◌⊎◌, ◌≤◌, ◌<◌, ◌+◌, ℕ, true, false, List, [], Some, Result, Ok, Err, IfOk, IfErr, OnOk, OnErr, length}
+use Rattle.tg_rights.specs.RightSet.{RightSet}
+use Rattle.tg_model.specs.Graph.{ProtectionGraph, IsSubject, IsReachable}
+use Rattle.tg_model.specs.Rules.{IsAllowed, step, answer_of}
+use Rattle.tg_model.specs.Opened.{IsFaultOf, start_of}
+use Rattle.tg_model.specs.declared.opening.OpeningFault.TheVariants as fault
+use Rattle.tg_model.specs.declared.command.Command.{Command}
+use Rattle.tg_model.specs.declared.command.Command.TheVariants as command
+use Rattle.tg_model.specs.declared.command.Deed.TheVariants.{Plain, Create}
+use Rattle.tg_model.specs.declared.reply.Denial.{Denial}
+use Rattle.tg_model.specs.declared.reply.Reply.{Reply}
+use Rattle.tg_model.specs.declared.reply.Reply.TheVariants as reply
+use Rattle.tg_model.specs.declared.value.Value.{Value}
+use Rattle.tg_space.specs.declared.spaces.Kind.{Kind}
+use Rattle.tg_space.specs.declared.spaces.Kind.TheVariants.{Full, Nursery}
+use Rattle.tg_space.specs.Collection.{MayLackRoom, used_cells}
+use Rattle.tg_space.specs.SpaceList.{block_count, space_of}
+use Rattle.tg_space.specs.SpaceTable.{AreLimits, kept_blocks, limits_of}
+use Rattle.tg_payload.specs.Table.{count}
+use Rattle.tg_graph.specs.Content.{IsNamed}
+use Rattle.tg_graph.specs.Heap.{content_of}
+use Rattle.tg_graph.specs.Kept.{VerticesOfOldStay}
+use Rattle.tg_graph.specs.Spots.{LacksCellsFor}
+use Rattle.tg_rules.specs.Effect.{AddsEdge, LacksCellsToServe}
+use Rattle.tg_evac.specs.declared.fault.CollectFault.{CollectFault}
+use Rattle.tg_evac.specs.declared.fault.CollectFault.TheVariants as collect
+use Rattle.tg_journal.specs.declared.replay.AuditFault.{AuditFault}
+use Rattle.tg_journal.specs.declared.replay.AuditFault.TheVariants as audit
+use Rattle.tg_store.specs.Store.{StoreState, StandsFor, Enters, OnlyEnters, IsCountOf, IsUnchanged}
+use Rattle.tg_store.specs.declared.census.Census.{Census}
+use Rattle.tg_store.specs.declared.fault.ApplyFault.{ApplyFault}
+use Rattle.tg_store.specs.declared.fault.ApplyFault.TheVariants as apply
+use Rattle.tg_store.specs.declared.fault.CreateFault.{CreateFault}
+use Rattle.tg_store.specs.declared.fault.CreateFault.TheVariants as create
+use Rattle.tg_c.specs.declared.place.Place.{Place}
+use Rattle.tg_c.specs.declared.refusal.Refusal.{Refusal}
+use Rattle.tg_c.specs.declared.refusal.Refusal.TheVariants as refusal
+use Rattle.tg_c.specs.declared.forms.EdgeIn.{EdgeIn}
+use Rattle.tg_c.specs.declared.forms.LimitsIn.{LimitsIn}
+use Rattle.tg_c.specs.declared.forms.ValueIn.{ValueIn}
+use Rattle.tg_c.specs.Forms.{AreValues, HaveLabels, plan_of}
+use Rattle.tg_c.specs.Statuses.{of_apply, of_audit, of_collect, of_create, refused_as, status_of}
+
+-- what the store in an open place holds
+abbrev pub state_in : Place → StoreState
+state_in place = place.handle.session.store
+
+-- ---- a call on a place
+
+-- On an open place the store has an answer of which `holds`, and this is told; the place stays open.
+pub record IsServed {T E : Type 0} (name : E → Refusal) (holds : StoreState → StoreState → Result T E → Type 0)
+    (old new : Place) (tells : Result T Refusal → Type 0) : Type 0 where
+  pub answer : Result T E
+  pub told : tells (refused_as name answer)
+  pub stays_open : new.is_open ≡ true
+  pub holds_of : holds (state_in old) (state_in new) answer
+
+-- the same, and on a closed place the call is refused as that, and the place stays closed
+pub record IsCall {T E : Type 0} (name : E → Refusal) (holds : StoreState → StoreState → Result T E → Type 0)
+    (old new : Place) (tells : Result T Refusal → Type 0) : Type 0 where
+  pub not_open : old.is_open ≡ false → tells (Err refusal.NotOpen) × (new.is_open ≡ false)
+  pub served : old.is_open ≡ true → IsServed name holds old new tells
+
+-- the call is refused for what it asks for, before the store is looked at
+abbrev pub Refuses : {T : Type 0} → Place → Place → (Result T Refusal → Type 0) → Refusal → Type 0
+Refuses old new tells why = (new ≡ old) × tells (Err why)
+
+-- ---- commands
+
+-- the answer to a command of a worker: the clauses of the store's `apply`
+pub record Applies (worker : ℕ) (asked : Command) (old new : StoreState) (answer : Result Reply ApplyFault) : Type 0 where
+  pub entry : IfOk answer (λ r. Enters old new worker (Plain asked) r)
+  pub replied : (g : ProtectionGraph) → StandsFor old g → IfOk answer (λ r. r ≡ answer_of g worker (Plain asked))
+  pub next : (g : ProtectionGraph) → StandsFor old g → OnOk answer (StandsFor new (step g worker (Plain asked)))
+  pub denied : (denial : Denial) → answer ≡ Ok (reply.Denied denial) → OnlyEnters old new worker (Plain asked) (reply.Denied denial)
+  pub no_such_worker : (g : ProtectionGraph) → StandsFor old g → (answer ≡ Err apply.NoSuchWorker) ↔ (¬ IsSubject g worker)
+  pub full : (g : ProtectionGraph) → StandsFor old g → answer ≡ Err apply.HeapFull →
+      IsAllowed g worker (Plain asked) × AddsEdge asked × LacksCellsToServe old.heap.table worker asked
+  pub refused : OnErr answer (IsUnchanged old new)
+  pub opening : new.opening ≡ old.opening
+  pub limits : new.heap.table.limits ≡ old.heap.table.limits
+
+abbrev pub Asks : Place → Place → ℕ → Command → (Result Reply Refusal → Type 0) → Type 0
+Asks old new worker asked = IsCall of_apply (Applies worker asked) old new
+
+-- which replies a command can have
+abbrev pub IsDoneOrDenied : Reply → Type 0
+IsDoneOrDenied reply.Done = Unit {0}
+IsDoneOrDenied (reply.Denied denial) = Unit {0}
+IsDoneOrDenied (reply.Name name) = ⊥
+IsDoneOrDenied (reply.Values values) = ⊥
+IsDoneOrDenied (reply.Edges edges) = ⊥
+IsDoneOrDenied reply.VerticesFull = ⊥
+
+abbrev pub IsReadOrDenied : Reply → Type 0
+IsReadOrDenied (reply.Values values) = Unit {0}
+IsReadOrDenied (reply.Denied denial) = Unit {0}
+IsReadOrDenied reply.Done = ⊥
+IsReadOrDenied (reply.Name name) = ⊥
+IsReadOrDenied (reply.Edges edges) = ⊥
+IsReadOrDenied reply.VerticesFull = ⊥
+
+abbrev pub IsListed : Reply → Type 0
+IsListed (reply.Edges edges) = Unit {0}
+IsListed reply.Done = ⊥
+IsListed (reply.Denied denial) = ⊥
+IsListed (reply.Name name) = ⊥
+IsListed (reply.Values values) = ⊥
+IsListed reply.VerticesFull = ⊥
+
+abbrev pub IsReplyTo : Command → Reply → Type 0
+IsReplyTo (command.Take via target rights) r = IsDoneOrDenied r
+IsReplyTo (command.Grant via target rights) r = IsDoneOrDenied r
+IsReplyTo (command.Remove target rights) r = IsDoneOrDenied r
+IsReplyTo (command.Write target value) r = IsDoneOrDenied r
+IsReplyTo (command.Read target) r = IsReadOrDenied r
+IsReplyTo command.List r = IsListed r
+
+-- ---- creates
+
+-- The answer to a create of a worker: the clauses of the store's `create`. Where there is no memory for the state of
+-- the new vertex, that is told of an unknown worker too.
+pub record Creates (worker : ℕ) (label : RightSet) (value : Value) (old new : StoreState) (answer : Result ℕ CreateFault) : Type 0 where
+  pub entry : IfOk answer (λ name. Enters old new worker (Create label value.law value.state) (reply.Name name))
+  pub named : (g : ProtectionGraph) → StandsFor old g → IfOk answer (λ name. answer_of g worker (Create label value.law value.state) ≡ reply.Name name)
+  pub next : (g : ProtectionGraph) → StandsFor old g → OnOk answer (StandsFor new (step g worker (Create label value.law value.state)))
+  pub stored : IfOk answer (λ name. IsNamed (content_of new.heap) name × ((content_of new.heap).value name ≡ Some value))
+  pub no_such_worker : (g : ProtectionGraph) → StandsFor old g → answer ≡ Err create.NoSuchWorker → ¬ IsSubject g worker
+  pub no_worker : (g : ProtectionGraph) → StandsFor old g → (¬ IsSubject g worker) → (answer ≡ Err create.NoSuchWorker) ⊎ (answer ≡ Err create.OutOfMemory)
+  pub no_more : (g : ProtectionGraph) → StandsFor old g → answer ≡ Err create.VerticesFull → IsSubject g worker × (g.limit ≤ g.made)
+  pub no_more_entry : answer ≡ Err create.VerticesFull → OnlyEnters old new worker (Create label value.law value.state) reply.VerticesFull
+  pub full : (g : ProtectionGraph) → StandsFor old g → answer ≡ Err create.HeapFull →
+      IsAllowed g worker (Create label value.law value.state) × LacksCellsFor old.heap.table (worker + 2) 1 worker g.made
+  pub refused : IfErr answer (λ why. why ≢ create.VerticesFull → IsUnchanged old new)
+  pub opening : new.opening ≡ old.opening
+  pub limits : new.heap.table.limits ≡ old.heap.table.limits
+
+abbrev pub Makes : Place → Place → ℕ → RightSet → Value → (Result ℕ Refusal → Type 0) → Type 0
+Makes old new worker label value = IsCall of_create (Creates worker label value) old new
+
+-- ---- collections
+
+-- the answer to a collection: the clauses of the store's `collect`
+pub record Collects (kind : Kind) (old new : StoreState) (answer : Result ℕ CollectFault) : Type 0 where
+  pub number : IfOk answer (λ n. n ≡ length (content_of new.heap).names)
+  pub names : (g : ProtectionGraph) → StandsFor old g → OnOk answer (kind ≡ Full → (x : ℕ) → IsNamed (content_of new.heap) x ↔ IsReachable g x)
+  pub reachable : (g : ProtectionGraph) → StandsFor old g → IfOk answer (λ n. kind ≡ Full → IsCountOf (IsReachable g) n)
+  pub only_old : OnOk answer (kind ≡ Full → (space : ℕ) → space ≢ 0 → space_of new.heap.table.spaces space ≡ [])
+  pub no_nursery : OnOk answer ((space : ℕ) → 2 ≤ space → space_of new.heap.table.spaces space ≡ [])
+  pub stay : OnOk answer (kind ≡ Nursery → VerticesOfOldStay old.heap.table.spaces new.heap.table.spaces)
+  pub entries : new.entries ≡ old.entries
+  pub full : answer ≡ Err collect.HeapFull →
+      MayLackRoom old.heap.table.limits.space_blocks 1 (kept_blocks kind old.heap.table.spaces) (used_cells kind old.heap.table.spaces)
+  pub refused : OnErr answer (new ≡ old)
+  pub opening : new.opening ≡ old.opening
+  pub limits : new.heap.table.limits ≡ old.heap.table.limits
+
+abbrev pub Sweeps : Place → Place → Kind → (Result ℕ Refusal → Type 0) → Type 0
+Sweeps old new kind = IsCall of_collect (Collects kind) old new
+
+-- ---- calls that only look
+
+-- the store is the same, and the call is always served
+abbrev pub Looks : {T : Type 0} → (StoreState → T) → StoreState → StoreState → Result T Refusal → Type 0
+Looks what old new answer = (new ≡ old) × (answer ≡ Ok (what old))
+
+abbrev pub census_of : StoreState → Census
+census_of s = record { vertices = length (content_of s.heap).names; payloads = count s.heap.payloads; blocks = block_count s.heap.table.spaces }
+
+abbrev pub Counts : Place → Place → (Result Census Refusal → Type 0) → Type 0
+Counts old new = IsCall (λ why. why) (Looks census_of) old new
+
+abbrev pub CountsEntries : Place → Place → (Result ℕ Refusal → Type 0) → Type 0
+CountsEntries old new = IsCall (λ why. why) (Looks (λ s. length s.entries)) old new
+
+-- an audit of the store's own journal can be refused for want of memory alone
+pub record IsAudited (old new : StoreState) (answer : Result ℕ AuditFault) : Type 0 where
+  pub same : new ≡ old
+  pub count : IfOk answer (λ n. n ≡ length old.entries)
+  pub fault : IfErr answer (λ why. why ≡ audit.OutOfMemory)
+
+abbrev pub Audits : Place → Place → (Result ℕ Refusal → Type 0) → Type 0
+Audits old new = IsCall of_audit IsAudited old new
+
+-- ---- the opening
+
+-- the store of an opening: it has no entry, and stands for the graph of what C asked for, all of which was as asked
+pub record IsOpened (s : StoreState) (workers : List ValueIn) (edges : List EdgeIn) (limits : LimitsIn) : Type 0 where
+  pub values : AreValues workers
+  pub labels : HaveLabels edges
+  pub opening : s.opening ≡ plan_of workers edges limits.max_vertices
+  pub stands : StandsFor s (start_of (plan_of workers edges limits.max_vertices))
+  pub no_entry : s.entries ≡ []
+  pub limits_kept : s.heap.table.limits ≡ limits_of limits.max_blocks limits.max_space_blocks
+
+-- where an opening may be refused so
+abbrev pub MayRefuse : List ValueIn → List EdgeIn → LimitsIn → Refusal → Type 0
+MayRefuse workers edges limits refusal.BadLaw = ¬ AreValues workers
+MayRefuse workers edges limits refusal.BadRights = ¬ HaveLabels edges
+MayRefuse workers edges limits refusal.BadWorkers = IsFaultOf (plan_of workers edges limits.max_vertices) fault.BadWorkers
+MayRefuse workers edges limits refusal.BadLimits =
+    IsFaultOf (plan_of workers edges limits.max_vertices) fault.BadLimits ⊎ (¬ AreLimits (limits_of limits.max_blocks limits.max_space_blocks))
+MayRefuse workers edges limits refusal.BadEdge = (at : ℕ) × IsFaultOf (plan_of workers edges limits.max_vertices) (fault.BadEdge at)
+MayRefuse workers edges limits refusal.HeapFull = limits.max_blocks < length workers
+MayRefuse workers edges limits refusal.OutOfMemory = Unit {0}
+MayRefuse workers edges limits refusal.BadValues = (at : ℕ) × IsFaultOf (plan_of workers edges limits.max_vertices) (fault.BadValues at)
+MayRefuse workers edges limits refusal.NotOpen = ⊥
+MayRefuse workers edges limits refusal.AlreadyOpen = ⊥
+MayRefuse workers edges limits refusal.VerticesFull = ⊥
+MayRefuse workers edges limits refusal.NoSuchWorker = ⊥
+MayRefuse workers edges limits refusal.BadKind = ⊥
+MayRefuse workers edges limits refusal.BadEntry = ⊥
+
+-- the refusal is want of memory, or else this one, and then what it says holds
+abbrev pub IsWant : Refusal → Type 0 → Refusal → Type 0
+IsWant fault says why = (why ≡ refusal.OutOfMemory) ⊎ ((why ≡ fault) × says)
+
+-- the status is that of a refusal of which this holds
+abbrev pub IsStatusWhere : (Refusal → Type 0) → ℕ → Type 0
+IsStatusWhere which status = (why : Refusal) × which why × (status ≡ status_of why)
+
+-- What an opening of C does to the place. Refused, it leaves the place as it was.
+pub record Opens (old new : Place) (workers : List ValueIn) (edges : List EdgeIn) (limits : LimitsIn) (status : ℕ) : Type 0 where
+  pub already_open : old.is_open ≡ true → (status ≡ status_of refusal.AlreadyOpen) × (new ≡ old)
+  pub opened : status ≡ 0 → (new.is_open ≡ true) × IsOpened (state_in new) workers edges limits
+  pub refused : old.is_open ≡ false → status ≢ 0 → (new ≡ old) × IsStatusWhere (MayRefuse workers edges limits) status

@@ -1,0 +1,102 @@
+-- What the numbers of C mean: rights as bits, values, edges and limits on the way in; denials and listings on the way out.
+use Rattle.std.specs.Prelude.{ℕ, ◌==◌, ◌&&◌, ◌++◌, List, [], ◌∷◌, Option, Some, None, if◌then◌else◌, nat_le, length, map, take, drop}
+use Rattle.std.specs.Option.{IsSome}
+use Rattle.std.specs.List.{All}
+use Rattle.tg_rights.specs.RightSet.{RightSet, no_rights, set_of_bits, label_of, bits_of}
+use Rattle.tg_model.specs.declared.reply.Denial.{Denial}
+use Rattle.tg_model.specs.declared.reply.Rule.{Rule}
+use Rattle.tg_model.specs.declared.reply.Rule.TheVariants as rule
+use Rattle.tg_model.specs.declared.reply.Cause.{Cause}
+use Rattle.tg_model.specs.declared.reply.Cause.TheVariants.{NotDistinct, Missing}
+use Rattle.tg_model.specs.declared.edge.Edge.{Edge}
+use Rattle.tg_model.specs.declared.value.Value.{Value}
+use Rattle.tg_model.specs.declared.law.Law.TheVariants as law
+use Rattle.tg_model.specs.Opened.{Plan}
+use Rattle.tg_space.specs.declared.spaces.Kind.{Kind}
+use Rattle.tg_space.specs.declared.spaces.Kind.TheVariants.{Full, Nursery}
+use Rattle.tg_store.specs.declared.census.Census.{Census}
+use Rattle.tg_c.specs.declared.forms.CensusOut.{CensusOut}
+use Rattle.tg_c.specs.declared.forms.DenialOut.{DenialOut}
+use Rattle.tg_c.specs.declared.forms.EdgeIn.{EdgeIn}
+use Rattle.tg_c.specs.declared.forms.EdgeOut.{EdgeOut}
+use Rattle.tg_c.specs.declared.forms.ValueIn.{ValueIn}
+
+-- ---- in
+
+-- the label of a set of rights: there is one unless it is empty
+abbrev pub if_some : Option RightSet → Option RightSet
+if_some None = None
+if_some (Some rights) = label_of rights
+
+-- the label of these bits
+abbrev pub label_at : ℕ → Option RightSet
+label_at bits = if_some (set_of_bits bits)
+
+-- what a vertex is to store: a log begins empty, and keeps from 1 to 64 numbers
+abbrev pub value_at : ValueIn → Option Value
+value_at v =
+    if v.law == 0 then Some (record { law = law.Cell; state = v.number ∷ [] })
+    else if v.law == 1 then Some (record { law = law.Sum; state = v.number ∷ [] })
+    else if v.law == 2 then Some (record { law = law.Max; state = v.number ∷ [] })
+    else if (v.law == 3) && nat_le 1 v.most && nat_le v.most 64 then Some (record { law = law.Log v.most; state = [] })
+    else None
+
+abbrev pub kind_at : ℕ → Option Kind
+kind_at number = if number == 0 then Some Full else if number == 1 then Some Nursery else None
+
+-- all workers' values, and the rights of all edges, are as asked
+abbrev pub AreValues : List ValueIn → Type 0
+AreValues workers = All (λ v. IsSome (value_at v)) workers
+
+abbrev pub HaveLabels : List EdgeIn → Type 0
+HaveLabels edges = All (λ e. IsSome (label_at e.rights)) edges
+
+-- the value and the edge that are asked for; where there is none, any other
+abbrev pub value_or_cell : Option Value → Value
+value_or_cell (Some value) = value
+value_or_cell None = record { law = law.Cell; state = 0 ∷ [] }
+
+abbrev pub value_in : ValueIn → Value
+value_in v = value_or_cell (value_at v)
+
+abbrev pub label_or_none : Option RightSet → RightSet
+label_or_none (Some label) = label
+label_or_none None = no_rights
+
+abbrev pub edge_in : EdgeIn → Edge
+edge_in e = record { from = e.from; to = e.to; label = label_or_none (label_at e.rights) }
+
+-- the opening that C asks for
+abbrev pub plan_of : List ValueIn → List EdgeIn → ℕ → Plan
+plan_of workers edges max_vertices =
+    record { workers = length workers; edges = map edge_in edges; values = map value_in workers; limit = max_vertices }
+
+-- ---- out
+
+abbrev pub rule_number : Rule → ℕ
+rule_number rule.Take = 0
+rule_number rule.Grant = 1
+rule_number rule.Remove = 2
+rule_number rule.Read = 3
+rule_number rule.Write = 4
+
+abbrev pub denial_at : ℕ → Cause → DenialOut
+denial_at rule NotDistinct = record { rule = rule; cause = 0; from = 0; to = 0; rights = 0 }
+denial_at rule (Missing from to rights) = record { rule = rule; cause = 1; from = from; to = to; rights = bits_of rights }
+
+abbrev pub denial_out : Denial → DenialOut
+denial_out denial = denial_at (rule_number denial.rule) denial.cause
+
+-- the numbers that were read, as far as there is room, and behind them the room that is left
+abbrev pub shown_in : List ℕ → List ℕ → List ℕ
+shown_in numbers room = take (length room) numbers ++ drop (length numbers) room
+
+abbrev pub edge_out : ℕ × RightSet → EdgeOut
+edge_out e = record { to = e.0; rights = bits_of e.1 }
+
+-- the edges that were listed, in the same way
+abbrev pub edges_shown_in : List (ℕ × RightSet) → List EdgeOut → List EdgeOut
+edges_shown_in edges room = take (length room) (map edge_out edges) ++ drop (length edges) room
+
+abbrev pub census_out : Census → CensusOut
+census_out c = record { vertices = c.vertices; payloads = c.payloads; blocks = c.blocks }

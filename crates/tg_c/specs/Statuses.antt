@@ -1,0 +1,131 @@
+-- What C is told of an answer: the status, and what goes to the out parameters. A refused call writes to none of them.
+use Rattle.std.specs.Prelude.{◌≡◌, ℕ, List, Result, Ok, Err, length}
+use Rattle.tg_model.specs.declared.opening.OpeningFault.{OpeningFault}
+use Rattle.tg_model.specs.declared.opening.OpeningFault.TheVariants as opening
+use Rattle.tg_model.specs.declared.reply.Reply.{Reply}
+use Rattle.tg_model.specs.declared.reply.Reply.TheVariants.{Done, Name, Values, Edges, Denied, VerticesFull}
+use Rattle.tg_store.specs.declared.census.Census.{Census}
+use Rattle.tg_store.specs.declared.fault.OpenFault.{OpenFault}
+use Rattle.tg_store.specs.declared.fault.OpenFault.TheVariants as opened
+use Rattle.tg_store.specs.declared.fault.ApplyFault.{ApplyFault}
+use Rattle.tg_store.specs.declared.fault.ApplyFault.TheVariants as apply
+use Rattle.tg_store.specs.declared.fault.CreateFault.{CreateFault}
+use Rattle.tg_store.specs.declared.fault.CreateFault.TheVariants as create
+use Rattle.tg_evac.specs.declared.fault.CollectFault.{CollectFault}
+use Rattle.tg_evac.specs.declared.fault.CollectFault.TheVariants as collect
+use Rattle.tg_journal.specs.declared.replay.AuditFault.{AuditFault}
+use Rattle.tg_journal.specs.declared.replay.AuditFault.TheVariants as audit
+use Rattle.tg_c.specs.declared.refusal.Refusal.{Refusal}
+use Rattle.tg_c.specs.declared.refusal.Refusal.TheVariants as refusal
+use Rattle.tg_c.specs.declared.forms.CensusOut.{CensusOut}
+use Rattle.tg_c.specs.declared.forms.DenialOut.{DenialOut}
+use Rattle.tg_c.specs.declared.forms.EdgeOut.{EdgeOut}
+use Rattle.tg_c.specs.Forms.{census_out, denial_out, edges_shown_in, shown_in}
+
+-- ---- the numbers
+
+-- The status of each refusal. Each family has a range of 16 numbers, so that later refusals find room in theirs.
+abbrev pub status_of : Refusal → ℕ
+status_of refusal.NotOpen = 16
+status_of refusal.AlreadyOpen = 17
+status_of refusal.OutOfMemory = 32
+status_of refusal.HeapFull = 33
+status_of refusal.VerticesFull = 34
+status_of refusal.NoSuchWorker = 48
+status_of refusal.BadRights = 64
+status_of refusal.BadLaw = 65
+status_of refusal.BadKind = 66
+status_of refusal.BadWorkers = 80
+status_of refusal.BadLimits = 81
+status_of refusal.BadEdge = 82
+status_of refusal.BadValues = 83
+status_of refusal.BadEntry = 96
+
+-- ---- how the store's refusals are told
+
+abbrev pub of_opening : OpeningFault → Refusal
+of_opening opening.BadWorkers = refusal.BadWorkers
+of_opening opening.BadLimits = refusal.BadLimits
+of_opening (opening.BadEdge at) = refusal.BadEdge
+of_opening (opening.BadValues at) = refusal.BadValues
+
+abbrev pub of_open : OpenFault → Refusal
+of_open (opened.PayloadMismatch at) = refusal.BadValues
+of_open opened.OutOfMemory = refusal.OutOfMemory
+of_open opened.HeapFull = refusal.HeapFull
+
+abbrev pub of_apply : ApplyFault → Refusal
+of_apply apply.NoSuchWorker = refusal.NoSuchWorker
+of_apply apply.OutOfMemory = refusal.OutOfMemory
+of_apply apply.HeapFull = refusal.HeapFull
+
+abbrev pub of_create : CreateFault → Refusal
+of_create create.NoSuchWorker = refusal.NoSuchWorker
+of_create create.VerticesFull = refusal.VerticesFull
+of_create create.OutOfMemory = refusal.OutOfMemory
+of_create create.HeapFull = refusal.HeapFull
+
+abbrev pub of_collect : CollectFault → Refusal
+of_collect collect.OutOfMemory = refusal.OutOfMemory
+of_collect collect.HeapFull = refusal.HeapFull
+
+abbrev pub of_audit : AuditFault → Refusal
+of_audit audit.OutOfMemory = refusal.OutOfMemory
+of_audit (audit.BadEntry at) = refusal.BadEntry
+
+-- the answer, with its refusal as C knows it
+abbrev pub refused_as : {T E : Type 0} → (E → Refusal) → Result T E → Result T Refusal
+refused_as name (Ok value) = Ok value
+refused_as name (Err why) = Err (name why)
+
+-- ---- what each answer is told as
+
+-- of a command that is answered by no more than that it was done, or denied
+abbrev pub TellsDone : ℕ → DenialOut → DenialOut → Result Reply Refusal → Type 0
+TellsDone status old new (Ok Done) = (status ≡ 0) × (new ≡ old)
+TellsDone status old new (Ok (Denied denial)) = (status ≡ 1) × (new ≡ denial_out denial)
+TellsDone status old new (Ok (Name name)) = ⊥
+TellsDone status old new (Ok (Values values)) = ⊥
+TellsDone status old new (Ok (Edges edges)) = ⊥
+TellsDone status old new (Ok VerticesFull) = ⊥
+TellsDone status old new (Err why) = (status ≡ status_of why) × (new ≡ old)
+
+-- the out parameters of a read
+pub record ReadOut : Type 0 where
+  pub count : ℕ
+  pub numbers : List ℕ
+  pub denial : DenialOut
+
+abbrev pub TellsRead : ℕ → ReadOut → ReadOut → Result Reply Refusal → Type 0
+TellsRead status old new (Ok (Values values)) = (status ≡ 0)
+    × (new ≡ record { count = length values; numbers = shown_in values old.numbers; denial = old.denial })
+TellsRead status old new (Ok (Denied denial)) = (status ≡ 1)
+    × (new ≡ record { count = old.count; numbers = old.numbers; denial = denial_out denial })
+TellsRead status old new (Ok Done) = ⊥
+TellsRead status old new (Ok (Name name)) = ⊥
+TellsRead status old new (Ok (Edges edges)) = ⊥
+TellsRead status old new (Ok VerticesFull) = ⊥
+TellsRead status old new (Err why) = (status ≡ status_of why) × (new ≡ old)
+
+-- the out parameters of a list, which is never denied
+pub record ListOut : Type 0 where
+  pub count : ℕ
+  pub edges : List EdgeOut
+
+abbrev pub TellsList : ℕ → ListOut → ListOut → Result Reply Refusal → Type 0
+TellsList status old new (Ok (Edges edges)) = (status ≡ 0) × (new ≡ record { count = length edges; edges = edges_shown_in edges old.edges })
+TellsList status old new (Ok Done) = ⊥
+TellsList status old new (Ok (Denied denial)) = ⊥
+TellsList status old new (Ok (Name name)) = ⊥
+TellsList status old new (Ok (Values values)) = ⊥
+TellsList status old new (Ok VerticesFull) = ⊥
+TellsList status old new (Err why) = (status ≡ status_of why) × (new ≡ old)
+
+-- of a create, a collection, a count and an audit
+abbrev pub TellsNumber : ℕ → ℕ → ℕ → Result ℕ Refusal → Type 0
+TellsNumber status old new (Ok number) = (status ≡ 0) × (new ≡ number)
+TellsNumber status old new (Err why) = (status ≡ status_of why) × (new ≡ old)
+
+abbrev pub TellsCensus : ℕ → CensusOut → CensusOut → Result Census Refusal → Type 0
+TellsCensus status old new (Ok census) = (status ≡ 0) × (new ≡ census_out census)
+TellsCensus status old new (Err why) = (status ≡ status_of why) × (new ≡ old)

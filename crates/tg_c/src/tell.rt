@@ -1,0 +1,119 @@
+//! How C is told an answer: the status, and what goes to the out parameters. A refusal writes to none of them.
+ghost use Rattle.std.specs.Prelude.{◌≡◌, IfOk};
+ghost use Rattle.tg_c.specs.Calls.{IsDoneOrDenied, IsListed, IsReadOrDenied};
+ghost use Rattle.tg_c.specs.Forms.{edges_shown_in, shown_in};
+ghost use Rattle.tg_c.specs.Statuses.{TellsCensus, TellsDone, TellsList, TellsNumber, TellsRead};
+
+use crate::forms::{CensusOut, DenialOut, EdgeOut, census_out, denial_out, edge_out};
+use crate::refusal::Refusal;
+use tg_model::Reply;
+use tg_rights::Label;
+use tg_store::Census;
+
+/// The status of what was done.
+pub const DONE: u32 = 0;
+
+/// The status of what was denied.
+pub const DENIED: u32 = 1;
+
+/// Tells that a command was done, or why it was denied.
+pub fn tell_done(answer: Result<Reply, Refusal>, denial: &mut DenialOut) -> u32
+    requires { IfOk answer IsDoneOrDenied }
+    ensures { TellsDone result denial.old denial.new answer }
+{
+    match &answer {
+        Ok(Reply::Done) => DONE,
+        Ok(Reply::Denied(why)) => {
+            *denial = denial_out(why);
+            DENIED
+        }
+        Ok(_) => unreachable!(),
+        Err(refusal) => refusal.status(),
+    }
+}
+
+/// Tells the numbers that were read, as many as there is room for, and how many there are; or why the read was denied.
+pub fn tell_read(
+    answer: Result<Reply, Refusal>,
+    numbers: &mut [u64],
+    count: &mut u64,
+    denial: &mut DenialOut,
+) -> u32
+    requires { IfOk answer IsReadOrDenied }
+    ensures { TellsRead result (record { count = count.old; numbers = numbers.old; denial = denial.old })
+        (record { count = count.new; numbers = numbers.new; denial = denial.new }) answer }
+{
+    match &answer {
+        Ok(Reply::Values(values)) => {
+            *count = values.as_slice().len() as u64;
+            put_numbers(values.as_slice(), numbers);
+            DONE
+        }
+        Ok(Reply::Denied(why)) => {
+            *denial = denial_out(why);
+            DENIED
+        }
+        Ok(_) => unreachable!(),
+        Err(refusal) => refusal.status(),
+    }
+}
+
+/// Tells the edges that were listed, as many as there is room for, and how many there are.
+pub fn tell_list(answer: Result<Reply, Refusal>, edges: &mut [EdgeOut], count: &mut u64) -> u32
+    requires { IfOk answer IsListed }
+    ensures { TellsList result (record { count = count.old; edges = edges.old }) (record { count = count.new; edges = edges.new }) answer }
+{
+    match &answer {
+        Ok(Reply::Edges(list)) => {
+            *count = list.as_slice().len() as u64;
+            put_edges(list.as_slice(), edges);
+            DONE
+        }
+        Ok(_) => unreachable!(),
+        Err(refusal) => refusal.status(),
+    }
+}
+
+/// Tells a number.
+pub fn tell_number(answer: Result<u64, Refusal>, out: &mut u64) -> u32
+    ensures { TellsNumber result out.old out.new answer }
+{
+    match answer {
+        Ok(number) => {
+            *out = number;
+            DONE
+        }
+        Err(refusal) => refusal.status(),
+    }
+}
+
+/// Tells what the heap has.
+pub fn tell_census(answer: Result<Census, Refusal>, out: &mut CensusOut) -> u32
+    ensures { TellsCensus result out.old out.new answer }
+{
+    match answer {
+        Ok(census) => {
+            *out = census_out(census);
+            DONE
+        }
+        Err(refusal) => refusal.status(),
+    }
+}
+
+// As many numbers as there is room for.
+fn put_numbers(numbers: &[u64], out: &mut [u64])
+    ensures { out.new ≡ shown_in numbers.now out.old }
+{
+    let count = numbers.len().min(out.len());
+    out[..count].copy_from_slice(&numbers[..count]);
+}
+
+// As many edges as there is room for.
+fn put_edges(edges: &[(u64, Label)], out: &mut [EdgeOut])
+    ensures { out.new ≡ edges_shown_in edges.now out.old }
+{
+    let count = edges.len().min(out.len());
+    for i in 0..count {
+        out[i] = edge_out(edges[i]);
+    }
+}
