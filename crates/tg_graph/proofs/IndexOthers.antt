@@ -1,11 +1,11 @@
 -- The indexes of other rows, once rights were put where they go in one.
-use Rattle.std.proofs.Common.{◌≡◌, ◌≢◌, ℕ, ◌+◌, ◌<◌, ◌≤◌, List, false, length, get_or, sym, subst, arith, ◌∙◌}
+use Rattle.std.proofs.Common.{◌≡◌, ◌≢◌, ℕ, ◌<◌, ◌≤◌, List, false, length, get_or, sym, subst, ◌∙◌}
 use Rattle.tg_rights.specs.RightSet.{RightSet, is_none_held}
 use Rattle.tg_word.specs.declared.Place.{Place}
 use Rattle.tg_block.specs.declared.CellKind.TheVariants.{Object}
 use Rattle.tg_space.specs.SpaceList.{cell_at, cells_of}
 use Rattle.tg_space.specs.SpaceTable.{SpaceTable, IsNursery, IsSpaceTable}
-use Rattle.tg_space.specs.Soundness.{AreSound, IsKindAt}
+use Rattle.tg_space.specs.Soundness.{IsKindAt}
 use Rattle.tg_space.specs.Rows.{chunks_from, link_at}
 use Rattle.tg_space.proofs.Tables.{table_list}
 use Rattle.tg_nursery.specs.Allocation.{HasLeft, room_made_for}

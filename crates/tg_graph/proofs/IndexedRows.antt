@@ -1,8 +1,7 @@
 -- The indexes of a heap's rows, once one row was changed.
-use Rattle.std.proofs.Common.{◌≡◌, ◌≢◌, ℕ, Bool, true, false, cond, List, [], Option, Some, None, IsSome, nat_eq, refl, sym, ap, subst, ◌∙◌}
+use Rattle.std.proofs.Common.{◌≡◌, ◌≢◌, ℕ, Bool, true, false, cond, List, [], Option, Some, None, nat_eq, refl, sym, ap, subst, ◌∙◌}
 use Rattle.std.specs.Map.{lookup}
-use Rattle.std.specs.HashMap.{HashMap, WritesThrough}
-use Rattle.std.proofs.lemmas.Bool.Decides.{Decides-eqb, eqb_tells}
+use Rattle.std.proofs.lemmas.Bool.Decides.{Decides-eqb}
 use Rattle.tg_word.specs.declared.Place.{Place}
 use Rattle.tg_block.specs.declared.CellKind.TheVariants.{Object}
 use Rattle.tg_space.specs.SpaceList.{SpaceList}

@@ -1,5 +1,5 @@
 -- Where a new vertex and the reference to it are.
-use Rattle.std.proofs.Common.{◌≡◌, ◌∙◌, ℕ, ◌+◌, ◌*◌, Bool, true, false, List, length, cond, refl, ap, sym}
+use Rattle.std.proofs.Common.{◌≡◌, ◌∙◌, ℕ, ◌+◌, ◌*◌, Bool, true, false, List, length, cond, refl, ap}
 use Rattle.std.specs.Prelude.{nat_lt}
 use Rattle.tg_rights.specs.RightSet.{RightSet}
 use Rattle.tg_word.specs.declared.Place.{Place}

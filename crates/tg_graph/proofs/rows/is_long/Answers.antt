@@ -1,7 +1,7 @@
-use Rattle.std.proofs.Common.{◌≡◌, ◌∙◌, ◌<◌, ◌+◌, length, refl, sym, ap, arith}
+use Rattle.std.proofs.Common.{◌≡◌, ◌∙◌, ◌+◌, length, refl, sym, ap, arith}
 use Rattle.tg_word.specs.Word.{place_in}
-use Rattle.tg_space.specs.Rows.{link_at, row_of}
-use Rattle.tg_graph.proofs.Indexing.{IsFollowed, follow_begins, follow_ends, follow_goes_on}
+use Rattle.tg_space.specs.Rows.{row_of}
+use Rattle.tg_graph.proofs.Indexing.{follow_begins, follow_ends, follow_goes_on}
 use Rattle.tg_graph.proofs.rows.is_long.Goals as goal
 
 pub loop-step-init : goal.loop-step-init

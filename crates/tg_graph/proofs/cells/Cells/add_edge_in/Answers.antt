@@ -1,5 +1,4 @@
-use Rattle.std.proofs.Common.{◌≡◌, ℕ, IsSome, Option, refl, sym, ap, subst, ◌∙◌}
-use Rattle.std.proofs.lemmas.Result.{IfOk-weaker}
+use Rattle.std.proofs.Common.{ℕ, IsSome, Option, refl, sym, ap, subst}
 use Rattle.tg_word.specs.declared.Place.{Place}
 use Rattle.tg_space.specs.SpaceTable.{SpaceTable}
 use Rattle.tg_graph.specs.Rows.{IsVertexAt}

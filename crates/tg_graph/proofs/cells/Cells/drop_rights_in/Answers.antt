@@ -1,10 +1,5 @@
-use Rattle.std.proofs.Common.{◌≡◌, ℕ, IsSome, Option, refl, sym, ap, subst, ◌∙◌}
-use Rattle.std.proofs.lemmas.Result.{IfOk-weaker}
-use Rattle.tg_word.specs.declared.Place.{Place}
-use Rattle.tg_space.specs.SpaceTable.{SpaceTable}
-use Rattle.tg_graph.specs.Rows.{IsVertexAt}
+use Rattle.std.proofs.Common.{IsSome, Option, refl, sym, ap, subst}
 use Rattle.tg_graph.specs.declared.index.IndexedRow.{IndexedRow}
-use Rattle.tg_graph.proofs.Heaps.{either_way}
 use Rattle.tg_graph.proofs.IndexedRows.{index_at, indexes_kept, indexes_written}
 use Rattle.tg_graph.proofs.cells.Cells.drop_rights_in.Goals as goal
 

@@ -1,5 +1,4 @@
-use Rattle.std.proofs.Common.{◌≡◌, ℕ, List, Option, length, subst, sym, ap, ◌∙◌}
-use Rattle.tg_index.specs.Slots.{IsIndexOf, listed_row}
+use Rattle.std.proofs.Common.{◌∙◌}
 use Rattle.tg_graph.proofs.Indexing.{listed_index, names_once}
 use Rattle.tg_graph.proofs.cells.Cells.index_of.Goals as goal
 

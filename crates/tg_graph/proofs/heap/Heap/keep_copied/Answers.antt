@@ -15,7 +15,9 @@ use Rattle.tg_graph.proofs.KeptReached.{worker_objects}
 use Rattle.tg_graph.proofs.KeptSettled.{full_left, items_mapped}
 use Rattle.tg_graph.proofs.heap.Heap.keep_copied.Given.{Over}
 use Rattle.tg_graph.proofs.heap.Heap.keep_copied.Goals.{After-drop-self-inside-4}
-use Rattle.tg_graph.proofs.IndexedRows.{no_indexes}
+use Rattle.tg_graph.specs.Index.{AreFollowed}
+use Rattle.tg_space.proofs.Tables.{table_list}
+use Rattle.tg_graph.proofs.Finding.{row_is}
 use Rattle.tg_graph.proofs.heap.Heap.keep_copied.Goals as goal
 
 pub follow-requires-clause-held : goal.follow-requires-clause-held
@@ -31,7 +33,7 @@ abbrev now : (g : Over) → After-drop-self-inside-4 g → HeapState
 now g c =
     record { table = c.adopt.new.self; payloads = c.drop_uncopied.new.payloads; workers = (with_items c.self.inside.workers c.follow.new.places).items; remembered = c.args.remembered.places }
 
-left : (g : Over) (c : After-drop-self-inside-4 g) → IsLeft Full c.args.self.now (now g c)
+left : (g : Over) (c : After-drop-self-inside-4 g) → IsLeft Full c.args.forward.now.words c.args.self.now (now g c)
 left g c =
     let inside = c.self.inside in
     let forward = c.args.forward.now.words in
@@ -45,8 +47,13 @@ left g c =
     (items_mapped inside.workers f c.follow.new.places moved)
     refl
 
+pub follow_rows-requires-clause-ends : goal.follow_rows-requires-clause-ends
+follow_rows-requires-clause-ends g c =
+    let inside = c.self.inside in
+    λ p object. row_is inside.cells.spaces.spaces inside.cells.payloads (table_list inside.cells.spaces c.drop_uncopied.ensures.table) c.self.invariant.0.graph p object
+
 pub invariant_of-self : goal.invariant_of-self
-invariant_of-self g c = ((left g c).well_formed, no_indexes c.adopt.new.self.spaces c.clear.new.self.entries c.clear.ensures.empty)
+invariant_of-self g c = ((left g c).well_formed, (left g c).indexed c.follow_rows.new.rows.entries (subst (λ (heap : HeapState). AreFollowed Full heap.table.spaces c.args.forward.now.words c.follow_rows.new.rows.entries) c.self.view_is c.follow_rows.ensures))
 
 pub returns-clause-blocks : goal.returns-clause-blocks
 returns-clause-blocks g c =

@@ -16,6 +16,9 @@ use Rattle.tg_graph.proofs.KeptReached.{worker_objects}
 use Rattle.tg_graph.proofs.KeptSettled.{cells_there, items_mapped, nursery_left, payloads_there, words_in_range}
 use Rattle.tg_graph.proofs.heap.Heap.keep_old_and_copied.Given.{Over}
 use Rattle.tg_graph.proofs.heap.Heap.keep_old_and_copied.Goals.{After-drop-dead-2}
+use Rattle.tg_graph.specs.Index.{AreFollowed}
+use Rattle.tg_space.proofs.Tables.{table_list}
+use Rattle.tg_graph.proofs.Finding.{row_is}
 use Rattle.tg_graph.proofs.IndexedRows.{no_indexes}
 use Rattle.tg_graph.proofs.heap.Heap.keep_old_and_copied.Goals as goal
 
@@ -39,12 +42,17 @@ follow-requires-clause-held g c =
     let held : All (Holds s.table.spaces) s.workers = λ k d low. (objects k d low).held in
     subst (All (Holds s.table.spaces)) (sym (c.deref_mut.ensures.value ∙ c.in_ok-workers.ensures.items ∙ c.deref.ensures.value)) held
 
+pub follow_rows-requires-clause-ends : goal.follow_rows-requires-clause-ends
+follow_rows-requires-clause-ends g c =
+    let inside = c.self.inside in
+    λ p object. row_is inside.cells.spaces.spaces inside.cells.payloads (table_list inside.cells.spaces c.in_ok-dead.ensures.table) c.self.invariant.0.graph p object
+
 pub write_cells-requires : goal.write_cells-requires
 write_cells-requires g c =
     let inside = c.self.inside in
     let s : HeapState = record { table = inside.cells.spaces; payloads = inside.cells.payloads; workers = inside.workers.items; remembered = inside.cells.remembered.places } in
     cells_there s c.args.self.now c.self.view_is c.self.invariant.0 c.in_ok-dead.ensures.table c.args.forward.now.words c.args.adoption.aged c.args.adoption.old c.args.noted.places
-    c.adopt.new.self c.deref-2.result.now c.in_ok-adopt.ensures.adopted (c.deref-2.ensures.value ∙ c.in_ok-cells.ensures)
+    c.adopt.new.self c.deref-2.result.now c.in-Ok.ensures.adopted (c.deref-2.ensures.value ∙ c.in_ok-cells.ensures)
 
 pub drop_payloads-requires-clause-there : goal.drop_payloads-requires-clause-there
 drop_payloads-requires-clause-there g c =
@@ -59,7 +67,7 @@ abbrev now : (g : Over) → After-drop-dead-2 g → HeapState
 now g c =
     record { table = c.write_cells.new.spaces; payloads = c.drop_payloads.new.payloads; workers = (with_items c.in_ok-workers.workers c.follow.new.places).items; remembered = c.args.noted.places }
 
-left : (g : Over) (c : After-drop-dead-2 g) → IsLeft Nursery c.args.self.now (now g c)
+left : (g : Over) (c : After-drop-dead-2 g) → IsLeft Nursery c.args.forward.now.words c.args.self.now (now g c)
 left g c =
     let inside = c.self.inside in
     let forward = c.args.forward.now.words in
@@ -68,7 +76,7 @@ left g c =
     let copied = c.in_ok-workers.ensures.items ∙ c.deref.ensures.value in
     let moved : c.follow.new.places ≡ map f c.in_ok-workers.workers.items = subst (λ (places : List Place). c.follow.new.places ≡ map f places) c.deref_mut.ensures.value c.follow.ensures in
     nursery_left s c.args.self.now c.self.view_is c.self.invariant.0 c.in_ok-dead.ensures.table forward c.args.adoption.aged c.args.adoption.old c.args.noted.places c.requires (now g c)
-    c.adopt.new.self c.in_ok-cells.cells.items c.in_ok-dead.dead.items c.in_ok-adopt.ensures.adopted c.in_ok-cells.ensures
+    c.adopt.new.self c.in_ok-cells.cells.items c.in_ok-dead.dead.items c.in-Ok.ensures.adopted c.in_ok-cells.ensures
     (subst (λ (cells : List Rewritten). AreWritten c.adopt.new.self c.write_cells.new.spaces cells) c.deref-2.ensures.value c.write_cells.ensures.written)
     c.write_cells.ensures.table
     c.in_ok-dead.ensures.keys
@@ -77,7 +85,7 @@ left g c =
     refl
 
 pub invariant_of-self-2 : goal.invariant_of-self-2
-invariant_of-self-2 g c = ((left g c).well_formed, no_indexes c.write_cells.new.spaces.spaces c.clear.new.self.entries c.clear.ensures.empty)
+invariant_of-self-2 g c = ((left g c).well_formed, (left g c).indexed c.follow_rows.new.rows.entries (subst (λ (heap : HeapState). AreFollowed Nursery heap.table.spaces c.args.forward.now.words c.follow_rows.new.rows.entries) c.self.view_is c.follow_rows.ensures))
 
 pub returns-clause-settled : goal.returns-clause-settled
 returns-clause-settled g c = (left g c).settled
