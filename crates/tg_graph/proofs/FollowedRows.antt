@@ -1,9 +1,9 @@
 -- The indexes of a heap's rows, while a collection's copies are followed.
-use Rattle.std.proofs.Common.{◌≡◌, ◌≢◌, ℕ, zero, suc, ◌+◌, ◌-◌, ◌<◌, ◌≤◌, ◌⊎◌, inl, inr, ◌==◌, Bool, true, false, List, [], ◌∷◌, Option, Some, None, length, get_or, set, take, map, nat_eq, refl, sym, ap, subst, arith, ◌∙◌, ⊎_elim}
+use Rattle.std.proofs.Common.{◌≡◌, ◌≢◌, ℕ, zero, suc, ◌+◌, ◌-◌, ◌<◌, ◌≤◌, ◌⊎◌, inl, inr, List, [], ◌∷◌, Option, Some, length, get_or, set, nat_eq, refl, sym, ap, subst, arith, ◌∙◌}
 use Rattle.std.specs.Prelude.{IfSome, slice_get, swap_remove}
-use Rattle.std.specs.List.{All, Contains, IsDistinct}
-use Rattle.std.specs.Map.{keys_of, lookup, values_of}
-use Rattle.std.proofs.lemmas.Bool.{cases_eq, cases_lt}
+use Rattle.std.specs.List.{All, IsDistinct}
+use Rattle.std.specs.Map.{keys_of, values_of}
+use Rattle.std.proofs.lemmas.Bool.{cases_eq}
 use Rattle.std.proofs.lemmas.Bool.Decides.{Decides-eqb}
 use Rattle.std.proofs.lemmas.Cmp.{nat_eq_equiv}
 use Rattle.std.proofs.lemmas.List.{get_or_default, get_or-set_other, get_or-set_same, get_or-take, length-set, length-take}
@@ -15,7 +15,7 @@ use Rattle.tg_word.specs.declared.Place.{Place}
 use Rattle.tg_block.specs.declared.CellKind.TheVariants.{Object}
 use Rattle.tg_space.specs.SpaceList.{SpaceList, Holds, cells_of}
 use Rattle.tg_space.specs.Soundness.{IsKindAt}
-use Rattle.tg_space.specs.Rows.{chunks_from, link_at, row_of}
+use Rattle.tg_space.specs.Rows.{chunks_from, link_at}
 use Rattle.tg_space.specs.declared.spaces.Kind.{Kind}
 use Rattle.tg_graph.specs.Index.{AreFollowed, AreIndexed, IsFollowed, IsFollowedTo, IsIndexed}
 use Rattle.tg_graph.specs.Rows.{IsRow}
@@ -107,8 +107,8 @@ module _ (kind : Kind) (h : SpaceList) (forward : List ℕ) (es later : Entries)
       by_place : (j : ℕ) (d : Entry) → j < at + 1 → j < length later → (j ≡ at) ⊎ (j ≢ at) → IsFollowed kind h forward (get_or later j d).0 (get_or later j d).1
       by_place j d low in_later (inl same) =
           let now : get_or later j d ≡ (here.0, next) =
-              ap (λ (l : Entries). get_or l j d) written ∙ ap (λ k. get_or (set_value_at es at next) k d) same ∙ value_here es at next d inside
-              ∙ ap (λ (e : Entry). (e.0, next)) (get_or_default es at d (0, row) inside) in
+          ap (λ (l : Entries). get_or l j d) written ∙ ap (λ k. get_or (set_value_at es at next) k d) same ∙ value_here es at next d inside
+          ∙ ap (λ (e : Entry). (e.0, next)) (get_or_default es at d (0, row) inside) in
           subst (λ (e : Entry). IsFollowed kind h forward e.0 e.1) (sym now) (record { row = row; was = was; to = to })
       by_place j d low in_later (inr ne) =
           subst (λ (e : Entry). IsFollowed kind h forward e.0 e.1) (sym (other j d ne)) (followed.done j d (omega arith) (omega (arith, later_long)))

@@ -1,5 +1,5 @@
 //! What a collection does to the indexes of rows.
-ghost use Rattle.std.specs.Prelude.{◌≡◌, ◌<◌, ℕ, List, Some, length, slice_get, IsTrue};
+ghost use Rattle.std.specs.Prelude.{◌≡◌, ◌<◌, Some, length, slice_get, IsTrue};
 ghost use Rattle.std.specs.List.{All};
 ghost use Rattle.indexmap.specs.IndexMap.{index_map_len, values};
 ghost use Rattle.indexmap.specs.Layout.{set_value_at};

@@ -150,7 +150,7 @@ impl<P: Payload> Heap<P> {
     }
 
     /// The rights of the vertex at a place over the vertex with a name, and where that one is; `None` exactly where
-    /// there are none. It walks the row once, up to the reference, and takes no memory.
+    /// there are none. It looks into the index of the row, or walks along a short one. It takes no memory.
     pub fn find_edge(&self, from: Place, name: u64) -> Option<Found>
         requires { IsObject self.now from }
         ensures rights { rights_found result ≡ (content_of self.now).label (name_of self.now from) name }
@@ -195,9 +195,9 @@ impl<P: Payload> Heap<P> {
     /// the rights too; else the first empty place of the row gets a new reference, or a new chunk from the nursery of
     /// a worker. A cell of Old that names a young one then is remembered.
     ///
-    /// It is refused where memory for the block of a chunk, or for the note of a cell, was refused (`OutOfMemory`), or
-    /// where a chunk is needed and the nursery is used up and gets no more blocks (`HeapFull`). Then nothing is changed but
-    /// that there may be room for one more note.
+    /// It is refused where memory for the block of a chunk, for the note of a cell or for the index of the row was refused
+    /// (`OutOfMemory`), or where a chunk is needed and the nursery is used up and gets no more blocks (`HeapFull`). Then
+    /// nothing is changed but that there may be room for one more note.
     pub fn add_edge(
         &mut self,
         worker: u64,
@@ -235,11 +235,12 @@ impl<P: Payload> Heap<P> {
     }
 
     /// Makes a vertex with a name that none has, which stores the draft's payload, and gives a worker rights over it.
-    /// All growth comes before any change, that of the blocks last. A cell of Old that names the vertex, or a new chunk,
-    /// is remembered.
+    /// All growth comes before any change, that of the blocks last. The vertex is the next cell of the worker's nursery, and
+    /// the reference to it goes where `add_edge` would put it. A cell of Old that names the vertex, or a new chunk, is
+    /// remembered.
     ///
-    /// It is refused where memory was (`OutOfMemory`), and where the nursery of the worker has too few cells left and
-    /// gets no more blocks (`HeapFull`). Then the draft comes back, and nothing is changed but that there may be room
+    /// It is refused where memory was (`OutOfMemory`), and where the vertex and its reference need more cells than the
+    /// nursery of the worker has left, and it gets no more blocks (`HeapFull`). Then the draft comes back, and nothing is changed but that there may be room
     /// for one more payload and one more note.
     pub fn new_vertex(
         &mut self,

@@ -2,12 +2,11 @@
 ghost use Rattle.std.specs.Prelude.{◌≡◌, ◌↔◌, ◌+◌, ◌<◌, ◌≤◌, ◌++◌, [], length, map, option_map, position, IfOk, IfSome, IsTrue, OnOk};
 ghost use Rattle.std.specs.Option.{option_or};
 ghost use Rattle.std.specs.List.{All};
-ghost use Rattle.tg_space.specs.SpaceList.{cells_of};
 ghost use Rattle.tg_space.specs.SpaceTable.{IsSpaceTable};
 ghost use Rattle.tg_space.specs.Soundness.{AreSound, IsReference};
 ghost use Rattle.tg_graph.specs.Index.{slot_of};
 ghost use Rattle.tg_graph.specs.Rows.{IsRow, edges_in, row_words};
-ghost use Rattle.tg_space.specs.Rows.{chunks_from, link_at, row_of};
+ghost use Rattle.tg_space.specs.Rows.{row_of};
 ghost use Rattle.tg_graph.specs.Spots.{IsSpotFor, cells_for, is_empty, note_for, old_cell_if, refers_to, spot_for_new as new_spot};
 
 use std::alloc::{AllocError, Global};

@@ -1,4 +1,4 @@
-use Rattle.std.proofs.Common.{◌≡◌, ◌<◌, ◌+◌, ◌-◌, length, get_or, arith}
+use Rattle.std.proofs.Common.{arith}
 use Rattle.tg_graph.proofs.FollowedRows.{cells_held, follow_begins, follow_ends, later_long, one_followed, one_gone, some_cell, taken}
 use Rattle.tg_graph.proofs.followed.follow_rows.Goals as goal
 

@@ -19,7 +19,6 @@ use Rattle.tg_graph.proofs.heap.Heap.keep_old_and_copied.Goals.{After-drop-dead-
 use Rattle.tg_graph.specs.Index.{AreFollowed}
 use Rattle.tg_space.proofs.Tables.{table_list}
 use Rattle.tg_graph.proofs.Finding.{row_is}
-use Rattle.tg_graph.proofs.IndexedRows.{no_indexes}
 use Rattle.tg_graph.proofs.heap.Heap.keep_old_and_copied.Goals as goal
 
 pub rewritten_cells-requires-clause-places : goal.rewritten_cells-requires-clause-places
