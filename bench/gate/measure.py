@@ -1,6 +1,6 @@
 #!/usr/bin/env python3
-"""measure.py whole [LOG]                       what each crate takes of a whole `rt ci`
-measure.py everyday [CRATE [FILE FUNCTION]]  how long a changed body is on its way to green
+"""measure.py whole [LOG]                      what each crate takes of a whole `rt ci`
+measure.py everyday [CRATE FILE FUNCTION]   how long a changed body is on its way to green
 
 Both run at the top of the repository that the script stands in, and print Markdown.
 
@@ -9,8 +9,9 @@ given). The total is the processor time of the gate and of all that it started, 
 ended. The shares of the crates are sampled ten times a second, so a little is missing from each. It lists each edit that
 took more than 15 seconds of processor time, and its status is that of the gate.
 
-`everyday` puts a statement that does nothing in front of one body (`census` in `src/heap.rt` of `tg_graph`, unless it
-is told otherwise), runs `rt check` there and in each crate above, puts the file back and checks again. It times each
+`everyday` puts a statement that does nothing in front of one body (`find_edge` in `src/heap.rt` of `tg_graph`, unless it
+is told otherwise), runs `rt check` there and in each crate above, with the tests where it has any, puts the file back and
+checks again. It times each
 check after a first round that is not counted.
 
 Other work on the machine moves all of it: the load is printed beside the figures."""
@@ -215,7 +216,8 @@ def above(crate):
 def check(crate):
     """Checks a crate as a developer would, and answers the seconds that passed and those of the processors."""
     began, before = time.time(), processor_seconds()
-    ran = subprocess.run(["rt", "check"], cwd=f"{TOP}/crates/{crate}", stdin=subprocess.DEVNULL, capture_output=True, text=True, check=False)
+    words = ["rt", "check", *["--test"] * bool(tests_of(crate))]
+    ran = subprocess.run(words, cwd=f"{TOP}/crates/{crate}", stdin=subprocess.DEVNULL, capture_output=True, text=True, check=False)
     if ran.returncode:
         sys.exit(f"{crate} is not proved:\n{ran.stdout[-2000:]}{ran.stderr[-500:]}")
     return time.time() - began, processor_seconds() - before
@@ -258,7 +260,7 @@ def main(words):
     if words[:1] == ["whole"] and len(words) <= 2:
         return whole(words[1] if len(words) == 2 else os.path.join(tempfile.mkdtemp(), "out.txt"))
     if words[:1] == ["everyday"] and len(words) in (1, 4):
-        return everyday(*(words[1:] or ["tg_graph", "src/heap.rt", "census"]))
+        return everyday(*(words[1:] or ["tg_graph", "src/heap.rt", "find_edge"]))
     print(__doc__, file=sys.stderr)
     return 2
 
