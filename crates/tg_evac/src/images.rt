@@ -16,8 +16,9 @@ use tg_block::WORDS;
 use tg_space::{Spaces, first_pointer};
 use tg_word::{place_of, with_place};
 
-// The first word of an object that may name a cell. A loop from a known word on is laid out word by word.
+// The first word of an object, and of a chunk, that may name a cell. A loop from a known word on is laid out word by word.
 const OBJECT_POINTERS: usize = 4;
+const CHUNK_POINTERS: usize = 1;
 
 /// The copy of a cell with these words. What they name is claimed, to go straight to Old or not.
 #[inline(always)]
@@ -39,6 +40,9 @@ pub fn image<C: Claimer>(
     let first = first_pointer(words[0]);
     if first == OBJECT_POINTERS {
         return image_from(claimer, spaces, words, OBJECT_POINTERS, straight);
+    }
+    if first == CHUNK_POINTERS {
+        return image_from(claimer, spaces, words, CHUNK_POINTERS, straight);
     }
     image_from(claimer, spaces, words, first, straight)
 }
