@@ -47,14 +47,14 @@ pub record AreCopies (kind : Kind) (h : SpaceList) (roots : List Root) (forward 
 
 -- only a nursery collection copies to Aged
 only_nursery : (kind : Kind) (h : SpaceList) (roots : List Root) (forward : List ℕ) (won : List Win) → All (StandsIn forward) won → AreTraced kind h roots won → (w : Win) → Contains won w → (place_in w.word).space ≡ 1 → kind ≡ Nursery
-only_nursery Full h roots forward won stand traced w held aged = absurd (let zero_is = all_in_old h roots forward won stand traced w held in omega arith)
+only_nursery Full h roots forward won stand traced w held aged = absurd (let zero_is = all_in_old h roots won traced w held in omega arith)
 only_nursery Nursery h roots forward won stand traced w held aged = refl
 
 in_generations : (kind : Kind) (h : SpaceList) (roots : List Root) (forward : List ℕ) (won : List Win) → IsSpaceList h → AreWins kind h roots forward won → AreInGenerations kind h roots forward
 in_generations Full h roots forward won is are = λ c low some.
     let found = are.words.every c (rw are.whole low) some in
     let st : StandsIn forward found.0 = All-contains (StandsIn forward) won found.0 are.words.stand found.1 in
-    let to = all_in_old h roots forward won are.words.stand are.traced found.0 found.1 in
+    let to = all_in_old h roots won are.traced found.0 found.1 in
     let goes = goes_to forward found.0 st in
     record { some = some; there = ap (λ (n : ℕ). (place_in (get_or forward n 0)).space) (sym found.2) ∙ goes.there ∙ to }
 in_generations Nursery h roots forward won is are =

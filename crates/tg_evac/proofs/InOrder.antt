@@ -190,7 +190,7 @@ module _ (h : SpaceList) (forward : List ℕ) (places : HavePlaces forward) (old
 
 module _ (h : SpaceList) (roots : List Root) (c : Claimed) (are : AreClaims c) (traced : IsTracedFrom Full h roots c) (kept : c.plan.kept ≡ 0) where
   to_old : (w : Win) → Contains c.won w → (place_in w.word).space ≡ 0
-  to_old = all_in_old h roots c.forward c.won are.words.stand traced.traced
+  to_old = all_in_old h roots c.won traced.traced
 
   pub words_old : AreOld c.forward
   words_old = All-from_get_or (λ (word : ℕ). (place_in word).space ≡ 0) c.forward 0 (λ n low. by_word n low (cases_eq (get_or c.forward n 0) 0))

@@ -132,21 +132,21 @@ full_from h is pointers roots are a c same traced full =
 pub goes_to : (forward : List ℕ) (w : Win) → StandsIn forward w → GoesTo forward (place_in w.word).space w.cell
 goes_to forward w st = record { some = λ zero. st.some (sym st.word ∙ zero); there = ap (λ (n : ℕ). (place_in n).space) st.word }
 
+-- in a full collection all go to Old
+module _ (h : SpaceList) (roots : List Root) (won : List Win) (traced : AreTraced Full h roots won) where
+  in_old : (n k : ℕ) → k < n → k < length won → (place_in (win_at won k).word).space ≡ 0
+  in_old zero k low inside = absurd (omega arith)
+  in_old (suc n) k low inside = ⊎_elim
+      (λ (r : IsRootClaim Full h roots (win_at won k)). r.claim.to)
+      (λ (j, below, claim).
+      let before = in_old n j (omega arith) (omega arith) in
+      claim.to ∙ space_straight (is_in_old (win_at won j)) claim.place.space (rw before refl))
+      (traced k inside)
+
+  pub all_in_old : (w : Win) → Contains won w → (place_in w.word).space ≡ 0
+  all_in_old w held = subst (λ (v : Win). (place_in v.word).space ≡ 0) (get_or_default won held.0 (win_at [] 0) w held.1 ∙ held.2) (in_old (suc held.0) held.0 (omega arith) held.1)
+
 module _ (h : SpaceList) (roots : List Root) (forward : List ℕ) (won : List Win) where
-  -- in a full collection all go to Old
-  module _ (stand : All (StandsIn forward) won) (traced : AreTraced Full h roots won) where
-    in_old : (n k : ℕ) → k < n → k < length won → (place_in (win_at won k).word).space ≡ 0
-    in_old zero k low inside = absurd (omega arith)
-    in_old (suc n) k low inside = ⊎_elim
-        (λ (r : IsRootClaim Full h roots (win_at won k)). r.claim.to)
-        (λ (j, below, claim).
-        let before = in_old n j (omega arith) (omega arith) in
-        claim.to ∙ space_straight (is_in_old (win_at won j)) claim.place.space (rw before refl))
-        (traced k inside)
-
-    pub all_in_old : (w : Win) → Contains won w → (place_in w.word).space ≡ 0
-    all_in_old w held = subst (λ (v : Win). (place_in v.word).space ≡ 0) (get_or_default won held.0 (win_at [] 0) w held.1 ∙ held.2) (in_old (suc held.0) held.0 (omega arith) held.1)
-
   module _ (is : IsSpaceList h) (words : AreWordsOf won forward) (two : (w : Win) → Contains won w → (place_in w.word).space < 2) (traced : AreTraced Nursery h roots won) where
     abbrev win : ℕ → Win
     win k = win_at won k

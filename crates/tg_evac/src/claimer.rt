@@ -8,7 +8,6 @@ ghost use Rattle.tg_evac.specs.Claimers.{AddsWins, KnowsMore, Walked};
 
 use crate::fault::CollectFault;
 use crate::win::Win;
-use tg_space::Kind;
 
 /// A table in which cells are claimed, each for one new place.
 ///
@@ -23,10 +22,6 @@ pub trait Claimer {
 
     /// What a refusal for want of room tells.
     ghost is_full: { Self → Type 0 };
-
-    /// Which cells are moved.
-    fn kind(&self) -> Kind
-        ensures { result ≡ (walked self.now).kind };
 
     /// How many cells were won: no more than there are, and no more than either space has room for.
     fn len(&self) -> usize

@@ -12,7 +12,7 @@ use crate::win::Win;
 use std::alloc::Global;
 use std::marker::Model;
 use tg_block::CELLS;
-use tg_space::{Forwarding, Kind};
+use tg_space::Forwarding;
 use tg_word::link;
 
 /// What one collection has claimed: the forwarding word of each cell, and the cells that were won, in order.
@@ -59,14 +59,6 @@ impl Claims {
         })
     }
 
-    // What the collection is to do.
-    #[inline(always)]
-    fn plan(&self) -> Plan
-        ensures { result ≡ self.now.plan }
-    {
-        self.plan
-    }
-
     // How many cells were won.
     #[inline(always)]
     fn count(&self) -> usize
@@ -88,14 +80,15 @@ impl Claims {
         self.won[k]
     }
 
-    // The word of a cell; where it isn't 0, it is that of the cell's pair.
+    // The word of a cell that is moved; where it isn't 0, it is that of the cell's pair.
     #[inline(always)]
     fn word(&self, cell: u64) -> u64
-        requires { cell < length self.now.forward }
+        requires inside { cell < length self.now.forward }
+        requires moved { 64 * self.now.plan.kept ≤ cell }
         ensures word { result ≡ slice_index self.now.forward cell }
         ensures won { result ≢ 0 → Contains self.now.won (record { cell = cell; word = result }) }
     {
-        self.forward.word(cell)
+        self.forward.moved_word(cell)
     }
 
     // The word of the place of a cell: the next of a space, unless it has one.
@@ -144,11 +137,6 @@ impl Claimer for Claims {
     ghost knows = { λ c. HasPlacesOf c.won };
 
     ghost is_full = { IsFull };
-
-    #[inline(always)]
-    fn kind(&self) -> Kind {
-        self.plan().kind
-    }
 
     #[inline(always)]
     fn len(&self) -> usize {

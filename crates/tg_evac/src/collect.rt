@@ -40,8 +40,27 @@ pub struct Copied {
 ///
 /// The refusals change nothing: `OutOfMemory` where memory was refused, and `HeapFull` where Aged or Old would need more
 /// than `space_blocks` blocks, so that at least as many cells of from-space aren't free as there is room for in Old.
-#[tactic(auto, using(crate::proofs::Behind::kept_within))]
 pub fn collect_one(
+    alloc: Global,
+    spaces: &Spaces,
+    roots: &[Root],
+    kind: Kind,
+) -> Result<Copied, CollectFault>
+    requires { AreSound spaces.now.spaces roots.now }
+    ensures collected { IfOk result (λ copied. IsCollection kind spaces.now.spaces roots.now copied.forward.words copied.adoption.aged copied.adoption.old copied.remembered.places) }
+    ensures few { IfOk result (λ copied. AreFewBlocks spaces.now.limits.space_blocks (kept_blocks kind spaces.now.spaces) 0 copied.forward.words copied.adoption.aged copied.adoption.old) }
+    ensures full { IfErr result (λ fault. fault ≡ CollectFault.HeapFull → MayLackRoom spaces.now.limits.space_blocks 1 (kept_blocks kind spaces.now.spaces) (used_cells kind spaces.now.spaces)) }
+{
+    match kind {
+        Kind::Full => collect_kind(alloc, spaces, roots, Kind::Full),
+        Kind::Nursery => collect_kind(alloc, spaces, roots, Kind::Nursery),
+    }
+}
+
+// The collection of a kind. It is compiled for each, so that a full one asks of no cell which kind this is.
+#[inline(always)]
+#[tactic(auto, using(crate::proofs::Behind::kept_within))]
+fn collect_kind(
     alloc: Global,
     spaces: &Spaces,
     roots: &[Root],
@@ -55,7 +74,7 @@ pub fn collect_one(
     let cells = spaces.cells();
     let plan = Plan::of(kind, spaces);
     let mut claims = Claims::new(alloc, cells, plan)?;
-    let copies = trace(alloc, &mut claims, spaces, roots)?;
+    let copies = trace(alloc, &mut claims, spaces, kind, roots)?;
     let Claims { forward, .. } = claims;
     let adoption = copies.finish()?;
     let remembered = notes_of(
@@ -75,15 +94,18 @@ pub fn collect_one(
 }
 
 // Claims and copies all that the roots reach, and nothing else.
+#[inline(always)]
 fn trace(
     alloc: Global,
     claims: &mut Claims,
     spaces: &Spaces,
+    kind: Kind,
     roots: &[Root],
 ) -> Result<Copies, CollectFault>
     requires table { IsSpaceTable spaces.now }
     requires pointers { HavePointers spaces.now.spaces }
     requires roots { All (IsRootIn spaces.now.spaces) roots.now }
+    requires kind { claims.old.plan.kind ≡ kind }
     requires whole { length claims.old.forward ≡ length (cells_of spaces.now.spaces) }
     requires kept { claims.old.plan.kept ≡ kept_blocks claims.old.plan.kind spaces.now.spaces }
     requires none_yet { claims.old.won ≡ [] }
@@ -94,7 +116,7 @@ fn trace(
     ensures full { IfErr result (λ fault. fault ≡ CollectFault.HeapFull → claims.old.plan.room ≤ 64 * claims.old.plan.kept + used_cells claims.old.plan.kind spaces.now.spaces) }
 {
     let mut copies = Copies::new(alloc)?;
-    claim_roots(claims, spaces, roots)?;
-    scan(claims, spaces, &mut copies)?;
+    claim_roots(claims, spaces, kind, roots)?;
+    scan(claims, spaces, kind, &mut copies)?;
     Ok(copies)
 }

@@ -11,10 +11,10 @@ use crate::claimer::Claimer;
 use crate::fault::CollectFault;
 use crate::images::image;
 use crate::new_blocks::NewBlocks;
-use crate::plan::OLD;
+use crate::plan::is_in_old;
 use std::alloc::{AllocError, Global};
 use tg_block::WORDS;
-use tg_space::{Adoption, Spaces};
+use tg_space::{Adoption, Kind, Spaces};
 use tg_word::place_of;
 
 /// The copies of won cells, in the order in which those were won.
@@ -78,14 +78,18 @@ impl Copies {
 ///
 /// It is refused as a claim is, or with `OutOfMemory` where memory for a copy was refused. What was claimed till then stays
 /// so.
+#[inline(always)]
 pub fn scan<C: Claimer>(
     claimer: &mut C,
     spaces: &Spaces,
+    kind: Kind,
     copies: &mut Copies,
 ) -> Result<(), CollectFault>
     requires pointers { HavePointers spaces.now.spaces }
+    requires kind { (C.walked claimer.old).kind ≡ kind }
     requires whole { (C.walked claimer.old).cells ≡ length (cells_of spaces.now.spaces) }
     requires kept { (C.walked claimer.old).kept ≡ kept_blocks (C.walked claimer.old).kind spaces.now.spaces }
+    requires traced { (roots : List RootOf) × AreTraced (C.walked claimer.old).kind spaces.now.spaces roots (C.walked claimer.old).won }
     requires scanned { AreScanned spaces.now.spaces (C.walked claimer.old) (C.knows claimer.old) copies.now.scanned copies.now.aged copies.now.old }
     ensures traced { (roots : List RootOf) → AreTraced (C.walked claimer.old).kind spaces.now.spaces roots (C.walked claimer.old).won → AreTraced (C.walked claimer.old).kind spaces.now.spaces roots (C.walked claimer.new).won }
     ensures keeps { KeepsWins (C.walked claimer.old) (C.walked claimer.new) }
@@ -94,7 +98,7 @@ pub fn scan<C: Claimer>(
     ensures full { IfErr result (λ fault. fault ≡ CollectFault.HeapFull → C.is_full claimer.new) }
 {
     while copies.scanned < claimer.len() {
-        scan_next(claimer, spaces, copies)?;
+        scan_next(claimer, spaces, kind, copies)?;
         copies.scanned += 1;
     }
     Ok(())
@@ -105,11 +109,14 @@ pub fn scan<C: Claimer>(
 fn scan_next<C: Claimer>(
     claimer: &mut C,
     spaces: &Spaces,
+    kind: Kind,
     copies: &mut Copies,
 ) -> Result<(), CollectFault>
     requires pointers { HavePointers spaces.now.spaces }
+    requires kind { (C.walked claimer.old).kind ≡ kind }
     requires whole { (C.walked claimer.old).cells ≡ length (cells_of spaces.now.spaces) }
     requires kept { (C.walked claimer.old).kept ≡ kept_blocks (C.walked claimer.old).kind spaces.now.spaces }
+    requires traced { (roots : List RootOf) × AreTraced (C.walked claimer.old).kind spaces.now.spaces roots (C.walked claimer.old).won }
     requires scanned { AreScanned spaces.now.spaces (C.walked claimer.old) (C.knows claimer.old) copies.now.scanned copies.now.aged copies.now.old }
     requires next { copies.now.scanned < length (C.walked claimer.old).won }
     requires room { (space : ℕ) → space < 2 → length (won_in space (C.walked claimer.old).won) ≤ 2 ^ 26 }
@@ -121,8 +128,14 @@ fn scan_next<C: Claimer>(
     ensures full { IfErr result (λ fault. fault ≡ CollectFault.HeapFull → C.is_full claimer.new) }
 {
     let win = claimer.win(copies.scanned);
-    let is_in_old = place_of(win.word).space == OLD;
-    let words = image(claimer, spaces, spaces.numbered_words(win.cell), is_in_old)?;
-    copies.push(is_in_old, words)?;
+    let straight = is_in_old(kind, place_of(win.word));
+    let words = image(
+        claimer,
+        spaces,
+        kind,
+        spaces.numbered_words(win.cell),
+        straight,
+    )?;
+    copies.push(straight, words)?;
     Ok(())
 }

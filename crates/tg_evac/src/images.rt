@@ -13,21 +13,25 @@ use crate::claimer::Claimer;
 use crate::fault::CollectFault;
 use crate::plan::space_for;
 use tg_block::WORDS;
-use tg_space::{Spaces, first_pointer};
+use tg_space::{Kind, Spaces, first_pointer};
 use tg_word::{place_of, with_place};
 
-// The first word of an object that may name a cell. A loop from a known word on is laid out word by word.
+// The first word of an object, and of a chunk, that may name a cell. A loop from a known word on is laid out word by word.
 const OBJECT_POINTERS: usize = 4;
+
+const CHUNK_POINTERS: usize = 1;
 
 /// The copy of a cell with these words. What they name is claimed, to go straight to Old or not.
 #[inline(always)]
 pub fn image<C: Claimer>(
     claimer: &mut C,
     spaces: &Spaces,
+    kind: Kind,
     words: &[u64; WORDS],
     straight: bool,
 ) -> Result<[u64; WORDS], CollectFault>
     requires pointers { All (IsPointer spaces.now.spaces) (pointers_of words.now) }
+    requires kind { (C.walked claimer.old).kind ≡ kind }
     requires whole { (C.walked claimer.old).cells ≡ length (cells_of spaces.now.spaces) }
     requires kept { (C.walked claimer.old).kept ≡ kept_blocks (C.walked claimer.old).kind spaces.now.spaces }
     ensures added { AddsWins (IsClaimOf spaces.now.spaces straight (named_by (from_space (C.walked claimer.old).kind) spaces.now.spaces (pointers_of words.now))) (C.walked claimer.old) (C.walked claimer.new) }
@@ -38,9 +42,12 @@ pub fn image<C: Claimer>(
 {
     let first = first_pointer(words[0]);
     if first == OBJECT_POINTERS {
-        return image_from(claimer, spaces, words, OBJECT_POINTERS, straight);
+        return image_from(claimer, spaces, kind, words, OBJECT_POINTERS, straight);
     }
-    image_from(claimer, spaces, words, first, straight)
+    if first == CHUNK_POINTERS {
+        return image_from(claimer, spaces, kind, words, CHUNK_POINTERS, straight);
+    }
+    image_from(claimer, spaces, kind, words, first, straight)
 }
 
 // The words, of which those from one on are moved, and what they name is claimed.
@@ -48,12 +55,14 @@ pub fn image<C: Claimer>(
 fn image_from<C: Claimer>(
     claimer: &mut C,
     spaces: &Spaces,
+    kind: Kind,
     words: &[u64; WORDS],
     first: usize,
     straight: bool,
 ) -> Result<[u64; WORDS], CollectFault>
     requires inside { first ≤ 8 }
     requires pointers { All (IsPointer spaces.now.spaces) (drop first words.now) }
+    requires kind { (C.walked claimer.old).kind ≡ kind }
     requires whole { (C.walked claimer.old).cells ≡ length (cells_of spaces.now.spaces) }
     requires kept { (C.walked claimer.old).kept ≡ kept_blocks (C.walked claimer.old).kind spaces.now.spaces }
     ensures added { AddsWins (IsClaimOf spaces.now.spaces straight (named_by (from_space (C.walked claimer.old).kind) spaces.now.spaces (drop first words.now))) (C.walked claimer.old) (C.walked claimer.new) }
@@ -64,7 +73,7 @@ fn image_from<C: Claimer>(
 {
     let mut image = *words;
     for i in first..WORDS {
-        image[i] = moved_word(claimer, spaces, words[i], straight)?;
+        image[i] = moved_word(claimer, spaces, kind, words[i], straight)?;
     }
     Ok(image)
 }
@@ -75,10 +84,12 @@ fn image_from<C: Claimer>(
 fn moved_word<C: Claimer>(
     claimer: &mut C,
     spaces: &Spaces,
+    kind: Kind,
     word: u64,
     straight: bool,
 ) -> Result<u64, CollectFault>
     requires pointer { IsPointer spaces.now.spaces word }
+    requires kind { (C.walked claimer.old).kind ≡ kind }
     requires whole { (C.walked claimer.old).cells ≡ length (cells_of spaces.now.spaces) }
     requires kept { (C.walked claimer.old).kept ≡ kept_blocks (C.walked claimer.old).kind spaces.now.spaces }
     ensures added { AddsWins (IsClaimOf spaces.now.spaces straight (target_in (from_space (C.walked claimer.old).kind) spaces.now.spaces word)) (C.walked claimer.old) (C.walked claimer.new) }
@@ -91,7 +102,7 @@ fn moved_word<C: Claimer>(
         return Ok(0);
     }
     let space = place_of(word).space;
-    if !claimer.kind().moves(space) {
+    if !kind.moves(space) {
         return Ok(word);
     }
     let found = claimer.claim(spaces.target_of(word), space_for(straight, space))?;

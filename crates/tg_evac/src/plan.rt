@@ -1,10 +1,11 @@
 //! What a collection is to do.
-ghost use Rattle.std.specs.Prelude.{◌≡◌, ◌≤◌, ◌^◌};
+ghost use Rattle.std.specs.Prelude.{◌≡◌, ◌==◌, ◌≤◌, ◌^◌};
 ghost use Rattle.tg_space.specs.SpaceTable.{IsSpaceTable};
 ghost use Rattle.tg_evac.specs.Claims.{IsPlanFor, is_straight as straight_from, space_for as space_of_copy};
 
 use tg_block::CELLS;
 use tg_space::{Kind, Root, Spaces};
+use tg_word::Place;
 
 /// The number of Old among the spaces.
 pub const OLD: u64 = 0;
@@ -60,4 +61,13 @@ pub fn space_for(straight: bool, space: u64) -> u64
     ensures { result ≡ space_of_copy straight space }
 {
     if straight || space == AGED { OLD } else { AGED }
+}
+
+/// Whether a copy with this place is in Old, as all are in a full collection.
+#[inline(always)]
+pub fn is_in_old(kind: Kind, place: Place) -> bool
+    requires { kind ≡ Kind.Full → place.space ≡ 0 }
+    ensures { result ≡ (place.space == 0) }
+{
+    kind == Kind::Full || place.space == OLD
 }

@@ -14,7 +14,7 @@ use crate::fault::CollectFault;
 use crate::images::image;
 use crate::plan::{is_straight, space_for};
 use tg_block::WORDS;
-use tg_space::{Root, Spaces};
+use tg_space::{Kind, Root, Spaces};
 use tg_word::{Place, place_of};
 
 // The word of an object or a chunk that links to the next chunk.
@@ -26,10 +26,12 @@ const LINK: usize = WORDS - 1;
 pub fn claim_roots<C: Claimer>(
     claimer: &mut C,
     spaces: &Spaces,
+    kind: Kind,
     roots: &[Root],
 ) -> Result<(), CollectFault>
     requires pointers { HavePointers spaces.now.spaces }
     requires roots { All (IsRootIn spaces.now.spaces) roots.now }
+    requires kind { (C.walked claimer.old).kind ≡ kind }
     requires whole { (C.walked claimer.old).cells ≡ length (cells_of spaces.now.spaces) }
     requires kept { (C.walked claimer.old).kept ≡ kept_blocks (C.walked claimer.old).kind spaces.now.spaces }
     ensures added { AddsWins (IsRootClaim (C.walked claimer.old).kind spaces.now.spaces roots.now) (C.walked claimer.old) (C.walked claimer.new) }
@@ -38,15 +40,21 @@ pub fn claim_roots<C: Claimer>(
     ensures full { IfErr result (λ fault. fault ≡ CollectFault.HeapFull → C.is_full claimer.new) }
 {
     for root in roots {
-        claim_root(claimer, spaces, *root)?;
+        claim_root(claimer, spaces, kind, *root)?;
     }
     Ok(())
 }
 
 // Claims the targets of a root.
-fn claim_root<C: Claimer>(claimer: &mut C, spaces: &Spaces, root: Root) -> Result<(), CollectFault>
+fn claim_root<C: Claimer>(
+    claimer: &mut C,
+    spaces: &Spaces,
+    kind: Kind,
+    root: Root,
+) -> Result<(), CollectFault>
     requires pointers { HavePointers spaces.now.spaces }
     requires root { IsRootIn spaces.now.spaces root }
+    requires kind { (C.walked claimer.old).kind ≡ kind }
     requires whole { (C.walked claimer.old).cells ≡ length (cells_of spaces.now.spaces) }
     requires kept { (C.walked claimer.old).kept ≡ kept_blocks (C.walked claimer.old).kind spaces.now.spaces }
     ensures added { AddsWins (IsClaimOf spaces.now.spaces (straight_from (C.walked claimer.old).kind root) (root_targets_of (from_space (C.walked claimer.old).kind) spaces.now.spaces root)) (C.walked claimer.old) (C.walked claimer.new) }
@@ -54,10 +62,10 @@ fn claim_root<C: Claimer>(claimer: &mut C, spaces: &Spaces, root: Root) -> Resul
     ensures met { OnOk result (All (Contains (C.walked claimer.new).met) (root_targets_of (from_space (C.walked claimer.old).kind) spaces.now.spaces root)) }
     ensures full { IfErr result (λ fault. fault ≡ CollectFault.HeapFull → C.is_full claimer.new) }
 {
-    let straight = is_straight(claimer.kind(), root);
+    let straight = is_straight(kind, root);
     match root {
-        Root::Row(object) => claim_row(claimer, spaces, object, straight),
-        Root::Remembered(place) => claim_targets(claimer, spaces, place, straight),
+        Root::Row(object) => claim_row(claimer, spaces, kind, object, straight),
+        Root::Remembered(place) => claim_targets(claimer, spaces, kind, place, straight),
     }
 }
 
@@ -66,11 +74,13 @@ fn claim_root<C: Claimer>(claimer: &mut C, spaces: &Spaces, root: Root) -> Resul
 fn claim_row<C: Claimer>(
     claimer: &mut C,
     spaces: &Spaces,
+    kind: Kind,
     object: Place,
     straight: bool,
 ) -> Result<(), CollectFault>
     requires pointers { HavePointers spaces.now.spaces }
     requires held { Holds spaces.now.spaces object }
+    requires kind { (C.walked claimer.old).kind ≡ kind }
     requires whole { (C.walked claimer.old).cells ≡ length (cells_of spaces.now.spaces) }
     requires kept { (C.walked claimer.old).kept ≡ kept_blocks (C.walked claimer.old).kind spaces.now.spaces }
     ensures added { AddsWins (IsClaimOf spaces.now.spaces straight (root_targets_of (from_space (C.walked claimer.old).kind) spaces.now.spaces (Row object))) (C.walked claimer.old) (C.walked claimer.new) }
@@ -78,23 +88,25 @@ fn claim_row<C: Claimer>(
     ensures met { OnOk result (All (Contains (C.walked claimer.new).met) (root_targets_of (from_space (C.walked claimer.old).kind) spaces.now.spaces (Row object))) }
     ensures full { IfErr result (λ fault. fault ≡ CollectFault.HeapFull → C.is_full claimer.new) }
 {
-    if claimer.kind().moves(object.space) {
+    if kind.moves(object.space) {
         claimer.claim(spaces.flat(object), space_for(straight, object.space))?;
         return Ok(());
     }
-    claim_targets(claimer, spaces, object, straight)?;
-    claim_chunks(claimer, spaces, spaces.read(object, LINK), straight)
+    claim_targets(claimer, spaces, kind, object, straight)?;
+    claim_chunks(claimer, spaces, kind, spaces.read(object, LINK), straight)
 }
 
 // Claims the targets of the chunks to which a link leads, up to one that is moved.
 fn claim_chunks<C: Claimer>(
     claimer: &mut C,
     spaces: &Spaces,
+    kind: Kind,
     first: u64,
     straight: bool,
 ) -> Result<(), CollectFault>
     requires pointers { HavePointers spaces.now.spaces }
     requires link { IsPointer spaces.now.spaces first }
+    requires kind { (C.walked claimer.old).kind ≡ kind }
     requires whole { (C.walked claimer.old).cells ≡ length (cells_of spaces.now.spaces) }
     requires kept { (C.walked claimer.old).kept ≡ kept_blocks (C.walked claimer.old).kind spaces.now.spaces }
     ensures added { AddsWins (IsClaimOf spaces.now.spaces straight (chunk_targets (from_space (C.walked claimer.old).kind) spaces.now.spaces (length (cells_of spaces.now.spaces)) first)) (C.walked claimer.old) (C.walked claimer.new) }
@@ -108,10 +120,10 @@ fn claim_chunks<C: Claimer>(
             return Ok(());
         }
         let chunk = place_of(link);
-        if claimer.kind().moves(chunk.space) {
+        if kind.moves(chunk.space) {
             return Ok(());
         }
-        claim_targets(claimer, spaces, chunk, straight)?;
+        claim_targets(claimer, spaces, kind, chunk, straight)?;
         link = spaces.read(chunk, LINK);
     }
     Ok(())
@@ -121,11 +133,13 @@ fn claim_chunks<C: Claimer>(
 fn claim_targets<C: Claimer>(
     claimer: &mut C,
     spaces: &Spaces,
+    kind: Kind,
     place: Place,
     straight: bool,
 ) -> Result<(), CollectFault>
     requires pointers { HavePointers spaces.now.spaces }
     requires held { Holds spaces.now.spaces place }
+    requires kind { (C.walked claimer.old).kind ≡ kind }
     requires whole { (C.walked claimer.old).cells ≡ length (cells_of spaces.now.spaces) }
     requires kept { (C.walked claimer.old).kept ≡ kept_blocks (C.walked claimer.old).kind spaces.now.spaces }
     ensures added { AddsWins (IsClaimOf spaces.now.spaces straight (targets_at (from_space (C.walked claimer.old).kind) spaces.now.spaces place)) (C.walked claimer.old) (C.walked claimer.new) }
@@ -133,6 +147,6 @@ fn claim_targets<C: Claimer>(
     ensures met { OnOk result (All (Contains (C.walked claimer.new).met) (targets_at (from_space (C.walked claimer.old).kind) spaces.now.spaces place)) }
     ensures full { IfErr result (λ fault. fault ≡ CollectFault.HeapFull → C.is_full claimer.new) }
 {
-    image(claimer, spaces, spaces.words(place), straight)?;
+    image(claimer, spaces, kind, spaces.words(place), straight)?;
     Ok(())
 }

@@ -48,6 +48,16 @@ impl Forwarding {
         self.words[(cell - self.skipped) as usize]
     }
 
+    /// The word of a cell that isn't skipped.
+    #[inline(always)]
+    pub fn moved_word(&self, cell: u64) -> u64
+        requires inside { cell < length self.now.words }
+        requires moved { self.now.skipped ≤ cell }
+        ensures { result ≡ slice_index self.now.words cell }
+    {
+        self.words[(cell - self.skipped) as usize]
+    }
+
     /// Sets the word of a cell that isn't skipped.
     #[inline(always)]
     pub fn set(&mut self, cell: u64, word: u64)

@@ -1,4 +1,4 @@
-use Rattle.std.proofs.Common.{length, arith, ap, subst, ◌∙◌, inl}
+use Rattle.std.proofs.Common.{length, arith, ap, sym, subst, ◌∙◌, inl}
 use Rattle.std.specs.List.{All, Contains}
 use Rattle.std.proofs.lemmas.List.{take_all}
 use Rattle.std.proofs.lemmas.List.Elements.{All-weaker}
@@ -81,3 +81,8 @@ returns-clause-old c to agrees =
     let won = c.scan.new.claimer.won in let h = c.args.spaces.now.spaces in
     c.in_ok-scan.ensures.scanned.in_old to agrees ∙ ap (copies_to 0 c.scan.new.claimer.plan.kind h to) (take_all (length won) won (omega arith))
     ∙ ap (λ (k : Kind). copies_to 0 k h to won) (c.scan.ensures.keeps.same_kind ∙ c.claim_roots.ensures.added.same_kind)
+
+pub scan-requires-clause-traced : goal.scan-requires-clause-traced
+scan-requires-clause-traced c =
+    let h = c.args.spaces.now.spaces in let roots = c.args.roots.now in
+    (roots, subst (λ (k : Kind). AreTraced k h roots c.claim_roots.new.claimer.won) (sym c.claim_roots.ensures.added.same_kind) (first_traced (goal.at.scan-requires-clause-traced c).After-claim_roots))

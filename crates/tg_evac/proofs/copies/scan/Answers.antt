@@ -32,3 +32,8 @@ loop-copies-preserved g c =
       grows = λ to agrees. c.loop-copies.invariant.grows to (c.scan_next.ensures.grows to agrees);
       scanned = subst (λ (n : ℕ). AreScanned h (m.walked c.scan_next.new.claimer) (m.knows c.scan_next.new.claimer) n c.scan_next.new.copies.aged c.scan_next.new.copies.old) next c.in_ok-scan_next.ensures.scanned;
     }
+
+pub scan_next-requires-clause-traced : goal.scan_next-requires-clause-traced
+scan_next-requires-clause-traced g c =
+    let m = g.C.Claimer in let h = c.args.spaces.now.spaces in let roots = c.requires.traced.0 in
+    (roots, subst (λ (k : Kind). AreTraced k h roots (m.walked c.loop-copies.claimer).won) (sym c.loop-copies.invariant.keeps.same_kind) (c.loop-copies.invariant.traced roots c.requires.traced.1))

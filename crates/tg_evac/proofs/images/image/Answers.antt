@@ -9,6 +9,12 @@ returns-then-first-eq-OBJECT_POINTERS-clause-met g c =
     let e : 4 ≡ first_pointer (slice_index c.args.words.now 0) = omega (arith, c.first_pointer-first.ensures.word, c.if-first-eq-OBJECT_POINTERS.true) in
     subst (λ (n : ℕ). OnOk c.image_from.result (All (Contains (m.walked c.image_from.new.claimer).met) (named_by (from_space (m.walked c.args.claimer.now).kind) c.args.spaces.now.spaces (drop n c.args.words.now)))) e c.image_from.ensures.met
 
+pub returns-then-first-eq-CHUNK_POINTERS-clause-met : goal.returns-then-first-eq-CHUNK_POINTERS-clause-met
+returns-then-first-eq-CHUNK_POINTERS-clause-met g c =
+    let m = g.C.Claimer in
+    let e : 1 ≡ first_pointer (slice_index c.args.words.now 0) = omega (arith, c.first_pointer-first.ensures.word, c.if-first-eq-CHUNK_POINTERS.true) in
+    subst (λ (n : ℕ). OnOk c.image_from-then-first-eq-CHUNK_POINTERS.result (All (Contains (m.walked c.image_from-then-first-eq-CHUNK_POINTERS.new.claimer).met) (named_by (from_space (m.walked c.args.claimer.now).kind) c.args.spaces.now.spaces (drop n c.args.words.now)))) e c.image_from-then-first-eq-CHUNK_POINTERS.ensures.met
+
 pub returns-clause-met : goal.returns-clause-met
 returns-clause-met g c =
     let m = g.C.Claimer in

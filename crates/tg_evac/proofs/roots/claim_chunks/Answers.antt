@@ -30,23 +30,23 @@ returns-then-link-eq0-clause-met g c =
 pub returns-then-moves-clause-met : goal.returns-then-moves-clause-met
 returns-then-moves-clause-met g c =
     let h = c.args.spaces.now.spaces in let kind = (g.C.Claimer.walked c.args.claimer.now).kind in let n = length (cells_of h) in
-    let same : c.kind.result ≡ kind = c.kind.ensures ∙ c.loop.invariant.added.same_kind in
-    let moved = ap (λ (k : Kind). from_space k (place_in c.loop.link).space) (sym same) ∙ ap (λ (p : Place). from_space c.kind.result p.space) (sym c.place_of-chunk.ensures) ∙ sym c.moves.ensures ∙ c.if-moves.true in
+    let same : c.args.kind ≡ kind = sym c.requires.kind in
+    let moved = ap (λ (k : Kind). from_space k (place_in c.loop.link).space) (sym same) ∙ ap (λ (p : Place). from_space c.args.kind p.space) (sym c.place_of-chunk.ensures) ∙ sym c.moves.ensures ∙ c.if-moves.true in
     all_passed (from_space kind) h c.loop.invariant.passed (chunks_moved (from_space kind) h (n - c.loop.counter) c.loop.link moved)
 
 pub returns-in_err-claim_targets-clause-added : goal.returns-in_err-claim_targets-clause-added
 returns-in_err-claim_targets-clause-added g c =
     let h = c.args.spaces.now.spaces in let kind = (g.C.Claimer.walked c.args.claimer.now).kind in let n = length (cells_of h) in
-    let same : c.kind.result ≡ kind = c.kind.ensures ∙ c.loop.invariant.added.same_kind in
-    let kept = ap (λ (k : Kind). from_space k (place_in c.loop.link).space) (sym same) ∙ ap (λ (p : Place). from_space c.kind.result p.space) (sym c.place_of-chunk.ensures) ∙ sym c.moves.ensures ∙ c.if-moves.false in
+    let same : c.args.kind ≡ kind = sym c.requires.kind in
+    let kept = ap (λ (k : Kind). from_space k (place_in c.loop.link).space) (sym same) ∙ ap (λ (p : Place). from_space c.args.kind p.space) (sym c.place_of-chunk.ensures) ∙ sym c.moves.ensures ∙ c.if-moves.false in
     wins_chunk h c.args.straight n c.args.first c.loop.counter c.loop.link c.place_of-chunk.result c.place_of-chunk.ensures
     c.loop.invariant.added c.claim_targets.ensures.added c.loop.invariant.passed (omega (arith, c.cells-end.ensures.cells)) c.if-link-eq0.false kept
 
 pub loop-preserved : goal.loop-preserved
 loop-preserved g c =
     let m = g.C.Claimer in let h = c.args.spaces.now.spaces in let kind = (m.walked c.args.claimer.now).kind in let n = length (cells_of h) in
-    let same : c.kind.result ≡ kind = c.kind.ensures ∙ c.loop.invariant.added.same_kind in
-    let kept = ap (λ (k : Kind). from_space k (place_in c.loop.link).space) (sym same) ∙ ap (λ (p : Place). from_space c.kind.result p.space) (sym c.place_of-chunk.ensures) ∙ sym c.moves.ensures ∙ c.if-moves.false in
+    let same : c.args.kind ≡ kind = sym c.requires.kind in
+    let kept = ap (λ (k : Kind). from_space k (place_in c.loop.link).space) (sym same) ∙ ap (λ (p : Place). from_space c.args.kind p.space) (sym c.place_of-chunk.ensures) ∙ sym c.moves.ensures ∙ c.if-moves.false in
     let held : Holds h (place_in c.loop.link) = ⊎_elim (λ none. absurd (c.if-link-eq0.false none)) (λ (names : NamesCell h c.loop.link). names.held) c.loop.invariant.pointer in
     let link : link_at h (place_in c.loop.link) ≡ c.read-link.result = ap (λ (p : Place). link_at h p) (sym c.place_of-chunk.ensures) ∙ sym c.read-link.ensures in
     let passed = met_chunk h c.args.straight n c.args.first c.loop.counter c.loop.link c.place_of-chunk.result c.place_of-chunk.ensures

@@ -16,8 +16,8 @@ use Rattle.tg_evac.specs.Copies.{HoldCells, IsPlaceIn, moved_cell, new_cell}
 use Rattle.tg_evac.proofs.Claiming.{has_places, have_places, in_room}
 use Rattle.tg_evac.proofs.Sound.{have_pointers}
 use Rattle.tg_evac.proofs.Collecting.{collected, few, none_young, old_few}
-use Rattle.tg_evac.proofs.collect.collect_one.Goals as goal
-use Rattle.tg_evac.proofs.collect.collect_one.Goals.{In_ok-copies}
+use Rattle.tg_evac.proofs.collect.collect_kind.Goals as goal
+use Rattle.tg_evac.proofs.collect.collect_kind.Goals.{In_ok-copies}
 
 -- the claims, as fields
 claims_of : In_ok-copies → Claimed
