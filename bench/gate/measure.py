@@ -11,8 +11,7 @@ took more than 15 seconds of processor time, and its status is that of the gate.
 
 `everyday` puts a statement that does nothing in front of one body (`find_edge` in `src/heap.rt` of `tg_graph`, unless it
 is told otherwise), runs `rt check` there and in each crate above, with the tests where it has any, puts the file back and
-checks again. It times each
-check after a first round that is not counted.
+checks again. A round before these two isn't counted.
 
 Other work on the machine moves all of it: the load is printed beside the figures."""
 import os

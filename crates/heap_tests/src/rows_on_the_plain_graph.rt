@@ -1,6 +1,6 @@
-//! Runs that are worked out by hand, line by line on the plain graph, with no collection. With each allocation refused in turn
-//! (`rt try --test --fail-alloc N`) they pass as well: a deed that wanted memory is handed in a second time, and each
-//! reply after it is that of the graph as it was before the first.
+//! Runs that are worked out by hand, line by line on the plain graph, with no collection. With each allocation refused in
+//! turn (`rt try --test --fail-alloc N`) they pass as well, but for the one whose own lists want memory: a deed that wanted
+//! memory is handed in a second time, and each reply after it is that of the graph as it was before the first.
 
 use std::alloc::{AllocError, Global};
 use std::test::Fail;

@@ -79,27 +79,6 @@ impl Graph {
         })
     }
 
-    /// The number of workers. They are named 0, 1, 2, ..
-    pub fn workers(&self) -> u64
-        ensures { result ≡ self.now.workers }
-    {
-        self.workers
-    }
-
-    /// The most vertices that may ever be made, workers included.
-    pub fn max_vertices(&self) -> u64
-        ensures { result ≡ self.now.limit }
-    {
-        self.max_vertices
-    }
-
-    /// What each vertex stores, by rising name.
-    pub fn values(&self) -> &[Value]
-        ensures { result.now ≡ self.now.values }
-    {
-        self.values.as_slice()
-    }
-
     /// How many vertices were ever made, and so the name of the next.
     pub fn made(&self) -> u64
         ensures { result ≡ (graph_of self.now).made }
