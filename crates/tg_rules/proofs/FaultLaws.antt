@@ -1,5 +1,5 @@
 -- How a refusal of the heap is told.
-use Rattle.std.proofs.Common.{◌≡◌, ◌+◌, ℕ, refl, subst, ap, ◌∙◌}
+use Rattle.std.proofs.Common.{◌≡◌, ℕ, refl, subst, ◌∙◌}
 use Rattle.tg_space.specs.declared.spaces.AllocateFault.{AllocateFault}
 use Rattle.tg_space.specs.declared.spaces.AllocateFault.TheVariants as allocate
 use Rattle.tg_graph.specs.Heap.{HeapState, name_of}

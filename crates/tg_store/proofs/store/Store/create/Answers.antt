@@ -115,8 +115,8 @@ returns-in_err-new_vertex-clause-full g c =
     (λ e. (
       subst (λ (h : ProtectionGraph). h.made < h.limit) here room,
       subst (λ (h : ProtectionGraph). LacksCellsFor c.args.self.now.heap.table (c.args.worker + 2) 1 c.args.worker h.made) here
-      (subst (λ n. LacksCellsFor c.args.self.now.heap.table (c.args.worker + 2) 1 c.args.worker n) c.self.invariant.is_made
-      (subst (λ (s : StoreState). LacksCellsFor s.heap.table (c.args.worker + 2) 1 c.args.worker c.self.inside.made) c.self.view_is (c.in_err-new_vertex.ensures.full (create.heap_full _ e)))),
+          (subst (λ n. LacksCellsFor c.args.self.now.heap.table (c.args.worker + 2) 1 c.args.worker n) c.self.invariant.is_made
+          (subst (λ (s : StoreState). LacksCellsFor s.heap.table (c.args.worker + 2) 1 c.args.worker c.self.inside.made) c.self.view_is (c.in_err-new_vertex.ensures.full (create.heap_full _ e)))),
     ))
 
 pub invariant_of-self-2 : goal.invariant_of-self-2
