@@ -351,6 +351,24 @@ fn minor_frees_no_old_vertices(rt: HostRuntime) -> Result<(), Fail> {
     runs_in(&rt, blocks(1, 3)?, b"c145", script, written, Ok(()))
 }
 
+// A block has 64 cells: 54 creates take one for the worker, 54 for the vertices and 9 for chunks of the worker's row. What
+// needs no cell is served.
+#[test]
+fn full_nursery_serves_what_needs_no_cell(rt: HostRuntime) -> Result<(), Fail> {
+    let alloc = rt.alloc();
+    let (mut script, mut written) = (String::new(alloc), String::new(alloc));
+    for name in 1..55u64 {
+        script.push_str("0 create rwtg\n")?;
+        written.push_str(format!(in alloc; "ok {name}\n")?.as_str())?;
+    }
+    script.push_str(
+        "0 grant 1 2 r\n0 grant 1 5 r\n0 take 1 2 r\n0 remove 5 rwtg\n0 take 1 5 r\n0 create r\n",
+    )?;
+    written.push_str("ok\nok\nok\nok\nok\nrefused heap\n")?;
+    let (script, written) = (script.as_bytes(), written.as_bytes());
+    runs_in(&rt, blocks(1, 1)?, b"c56", script, written, Ok(()))
+}
+
 #[test]
 fn grant_needs_the_granters_own_right(rt: HostRuntime) -> Result<(), Fail> {
     let script = b"edge 0 1 g\n0 create rw\n0 grant 1 2 rt\n0 grant 1 2 w\n1 list\n";
