@@ -1,0 +1,77 @@
+//! The picture of a graph, as a text for `dot`.
+
+use crate::stop::Stop;
+use std::alloc::{AllocError, Global};
+use std::str;
+use tg_model::Graph;
+
+/// Prints the graph as a digraph: its vertices by rising name, then its edges.
+pub fn draw<R: Print>(rt: &R, alloc: Global, graph: &Graph, workers: u64) -> Result<(), Stop> {
+    let reached = reached_by_workers(alloc, graph, workers)?;
+    println!(rt; "digraph store {{")?;
+    for (name, reached) in reached.iter().enumerate() {
+        draw_vertex(rt, name as u64, workers, *reached)?;
+    }
+    for (from, reached) in reached.iter().enumerate() {
+        draw_edges(rt, graph, from as u64, *reached)?;
+    }
+    println!(rt; "}}")?;
+    Ok(())
+}
+
+// Which vertices a subject reaches along edges: true at their names.
+fn reached_by_workers(alloc: Global, graph: &Graph, workers: u64) -> Result<Vec<bool>, AllocError> {
+    let mut reached = Vec::new(alloc);
+    let mut waiting = Vec::new(alloc);
+    for name in 0..graph.made() {
+        reached.push(name < workers)?;
+        if name < workers {
+            waiting.push(name)?;
+        }
+    }
+    // Each vertex waits once.
+    for _ in 0..graph.made() {
+        let Some(from) = waiting.pop() else {
+            break;
+        };
+        reach_targets(graph, from, &mut reached, &mut waiting)?;
+    }
+    Ok(reached)
+}
+
+// Marks the targets of the vertex, and lets those wait that weren't reached before.
+fn reach_targets(
+    graph: &Graph,
+    from: u64,
+    reached: &mut Vec<bool>,
+    waiting: &mut Vec<u64>,
+) -> Result<(), AllocError> {
+    for (to, mark) in reached.iter_mut().enumerate() {
+        if !*mark && !graph.label(from, to as u64).is_empty() {
+            *mark = true;
+            waiting.push(to as u64)?;
+        }
+    }
+    Ok(())
+}
+
+fn draw_vertex<R: Print>(rt: &R, name: u64, workers: u64, reached: bool) -> Result<(), Stop> {
+    let shape = if name < workers { "box" } else { "circle" };
+    let colour = if reached { "black" } else { "grey" };
+    println!(rt; "    {name} [shape={shape} color={colour} fontcolor={colour}]")?;
+    Ok(())
+}
+
+// The edges of a vertex, each with the letters of its rights.
+fn draw_edges<R: Print>(rt: &R, graph: &Graph, from: u64, reached: bool) -> Result<(), Stop> {
+    let colour = if reached { "black" } else { "grey" };
+    for to in 0..graph.made() {
+        let rights = graph.label(from, to);
+        if !rights.is_empty() {
+            let text = rights.text();
+            let letters = str::from_utf8(text.as_bytes()).unwrap_or("?");
+            println!(rt; "    {from} -> {to} [label=\"{letters}\" color={colour} fontcolor={colour}]")?;
+        }
+    }
+    Ok(())
+}

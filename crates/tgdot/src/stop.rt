@@ -1,0 +1,60 @@
+//! Why the program ends before it has drawn the graph.
+
+use std::alloc::{AllocError, AllocFailed};
+use std::io;
+use tg_model::{ModelFault, OpeningFault};
+use tg_text::StockFault;
+use thiserror::Error;
+
+/// Why the program ends early: the line on standard error, after its name.
+#[derive(Debug, Drop, Error)]
+pub enum Stop {
+    /// There was no memory for a list, a line or the graph.
+    #[error("out of memory")]
+    OutOfMemory,
+    /// The words of the command line can't be had as text.
+    #[error("bad words")]
+    BadWords,
+    /// The stock is none, or names too many boxes.
+    #[error("{0}")]
+    Stock(#[from] StockFault),
+    /// The workers and vertices don't fit each other.
+    #[error("{0}")]
+    Opening(#[from] OpeningFault),
+    /// The line is none of the grammar, or an edge where it may not stand, or has no end.
+    #[error("line {line}: bad line")]
+    BadLine { line: u64 },
+    /// Standard input or standard output failed.
+    #[error("{0}")]
+    Stream(#[from] io::Error),
+}
+
+impl From<AllocError> for Stop {
+    fn from(_error: AllocError) -> Stop {
+        Stop::OutOfMemory
+    }
+}
+
+impl<T: Drop> From<AllocFailed<T>> for Stop {
+    // What there was no memory for is dropped.
+    fn from(_refused: AllocFailed<T>) -> Stop {
+        Stop::OutOfMemory
+    }
+}
+
+impl From<ModelFault> for Stop {
+    // A name that is no worker's is looked for before, so it was memory.
+    fn from(_fault: ModelFault) -> Stop {
+        Stop::OutOfMemory
+    }
+}
+
+impl Stop {
+    /// The exit status: 2 where the words of the command line are at fault, else 1.
+    pub fn status(&self) -> u8 {
+        match self {
+            Stop::BadWords | Stop::Stock(StockFault::BadStock) | Stop::Opening(_) => 2,
+            _ => 1,
+        }
+    }
+}
