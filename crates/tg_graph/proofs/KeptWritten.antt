@@ -35,6 +35,7 @@ mapped_more f xs i x found =
 pub written_none : (t : SpaceTable) → AreWritten t t []
 written_none t = record {
   limits = refl;
+  used = refl;
   long = refl;
   others = λ space young. refl;
   held = λ p. (λ held. held, λ held. held);
@@ -82,6 +83,7 @@ module _ (t now : SpaceTable) (cells : List Rewritten) (cell : Rewritten) (table
       let shape = shape_cell now.spaces cell.place cell.words here in
       record {
         limits = before.limits;
+        used = before.used;
         long = shape.long ∙ before.long;
         others = λ space young. get_or-set_other now.spaces cell.place.space space _ [] (λ same. young (same ∙ old.space)) ∙ before.others space young;
         held = λ p. (

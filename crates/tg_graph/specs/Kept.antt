@@ -49,6 +49,7 @@ pub record HasStayed (h after : SpaceList) (cells : List Rewritten) (p : Place) 
 -- these cells of Old were written, and no other was
 pub record AreWritten (old new : SpaceTable) (cells : List Rewritten) : Type 0 where
   pub limits : new.limits ≡ old.limits
+  pub used : new.used ≡ old.used
   pub long : length new.spaces ≡ length old.spaces
   pub others : (space : ℕ) → space ≢ 0 → space_of new.spaces space ≡ space_of old.spaces space
   pub held : (p : Place) → Holds new.spaces p ↔ Holds old.spaces p

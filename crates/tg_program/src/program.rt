@@ -7,6 +7,7 @@ use crate::boxes::serve_with_boxes;
 use crate::settings::Options;
 use crate::start::{StartFault, prepare};
 use crate::stop::Stop;
+use crate::streams::Ended;
 use crate::words::options;
 use clap::Error;
 use clap::error::ErrorKind;
@@ -75,5 +76,6 @@ fn serve_standard_streams(rt: &HostRuntime, options: &Options) -> Result<(), Sto
     requires { AreInRange options.now.settings }
 {
     let start = prepare(rt.alloc(), options).map_err(Stop::Start)?;
-    serve_with_boxes(rt.alloc(), rt.stdin(), rt.stdout(), start)
+    let Ended { outcome, .. } = serve_with_boxes(rt.alloc(), rt.stdin(), rt.stdout(), start)?;
+    outcome
 }

@@ -11,6 +11,7 @@ use Rattle.tg_payload.specs.Table.{entry}
 use Rattle.tg_graph.specs.declared.settle.Rewritten.{Rewritten}
 use Rattle.tg_graph.specs.Heap.{HeapState}
 use Rattle.tg_graph.specs.Kept.{AreWritten, Drops, moved_place}
+use Rattle.tg_graph.proofs.KeptBlocks.{nursery_written}
 use Rattle.tg_graph.proofs.KeptHeap.{IsLeft, remembered_cells, workers_of}
 use Rattle.tg_graph.proofs.KeptReached.{worker_objects}
 use Rattle.tg_graph.proofs.KeptSettled.{cells_there, items_mapped, nursery_left, payloads_there, words_in_range}
@@ -88,3 +89,10 @@ invariant_of-self-2 g c = ((left g c).well_formed, (left g c).indexed c.follow_r
 
 pub returns-clause-settled : goal.returns-clause-settled
 returns-clause-settled g c = (left g c).settled
+
+pub returns-clause-written : goal.returns-clause-written
+returns-clause-written g c =
+    let inside = c.self.inside in
+    let s : HeapState = record { table = inside.cells.spaces; payloads = inside.cells.payloads; workers = inside.workers.items; remembered = inside.cells.remembered.places } in
+    nursery_written s c.args.self.now c.args.forward.now.words c.args.adoption.aged c.args.adoption.old c.write_cells.new.spaces c.adopt.new.self c.in_ok-cells.cells.items c.self.view_is c.in-Ok.ensures.adopted c.in_ok-cells.ensures
+    (subst (λ (cells : List Rewritten). AreWritten c.adopt.new.self c.write_cells.new.spaces cells) c.deref-2.ensures.value c.write_cells.ensures.written)

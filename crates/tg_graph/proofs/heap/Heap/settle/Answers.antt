@@ -1,10 +1,11 @@
-use Rattle.std.proofs.Common.{◌≡◌, ◌∙◌, length, refl, subst, sym}
+use Rattle.std.proofs.Common.{◌≡◌, ◌∙◌, length, map, refl, subst, sym}
 use Rattle.tg_space.specs.Generations.{AreNeeded}
+use Rattle.tg_space.specs.SpaceTable.{with_adopted}
 use Rattle.tg_space.specs.declared.spaces.Kind.{Kind}
 use Rattle.tg_space.specs.declared.spaces.Kind.TheVariants.{Full, Nursery}
 use Rattle.tg_graph.specs.Standing.{KeepsReached}
 use Rattle.tg_graph.specs.Heap.{HeapState, content_of}
-use Rattle.tg_graph.specs.Kept.{IsSettled, VerticesOfOldStay}
+use Rattle.tg_graph.specs.Kept.{AreWritten, IsSettled, VerticesOfOldStay, rewritten_at}
 use Rattle.tg_graph.proofs.heap.Heap.settle.Goals.{in-Full, in-Nursery+in_ok-keep_old_and_copied-in-Nursery}
 use Rattle.tg_graph.proofs.heap.Heap.settle.Goals as goal
 
@@ -36,4 +37,13 @@ returns-clause-stay g c =
       | in-Full w ↦ λ nursery. let no : ◌≡◌ {A = Kind} Full Nursery = sym w.in-Full.is ∙ nursery in absurd cc
       | in-Nursery+in_ok-keep_old_and_copied-in-Nursery w ↦ λ nursery.
           subst (λ (heap : HeapState). VerticesOfOldStay old.table.spaces heap.table.spaces) (sym w.self-is) (w.in_ok-keep_old_and_copied-in-Nursery.ensures.settled.stay refl)
+    ]
+
+pub returns-clause-written : goal.returns-clause-written
+returns-clause-written g c =
+    let old : HeapState = c.args.self.now in
+    elim c.match-kind.branch [
+      | in-Full w ↦ λ nursery. let no : ◌≡◌ {A = Kind} Full Nursery = sym w.in-Full.is ∙ nursery in absurd cc
+      | in-Nursery+in_ok-keep_old_and_copied-in-Nursery w ↦ λ nursery.
+          subst (λ (heap : HeapState). AreWritten (with_adopted old.table Nursery c.args.adoption.aged c.args.adoption.old) heap.table (map (rewritten_at old.table.spaces c.args.forward.words) old.remembered)) (sym w.self-is) w.in_ok-keep_old_and_copied-in-Nursery.ensures.written
     ]
