@@ -1,0 +1,6 @@
+pub mod Lists
+pub mod Traces
+pub mod Joins
+pub mod Wins
+pub mod Room
+pub mod Finish

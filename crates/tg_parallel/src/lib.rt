@@ -5,4 +5,5 @@ pub use gate::{Gate, NoGate};
 pub use part::{Helped, Part, help};
 
 mod gate;
+pub mod laws;
 mod part;
