@@ -23,7 +23,7 @@ use Rattle.tg_space.proofs.Tracing.{closure_is_won}
 use Rattle.tg_race.specs.declared.record.Counts.{Counts}
 use Rattle.tg_race.specs.declared.record.Record.{Record}
 use Rattle.tg_race.specs.Board.{IsClosed}
-use Rattle.tg_race.specs.Race.{AreConsecutive, chunks_of, is_chunk, owns, past}
+use Rattle.tg_race.specs.Race.{AreConsecutive, chunks_of, is_chunk, owns}
 use Rattle.tg_race.specs.Weights.{weigh}
 use Rattle.tg_race.specs.Words.{AGED, OLD, IsPair, place_of, has_pair, same_pair, same_place}
 use Rattle.tg_race.proofs.Closed.{consecutive, one_cell}
@@ -38,7 +38,8 @@ use Rattle.tg_evac.proofs.Copying.{same_place as place_from}
 use Rattle.tg_evac.proofs.InOrder.{none_young_block}
 use Rattle.tg_evac.proofs.Reasons.{all_in_old, traced_cells}
 use Rattle.tg_parallel.specs.Merged.{AreInOrder, AreMerged}
-use Rattle.tg_parallel.specs.Parts.{AreCountsOf, AreEarned, AreImages, HasCopies, HasPlaces, IsPart, Numbered, cells_met, numbers_of, roots_in, roots_of_chunk, win_of, wins_of}
+use Rattle.tg_parallel.specs.Whole.{IsWholePart}
+use Rattle.tg_parallel.specs.Parts.{AreImages, HasCopies, HasPlaces, Numbered, cells_met, numbers_of, roots_in, roots_of_chunk, win_of, wins_of}
 use Rattle.tg_parallel.proofs.Joins.{owned_aged, owned_old}
 use Rattle.tg_parallel.proofs.Lists.{any_found, chunk_has, flat_found, flat_has, map_found, map_has, once_differ}
 use Rattle.tg_parallel.proofs.Room.{blocks_long, numbers_within}
@@ -183,8 +184,7 @@ module _ (k : Counts) (words : List ℕ) (done : Record) (closed : IsClosed k wo
 -- ---- the joined record
 
 module _ (kind : Kind) (t : SpaceTable) (roots : List Root) (k : Counts) (words : List ℕ) (done : Record) (aged old : Numbered)
-    (table : IsSpaceTable t) (limit : t.limits.space_blocks ≤ 2 ^ 20) (counts : AreCountsOf kind t.spaces roots k) (closed : IsClosed k words done)
-    (last : 0 < past k done) (earned : AreEarned kind t.spaces roots done) (part : IsPart kind t roots done aged old) where
+    (table : IsSpaceTable t) (limit : t.limits.space_blocks ≤ 2 ^ 20) (whole : IsWholePart kind t roots k words done aged old) where
   abbrev h : SpaceList
   h = t.spaces
 
@@ -197,11 +197,11 @@ module _ (kind : Kind) (t : SpaceTable) (roots : List Root) (k : Counts) (words 
   -- all roots were claimed
   covers : (r : Root) → Contains roots r → Contains (roots_in roots done.chunks) r
   covers r held =
-      let behind = past_found k done.chunks last in
-      let chunks = consecutive 0 closed.next_chunk (λ (v : Record). v.chunks) done closed.rule.chunks_once in
+      let behind = past_found k done.chunks whole.last in
+      let chunks = consecutive 0 whole.closed.next_chunk (λ (v : Record). v.chunks) done whole.closed.rule.chunks_once in
       let below = ((chunks.exactly behind.0).0 behind.1).1 in
       let inside = held.1 in
-      let many = counts.root_count in
+      let many = whole.counts.root_count in
       let beyond = behind.2 in
       let chunk : held.0 / 8 < 0 + length done.chunks = omega arith in
       flat_has (roots_of_chunk roots) done.chunks (held.0 / 8) r ((chunks.exactly (held.0 / 8)).1 (omega arith, chunk)) (chunk_has roots held.0 r held.1 held.2)
@@ -211,24 +211,24 @@ module _ (kind : Kind) (t : SpaceTable) (roots : List Root) (k : Counts) (words 
     (λ i d low.
         let c : ℕ = get_or (all_root_targets (from_space kind) h roots) i d in
         let found = flat_found (root_targets_of (from_space kind) h) roots c (Contains-get_or (all_root_targets (from_space kind) h roots) i d low) in
-        met_won k words done closed c (All-contains (Contains (cells_met done)) (all_root_targets (from_space kind) h (roots_in roots done.chunks)) c part.met.from_roots
+        met_won k words done whole.closed c (All-contains (Contains (cells_met done)) (all_root_targets (from_space kind) h (roots_in roots done.chunks)) c whole.part.met.from_roots
             (flat_has (root_targets_of (from_space kind) h) (roots_in roots done.chunks) found.0 c (covers found.0 found.1) found.2))),
     (λ i low.
         let c : ℕ = get_or (cells_won wins) i 0 in
         let win = map_found (λ (w : Win). w.cell) wins c (Contains-get_or (cells_won wins) i 0 low) in
         let pair = map_found win_of done.won win.0 win.1 in
         let is : pair.0.0 ≡ c = ap (λ (w : Win). w.cell) pair.2 ∙ win.2 in
-        let met = All-contains (λ (q : ℕ × Place). All (Contains (cells_met done)) (targets_of (from_space kind) h q.0)) done.won pair.0 part.met.from_cells pair.1 in
-        subst (λ (n : ℕ). All (Contains (cells_won wins)) (targets_of (from_space kind) h n)) is (All-weaker (Contains (cells_met done)) (Contains (cells_won wins)) (met_won k words done closed) (targets_of (from_space kind) h pair.0.0) met)),
+        let met = All-contains (λ (q : ℕ × Place). All (Contains (cells_met done)) (targets_of (from_space kind) h q.0)) done.won pair.0 whole.part.met.from_cells pair.1 in
+        subst (λ (n : ℕ). All (Contains (cells_won wins)) (targets_of (from_space kind) h n)) is (All-weaker (Contains (cells_met done)) (Contains (cells_won wins)) (met_won k words done whole.closed) (targets_of (from_space kind) h pair.0.0) met)),
   )
 
   traced : AreTraced kind h roots wins
-  traced = traced_all kind h roots done earned
+  traced = traced_all kind h roots done whole.earned
 
   -- ---- places
 
   own : (q : ℕ × Place) → Contains done.won q → owns done q.1 ≡ true
-  own q held = All-contains (λ (p : ℕ × Place). owns done p.1 ≡ true) done.won q part.owned held
+  own q held = All-contains (λ (p : ℕ × Place). owns done p.1 ≡ true) done.won q whole.part.owned held
 
   in_aged_numbers : (q : ℕ × Place) → Contains done.won q → q.1.space ≡ 1 → Contains done.aged_blocks q.1.block
   in_aged_numbers q held s = number_found q.1.block done.aged_blocks (owned_aged done q.1 (own q held) s)
@@ -242,34 +242,37 @@ module _ (kind : Kind) (t : SpaceTable) (roots : List Root) (k : Counts) (words 
       (cases_eq p.space 0)) (cases_eq p.space 1)
 
   kept_old : AreConsecutive kept done.old_blocks
-  kept_old = subst (λ (n : ℕ). AreConsecutive n done.old_blocks) counts.kept (numbers_old k words done closed)
+  kept_old = subst (λ (n : ℕ). AreConsecutive n done.old_blocks) whole.counts.kept (numbers_old k words done whole.closed)
 
   places : All (HasNewPlace kept) wins
   places = All-map (HasNewPlace kept) win_of done.won (λ i d low.
       let q : ℕ × Place = get_or done.won i d in
       let held : Contains done.won q = Contains-get_or done.won i d low in
-      let back = place_back q.1 (won_inside k words done closed q held) in
+      let back = place_back q.1 (won_inside k words done whole.closed q held) in
       record {
-        place = subst (λ (p : Place). IsPlace p) (sym back) (won_inside k words done closed q held);
+        place = subst (λ (p : Place). IsPlace p) (sym back) (won_inside k words done whole.closed q held);
         link = ap link_to (sym back);
         two = subst (λ (p : Place). p.space < 2) (sym back) (two q.1 (own q held));
         behind = subst (λ (p : Place). p.space ≡ 0 → kept ≤ p.block) (sym back) (λ z. ((kept_old.exactly q.1.block).0 (in_old_numbers q held z)).0);
       })
 
+  pub long : length words ≡ length (cells_of h)
+  long = whole.closed.rule.size ∙ whole.counts.cells
+
   are_wins : AreWins kind h roots words wins
   are_wins = record {
-    whole = closed.rule.size ∙ counts.cells;
-    words = are_words k words done closed;
+    whole = long;
+    words = are_words k words done whole.closed;
     traced = traced;
     reached = closure_is_won (all_root_targets (from_space kind) h roots) (targets_of (from_space kind) h) (cells_won wins) (traced_cells kind h roots wins traced) complete;
     places = places;
-    apart = apart k words done closed;
+    apart = apart k words done whole.closed;
   }
 
   -- ---- copies
 
   images : AreImages kind h done aged old (new_place words)
-  images = part.images (once_differ done.aged_blocks (numbers_aged k words done closed).differ) (once_differ done.old_blocks (numbers_old k words done closed).differ) (new_place words) (has_places k words done closed)
+  images = whole.part.images (once_differ done.aged_blocks (numbers_aged k words done whole.closed).differ) (once_differ done.old_blocks (numbers_old k words done whole.closed).differ) (new_place words) (has_places k words done whole.closed)
 
   kept_few : kept ≤ 2 ^ 20
   kept_few = by_kind kind
@@ -279,27 +282,27 @@ module _ (kind : Kind) (t : SpaceTable) (roots : List Root) (k : Counts) (words 
       by_kind Nursery = (All-get_or IsSpace h 0 [] (let some = table.enough in omega arith) table.blocks).0
 
   pub numbered_aged : AreConsecutive 0 (numbers_of aged)
-  numbered_aged = subst (λ (l : List ℕ). AreConsecutive 0 l) (sym part.aged_numbers) (numbers_aged k words done closed)
+  numbered_aged = subst (λ (l : List ℕ). AreConsecutive 0 l) (sym whole.part.aged_numbers) (numbers_aged k words done whole.closed)
 
   pub numbered_old : AreConsecutive kept (numbers_of old)
-  numbered_old = subst (λ (l : List ℕ). AreConsecutive kept l) (sym part.old_numbers) kept_old
+  numbered_old = subst (λ (l : List ℕ). AreConsecutive kept l) (sym whole.part.old_numbers) kept_old
 
   pub aged_few : length aged ≤ 2 ^ 20
-  aged_few = let low = numbers_within 0 done.aged_blocks (numbers_aged k words done closed) t.limits.space_blocks part.aged_few in omega (arith, blocks_long aged done.aged_blocks part.aged_numbers)
+  aged_few = let low = numbers_within 0 done.aged_blocks (numbers_aged k words done whole.closed) t.limits.space_blocks whole.part.aged_few in omega (arith, blocks_long aged done.aged_blocks whole.part.aged_numbers)
 
   pub old_few : length old ≤ 2 ^ 20
-  old_few = let low = numbers_within kept done.old_blocks kept_old t.limits.space_blocks part.old_few in omega (arith, blocks_long old done.old_blocks part.old_numbers)
+  old_few = let low = numbers_within kept done.old_blocks kept_old t.limits.space_blocks whole.part.old_few in omega (arith, blocks_long old done.old_blocks whole.part.old_numbers)
 
   module _ (aged_blocks old_blocks : BlockList) (merged : AreMerged kind kept aged old aged_blocks old_blocks) where
     pub few : kept + length old_blocks ≤ 2 ^ 20
     few =
-        let low = numbers_within kept done.old_blocks kept_old t.limits.space_blocks part.old_few in
+        let low = numbers_within kept done.old_blocks kept_old t.limits.space_blocks whole.part.old_few in
         let at = kept_few in
-        omega (arith, merged.in_old.as_many, blocks_long old done.old_blocks part.old_numbers)
+        omega (arith, merged.in_old.as_many, blocks_long old done.old_blocks whole.part.old_numbers)
 
     old_copies : HoldCopies 0 kept (copy_of kind h words) wins old_blocks
     old_copies = hold_copies 0 kept (copy_of kind h words) done.won old numbered_old old_blocks merged.in_old images.in_old
-        (λ q held s. subst (λ (l : List ℕ). Contains l q.1.block) (sym part.old_numbers) (in_old_numbers q held s)) (won_inside k words done closed)
+        (λ q held s. subst (λ (l : List ℕ). Contains l q.1.block) (sym whole.part.old_numbers) (in_old_numbers q held s)) (won_inside k words done whole.closed)
 
     aged_copies : HoldCopies 1 0 (copy_of kind h words) wins aged_blocks
     aged_copies = by_kind kind refl
@@ -313,21 +316,21 @@ module _ (kind : Kind) (t : SpaceTable) (roots : List Root) (k : Counts) (words 
               rest = λ p place _. absurd (let low = place.block in let long = ap (λ (bs : BlockList). length bs) none in omega arith);
             }
         by_kind Nursery is = hold_copies 1 0 (copy_of kind h words) done.won aged numbered_aged aged_blocks (merged.in_aged is) images.in_aged
-            (λ q held s. subst (λ (l : List ℕ). Contains l q.1.block) (sym part.aged_numbers) (in_aged_numbers q held s)) (won_inside k words done closed)
+            (λ q held s. subst (λ (l : List ℕ). Contains l q.1.block) (sym whole.part.aged_numbers) (in_aged_numbers q held s)) (won_inside k words done whole.closed)
 
     -- in a full collection no copy in Old names a young cell
     pub none_young : kind ≡ Full → (p : Place) → IsPlaceIn 0 kept old_blocks p → NamesYoung (new_cell kept old_blocks p) → ⊥
     none_young full = by_kind kind full old_copies traced
       where
         by_kind : (kd : Kind) → kd ≡ Full → HoldCopies 0 (kept_blocks kd h) (copy_of kd h words) wins old_blocks → AreTraced kd h roots wins → (p : Place) → IsPlaceIn 0 (kept_blocks kd h) old_blocks p → NamesYoung (new_cell (kept_blocks kd h) old_blocks p) → ⊥
-        by_kind Full is hold traced = none_young_block h words (have_places k words done closed) (words_old traced) wins old_blocks (table_list t table) (closed.rule.size ∙ counts.cells) (are_words k words done closed).stand hold
+        by_kind Full is hold traced = none_young_block h words (have_places k words done whole.closed) (words_old traced) wins old_blocks (table_list t table) long (are_words k words done whole.closed).stand hold
           where
             words_old : AreTraced Full h roots wins → AreOld words
             words_old traced = All-from_get_or (λ (word : ℕ). (place_in word).space ≡ 0) words 0 (λ n low. ⊎_elim
                 (λ (zero : get_or words n 0 ≡ 0). ap (λ (w : ℕ). (place_in w).space) zero)
                 (λ (some : get_or words n 0 ≢ 0).
-                let mine = owner k words done closed n some in
-                let word : get_or words n 0 ≡ link_to mine.0.1 = ap (λ (m : ℕ). get_or words m 0) (sym mine.2) ∙ won_word k words done closed mine.0 mine.1 in
+                let mine = owner k words done whole.closed n some in
+                let word : get_or words n 0 ≡ link_to mine.0.1 = ap (λ (m : ℕ). get_or words m 0) (sym mine.2) ∙ won_word k words done whole.closed mine.0 mine.1 in
                 ap (λ (w : ℕ). (place_in w).space) word ∙ all_in_old h roots wins traced (win_of mine.0) (map_has win_of done.won mine.0 mine.1))
                 (cases_eq (get_or words n 0) 0))
         by_kind Nursery is hold traced = absurd cc

@@ -4,3 +4,4 @@ pub mod Joins
 pub mod Wins
 pub mod Room
 pub mod Finish
+pub mod Merging

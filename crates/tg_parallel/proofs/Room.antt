@@ -30,7 +30,8 @@ use Rattle.tg_evac.proofs.Counting.{won_few}
 use Rattle.tg_evac.proofs.Reasons.{all_used}
 use Rattle.tg_evac.proofs.Sound.{have_pointers}
 use Rattle.tg_parallel.specs.Merged.{AreMerged}
-use Rattle.tg_parallel.specs.Parts.{AreCountsOf, AreEarned, IsPart, IsPastLimit, Numbered, numbers_of, wins_of}
+use Rattle.tg_parallel.specs.Whole.{IsWholePart}
+use Rattle.tg_parallel.specs.Parts.{AreCountsOf, AreEarned, IsPastLimit, Numbered, numbers_of, wins_of}
 use Rattle.tg_parallel.proofs.Lists.{any_has}
 use Rattle.tg_parallel.proofs.Wins.{cells_distinct, cells_long, traced_all}
 
@@ -91,29 +92,28 @@ count_words s i (w ∷ ws) = by_test (w == 0) refl (count_words s (suc i) ws)
         omega (arith, cons, one, here, ih)
 
 module _ (kind : Kind) (t : SpaceTable) (roots : List Root) (k : Counts) (words : List ℕ) (done : Record) (aged old : Numbered)
-    (counts : AreCountsOf kind t.spaces roots k) (closed : IsClosed k words done) (part : IsPart kind t roots done aged old)
-    (aged_blocks old_blocks : BlockList) (merged : AreMerged kind (kept_blocks kind t.spaces) aged old aged_blocks old_blocks) where
+    (whole : IsWholePart kind t roots k words done aged old) (aged_blocks old_blocks : BlockList) (merged : AreMerged kind (kept_blocks kind t.spaces) aged old aged_blocks old_blocks) where
   copies_are : (s : ℕ) → in_space s done.won ≡ copies_in words s
-  copies_are s = let all = closed.rule.wins_once.won (λ q. if q.1.space == s then 1 else 0) in omega (arith, count_words s 0 words)
+  copies_are s = let all = whole.closed.rule.wins_once.won (λ q. if q.1.space == s then 1 else 0) in omega (arith, count_words s 0 words)
 
   aged_at_most : length aged_blocks ≤ length done.aged_blocks
   aged_at_most = by_kind kind refl
     where
       by_kind : (kd : Kind) → kind ≡ kd → length aged_blocks ≤ length done.aged_blocks
       by_kind Full is = let none = ap (λ (bs : BlockList). length bs) (merged.none_aged is) in omega arith
-      by_kind Nursery is = let all = (merged.in_aged is).as_many in omega (arith, blocks_long aged done.aged_blocks part.aged_numbers)
+      by_kind Nursery is = let all = (merged.in_aged is).as_many in omega (arith, blocks_long aged done.aged_blocks whole.part.aged_numbers)
 
   old_is : length old_blocks ≡ length done.old_blocks
-  old_is = merged.in_old.as_many ∙ blocks_long old done.old_blocks part.old_numbers
+  old_is = merged.in_old.as_many ∙ blocks_long old done.old_blocks whole.part.old_numbers
 
   pub few_blocks : AreFewBlocks t.limits.space_blocks (kept_blocks kind t.spaces) k.helpers words aged_blocks old_blocks
   few_blocks =
-      let kept = counts.kept in
-      let aged_low = numbers_within 0 done.aged_blocks (consecutive 0 closed.next_aged (λ v. v.aged_blocks) done closed.rule.blocks_once.0) t.limits.space_blocks part.aged_few in
-      let old_low = numbers_within k.kept done.old_blocks (consecutive k.kept closed.next_old (λ v. v.old_blocks) done closed.rule.blocks_once.1) t.limits.space_blocks part.old_few in
+      let kept = whole.counts.kept in
+      let aged_low = numbers_within 0 done.aged_blocks (consecutive 0 whole.closed.next_aged (λ v. v.aged_blocks) done whole.closed.rule.blocks_once.0) t.limits.space_blocks whole.part.aged_few in
+      let old_low = numbers_within k.kept done.old_blocks (consecutive k.kept whole.closed.next_old (λ v. v.old_blocks) done whole.closed.rule.blocks_once.1) t.limits.space_blocks whole.part.old_few in
       record {
         aged_within = omega (arith, aged_at_most);
         old_within = omega (arith, old_is);
-        aged_needed = omega (arith, aged_at_most, closed_aged_filled k words done closed, copies_are 1);
-        old_needed = omega (arith, old_is, closed_old_filled k words done closed, copies_are 0);
+        aged_needed = omega (arith, aged_at_most, closed_aged_filled k words done whole.closed, copies_are 1);
+        old_needed = omega (arith, old_is, closed_old_filled k words done whole.closed, copies_are 0);
       }

@@ -13,10 +13,11 @@ ghost use Rattle.tg_space.specs.declared.spaces.Root.TheVariants.{Remembered};
 ghost use Rattle.tg_race.specs.declared.record.Counts.{Counts};
 ghost use Rattle.tg_race.specs.declared.record.Record.{Record};
 ghost use Rattle.tg_race.specs.Board.{IsClosed};
-ghost use Rattle.tg_race.specs.Race.{both, past};
+ghost use Rattle.tg_race.specs.Race.{both};
 ghost use Rattle.tg_evac.specs.Copies.{IsPlaceIn, moved_cell, new_cell};
 ghost use Rattle.tg_parallel.specs.Merged.{AreMerged};
 ghost use Rattle.tg_parallel.specs.Parts.{AreCountsOf, AreEarned, IsPart, IsPastLimit, Numbered};
+ghost use Rattle.tg_parallel.specs.Whole.{IsWholePart};
 
 /// Where two records become one, its wins are earned, and what both hand over is what it asks for.
 pub fn parts_become_one()
@@ -32,11 +33,11 @@ pub fn a_block_past_the_limit_tells_of_want_of_room()
 /// Where one record stands for all helpers, the blocks that they have handed over are within the limit, and as many as the
 /// copies need, but for one a helper.
 pub fn helpers_blocks_are_few()
-    ensures { (kind : Kind) (t : SpaceTable) (roots : List Root) (k : Counts) (words : List ℕ) (done : Record) (aged old : Numbered) → AreCountsOf kind t.spaces roots k → IsClosed k words done → IsPart kind t roots done aged old → (aged_blocks old_blocks : BlockList) → AreMerged kind (kept_blocks kind t.spaces) aged old aged_blocks old_blocks → AreFewBlocks t.limits.space_blocks (kept_blocks kind t.spaces) k.helpers words aged_blocks old_blocks }
+    ensures { (kind : Kind) (t : SpaceTable) (roots : List Root) (k : Counts) (words : List ℕ) (done : Record) (aged old : Numbered) → IsWholePart kind t roots k words done aged old → (aged_blocks old_blocks : BlockList) → AreMerged kind (kept_blocks kind t.spaces) aged old aged_blocks old_blocks → AreFewBlocks t.limits.space_blocks (kept_blocks kind t.spaces) k.helpers words aged_blocks old_blocks }
 {}
 
 /// Where one record stands for all helpers and has claimed past the last chunk, what they have handed over is a collection,
 /// with the words of the closed table. The notes are those of the remembered roots, and of the new blocks of Old.
 pub fn what_helpers_made_is_a_collection()
-    ensures { (kind : Kind) (t : SpaceTable) (roots : List Root) (k : Counts) (words : List ℕ) (done : Record) (aged old : Numbered) → IsSpaceTable t → t.limits.space_blocks ≤ 2 ^ 20 → AreCountsOf kind t.spaces roots k → IsClosed k words done → 0 < past k done → AreEarned kind t.spaces roots done → IsPart kind t roots done aged old → (aged_blocks old_blocks : BlockList) → AreMerged kind (kept_blocks kind t.spaces) aged old aged_blocks old_blocks → (notes : List Place) → ((p : Place) → Contains notes p ↔ ((Contains roots (Remembered p) × NamesYoung (moved_cell kind t.spaces words p)) ⊎ (IsPlaceIn 0 (kept_blocks kind t.spaces) old_blocks p × NamesYoung (new_cell (kept_blocks kind t.spaces) old_blocks p)))) → IsCollection kind t.spaces roots words aged_blocks old_blocks notes }
+    ensures { (kind : Kind) (t : SpaceTable) (roots : List Root) (k : Counts) (words : List ℕ) (done : Record) (aged old : Numbered) → IsSpaceTable t → t.limits.space_blocks ≤ 2 ^ 20 → IsWholePart kind t roots k words done aged old → (aged_blocks old_blocks : BlockList) → AreMerged kind (kept_blocks kind t.spaces) aged old aged_blocks old_blocks → (notes : List Place) → ((p : Place) → Contains notes p ↔ ((Contains roots (Remembered p) × NamesYoung (moved_cell kind t.spaces words p)) ⊎ (IsPlaceIn 0 (kept_blocks kind t.spaces) old_blocks p × NamesYoung (new_cell (kept_blocks kind t.spaces) old_blocks p)))) → IsCollection kind t.spaces roots words aged_blocks old_blocks notes }
 {}
