@@ -1,5 +1,5 @@
 -- What one record that stands for all has won is a collection, where it is complete and its table was closed.
-use Rattle.std.proofs.Common.{◌≡◌, ◌≢◌, ◌↔◌, ℕ, ◌+◌, ◌-◌, ◌*◌, ◌/◌, ◌^◌, ◌<◌, ◌≤◌, ◌==◌, ◌&&◌, ◌⊎◌, if◌then◌else◌, nat_lt, List, [], ◌∷◌, Bool, true, false, IsTrue, length, get_or, map, refl, sym, ap, subst, ◌∙◌, eqb-true, lit<, inl, inr, ⊎_elim, arith}
+use Rattle.std.proofs.Common.{◌≡◌, ◌≢◌, ◌↔◌, ℕ, ◌+◌, ◌-◌, ◌/◌, ◌^◌, ◌<◌, ◌≤◌, ◌==◌, ◌⊎◌, if◌then◌else◌, nat_lt, List, [], ◌∷◌, Bool, true, false, IsTrue, length, get_or, map, refl, sym, ap, subst, ◌∙◌, eqb-true, lit<, ⊎_elim, arith}
 use Rattle.std.specs.List.{All, Contains}
 use Rattle.std.proofs.lemmas.Bool.{cases_lt, cases_eq, and_parts}
 use Rattle.std.proofs.lemmas.Bool.Decides.{nat_tests}
@@ -27,13 +27,13 @@ use Rattle.tg_race.specs.Race.{AreConsecutive, chunks_of, is_chunk, owns}
 use Rattle.tg_race.specs.Weights.{weigh}
 use Rattle.tg_race.specs.Words.{AGED, OLD, IsPair, place_of, has_pair, same_pair, same_place}
 use Rattle.tg_race.proofs.Closed.{consecutive, one_cell}
-use Rattle.tg_race.proofs.Drawn.{drawn_under, number_found}
+use Rattle.tg_race.proofs.Drawn.{number_found}
 use Rattle.tg_race.proofs.PlaceWords.{word_of-some}
 use Rattle.tg_race.proofs.Standing.{closed_pairs}
 use Rattle.tg_evac.specs.declared.win.Win.{Win}
 use Rattle.tg_evac.specs.Claims.{AreTraced, AreWordsOf, StandsIn, cells_won}
 use Rattle.tg_evac.specs.Copies.{AreOld, HasCopy, HasNewPlace, HavePlaces, HoldCopies, IsPlaceIn, copy_of, moved_cell, new_cell}
-use Rattle.tg_evac.proofs.Collecting.{AreCopies, AreWins, is_collection}
+use Rattle.tg_evac.proofs.Collecting.{AreWins, is_collection}
 use Rattle.tg_evac.proofs.Copying.{same_place as place_from}
 use Rattle.tg_evac.proofs.InOrder.{none_young_block}
 use Rattle.tg_evac.proofs.Reasons.{all_in_old, traced_cells}
@@ -43,7 +43,7 @@ use Rattle.tg_parallel.specs.Parts.{AreImages, HasCopies, HasPlaces, Numbered, c
 use Rattle.tg_parallel.proofs.Joins.{owned_aged, owned_old}
 use Rattle.tg_parallel.proofs.Lists.{any_found, chunk_has, flat_found, flat_has, map_found, map_has, once_differ}
 use Rattle.tg_parallel.proofs.Room.{blocks_long, numbers_within}
-use Rattle.tg_parallel.proofs.Wins.{link_is, narrow, place_back, traced_all, won_has, won_inside, won_word}
+use Rattle.tg_parallel.proofs.Wins.{link_is, place_back, traced_all, won_has, won_inside, won_word}
 
 -- a chunk past the last, where one was claimed
 past_found : (k : Counts) (xs : List ℕ) → 0 < weigh (λ c. if is_chunk k c then 0 else 1) xs → (c : ℕ) × Contains xs c × (chunks_of k ≤ c)
@@ -212,7 +212,7 @@ module _ (kind : Kind) (t : SpaceTable) (roots : List Root) (k : Counts) (words 
         let c : ℕ = get_or (all_root_targets (from_space kind) h roots) i d in
         let found = flat_found (root_targets_of (from_space kind) h) roots c (Contains-get_or (all_root_targets (from_space kind) h roots) i d low) in
         met_won k words done whole.closed c (All-contains (Contains (cells_met done)) (all_root_targets (from_space kind) h (roots_in roots done.chunks)) c whole.part.met.from_roots
-            (flat_has (root_targets_of (from_space kind) h) (roots_in roots done.chunks) found.0 c (covers found.0 found.1) found.2))),
+        (flat_has (root_targets_of (from_space kind) h) (roots_in roots done.chunks) found.0 c (covers found.0 found.1) found.2))),
     (λ i low.
         let c : ℕ = get_or (cells_won wins) i 0 in
         let win = map_found (λ (w : Win). w.cell) wins c (Contains-get_or (cells_won wins) i 0 low) in

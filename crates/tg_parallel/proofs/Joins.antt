@@ -1,12 +1,11 @@
 -- What two helpers hand over is what their joined record asks for.
-use Rattle.std.proofs.Common.{◌≡◌, ◌≢◌, ◌↔◌, ℕ, ◌+◌, ◌<◌, ◌≤◌, ◌==◌, ◌⊎◌, ◌++◌, if◌then◌else◌, List, [], Bool, true, false, length, map, refl, sym, ap, subst, ◌∙◌, eq-eqb, inl, inr, ⊎_elim, arith}
+use Rattle.std.proofs.Common.{◌≡◌, ◌≢◌, ℕ, ◌<◌, ◌==◌, ◌++◌, if◌then◌else◌, List, Bool, true, false, map, refl, sym, ap, subst, ◌∙◌, eq-eqb, ⊎_elim, arith}
 use Rattle.std.specs.List.{All, Contains}
-use Rattle.std.proofs.lemmas.Bool.{cond-true, cond-false}
+use Rattle.std.proofs.lemmas.Bool.{cond-true}
 use Rattle.std.proofs.lemmas.Grind.{flat_map-append}
 use Rattle.std.proofs.lemmas.List.{map-append}
 use Rattle.std.proofs.lemmas.List.Elements.{All-append, All-weaker, All-contains, All-contains_itself, Contains-append_left, Contains-append_right, Contains-append_cases}
 use Rattle.tg_word.specs.declared.Place.{Place}
-use Rattle.tg_block.specs.Cells.{cell_of, free_cell}
 use Rattle.tg_space.specs.SpaceList.{SpaceList}
 use Rattle.tg_space.specs.SpaceTable.{SpaceTable}
 use Rattle.tg_space.specs.Targets.{from_space, targets_of, root_targets_of, all_root_targets}
@@ -19,7 +18,7 @@ use Rattle.tg_race.specs.Race.{both, owns}
 use Rattle.tg_race.proofs.Sums.{weigh-append}
 use Rattle.tg_race.proofs.Parts.{claims_of, owns_claims, claims_owns}
 use Rattle.tg_evac.specs.Claimers.{image_at}
-use Rattle.tg_parallel.specs.Parts.{AreImages, AreOnce, HasCopies, HasMetAll, HasPlaceOf, HasPlaces, IsPart, Numbered, cells_met, numbers_of, roots_in, roots_of_chunk}
+use Rattle.tg_parallel.specs.Parts.{AreOnce, HasCopies, HasMetAll, HasPlaceOf, HasPlaces, IsPart, Numbered, cells_met, numbers_of, roots_in, roots_of_chunk}
 use Rattle.tg_parallel.proofs.Lists.{all_left, all_right, has_weighs, map_has, once_apart, once_left, once_right}
 
 abbrev cell_of_pair : ℕ × Place → ℕ

@@ -1,5 +1,5 @@
 -- Facts on lists: what one has, and numbers that stand once.
-use Rattle.std.proofs.Common.{◌≡◌, ◌≢◌, ℕ, zero, suc, ◌+◌, ◌-◌, ◌*◌, ◌/◌, ◌<◌, ◌≤◌, ◌==◌, ◌||◌, ◌⊎◌, ◌++◌, if◌then◌else◌, List, [], ◌∷◌, Bool, true, false, length, get_or, take, drop, map, refl, sym, ap, subst, ◌∙◌, eqb, eqb-true, eq-eqb, inl, inr, ⊎_elim, arith}
+use Rattle.std.proofs.Common.{◌≡◌, ◌≢◌, ℕ, zero, suc, ◌+◌, ◌-◌, ◌*◌, ◌/◌, ◌<◌, ◌≤◌, ◌==◌, ◌||◌, ◌++◌, if◌then◌else◌, List, [], ◌∷◌, Bool, true, false, length, get_or, take, drop, map, refl, sym, ap, subst, ◌∙◌, eqb, eqb-true, eq-eqb, ⊎_elim, arith}
 use Rattle.std.specs.List.{All, AllPairs, Contains, list_any, flat_map}
 use Rattle.std.proofs.lemmas.Bool.{cond-true, false≢true, cases_lt}
 use Rattle.std.proofs.lemmas.Bool.Decides.{Decides-eqb, nat_tests}
@@ -135,11 +135,11 @@ once_index xs once i j hi hj e = ⊎_elim
 
     clash : (a b : ℕ) → a < b → b < length xs → get_or xs a 0 ≡ get_or xs b 0 → ⊥
     clash a b lt low same = absurd (
-      let most = once (get_or xs b 0) in
-      let two = weigh_two (one_at (get_or xs b 0)) xs a b 0 lt low in
-      let l = one (get_or xs a 0) (get_or xs b 0) same in
-      let r = one (get_or xs b 0) (get_or xs b 0) refl in
-      omega arith)
+        let most = once (get_or xs b 0) in
+        let two = weigh_two (one_at (get_or xs b 0)) xs a b 0 lt low in
+        let l = one (get_or xs a 0) (get_or xs b 0) same in
+        let r = one (get_or xs b 0) (get_or xs b 0) refl in
+        omega arith)
 
 -- numbers that differ stand once
 pub once_differ : (xs : List ℕ) → AllPairs (λ m n. m ≢ n) xs → AreOnce xs
@@ -159,9 +159,9 @@ pub few_long : (xs : List ℕ) (n : ℕ) → AreOnce xs → All (λ b. b < n) xs
 few_long xs n once all = length-le_from_distinct_below xs n
     (IsDistinct-from_apart eqb xs (λ i j d low high.
     let ne : get_or xs i d ≢ get_or xs j d = λ e. (
-      let same : get_or xs i 0 ≡ get_or xs j 0 = get_or_default xs i 0 d (omega arith) ∙ e ∙ get_or_default xs j d 0 high in
-      let at = once_index xs once i j (omega arith) high same in
-      omega arith) in
+    let same : get_or xs i 0 ≡ get_or xs j 0 = get_or_default xs i 0 d (omega arith) ∙ e ∙ get_or_default xs j d 0 high in
+    let at = once_index xs once i j (omega arith) high same in
+    omega arith) in
     grind (arith, nat_tests)))
     (λ q any.
     let held : Contains xs q = Contains-from_any {eq = eqb} (λ x y t. (Decides-eqb x y).0 t) q xs any in

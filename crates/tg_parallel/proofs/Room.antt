@@ -1,12 +1,11 @@
 -- How many blocks a closed table has given away: they are within the limit, and nearly as few as the copies need; and a block
 -- past the limit tells of many cells in use.
-use Rattle.std.proofs.Common.{◌≡◌, ◌≢◌, ℕ, suc, ◌+◌, ◌-◌, ◌*◌, ◌^◌, ◌/◌, ◌<◌, ◌≤◌, ◌==◌, List, [], ◌∷◌, Bool, true, false, cond, if◌then◌else◌, length, refl, sym, ap, ◌∙◌, eq-eqb, ⊎_elim, arith}
-use Rattle.std.specs.List.{All, Contains, count_by}
+use Rattle.std.proofs.Common.{◌≡◌, ◌≢◌, ℕ, suc, ◌+◌, ◌-◌, ◌<◌, ◌≤◌, ◌==◌, List, [], ◌∷◌, Bool, true, false, cond, if◌then◌else◌, length, refl, sym, ap, ◌∙◌, eq-eqb, ⊎_elim, arith}
+use Rattle.std.specs.List.{All, Contains}
 use Rattle.std.proofs.lemmas.Bool.{cases_eq}
 use Rattle.std.proofs.lemmas.List.{length-map}
 use Rattle.std.proofs.lemmas.List.Elements.{All-contains}
 use Rattle.std.proofs.lemmas.List.Sums.{sum_by-cons}
-use Rattle.tg_word.specs.declared.Place.{Place}
 use Rattle.tg_word.specs.Word.{place_in}
 use Rattle.tg_space.specs.Collection.{AreFewBlocks, MayLackRoom, copies_in, is_copy_in, used_cells}
 use Rattle.tg_space.specs.Soundness.{AreSound}
@@ -20,7 +19,6 @@ use Rattle.tg_race.specs.declared.record.Counts.{Counts}
 use Rattle.tg_race.specs.declared.record.Record.{Record}
 use Rattle.tg_race.specs.Board.{IsClosed}
 use Rattle.tg_race.specs.Race.{AreConsecutive}
-use Rattle.tg_race.specs.Weights.{weigh}
 use Rattle.tg_race.specs.Words.{place_of, weigh_words}
 use Rattle.tg_race.proofs.Closed.{consecutive}
 use Rattle.tg_race.proofs.Standing.{closed_aged_few, closed_aged_filled, closed_old_few, closed_old_filled}

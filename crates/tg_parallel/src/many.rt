@@ -81,7 +81,9 @@ pub fn collect_many<R: Threads + Wait + Sync, G: Gate>(
     let cells = spaces.cells();
     let plan = Plan::of(kind, spaces);
     let (table, helper) = RaceTable::open(alloc, cells, roots.len() as u64, plan.kept, helpers)?;
-    let helped = work_all(rt, alloc, &table, helper, helpers, spaces, roots, kind, gate)?;
+    let helped = work_all(
+        rt, alloc, &table, helper, helpers, spaces, roots, kind, gate,
+    )?;
     Ok(finish(alloc, table, spaces, roots, plan, helped)?)
 }
 
@@ -123,7 +125,9 @@ fn work_all<R: Threads + Wait + Sync, G: Gate>(
     ensures alone { helpers ≡ 1 → IfErr result (λ fault. fault ≢ HelpersFault.NoThread) }
 {
     let others = split_all(alloc, table, &mut helper, helpers)?;
-    let (mine, theirs) = work_in_scope(rt, alloc, table, helper, others, spaces, roots, kind, gate)?;
+    let (mine, theirs) = work_in_scope(
+        rt, alloc, table, helper, others, spaces, roots, kind, gate,
+    )?;
     Ok(all_joined(table, mine, theirs))
 }
 

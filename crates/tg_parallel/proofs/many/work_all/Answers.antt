@@ -1,4 +1,4 @@
-use Rattle.std.proofs.Common.{◌≡◌, ℕ, ◌+◌, ◌≤◌, length, subst, arith}
+use Rattle.std.proofs.Common.{◌≡◌, ℕ, ◌+◌, length, subst, arith}
 use Rattle.tg_parallel.specs.Helping.{IsHelped}
 use Rattle.tg_parallel.proofs.many.work_all.Goals as goal
 
