@@ -1,5 +1,5 @@
 -- Won pairs and the words: each won pair stands in the table, and each place in the table was won.
-use Rattle.std.proofs.Common.{◌≡◌, ◌≢◌, ◌↔◌, ℕ, zero, suc, ◌+◌, ◌*◌, ◌<◌, ◌≤◌, ◌==◌, ◌&&◌, ◌||◌, List, [], ◌∷◌, length, get_or, slice_index, Bool, true, false, if◌then◌else◌, IsTrue, eqb, eqb-true, eq-eqb, ne_eqb, sym, refl, ap, ◌∙◌, ⊎_elim, arith}
+use Rattle.std.proofs.Common.{◌≡◌, ◌≢◌, ◌↔◌, ℕ, zero, suc, ◌+◌, ◌*◌, ◌<◌, ◌≤◌, ◌==◌, ◌&&◌, ◌||◌, List, [], ◌∷◌, length, get_or, slice_index, Bool, true, false, if◌then◌else◌, IsTrue, eqb, eqb-true, eq-eqb, ne_eqb, sym, refl, ap, subst, ◌∙◌, ⊎_elim, arith}
 use Rattle.std.proofs.lemmas.Bool.{cond-true, cond-false, and_parts, eqb-false, cases_lt, false≢true}
 use Rattle.std.specs.List.{All, list_any}
 use Rattle.std.proofs.lemmas.List.Elements.{All-head, All-tail}
@@ -7,16 +7,16 @@ use Rattle.tg_word.specs.declared.Place.{Place}
 use Rattle.tg_word.specs.Word.{IsPlace}
 use Rattle.tg_race.specs.declared.record.Counts.{Counts}
 use Rattle.tg_race.specs.declared.record.Record.{Record}
-use Rattle.tg_race.specs.Weights.{weigh, one_at}
-use Rattle.tg_race.specs.Words.{word_of, place_of, same_place, same_pair, has_pair, weigh_words, IsPair}
-use Rattle.tg_race.specs.Race.{Race, Rule, EachRecord, has}
+use Rattle.tg_race.specs.Weights.{weigh, weigh_below, one_at}
+use Rattle.tg_race.specs.Words.{word_of, place_of, same_place, same_pair, has_pair, weigh_words, IsPair, AGED, OLD}
+use Rattle.tg_race.specs.Race.{Race, Rule, EachRecord, has, with_room}
 use Rattle.tg_race.specs.Board.{IsClosed}
 use Rattle.tg_race.specs.Course.{has_met}
 use mathlib.Core.Option.{some}
 use lib.ListN.{get_elem?}
 use Rattle.tg_race.proofs.PlaceWords.{place_of-word_of, word_of-some}
-use Rattle.tg_race.proofs.Sums.{weigh_one_le, any_weighs, weighs_any}
-use Rattle.tg_race.proofs.Steps.{same_place_is, aged_few, old_few}
+use Rattle.tg_race.proofs.Sums.{weigh_one_le, weigh_ones, one_below, any_weighs, weighs_any}
+use Rattle.tg_race.proofs.Steps.{same_place_is, aged_few, blocks_filled, in_space, old_few}
 use Rattle.tg_race.proofs.Drawn.{drawn_above}
 
 -- the weight under which a list of pairs weighs as often as it has the pair
@@ -93,6 +93,18 @@ won_stands k r rule id v at cell p won =
     let forward = rule.wins_once.forward found.at 0 found.inside found.taken in
     ap (λ (n : ℕ). get_or r.words n 0) (sym is) ∙ (sym forward.1 ∙ ap word_of (same_place_is (place_of w) p test.1))
 
+-- and its place is that of the word of its cell, and so in range
+pub won_place : (k : Counts) (r : Race) → Rule k r → EachRecord (λ v. (cell : ℕ) (p : Place) → IsTrue (has_pair cell p v.won) → IsPlace p) r.records
+won_place k r rule id v at cell p won =
+    let mine = any_weighs (same_pair cell p) v.won won in
+    let one = weigh_one_le (λ u. weigh (pair_at cell p) u.won) r.records id v at in
+    let all = rule.wins_once.won (pair_at cell p) in
+    let found = weighed_passes (same_pair cell p) 0 r.words (omega arith) in
+    let w : ℕ = get_or r.words found.at 0 in
+    let test = and_parts (found.cell == cell) (same_place (place_of w) p) found.passes in
+    let forward = rule.wins_once.forward found.at 0 found.inside found.taken in
+    subst (λ (q : Place). IsPlace q) (same_place_is (place_of w) p test.1) forward.0
+
 -- a seen cell has a word
 seen_taken : (words : List ℕ) (c : ℕ) (l : List (ℕ × Place)) → All (IsPair words) l → list_any (λ q. q.0 == c) l ≡ true → get_or words c 0 ≢ 0
 seen_taken words c [] all h = absurd (false≢true h)
@@ -151,3 +163,17 @@ closed_old_few k words done closed b mine =
     let none : closed.next_old ≤ b → weigh (λ v. weigh (one_at b) v.old_blocks) (done ∷ []) ≡ 0 = drawn_above k.kept closed.next_old (λ v. v.old_blocks) (done ∷ []) closed.rule.blocks_once.1 b in
     let below : b < closed.next_old = ⊎_elim (λ lt. lt) (λ (le : closed.next_old ≤ b). absurd (let zero_ = none le in omega arith)) (cases_lt b closed.next_old) in
     omega arith
+
+-- they are full of the copies in their space, but for one a helper
+module _ (k : Counts) (words : List ℕ) (done : Record) (closed : IsClosed k words done) where
+  filled : (space start counter : ℕ) (bs : List ℕ) → ((h : ℕ → ℕ) → weigh_below h start + weigh h bs ≡ weigh_below h counter) → with_room space done.won bs ≤ done.share → 64 * length bs ≤ 64 * k.helpers + in_space space done.won
+  filled space start counter bs drawn few_open =
+      let once : (b : ℕ) → weigh (one_at b) bs ≤ 1 = λ b. (let all = drawn (one_at b) in omega (arith, one_below b counter)) in
+      let share = closed.rule.within_share.1 in
+      omega (arith, blocks_filled space bs done.won once, weigh_ones bs)
+
+  pub closed_aged_filled : 64 * length done.aged_blocks ≤ 64 * k.helpers + in_space AGED done.won
+  closed_aged_filled = filled AGED 0 closed.next_aged done.aged_blocks (λ h. let all = closed.rule.blocks_once.0 h in omega arith) (closed.rule.within_share.0 0 done refl).aged_room
+
+  pub closed_old_filled : 64 * length done.old_blocks ≤ 64 * k.helpers + in_space OLD done.won
+  closed_old_filled = filled OLD k.kept closed.next_old done.old_blocks (λ h. let all = closed.rule.blocks_once.1 h in omega arith) (closed.rule.within_share.0 0 done refl).old_room

@@ -372,26 +372,41 @@ few_chunks k r rule =
 
 -- Blocks without an open place are full of won places.
 
-in_one_block : (space : ℕ) (q : ℕ × Place) (b : ℕ) → (if lies_in space b q.1 then 1 else 0) ≤ one_at q.1.block b
-in_one_block space q b = go (q.1.space == space) (b == q.1.block)
-  where
-    go : (s t : Bool) → (if s && t then 1 else 0) ≤ (if t then 1 else 0)
-    go true t = omega arith
-    go false t = omega arith
+-- how many of the pairs lie in a space
+abbrev pub in_space : ℕ → List (ℕ × Place) → ℕ
+in_space space won = weigh (λ q. if q.1.space == space then 1 else 0) won
 
-all_used : (space : ℕ) (bs : List ℕ) → ((b : ℕ) → weigh (one_at b) bs ≤ 1) → (won : List (ℕ × Place)) → weigh (λ b. used_in space b won) bs ≤ weigh (λ _. 1) won
+in_space_le : (space : ℕ) (won : List (ℕ × Place)) → in_space space won ≤ weigh (λ _. 1) won
+in_space_le space won = weigh-le (λ q. if q.1.space == space then 1 else 0) (λ _. 1) (λ q. at_most_one (q.1.space == space)) won
+  where
+    at_most_one : (s : Bool) → (if s then 1 else 0) ≤ 1
+    at_most_one true = omega arith
+    at_most_one false = omega arith
+
+-- a pair lies in one of the blocks, if in any, and then in the space
+in_one_block : (space : ℕ) (q : ℕ × Place) (bs : List ℕ) → weigh (one_at q.1.block) bs ≤ 1 → weigh (λ b. if lies_in space b q.1 then 1 else 0) bs ≤ (if q.1.space == space then 1 else 0)
+in_one_block space q bs once = go (q.1.space == space)
+  where
+    go : (s : Bool) → weigh (λ b. if s && (b == q.1.block) then 1 else 0) bs ≤ (if s then 1 else 0)
+    go true = once
+    go false = le_of_eq (weigh-zero bs)
+
+all_used : (space : ℕ) (bs : List ℕ) → ((b : ℕ) → weigh (one_at b) bs ≤ 1) → (won : List (ℕ × Place)) → weigh (λ b. used_in space b won) bs ≤ in_space space won
 all_used space bs once [] = le_of_eq (weigh-zero bs)
 all_used space bs once (q ∷ qs) =
-    let here = weigh-le (λ b. if lies_in space b q.1 then 1 else 0) (one_at q.1.block) (in_one_block space q) bs in
-    omega (arith, weigh-add (λ b. if lies_in space b q.1 then 1 else 0) (λ b. used_in space b qs) bs, once q.1.block, all_used space bs once qs)
+    omega (arith, weigh-add (λ b. if lies_in space b q.1 then 1 else 0) (λ b. used_in space b qs) bs, in_one_block space q bs (once q.1.block), all_used space bs once qs)
 
 full_or_open : (space : ℕ) (won : List (ℕ × Place)) (b : ℕ) → 64 * 1 ≤ 64 * is_open space won b + used_in space b won
 full_or_open space won b = cond_both (nat_lt (used_in space b won) 64) 1 0 (λ x. 64 * 1 ≤ 64 * x + used_in space b won) (λ e. omega arith) (λ e. omega (arith, ltb-false _ _ e))
 
-few_blocks : (space : ℕ) (bs : List ℕ) (won : List (ℕ × Place)) → ((b : ℕ) → weigh (one_at b) bs ≤ 1) → 64 * weigh (λ _. 1) bs ≤ 64 * weigh (is_open space won) bs + weigh (λ _. 1) won
-few_blocks space bs won once =
+-- blocks that differ are full of the pairs of their space, but for the open ones
+pub blocks_filled : (space : ℕ) (bs : List ℕ) (won : List (ℕ × Place)) → ((b : ℕ) → weigh (one_at b) bs ≤ 1) → 64 * weigh (λ _. 1) bs ≤ 64 * weigh (is_open space won) bs + in_space space won
+blocks_filled space bs won once =
     let each = weigh-le (λ b. 64 * 1) (λ b. 64 * is_open space won b + used_in space b won) (full_or_open space won) bs in
     omega (arith, weigh-scale (λ (b : ℕ). 1) bs, weigh-linear (is_open space won) (λ b. used_in space b won) bs, all_used space bs once won)
+
+few_blocks : (space : ℕ) (bs : List ℕ) (won : List (ℕ × Place)) → ((b : ℕ) → weigh (one_at b) bs ≤ 1) → 64 * weigh (λ _. 1) bs ≤ 64 * weigh (is_open space won) bs + weigh (λ _. 1) won
+few_blocks space bs won once = omega (arith, blocks_filled space bs won once, in_space_le space won)
 
 -- the blocks of one space that the records have claimed are few: all but one a helper are full of won cells
 few_claimed : (k : Counts) (r : Race) (space start n : ℕ) (of : Record → List ℕ) → Parts k r → IsDrawn start n of r.records

@@ -1,5 +1,5 @@
 //! The laws of the race, each the contract of a function that does nothing.
-ghost use Rattle.std.specs.Prelude.{◌≡◌, ◌≢◌, ◌↔◌, ◌+◌, ◌*◌, ◌<◌, ◌≤◌, ℕ, List, [], ◌∷◌, IsTrue, length, slice_index, AllPairs};
+ghost use Rattle.std.specs.Prelude.{◌==◌, if◌then◌else◌, ◌≡◌, ◌≢◌, ◌↔◌, ◌+◌, ◌*◌, ◌<◌, ◌≤◌, ℕ, List, [], ◌∷◌, IsTrue, length, slice_index, AllPairs};
 ghost use lib.ListN.{get_elem?};
 ghost use mathlib.Core.Option.{some};
 ghost use Rattle.tg_race.specs.declared.record.Counts.{Counts};
@@ -7,7 +7,7 @@ ghost use Rattle.tg_race.specs.declared.record.Record.{Record};
 ghost use Rattle.tg_race.specs.declared.event.Event.{Event};
 ghost use Rattle.tg_word.specs.declared.Place.{Place};
 ghost use Rattle.tg_word.specs.Word.{IsPlace};
-ghost use Rattle.tg_race.specs.Words.{word_of, has_pair};
+ghost use Rattle.tg_race.specs.Words.{AGED, OLD, word_of, has_pair};
 ghost use Rattle.tg_race.specs.Board.{IsClosed};
 ghost use Rattle.tg_race.specs.Weights.{weigh, one_at};
 ghost use Rattle.tg_race.specs.Race.{Race, Rule, EachRecord, IsDrawn, AreConsecutive, both, has};
@@ -30,9 +30,10 @@ pub fn a_complete_race_is_the_closure()
     ensures { (c : Course) (id : ℕ) (v : Record) → KeepsRule c → get_elem? c.race.records id ≡ some v → v.share ≡ c.net.helpers → IsComplete c.net v → (cell : ℕ) → (word_at c.race cell ≢ 0) ↔ IsReached c.net cell }
 {}
 
-/// What a record has won stands in the table: the cell has the place that was won.
+/// What a record has won stands in the table: the cell has the place that was won, which is in range.
 pub fn wins_stand_in_the_table()
-    ensures { (k : Counts) (r : Race) → Rule k r → EachRecord (λ v. (cell : ℕ) (p : Place) → IsTrue (has_pair cell p v.won) → slice_index r.words cell ≡ word_of p) r.records }
+    ensures words { (k : Counts) (r : Race) → Rule k r → EachRecord (λ v. (cell : ℕ) (p : Place) → IsTrue (has_pair cell p v.won) → slice_index r.words cell ≡ word_of p) r.records }
+    ensures places { (k : Counts) (r : Race) → Rule k r → EachRecord (λ v. (cell : ℕ) (p : Place) → IsTrue (has_pair cell p v.won) → IsPlace p) r.records }
 {}
 
 /// The places in a closed table are those of the pairs that its one record has won, and no other.
@@ -79,10 +80,13 @@ pub fn blocks_are_few()
     ensures wins { (k : Counts) (r : Race) → Rule k r → weigh (λ v. length v.won) r.records ≤ k.cells }
 {}
 
-/// The same of each block that was claimed in a closed table.
+/// The same of each block that was claimed in a closed table; and those of a space are full of cells that were won into it,
+/// but for one a helper.
 pub fn claimed_blocks_are_few()
     ensures aged_blocks { (k : Counts) (words : List ℕ) (done : Record) → IsClosed k words done → (b : ℕ) → IsTrue (has b done.aged_blocks) → 64 * (b + 1) ≤ 64 * k.helpers + length done.won }
     ensures old_blocks { (k : Counts) (words : List ℕ) (done : Record) → IsClosed k words done → (b : ℕ) → IsTrue (has b done.old_blocks) → 64 * (b + 1) ≤ 64 * (k.kept + k.helpers) + length done.won }
+    ensures aged_filled { (k : Counts) (words : List ℕ) (done : Record) → IsClosed k words done → 64 * length done.aged_blocks ≤ 64 * k.helpers + weigh (λ q. if q.1.space == AGED then 1 else 0) done.won }
+    ensures old_filled { (k : Counts) (words : List ℕ) (done : Record) → IsClosed k words done → 64 * length done.old_blocks ≤ 64 * k.helpers + weigh (λ q. if q.1.space == OLD then 1 else 0) done.won }
 {}
 
 /// What 'drawn' says of one number: it stands once in the records if it is below the counter and not below the start,

@@ -36,6 +36,13 @@ impl Forwarding {
         Ok(Forwarding { skipped, words })
     }
 
+    /// These words behind those of the cells that are skipped.
+    pub fn of(skipped: u64, words: Vec<u64>) -> Self
+        ensures { result ≡ record { skipped = skipped; words = replicate skipped 0 ++ words.items } }
+    {
+        Forwarding { skipped, words }
+    }
+
     /// The word of a cell.
     #[inline(always)]
     pub fn word(&self, cell: u64) -> u64

@@ -1,0 +1,117 @@
+-- How many blocks a closed table has given away: they are within the limit, and nearly as few as the copies need; and a block
+-- past the limit tells of many cells in use.
+use Rattle.std.proofs.Common.{◌≡◌, ◌≢◌, ℕ, suc, ◌+◌, ◌-◌, ◌<◌, ◌≤◌, ◌==◌, List, [], ◌∷◌, Bool, true, false, cond, if◌then◌else◌, length, refl, sym, ap, ◌∙◌, eq-eqb, ⊎_elim, arith}
+use Rattle.std.specs.List.{All, Contains}
+use Rattle.std.proofs.lemmas.Bool.{cases_eq}
+use Rattle.std.proofs.lemmas.List.{length-map}
+use Rattle.std.proofs.lemmas.List.Elements.{All-contains}
+use Rattle.std.proofs.lemmas.List.Sums.{sum_by-cons}
+use Rattle.tg_word.specs.Word.{place_in}
+use Rattle.tg_space.specs.Collection.{AreFewBlocks, MayLackRoom, copies_in, is_copy_in, used_cells}
+use Rattle.tg_space.specs.Soundness.{AreSound}
+use Rattle.tg_space.specs.SpaceList.{BlockList}
+use Rattle.tg_space.specs.SpaceTable.{SpaceTable, IsSpaceTable, kept_blocks}
+use Rattle.tg_space.specs.declared.spaces.Kind.{Kind}
+use Rattle.tg_space.specs.declared.spaces.Kind.TheVariants.{Full, Nursery}
+use Rattle.tg_space.specs.declared.spaces.Root.{Root}
+use Rattle.tg_space.proofs.Tables.{table_list}
+use Rattle.tg_race.specs.declared.record.Counts.{Counts}
+use Rattle.tg_race.specs.declared.record.Record.{Record}
+use Rattle.tg_race.specs.Board.{IsClosed}
+use Rattle.tg_race.specs.Race.{AreConsecutive}
+use Rattle.tg_race.specs.Words.{place_of, weigh_words}
+use Rattle.tg_race.proofs.Closed.{consecutive}
+use Rattle.tg_race.proofs.Standing.{closed_aged_few, closed_aged_filled, closed_old_few, closed_old_filled}
+use Rattle.tg_race.proofs.Steps.{in_space}
+use Rattle.tg_evac.specs.Claims.{cells_won}
+use Rattle.tg_evac.proofs.Counting.{won_few}
+use Rattle.tg_evac.proofs.Reasons.{all_used}
+use Rattle.tg_evac.proofs.Sound.{have_pointers}
+use Rattle.tg_parallel.specs.Merged.{AreMerged}
+use Rattle.tg_parallel.specs.Whole.{IsWholePart}
+use Rattle.tg_parallel.specs.Parts.{AreCountsOf, AreEarned, IsPastLimit, Numbered, numbers_of, wins_of}
+use Rattle.tg_parallel.proofs.Lists.{any_has}
+use Rattle.tg_parallel.proofs.Wins.{cells_distinct, cells_long, traced_all}
+
+-- ---- a block past the limit
+
+module _ (kind : Kind) (t : SpaceTable) (roots : List Root) (k : Counts) (words : List ℕ) (done : Record)
+    (table : IsSpaceTable t) (sound : AreSound t.spaces roots) (counts : AreCountsOf kind t.spaces roots k) (closed : IsClosed k words done) (earned : AreEarned kind t.spaces roots done) where
+  won_used : length done.won ≤ used_cells kind t.spaces
+  won_used =
+      let list = table_list t table in
+      let used = all_used kind t.spaces roots (wins_of done.won) (traced_all kind t.spaces roots done earned) list (have_pointers t.spaces roots sound list) sound.roots_held in
+      omega (arith, cells_long k words done closed, won_few kind t.spaces list (cells_won (wins_of done.won)) (cells_distinct k words done closed) used)
+
+  pub lacks : IsPastLimit t done → MayLackRoom t.limits.space_blocks k.helpers (kept_blocks kind t.spaces) (used_cells kind t.spaces)
+  lacks past =
+      let b : ℕ = past.0 in
+      let over = past.2 in
+      let many = won_used in
+      let kept = counts.kept in
+      ⊎_elim
+      (λ (aged : Contains done.aged_blocks b). let low = closed_aged_few k words done closed b (any_has (λ (x : ℕ). x == b) done.aged_blocks b aged (eq-eqb b b refl)) in omega arith)
+      (λ (old : Contains done.old_blocks b). let low = closed_old_few k words done closed b (any_has (λ (x : ℕ). x == b) done.old_blocks b old (eq-eqb b b refl)) in omega arith)
+      past.1
+
+-- ---- blocks within the limit
+
+-- numbers without a gap below a limit
+pub numbers_within : (start : ℕ) (numbers : List ℕ) → AreConsecutive start numbers → (limit : ℕ) → All (λ n. n < limit) numbers → length numbers ≤ limit - start
+numbers_within start numbers are limit below = ⊎_elim
+    (λ (none : length numbers ≡ 0). omega arith)
+    (λ (some : length numbers ≢ 0).
+    let last : ℕ = start + length numbers - 1 in
+    let held : Contains numbers last = (are.exactly last).1 (omega arith, omega arith) in
+    let low = All-contains (λ (n : ℕ). n < limit) numbers last below held in
+    omega arith)
+    (cases_eq (length numbers) 0)
+
+pub blocks_long : (blocks : Numbered) (numbers : List ℕ) → numbers_of blocks ≡ numbers → length blocks ≡ length numbers
+blocks_long blocks numbers is = sym (length-map blocks (λ (b : ℕ × List (List ℕ)). b.0)) ∙ ap (λ (l : List ℕ). length l) is
+
+-- the words of copies in a space are those of the pairs that were won into it
+count_words : (s i : ℕ) (ws : List ℕ) → weigh_words (λ q. if q.1.space == s then 1 else 0) i ws ≡ copies_in ws s
+unfolding place_of
+count_words s i [] = refl
+count_words s i (w ∷ ws) = by_test (w == 0) refl (count_words s (suc i) ws)
+  where
+    cons : copies_in (w ∷ ws) s ≡ cond (is_copy_in s w) 1 0 + copies_in ws s
+    cons = sum_by-cons (λ (x : ℕ). cond (is_copy_in s x) 1 0) w ws
+
+    by_test : (z : Bool) → (w == 0) ≡ z → weigh_words (λ q. if q.1.space == s then 1 else 0) (suc i) ws ≡ copies_in ws s → (if w == 0 then 0 else (if (place_of w).space == s then 1 else 0)) + weigh_words (λ q. if q.1.space == s then 1 else 0) (suc i) ws ≡ copies_in (w ∷ ws) s
+    by_test true z ih =
+        let one : ◌≡◌ {A = ℕ} (cond (is_copy_in s w) 1 0) 0 = rw z refl in
+        let here : ◌≡◌ {A = ℕ} (if w == 0 then 0 else (if (place_in w).space == s then 1 else 0)) 0 = rw z refl in
+        omega (arith, cons, one, here, ih)
+    by_test false z ih =
+        let one : ◌≡◌ {A = ℕ} (cond (is_copy_in s w) 1 0) (cond ((place_in w).space == s) 1 0) = rw z refl in
+        let here : ◌≡◌ {A = ℕ} (if w == 0 then 0 else (if (place_in w).space == s then 1 else 0)) (cond ((place_in w).space == s) 1 0) = rw z refl in
+        omega (arith, cons, one, here, ih)
+
+module _ (kind : Kind) (t : SpaceTable) (roots : List Root) (k : Counts) (words : List ℕ) (done : Record) (aged old : Numbered)
+    (whole : IsWholePart kind t roots k words done aged old) (aged_blocks old_blocks : BlockList) (merged : AreMerged kind (kept_blocks kind t.spaces) aged old aged_blocks old_blocks) where
+  copies_are : (s : ℕ) → in_space s done.won ≡ copies_in words s
+  copies_are s = let all = whole.closed.rule.wins_once.won (λ q. if q.1.space == s then 1 else 0) in omega (arith, count_words s 0 words)
+
+  aged_at_most : length aged_blocks ≤ length done.aged_blocks
+  aged_at_most = by_kind kind refl
+    where
+      by_kind : (kd : Kind) → kind ≡ kd → length aged_blocks ≤ length done.aged_blocks
+      by_kind Full is = let none = ap (λ (bs : BlockList). length bs) (merged.none_aged is) in omega arith
+      by_kind Nursery is = let all = (merged.in_aged is).as_many in omega (arith, blocks_long aged done.aged_blocks whole.part.aged_numbers)
+
+  old_is : length old_blocks ≡ length done.old_blocks
+  old_is = merged.in_old.as_many ∙ blocks_long old done.old_blocks whole.part.old_numbers
+
+  pub few_blocks : AreFewBlocks t.limits.space_blocks (kept_blocks kind t.spaces) k.helpers words aged_blocks old_blocks
+  few_blocks =
+      let kept = whole.counts.kept in
+      let aged_low = numbers_within 0 done.aged_blocks (consecutive 0 whole.closed.next_aged (λ v. v.aged_blocks) done whole.closed.rule.blocks_once.0) t.limits.space_blocks whole.part.aged_few in
+      let old_low = numbers_within k.kept done.old_blocks (consecutive k.kept whole.closed.next_old (λ v. v.old_blocks) done whole.closed.rule.blocks_once.1) t.limits.space_blocks whole.part.old_few in
+      record {
+        aged_within = omega (arith, aged_at_most);
+        old_within = omega (arith, old_is);
+        aged_needed = omega (arith, aged_at_most, closed_aged_filled k words done whole.closed, copies_are 1);
+        old_needed = omega (arith, old_is, closed_old_filled k words done whole.closed, copies_are 0);
+      }

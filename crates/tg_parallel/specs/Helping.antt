@@ -1,0 +1,48 @@
+-- What a helper says at the end, or several that became one.
+use Rattle.std.specs.Prelude.{◌≡◌, ◌≢◌, ℕ, ◌-◌, ◌<◌, ◌++◌, ◌⊎◌, List, IfOk, IfErr, Result, Ok, Err, All, length}
+use Rattle.tg_space.specs.SpaceTable.{SpaceTable}
+use Rattle.tg_space.specs.declared.spaces.Kind.{Kind}
+use Rattle.tg_space.specs.declared.spaces.Root.{Root}
+use Rattle.tg_race.specs.Race.{empty, past}
+use Rattle.tg_race.specs.Seats.{Board, Seated}
+use Rattle.tg_evac.specs.declared.fault.CollectFault.TheVariants.{HeapFull}
+use Rattle.tg_parallel.specs.declared.part.Helped.{Helped}
+use Rattle.tg_parallel.specs.declared.part.Part.{Part}
+use Rattle.tg_evac.specs.declared.fault.CollectFault.{CollectFault}
+use Rattle.tg_parallel.specs.Parts.{AreEarned, IsPart, IsPastLimit}
+
+-- Helpers of so many shares sat at the table. Their wins are earned, whatever came of it. Where they made a part, the chunk
+-- past the last was claimed, and the part is what their record asks for. They say that the heap is full only where they
+-- have claimed a block past the limit
+pub record IsHelped (kind : Kind) (t : SpaceTable) (from : List Root) (board : Board) (shares : ℕ) (r : Helped) : Type 0 where
+  pub seat : r.helper.table ≡ board.table
+  pub share : r.helper.done.share ≡ shares
+  pub earned : AreEarned kind t.spaces from r.helper.done
+  pub last : IfOk r.part (λ part. 0 < past board.counts r.helper.done)
+  pub whole : IfOk r.part (λ part. IsPart kind t from r.helper.done part.aged.items part.old.items)
+  pub full : IfErr r.part (λ fault. fault ≡ HeapFull → IsPastLimit t r.helper.done)
+
+-- all that two parts have
+pub record IsOneOf (a b c : Part) : Type 0 where
+  pub aged : c.aged.items ≡ a.aged.items ++ b.aged.items
+  pub old : c.old.items ≡ a.old.items ++ b.old.items
+
+-- all that two parts have, or a fault: that of one of the two, or want of memory
+abbrev pub IsOfBoth : Result Part CollectFault → Result Part CollectFault → Result Part CollectFault → Type 0
+IsOfBoth (Ok a) (Ok b) (Ok c) = IsOneOf a b c
+IsOfBoth (Ok a) (Ok b) (Err fault) = fault ≢ HeapFull
+IsOfBoth (Ok a) (Err why) (Ok c) = ⊥
+IsOfBoth (Ok a) (Err why) (Err fault) = fault ≡ why
+IsOfBoth (Err why) b (Ok c) = ⊥
+IsOfBoth (Err why) b (Err fault) = fault ≡ why
+
+-- a helper at the table that has done nothing yet
+pub record IsNew (board : Board) (s : Seated) : Type 0 where
+  pub seat : s.table ≡ board.table
+  pub done : s.done ≡ empty 1
+
+-- the helper on the calling thread, and so many others
+pub record AllHelped (kind : Kind) (t : SpaceTable) (from : List Root) (board : Board) (others : ℕ) (mine : Helped) (theirs : List Helped) : Type 0 where
+  pub first : IsHelped kind t from board 1 mine
+  pub rest : All (IsHelped kind t from board 1) theirs
+  pub many : length theirs ≡ others

@@ -1,0 +1,5 @@
+pub mod Parts
+pub mod Helping
+pub mod Merged
+pub mod Whole
+pub mod Faults

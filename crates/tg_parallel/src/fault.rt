@@ -1,0 +1,54 @@
+//! Why a collection by several helpers was refused.
+use std::alloc::{AllocError, AllocFailed};
+use tg_evac::CollectFault;
+use thiserror::Error;
+
+/// Why a collection by several helpers was refused; nothing was changed then.
+#[derive(Clone, Copy, PartialEq, Eq, Debug, Error)]
+pub enum HelpersFault {
+    /// Memory for a growth was refused.
+    #[error("out of memory")]
+    OutOfMemory,
+    /// A space would need more blocks than the limits give it.
+    #[error("heap is full")]
+    HeapFull,
+    /// A thread for a helper couldn't be started.
+    #[error("no thread")]
+    NoThread,
+}
+
+impl From<CollectFault> for HelpersFault {
+    ghost use Rattle.std.specs.Prelude.{◌≡◌};
+    ghost use Rattle.tg_parallel.specs.Faults.{of_collect};
+
+    ghost from_gives = { λ fault e. e ≡ of_collect fault };
+
+    fn from(fault: CollectFault) -> Self {
+        match fault {
+            CollectFault::OutOfMemory => Self::OutOfMemory,
+            CollectFault::HeapFull => Self::HeapFull,
+        }
+    }
+}
+
+impl<T: Drop> From<AllocFailed<T>> for HelpersFault {
+    ghost use Rattle.std.specs.Prelude.{◌≡◌};
+    ghost use Rattle.tg_parallel.specs.declared.fault.HelpersFault.TheVariants.{OutOfMemory};
+
+    ghost from_gives = { λ _ e. e ≡ OutOfMemory };
+
+    fn from(_refused: AllocFailed<T>) -> Self {
+        Self::OutOfMemory
+    }
+}
+
+impl From<AllocError> for HelpersFault {
+    ghost use Rattle.std.specs.Prelude.{◌≡◌};
+    ghost use Rattle.tg_parallel.specs.declared.fault.HelpersFault.TheVariants.{OutOfMemory};
+
+    ghost from_gives = { λ _ e. e ≡ OutOfMemory };
+
+    fn from(_refused: AllocError) -> Self {
+        Self::OutOfMemory
+    }
+}

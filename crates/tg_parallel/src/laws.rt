@@ -1,0 +1,43 @@
+//! The laws of joining, each the contract of a function that does nothing.
+ghost use Rattle.std.specs.Prelude.{ℕ, List, ◌++◌, ◌<◌, ◌≤◌, ◌^◌, ◌↔◌, ◌⊎◌};
+ghost use Rattle.std.specs.List.{Contains};
+ghost use Rattle.tg_word.specs.declared.Place.{Place};
+ghost use Rattle.tg_space.specs.Collection.{AreFewBlocks, IsCollection, MayLackRoom, used_cells};
+ghost use Rattle.tg_space.specs.Generations.{NamesYoung};
+ghost use Rattle.tg_space.specs.Soundness.{AreSound};
+ghost use Rattle.tg_space.specs.SpaceList.{BlockList, SpaceList};
+ghost use Rattle.tg_space.specs.SpaceTable.{SpaceTable, IsSpaceTable, kept_blocks};
+ghost use Rattle.tg_space.specs.declared.spaces.Kind.{Kind};
+ghost use Rattle.tg_space.specs.declared.spaces.Root.{Root};
+ghost use Rattle.tg_space.specs.declared.spaces.Root.TheVariants.{Remembered};
+ghost use Rattle.tg_race.specs.declared.record.Counts.{Counts};
+ghost use Rattle.tg_race.specs.declared.record.Record.{Record};
+ghost use Rattle.tg_race.specs.Board.{IsClosed};
+ghost use Rattle.tg_race.specs.Race.{both};
+ghost use Rattle.tg_evac.specs.Copies.{IsPlaceIn, moved_cell, new_cell};
+ghost use Rattle.tg_parallel.specs.Merged.{AreMerged};
+ghost use Rattle.tg_parallel.specs.Parts.{AreCountsOf, AreEarned, IsPart, IsPastLimit, Numbered};
+ghost use Rattle.tg_parallel.specs.Whole.{IsWholePart};
+
+/// Where two records become one, its wins are earned, and what both hand over is what it asks for.
+pub fn parts_become_one()
+    ensures earned { (kind : Kind) (h : SpaceList) (roots : List Root) (v w : Record) → AreEarned kind h roots v → AreEarned kind h roots w → AreEarned kind h roots (both v w) }
+    ensures part { (kind : Kind) (t : SpaceTable) (roots : List Root) (v w : Record) (a c b d : Numbered) → IsPart kind t roots v a c → IsPart kind t roots w b d → IsPart kind t roots (both v w) (a ++ b) (c ++ d) }
+{}
+
+/// Where the record that stands for all has claimed a block past the limit, a collection by so many helpers may lack room.
+pub fn a_block_past_the_limit_tells_of_want_of_room()
+    ensures { (kind : Kind) (t : SpaceTable) (roots : List Root) (k : Counts) (words : List ℕ) (done : Record) → IsSpaceTable t → AreSound t.spaces roots → AreCountsOf kind t.spaces roots k → IsClosed k words done → AreEarned kind t.spaces roots done → IsPastLimit t done → MayLackRoom t.limits.space_blocks k.helpers (kept_blocks kind t.spaces) (used_cells kind t.spaces) }
+{}
+
+/// Where one record stands for all helpers, the blocks that they have handed over are within the limit, and as many as the
+/// copies need, but for one a helper.
+pub fn helpers_blocks_are_few()
+    ensures { (kind : Kind) (t : SpaceTable) (roots : List Root) (k : Counts) (words : List ℕ) (done : Record) (aged old : Numbered) → IsWholePart kind t roots k words done aged old → (aged_blocks old_blocks : BlockList) → AreMerged kind (kept_blocks kind t.spaces) aged old aged_blocks old_blocks → AreFewBlocks t.limits.space_blocks (kept_blocks kind t.spaces) k.helpers words aged_blocks old_blocks }
+{}
+
+/// Where one record stands for all helpers and has claimed past the last chunk, what they have handed over is a collection,
+/// with the words of the closed table. The notes are those of the remembered roots, and of the new blocks of Old.
+pub fn what_helpers_made_is_a_collection()
+    ensures { (kind : Kind) (t : SpaceTable) (roots : List Root) (k : Counts) (words : List ℕ) (done : Record) (aged old : Numbered) → IsSpaceTable t → t.limits.space_blocks ≤ 2 ^ 20 → IsWholePart kind t roots k words done aged old → (aged_blocks old_blocks : BlockList) → AreMerged kind (kept_blocks kind t.spaces) aged old aged_blocks old_blocks → (notes : List Place) → ((p : Place) → Contains notes p ↔ ((Contains roots (Remembered p) × NamesYoung (moved_cell kind t.spaces words p)) ⊎ (IsPlaceIn 0 (kept_blocks kind t.spaces) old_blocks p × NamesYoung (new_cell (kept_blocks kind t.spaces) old_blocks p)))) → IsCollection kind t.spaces roots words aged_blocks old_blocks notes }
+{}

@@ -1,0 +1,328 @@
+//! Collections by a helper at a table, and by several on threads.
+ghost use Rattle.std.specs.Prelude.{◌≡◌, ◌≢◌, ℕ, ◌+◌, ◌≤◌, ◌^◌, ◌↔◌, ◌⊎◌, All, Contains, IfErr, IfOk, List, OnOk, length};
+ghost use Rattle.tg_word.specs.declared.Place.{Place as PlaceOf};
+ghost use Rattle.tg_space.specs.Collection.{AreFewBlocks, IsCollection, MayLackRoom, used_cells};
+ghost use Rattle.tg_space.specs.Generations.{NamesYoung};
+ghost use Rattle.tg_space.specs.Soundness.{AreSound};
+ghost use Rattle.tg_space.specs.SpaceTable.{IsSpaceTable, SpaceTable, kept_blocks};
+ghost use Rattle.tg_space.specs.declared.spaces.Kind.{Kind as KindOf};
+ghost use Rattle.tg_space.specs.declared.spaces.Root.{Root as RootOf};
+ghost use Rattle.tg_space.specs.declared.spaces.Root.TheVariants.{Remembered as RememberedAt};
+ghost use Rattle.tg_race.specs.declared.record.Counts.{Counts};
+ghost use Rattle.tg_race.specs.declared.record.Record.{Record};
+ghost use Rattle.tg_race.specs.Race.{empty};
+ghost use Rattle.tg_evac.specs.Claims.{IsPlanFor};
+ghost use Rattle.tg_evac.specs.Copies.{IsPlaceIn, moved_cell, new_cell};
+ghost use Rattle.tg_parallel.specs.Faults.{IsNotStarted};
+ghost use Rattle.tg_parallel.specs.Helping.{AllHelped, IsHelped, IsNew};
+ghost use Rattle.tg_parallel.specs.Merged.{AreMerged};
+ghost use Rattle.tg_parallel.specs.Parts.{AreCountsOf};
+ghost use Rattle.tg_parallel.specs.Whole.{IsWholePart};
+
+use crate::fault::HelpersFault;
+use crate::gate::{Gate, NoGate};
+use crate::merge::{joined, merged};
+use crate::part::{Helped, Part, help};
+use std::alloc::{AllocError, Global};
+use std::sync::Wait;
+use std::thread;
+use std::thread::{Promise, PromisedHandle, Scope, Threads, join_promised};
+use tg_evac::{CollectFault, Copied, Plan, notes_of};
+use tg_race::{Helper, RaceTable};
+use tg_space::{Forwarding, Kind, Root, Spaces};
+
+/// Copies what the roots reach into new blocks, by one helper at a table of its own, on the calling thread.
+///
+/// What it leaves is a collection as that of `tg_evac::collect_one`, and it is refused as that is, but that each space may
+/// have one block more than its copies need.
+pub fn collect_seated(
+    alloc: Global,
+    spaces: &Spaces,
+    roots: &[Root],
+    kind: Kind,
+) -> Result<Copied, CollectFault>
+    requires { AreSound spaces.now.spaces roots.now }
+    ensures collected { IfOk result (λ copied. IsCollection kind spaces.now.spaces roots.now copied.forward.words copied.adoption.aged copied.adoption.old copied.remembered.places) }
+    ensures few { IfOk result (λ copied. AreFewBlocks spaces.now.limits.space_blocks (kept_blocks kind spaces.now.spaces) 1 copied.forward.words copied.adoption.aged copied.adoption.old) }
+    ensures full { IfErr result (λ fault. fault ≡ CollectFault.HeapFull → MayLackRoom spaces.now.limits.space_blocks 1 (kept_blocks kind spaces.now.spaces) (used_cells kind spaces.now.spaces)) }
+{
+    let cells = spaces.cells();
+    let plan = Plan::of(kind, spaces);
+    let (table, helper) = RaceTable::open(alloc, cells, roots.len() as u64, plan.kept, 1)?;
+    let helped = help(alloc, &table, helper, 0, spaces, roots, kind, &NoGate);
+    finish(alloc, table, spaces, roots, plan, helped)
+}
+
+/// Copies what the roots reach into new blocks, by as many helpers as are wanted: one on the calling thread, and each other
+/// on a thread of its own. All others are started before the one here begins.
+///
+/// What they leave is a collection as that of `tg_evac::collect_one`, but that each space may have as many blocks more than
+/// its copies need as there are helpers. `HeapFull` is answered only where the cells in use that would be moved may not fit
+/// into the blocks that a space may have, if each helper leaves one open; `NoThread` where a thread couldn't be started, and
+/// never of one helper alone. Where several helpers fail, the fault is that of the least number. Those that were started
+/// end before the answer.
+pub fn collect_many<R: Threads + Wait + Sync, G: Gate>(
+    rt: &R,
+    alloc: Global,
+    spaces: &Spaces,
+    roots: &[Root],
+    kind: Kind,
+    helpers: u32,
+    gate: &G,
+) -> Result<Copied, HelpersFault>
+    requires sound { AreSound spaces.now.spaces roots.now }
+    requires some { 1 ≤ helpers }
+    requires few { helpers ≤ 8 }
+    ensures collected { IfOk result (λ copied. IsCollection kind spaces.now.spaces roots.now copied.forward.words copied.adoption.aged copied.adoption.old copied.remembered.places) }
+    ensures few { IfOk result (λ copied. AreFewBlocks spaces.now.limits.space_blocks (kept_blocks kind spaces.now.spaces) helpers copied.forward.words copied.adoption.aged copied.adoption.old) }
+    ensures full { IfErr result (λ fault. fault ≡ HelpersFault.HeapFull → MayLackRoom spaces.now.limits.space_blocks helpers (kept_blocks kind spaces.now.spaces) (used_cells kind spaces.now.spaces)) }
+    ensures alone { helpers ≡ 1 → IfErr result (λ fault. fault ≢ HelpersFault.NoThread) }
+{
+    let cells = spaces.cells();
+    let plan = Plan::of(kind, spaces);
+    let (table, helper) = RaceTable::open(alloc, cells, roots.len() as u64, plan.kept, helpers)?;
+    let helped = work_all(
+        rt, alloc, &table, helper, helpers, spaces, roots, kind, gate,
+    )?;
+    Ok(finish(alloc, table, spaces, roots, plan, helped)?)
+}
+
+// What a helper on a thread promises.
+#[derive(Clone, Copy)]
+struct Helps<'a> {
+    table: &'a RaceTable,
+    spaces: &'a Spaces,
+    roots: &'a [Root],
+    kind: Kind,
+}
+
+impl<'a> Promise<Helped> for Helps<'a> {
+    ghost use Rattle.tg_parallel.specs.Helping.{IsHelped};
+
+    ghost kept_by = { λ p r. IsHelped p.kind p.spaces.now p.roots.now p.table.now 1 r };
+}
+
+// As many helpers as `helper` stands for: one here, and each other on a thread of its own. None works here before all
+// others have started.
+fn work_all<R: Threads + Wait + Sync, G: Gate>(
+    rt: &R,
+    alloc: Global,
+    table: &RaceTable,
+    mut helper: Helper,
+    helpers: u32,
+    spaces: &Spaces,
+    roots: &[Root],
+    kind: Kind,
+    gate: &G,
+) -> Result<Helped, HelpersFault>
+    requires sound { AreSound spaces.now.spaces roots.now }
+    requires counts { AreCountsOf kind spaces.now.spaces roots.now table.now.counts }
+    requires own { helper.table ≡ table.now.table }
+    requires fresh { helper.done ≡ empty helpers }
+    requires some { 1 ≤ helpers }
+    ensures helped { IfOk result (λ helped. IsHelped kind spaces.now roots.now table.now helpers helped) }
+    ensures refused { IfErr result (λ fault. fault ≢ HelpersFault.HeapFull) }
+    ensures alone { helpers ≡ 1 → IfErr result (λ fault. fault ≢ HelpersFault.NoThread) }
+{
+    let others = split_all(alloc, table, &mut helper, helpers)?;
+    let (mine, theirs) = work_in_scope(
+        rt, alloc, table, helper, others, spaces, roots, kind, gate,
+    )?;
+    Ok(all_joined(table, mine, theirs))
+}
+
+// A helper here, and each other on a thread of its own.
+fn work_in_scope<R: Threads + Wait, G: Gate>(
+    rt: &R,
+    alloc: Global,
+    table: &RaceTable,
+    helper: Helper,
+    others: Vec<Helper>,
+    spaces: &Spaces,
+    roots: &[Root],
+    kind: Kind,
+    gate: &G,
+) -> Result<(Helped, Vec<Helped>), HelpersFault>
+    requires sound { AreSound spaces.now.spaces roots.now }
+    requires counts { AreCountsOf kind spaces.now.spaces roots.now table.now.counts }
+    requires new { IsNew table.now helper }
+    requires others { All (IsNew table.now) others.items }
+    ensures made { IfOk result (λ x. AllHelped kind spaces.now roots.now table.now (length others.items) x.0 x.1.items) }
+    ensures refused { IfErr result (IsNotStarted (length others.items)) }
+{
+    thread::scope(
+        thread::scope_env(),
+        rt,
+        |scope| -> Result<(Helped, Vec<Helped>), HelpersFault>
+            requires { AreSound spaces.now.spaces roots.now × AreCountsOf kind spaces.now.spaces roots.now table.now.counts × IsNew table.now helper × All (IsNew table.now) others.items }
+            ensures { IfOk result (λ x. AllHelped kind spaces.entry.now roots.entry.now table.entry.now (length others.items) x.0 x.1.items) × IfErr result (IsNotStarted (length others.items)) }
+        {
+            let promise = Helps {
+                table,
+                spaces,
+                roots,
+                kind,
+            };
+            let children = start_all(alloc, scope, promise, others, gate)?;
+            let mine = help(alloc, table, helper, 0, spaces, roots, kind, gate);
+            let theirs = join_promised(rt, children)?;
+            Ok((mine, theirs))
+        },
+    )
+}
+
+// Starts a thread of the scope for each helper.
+fn start_all<'s, E, G: Gate>(
+    alloc: Global,
+    scope: &Scope<'s, E>,
+    promise: Helps<'s>,
+    others: Vec<Helper>,
+    gate: &'s G,
+) -> Result<Vec<PromisedHandle<Helped, Helps<'s>>>, HelpersFault>
+    requires sound { AreSound promise.spaces.now.spaces promise.roots.now }
+    requires counts { AreCountsOf promise.kind promise.spaces.now.spaces promise.roots.now promise.table.now.counts }
+    requires new { All (IsNew promise.table.now) others.items }
+    ensures promises { IfOk result (λ children. All (λ child. child.promise ≡ promise.entry) children.items) }
+    ensures many { IfOk result (λ children. length children.items ≡ length others.items) }
+    ensures refused { IfErr result (IsNotStarted (length others.items)) }
+{
+    let mut children = Vec::with_capacity(alloc, others.len())?;
+    let mut number: u32 = 0;
+    for other in others {
+        number = number.wrapping_add(1);
+        let child = start(alloc, scope, promise, other, number, gate)?;
+        children.push(child)?;
+    }
+    Ok(children)
+}
+
+// Starts a thread of the scope for a helper.
+fn start<'s, E, G: Gate>(
+    alloc: Global,
+    scope: &Scope<'s, E>,
+    promise: Helps<'s>,
+    other: Helper,
+    number: u32,
+    gate: &'s G,
+) -> Result<PromisedHandle<Helped, Helps<'s>>, HelpersFault>
+    requires sound { AreSound promise.spaces.now.spaces promise.roots.now }
+    requires counts { AreCountsOf promise.kind promise.spaces.now.spaces promise.roots.now promise.table.now.counts }
+    requires new { IsNew promise.table.now other }
+    ensures promise { IfOk result (λ child. child.promise ≡ promise.entry) }
+    ensures refused { IfErr result (λ fault. fault ≡ HelpersFault.NoThread) }
+{
+    let Helps {
+        table,
+        spaces,
+        roots,
+        kind,
+    } = promise;
+    let Ok(child) = scope.spawn_with(
+        promise,
+        move || -> Helped
+            requires { AreSound spaces.now.spaces roots.now × AreCountsOf kind spaces.now.spaces roots.now table.now.counts × (other.table ≡ table.now.table) × (other.done ≡ empty 1) }
+            ensures { IsHelped kind spaces.entry.now roots.entry.now table.entry.now 1 result }
+        { help(alloc, table, other, number, spaces, roots, kind, gate) },
+    ) else {
+        return Err(HelpersFault::NoThread);
+    };
+    Ok(child)
+}
+
+// Makes as many helpers of share 1 as `helper` can spare.
+fn split_all(
+    alloc: Global,
+    table: &RaceTable,
+    helper: &mut Helper,
+    helpers: u32,
+) -> Result<Vec<Helper>, AllocError>
+    requires own { helper.old.table ≡ table.now.table }
+    requires fresh { helper.old.done ≡ empty helpers }
+    requires some { 1 ≤ helpers }
+    ensures kept { OnOk result ((helper.new.table ≡ helper.old.table) × (helper.new.done ≡ empty 1)) }
+    ensures made { IfOk result (λ others. All (IsNew table.now) others.items) }
+    ensures many { IfOk result (λ others. length others.items + 1 ≡ helpers) }
+{
+    let mut others = Vec::with_capacity(alloc, helpers as usize)?;
+    for _ in 1..helpers {
+        let other = helper.split(table);
+        others.push(other)?;
+    }
+    Ok(others)
+}
+
+// What all helpers have done, as if one had.
+fn all_joined(table: &RaceTable, mine: Helped, theirs: Vec<Helped>) -> Helped
+    requires own { mine.helper.table ≡ table.now.table }
+    requires others { All (λ r. r.helper.table ≡ table.now.table) theirs.items }
+    ensures { (kind : KindOf) (t : SpaceTable) (roots : List RootOf) (a : ℕ) → IsHelped kind t roots table.now a mine → All (IsHelped kind t roots table.now 1) theirs.items → IsHelped kind t roots table.now (a + length theirs.items) result }
+{
+    let mut all = mine;
+    for other in theirs {
+        all = joined(table, all, other);
+    }
+    all
+}
+
+// The collection, from the table and what the helper that stands for all has made.
+fn finish(
+    alloc: Global,
+    table: RaceTable,
+    spaces: &Spaces,
+    roots: &[Root],
+    plan: Plan,
+    helped: Helped,
+) -> Result<Copied, CollectFault>
+    requires sound { AreSound spaces.now.spaces roots.now }
+    requires spaces { IsSpaceTable spaces.now }
+    requires limit { spaces.now.limits.space_blocks ≤ 2 ^ 20 }
+    requires plan { IsPlanFor plan.kind spaces.now plan }
+    requires counts { AreCountsOf plan.kind spaces.now.spaces roots.now table.counts }
+    requires helped { IsHelped plan.kind spaces.now roots.now table table.counts.helpers helped }
+    ensures collected { IfOk result (λ copied. IsCollection plan.kind spaces.now.spaces roots.now copied.forward.words copied.adoption.aged copied.adoption.old copied.remembered.places) }
+    ensures few { IfOk result (λ copied. AreFewBlocks spaces.now.limits.space_blocks (kept_blocks plan.kind spaces.now.spaces) table.counts.helpers copied.forward.words copied.adoption.aged copied.adoption.old) }
+    ensures full { IfErr result (λ fault. fault ≡ CollectFault.HeapFull → MayLackRoom spaces.now.limits.space_blocks table.counts.helpers (kept_blocks plan.kind spaces.now.spaces) (used_cells plan.kind spaces.now.spaces)) }
+{
+    let Helped { helper, part } = helped;
+    let words = table.close(helper);
+    match part {
+        Ok(part) => Ok(put_together(alloc, words, spaces, roots, plan, part)?),
+        Err(fault) => Err(fault),
+    }
+}
+
+// What is handed over, of the closed words and of all blocks.
+fn put_together(
+    alloc: Global,
+    words: Vec<u64>,
+    spaces: &Spaces,
+    roots: &[Root],
+    plan: Plan,
+    part: Part,
+) -> Result<Copied, AllocError>
+    requires sound { AreSound spaces.now.spaces roots.now }
+    requires spaces { IsSpaceTable spaces.now }
+    requires limit { spaces.now.limits.space_blocks ≤ 2 ^ 20 }
+    requires plan { IsPlanFor plan.kind spaces.now plan }
+    requires made { (k : Counts) × (done : Record) × IsWholePart plan.kind spaces.now roots.now k words.items done part.aged.items part.old.items }
+    ensures words { IfOk result (λ copied. copied.forward.words ≡ words.items) }
+    ensures merged { IfOk result (λ copied. AreMerged plan.kind (kept_blocks plan.kind spaces.now.spaces) part.aged.items part.old.items copied.adoption.aged copied.adoption.old) }
+    ensures noted { IfOk result (λ copied. (p : PlaceOf) → Contains copied.remembered.places p ↔ ((Contains roots.now (RememberedAt p) × NamesYoung (moved_cell plan.kind spaces.now.spaces words.items p)) ⊎ (IsPlaceIn 0 (kept_blocks plan.kind spaces.now.spaces) copied.adoption.old p × NamesYoung (new_cell (kept_blocks plan.kind spaces.now.spaces) copied.adoption.old p)))) }
+{
+    let forward = Forwarding::of(0, words);
+    let adoption = merged(alloc, plan.kind, part)?;
+    let remembered = notes_of(
+        alloc,
+        spaces,
+        plan.kind,
+        &forward,
+        roots,
+        &adoption.old,
+        plan.kept,
+    )?;
+    Ok(Copied {
+        forward,
+        adoption,
+        remembered,
+    })
+}
