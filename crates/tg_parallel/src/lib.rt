@@ -5,4 +5,6 @@ pub use gate::{Gate, NoGate};
 pub use part::{Helped, Part, help};
 
 mod gate;
+mod links;
 mod part;
+mod winner;
