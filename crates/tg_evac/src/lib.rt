@@ -58,6 +58,7 @@ pub use collect::{Copied, collect_one};
 pub use copies::{Copies, scan};
 pub use fault::CollectFault;
 pub use new_blocks::NewBlocks;
+pub use plan::{AGED, OLD, Plan};
 pub use roots::claim_roots;
 pub use tg_space::Root;
 pub use win::Win;

@@ -1,10 +1,10 @@
 -- What one helper of a collection has done, and what it hands over; and the same of several that became one.
-use Rattle.std.specs.Prelude.{◌≡◌, ◌≢◌, ◌⊎◌, ℕ, ◌-◌, ◌*◌, ◌+◌, ◌<◌, ◌≤◌, true, List, [], ◌++◌, length, map, take, drop, slice_index_or}
+use Rattle.std.specs.Prelude.{◌≡◌, ◌≢◌, ◌⊎◌, ℕ, ◌*◌, ◌<◌, ◌≤◌, true, List, [], ◌++◌, length, map, take, drop}
 use Rattle.std.specs.List.{All, Contains, flat_map}
 use Rattle.tg_word.specs.declared.Place.{Place}
 use Rattle.tg_word.specs.Word.{IsPlace, link_to}
 use Rattle.tg_block.specs.Cells.{cell_of, free_cell}
-use Rattle.tg_space.specs.SpaceList.{SpaceList, BlockList, cells_of}
+use Rattle.tg_space.specs.SpaceList.{SpaceList, cells_of}
 use Rattle.tg_space.specs.SpaceTable.{SpaceTable, kept_blocks}
 use Rattle.tg_space.specs.Targets.{from_space, targets_of, all_root_targets}
 use Rattle.tg_space.specs.declared.spaces.Kind.{Kind}
@@ -108,14 +108,3 @@ HasClaimedPast limit v = (b : ℕ) × (Contains v.aged_blocks b ⊎ Contains v.o
 -- the record has claimed a block past the limit
 abbrev pub IsPastLimit : SpaceTable → Record → Type 0
 IsPastLimit t v = HasClaimedPast t.limits.space_blocks v
-
--- the blocks stand in the order of their numbers, from `start` on
-pub record AreInOrder (start : ℕ) (blocks : Numbered) (sorted : BlockList) : Type 0 where
-  pub as_many : length sorted ≡ length blocks
-  pub each : All (λ b. slice_index_or sorted (b.0 - start) [] ≡ b.1) blocks
-
--- the numbers of these blocks are those from `start` on, each once
-pub record AreNumbered (start : ℕ) (blocks : Numbered) : Type 0 where
-  pub once : AreOnce (numbers_of blocks)
-  pub from : All (λ b. start ≤ b.0) blocks
-  pub below : All (λ b. b.0 < start + length blocks) blocks

@@ -11,6 +11,7 @@ use Rattle.tg_race.specs.Seats.{Board, Seated}
 use Rattle.tg_race.specs.Words.{space_of}
 use Rattle.tg_evac.specs.declared.win.Win.{Win}
 use Rattle.tg_evac.specs.Claimers.{Walked}
+use Rattle.tg_parallel.specs.declared.own_blocks.OwnBlocks.{OwnBlocks}
 use Rattle.tg_parallel.specs.Parts.{cells_met, wins_of}
 
 -- ---- a helper's own blocks of one space
@@ -48,6 +49,13 @@ pub record AreFilled (aged : Bool) (v : Record) (numbers : List ℕ) (used : ℕ
 abbrev pub OtherStays : Bool → Record → Record → Type 0
 OtherStays aged v w = (numbers : List ℕ) (used : ℕ) → AreFilled (not aged) v numbers used → AreFilled (not aged) w numbers used
 
+-- nothing but blocks was claimed
+pub record OnlyBlocks (v w : Record) : Type 0 where
+  pub chunks : w.chunks ≡ v.chunks
+  pub won : w.won ≡ v.won
+  pub seen : w.seen ≡ v.seen
+  pub share : w.share ≡ v.share
+
 -- ---- one claim
 
 -- The record may have won the cell, for a place in the space, or seen it, and may have claimed blocks. Nothing else.
@@ -72,14 +80,16 @@ pub record Sitting : Type 0 where
 
 -- the helper sits at the table; its won cells are cells of it that differ, each with a place in range; and its blocks of
 -- Aged and of Old are filled in order
-pub record IsSeat (limit : ℕ) (board : Board) (helper : Seated) (aged : List ℕ) (aged_used : ℕ) (old : List ℕ) (old_used : ℕ) : Type 0 where
+pub record IsSeat (limit : ℕ) (board : Board) (helper : Seated) (aged old : OwnBlocks) : Type 0 where
   pub own : helper.table ≡ board.table
   pub few : limit ≤ 2 ^ 20
   pub differ : IsDistinct eqb (map (λ q. q.0) helper.done.won)
   pub inside : All (λ q. q.0 < board.counts.cells) helper.done.won
   pub places : All (λ q. IsPlace q.1 × (q.1.space < 2)) helper.done.won
-  pub in_aged : AreFilled true helper.done aged aged_used
-  pub in_old : AreFilled false helper.done old old_used
+  pub is_aged : aged.aged ≡ true
+  pub is_old : old.aged ≡ false
+  pub in_aged : AreFilled true helper.done aged.numbers.items aged.used
+  pub in_old : AreFilled false helper.done old.numbers.items old.used
 
 -- what no claim of a cell changes: the table, the chunks of roots that were claimed, and the share
 abbrev pub Fixed : Type 0

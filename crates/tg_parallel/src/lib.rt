@@ -6,5 +6,7 @@ pub use part::{Helped, Part, help};
 
 mod gate;
 mod links;
+mod own_blocks;
 mod part;
+mod seat;
 mod winner;

@@ -1,0 +1,168 @@
+-- Facts on lists: what one has, and numbers that stand once.
+use Rattle.std.proofs.Common.{◌≡◌, ◌≢◌, ℕ, zero, suc, ◌+◌, ◌-◌, ◌*◌, ◌/◌, ◌<◌, ◌≤◌, ◌==◌, ◌||◌, ◌⊎◌, ◌++◌, if◌then◌else◌, List, [], ◌∷◌, Bool, true, false, length, get_or, take, drop, map, refl, sym, ap, subst, ◌∙◌, eqb, eqb-true, eq-eqb, inl, inr, ⊎_elim, arith}
+use Rattle.std.specs.List.{All, AllPairs, Contains, list_any, flat_map}
+use Rattle.std.proofs.lemmas.Bool.{cond-true, false≢true, cases_lt}
+use Rattle.std.proofs.lemmas.Bool.Decides.{Decides-eqb, nat_tests}
+use Rattle.std.proofs.lemmas.List.{get_or_default, get_or-map, length-map, length-append, get_or_append_left, get_or-append_right}
+use Rattle.std.proofs.lemmas.List.Elements.{All-contains, Contains-append_left, Contains-append_right, Contains-append_cases}
+use Rattle.std.proofs.lemmas.Map.Keys.{IsDistinct-from_apart}
+use Rattle.std.proofs.lemmas.Map.Steps.{length-le_from_distinct_below}
+use Rattle.std.proofs.lemmas.Map.Views.{Contains-from_any}
+use Rattle.tg_race.specs.Weights.{weigh, one_at}
+use Rattle.tg_race.proofs.Drawn.{number_found, weighs_at}
+use Rattle.tg_race.proofs.Sums.{weigh-append, weigh_two}
+use Rattle.tg_parallel.specs.Parts.{AreOnce}
+
+module _ {A : Type 0} where
+  -- ---- All
+
+  pub all_left : (P : A → Type 0) (xs ys : List A) → All P (xs ++ ys) → All P xs
+  all_left P xs ys all = λ k d low. subst (λ (x : A). P x) (get_or_append_left xs ys d k low) (all k d (omega (arith, length-append xs ys)))
+
+  pub all_right : (P : A → Type 0) (xs ys : List A) → All P (xs ++ ys) → All P ys
+  all_right P xs ys all = λ k d low.
+      let e : length xs + k - length xs ≡ k = omega arith in
+      subst (λ (x : A). P x) (get_or-append_right xs ys (length xs) (length xs + k) d refl (omega arith) ∙ ap (λ (n : ℕ). get_or ys n d) e)
+      (all (length xs + k) d (omega (arith, length-append xs ys)))
+
+  -- ---- tests
+
+  pub any_at : (f : A → Bool) (xs : List A) (i : ℕ) (d : A) → i < length xs → f (get_or xs i d) ≡ true → list_any f xs ≡ true
+  any_at f [] i d low h = absurd (omega arith)
+  any_at f (x ∷ xs) zero d low h = rw h refl
+  any_at f (x ∷ xs) (suc i) d low h = go (f x) (any_at f xs i d (omega arith) h)
+    where
+      go : (b : Bool) → list_any f xs ≡ true → (b || list_any f xs) ≡ true
+      go true e = refl
+      go false e = e
+
+  pub any_has : (f : A → Bool) (xs : List A) (x : A) → Contains xs x → f x ≡ true → list_any f xs ≡ true
+  any_has f xs x held h = any_at f xs held.0 x held.1 (ap f held.2 ∙ h)
+
+  pub any_found : (f : A → Bool) (xs : List A) → list_any f xs ≡ true → (x : A) × Contains xs x × (f x ≡ true)
+  any_found f [] h = absurd (false≢true h)
+  any_found f (x ∷ xs) h = go (f x) refl h (any_found f xs)
+    where
+      go : (b : Bool) → f x ≡ b → (b || list_any f xs) ≡ true → (list_any f xs ≡ true → (y : A) × Contains xs y × (f y ≡ true)) → (y : A) × Contains (x ∷ xs) y × (f y ≡ true)
+      go true e h more = (x, (0, omega arith, refl), e)
+      go false e h more = let found = more h in (found.0, Contains-append_right (x ∷ []) xs found.0 found.1, found.2)
+
+-- ---- maps and pieces
+
+module _ {A B : Type 0} (f : A → B) where
+  pub map_has : (xs : List A) (x : A) → Contains xs x → Contains (map f xs) (f x)
+  map_has xs x held =
+      let low : held.0 < length (map f xs) = rw length-map held.1 in
+      (held.0, low, get_or-map f xs held.0 x (f x) held.1 ∙ ap f held.2)
+
+  pub map_found : (xs : List A) (y : B) → Contains (map f xs) y → (x : A) × Contains xs x × (f x ≡ y)
+  map_found [] y held = absurd (let low = held.1 in omega arith)
+  map_found (x ∷ xs) y (zero, low, is) = (x, (0, omega arith, refl), is)
+  map_found (x ∷ xs) y (suc k, low, is) = let found = map_found xs y (k, omega arith, is) in (found.0, Contains-append_right (x ∷ []) xs found.0 found.1, found.2)
+
+module _ {A B : Type 0} (f : A → List B) where
+  pub flat_has : (xs : List A) (x : A) (y : B) → Contains xs x → Contains (f x) y → Contains (flat_map f xs) y
+  flat_has [] x y held there = absurd (let low = held.1 in omega arith)
+  flat_has (a ∷ xs) x y (zero, low, is) there = Contains-append_left (f a) (flat_map f xs) y (subst (λ (z : A). Contains (f z) y) (sym is) there)
+  flat_has (a ∷ xs) x y (suc k, low, is) there = Contains-append_right (f a) (flat_map f xs) y (flat_has xs x y (k, omega arith, is) there)
+
+  pub flat_found : (xs : List A) (y : B) → Contains (flat_map f xs) y → (x : A) × Contains xs x × Contains (f x) y
+  flat_found [] y held = absurd (let low = held.1 in omega arith)
+  flat_found (a ∷ xs) y held = ⊎_elim
+      (λ here. (a, (0, omega arith, refl), here))
+      (λ later. let found = flat_found xs y later in (found.0, Contains-append_right (a ∷ []) xs found.0 found.1, found.2))
+      (Contains-append_cases (f a) (flat_map f xs) y held)
+
+module _ {A : Type 0} where
+  take_has : (n : ℕ) (xs : List A) (i : ℕ) (x : A) → i < n → i < length xs → get_or xs i x ≡ x → Contains (take n xs) x
+  take_has zero xs i x lt low is = absurd (omega arith)
+  take_has (suc n) [] i x lt low is = absurd (omega arith)
+  take_has (suc n) (y ∷ xs) zero x lt low is = (0, omega arith, is)
+  take_has (suc n) (y ∷ xs) (suc i) x lt low is = Contains-append_right (y ∷ []) (take n xs) x (take_has n xs i x (omega arith) (omega arith) is)
+
+  take_found : (n : ℕ) (xs : List A) (x : A) → Contains (take n xs) x → Contains xs x
+  take_found zero xs x held = absurd (let low = held.1 in omega arith)
+  take_found (suc n) [] x held = absurd (let low = held.1 in omega arith)
+  take_found (suc n) (y ∷ xs) x (zero, low, is) = (0, omega arith, is)
+  take_found (suc n) (y ∷ xs) x (suc k, low, is) = Contains-append_right (y ∷ []) xs x (take_found n xs x (k, omega arith, is))
+
+  drop_has : (n : ℕ) (xs : List A) (i : ℕ) (x : A) → n ≤ i → i < length xs → get_or xs i x ≡ x → (i - n < length (drop n xs)) × (get_or (drop n xs) (i - n) x ≡ x)
+  drop_has zero xs i x le low is = let e : i - 0 ≡ i = omega arith in (omega arith, ap (λ (k : ℕ). get_or xs k x) e ∙ is)
+  drop_has (suc n) [] i x le low is = absurd (omega arith)
+  drop_has (suc n) (y ∷ xs) zero x le low is = absurd (omega arith)
+  drop_has (suc n) (y ∷ xs) (suc i) x le low is =
+      let more = drop_has n xs i x (omega arith) (omega arith) is in
+      let e : suc i - suc n ≡ i - n = omega arith in
+      (omega (arith, more.0), ap (λ (k : ℕ). get_or (drop n xs) k x) e ∙ more.1)
+
+  drop_found : (n : ℕ) (xs : List A) (x : A) → Contains (drop n xs) x → Contains xs x
+  drop_found zero xs x held = held
+  drop_found (suc n) [] x held = absurd (let low = held.1 in omega arith)
+  drop_found (suc n) (y ∷ xs) x held = Contains-append_right (y ∷ []) xs x (drop_found n xs x held)
+
+  pub chunk_found : (xs : List A) (c : ℕ) (x : A) → Contains (take 8 (drop (8 * c) xs)) x → Contains xs x
+  chunk_found xs c x held = drop_found (8 * c) xs x (take_found 8 (drop (8 * c) xs) x held)
+
+  pub chunk_has : (xs : List A) (i : ℕ) (x : A) → i < length xs → get_or xs i x ≡ x → Contains (take 8 (drop (8 * (i / 8)) xs)) x
+  chunk_has xs i x low is =
+      let there = drop_has (8 * (i / 8)) xs i x (omega arith) low is in
+      take_has 8 (drop (8 * (i / 8)) xs) (i - 8 * (i / 8)) x (omega arith) there.0 there.1
+
+-- ---- numbers that stand once
+
+pub has_weighs : (xs : List ℕ) (n : ℕ) → Contains xs n → 0 < weigh (one_at n) xs
+has_weighs xs n held = subst (λ (m : ℕ). 0 < weigh (one_at m) xs) held.2 (weighs_at xs held.0 n held.1)
+
+module _ (xs ys : List ℕ) (once : AreOnce (xs ++ ys)) where
+  pub once_left : AreOnce xs
+  once_left n = let o = once n in omega (arith, weigh-append (one_at n) xs ys)
+
+  pub once_right : AreOnce ys
+  once_right n = let o = once n in omega (arith, weigh-append (one_at n) xs ys)
+
+  pub once_apart : (n : ℕ) → 0 < weigh (one_at n) xs → 0 < weigh (one_at n) ys → ⊥
+  once_apart n left right = absurd (let o = once n in omega (arith, weigh-append (one_at n) xs ys))
+
+-- and are at one index
+pub once_index : (xs : List ℕ) → AreOnce xs → (i j : ℕ) → i < length xs → j < length xs → get_or xs i 0 ≡ get_or xs j 0 → i ≡ j
+once_index xs once i j hi hj e = ⊎_elim
+    (λ (lt : i < j). absurd (clash i j lt hj e))
+    (λ (le : j ≤ i). ⊎_elim (λ (lt : j < i). absurd (clash j i lt hi (sym e))) (λ (ge : i ≤ j). omega arith) (cases_lt j i))
+    (cases_lt i j)
+  where
+    one : (x y : ℕ) → x ≡ y → one_at y x ≡ 1
+    one x y e = cond-true {A = ℕ} (eqb x y) 1 0 (eq-eqb x y e)
+
+    clash : (a b : ℕ) → a < b → b < length xs → get_or xs a 0 ≡ get_or xs b 0 → ⊥
+    clash a b lt low same = absurd (
+      let most = once (get_or xs b 0) in
+      let two = weigh_two (one_at (get_or xs b 0)) xs a b 0 lt low in
+      let l = one (get_or xs a 0) (get_or xs b 0) same in
+      let r = one (get_or xs b 0) (get_or xs b 0) refl in
+      omega arith)
+
+-- numbers that differ stand once
+pub once_differ : (xs : List ℕ) → AllPairs (λ m n. m ≢ n) xs → AreOnce xs
+once_differ [] apart n = omega arith
+once_differ (x ∷ xs) apart n = go (x == n) refl (once_differ xs (λ i j d lt low. apart (suc i) (suc j) d (omega arith) (omega arith)) n)
+  where
+    none_after : x ≡ n → (w : ℕ) → weigh (one_at n) xs ≡ w → w ≡ 0
+    none_after is zero e = refl
+    none_after is (suc w) e = absurd (let found = number_found n xs (omega arith) in apart 0 (suc found.0) n (omega arith) (let low = found.1 in omega arith) (is ∙ sym found.2))
+
+    go : (b : Bool) → (x == n) ≡ b → weigh (one_at n) xs ≤ 1 → (if b then 1 else 0) + weigh (one_at n) xs ≤ 1
+    go true e less = let none = none_after (eqb-true x n e) (weigh (one_at n) xs) refl in omega arith
+    go false e less = omega arith
+
+-- as many numbers as stand once below a bound
+pub few_long : (xs : List ℕ) (n : ℕ) → AreOnce xs → All (λ b. b < n) xs → length xs ≤ n
+few_long xs n once all = length-le_from_distinct_below xs n
+    (IsDistinct-from_apart eqb xs (λ i j d low high.
+    let ne : get_or xs i d ≢ get_or xs j d = λ e. (
+      let same : get_or xs i 0 ≡ get_or xs j 0 = get_or_default xs i 0 d (omega arith) ∙ e ∙ get_or_default xs j d 0 high in
+      let at = once_index xs once i j (omega arith) high same in
+      omega arith) in
+    grind (arith, nat_tests)))
+    (λ q any.
+    let held : Contains xs q = Contains-from_any {eq = eqb} (λ x y t. (Decides-eqb x y).0 t) q xs any in
+    All-contains (λ (b : ℕ). b < n) xs q all held)
