@@ -5,3 +5,4 @@ pub mod Wins
 pub mod Room
 pub mod Finish
 pub mod Merging
+pub mod Filled

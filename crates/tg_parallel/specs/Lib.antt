@@ -1,4 +1,5 @@
 pub mod Parts
+pub mod Seats
 pub mod Helping
 pub mod Merged
 pub mod Whole
