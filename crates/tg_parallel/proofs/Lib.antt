@@ -6,3 +6,5 @@ pub mod Room
 pub mod Finish
 pub mod Merging
 pub mod Filled
+pub mod Seating
+pub mod Numbering

@@ -12,6 +12,7 @@ pub mod laws;
 mod links;
 mod many;
 mod merge;
+mod numbered;
 mod own_blocks;
 mod part;
 mod seat;
