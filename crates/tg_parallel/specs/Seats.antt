@@ -1,6 +1,6 @@
 -- What a helper holds while it works: its record, and the places that it gives away in its own blocks, one after the other.
-use Rattle.std.specs.Prelude.{◌≡◌, ℕ, ◌+◌, ◌*◌, ◌/◌, ◌%◌, ◌^◌, ◌<◌, ◌≤◌, ◌==◌, Bool, true, false, not, eqb, List, ◌++◌, length, map, slice_index, slice_index_or}
-use Rattle.std.specs.List.{All, IsDistinct, filter}
+use Rattle.std.specs.Prelude.{◌≡◌, ◌≢◌, ℕ, ◌+◌, ◌*◌, ◌/◌, ◌%◌, ◌^◌, ◌<◌, ◌≤◌, ◌==◌, Bool, true, false, not, List, ◌++◌, length, map, slice_index, slice_index_or}
+use Rattle.std.specs.List.{All, AllPairs, filter}
 use Rattle.tg_word.specs.declared.Place.{Place}
 use Rattle.tg_word.specs.Word.{IsPlace}
 use Rattle.tg_space.specs.declared.spaces.Kind.{Kind}
@@ -83,7 +83,7 @@ pub record Sitting : Type 0 where
 pub record IsSeat (limit : ℕ) (board : Board) (helper : Seated) (aged old : OwnBlocks) : Type 0 where
   pub own : helper.table ≡ board.table
   pub few : limit ≤ 2 ^ 20
-  pub differ : IsDistinct eqb (map (λ q. q.0) helper.done.won)
+  pub differ : AllPairs (λ q r. q.0 ≢ r.0) helper.done.won
   pub inside : All (λ q. q.0 < board.counts.cells) helper.done.won
   pub places : All (λ q. IsPlace q.1 × (q.1.space < 2)) helper.done.won
   pub is_aged : aged.aged ≡ true

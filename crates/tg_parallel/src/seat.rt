@@ -101,11 +101,10 @@ impl<'a> Seat<'a> {
         ensures known { IfOk result (λ word. (to : ℕ → PlaceOf) → HasPlaces self.exit.now.done to → to cell ≡ place_in word) }
         ensures full { IfErr result (λ fault. fault ≡ CollectFault.HeapFull → HasClaimedPast self.exit.now.limit self.exit.now.done) }
     {
-        if let Some(place) = self.winner.look(self.table, cell) {
-            return Ok(word_to(place));
+        match self.winner.look(self.table, cell) {
+            Some(place) => Ok(word_to(place)),
+            None => Ok(word_to(self.give_place(cell, space)?)),
         }
-        let place = self.give_place(cell, space)?;
-        Ok(word_to(place))
     }
 
     // Gives a cell that has no place the next one of a space, unless another helper does so first.
