@@ -1,3 +1,5 @@
 pub mod Lists
+pub mod Traces
 pub mod Filled
 pub mod Seating
+pub mod Working

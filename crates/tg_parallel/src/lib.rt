@@ -10,3 +10,4 @@ mod own_blocks;
 mod part;
 mod seat;
 mod winner;
+mod work;
