@@ -18,7 +18,7 @@ use Rattle.tg_parallel.proofs.Lists.{any_at, any_found, map_has}
 
 -- ---- lists
 
-all_of : {A : Type 0} (f : A → Bool) (xs : List A) → ((x : A) → Contains xs x → f x ≡ true) → list_all f xs ≡ true
+pub all_of : {A : Type 0} (f : A → Bool) (xs : List A) → ((x : A) → Contains xs x → f x ≡ true) → list_all f xs ≡ true
 all_of f [] h = refl
 all_of f (x ∷ xs) h =
     let here : f x ≡ true = h x (0, omega arith, refl) in

@@ -7,4 +7,5 @@ pub mod Finish
 pub mod Merging
 pub mod Filled
 pub mod Seating
+pub mod Working
 pub mod Numbering

@@ -1,18 +1,21 @@
 -- What a helper holds while it works: its record, and the places that it gives away in its own blocks, one after the other.
-use Rattle.std.specs.Prelude.{◌≡◌, ◌≢◌, ℕ, ◌+◌, ◌*◌, ◌/◌, ◌%◌, ◌^◌, ◌<◌, ◌≤◌, ◌==◌, Bool, true, false, not, List, ◌++◌, length, map, slice_index, slice_index_or}
-use Rattle.std.specs.List.{All, AllPairs, filter}
+use Rattle.std.specs.Prelude.{◌≡◌, ◌≢◌, ℕ, ◌+◌, ◌*◌, ◌/◌, ◌%◌, ◌^◌, ◌<◌, ◌≤◌, ◌==◌, Bool, true, false, not, List, [], ◌∷◌, ◌++◌, length, map, slice_index, slice_index_or}
+use Rattle.std.specs.List.{All, AllPairs, Contains, filter}
 use Rattle.tg_word.specs.declared.Place.{Place}
 use Rattle.tg_word.specs.Word.{IsPlace}
+use Rattle.tg_space.specs.SpaceList.{SpaceList}
+use Rattle.tg_space.specs.Targets.{from_space, all_root_targets}
 use Rattle.tg_space.specs.declared.spaces.Kind.{Kind}
+use Rattle.tg_space.specs.declared.spaces.Root.{Root}
 use Rattle.tg_race.specs.declared.record.Record.{Record}
 use Rattle.tg_race.specs.Conditions.{blocks_of}
-use Rattle.tg_race.specs.Race.{used_in}
+use Rattle.tg_race.specs.Race.{is_chunk, used_in}
 use Rattle.tg_race.specs.Seats.{Board, Seated}
 use Rattle.tg_race.specs.Words.{space_of}
 use Rattle.tg_evac.specs.declared.win.Win.{Win}
-use Rattle.tg_evac.specs.Claimers.{Walked}
+use Rattle.tg_evac.specs.Claimers.{AreScanned, Walked}
 use Rattle.tg_parallel.specs.declared.own_blocks.OwnBlocks.{OwnBlocks}
-use Rattle.tg_parallel.specs.Parts.{cells_met, wins_of}
+use Rattle.tg_parallel.specs.Parts.{HasPlaces, cells_met, roots_in, wins_of}
 
 -- ---- a helper's own blocks of one space
 
@@ -106,3 +109,24 @@ walked_at s = record {
   won = wins_of s.done.won;
   met = cells_met s.done;
 }
+
+-- ---- what was worked
+
+-- the seat is the same one, at the same table
+pub record IsSameSeat (a b : Sitting) : Type 0 where
+  pub kind : b.kind ≡ a.kind
+  pub limit : b.limit ≡ a.limit
+  pub board : b.board ≡ a.board
+  pub share : b.done.share ≡ a.done.share
+
+-- a chunk was claimed, behind these ones, of which none is past the last
+pub record HasDrawn (before : List ℕ) (chunk : ℕ) (s : Sitting) : Type 0 where
+  pub is : s.done.chunks ≡ before ++ chunk ∷ []
+  pub before_last : All (λ c. is_chunk s.board.counts c ≡ true) before
+
+-- All that the roots of these chunks lead to was copied: their targets are met, and all won cells were scanned, whose copies
+-- stand in order
+pub record HasCopied (kind : Kind) (h : SpaceList) (roots : List Root) (chunks : List ℕ) (s : Sitting) (scanned : ℕ) (aged old : List (List ℕ)) : Type 0 where
+  pub met : All (Contains (cells_met s.done)) (all_root_targets (from_space kind) h (roots_in roots chunks))
+  pub all : scanned ≡ length s.done.won
+  pub copies : AreScanned h (walked_at s) (HasPlaces s.done) scanned aged old

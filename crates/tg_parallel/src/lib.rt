@@ -17,3 +17,4 @@ mod own_blocks;
 mod part;
 mod seat;
 mod winner;
+mod work;
