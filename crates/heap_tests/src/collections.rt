@@ -3,6 +3,7 @@ ghost use Rattle.std.specs.Prelude.{◌≡◌, ◌<◌, length};
 ghost use Rattle.tg_space.specs.SpaceList.{cells_of};
 ghost use Rattle.tg_word.specs.Word.{IsPlace};
 
+mod helpers;
 mod sound;
 
 use sound::are_sound;
@@ -94,9 +95,13 @@ fn link_to(cells: &mut Cells, chunk: usize, seed: &mut u64) {
     }
 }
 
-// A heap of these cells.
+// A heap of these cells, with room for all of them however they are spread.
 fn heap_of(alloc: Global, cells: &Cells) -> Result<Spaces, Fail> {
-    let limits = Limits::new(8, 8)?;
+    heap_within(alloc, cells, Limits::new(16, 16)?)
+}
+
+// A heap of these cells, within these limits.
+fn heap_within(alloc: Global, cells: &Cells, limits: Limits) -> Result<Spaces, Fail> {
     let mut spaces = Spaces::new(alloc, 1, limits)?;
     for space in 0..3 {
         if space < spaces.nurseries() + 2 {
@@ -183,8 +188,26 @@ fn random_heaps_keep_what_is_reached(rt: HostRuntime) -> Result<(), Fail> {
     Ok(())
 }
 
-// One heap, collected from two rows, and from every second cell of Old where that names a young one.
 fn collect_random(rt: &impl Abort, alloc: Global, seed: &mut u64, kind: Kind) -> Result<(), Fail> {
+    let heap = random_heap(alloc, seed, kind)?;
+    let spaces = heap_of(alloc, &heap.cells)?;
+    assert!(rt; are_sound(&spaces, &heap.roots));
+    let copied = collect_one(alloc, &spaces, &heap.roots, kind)?;
+    check_copied(rt, &heap, &spaces, kind, &copied);
+    Ok(())
+}
+
+// Cells, with what a collection starts from, and what its rows and its remembered cells name.
+#[derive(Drop)]
+struct RandomHeap {
+    cells: Cells,
+    roots: Vec<Root>,
+    rows: Marks,
+    noted: Marks,
+}
+
+// One heap, with two rows, and with every second cell of Old where that names a young one.
+fn random_heap(alloc: Global, seed: &mut u64, kind: Kind) -> Result<RandomHeap, Fail> {
     let cells = random_cells(seed);
     let mut rows = [false; CELLS];
     let mut noted = [false; CELLS];
@@ -200,14 +223,22 @@ fn collect_random(rt: &impl Abort, alloc: Global, seed: &mut u64, kind: Kind) ->
             roots.push(Root::Remembered(place_at(i)))?;
         }
     }
-    let spaces = heap_of(alloc, &cells)?;
-    assert!(rt; are_sound(&spaces, &roots));
-    let copied = collect_one(alloc, &spaces, &roots, kind)?;
+    Ok(RandomHeap {
+        cells,
+        roots,
+        rows,
+        noted,
+    })
+}
+
+// What was copied of the heap is a collection of it.
+fn check_copied(rt: &impl Abort, heap: &RandomHeap, spaces: &Spaces, kind: Kind, copied: &Copied)
+    requires { length copied.now.forward.words ≡ length (cells_of spaces.now.spaces) }
+{
     assert_eq!(rt; spaces.cells(), CELLS as u64);
-    let forward = words_of(&spaces, &copied.forward);
-    check(rt, &cells, kind, &rows, &noted, &forward);
-    check_cells(rt, &cells, kind, &copied, &forward);
-    Ok(())
+    let forward = words_of(spaces, &copied.forward);
+    check(rt, &heap.cells, kind, &heap.rows, &heap.noted, &forward);
+    check_cells(rt, &heap.cells, kind, copied, &forward);
 }
 
 // The forwarding word of each cell.

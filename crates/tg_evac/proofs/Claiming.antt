@@ -436,4 +436,5 @@ module _ (c : Claimed) (are : AreClaims c) (w : Win) (space number : ℕ) (two :
     same_kept = refl;
     same_room = refl;
     as_many = length-set c.forward w.cell w.word;
+    same_fixed = refl;
   }

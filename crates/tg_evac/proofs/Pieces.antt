@@ -23,7 +23,7 @@ use Rattle.tg_evac.proofs.Reasons.{traced_more}
 use Rattle.tg_evac.proofs.Walking.{met_piece, still_met, wider, wins_then, wins_weaker}
 
 -- the targets of a root
-module _ (h : SpaceList) (roots : List Root) (i : ℕ) (d : Root) (inside : i < length roots) {a b c : Walked}
+module _ (h : SpaceList) (roots : List Root) (i : ℕ) (d : Root) (inside : i < length roots) {Fixed : Type 0} {a b c : Walked Fixed}
     (one : AddsWins (IsRootClaim a.kind h roots) a b)
     (two : AddsWins (IsClaimOf h (is_straight b.kind (get_or roots i d)) (root_targets_of (from_space b.kind) h (get_or roots i d))) b c) where
   root_is : AddsWins (IsClaimOf h (is_straight a.kind (get_or roots i d)) (root_targets_of (from_space a.kind) h (get_or roots i d))) b c
@@ -38,7 +38,7 @@ module _ (h : SpaceList) (roots : List Root) (i : ℕ) (d : Root) (inside : i < 
       (subst (λ (k : Kind). All (Contains c.met) (root_targets_of (from_space k) h (get_or roots i d))) one.same_kind here)
 
 -- the targets of one more chunk
-module _ (h : SpaceList) (straight : Bool) (count first passed link : ℕ) (chunk : Place) (is : chunk ≡ place_in link) {a b c : Walked}
+module _ (h : SpaceList) (straight : Bool) (count first passed link : ℕ) (chunk : Place) (is : chunk ≡ place_in link) {Fixed : Type 0} {a b c : Walked Fixed}
     (one : AddsWins (IsClaimOf h straight (chunk_targets (from_space a.kind) h count first)) a b)
     (two : AddsWins (IsClaimOf h straight (targets_at (from_space b.kind) h chunk)) b c)
     (before : ChunksPassed (from_space a.kind) h count first passed link b.met) (more : passed < count) (some : link ≢ 0) (kept : from_space a.kind (place_in link).space ≡ false) where
@@ -58,7 +58,7 @@ module _ (h : SpaceList) (straight : Bool) (count first passed link : ℕ) (chun
       (subst (λ (k : Kind). All (Contains c.met) (targets_at (from_space k) h chunk)) one.same_kind here))
 
 -- the targets of a row whose object stays
-module _ (h : SpaceList) (straight : Bool) (object : Place) {a b : Walked} (kept : from_space a.kind object.space ≡ false)
+module _ (h : SpaceList) (straight : Bool) (object : Place) {Fixed : Type 0} {a b : Walked Fixed} (kept : from_space a.kind object.space ≡ false)
     (one : AddsWins (IsClaimOf h straight (targets_at (from_space a.kind) h object)) a b) where
   pub row_first : AddsWins (IsClaimOf h straight (root_targets_of (from_space a.kind) h (Row object))) a b
   row_first = wins_weaker one (wider (targets_at (from_space a.kind) h object) (root_targets_of (from_space a.kind) h (Row object))
@@ -67,7 +67,7 @@ module _ (h : SpaceList) (straight : Bool) (object : Place) {a b : Walked} (kept
       (λ x held. Contains-append_left (targets_at (from_space a.kind) h object) (chunk_targets (from_space a.kind) h (length (cells_of h)) (link_at h object)) x held)
       (targets_at (from_space a.kind) h object) (All-contains_itself (targets_at (from_space a.kind) h object)))))
 
-  module _ {c : Walked} (two : AddsWins (IsClaimOf h straight (chunk_targets (from_space b.kind) h (length (cells_of h)) (link_at h object))) b c) where
+  module _ {c : Walked Fixed} (two : AddsWins (IsClaimOf h straight (chunk_targets (from_space b.kind) h (length (cells_of h)) (link_at h object))) b c) where
     chunks_is : AddsWins (IsClaimOf h straight (chunk_targets (from_space a.kind) h (length (cells_of h)) (link_at h object))) b c
     chunks_is = subst (λ (k : Kind). AddsWins (IsClaimOf h straight (chunk_targets (from_space k) h (length (cells_of h)) (link_at h object))) b c) one.same_kind two
 
@@ -96,7 +96,7 @@ copies_other : (space : ℕ) (kind : Kind) (h : SpaceList) (to : ℕ → Place) 
 copies_other space kind h to won w other = ap (map (λ (v : Win). image_at kind h to v.cell)) (in_other space won w other)
 
 -- what was scanned stays so
-module _ {h : SpaceList} {reason : Win → Type 0} {b c : Walked} {before after : (ℕ → Place) → Type 0} {n : ℕ} {aged old : List (List ℕ)}
+module _ {h : SpaceList} {reason : Win → Type 0} {Fixed : Type 0} {b c : Walked Fixed} {before after : (ℕ → Place) → Type 0} {n : ℕ} {aged old : List (List ℕ)}
     (so : AreScanned h b before n aged old) (adds : AddsWins reason b c) (grows : KnowsMore before after) where
   same_win : (k : ℕ) → k < n → win_at c.won k ≡ win_at b.won k
   same_win k low = let within = so.within in ap (λ (ws : List Win). win_at ws k) adds.is ∙ get_or_append_left b.won adds.added (win_at [] 0) k (omega arith)
@@ -122,7 +122,7 @@ module _ {h : SpaceList} {reason : Win → Type 0} {b c : Walked} {before after 
   }
 
 -- one more cell was scanned
-module _ {h : SpaceList} {b : Walked} {knows : (ℕ → Place) → Type 0} {n : ℕ} {aged old : List (List ℕ)} (so : AreScanned h b knows n aged old)
+module _ {h : SpaceList} {Fixed : Type 0} {b : Walked Fixed} {knows : (ℕ → Place) → Type 0} {n : ℕ} {aged old : List (List ℕ)} (so : AreScanned h b knows n aged old)
     (low : n < length b.won) (w : Win) (is : w ≡ win_at b.won n) (met : All (Contains b.met) (targets_of (from_space b.kind) h w.cell))
     (words : List ℕ) (image : (to : ℕ → Place) → knows to → words ≡ image_at b.kind h to w.cell) where
   more : take (n + 1) b.won ≡ take n b.won ++ w ∷ []
@@ -174,7 +174,7 @@ room_left space won n low here =
     omega arith
 
 -- one more cell is scanned: what it names is claimed, and it is copied
-module _ (h : SpaceList) (n : ℕ) (w : Win) (straight : Bool) (source : List ℕ) {b c : Walked} {before : (ℕ → Place) → Type 0} {aged old : List (List ℕ)}
+module _ (h : SpaceList) (n : ℕ) (w : Win) (straight : Bool) (source : List ℕ) {Fixed : Type 0} {b c : Walked Fixed} {before : (ℕ → Place) → Type 0} {aged old : List (List ℕ)}
     (so : AreScanned h b before n aged old) (low : n < length b.won) (is : w ≡ win_at b.won n) (in_old : straight ≡ is_in_old w) (at : source ≡ cell_numbered h w.cell)
     (added : AddsWins (IsClaimOf h straight (named_by (from_space b.kind) h (pointers_of source))) b c) where
   two : AddsWins (IsClaimOf h straight (targets_of (from_space b.kind) h w.cell)) b c
@@ -226,7 +226,7 @@ module _ (h : SpaceList) (n : ℕ) (w : Win) (straight : Bool) (source : List �
 -- ---- the plain table
 
 -- no cell was scanned
-pub none_scanned : (h : SpaceList) (w : Walked) (knows : (ℕ → Place) → Type 0) (scanned : ℕ) (aged old : List (List ℕ)) → scanned ≡ 0 → aged ≡ [] → old ≡ [] → AreScanned h w knows scanned aged old
+pub none_scanned : {Fixed : Type 0} (h : SpaceList) (w : Walked Fixed) (knows : (ℕ → Place) → Type 0) (scanned : ℕ) (aged old : List (List ℕ)) → scanned ≡ 0 → aged ≡ [] → old ≡ [] → AreScanned h w knows scanned aged old
 none_scanned h w knows scanned aged old none no_aged no_old =
     rw (none, no_aged, no_old) (record { within = omega arith; met = λ k low. absurd (omega arith); aged_long = refl; old_long = refl; in_aged = λ to agrees. refl; in_old = λ to agrees. refl })
 

@@ -50,7 +50,7 @@ HasReason kind h roots won w =
     IsRootClaim kind h roots w
     ⊎ ((j : ℕ) × (j < length won) × IsClaimOf h (is_in_old (win_at won j)) (targets_of (from_space kind) h (win_at won j).cell) w)
 
-module _ (kind : Kind) (h : SpaceList) (roots : List Root) {reason : Win → Type 0} {a b : Walked} (adds : AddsWins reason a b) where
+module _ (kind : Kind) (h : SpaceList) (roots : List Root) {reason : Win → Type 0} {Fixed : Type 0} {a b : Walked Fixed} (adds : AddsWins reason a b) where
   kept_win : (k : ℕ) → k < length a.won → win_at b.won k ≡ win_at a.won k
   kept_win k low = ap (λ (ws : List Win). win_at ws k) adds.is ∙ get_or_append_left a.won adds.added (win_at [] 0) k low
 

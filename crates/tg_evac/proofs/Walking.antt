@@ -14,10 +14,10 @@ use Rattle.tg_evac.specs.declared.win.Win.{Win}
 use Rattle.tg_evac.specs.Claims.{IsClaimOf}
 use Rattle.tg_evac.specs.Claimers.{AddsWins, KnowsMore, Walked}
 
-pub wins_none : (reason : Win → Type 0) (a : Walked) → AddsWins reason a a
-wins_none reason a = record { added = []; is = sym (append-nil a.won); reasons = All-nil reason; still = λ _ held. held; same_kind = refl; same_kept = refl; same_room = refl; as_many = refl }
+pub wins_none : {Fixed : Type 0} (reason : Win → Type 0) (a : Walked Fixed) → AddsWins reason a a
+wins_none reason a = record { added = []; is = sym (append-nil a.won); reasons = All-nil reason; still = λ _ held. held; same_kind = refl; same_kept = refl; same_room = refl; as_many = refl; same_fixed = refl }
 
-pub wins_then : {reason : Win → Type 0} {a b c : Walked} → AddsWins reason a b → AddsWins reason b c → AddsWins reason a c
+pub wins_then : {reason : Win → Type 0} {Fixed : Type 0} {a b c : Walked Fixed} → AddsWins reason a b → AddsWins reason b c → AddsWins reason a c
 wins_then {reason} {a} one two = record {
   added = one.added ++ two.added;
   is = two.is ∙ ap (λ (ws : List Win). ws ++ two.added) one.is ∙ append_assoc a.won one.added two.added;
@@ -27,9 +27,10 @@ wins_then {reason} {a} one two = record {
   same_kept = two.same_kept ∙ one.same_kept;
   same_room = two.same_room ∙ one.same_room;
   as_many = two.as_many ∙ one.as_many;
+  same_fixed = two.same_fixed ∙ one.same_fixed;
 }
 
-pub wins_weaker : {few many : Win → Type 0} {a b : Walked} → AddsWins few a b → ((w : Win) → few w → many w) → AddsWins many a b
+pub wins_weaker : {few many : Win → Type 0} {Fixed : Type 0} {a b : Walked Fixed} → AddsWins few a b → ((w : Win) → few w → many w) → AddsWins many a b
 wins_weaker {few} {many} adds weaker = record {
   added = adds.added;
   is = adds.is;
@@ -39,9 +40,10 @@ wins_weaker {few} {many} adds weaker = record {
   same_kept = adds.same_kept;
   same_room = adds.same_room;
   as_many = adds.as_many;
+  same_fixed = adds.same_fixed;
 }
 
-pub still_met : {reason : Win → Type 0} {a b : Walked} → AddsWins reason a b → (xs : List ℕ) → All (Contains a.met) xs → All (Contains b.met) xs
+pub still_met : {reason : Win → Type 0} {Fixed : Type 0} {a b : Walked Fixed} → AddsWins reason a b → (xs : List ℕ) → All (Contains a.met) xs → All (Contains b.met) xs
 still_met {a = a} {b = b} adds xs all = All-weaker (Contains a.met) (Contains b.met) adds.still xs all
 
 -- a claim of one of these cells is one of more cells
@@ -56,7 +58,7 @@ met_piece g xs i d inside b c still before here =
     ap (flat_map g) (take_more xs i d inside) ∙ flat_map-append g (take i xs) (get_or xs i d ∷ []) ∙ ap (λ (ys : List ℕ). flat_map g (take i xs) ++ ys) (append-nil (g (get_or xs i d))) in
     subst (λ (ys : List ℕ). All (Contains c) ys) (sym more) (All-append (Contains c) (flat_map g (take i xs)) (g (get_or xs i d)) (All-weaker (Contains b) (Contains c) still (flat_map g (take i xs)) before) here)
 
-module _ {X : Type 0} (f : Kind → X → List ℕ) (h : SpaceList) (straight : Bool) (xs : List X) (i : ℕ) (d : X) (inside : i < length xs) {a b c : Walked}
+module _ {X : Type 0} (f : Kind → X → List ℕ) (h : SpaceList) (straight : Bool) (xs : List X) (i : ℕ) (d : X) (inside : i < length xs) {Fixed : Type 0} {a b c : Walked Fixed}
     (one : AddsWins (IsClaimOf h straight (flat_map (f a.kind) xs)) a b) (two : AddsWins (IsClaimOf h straight (f b.kind (get_or xs i d))) b c) where
   two_is : AddsWins (IsClaimOf h straight (f a.kind (get_or xs i d))) b c
   two_is = subst (λ (k : Kind). AddsWins (IsClaimOf h straight (f k (get_or xs i d))) b c) one.same_kind two
@@ -70,7 +72,7 @@ module _ {X : Type 0} (f : Kind → X → List ℕ) (h : SpaceList) (straight : 
 
 -- ---- the image of a cell, word by word
 
-pub record IsImaged (h : SpaceList) (straight : Bool) (first : ℕ) (words image : List ℕ) (i : ℕ) (a b : Walked) (before after : (ℕ → Place) → Type 0) : Type 0 where
+pub record IsImaged {Fixed : Type 0} (h : SpaceList) (straight : Bool) (first : ℕ) (words image : List ℕ) (i : ℕ) (a b : Walked Fixed) (before after : (ℕ → Place) → Type 0) : Type 0 where
   pub low : first ≤ i
   pub high : i ≤ 8
   pub wide : length words ≡ 8
@@ -82,7 +84,7 @@ pub record IsImaged (h : SpaceList) (straight : Bool) (first : ℕ) (words image
   pub rest : (j : ℕ) → j < first → get_or image j 0 ≡ get_or words j 0
 
 module _ (h : SpaceList) (straight : Bool) (first : ℕ) (words : List ℕ) where
-  pub imaged_none : length words ≡ 8 → first ≤ 8 → (a : Walked) (knows : (ℕ → Place) → Type 0) → IsImaged h straight first words words first a a knows knows
+  pub imaged_none : length words ≡ 8 → first ≤ 8 → {Fixed : Type 0} (a : Walked Fixed) (knows : (ℕ → Place) → Type 0) → IsImaged h straight first words words first a a knows knows
   imaged_none wide inside a knows = record {
     low = omega arith;
     high = inside;
@@ -95,7 +97,7 @@ module _ (h : SpaceList) (straight : Bool) (first : ℕ) (words : List ℕ) wher
     rest = λ _ _. refl;
   }
 
-  module _ (image : List ℕ) (i : ℕ) (more : i < 8) {a b c : Walked} {before mid : (ℕ → Place) → Type 0} (so : IsImaged h straight first words image i a b before mid)
+  module _ (image : List ℕ) (i : ℕ) (more : i < 8) {Fixed : Type 0} {a b c : Walked Fixed} {before mid : (ℕ → Place) → Type 0} (so : IsImaged h straight first words image i a b before mid)
       (two : AddsWins (IsClaimOf h straight (target_in (from_space b.kind) h (get_or words i 0))) b c) where
     at : get_or (drop first words) (i - first) 0 ≡ get_or words i 0
     at =
@@ -143,7 +145,7 @@ module _ (h : SpaceList) (straight : Bool) (first : ℕ) (words : List ℕ) wher
         rest = λ j under. (let low = so.low in get_or-set_other image i j v 0 (omega arith) ∙ so.rest j under);
       }
 
-  module _ (image : List ℕ) (i : ℕ) (all : 8 ≤ i) {a b : Walked} {before after : (ℕ → Place) → Type 0} (so : IsImaged h straight first words image i a b before after) where
+  module _ (image : List ℕ) (i : ℕ) (all : 8 ≤ i) {Fixed : Type 0} {a b : Walked Fixed} {before after : (ℕ → Place) → Type 0} (so : IsImaged h straight first words image i a b before after) where
     pub imaged_met : All (Contains b.met) (named_by (from_space a.kind) h (drop first words))
     imaged_met =
         let high = so.high in let wide = so.wide in let l = length-drop first words in

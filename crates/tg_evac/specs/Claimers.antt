@@ -10,17 +10,18 @@ use Rattle.tg_evac.specs.declared.win.Win.{Win}
 use Rattle.tg_evac.specs.Claims.{Claimed, cells_won, win_at, won_in}
 
 -- the kind of the collection, how many blocks of Old stay, how many cells Old and Aged may have each, how many cells
--- there are, the pairs that were won, and the cells whose places are known
-pub record Walked : Type 0 where
+-- there are, what else no claim changes, the pairs that were won, and the cells whose places are known
+pub record Walked (Fixed : Type 0) : Type 0 where
   pub kind : Kind
   pub kept : ℕ
   pub room : ℕ
   pub cells : ℕ
+  pub fixed : Fixed
   pub won : List Win
   pub met : List ℕ
 
 -- more pairs were won, each with this reason, and no cell was forgotten
-pub record AddsWins (reason : Win → Type 0) (before after : Walked) : Type 0 where
+pub record AddsWins {Fixed : Type 0} (reason : Win → Type 0) (before after : Walked Fixed) : Type 0 where
   pub added : List Win
   pub is : after.won ≡ before.won ++ added
   pub reasons : All reason added
@@ -29,9 +30,10 @@ pub record AddsWins (reason : Win → Type 0) (before after : Walked) : Type 0 w
   pub same_kept : after.kept ≡ before.kept
   pub same_room : after.room ≡ before.room
   pub as_many : after.cells ≡ before.cells
+  pub same_fixed : after.fixed ≡ before.fixed
 
 -- more pairs were won, for whatever reason
-abbrev pub KeepsWins : Walked → Walked → Type 0
+abbrev pub KeepsWins : {Fixed : Type 0} → Walked Fixed → Walked Fixed → Type 0
 KeepsWins before after = AddsWins (λ w. ⊤) before after
 
 -- a map that agrees with all that is known later agrees with what was known before
@@ -54,7 +56,7 @@ copies_to space kind h to won = map (λ w. image_at kind h to w.cell) (won_in sp
 
 -- So many pairs were scanned: what their cells name is met, and their copies are these under whatever map agrees with all
 -- that is known.
-pub record AreScanned (h : SpaceList) (w : Walked) (knows : (ℕ → Place) → Type 0) (scanned : ℕ) (aged old : List (List ℕ)) : Type 0 where
+pub record AreScanned {Fixed : Type 0} (h : SpaceList) (w : Walked Fixed) (knows : (ℕ → Place) → Type 0) (scanned : ℕ) (aged old : List (List ℕ)) : Type 0 where
   pub within : scanned ≤ length w.won
   pub met : (k : ℕ) → k < scanned → All (Contains w.met) (targets_of (from_space w.kind) h (win_at w.won k).cell)
   pub aged_long : length aged ≡ length (won_in 1 (take scanned w.won))
@@ -65,5 +67,5 @@ pub record AreScanned (h : SpaceList) (w : Walked) (knows : (ℕ → Place) → 
 -- ---- the plain table
 
 -- the places that the plain table has given are known, and no others
-abbrev pub walked_of : Claimed → Walked
-walked_of c = record { kind = c.plan.kind; kept = c.plan.kept; room = c.plan.room; cells = length c.forward; won = c.won; met = cells_won c.won }
+abbrev pub walked_of : Claimed → Walked (Unit {0})
+walked_of c = record { kind = c.plan.kind; kept = c.plan.kept; room = c.plan.room; cells = length c.forward; fixed = tt; won = c.won; met = cells_won c.won }

@@ -14,8 +14,11 @@ use crate::win::Win;
 /// One thread may have it for itself, or several may share it. The walk over the cells is the same: it may use that a
 /// cell which was claimed has a place, and that a place which was given stays.
 pub trait Claimer {
+    /// What else no claim changes.
+    ghost Fixed: { Type 0 };
+
     /// What was won, and what is known.
-    ghost walked: { Self → Walked };
+    ghost walked: { Self → Walked Fixed };
 
     /// The map from cells to places agrees with all that is known.
     ghost knows: { Self → (ℕ → PlaceOf) → Type 0 };

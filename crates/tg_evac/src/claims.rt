@@ -132,6 +132,8 @@ impl Claims {
 }
 
 impl Claimer for Claims {
+    ghost Fixed = { Unit {0} };
+
     ghost walked = { walked_of };
 
     ghost knows = { λ c. HasPlacesOf c.won };

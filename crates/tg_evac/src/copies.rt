@@ -95,6 +95,7 @@ pub fn scan<C: Claimer>(
     ensures keeps { KeepsWins (C.walked claimer.old) (C.walked claimer.new) }
     ensures grows { KnowsMore (C.knows claimer.old) (C.knows claimer.new) }
     ensures scanned { OnOk result (AreScanned spaces.now.spaces (C.walked claimer.new) (C.knows claimer.new) (length (C.walked claimer.new).won) copies.exit.now.aged copies.exit.now.old) }
+    ensures ended { OnOk result (copies.exit.now.scanned ≡ length (C.walked claimer.new).won) }
     ensures full { IfErr result (λ fault. fault ≡ CollectFault.HeapFull → C.is_full claimer.new) }
 {
     while copies.scanned < claimer.len() {

@@ -5,3 +5,7 @@ pub mod Wins
 pub mod Room
 pub mod Finish
 pub mod Merging
+pub mod Filled
+pub mod Seating
+pub mod Working
+pub mod Numbering

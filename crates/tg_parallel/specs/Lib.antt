@@ -1,5 +1,7 @@
 pub mod Parts
+pub mod Seats
 pub mod Helping
 pub mod Merged
 pub mod Whole
+pub mod Numbering
 pub mod Faults

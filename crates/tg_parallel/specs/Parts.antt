@@ -101,6 +101,10 @@ pub record IsPart (kind : Kind) (t : SpaceTable) (roots : List Root) (v : Record
   -- whatever map has the places that were won and seen
   pub images : AreOnce v.aged_blocks → AreOnce v.old_blocks → (to : ℕ → Place) → HasPlaces v to → AreImages kind t.spaces v aged old to
 
+-- the record has claimed a block past so many
+abbrev pub HasClaimedPast : ℕ → Record → Type 0
+HasClaimedPast limit v = (b : ℕ) × (Contains v.aged_blocks b ⊎ Contains v.old_blocks b) × (limit ≤ b)
+
 -- the record has claimed a block past the limit
 abbrev pub IsPastLimit : SpaceTable → Record → Type 0
-IsPastLimit t v = (b : ℕ) × (Contains v.aged_blocks b ⊎ Contains v.old_blocks b) × (t.limits.space_blocks ≤ b)
+IsPastLimit t v = HasClaimedPast t.limits.space_blocks v

@@ -125,6 +125,14 @@ impl Space {
         self.push(Block::new(alloc)?)
     }
 
+    /// The blocks, in order. No block is copied.
+    pub fn into_blocks(self) -> Vec<Block>
+        ensures blocks { result.items ≡ self }
+        ensures few { length result.items ≤ 2 ^ 20 }
+    {
+        self.blocks
+    }
+
     /// Puts the blocks of another space behind its own. No block is copied.
     ///
     /// It is refused only where memory was; then nothing is changed.

@@ -1,0 +1,168 @@
+//! The same with several helpers, and helpers that meet at a gate.
+ghost use Rattle.std.specs.Prelude.{◌≤◌};
+
+use super::sound::are_sound;
+use super::{CELLS, Cells, check_copied, heap_of, heap_within, place_at, random_heap};
+use std::alloc::Global;
+use std::process::Abort;
+use std::sync::Wait;
+use std::sync::atomic::{AtomicU64, Ordering};
+use std::test::Fail;
+use std::thread;
+use std::thread::Threads;
+use tg_block::{OBJECT_TAG, WORDS};
+use tg_evac::Copied;
+use tg_parallel::{Gate, HelpersFault, NoGate, collect_many, collect_seated};
+use tg_rights::{Right, Rights};
+use tg_space::{Kind, Limits, Root};
+use tg_word::{Slot, pack};
+
+#[test]
+fn helpers_keep_what_is_reached(rt: HostRuntime) -> Result<(), Fail> {
+    let mut seed = 7;
+    for _ in 0..25 {
+        for helpers in [1, 2, 3, 8] {
+            collect_by(&rt, rt.alloc(), &mut seed, Kind::Full, helpers)?;
+            collect_by(&rt, rt.alloc(), &mut seed, Kind::Nursery, helpers)?;
+        }
+    }
+    Ok(())
+}
+
+fn collect_by<R: Threads + Wait + Sync + Abort>(
+    rt: &R,
+    alloc: Global,
+    seed: &mut u64,
+    kind: Kind,
+    helpers: u32,
+) -> Result<(), Fail>
+    requires { (1 ≤ helpers) × (helpers ≤ 8) }
+{
+    let heap = random_heap(alloc, seed, kind)?;
+    let spaces = heap_of(alloc, &heap.cells)?;
+    assert!(rt; are_sound(&spaces, &heap.roots));
+    let copied = collect_many(rt, alloc, &spaces, &heap.roots, kind, helpers, &NoGate)?;
+    check_copied(rt, &heap, &spaces, kind, &copied);
+    Ok(())
+}
+
+#[test]
+fn a_seated_helper_keeps_what_is_reached(rt: HostRuntime) -> Result<(), Fail> {
+    let mut seed = 11;
+    for _ in 0..25 {
+        collect_at_a_seat(&rt, rt.alloc(), &mut seed, Kind::Full)?;
+        collect_at_a_seat(&rt, rt.alloc(), &mut seed, Kind::Nursery)?;
+    }
+    Ok(())
+}
+
+fn collect_at_a_seat(
+    rt: &impl Abort,
+    alloc: Global,
+    seed: &mut u64,
+    kind: Kind,
+) -> Result<(), Fail> {
+    let heap = random_heap(alloc, seed, kind)?;
+    let spaces = heap_of(alloc, &heap.cells)?;
+    assert!(rt; are_sound(&spaces, &heap.roots));
+    let copied = collect_seated(alloc, &spaces, &heap.roots, kind)?;
+    check_copied(rt, &heap, &spaces, kind, &copied);
+    Ok(())
+}
+
+// Objects without references, one in each cell.
+fn objects() -> Cells {
+    let mut cells = [[0; WORDS]; CELLS];
+    for (number, cell) in cells.iter_mut().enumerate() {
+        *cell = [OBJECT_TAG, number as u64, number as u64, 0, 0, 0, 0, 0];
+    }
+    cells
+}
+
+// The rows of all objects: as many chunks of roots as there are eights of them.
+fn rows_of_all(alloc: Global) -> Result<Vec<Root>, Fail> {
+    let mut roots = Vec::new(alloc);
+    for number in 0..CELLS {
+        roots.push(Root::Row(place_at(number)))?;
+    }
+    Ok(roots)
+}
+
+// A gate at which each of two helpers waits at its first pass for the other's, for so many turns.
+#[derive(Drop)]
+struct Meet {
+    first: AtomicU64,
+    second: AtomicU64,
+    missed: AtomicU64,
+}
+
+impl Gate for Meet {
+    fn pass(&self, helper: u32) {
+        let (mine, other) = if helper == 0 {
+            (&self.first, &self.second)
+        } else {
+            (&self.second, &self.first)
+        };
+        mine.store(1, Ordering::SeqCst);
+        for _ in 0..100_000_000u64 {
+            if other.load(Ordering::SeqCst) == 1 {
+                return;
+            }
+            thread::yield_now();
+        }
+        self.missed.store(1, Ordering::SeqCst);
+    }
+}
+
+// Every object names the last one, which both helpers meet at once.
+#[test]
+fn two_helpers_at_one_gate(rt: HostRuntime) -> Result<(), Fail> {
+    let alloc = rt.alloc();
+    let mut cells = objects();
+    for cell in cells.iter_mut() {
+        cell[4] = pack(Slot::To {
+            rights: Rights::of(Right::R),
+            place: place_at(CELLS - 1),
+        });
+    }
+    let spaces = heap_of(alloc, &cells)?;
+    let roots = rows_of_all(alloc)?;
+    assert!(rt; are_sound(&spaces, &roots));
+    let gate = Meet {
+        first: AtomicU64::new(0),
+        second: AtomicU64::new(0),
+        missed: AtomicU64::new(0),
+    };
+    let copied = collect_many(&rt, alloc, &spaces, &roots, Kind::Full, 2, &gate)?;
+    assert_eq!(rt; gate.missed.load(Ordering::SeqCst), 0);
+    assert_eq!(rt; copies_of(&copied, CELLS as u64 - 1), 1);
+    Ok(())
+}
+
+// How many copies of an object are in Old.
+fn copies_of(copied: &Copied, name: u64) -> u64 {
+    let mut copies = 0u64;
+    for block in 0..copied.adoption.old.len() {
+        for cell in 0..64 {
+            let words = copied.adoption.old.cell(block, cell);
+            if words[0] == OBJECT_TAG && words[1] == name {
+                copies = copies.wrapping_add(1);
+            }
+        }
+    }
+    copies
+}
+
+// All cells are live, and Old may have a block less than they need.
+#[test]
+fn a_full_heap_is_refused(rt: HostRuntime) -> Result<(), Fail> {
+    let alloc = rt.alloc();
+    let spaces = heap_within(alloc, &objects(), Limits::new(8, 2)?)?;
+    let roots = rows_of_all(alloc)?;
+    assert!(rt; are_sound(&spaces, &roots));
+    for helpers in [1, 4] {
+        let refused = collect_many(&rt, alloc, &spaces, &roots, Kind::Full, helpers, &NoGate);
+        assert!(rt; matches!(refused, Err(HelpersFault::HeapFull)));
+    }
+    Ok(())
+}

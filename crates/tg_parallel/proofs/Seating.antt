@@ -1,0 +1,192 @@
+-- A seat: what it holds at first and after a claim, and what a walk sees of it.
+use Rattle.std.proofs.Common.{◌≡◌, ◌≢◌, ℕ, zero, suc, ◌+◌, ◌*◌, ◌/◌, ◌%◌, ◌^◌, ◌<◌, ◌≤◌, ◌==◌, ◌||◌, ◌⊎◌, ◌++◌, not, List, [], ◌∷◌, Bool, true, false, length, get_or, map, refl, sym, ap, subst, ◌∙◌, eqb, eq-eqb, ⊎_elim, arith, if◌then◌else◌}
+use Rattle.std.specs.List.{All, AllPairs, Contains, list_any}
+use Rattle.std.proofs.lemmas.Bool.{cases_eq, false≢true}
+use Rattle.std.proofs.lemmas.Bool.Decides.{Decides-eqb}
+use Rattle.std.proofs.lemmas.List.{append-nil, get_or-map, get_or_default, length-map, map-append}
+use Rattle.std.proofs.lemmas.List.Elements.{All-append, All-contains, All-get_or, All-map, All-weaker, Contains-append_cases, Contains-append_left, Contains-append_right, Contains-get_or}
+use Rattle.std.proofs.lemmas.List.Quantifiers.{all_pairs_push}
+use Rattle.std.proofs.lemmas.Map.Made.{IsDistinct-from_AllPairs}
+use Rattle.std.proofs.lemmas.Map.Steps.{length-le_from_distinct_below}
+use Rattle.std.proofs.lemmas.Map.Views.{Contains-from_any}
+use Rattle.tg_rights.specs.RightSet.{no_rights}
+use Rattle.tg_word.specs.declared.Place.{Place}
+use Rattle.tg_word.specs.Word.{IsPlace, link_to, place_in}
+use Rattle.tg_word.proofs.Packing.{place_in-word_at}
+use Rattle.tg_space.specs.declared.spaces.Kind.{Kind}
+use Rattle.tg_race.specs.declared.record.Record.{Record}
+use Rattle.tg_race.specs.Course.{has_met}
+use Rattle.tg_race.specs.Race.{empty}
+use Rattle.tg_race.specs.Seats.{Board, Seated}
+use Rattle.tg_race.specs.Words.{space_of}
+use Rattle.tg_evac.specs.declared.win.Win.{Win}
+use Rattle.tg_evac.specs.Claims.{IsWinFor, is_in, win_at, won_in}
+use Rattle.tg_evac.specs.Claimers.{AddsWins}
+use Rattle.tg_parallel.specs.declared.own_blocks.OwnBlocks.{OwnBlocks}
+use Rattle.tg_parallel.specs.Parts.{HasPlaceOf, HasPlaces, cells_met, win_of, wins_of}
+use Rattle.tg_parallel.specs.Seats.{AreFilled, Finds, IsSeat, OtherStays, Sitting, pair_at, pairs_in, walked_at}
+use Rattle.tg_parallel.proofs.Lists.{all_left, any_has, map_found}
+
+pub place_back : (p : Place) → IsPlace p → place_in (link_to p) ≡ p
+place_back p inside = place_in-word_at no_rights p inside
+
+-- ---- at first
+
+pub filled_none : (aged : Bool) (numbers : List ℕ) (used : ℕ) → numbers ≡ [] → used ≡ 0 → AreFilled aged (empty 1) numbers used
+filled_none aged numbers used none zero_is = rw (none, zero_is) (by_space aged)
+  where
+    by_space : (a : Bool) → AreFilled a (empty 1) [] 0
+    by_space true = record { same = refl; rising = λ i j lt low. absurd (omega arith); room = omega arith; close = omega arith; few = omega arith; ends = refl; order = λ k low. absurd (omega arith); many = λ i n low few le. absurd (omega arith) }
+    by_space false = record { same = refl; rising = λ i j lt low. absurd (omega arith); room = omega arith; close = omega arith; few = omega arith; ends = refl; order = λ k low. absurd (omega arith); many = λ i n low few le. absurd (omega arith) }
+
+-- ---- what was won
+
+-- the pairs of a space are those of the collection
+pub wins_in : (s : ℕ) (won : List (ℕ × Place)) → All (λ q. IsPlace q.1 × (q.1.space < 2)) won → won_in s (wins_of won) ≡ wins_of (pairs_in s won)
+wins_in s [] all = refl
+wins_in s (q ∷ won) all =
+    let rest = wins_in s won (λ k d low. all (suc k) d (omega arith)) in
+    let here : is_in s (win_of q) ≡ (q.1.space == s) = ap (λ (p : Place). p.space == s) (place_back q.1 (all 0 q (omega arith)).0) in
+    go (q.1.space == s) refl here rest
+  where
+    go : (b : Bool) → (q.1.space == s) ≡ b → is_in s (win_of q) ≡ (q.1.space == s) → won_in s (wins_of won) ≡ wins_of (pairs_in s won) → won_in s (wins_of (q ∷ won)) ≡ wins_of (pairs_in s (q ∷ won))
+    go true e here rest = rw (here ∙ e, e) (ap (λ (l : List Win). win_of q ∷ l) rest)
+    go false e here rest = rw (here ∙ e, e) rest
+
+module _ (limit : ℕ) (board : Board) (helper : Seated) (aged old : OwnBlocks) (seat : IsSeat limit board helper aged old) where
+  abbrev won : List (ℕ × Place)
+  won = helper.done.won
+
+  cell_of_pair : (i : ℕ) (d : ℕ) → i < length won → get_or (map (λ (q : ℕ × Place). q.0) won) i d ≡ (pair_at won i).0
+  cell_of_pair i d low = get_or-map (λ (q : ℕ × Place). q.0) won i (pair_at [] 0) d low
+
+  -- no more cells were won than there are
+  pub won_few : length won ≤ board.counts.cells
+  won_few =
+      let cells = map (λ (q : ℕ × Place). q.0) won in
+      let long : length cells ≡ length won = length-map won (λ (q : ℕ × Place). q.0) in
+      let le : length cells ≤ board.counts.cells = length-le_from_distinct_below cells board.counts.cells
+      (IsDistinct-from_AllPairs {eq = eqb} Decides-eqb cells (λ i j d lt low e. seat.differ i j (pair_at [] 0) lt (omega arith) (sym (cell_of_pair i d (omega arith)) ∙ e ∙ cell_of_pair j d (omega arith))))
+      (λ q any.
+      let found = map_found (λ (x : ℕ × Place). x.0) won q (Contains-from_any {eq = eqb} (λ x y t. (Decides-eqb x y).0 t) q cells any) in
+      subst (λ (n : ℕ). n < board.counts.cells) found.2 (All-contains (λ (x : ℕ × Place). x.0 < board.counts.cells) won found.0 seat.inside found.1)) in
+      omega arith
+
+  -- nor more of either space than it has room for
+  pub won_room : (space : ℕ) → space < 2 → length (won_in space (wins_of won)) ≤ 2 ^ 26
+  won_room space two =
+      let long : length (won_in space (wins_of won)) ≡ length (pairs_in space won) = ap length (wins_in space won seat.places) ∙ length-map (pairs_in space won) win_of in
+      ⊎_elim
+      (λ (e : space ≡ 0). (let here : length (pairs_in space won) ≡ old.used = ap (λ (s : ℕ). length (pairs_in s won)) e ∙ seat.in_old.ends in let few = seat.in_old.few in omega arith))
+      (λ (ne : space ≢ 0). (let e : space ≡ 1 = omega arith in let here : length (pairs_in space won) ≡ aged.used = ap (λ (s : ℕ). length (pairs_in s won)) e ∙ seat.in_aged.ends in let few = seat.in_aged.few in omega arith))
+      (cases_eq space 0)
+
+  win_is : (k : ℕ) → k < length won → win_at (wins_of won) k ≡ win_of (pair_at won k)
+  win_is k low = get_or-map win_of won k (pair_at [] 0) (win_at [] 0) low
+
+  pub pair_inside : (k : ℕ) → k < length won → (win_at (wins_of won) k).cell < board.counts.cells
+  pair_inside k low = subst (λ (w : Win). w.cell < board.counts.cells) (sym (win_is k low)) (seat.inside k (pair_at [] 0) low)
+
+  pub pair_two : (k : ℕ) → k < length won → (place_in (win_at (wins_of won) k).word).space < 2
+  pair_two k low =
+      let at = seat.places k (pair_at [] 0) low in
+      subst (λ (w : Win). (place_in w.word).space < 2) (sym (win_is k low)) (subst (λ (p : Place). p.space < 2) (sym (place_back (pair_at won k).1 at.0)) at.1)
+
+-- ---- after a claim
+
+pub which : (space : ℕ) → space < 2 → (a : Bool) × (space ≡ space_of a)
+which space two = ⊎_elim
+    (λ (e : space ≡ 0). (false, e))
+    (λ (ne : space ≢ 0). (true, (let e : space ≡ 1 = omega arith in e)))
+    (cases_eq space 0)
+
+module _ (cell : ℕ) (aged : Bool) (v w : Record) (finds : Finds cell aged v w) where
+  pub grows_more : (to : ℕ → Place) → HasPlaces w to → HasPlaces v to
+  grows_more to has = record {
+    won = all_left (HasPlaceOf to) v.won finds.won (subst (λ (l : List (ℕ × Place)). All (HasPlaceOf to) l) finds.is_won has.won);
+    seen = all_left (HasPlaceOf to) v.seen finds.seen (subst (λ (l : List (ℕ × Place)). All (HasPlaceOf to) l) finds.is_seen has.seen);
+  }
+
+  still_has : (c : ℕ) → Contains (cells_met v) c → Contains (cells_met w) c
+  still_has c held =
+      let f = λ (q : ℕ × Place). q.0 in
+      let one : map f w.won ≡ map f v.won ++ map f finds.won = ap (map f) finds.is_won ∙ map-append f v.won finds.won in
+      let two : map f w.seen ≡ map f v.seen ++ map f finds.seen = ap (map f) finds.is_seen ∙ map-append f v.seen finds.seen in
+      ⊎_elim
+      (λ (here : Contains (map f v.won) c). Contains-append_left (map f w.won) (map f w.seen) c (subst (λ (l : List ℕ). Contains l c) (sym one) (Contains-append_left (map f v.won) (map f finds.won) c here)))
+      (λ (here : Contains (map f v.seen) c). Contains-append_right (map f w.won) (map f w.seen) c (subst (λ (l : List ℕ). Contains l c) (sym two) (Contains-append_left (map f v.seen) (map f finds.seen) c here)))
+      (Contains-append_cases (map f v.won) (map f v.seen) c held)
+
+  pub adds_found : (kind : Kind) (limit : ℕ) (board : Board) (space : ℕ) → space ≡ space_of aged → AddsWins (IsWinFor cell space) (walked_at (record { kind = kind; limit = limit; board = board; done = v })) (walked_at (record { kind = kind; limit = limit; board = board; done = w }))
+  adds_found kind limit board space right = record {
+    added = wins_of finds.won;
+    is = ap wins_of finds.is_won ∙ map-append win_of v.won finds.won;
+    reasons = All-map (IsWinFor cell space) win_of finds.won
+        (All-weaker (λ (q : ℕ × Place). (q.0 ≡ cell) × (q.1.space ≡ space_of aged) × IsPlace q.1) (λ (q : ℕ × Place). IsWinFor cell space (win_of q))
+        (λ q r. record { number = r.0; to = ap (λ (p : Place). p.space) (place_back q.1 r.2) ∙ r.1 ∙ sym right }) finds.won finds.reasons);
+    still = still_has;
+    same_kind = refl;
+    same_kept = refl;
+    same_room = refl;
+    as_many = refl;
+    same_fixed = λ i. (board, finds.chunks i, finds.share i);
+  }
+
+-- the won cells differ still
+module _ (cell : ℕ) (v : Record) (unmet : has_met v cell ≡ false) where
+  pub not_won : (q : ℕ × Place) → Contains v.won q → q.0 ≢ cell
+  not_won q held e =
+      let mine : list_any (λ (x : ℕ × Place). x.0 == cell) v.won ≡ true = any_has (λ (x : ℕ × Place). x.0 == cell) v.won q held (eq-eqb q.0 cell e) in
+      false≢true (sym unmet ∙ ap (λ (b : Bool). b || list_any (λ (x : ℕ × Place). x.0 == cell) v.seen) mine)
+
+  pub differ_more : (more : List (ℕ × Place)) → length more ≤ 1 → All (λ q. q.0 ≡ cell) more → AllPairs (λ q r. q.0 ≢ r.0) v.won → AllPairs (λ q r. q.0 ≢ r.0) (v.won ++ more)
+  differ_more [] one all differ = subst (λ (l : List (ℕ × Place)). AllPairs (λ q r. q.0 ≢ r.0) l) (sym (append-nil v.won)) differ
+  differ_more (p ∷ []) one all differ = all_pairs_push (λ (q r : ℕ × Place). q.0 ≢ r.0) v.won p differ (λ k d low e. not_won (get_or v.won k d) (Contains-get_or v.won k d low) (e ∙ all 0 p (omega arith)))
+  differ_more (p ∷ q ∷ more) one all differ = absurd (omega arith)
+
+module _ (limit : ℕ) (board : Board) (before after : Seated) (aged old : OwnBlocks) (seat : IsSeat limit board before aged old) (same : after.table ≡ before.table)
+    (cell : ℕ) (inside : cell < board.counts.cells) (unmet : has_met before.done cell ≡ false) where
+  module _ (a : Bool) (finds : Finds cell a before.done after.done) where
+    differ_now : AllPairs (λ q r. q.0 ≢ r.0) after.done.won
+    differ_now = subst (λ (l : List (ℕ × Place)). AllPairs (λ q r. q.0 ≢ r.0) l) (sym finds.is_won)
+        (differ_more cell before.done unmet finds.won finds.one (All-weaker (λ (q : ℕ × Place). (q.0 ≡ cell) × (q.1.space ≡ space_of a) × IsPlace q.1) (λ (q : ℕ × Place). q.0 ≡ cell) (λ q r. r.0) finds.won finds.reasons) seat.differ)
+
+    inside_now : All (λ q. q.0 < board.counts.cells) after.done.won
+    inside_now = subst (λ (l : List (ℕ × Place)). All (λ q. q.0 < board.counts.cells) l) (sym finds.is_won)
+        (All-append (λ (q : ℕ × Place). q.0 < board.counts.cells) before.done.won finds.won seat.inside
+        (All-weaker (λ (q : ℕ × Place). (q.0 ≡ cell) × (q.1.space ≡ space_of a) × IsPlace q.1) (λ (q : ℕ × Place). q.0 < board.counts.cells) (λ q r. (let e = r.0 in omega arith)) finds.won finds.reasons))
+
+    two_of : (b : Bool) → space_of b < 2
+    two_of true = omega arith
+    two_of false = omega arith
+
+    places_now : All (λ q. IsPlace q.1 × (q.1.space < 2)) after.done.won
+    places_now = subst (λ (l : List (ℕ × Place)). All (λ q. IsPlace q.1 × (q.1.space < 2)) l) (sym finds.is_won)
+        (All-append (λ (q : ℕ × Place). IsPlace q.1 × (q.1.space < 2)) before.done.won finds.won seat.places
+        (All-weaker (λ (q : ℕ × Place). (q.0 ≡ cell) × (q.1.space ≡ space_of a) × IsPlace q.1) (λ (q : ℕ × Place). IsPlace q.1 × (q.1.space < 2)) (λ q r. (r.2, (let e = r.1 in let t = two_of a in omega arith))) finds.won finds.reasons))
+
+  pub seat_aged : (now : OwnBlocks) → now.aged ≡ aged.aged → Finds cell aged.aged before.done after.done → AreFilled aged.aged after.done now.numbers.items now.used → OtherStays aged.aged before.done after.done → IsSeat limit board after now old
+  seat_aged now space finds filled other = record {
+    own = same ∙ seat.own;
+    few = seat.few;
+    differ = differ_now aged.aged finds;
+    inside = inside_now aged.aged finds;
+    places = places_now aged.aged finds;
+    is_aged = space ∙ seat.is_aged;
+    is_old = seat.is_old;
+    in_aged = subst (λ (a : Bool). AreFilled a after.done now.numbers.items now.used) seat.is_aged filled;
+    in_old = subst (λ (a : Bool). OtherStays a before.done after.done) seat.is_aged other old.numbers.items old.used seat.in_old;
+  }
+
+  pub seat_old : (now : OwnBlocks) → now.aged ≡ old.aged → Finds cell old.aged before.done after.done → AreFilled old.aged after.done now.numbers.items now.used → OtherStays old.aged before.done after.done → IsSeat limit board after aged now
+  seat_old now space finds filled other = record {
+    own = same ∙ seat.own;
+    few = seat.few;
+    differ = differ_now old.aged finds;
+    inside = inside_now old.aged finds;
+    places = places_now old.aged finds;
+    is_aged = seat.is_aged;
+    is_old = space ∙ seat.is_old;
+    in_aged = subst (λ (a : Bool). OtherStays a before.done after.done) seat.is_old other aged.numbers.items aged.used seat.in_aged;
+    in_old = subst (λ (a : Bool). AreFilled a after.done now.numbers.items now.used) seat.is_old filled;
+  }

@@ -1,0 +1,21 @@
+use Rattle.std.proofs.Common.{◌≡◌, List, ℕ, true, false, ap, sym, subst, ◌∙◌, arith}
+use Rattle.tg_race.specs.declared.record.Record.{Record}
+use Rattle.tg_race.specs.Seats.{Seated}
+use Rattle.tg_parallel.specs.Seats.{AreFilled}
+use Rattle.tg_parallel.proofs.Seating.{filled_none}
+use Rattle.tg_parallel.proofs.seat.Seat.new.Goals as goal
+
+pub invariant_of-result : goal.invariant_of-result
+invariant_of-result c =
+    let done : c.new.result.done ≡ _ = ap (λ (x : Seated). x.done) c.new.ensures ∙ c.requires.fresh in
+    record {
+      own = ap (λ (x : Seated). x.table) c.new.ensures ∙ c.requires.own;
+      few = c.requires.few;
+      differ = rw done (λ i j d lt low. absurd (omega arith));
+      inside = rw done (λ k d low. absurd (omega arith));
+      places = rw done (λ k d low. absurd (omega arith));
+      is_aged = c.new-2.ensures.space;
+      is_old = c.new-3.ensures.space;
+      in_aged = rw done (filled_none true c.new-2.result.numbers.items c.new-2.result.used c.new-2.ensures.numbers c.new-2.ensures.used);
+      in_old = rw done (filled_none false c.new-3.result.numbers.items c.new-3.result.used c.new-3.ensures.numbers c.new-3.ensures.used);
+    }

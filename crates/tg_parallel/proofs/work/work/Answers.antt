@@ -1,0 +1,71 @@
+use Rattle.std.proofs.Common.{◌≡◌, ◌<◌, ℕ, List, [], ap, sym, subst, ◌∙◌, arith}
+use Rattle.tg_race.specs.declared.record.Record.{Record}
+use Rattle.tg_race.specs.Race.{chunks_of}
+use Rattle.tg_race.specs.Seats.{Board}
+use Rattle.tg_parallel.specs.Parts.{AreCountsOf}
+use Rattle.tg_parallel.specs.Seats.{Sitting}
+use Rattle.tg_parallel.proofs.Working.{chunks_past, copied_all, copied_drawn, copied_none, count, drawn_first, drawn_next, earned_drawn, earned_none, may_claim_next, past_last, rises, same_both, same_drawn}
+use Rattle.tg_parallel.proofs.work.work.Goals as goal
+
+pub loop-chunk-init : goal.loop-chunk-init
+loop-chunk-init g c =
+    let s = c.args.seat.now in let t = c.claim_chunk-chunk.new.self in let is = c.claim_chunk-chunk.ensures.drawn in let r = c.claim_chunk-chunk.result in
+    let h = c.args.spaces.now.spaces in let roots = c.args.roots.now in let copies = c.in_ok-copies.copies in
+    let none : t.done.won ≡ [] = ap (λ (x : Sitting). x.done.won) is ∙ ap (λ (v : Record). v.won) c.requires.fresh in
+    record {
+      same = same_drawn s t r is;
+      earned = earned_none c.args.kind h roots t.done none;
+      drawn = ([], drawn_first s t r c.requires.fresh is, copied_none c.args.kind h roots t copies.scanned copies.aged copies.old none c.in_ok-copies.ensures.scanned c.in_ok-copies.ensures.aged c.in_ok-copies.ensures.old);
+    }
+
+pub copy_chunk-requires-clause-kind : goal.copy_chunk-requires-clause-kind
+copy_chunk-requires-clause-kind g c = c.loop-chunk.invariant.same.kind ∙ c.requires.kind
+
+pub copy_chunk-requires-clause-counts : goal.copy_chunk-requires-clause-counts
+copy_chunk-requires-clause-counts g c = subst (λ (b : Board). AreCountsOf c.args.kind c.args.spaces.now.spaces c.args.roots.now b.counts) (sym c.loop-chunk.invariant.same.board) c.requires.counts
+
+pub copy_chunk-requires-clause-earned : goal.copy_chunk-requires-clause-earned
+copy_chunk-requires-clause-earned g c = c.loop-chunk.invariant.earned
+
+pub copy_chunk-requires-clause-drawn : goal.copy_chunk-requires-clause-drawn
+copy_chunk-requires-clause-drawn g c = c.loop-chunk.invariant.drawn
+
+pub returns-in_err-copy_chunk-clause-same : goal.returns-in_err-copy_chunk-clause-same
+returns-in_err-copy_chunk-clause-same g c = same_both c.loop-chunk.invariant.same c.copy_chunk.ensures.same
+
+pub claim_chunk-chunk-requires-in-loop-chunk : goal.claim_chunk-chunk-requires-in-loop-chunk
+claim_chunk-chunk-requires-in-loop-chunk g c =
+    let d = c.loop-chunk.invariant.drawn in
+    let n = count c.requires.counts c.loop-chunk.invariant.same c.div_ceil-chunks.ensures in
+    may_claim_next d.0 c.loop-chunk.chunk c.loop-chunk.seat c.copy_chunk.new.seat d.1 (omega (arith, c.loop-chunk-test.true)) c.copy_chunk.ensures.same c.copy_chunk.ensures.chunks
+
+pub loop-chunk-smaller : goal.loop-chunk-smaller
+loop-chunk-smaller g c =
+    let d = c.loop-chunk.invariant.drawn in
+    let r = rises d.0 c.loop-chunk.chunk c.loop-chunk.seat c.copy_chunk.new.seat c.claim_chunk-chunk-in-loop-chunk.result d.1 c.copy_chunk.ensures.chunks c.claim_chunk-chunk-in-loop-chunk.ensures.fresh in
+    omega (arith, c.loop-chunk-test.true)
+
+pub loop-chunk-preserved : goal.loop-chunk-preserved
+loop-chunk-preserved g c =
+    let d = c.loop-chunk.invariant.drawn in
+    let n = count c.requires.counts c.loop-chunk.invariant.same c.div_ceil-chunks.ensures in
+    let s = c.loop-chunk.seat in let u = c.copy_chunk.new.seat in let v = c.claim_chunk-chunk-in-loop-chunk.new.self in let r = c.claim_chunk-chunk-in-loop-chunk.result in
+    let is = c.claim_chunk-chunk-in-loop-chunk.ensures.drawn in let h = c.args.spaces.now.spaces in let roots = c.args.roots.now in let copies = c.copy_chunk.new.copies in
+    record {
+      same = same_both c.loop-chunk.invariant.same (same_both c.copy_chunk.ensures.same (same_drawn u v r is));
+      earned = earned_drawn c.args.kind h roots u v r is c.copy_chunk.ensures.earned;
+      drawn = (u.done.chunks, drawn_next d.0 c.loop-chunk.chunk s u v r d.1 (omega (arith, c.loop-chunk-test.true)) c.copy_chunk.ensures.same c.copy_chunk.ensures.chunks is,
+          copied_drawn c.args.kind h roots u v r is u.done.chunks copies.scanned copies.aged copies.old c.in_ok-copy_chunk.ensures.copied);
+    }
+
+pub returns-clause-last : goal.returns-clause-last
+returns-clause-last g c =
+    let d = c.loop-chunk.invariant.drawn in
+    let n = count c.requires.counts c.loop-chunk.invariant.same c.div_ceil-chunks.ensures in
+    past_last d.0 c.loop-chunk.chunk c.loop-chunk.seat d.1 (omega (arith, c.loop-chunk-test.false))
+
+pub returns-clause-copied : goal.returns-clause-copied
+returns-clause-copied g c =
+    let d = c.loop-chunk.invariant.drawn in
+    let copies = c.loop-chunk.copies in
+    copied_all c.args.kind c.args.spaces.now.spaces c.args.roots.now d.0 c.loop-chunk.chunk c.loop-chunk.seat copies.scanned copies.aged copies.old d.1 (chunks_past c.args.roots.now c.loop-chunk.chunk c.div_ceil-chunks.result c.div_ceil-chunks.ensures c.loop-chunk-test.false) d.2

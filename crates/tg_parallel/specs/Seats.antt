@@ -1,0 +1,132 @@
+-- What a helper holds while it works: its record, and the places that it gives away in its own blocks, one after the other.
+use Rattle.std.specs.Prelude.{◌≡◌, ◌≢◌, ℕ, ◌+◌, ◌*◌, ◌/◌, ◌%◌, ◌^◌, ◌<◌, ◌≤◌, ◌==◌, Bool, true, false, not, List, [], ◌∷◌, ◌++◌, length, map, slice_index, slice_index_or}
+use Rattle.std.specs.List.{All, AllPairs, Contains, filter}
+use Rattle.tg_word.specs.declared.Place.{Place}
+use Rattle.tg_word.specs.Word.{IsPlace}
+use Rattle.tg_space.specs.SpaceList.{SpaceList}
+use Rattle.tg_space.specs.Targets.{from_space, all_root_targets}
+use Rattle.tg_space.specs.declared.spaces.Kind.{Kind}
+use Rattle.tg_space.specs.declared.spaces.Root.{Root}
+use Rattle.tg_race.specs.declared.record.Record.{Record}
+use Rattle.tg_race.specs.Conditions.{blocks_of}
+use Rattle.tg_race.specs.Race.{is_chunk, used_in}
+use Rattle.tg_race.specs.Seats.{Board, Seated}
+use Rattle.tg_race.specs.Words.{space_of}
+use Rattle.tg_evac.specs.declared.win.Win.{Win}
+use Rattle.tg_evac.specs.Claimers.{AreScanned, Walked}
+use Rattle.tg_parallel.specs.declared.own_blocks.OwnBlocks.{OwnBlocks}
+use Rattle.tg_parallel.specs.Parts.{HasPlaces, cells_met, roots_in, wins_of}
+
+-- ---- a helper's own blocks of one space
+
+-- each number is greater than those before it
+abbrev pub AreRising : List ℕ → Type 0
+AreRising numbers = (i j : ℕ) → i < j → j < length numbers → slice_index numbers i < slice_index numbers j
+
+-- the pairs that have their place in a space
+abbrev pub pairs_in : ℕ → List (ℕ × Place) → List (ℕ × Place)
+pairs_in space won = filter (λ q. q.1.space == space) won
+
+-- the pair at a number
+abbrev pub pair_at : List (ℕ × Place) → ℕ → ℕ × Place
+pair_at pairs k = slice_index_or pairs k (0, record { space = 0; block = 0; cell = 0 })
+
+-- the k-th place of these blocks, one block after the other
+abbrev pub own_place : Bool → List ℕ → ℕ → Place
+own_place aged numbers k = record { space = space_of aged; block = slice_index numbers (k / 64); cell = k % 64 }
+
+-- The numbers are those of the blocks that the record has claimed in the space, in order, and its won cells of that space
+-- have their places one after the other. So each block but the last is full, and a block is claimed only for a cell
+pub record AreFilled (aged : Bool) (v : Record) (numbers : List ℕ) (used : ℕ) : Type 0 where
+  pub same : numbers ≡ blocks_of aged v
+  pub rising : AreRising numbers
+  pub room : used ≤ 64 * length numbers
+  pub close : 64 * length numbers ≤ used + 64
+  pub few : used ≤ 2 ^ 26
+  pub ends : length (pairs_in (space_of aged) v.won) ≡ used
+  pub order : (k : ℕ) → k < used → (pair_at (pairs_in (space_of aged) v.won) k).1 ≡ own_place aged numbers k
+  -- so many cells at least lie in each block
+  pub many : (i n : ℕ) → i < length numbers → n ≤ 64 → 64 * i + n ≤ used → n ≤ used_in (space_of aged) (slice_index numbers i) v.won
+
+-- the blocks of the other space stay as they are
+abbrev pub OtherStays : Bool → Record → Record → Type 0
+OtherStays aged v w = (numbers : List ℕ) (used : ℕ) → AreFilled (not aged) v numbers used → AreFilled (not aged) w numbers used
+
+-- nothing but blocks was claimed
+pub record OnlyBlocks (v w : Record) : Type 0 where
+  pub chunks : w.chunks ≡ v.chunks
+  pub won : w.won ≡ v.won
+  pub seen : w.seen ≡ v.seen
+  pub share : w.share ≡ v.share
+
+-- ---- one claim
+
+-- The record may have won the cell, for a place in the space, or seen it, and may have claimed blocks. Nothing else.
+pub record Finds (cell : ℕ) (aged : Bool) (v w : Record) : Type 0 where
+  pub won : List (ℕ × Place)
+  pub one : length won ≤ 1
+  pub is_won : w.won ≡ v.won ++ won
+  pub reasons : All (λ q. (q.0 ≡ cell) × (q.1.space ≡ space_of aged) × IsPlace q.1) won
+  pub seen : List (ℕ × Place)
+  pub is_seen : w.seen ≡ v.seen ++ seen
+  pub chunks : w.chunks ≡ v.chunks
+  pub share : w.share ≡ v.share
+
+-- ---- a seat
+
+-- the kind of the collection, how many blocks a space may have, the table, and what the helper has done
+pub record Sitting : Type 0 where
+  pub kind : Kind
+  pub limit : ℕ
+  pub board : Board
+  pub done : Record
+
+-- the helper sits at the table; its won cells are cells of it that differ, each with a place in range; and its blocks of
+-- Aged and of Old are filled in order
+pub record IsSeat (limit : ℕ) (board : Board) (helper : Seated) (aged old : OwnBlocks) : Type 0 where
+  pub own : helper.table ≡ board.table
+  pub few : limit ≤ 2 ^ 20
+  pub differ : AllPairs (λ q r. q.0 ≢ r.0) helper.done.won
+  pub inside : All (λ q. q.0 < board.counts.cells) helper.done.won
+  pub places : All (λ q. IsPlace q.1 × (q.1.space < 2)) helper.done.won
+  pub is_aged : aged.aged ≡ true
+  pub is_old : old.aged ≡ false
+  pub in_aged : AreFilled true helper.done aged.numbers.items aged.used
+  pub in_old : AreFilled false helper.done old.numbers.items old.used
+
+-- what no claim of a cell changes: the table, the chunks of roots that were claimed, and the share
+abbrev pub Fixed : Type 0
+Fixed = Board × List ℕ × ℕ
+
+-- what a walk sees of a seat
+abbrev pub walked_at : Sitting → Walked Fixed
+walked_at s = record {
+  kind = s.kind;
+  kept = s.board.counts.kept;
+  room = 64 * s.limit;
+  cells = s.board.counts.cells;
+  fixed = (s.board, s.done.chunks, s.done.share);
+  won = wins_of s.done.won;
+  met = cells_met s.done;
+}
+
+-- ---- what was worked
+
+-- the seat is the same one, at the same table
+pub record IsSameSeat (a b : Sitting) : Type 0 where
+  pub kind : b.kind ≡ a.kind
+  pub limit : b.limit ≡ a.limit
+  pub board : b.board ≡ a.board
+  pub share : b.done.share ≡ a.done.share
+
+-- a chunk was claimed, behind these ones, of which none is past the last
+pub record HasDrawn (before : List ℕ) (chunk : ℕ) (s : Sitting) : Type 0 where
+  pub is : s.done.chunks ≡ before ++ chunk ∷ []
+  pub before_last : All (λ c. is_chunk s.board.counts c ≡ true) before
+
+-- All that the roots of these chunks lead to was copied: their targets are met, and all won cells were scanned, whose copies
+-- stand in order
+pub record HasCopied (kind : Kind) (h : SpaceList) (roots : List Root) (chunks : List ℕ) (s : Sitting) (scanned : ℕ) (aged old : List (List ℕ)) : Type 0 where
+  pub met : All (Contains (cells_met s.done)) (all_root_targets (from_space kind) h (roots_in roots chunks))
+  pub all : scanned ≡ length s.done.won
+  pub copies : AreScanned h (walked_at s) (HasPlaces s.done) scanned aged old

@@ -1,0 +1,143 @@
+//! The places that a helper gives away: in its own blocks of a space, one after the other.
+ghost use Rattle.std.specs.Prelude.{◌≡◌, ℕ, ◌/◌, ◌%◌, ◌<◌, ◌≤◌, ◌*◌, ◌^◌, All, Contains, [], IfErr, IfOk, OnOk, length, slice_index};
+ghost use Rattle.tg_race.specs.Race.{empty};
+ghost use Rattle.tg_word.specs.declared.Place.{Place as PlaceOf};
+ghost use Rattle.tg_word.specs.Word.{IsPlace};
+ghost use Rattle.tg_parallel.specs.Parts.{HasClaimedPast, HasPlaces, cells_met};
+ghost use Rattle.tg_parallel.specs.Seats.{AreFilled, Finds, OnlyBlocks, OtherStays, own_place};
+
+use crate::winner::Winner;
+use std::alloc::{AllocError, Global};
+use tg_block::CELLS;
+use tg_evac::{AGED, CollectFault, OLD};
+use tg_race::{Claim, RaceTable};
+use tg_word::Place;
+
+/// The blocks that a helper has claimed in a space, and how many places of them were given away.
+#[derive(Drop)]
+pub struct OwnBlocks {
+    /// Whether the space is Aged, and not Old.
+    pub aged: bool,
+    /// The numbers of the blocks, in the order in which they were claimed.
+    pub numbers: Vec<u64>,
+    /// How many places were given away, block after block.
+    pub used: u64,
+}
+
+impl OwnBlocks {
+    /// No block yet.
+    pub fn new(alloc: Global, aged: bool) -> Self
+        ensures space { result.aged ≡ aged }
+        ensures numbers { result.numbers.items ≡ [] }
+        ensures used { result.used ≡ 0 }
+    {
+        OwnBlocks {
+            aged,
+            numbers: Vec::new(alloc),
+            used: 0,
+        }
+    }
+
+    /// The place of a cell: its own where it has one, and else the next of these blocks. A block is claimed late, for a
+    /// cell that needs it.
+    ///
+    /// It is refused with `OutOfMemory`, or with `HeapFull` where the block is past the limit.
+    pub fn place_of(
+        &mut self,
+        winner: &mut Winner,
+        table: &RaceTable,
+        cell: u64,
+        limit: u64,
+    ) -> Result<Place, CollectFault>
+        requires own { winner.old.table ≡ table.now.table }
+        requires inside { cell < table.now.counts.cells }
+        requires limit { limit ≤ 2 ^ 20 }
+        requires filled { AreFilled self.now.aged winner.old.done self.now.numbers.items self.now.used }
+        ensures space { self.exit.now.aged ≡ self.entry.now.aged }
+        ensures seat { winner.new.table ≡ winner.old.table }
+        ensures finds { Finds cell self.entry.now.aged winner.old.done winner.new.done }
+        ensures filled { AreFilled self.entry.now.aged winner.new.done self.exit.now.numbers.items self.exit.now.used }
+        ensures other { OtherStays self.entry.now.aged winner.old.done winner.new.done }
+        ensures met { OnOk result (Contains (cells_met winner.new.done) cell) }
+        ensures place { IfOk result IsPlace }
+        ensures known { IfOk result (λ place. (to : ℕ → PlaceOf) → HasPlaces winner.new.done to → to cell ≡ place) }
+        ensures full { IfErr result (λ fault. fault ≡ CollectFault.HeapFull → HasClaimedPast limit winner.new.done) }
+    {
+        self.make_room(winner, table)?;
+        let place = self.next_place(limit)?;
+        self.give(winner, table, cell, place)
+    }
+
+    // Claims a block, where all are full.
+    fn make_room(&mut self, winner: &mut Winner, table: &RaceTable) -> Result<(), AllocError>
+        requires own { winner.old.table ≡ table.now.table }
+        requires filled { AreFilled self.now.aged winner.old.done self.now.numbers.items self.now.used }
+        ensures space { self.exit.now.aged ≡ self.entry.now.aged }
+        ensures seat { winner.new.table ≡ winner.old.table }
+        ensures blocks { OnlyBlocks winner.old.done winner.new.done }
+        ensures filled { AreFilled self.entry.now.aged winner.new.done self.exit.now.numbers.items self.exit.now.used }
+        ensures other { OtherStays self.entry.now.aged winner.old.done winner.new.done }
+        ensures room { OnOk result (self.exit.now.used < 64 * length self.exit.now.numbers.items) }
+    {
+        if self.used < CELLS as u64 * self.numbers.len() as u64 {
+            return Ok(());
+        }
+        self.numbers.reserve(1)?;
+        let number = winner.claim_block(table, self.aged);
+        let Ok(()) = self.numbers.push(number) else {
+            unreachable!()
+        };
+        Ok(())
+    }
+
+    // The next place of these blocks, where its block is within the limit.
+    fn next_place(&self, limit: u64) -> Result<Place, CollectFault>
+        requires { self.now.used < 64 * length self.now.numbers.items }
+        ensures place { IfOk result (λ place. place ≡ own_place self.now.aged self.now.numbers.items self.now.used) }
+        ensures within { OnOk result (slice_index self.now.numbers.items (self.now.used / 64) < limit) }
+        ensures full { IfErr result (λ fault. limit ≤ slice_index self.now.numbers.items (self.now.used / 64)) }
+    {
+        let block = self.numbers[(self.used / CELLS as u64) as usize];
+        if block >= limit {
+            return Err(CollectFault::HeapFull);
+        }
+        Ok(Place {
+            space: if self.aged { AGED } else { OLD },
+            block,
+            cell: self.used % CELLS as u64,
+        })
+    }
+
+    // Gives a cell the next place of these blocks, unless it has one, and answers the place that it has.
+    fn give(
+        &mut self,
+        winner: &mut Winner,
+        table: &RaceTable,
+        cell: u64,
+        place: Place,
+    ) -> Result<Place, CollectFault>
+        requires own { winner.old.table ≡ table.now.table }
+        requires inside { cell < table.now.counts.cells }
+        requires filled { AreFilled self.now.aged winner.old.done self.now.numbers.items self.now.used }
+        requires room { self.now.used < 64 * length self.now.numbers.items }
+        requires next { place ≡ own_place self.now.aged self.now.numbers.items self.now.used }
+        requires few { place.block < 2 ^ 20 }
+        ensures space { self.exit.now.aged ≡ self.entry.now.aged }
+        ensures seat { winner.new.table ≡ winner.old.table }
+        ensures finds { Finds cell self.entry.now.aged winner.old.done winner.new.done }
+        ensures filled { AreFilled self.entry.now.aged winner.new.done self.exit.now.numbers.items self.exit.now.used }
+        ensures other { OtherStays self.entry.now.aged winner.old.done winner.new.done }
+        ensures met { OnOk result (Contains (cells_met winner.new.done) cell) }
+        ensures place { IfOk result IsPlace }
+        ensures known { IfOk result (λ place. (to : ℕ → PlaceOf) → HasPlaces winner.new.done to → to cell ≡ place) }
+        ensures refused { IfErr result (λ fault. fault ≡ CollectFault.OutOfMemory) }
+    {
+        match winner.claim_cell(table, cell, place)? {
+            Claim::Won => {
+                self.used += 1;
+                Ok(place)
+            }
+            Claim::Lost(other) => Ok(other),
+        }
+    }
+}

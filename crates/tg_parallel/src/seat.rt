@@ -1,0 +1,158 @@
+//! A helper at its seat, which claims cells at the table that it shares with others.
+ghost use Rattle.std.specs.Prelude.{◌≡◌, ℕ, ◌<◌, ◌≤◌, ◌^◌, false, All, Contains, IfErr, IfOk, IsTrue, OnOk, length};
+ghost use Rattle.tg_word.specs.declared.Place.{Place as PlaceOf};
+ghost use Rattle.tg_word.specs.Word.{IsPlace, place_in};
+ghost use Rattle.tg_race.specs.Course.{has_met};
+ghost use Rattle.tg_race.specs.Conditions.{can_claim_roots};
+ghost use Rattle.tg_race.specs.Race.{empty, with_chunk};
+ghost use Rattle.tg_evac.specs.Claims.{IsWinFor, win_at, won_in};
+ghost use Rattle.tg_evac.specs.Claimers.{AddsWins, KnowsMore};
+ghost use Rattle.tg_parallel.specs.Parts.{HasClaimedPast, HasPlaces, cells_met, wins_of};
+ghost use Rattle.tg_parallel.specs.Seats.{walked_at};
+
+use crate::links::word_to;
+use crate::own_blocks::OwnBlocks;
+use crate::winner::Winner;
+use std::alloc::Global;
+use std::marker::Model;
+use tg_evac::{AGED, Claimer, CollectFault, Win};
+use tg_race::{Helper, RaceTable};
+use tg_space::Kind;
+use tg_word::Place;
+
+/// A helper with its own blocks, at the table that it shares with other helpers.
+#[derive(Drop)]
+pub struct Seat<'a> {
+    kind: Kind,
+    // How many blocks a space may have.
+    limit: u64,
+    table: &'a RaceTable,
+    winner: Winner,
+    aged: OwnBlocks,
+    old: OwnBlocks,
+}
+
+impl<'a> Model for Seat<'a> {
+    ghost use Rattle.tg_parallel.specs.Seats.{IsSeat, Sitting};
+
+    ghost Value = { Sitting };
+
+    ghost view = { λ s. record { kind = s.kind; limit = s.limit; board = s.table.now; done = s.winner.done } };
+
+    ghost invariant = { λ s. IsSeat s.limit s.table.now s.winner s.aged s.old };
+}
+
+impl<'a> Seat<'a> {
+    /// The seat of a helper that has done nothing yet.
+    pub fn new(alloc: Global, table: &'a RaceTable, helper: Helper, kind: Kind, limit: u64) -> Self
+        requires own { helper.table ≡ table.now.table }
+        requires fresh { helper.done ≡ empty 1 }
+        requires few { limit ≤ 2 ^ 20 }
+        ensures { result ≡ record { kind = kind; limit = limit; board = table.now; done = helper.done } }
+    {
+        Seat {
+            kind,
+            limit,
+            table,
+            winner: Winner::new(alloc, helper),
+            aged: OwnBlocks::new(alloc, true),
+            old: OwnBlocks::new(alloc, false),
+        }
+    }
+
+    /// Claims the next chunk of roots, and answers its number, which may be past the last.
+    pub fn claim_chunk(&mut self) -> u64
+        requires { IsTrue (can_claim_roots self.now.board.counts self.now.done) }
+        ensures drawn { self.exit.now ≡ record self.entry.now { done = with_chunk self.entry.now.done result } }
+        ensures fresh { All (λ c. c < result) self.entry.now.done.chunks }
+    {
+        self.winner.claim_roots(self.table)
+    }
+
+    // How many cells were won.
+    #[inline(always)]
+    fn count(&self) -> usize
+        ensures count { result ≡ length self.now.done.won }
+        ensures few { result ≤ self.now.board.counts.cells }
+        ensures room { (space : ℕ) → space < 2 → length (won_in space (wins_of self.now.done.won)) ≤ 2 ^ 26 }
+    {
+        self.winner.len()
+    }
+
+    // The pair that was won as the k-th.
+    #[inline(always)]
+    fn pair(&self, k: usize) -> Win
+        requires { k < length self.now.done.won }
+        ensures win { result ≡ win_at (wins_of self.now.done.won) k }
+        ensures inside { result.cell < self.now.board.counts.cells }
+        ensures two { (place_in result.word).space < 2 }
+    {
+        self.winner.win(k)
+    }
+
+    // The word of the place of a cell: a new one in a space, unless it has one.
+    #[inline(always)]
+    fn claim_place(&mut self, cell: u64, space: u64) -> Result<u64, CollectFault>
+        requires inside { cell < self.now.board.counts.cells }
+        requires space { space < 2 }
+        ensures added { AddsWins (IsWinFor cell space) (walked_at self.entry.now) (walked_at self.exit.now) }
+        ensures grows { KnowsMore (HasPlaces self.entry.now.done) (HasPlaces self.exit.now.done) }
+        ensures met { OnOk result (Contains (cells_met self.exit.now.done) cell) }
+        ensures known { IfOk result (λ word. (to : ℕ → PlaceOf) → HasPlaces self.exit.now.done to → to cell ≡ place_in word) }
+        ensures full { IfErr result (λ fault. fault ≡ CollectFault.HeapFull → HasClaimedPast self.exit.now.limit self.exit.now.done) }
+    {
+        match self.winner.look(self.table, cell) {
+            Some(place) => Ok(word_to(place)),
+            None => Ok(word_to(self.give_place(cell, space)?)),
+        }
+    }
+
+    // Gives a cell that has no place the next one of a space, unless another helper does so first.
+    fn give_place(&mut self, cell: u64, space: u64) -> Result<Place, CollectFault>
+        requires inside { cell < self.now.board.counts.cells }
+        requires space { space < 2 }
+        requires unmet { has_met self.now.done cell ≡ false }
+        ensures added { AddsWins (IsWinFor cell space) (walked_at self.entry.now) (walked_at self.exit.now) }
+        ensures grows { KnowsMore (HasPlaces self.entry.now.done) (HasPlaces self.exit.now.done) }
+        ensures met { OnOk result (Contains (cells_met self.exit.now.done) cell) }
+        ensures place { IfOk result IsPlace }
+        ensures known { IfOk result (λ place. (to : ℕ → PlaceOf) → HasPlaces self.exit.now.done to → to cell ≡ place) }
+        ensures full { IfErr result (λ fault. fault ≡ CollectFault.HeapFull → HasClaimedPast self.exit.now.limit self.exit.now.done) }
+    {
+        if space == AGED {
+            self.aged
+                .place_of(&mut self.winner, self.table, cell, self.limit)
+        } else {
+            self.old
+                .place_of(&mut self.winner, self.table, cell, self.limit)
+        }
+    }
+}
+
+impl<'a> Claimer for Seat<'a> {
+    ghost use Rattle.tg_parallel.specs.Parts.{HasClaimedPast, HasPlaces};
+    ghost use Rattle.tg_parallel.specs.Seats.{Fixed as FixedOf, walked_at};
+
+    ghost Fixed = { FixedOf };
+
+    ghost walked = { walked_at };
+
+    ghost knows = { λ s. HasPlaces s.done };
+
+    ghost is_full = { λ s. HasClaimedPast s.limit s.done };
+
+    #[inline(always)]
+    fn len(&self) -> usize {
+        self.count()
+    }
+
+    #[inline(always)]
+    fn win(&self, k: usize) -> Win {
+        self.pair(k)
+    }
+
+    #[inline(always)]
+    fn claim(&mut self, cell: u64, space: u64) -> Result<u64, CollectFault> {
+        self.claim_place(cell, space)
+    }
+}

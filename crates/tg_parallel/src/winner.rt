@@ -1,0 +1,137 @@
+//! A helper with the list of what it has won.
+ghost use Rattle.std.specs.Prelude.{◌≡◌, ◌<◌, false, All, IfNone, IfOk, IfSome, IsTrue, Some, [], length};
+ghost use Rattle.std.specs.Result.{OnErr};
+ghost use Rattle.tg_word.specs.declared.Place.{Place as PlaceOf};
+ghost use Rattle.tg_word.specs.Word.{IsPlace};
+ghost use Rattle.tg_race.specs.Claims.{claimed, place_found};
+ghost use Rattle.tg_race.specs.Conditions.{blocks_of, can_claim_block, can_claim_roots, can_use};
+ghost use Rattle.tg_race.specs.Course.{has_met};
+ghost use Rattle.tg_race.specs.Race.{with_block, with_chunk, with_seen};
+ghost use Rattle.tg_evac.specs.Claims.{win_at};
+ghost use Rattle.tg_parallel.specs.Parts.{wins_of};
+
+use crate::links::word_to;
+use std::alloc::{AllocError, Global};
+use std::marker::Model;
+use tg_evac::Win;
+use tg_race::{Claim, Helper, RaceTable};
+use tg_word::Place;
+
+/// A helper, and the cells that it has won, which its record has in proofs alone.
+#[derive(Drop)]
+pub struct Winner {
+    helper: Helper,
+    // The cells that were won, in the order in which they were.
+    won: Vec<Win>,
+}
+
+impl Model for Winner {
+    ghost use Rattle.std.specs.Prelude.{◌≡◌};
+    ghost use Rattle.tg_race.specs.Seats.{Seated};
+    ghost use Rattle.tg_parallel.specs.Parts.{wins_of};
+
+    ghost Value = { Seated };
+
+    ghost view = { λ w. w.helper };
+
+    ghost invariant = { λ w. w.won.items ≡ wins_of w.helper.done.won };
+}
+
+impl Winner {
+    /// A helper that has won nothing yet.
+    pub fn new(alloc: Global, helper: Helper) -> Self
+        requires { helper.done.won ≡ [] }
+        ensures { result ≡ helper }
+    {
+        Winner {
+            helper,
+            won: Vec::new(alloc),
+        }
+    }
+
+    /// The helper alone.
+    pub fn into_helper(self) -> Helper
+        ensures { result ≡ self }
+    {
+        self.helper
+    }
+
+    /// How many cells were won.
+    #[inline(always)]
+    pub fn len(&self) -> usize
+        ensures { result ≡ length self.now.done.won }
+    {
+        self.won.len()
+    }
+
+    /// The pair that was won as the k-th.
+    #[inline(always)]
+    pub fn win(&self, k: usize) -> Win
+        requires { k < length self.now.done.won }
+        ensures { result ≡ win_at (wins_of self.now.done.won) k }
+    {
+        self.won[k]
+    }
+
+    /// Claims the next chunk of roots, as the helper does.
+    pub fn claim_roots(&mut self, table: &RaceTable) -> u64
+        requires own { self.old.table ≡ table.now.table }
+        requires allowed { IsTrue (can_claim_roots table.now.counts self.old.done) }
+        ensures drawn { self.new ≡ record self.old { done = with_chunk self.old.done result } }
+        ensures fresh { All (λ c. c < result) self.old.done.chunks }
+    {
+        self.helper.claim_roots(table)
+    }
+
+    /// The place that a cell has got, if it has one, as the helper sees it.
+    #[inline(always)]
+    pub fn look(&mut self, table: &RaceTable, cell: u64) -> Option<Place>
+        requires own { self.old.table ≡ table.now.table }
+        requires inside { cell < table.now.counts.cells }
+        ensures none { IfNone result (self.new ≡ self.old) }
+        ensures some { IfSome result (λ p. self.new ≡ record self.old { done = with_seen self.old.done (cell, p) }) }
+        ensures place { IfSome result IsPlace }
+        ensures unmet { IfNone result (has_met self.old.done cell ≡ false) }
+    {
+        self.helper.look(table, cell)
+    }
+
+    /// Gives a cell this place, if it has none. It is refused only where memory for the list was; then nothing is changed.
+    #[inline]
+    pub fn claim_cell(
+        &mut self,
+        table: &RaceTable,
+        cell: u64,
+        place: Place,
+    ) -> Result<Claim, AllocError>
+        requires own { self.old.table ≡ table.now.table }
+        requires inside { cell < table.now.counts.cells }
+        requires place { IsPlace place }
+        requires allowed { IsTrue (can_use self.old.done place) }
+        ensures done { IfOk result (λ claim. self.new ≡ record self.old { done = claimed self.old.done cell place claim }) }
+        ensures place { IfOk result (λ claim. IsPlace (place_found place claim)) }
+        ensures refused { OnErr result (self.new ≡ self.old) }
+    {
+        self.won.reserve(1)?;
+        let claim = self.helper.claim_cell(table, cell, place);
+        if let Claim::Won = claim {
+            let Ok(()) = self.won.push(Win {
+                cell,
+                word: word_to(place),
+            }) else {
+                unreachable!()
+            };
+        }
+        Ok(claim)
+    }
+
+    /// Claims the next block of Aged or of Old, as the helper does.
+    pub fn claim_block(&mut self, table: &RaceTable, aged: bool) -> u64
+        requires own { self.old.table ≡ table.now.table }
+        requires allowed { IsTrue (can_claim_block aged self.old.done) }
+        ensures drawn { self.new ≡ record self.old { done = with_block aged self.old.done result } }
+        ensures fresh { All (λ b. b < result) (blocks_of aged self.old.done) }
+    {
+        self.helper.claim_block(table, aged)
+    }
+}

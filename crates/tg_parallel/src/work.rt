@@ -1,0 +1,88 @@
+//! The work of a helper: chunks of roots are claimed until there are none left, and what they lead to is copied.
+ghost use Rattle.std.specs.Prelude.{◌≡◌, ℕ, ◌*◌, ◌<◌, ◌≤◌, [], List, All, IfErr, IfOk, OnOk, length};
+ghost use Rattle.tg_space.specs.Soundness.{IsRootIn};
+ghost use Rattle.tg_race.specs.Race.{empty, past};
+ghost use Rattle.tg_evac.specs.Claims.{HavePointers};
+ghost use Rattle.tg_parallel.specs.Parts.{AreCountsOf, AreEarned, HasClaimedPast, roots_of_chunk};
+ghost use Rattle.tg_parallel.specs.Seats.{HasCopied, HasDrawn, IsSameSeat};
+
+use crate::gate::Gate;
+use crate::seat::Seat;
+use std::alloc::Global;
+use tg_evac::{CollectFault, Copies, claim_roots, scan};
+use tg_space::{Kind, Root, Spaces};
+
+// How many roots a chunk has; the last may have fewer.
+const CHUNK: u64 = 8;
+
+/// Claims chunks of roots until there are none left, and copies all that they lead to and that no other helper has won.
+/// The gate is passed before each claim of a chunk.
+///
+/// It is refused as a claim of a cell is, or with `OutOfMemory` where memory for a copy was refused.
+pub fn work<G: Gate>(
+    alloc: Global,
+    seat: &mut Seat,
+    number: u32,
+    spaces: &Spaces,
+    roots: &[Root],
+    kind: Kind,
+    gate: &G,
+) -> Result<Copies, CollectFault>
+    requires pointers { HavePointers spaces.now.spaces }
+    requires roots { All (IsRootIn spaces.now.spaces) roots.now }
+    requires kind { seat.now.kind ≡ kind }
+    requires counts { AreCountsOf kind spaces.now.spaces roots.now seat.now.board.counts }
+    requires fresh { seat.now.done ≡ empty 1 }
+    ensures same { IsSameSeat seat.entry.now seat.exit.now }
+    ensures earned { AreEarned kind spaces.now.spaces roots.now seat.exit.now.done }
+    ensures last { OnOk result (0 < past seat.exit.now.board.counts seat.exit.now.done) }
+    ensures copied { IfOk result (λ copies. HasCopied kind spaces.now.spaces roots.now seat.exit.now.done.chunks seat.exit.now copies.scanned copies.aged copies.old) }
+    ensures full { IfErr result (λ fault. fault ≡ CollectFault.HeapFull → HasClaimedPast seat.exit.now.limit seat.exit.now.done) }
+{
+    let mut copies = Copies::new(alloc)?;
+    let chunks = (roots.len() as u64).div_ceil(CHUNK);
+    gate.pass(number);
+    let mut chunk = seat.claim_chunk();
+    while chunk < chunks {
+        copy_chunk(seat, spaces, roots, kind, chunk, &mut copies)?;
+        gate.pass(number);
+        chunk = seat.claim_chunk();
+    }
+    Ok(copies)
+}
+
+// Copies what the roots of a chunk lead to, which was just claimed.
+fn copy_chunk(
+    seat: &mut Seat,
+    spaces: &Spaces,
+    roots: &[Root],
+    kind: Kind,
+    chunk: u64,
+    copies: &mut Copies,
+) -> Result<(), CollectFault>
+    requires pointers { HavePointers spaces.now.spaces }
+    requires roots { All (IsRootIn spaces.now.spaces) roots.now }
+    requires kind { seat.now.kind ≡ kind }
+    requires counts { AreCountsOf kind spaces.now.spaces roots.now seat.now.board.counts }
+    requires inside { 8 * chunk < length roots.now }
+    requires earned { AreEarned kind spaces.now.spaces roots.now seat.now.done }
+    requires drawn { (before : List ℕ) × HasDrawn before chunk seat.now × HasCopied kind spaces.now.spaces roots.now before seat.now copies.now.scanned copies.now.aged copies.now.old }
+    ensures same { IsSameSeat seat.entry.now seat.exit.now }
+    ensures chunks { seat.exit.now.done.chunks ≡ seat.entry.now.done.chunks }
+    ensures earned { AreEarned kind spaces.now.spaces roots.now seat.exit.now.done }
+    ensures copied { OnOk result (HasCopied kind spaces.now.spaces roots.now seat.exit.now.done.chunks seat.exit.now copies.exit.now.scanned copies.exit.now.aged copies.exit.now.old) }
+    ensures full { IfErr result (λ fault. fault ≡ CollectFault.HeapFull → HasClaimedPast seat.exit.now.limit seat.exit.now.done) }
+{
+    claim_roots(seat, spaces, kind, chunk_of(roots, chunk))?;
+    scan(seat, spaces, kind, copies)
+}
+
+// The roots of a chunk.
+fn chunk_of(roots: &[Root], chunk: u64) -> &[Root]
+    requires { 8 * chunk < length roots.now }
+    ensures { result.now ≡ roots_of_chunk roots.now chunk }
+{
+    let first = (CHUNK * chunk) as usize;
+    let last = (first + CHUNK as usize).min(roots.len());
+    &roots[first..last]
+}
