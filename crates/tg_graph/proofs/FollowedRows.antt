@@ -1,25 +1,33 @@
 -- The indexes of a heap's rows, while a collection's copies are followed.
-use Rattle.std.proofs.Common.{◌≡◌, ◌≢◌, ℕ, zero, suc, ◌+◌, ◌-◌, ◌<◌, ◌≤◌, ◌⊎◌, inl, inr, List, [], ◌∷◌, Option, Some, length, get_or, set, nat_eq, refl, sym, ap, subst, arith, ◌∙◌}
-use Rattle.std.specs.Prelude.{IfSome, slice_get, swap_remove}
+use Rattle.std.proofs.Common.{◌≡◌, ◌≢◌, ℕ, ◌+◌, ◌-◌, ◌<◌, ◌≤◌, ◌⊎◌, inl, inr, List, Option, Some, false, true, length, get_or, set, take, nat_eq, refl, sym, ap, subst, arith, ◌∙◌}
+use Rattle.std.specs.Prelude.{IfSome, slice_get, swap, swap_remove}
 use Rattle.std.specs.List.{All, IsDistinct}
 use Rattle.std.specs.Map.{keys_of, values_of}
+use Rattle.std.proofs.Math.Seq.{take-length}
 use Rattle.std.proofs.lemmas.Bool.{cases_eq}
-use Rattle.std.proofs.lemmas.Bool.Decides.{Decides-eqb}
+use Rattle.std.proofs.lemmas.Bool.Decides.{Decides-eqb, nat_tests}
 use Rattle.std.proofs.lemmas.Cmp.{nat_eq_equiv}
 use Rattle.std.proofs.lemmas.List.{get_or_default, get_or-set_other, get_or-set_same, get_or-take, length-set, length-take}
+use Rattle.std.proofs.lemmas.List.Edits.{length-swap}
 use Rattle.std.proofs.lemmas.List.Elements.{Contains-get_or}
 use Rattle.std.proofs.lemmas.Map.Views.{Contains-from_lookup, lookup-from_Contains}
 use Rattle.std.proofs.lemmas.Option.{slice_get_within, slice_get-get_or}
-use Rattle.indexmap.specs.Layout.{set_value_at}
+use Rattle.indexmap.proofs.ReorderLemmas.{exchange, exchange-within, get_or-swap}
+use Rattle.indexmap.specs.Layout.{length-set_value_at, set_value_at}
 use Rattle.tg_word.specs.declared.Place.{Place}
 use Rattle.tg_block.specs.declared.CellKind.TheVariants.{Object}
 use Rattle.tg_space.specs.SpaceList.{SpaceList, Holds, cells_of}
 use Rattle.tg_space.specs.Soundness.{IsKindAt}
+use Rattle.tg_space.specs.Collection.{new_place}
+use Rattle.tg_space.specs.Targets.{from_space}
 use Rattle.tg_space.specs.Rows.{chunks_from, link_at}
 use Rattle.tg_space.specs.declared.spaces.Kind.{Kind}
-use Rattle.tg_graph.specs.Index.{AreFollowed, AreIndexed, IsFollowed, IsFollowedTo, IsIndexed}
+use Rattle.tg_space.specs.declared.spaces.Kind.TheVariants.{Full, Nursery}
+use Rattle.tg_graph.specs.Index.{AreAged, AreFollowed, AreIndexed, IsAged, IsFollowed, IsFollowedTo, IsIndexed, IsOldPlace, IsOldRow}
+use Rattle.tg_graph.specs.Kept.{moved_place}
 use Rattle.tg_graph.specs.Rows.{IsRow}
 use Rattle.tg_graph.specs.declared.index.IndexedRow.{IndexedRow}
+use Rattle.tg_graph.proofs.Ages.{first_below, map_same, old_row_at, slice_get_is, value_here, value_of, value_other, written_aged}
 use Rattle.tg_graph.proofs.Chains.{row_held}
 
 abbrev Entries : Type 0
@@ -27,25 +35,6 @@ Entries = List (ℕ × IndexedRow)
 
 abbrev Entry : Type 0
 Entry = ℕ × IndexedRow
-
--- ---- a value at a place of a map
-
-value_other : (es : Entries) (i j : ℕ) (w : IndexedRow) (d : Entry) → j ≢ i → get_or (set_value_at es i w) j d ≡ get_or es j d
-value_other [] i j w d other = refl
-value_other (e ∷ es) zero zero w d other = absurd (other refl)
-value_other (e ∷ es) zero (suc j) w d other = refl
-value_other (e ∷ es) (suc i) zero w d other = refl
-value_other (e ∷ es) (suc i) (suc j) w d other = value_other es i j w d (λ e. other (ap suc e))
-
-value_here : (es : Entries) (i : ℕ) (w : IndexedRow) (d : Entry) → i < length es → get_or (set_value_at es i w) i d ≡ ((get_or es i d).0, w)
-value_here [] i w d low = absurd (omega arith)
-value_here (e ∷ es) zero w d low = refl
-value_here (e ∷ es) (suc i) w d low = value_here es i w d (omega arith)
-
-value_of : (es : Entries) (i : ℕ) (v : IndexedRow) (d : Entry) → slice_get (values_of es) i ≡ Some v → (get_or es i d).1 ≡ v
-value_of [] i v d found = let low = slice_get_within [] i v found in absurd (omega arith)
-value_of (e ∷ es) zero v d found = cc
-value_of (e ∷ es) (suc i) v d found = value_of es i v d found
 
 -- ---- the last entry takes the place of one
 
@@ -65,11 +54,42 @@ pub record AreFollowedTo (kind : Kind) (h : SpaceList) (forward : List ℕ) (es 
   pub done : (j : ℕ) (d : Entry) → j < at → j < length es → IsFollowed kind h forward (get_or es j d).0 (get_or es j d).1
   pub todo : (j : ℕ) (d : Entry) → at ≤ j → j < length es → IsIndexed h (get_or es j d).0 (get_or es j d).1
 
-pub follow_begins : (kind : Kind) (h : SpaceList) (forward : List ℕ) (es : Entries) → AreIndexed h es → IsDistinct nat_eq (keys_of es) → AreFollowedTo kind h forward es 0
-follow_begins kind h forward es indexed unique = record {
-  done = λ j d low inside. absurd (omega arith);
-  todo = λ j d high inside. indexed (get_or es j d).0 (get_or es j d).1 (lookup-from_Contains nat_eq_equiv (get_or es j d).0 (get_or es j d).1 es unique (Contains-get_or es j d inside));
+-- a row that lies in Old whole is followed as it is by a nursery collection
+old_followed : (h : SpaceList) (forward : List ℕ) (name : ℕ) (row : IndexedRow) → IsIndexed h name row → IsAged row → IsOldRow row → IsFollowed Nursery h forward name row
+old_followed h forward name row was aged old = record {
+  row = row;
+  was = was;
+  to = record {
+    names = refl;
+    cells = sym (map_same (moved_place (from_space Nursery) h (new_place forward)) row.cells.items stays);
+    copied = λ p first moves. let here : from_space Nursery p.space ≡ false = in_old p first in let no : true ≡ false = sym moves ∙ here in absurd cc;
+  };
 }
+  where
+    all_old : All IsOldPlace row.cells.items
+    all_old = subst (All IsOldPlace) (ap (λ n. take n row.cells.items) old ∙ take-length row.cells.items) aged.cells
+
+    stays : All (λ p. moved_place (from_space Nursery) h (new_place forward) p ≡ p) row.cells.items
+    stays k d low = let here : from_space Nursery (get_or row.cells.items k d).space ≡ false = all_old k d low in rw here refl
+
+    in_old : (p : Place) → slice_get row.cells.items 0 ≡ Some p → IsOldPlace p
+    in_old p first =
+        let low = slice_get_within row.cells.items 0 p first in
+        subst IsOldPlace (slice_get_is row.cells.items 0 p first) (all_old 0 p low)
+
+-- the first rows needn't be looked at
+pub follow_begins : (kind : Kind) (h : SpaceList) (forward : List ℕ) (es : Entries) (first : ℕ) → AreIndexed h es → AreAged es first → (kind ≡ Full → first ≡ 0) → IsDistinct nat_eq (keys_of es) → AreFollowedTo kind h forward es first
+follow_begins kind h forward es first indexed aged full unique = record {
+  done = λ j d low inside. first_done kind full j d low inside;
+  todo = λ j d high inside. index_of j d inside;
+}
+  where
+    index_of : (j : ℕ) (d : Entry) → j < length es → IsIndexed h (get_or es j d).0 (get_or es j d).1
+    index_of j d inside = indexed (get_or es j d).0 (get_or es j d).1 (lookup-from_Contains nat_eq_equiv (get_or es j d).0 (get_or es j d).1 es unique (Contains-get_or es j d inside))
+
+    first_done : (k : Kind) → (k ≡ Full → first ≡ 0) → (j : ℕ) (d : Entry) → j < first → j < length es → IsFollowed k h forward (get_or es j d).0 (get_or es j d).1
+    first_done Full none j d low inside = let zero_rows = none refl in absurd (omega (arith, zero_rows))
+    first_done Nursery none j d low inside = old_followed h forward (get_or es j d).0 (get_or es j d).1 (index_of j d inside) (aged.each j d inside) (old_row_at es first aged j d low)
 
 pub follow_ends : (kind : Kind) (h : SpaceList) (forward : List ℕ) (es : Entries) (at : ℕ) → AreFollowedTo kind h forward es at → length es ≤ at → AreFollowed kind h forward es
 follow_ends kind h forward es at followed all name row found =
@@ -86,12 +106,7 @@ module _ (kind : Kind) (h : SpaceList) (forward : List ℕ) (es later : Entries)
   was = subst (IsIndexed h here.0) (value_of es at row (0, row) found) (followed.todo at (0, row) (omega arith) inside)
 
   pub later_long : length later ≡ length es
-  later_long = ap (λ (l : Entries). length l) written ∙ long es at
-    where
-      long : (es : Entries) (i : ℕ) → length (set_value_at es i next) ≡ length es
-      long [] i = refl
-      long (e ∷ es) zero = refl
-      long (e ∷ es) (suc i) = ap suc (long es i)
+  later_long = ap (λ (l : Entries). length l) written ∙ length-set_value_at es at next
 
   other : (j : ℕ) (d : Entry) → j ≢ at → get_or later j d ≡ get_or es j d
   other j d ne = ap (λ (l : Entries). get_or l j d) written ∙ value_other es at j next d ne
@@ -149,9 +164,89 @@ module _ (kind : Kind) (h : SpaceList) (forward : List ℕ) (es later : Entries)
           by_place (inr ne) =
               subst (λ (e : Entry). IsIndexed h e.0 e.1) (sym (read ∙ get_or-set_other later at j last d ne ∙ other j d ne)) (followed.todo j d high (omega (arith, later_long)))
 
+-- ---- ages, while rows are followed
+
+module _ (es later : Entries) (old at : ℕ) (inside : at < length es) (low : old ≤ at) (aged : AreAged es old) (row next : IndexedRow) (found : slice_get (values_of es) at ≡ Some row) (written : later ≡ set_value_at es at next) (next_aged : IsAged next) where
+  long_as : length later ≡ length es
+  long_as = ap (λ (l : Entries). length l) written ∙ length-set_value_at es at next
+
+  -- a row before the place is as it was
+  pub aged_later : AreAged later old
+  aged_later = written_aged es later old at inside aged next written next_aged (inl low)
+
+  -- one goes
+  pub aged_rest : (p : Entry) (rest : Entries) → rest ≡ swap_remove later at p → AreAged rest old
+  aged_rest p rest gone = subst (λ (l : Entries). AreAged l old) (sym gone) (record {
+    within = omega (arith, long_as, short);
+    each = λ j d in_rest. by_place j d (omega (arith, short)) (cases_eq j at);
+    first = λ j d in_first.
+        let before : j < old = first_below (swap_remove later at p) old j in_first in
+        subst (λ (e : Entry). IsOldRow e.1) (sym (get_or-take old (swap_remove later at p) j d before ∙ removed_before later at (omega (arith, long_as)) p j d (omega arith))) (old_row_at later old aged_later j d before);
+  })
+    where
+      short : length (swap_remove later at p) ≡ length later - 1
+      short = removed_long later at (omega (arith, long_as)) p
+
+      last : Entry
+      last = get_or later (length later - 1) p
+
+      by_place : (j : ℕ) (d : Entry) → j < length later - 1 → (j ≡ at) ⊎ (j ≢ at) → IsAged (get_or (swap_remove later at p) j d).1
+      by_place j d in_rest (inl same) =
+          subst (λ (e : Entry). IsAged e.1) (sym (get_or-take (length later - 1) (set later at last) j d in_rest ∙ ap (λ k. get_or (set later at last) k d) same ∙ get_or-set_same later at last d (omega (arith, long_as))))
+          (aged_later.each (length later - 1) p (omega (arith, long_as)))
+      by_place j d in_rest (inr ne) =
+          subst (λ (e : Entry). IsAged e.1) (sym (get_or-take (length later - 1) (set later at last) j d in_rest ∙ get_or-set_other later at j last d ne))
+          (aged_later.each j d (omega arith))
+
+  -- a row that lies in Old whole joins the first ones
+  pub aged_swapped : IsOldRow next → (swapped : Entries) → swapped ≡ swap later at old → AreAged swapped (old + 1)
+  aged_swapped old_now swapped is = subst (λ (l : Entries). AreAged l (old + 1)) (sym is) (record {
+    within = omega (arith, long_as, long);
+    each = λ j d in_list.
+        subst (λ (e : Entry). IsAged e.1) (sym (read j d)) (aged_later.each (exchange at old j) d (exchange-within at old (length later) j (omega (arith, long_as)) (omega (arith, long_as)) (omega (arith, long))));
+    first = λ j d in_first.
+        let before : j < old + 1 = first_below (swap later at old) (old + 1) j in_first in
+        subst (λ (e : Entry). IsOldRow e.1) (sym (get_or-take (old + 1) (swap later at old) j d before ∙ read j d)) (by_place j d before (cases_eq j old));
+  })
+    where
+      long : length (swap later at old) ≡ length later
+      long = length-swap later at old
+
+      read : (j : ℕ) (d : Entry) → get_or (swap later at old) j d ≡ get_or later (exchange at old j) d
+      read j d = get_or-swap later at old d (omega (arith, long_as)) (omega (arith, long_as)) j
+
+      by_place : (j : ℕ) (d : Entry) → j < old + 1 → (j ≡ old) ⊎ (j ≢ old) → IsOldRow (get_or later (exchange at old j) d).1
+      by_place j d before (inl same) =
+          let place : exchange at old j ≡ at = grind (arith, nat_tests) in
+          let here : get_or later at d ≡ ((get_or es at d).0, next) = ap (λ (l : Entries). get_or l at d) written ∙ value_here es at next d inside in
+          subst (λ (e : Entry). IsOldRow e.1) (sym (ap (λ k. get_or later k d) place ∙ here)) old_now
+      by_place j d before (inr ne) =
+          let place : exchange at old j ≡ j = grind (arith, nat_tests) in
+          subst (λ k. IsOldRow (get_or later k d).1) (sym place) (old_row_at later old aged_later j d (omega arith))
+
+pub swapped_long : (later swapped : Entries) (a b : ℕ) → swapped ≡ swap later a b → length swapped ≡ length later
+swapped_long later swapped a b is = ap (λ (l : Entries). length l) is ∙ length-swap later a b
+
+-- two of those that were followed change places
+pub followed_swapped : (kind : Kind) (h : SpaceList) (forward : List ℕ) (later swapped : Entries) (old at : ℕ) → at < length later → old ≤ at → AreFollowedTo kind h forward later (at + 1) → swapped ≡ swap later at old → AreFollowedTo kind h forward swapped (at + 1)
+followed_swapped kind h forward later swapped old at inside low followed is = subst (λ (l : Entries). AreFollowedTo kind h forward l (at + 1)) (sym is) (record {
+  done = λ j d before in_list.
+      subst (λ (e : Entry). IsFollowed kind h forward e.0 e.1) (sym (read j d))
+      (followed.done (exchange at old j) d (exchange-within at old (at + 1) j (omega arith) (omega arith) before) (exchange-within at old (length later) j inside (omega arith) (omega (arith, long))));
+  todo = λ j d behind in_list.
+      let place : exchange at old j ≡ j = grind (arith, nat_tests) in
+      subst (λ (e : Entry). IsIndexed h e.0 e.1) (sym (read j d ∙ ap (λ k. get_or later k d) place)) (followed.todo j d behind (omega (arith, long)));
+})
+  where
+    long : length (swap later at old) ≡ length later
+    long = length-swap later at old
+
+    read : (j : ℕ) (d : Entry) → get_or (swap later at old) j d ≡ get_or later (exchange at old j) d
+    read j d = get_or-swap later at old d inside (omega arith) j
+
 -- ---- what is asked of the row at a place
 
-module _ (kind : Kind) (h : SpaceList) (forward : List ℕ) (es : Entries) (at : ℕ) (inside : at < length es) (followed : AreFollowedTo kind h forward es at) (rows : (p : Place) → IsKindAt h Object p → IsRow h p)
+module _ (kind : Kind) (h : SpaceList) (forward : List ℕ) (es : Entries) (old at : ℕ) (inside : at < length es) (followed : AreFollowedTo kind h forward es at) (aged : AreAged es old) (rows : (p : Place) → IsKindAt h Object p → IsRow h p)
     (row : IndexedRow) (found : slice_get (values_of es) at ≡ Some row) where
   index_here : IsIndexed h (get_or es at (0, row)).0 row
   index_here = subst (IsIndexed h (get_or es at (0, row)).0) (value_of es at row (0, row) found) (followed.todo at (0, row) (omega arith) inside)
@@ -165,3 +260,6 @@ module _ (kind : Kind) (h : SpaceList) (forward : List ℕ) (es : Entries) (at :
   some_cell =
       let is = index_here in
       let long = ap (λ (ps : List Place). length ps) is.index.cells in omega arith
+
+  pub aged_here : IsAged row
+  aged_here = subst IsAged (value_of es at row (0, row) found) (aged.each at (0, row) inside)

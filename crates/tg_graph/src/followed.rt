@@ -1,5 +1,5 @@
 //! What a collection does to the indexes of rows.
-ghost use Rattle.std.specs.Prelude.{◌≡◌, ◌<◌, Some, length, slice_get, IsTrue};
+ghost use Rattle.std.specs.Prelude.{◌≡◌, ◌≢◌, ◌≤◌, ◌<◌, Some, length, map, slice_get, take};
 ghost use Rattle.std.specs.List.{All};
 ghost use Rattle.indexmap.specs.IndexMap.{index_map_len, values};
 ghost use Rattle.indexmap.specs.Layout.{set_value_at};
@@ -7,38 +7,82 @@ ghost use Rattle.tg_word.specs.declared.Place.{Place as PlaceOf};
 ghost use Rattle.tg_block.specs.declared.CellKind.TheVariants.{Object};
 ghost use Rattle.tg_space.specs.SpaceList.{Holds, cells_of};
 ghost use Rattle.tg_space.specs.Soundness.{IsKindAt};
-ghost use Rattle.tg_graph.specs.Index.{AreFollowed, AreIndexed, IsFollowedTo};
+ghost use Rattle.tg_space.specs.Collection.{new_place};
+ghost use Rattle.tg_space.specs.Targets.{from_space};
+ghost use Rattle.tg_graph.specs.Kept.{moved_place};
+ghost use Rattle.tg_graph.specs.Index.{AreAged, AreFollowed, AreIndexed, IsAged, IsFollowedTo, IsOldPlace, IsOldRow};
 ghost use Rattle.tg_graph.specs.Rows.{IsRow};
 ghost use Rattle.tg_graph.specs.declared.index.IndexedRow.{IndexedRow as RowOf};
 
 use crate::index::IndexedRow;
+use crate::long_rows::LongRows;
 use crate::settle::follow;
 use indexmap::IndexMap;
 use tg_space::{Forwarding, Kind, Spaces};
+use tg_word::Place;
 
-/// Each index becomes that of the row's copy, and goes where a collection of this kind left the row behind. Takes no
-/// memory.
-pub(crate) fn follow_rows(
+// What became of a row in a collection.
+#[derive(Clone, Copy, PartialEq, Eq)]
+enum Fate {
+    // It was left behind.
+    Gone,
+    // It may have cells outside Old.
+    Young,
+    // It lies in Old whole.
+    Old,
+}
+
+impl LongRows {
+    /// Each index becomes that of the row's copy, and goes where a collection of this kind left the row behind. A nursery
+    /// collection looks at those rows alone that may have young cells, and only at these cells. Takes no memory.
+    pub(crate) fn follow(&mut self, spaces: &Spaces, kind: Kind, forward: &Forwarding)
+        requires ends { (p : PlaceOf) → IsKindAt spaces.now.spaces Object p → IsRow spaces.now.spaces p }
+        requires whole { length forward.now.words ≡ length (cells_of spaces.now.spaces) }
+        requires indexed { AreIndexed spaces.now.spaces self.old.entries }
+        ensures { AreFollowed kind spaces.now.spaces forward.now.words self.new.entries }
+    {
+        let old = match kind {
+            Kind::Full => 0,
+            Kind::Nursery => self.old_rows,
+        };
+        self.old_rows = follow_rows(spaces, kind, forward, &mut self.indexes, old);
+    }
+}
+
+// Follows the rows behind the first `old` ones. The answer is how many lie in Old whole now.
+fn follow_rows(
     spaces: &Spaces,
     kind: Kind,
     forward: &Forwarding,
     rows: &mut IndexMap<u64, IndexedRow>,
-)
+    first: usize,
+) -> usize
     requires ends { (p : PlaceOf) → IsKindAt spaces.now.spaces Object p → IsRow spaces.now.spaces p }
     requires whole { length forward.now.words ≡ length (cells_of spaces.now.spaces) }
     requires indexed { AreIndexed spaces.now.spaces rows.old.entries }
-    ensures { AreFollowed kind spaces.now.spaces forward.now.words rows.new.entries }
+    requires aged { AreAged rows.old.entries first }
+    requires full { kind ≡ Kind.Full → first ≡ 0 }
+    ensures followed { AreFollowed kind spaces.now.spaces forward.now.words rows.new.entries }
+    ensures aged { AreAged rows.new.entries result }
 {
     // It tells that no name stands there twice.
     let _ = rows.len();
-    let mut i = 0;
+    let mut old = first;
+    let mut i = first;
     while i < rows.len() {
-        if follow_row_at(spaces, kind, forward, rows, i) {
-            i += 1;
-        } else {
-            rows.swap_remove_index(i);
+        match follow_row_at(spaces, kind, forward, rows, i) {
+            Fate::Gone => {
+                rows.swap_remove_index(i);
+            }
+            Fate::Young => i += 1,
+            Fate::Old => {
+                rows.swap_indices(i, old);
+                old += 1;
+                i += 1;
+            }
         }
     }
+    old
 }
 
 // The index at a place of the map becomes that of the row's copy, unless the row was left behind.
@@ -48,13 +92,14 @@ fn follow_row_at(
     forward: &Forwarding,
     rows: &mut IndexMap<u64, IndexedRow>,
     at: usize,
-) -> bool
+) -> Fate
     requires inside { at < index_map_len rows.old }
     requires held { (row : RowOf) → slice_get (values rows.old) at ≡ Some row → All (Holds spaces.now.spaces) row.cells.items }
     requires some { (row : RowOf) → slice_get (values rows.old) at ≡ Some row → 0 < length row.cells.items }
+    requires aged { (row : RowOf) → slice_get (values rows.old) at ≡ Some row → IsAged row }
     requires whole { length forward.now.words ≡ length (cells_of spaces.now.spaces) }
     ensures { (row followed : RowOf) × (slice_get (values rows.old) at ≡ Some row) × (rows.new.entries ≡ set_value_at rows.old.entries at followed)
-        × (IsTrue result → IsFollowedTo kind spaces.now.spaces forward.now.words row followed) }
+        × (result ≢ Fate.Gone → IsFollowedTo kind spaces.now.spaces forward.now.words row followed) × IsAged followed × (result ≡ Fate.Old → IsOldRow followed) }
 {
     match rows.get_index_mut(at) {
         Some(row) => follow_row(spaces, kind, forward, row),
@@ -63,16 +108,61 @@ fn follow_row_at(
 }
 
 // The index becomes that of the row's copy, unless the row was left behind.
-fn follow_row(spaces: &Spaces, kind: Kind, forward: &Forwarding, row: &mut IndexedRow) -> bool
+fn follow_row(spaces: &Spaces, kind: Kind, forward: &Forwarding, row: &mut IndexedRow) -> Fate
     requires held { All (Holds spaces.now.spaces) row.old.cells.items }
     requires some { 0 < length row.old.cells.items }
+    requires aged { IsAged row.old }
     requires whole { length forward.now.words ≡ length (cells_of spaces.now.spaces) }
-    ensures { IsTrue result → IsFollowedTo kind spaces.now.spaces forward.now.words row.old row.new }
+    ensures followed { result ≢ Fate.Gone → IsFollowedTo kind spaces.now.spaces forward.now.words row.old row.new }
+    ensures aged { IsAged row.new }
+    ensures old { result ≡ Fate.Old → IsOldRow row.new }
 {
     let object = row.cells[0];
     if kind.moves(object.space) && forward.word(spaces.flat(object)) == 0 {
-        return false;
+        return Fate::Gone;
     }
-    follow(spaces, kind, forward, &mut row.cells);
-    true
+    let first = match kind {
+        Kind::Full => 0,
+        Kind::Nursery => row.old_cells,
+    };
+    row.old_cells = follow_cells(spaces, kind, forward, &mut row.cells, first);
+    if row.old_cells < row.cells.len() {
+        return Fate::Young;
+    }
+    Fate::Old
+}
+
+// Follows the cells behind the first ones, which stay where they are. The answer is how many of the first lie in Old now.
+fn follow_cells(
+    spaces: &Spaces,
+    kind: Kind,
+    forward: &Forwarding,
+    cells: &mut [Place],
+    first: usize,
+) -> usize
+    requires within { first ≤ length cells.old }
+    requires old { All IsOldPlace (take first cells.old) }
+    requires full { kind ≡ Kind.Full → first ≡ 0 }
+    requires held { All (Holds spaces.now.spaces) cells.old }
+    requires whole { length forward.now.words ≡ length (cells_of spaces.now.spaces) }
+    ensures moved { cells.new ≡ map (moved_place (from_space kind) spaces.now.spaces (new_place forward.now.words)) cells.old }
+    ensures within { result ≤ length cells.new }
+    ensures old { All IsOldPlace (take result cells.new) }
+{
+    let (_, young) = cells.split_at_mut(first);
+    follow(spaces, kind, forward, young);
+    first + count_old(young)
+}
+
+// How many of the first cells lie in Old.
+fn count_old(cells: &[Place]) -> usize
+    ensures within { result ≤ length cells.now }
+    ensures old { All IsOldPlace (take result cells.now) }
+{
+    for (count, cell) in cells.iter().enumerate() {
+        if Kind::Nursery.moves(cell.space) {
+            return count;
+        }
+    }
+    cells.len()
 }

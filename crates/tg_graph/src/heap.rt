@@ -13,9 +13,8 @@ ghost use Rattle.tg_graph.specs.Spots.{IsMadeInRow, IsPutInRow, LacksCellsFor};
 ghost use Rattle.tg_graph.specs.Standing.{StandsFor};
 
 use crate::cells::Cells;
-use crate::index::IndexedRow;
+use crate::long_rows::LongRows;
 use crate::opening::opened;
-use indexmap::IndexMap;
 use std::alloc::{AllocError, Global};
 use std::marker::Model;
 use tg_model::{EdgeList, Numbers, Opening};
@@ -57,8 +56,7 @@ pub struct VertexRefused<P: Payload> {
 pub struct Heap<P: Payload> {
     pub(crate) cells: Cells<P>,
     pub(crate) workers: Vec<Place>,
-    // The indexes of long rows, each under the name of the row's vertex.
-    pub(crate) rows: IndexMap<u64, IndexedRow>,
+    pub(crate) rows: LongRows,
 }
 
 impl<P: Payload> Model for Heap<P> {
@@ -96,7 +94,7 @@ impl<P: Payload> Heap<P> {
         Ok(Heap {
             cells,
             workers,
-            rows: IndexMap::new(alloc),
+            rows: LongRows::new(alloc),
         })
     }
 

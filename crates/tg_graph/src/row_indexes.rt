@@ -1,6 +1,6 @@
 //! The graph in the cells, where some rows have an index: each call goes by the index of the row, if it has one, and else
 //! walks.
-ghost use Rattle.std.specs.Prelude.{◌≡◌, ◌+◌, ◌<◌, ◌⊎◌, ℕ, false, length, Err, IfErr, IfOk, IfSome, OnErr, OnOk};
+ghost use Rattle.std.specs.Prelude.{◌≡◌, ◌+◌, ◌<◌, ◌≤◌, ◌⊎◌, ℕ, None, false, length, nat_eq, Err, IfErr, IfOk, IfSome, OnErr, OnOk};
 ghost use Rattle.tg_rights.specs.RightSet.{is_none_held};
 ghost use Rattle.tg_model.specs.Graph.{with_rights, without_rights};
 ghost use Rattle.tg_model.specs.Rules.{with_value};
@@ -10,7 +10,8 @@ ghost use Rattle.tg_space.specs.Soundness.{IsKindAt};
 ghost use Rattle.tg_space.specs.Generations.{AreRemembered};
 ghost use Rattle.tg_graph.specs.Content.{IsNamed};
 ghost use Rattle.tg_graph.specs.Heap.{IsGraph, content_in, rights_found};
-ghost use Rattle.tg_graph.specs.Index.{AreIndexed, IsRowIndex};
+ghost use Rattle.tg_graph.specs.Index.{AreIndexed, HasIndexAt, IsAged, IsRowIndex};
+ghost use Rattle.std.specs.Map.{lookup};
 ghost use Rattle.tg_graph.specs.Rows.{IsVertexAt, name_at};
 ghost use Rattle.tg_graph.specs.Spots.{IsMadeInRow, IsPutInRow, LacksCellsFor};
 ghost use Rattle.tg_graph.specs.Steps.{ChangesTo};
@@ -18,8 +19,8 @@ ghost use Rattle.tg_graph.specs.Steps.{ChangesTo};
 use crate::cells::Cells;
 use crate::heap::{Found, VertexRefused};
 use crate::index::IndexedRow;
+use crate::long_rows::LongRows;
 use crate::rows::{is_long, places_of};
-use indexmap::IndexMap;
 use std::alloc::AllocError;
 use tg_index::RowIndex;
 use tg_nursery::AllocateFault;
@@ -32,45 +33,44 @@ impl<P: Payload> Cells<P> {
     pub(crate) fn index_of(&self, from: Place) -> Result<IndexedRow, AllocError>
         requires graph { IsGraph self.now.spaces.spaces self.now.payloads }
         requires from { IsKindAt self.now.spaces.spaces Object from }
-        ensures { IfOk result (λ row. IsRowIndex self.now.spaces.spaces from row.names row.cells.items) }
+        ensures index { IfOk result (λ row. IsRowIndex self.now.spaces.spaces from row.names row.cells.items) }
+        ensures aged { IfOk result IsAged }
     {
         let (names, cells) = places_of(self.alloc, &self.spaces, from)?;
         Ok(IndexedRow {
             names: RowIndex::of_row(self.alloc, &names)?,
             cells,
+            old_cells: 0,
         })
     }
 
-    /// Gives the row of an object an index, where it has none and has more cells than a walk may pass. Where memory was
-    /// refused, nothing is changed.
-    pub(crate) fn index_long_row(
+    /// Where the index of the row of an object stands among those that may get young cells, if it has one; it gets one where it
+    /// has more cells than a walk may pass. Where memory was refused, nothing is changed.
+    pub(crate) fn young_place(
         &self,
-        rows: &mut IndexMap<u64, IndexedRow>,
+        rows: &mut LongRows,
         from: Place,
-    ) -> Result<(), AllocError>
+    ) -> Result<Option<usize>, AllocError>
         requires graph { IsGraph self.now.spaces.spaces self.now.payloads }
         requires from { IsKindAt self.now.spaces.spaces Object from }
         requires indexed { AreIndexed self.now.spaces.spaces rows.old.entries }
         ensures indexed { AreIndexed self.now.spaces.spaces rows.new.entries }
+        ensures there { IfOk result (λ place. IfSome place (λ at. (rows.new.old_rows ≤ at) × HasIndexAt rows.new.entries (name_at self.now.spaces.spaces from) at)) }
+        ensures none { IfOk result (λ place. place ≡ None → lookup (nat_eq (name_at self.now.spaces.spaces from)) rows.new.entries ≡ None) }
     {
         let name = self.name_of(from);
-        if rows.contains_key(&name) || !is_long(&self.spaces, from) {
-            return Ok(());
+        if let Some(at) = rows.place(name) {
+            return Ok(Some(rows.make_young(at)));
+        }
+        if !is_long(&self.spaces, from) {
+            return Ok(None);
         }
         let row = self.index_of(from)?;
-        let Ok(_) = rows.insert(name, row) else {
-            return Err(AllocError);
-        };
-        Ok(())
+        Ok(Some(rows.add(name, row)?))
     }
 
     /// The reference in the row of an object to the vertex with a name.
-    pub(crate) fn find_edge_in(
-        &self,
-        rows: &IndexMap<u64, IndexedRow>,
-        from: Place,
-        name: u64,
-    ) -> Option<Found>
+    pub(crate) fn find_edge_in(&self, rows: &LongRows, from: Place, name: u64) -> Option<Found>
         requires graph { IsGraph self.now.spaces.spaces self.now.payloads }
         requires from { IsKindAt self.now.spaces.spaces Object from }
         requires indexed { AreIndexed self.now.spaces.spaces rows.now.entries }
@@ -78,7 +78,7 @@ impl<P: Payload> Cells<P> {
         ensures some { IfSome result (λ found. is_none_held found.rights ≡ false) }
         ensures place { IfSome result (λ found. IsVertexAt self.now.spaces.spaces name found.place) }
     {
-        match rows.get(&self.name_of(from)) {
+        match rows.find(self.name_of(from)) {
             Some(row) => self.find_edge_by_index(row, from, name),
             None => self.find_edge(from, name),
         }
@@ -88,7 +88,7 @@ impl<P: Payload> Cells<P> {
     /// that of the spaces last: where it is refused, there may be room for one more note, and else nothing is changed.
     pub(crate) fn add_edge_in(
         &mut self,
-        rows: &mut IndexMap<u64, IndexedRow>,
+        rows: &mut LongRows,
         worker: u64,
         from: Place,
         to: Place,
@@ -112,12 +112,15 @@ impl<P: Payload> Cells<P> {
         ensures places { OnErr result (self.new.remembered.places ≡ self.old.remembered.places) }
         ensures indexed { AreIndexed self.new.spaces.spaces rows.new.entries }
     {
-        let Ok(()) = self.index_long_row(rows, from) else {
+        let Ok(place) = self.young_place(rows, from) else {
             return Err(AllocateFault::OutOfMemory);
         };
-        match rows.get_mut(&self.name_of(from)) {
+        let Some(at) = place else {
+            return self.add_edge(worker, from, to, rights);
+        };
+        match rows.indexes.get_index_mut(at) {
             Some(row) => self.add_edge_indexed(row, worker, from, to, rights),
-            None => self.add_edge(worker, from, to, rights),
+            None => unreachable!(),
         }
     }
 
@@ -125,7 +128,7 @@ impl<P: Payload> Cells<P> {
     /// remembered stays.
     pub(crate) fn drop_rights_in(
         &mut self,
-        rows: &mut IndexMap<u64, IndexedRow>,
+        rows: &mut LongRows,
         from: Place,
         name: u64,
         rights: Rights,
@@ -143,9 +146,12 @@ impl<P: Payload> Cells<P> {
         ensures blocks { (space : ℕ) → length (space_of self.new.spaces.spaces space) ≡ length (space_of self.old.spaces.spaces space) }
         ensures indexed { AreIndexed self.new.spaces.spaces rows.new.entries }
     {
-        match rows.get_mut(&self.name_of(from)) {
+        let Some(at) = rows.place(self.name_of(from)) else {
+            return self.drop_rights(from, name, rights);
+        };
+        match rows.indexes.get_index_mut(at) {
             Some(row) => self.drop_indexed(row, from, name, rights),
-            None => self.drop_rights(from, name, rights),
+            None => unreachable!(),
         }
     }
 
@@ -154,7 +160,7 @@ impl<P: Payload> Cells<P> {
     /// payload and one more note, and else nothing is changed.
     pub(crate) fn new_vertex_in(
         &mut self,
-        rows: &mut IndexMap<u64, IndexedRow>,
+        rows: &mut LongRows,
         worker: u64,
         from: Place,
         name: u64,
@@ -181,13 +187,16 @@ impl<P: Payload> Cells<P> {
             LacksCellsFor self.old.spaces (worker + 2) 1 (name_at self.old.spaces.spaces from) name) }
         ensures indexed { AreIndexed self.new.spaces.spaces rows.new.entries }
     {
-        let Ok(()) = self.index_long_row(rows, from) else {
+        let Ok(place) = self.young_place(rows, from) else {
             let why = AllocateFault::OutOfMemory;
             return Err(VertexRefused { draft, why });
         };
-        match rows.get_mut(&self.name_of(from)) {
+        let Some(at) = place else {
+            return self.new_vertex(worker, from, name, rights, draft);
+        };
+        match rows.indexes.get_index_mut(at) {
             Some(row) => self.new_vertex_indexed(row, worker, from, name, rights, draft),
-            None => self.new_vertex(worker, from, name, rights, draft),
+            None => unreachable!(),
         }
     }
 }

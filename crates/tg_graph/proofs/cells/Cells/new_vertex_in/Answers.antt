@@ -1,32 +1,69 @@
-use Rattle.std.proofs.Common.{ℕ, IsSome, Option, refl, sym, ap, subst}
+use Rattle.std.proofs.Common.{◌≡◌, ◌≤◌, ◌<◌, ℕ, Option, false, true, inl, length, refl, sym, subst}
+use Rattle.std.specs.Prelude.{IfSome}
+use Rattle.std.proofs.lemmas.Cmp.{nat_eq_equiv}
+use Rattle.std.proofs.lemmas.Option.{slice_get_within}
+use Rattle.indexmap.proofs.CallerLemmas.{updates-with_value_at}
+use Rattle.indexmap.specs.Layout.{set_value_at}
 use Rattle.tg_word.specs.declared.Place.{Place}
 use Rattle.tg_space.specs.SpaceTable.{SpaceTable}
-use Rattle.tg_graph.specs.Rows.{IsVertexAt}
-use Rattle.tg_graph.specs.declared.index.IndexedRow.{IndexedRow}
+use Rattle.tg_graph.specs.Index.{AreIndexed, HasIndexAt, Indexes, IsAged}
+use Rattle.tg_graph.specs.Rows.{IsVertexAt, name_at}
+use Rattle.tg_graph.proofs.Ages.{aged_at, none_of, row_there, same_row, written_aged}
 use Rattle.tg_graph.proofs.Heaps.{either_way}
 use Rattle.tg_graph.proofs.IndexedRows.{index_at, indexes_kept, indexes_written}
 use Rattle.tg_graph.proofs.cells.Cells.new_vertex_in.Goals as goal
 
-pub new_vertex_indexed-requires-clause-index : goal.new_vertex_indexed-requires-clause-index
-new_vertex_indexed-requires-clause-index g c =
-    index_at c.args.self.now.spaces.spaces c.args.self.now.payloads c.requires.graph c.index_long_row.new.rows.entries c.index_long_row.ensures.indexed c.args.from c.requires.from c.name_of.result c.name_of.ensures c.in-Some.row.now (sym c.in-Some.ensures.value)
-
-pub returns-in-Some-clause-indexed : goal.returns-in-Some-clause-indexed
-returns-in-Some-clause-indexed g c =
-    let t = c.args.self.now.spaces in
-    let new = c.new_vertex_indexed.new.self.spaces in
-    let vertices : (x : ℕ) (p : Place) → IsVertexAt t.spaces x p → IsVertexAt new.spaces x p =
-    either_way c.new_vertex_indexed.result c.new_vertex_indexed.ensures.made c.new_vertex_indexed.ensures.spaces (λ made. made.vertices) (λ same x p at. subst (λ (s : SpaceTable). IsVertexAt s.spaces x p) (sym same) at) in
-    let row = c.new_vertex_indexed.new.row in
-    let written = (c.get_mut.follows.holds row).3 (subst (λ (o : Option IndexedRow). IsSome o) c.in-Some.ensures.value refl) in
-    indexes_written t.spaces new.spaces vertices c.args.from c.requires.from c.new_vertex_indexed.ensures.others c.index_long_row.new.rows.entries c.index_long_row.ensures.indexed c.name_of.result c.name_of.ensures
-    (c.get_mut.follows.lender row).entries row written.0 c.new_vertex_indexed.ensures.index
-
-pub returns-in-None-clause-indexed : goal.returns-in-None-clause-indexed
-returns-in-None-clause-indexed g c =
+pub returns-in_default-place-clause-indexed : goal.returns-in_default-place-clause-indexed
+returns-in_default-place-clause-indexed g c =
     let t = c.args.self.now.spaces in
     let new = c.new_vertex.new.self.spaces in
     let vertices : (x : ℕ) (p : Place) → IsVertexAt t.spaces x p → IsVertexAt new.spaces x p =
-    either_way c.new_vertex.result c.new_vertex.ensures.made c.new_vertex.ensures.spaces (λ made. made.vertices) (λ same x p at. subst (λ (s : SpaceTable). IsVertexAt s.spaces x p) (sym same) at) in
-    indexes_kept t.spaces new.spaces vertices c.args.from c.requires.from c.new_vertex.ensures.others c.index_long_row.new.rows.entries c.index_long_row.ensures.indexed c.name_of.result c.name_of.ensures
-    c.get_mut.follows.lender-at-none.entries (ap (λ m. m.entries) c.get_mut.follows.holds-at-none) (sym c.in-None.ensures.value)
+    either_way c.new_vertex.result c.new_vertex.ensures.made c.new_vertex.ensures.spaces (λ changed. changed.vertices) (λ same x p at. subst (λ (s : SpaceTable). IsVertexAt s.spaces x p) (sym same) at) in
+    let none = c.in-Ok.ensures.none (none_of c.in-Ok.place c.in_default-place.not-Some) in
+    indexes_kept t.spaces new.spaces vertices c.args.from c.requires.from c.new_vertex.ensures.others c.young_place.new.rows.entries c.young_place.ensures.indexed (name_at t.spaces c.args.from) refl c.young_place.new.rows.entries refl none
+
+pub new_vertex_indexed-requires-clause-index : goal.new_vertex_indexed-requires-clause-index
+new_vertex_indexed-requires-clause-index g c =
+    let own = name_at c.args.self.now.spaces.spaces c.args.from in
+    let there : (c.young_place.new.rows.old_rows ≤ c.in-Some.at) × HasIndexAt c.young_place.new.rows.entries own c.in-Some.at =
+    subst (λ (o : Option ℕ). IfSome o (λ at. (c.young_place.new.rows.old_rows ≤ at) × HasIndexAt c.young_place.new.rows.entries own at)) c.in-Some.is c.in-Ok.ensures.there in
+    let was : HasIndexAt c.rows.inside.indexes.entries own c.in-Some.at = subst (λ (s : Indexes). HasIndexAt s.entries own c.in-Some.at) (sym c.rows.view_is) there.1 in
+    let indexed : AreIndexed c.args.self.now.spaces.spaces c.rows.inside.indexes.entries = subst (λ (s : Indexes). AreIndexed c.args.self.now.spaces.spaces s.entries) (sym c.rows.view_is) c.young_place.ensures.indexed in
+    index_at c.args.self.now.spaces.spaces c.args.self.now.payloads c.requires.graph c.rows.inside.indexes.entries indexed c.args.from c.requires.from own refl c.in-Some-get_index_mut.row.now
+    (row_there c.rows.inside.indexes.entries own c.in-Some.at was c.in-Some-get_index_mut.row.now c.in-Some-get_index_mut.ensures.value)
+
+pub unreachable-requires : goal.unreachable-requires
+unreachable-requires g c =
+    let own = name_at c.args.self.now.spaces.spaces c.args.from in
+    let there : (c.young_place.new.rows.old_rows ≤ c.in-Some.at) × HasIndexAt c.young_place.new.rows.entries own c.in-Some.at =
+    subst (λ (o : Option ℕ). IfSome o (λ at. (c.young_place.new.rows.old_rows ≤ at) × HasIndexAt c.young_place.new.rows.entries own at)) c.in-Some.is c.in-Ok.ensures.there in
+    let was : HasIndexAt c.rows.inside.indexes.entries own c.in-Some.at = subst (λ (s : Indexes). HasIndexAt s.entries own c.in-Some.at) (sym c.rows.view_is) there.1 in
+    let low : c.in-Some.at < length c.rows.inside.indexes.entries = slice_get_within c.rows.inside.indexes.entries c.in-Some.at (own, was.row) was.here in
+    let no : false ≡ true = rw c.in-None.is at (c.get_index_mut.ensures.found.1 low) in
+    cc
+
+pub invariant_of-rows : goal.invariant_of-rows
+invariant_of-rows g c =
+    let own = name_at c.args.self.now.spaces.spaces c.args.from in
+    let there : (c.young_place.new.rows.old_rows ≤ c.in-Some.at) × HasIndexAt c.young_place.new.rows.entries own c.in-Some.at =
+    subst (λ (o : Option ℕ). IfSome o (λ at. (c.young_place.new.rows.old_rows ≤ at) × HasIndexAt c.young_place.new.rows.entries own at)) c.in-Some.is c.in-Ok.ensures.there in
+    let was : HasIndexAt c.rows.inside.indexes.entries own c.in-Some.at = subst (λ (s : Indexes). HasIndexAt s.entries own c.in-Some.at) (sym c.rows.view_is) there.1 in
+    let behind : c.rows.inside.old_rows ≤ c.in-Some.at = subst (λ (s : Indexes). s.old_rows ≤ c.in-Some.at) (sym c.rows.view_is) there.0 in
+    let low : c.in-Some.at < length c.rows.inside.indexes.entries = slice_get_within c.rows.inside.indexes.entries c.in-Some.at (own, was.row) was.here in
+    let aged = subst IsAged (sym (same_row c.rows.inside.indexes.entries own c.in-Some.at was c.in-Some-get_index_mut.row.now c.in-Some-get_index_mut.ensures.value)) (aged_at c.rows.inside.indexes.entries c.rows.inside.old_rows c.rows.invariant own c.in-Some.at was) in
+    written_aged c.rows.inside.indexes.entries (set_value_at c.rows.inside.indexes.entries c.in-Some.at c.new_vertex_indexed.new.row) c.rows.inside.old_rows c.in-Some.at low c.rows.invariant c.new_vertex_indexed.new.row refl (c.new_vertex_indexed.ensures.aged aged) (inl behind)
+
+pub returns-clause-indexed : goal.returns-clause-indexed
+returns-clause-indexed g c =
+    let own = name_at c.args.self.now.spaces.spaces c.args.from in
+    let there : (c.young_place.new.rows.old_rows ≤ c.in-Some.at) × HasIndexAt c.young_place.new.rows.entries own c.in-Some.at =
+    subst (λ (o : Option ℕ). IfSome o (λ at. (c.young_place.new.rows.old_rows ≤ at) × HasIndexAt c.young_place.new.rows.entries own at)) c.in-Some.is c.in-Ok.ensures.there in
+    let was : HasIndexAt c.rows.inside.indexes.entries own c.in-Some.at = subst (λ (s : Indexes). HasIndexAt s.entries own c.in-Some.at) (sym c.rows.view_is) there.1 in
+    let indexed : AreIndexed c.args.self.now.spaces.spaces c.rows.inside.indexes.entries = subst (λ (s : Indexes). AreIndexed c.args.self.now.spaces.spaces s.entries) (sym c.rows.view_is) c.young_place.ensures.indexed in
+    let t = c.args.self.now.spaces in
+    let new = c.new_vertex_indexed.new.self.spaces in
+    let vertices : (x : ℕ) (p : Place) → IsVertexAt t.spaces x p → IsVertexAt new.spaces x p =
+    either_way c.new_vertex_indexed.result c.new_vertex_indexed.ensures.made c.new_vertex_indexed.ensures.spaces (λ changed. changed.vertices) (λ same x p at. subst (λ (s : SpaceTable). IsVertexAt s.spaces x p) (sym same) at) in
+    let written = updates-with_value_at c.rows.inside.indexes c.in-Some.at c.new_vertex_indexed.new.row nat_eq_equiv c.get_index_mut.ensures.unique own was.row was.here in
+    indexes_written t.spaces new.spaces vertices c.args.from c.requires.from c.new_vertex_indexed.ensures.others c.rows.inside.indexes.entries indexed own refl
+    (set_value_at c.rows.inside.indexes.entries c.in-Some.at c.new_vertex_indexed.new.row) c.new_vertex_indexed.new.row written.0 c.new_vertex_indexed.ensures.index

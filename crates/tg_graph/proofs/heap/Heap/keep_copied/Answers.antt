@@ -47,13 +47,13 @@ left g c =
     (items_mapped inside.workers f c.follow.new.places moved)
     refl
 
-pub follow_rows-requires-clause-ends : goal.follow_rows-requires-clause-ends
-follow_rows-requires-clause-ends g c =
+pub follow-requires-2-clause-ends : goal.follow-requires-2-clause-ends
+follow-requires-2-clause-ends g c =
     let inside = c.self.inside in
     λ p object. row_is inside.cells.spaces.spaces inside.cells.payloads (table_list inside.cells.spaces c.drop_uncopied.ensures.table) c.self.invariant.0.graph p object
 
 pub invariant_of-self : goal.invariant_of-self
-invariant_of-self g c = ((left g c).well_formed, (left g c).indexed c.follow_rows.new.rows.entries (subst (λ (heap : HeapState). AreFollowed Full heap.table.spaces c.args.forward.now.words c.follow_rows.new.rows.entries) c.self.view_is c.follow_rows.ensures))
+invariant_of-self g c = ((left g c).well_formed, (left g c).indexed c.follow-2.new.self.entries (subst (λ (heap : HeapState). AreFollowed Full heap.table.spaces c.args.forward.now.words c.follow-2.new.self.entries) c.self.view_is c.follow-2.ensures))
 
 pub returns-clause-blocks : goal.returns-clause-blocks
 returns-clause-blocks g c =

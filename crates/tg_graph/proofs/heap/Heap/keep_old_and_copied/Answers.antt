@@ -42,8 +42,8 @@ follow-requires-clause-held g c =
     let held : All (Holds s.table.spaces) s.workers = λ k d low. (objects k d low).held in
     subst (All (Holds s.table.spaces)) (sym (c.deref_mut.ensures.value ∙ c.in_ok-workers.ensures.items ∙ c.deref.ensures.value)) held
 
-pub follow_rows-requires-clause-ends : goal.follow_rows-requires-clause-ends
-follow_rows-requires-clause-ends g c =
+pub follow-requires-2-clause-ends : goal.follow-requires-2-clause-ends
+follow-requires-2-clause-ends g c =
     let inside = c.self.inside in
     λ p object. row_is inside.cells.spaces.spaces inside.cells.payloads (table_list inside.cells.spaces c.in_ok-dead.ensures.table) c.self.invariant.0.graph p object
 
@@ -85,7 +85,7 @@ left g c =
     refl
 
 pub invariant_of-self-2 : goal.invariant_of-self-2
-invariant_of-self-2 g c = ((left g c).well_formed, (left g c).indexed c.follow_rows.new.rows.entries (subst (λ (heap : HeapState). AreFollowed Nursery heap.table.spaces c.args.forward.now.words c.follow_rows.new.rows.entries) c.self.view_is c.follow_rows.ensures))
+invariant_of-self-2 g c = ((left g c).well_formed, (left g c).indexed c.follow-2.new.self.entries (subst (λ (heap : HeapState). AreFollowed Nursery heap.table.spaces c.args.forward.now.words c.follow-2.new.self.entries) c.self.view_is c.follow-2.ensures))
 
 pub returns-clause-settled : goal.returns-clause-settled
 returns-clause-settled g c = (left g c).settled

@@ -1,0 +1,95 @@
+//! The indexes of long rows, and which of them may have young cells.
+ghost use Rattle.std.specs.Prelude.{◌≡◌, ◌≤◌, ◌<◌, ℕ, [], None, Some, if◌then◌else◌, length, nat_eq, option_copied, IfOk, IfSome, OnErr, OnOk};
+ghost use Rattle.std.specs.Map.{lookup};
+ghost use Rattle.tg_graph.specs.Index.{HasIndexAt, IsAged};
+
+use crate::index::IndexedRow;
+use indexmap::IndexMap;
+use std::alloc::{AllocError, Global};
+use std::marker::Model;
+
+/// The indexes of long rows, each under the name of the row's vertex. First stand those of rows that are known to lie in Old
+/// whole, so a nursery collection begins behind them.
+#[derive(Drop)]
+pub(crate) struct LongRows {
+    pub(crate) indexes: IndexMap<u64, IndexedRow>,
+    // How many rows are known to lie in Old whole.
+    pub(crate) old_rows: usize,
+}
+
+impl Model for LongRows {
+    ghost use Rattle.tg_graph.specs.Index.{Indexes, AreAged};
+
+    ghost Value = { Indexes };
+
+    ghost view = { λ a. record { entries = a.indexes.entries; old_rows = a.old_rows } };
+
+    ghost invariant = { λ a. AreAged a.indexes.entries a.old_rows };
+}
+
+impl LongRows {
+    /// No index. Takes no memory.
+    pub(crate) fn new(alloc: Global) -> LongRows
+        ensures { result.entries ≡ [] }
+    {
+        LongRows {
+            indexes: IndexMap::new(alloc),
+            old_rows: 0,
+        }
+    }
+
+    /// Gives all indexes up. Takes no memory.
+    pub(crate) fn clear(&mut self)
+        ensures { self.new.entries ≡ [] }
+    {
+        self.indexes.clear();
+        self.old_rows = 0;
+    }
+
+    /// The index of the row of the vertex with a name, if it has one. Takes no memory.
+    pub(crate) fn find(&self, name: u64) -> Option<&IndexedRow>
+        ensures { option_copied result ≡ lookup (nat_eq name) self.now.entries }
+    {
+        self.indexes.get(&name)
+    }
+
+    /// At which place the index of the row of the vertex with a name stands, if it has one. Takes no memory.
+    pub(crate) fn place(&self, name: u64) -> Option<usize>
+        ensures there { IfSome result (HasIndexAt self.now.entries name) }
+        ensures none { result ≡ None → lookup (nat_eq name) self.now.entries ≡ None }
+    {
+        self.indexes.get_index_of(&name)
+    }
+
+    /// Adds the index of the row of the vertex with a name, which has none. The answer is its place, among those of rows that may
+    /// have young cells. Where memory was refused, nothing is changed.
+    pub(crate) fn add(&mut self, name: u64, row: IndexedRow) -> Result<usize, AllocError>
+        requires absent { lookup (nat_eq name) self.old.entries ≡ None }
+        requires aged { IsAged row }
+        ensures added { OnOk result ((q : ℕ) → lookup (nat_eq q) self.new.entries ≡ if nat_eq name q then Some row else lookup (nat_eq q) self.old.entries) }
+        ensures there { IfOk result (λ at. (self.new.old_rows ≤ at) × HasIndexAt self.new.entries name at) }
+        ensures refused { OnErr result (self.new.entries ≡ self.old.entries) }
+    {
+        let at = self.indexes.len();
+        let Ok(_) = self.indexes.insert(name, row) else {
+            return Err(AllocError);
+        };
+        Ok(at)
+    }
+
+    /// The index at a place comes to stand among those of rows that may have young cells. The answer is its new place. Takes
+    /// no memory.
+    pub(crate) fn make_young(&mut self, at: usize) -> usize
+        requires { at < length self.old.entries }
+        ensures young { self.new.old_rows ≤ result }
+        ensures there { (name : ℕ) → HasIndexAt self.old.entries name at → HasIndexAt self.new.entries name result }
+        ensures same { (name : ℕ) → lookup (nat_eq name) self.new.entries ≡ lookup (nat_eq name) self.old.entries }
+    {
+        if self.old_rows <= at {
+            return at;
+        }
+        self.old_rows -= 1;
+        self.indexes.swap_indices(at, self.old_rows);
+        self.old_rows
+    }
+}
