@@ -49,13 +49,13 @@ impl Claims {
         ensures plan { IfOk result (λ claims. claims.plan ≡ plan) }
         ensures refused { IfErr result (λ fault. fault ≡ CollectFault.OutOfMemory) }
     {
-        // Where all cells are live, the list's last growth ends with as many pairs as there are cells.
-        let moved_blocks = cells / CELLS as u64 - plan.kept;
+        let kept = CELLS as u64 * plan.kept;
         Ok(Claims {
             plan,
-            forward: Forwarding::new(alloc, cells, CELLS as u64 * plan.kept)?,
-            won: Vec::with_capacity(alloc, moved_blocks as usize)?,
-            next: [CELLS as u64 * plan.kept, 0],
+            forward: Forwarding::new(alloc, cells, kept)?,
+            // There is room for every cell that may be won at once, so the list never grows.
+            won: Vec::with_capacity(alloc, (cells - kept) as usize)?,
+            next: [kept, 0],
         })
     }
 
