@@ -28,14 +28,15 @@ pub struct Claims {
 }
 
 impl Model for Claims {
-    ghost use Rattle.std.specs.Prelude.{◌≡◌, ◌*◌};
+    ghost use Rattle.std.specs.Prelude.{◌≡◌, ◌*◌, ◌-◌, ◌≤◌, length, vec_capacity};
+    ghost use Rattle.std.specs.List.{All};
     ghost use Rattle.tg_evac.specs.Claims.{Claimed, AreClaims};
 
     ghost Value = { Claimed };
 
     ghost view = { λ c. record { plan = c.plan; forward = c.forward.words; won = c.won.items; next = c.next } };
 
-    ghost invariant = { λ c. AreClaims (record { plan = c.plan; forward = c.forward.words; won = c.won.items; next = c.next }) × (c.forward.skipped ≡ 64 * c.plan.kept) };
+    ghost invariant = { λ c. AreClaims (record { plan = c.plan; forward = c.forward.words; won = c.won.items; next = c.next }) × (c.forward.skipped ≡ 64 * c.plan.kept) × All (λ w. 64 * c.plan.kept ≤ w.cell) c.won.items × (length c.forward.words - 64 * c.plan.kept ≤ vec_capacity c.won) };
 }
 
 impl Claims {
@@ -124,7 +125,7 @@ impl Claims {
             return Err(CollectFault::HeapFull);
         }
         let word = link(space, number);
-        self.won.push(Win { cell, word })?;
+        self.won.push_reserved(Win { cell, word });
         self.forward.set(cell, word);
         self.next[space as usize] = number + 1;
         Ok(word)
