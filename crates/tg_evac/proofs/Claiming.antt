@@ -1,5 +1,5 @@
 -- Facts on the claims of a collection.
-use Rattle.std.proofs.Common.{◌≡◌, ◌≢◌, ℕ, ◌<◌, ◌≤◌, ◌+◌, ◌-◌, ◌*◌, ◌/◌, ◌%◌, ◌^◌, ◌++◌, ◌∷◌, ◌⊎◌, ◌==◌, true, false, cond, [], List, length, get_or, set, refl, sym, ap, subst, arith, ◌∙◌, eqb, lit<, inl, inr, ⊎_elim}
+use Rattle.std.proofs.Common.{◌≡◌, ◌≢◌, ℕ, ◌<◌, ◌≤◌, ◌+◌, ◌-◌, ◌*◌, ◌/◌, ◌%◌, ◌^◌, ◌++◌, ◌∷◌, ◌⊎◌, ◌==◌, true, false, cond, [], List, length, get_or, set, map, refl, sym, ap, subst, arith, ◌∙◌, eqb, lit<, inl, inr, ⊎_elim}
 use Rattle.std.specs.List.{All, Contains, IsDistinct}
 use Rattle.std.proofs.lemmas.List.{get_or_default, get_or-set_same, get_or-set_other, length-set, get_or-map, length-map, map-append, get_or_append_left, get_or_push, length_push, append-nil}
 use Rattle.std.proofs.lemmas.List.Elements.{All-push, All-nil, All-head, All-tail, All-weaker, All-contains, All-from_get_or, All-get_or, Contains-append_left, Contains-append_right, Contains-get_or, filter-append}
@@ -164,26 +164,27 @@ module _ (c : Claimed) (are : AreClaims c) where
       let same = number_apart v w hv hw e in
       sym (cell_at c.won v hv) ∙ ap (λ (k : ℕ). get_or (cells_won c.won) k 0) same ∙ cell_at c.won w hw
 
+  -- no cell is won twice
+  won_apart : (i j : ℕ) → i < j → j < length (cells_won c.won) → get_or (cells_won c.won) i 0 ≡ get_or (cells_won c.won) j 0 → ⊥
+  won_apart i j lt high e =
+      let long : length (cells_won c.won) ≡ length c.won = length-map c.won (λ (v : Win). v.cell) in
+      let words : length (words_won c.won) ≡ length c.won = length-map c.won (λ (v : Win). v.word) in
+      let hi : i < length c.won = omega arith in
+      let hj : j < length c.won = omega arith in
+      let v : Win = win_at c.won i in let w : Win = win_at c.won j in
+      let sv : StandsIn c.forward v = stands v (Contains-get_or c.won i (win_at [] 0) hi) in
+      let sw : StandsIn c.forward w = stands w (Contains-get_or c.won j (win_at [] 0) hj) in
+      let cv : get_or (cells_won c.won) i 0 ≡ v.cell = get_or-map (λ (x : Win). x.cell) c.won i (win_at [] 0) 0 hi in
+      let cw : get_or (cells_won c.won) j 0 ≡ w.cell = get_or-map (λ (x : Win). x.cell) c.won j (win_at [] 0) 0 hj in
+      let same : v.cell ≡ w.cell = sym cv ∙ e ∙ cw in
+      let wv : get_or (words_won c.won) i 0 ≡ v.word = get_or-map (λ (x : Win). x.word) c.won i (win_at [] 0) 0 hi in
+      let ww : get_or (words_won c.won) j 0 ≡ w.word = get_or-map (λ (x : Win). x.word) c.won j (win_at [] 0) 0 hj in
+      are.apart i j lt (omega arith) (wv ∙ sym sv.word ∙ ap (λ (n : ℕ). get_or c.forward n 0) same ∙ sw.word ∙ sym ww)
+
   pub won_distinct : IsDistinct eqb (cells_won c.won)
   won_distinct = IsDistinct-from_apart eqb (cells_won c.won) (λ i j d low high.
-      let ne : get_or (cells_won c.won) i d ≢ get_or (cells_won c.won) j d = λ e. apart i j low high (get_or_default (cells_won c.won) i 0 d (omega arith) ∙ e ∙ get_or_default (cells_won c.won) j d 0 high) in
+      let ne : get_or (cells_won c.won) i d ≢ get_or (cells_won c.won) j d = λ e. won_apart i j low high (get_or_default (cells_won c.won) i 0 d (omega arith) ∙ e ∙ get_or_default (cells_won c.won) j d 0 high) in
       grind (arith, nat_tests))
-    where
-      apart : (i j : ℕ) → i < j → j < length (cells_won c.won) → get_or (cells_won c.won) i 0 ≡ get_or (cells_won c.won) j 0 → ⊥
-      apart i j lt high e =
-          let long : length (cells_won c.won) ≡ length c.won = length-map c.won (λ (v : Win). v.cell) in
-          let words : length (words_won c.won) ≡ length c.won = length-map c.won (λ (v : Win). v.word) in
-          let hi : i < length c.won = omega arith in
-          let hj : j < length c.won = omega arith in
-          let v : Win = win_at c.won i in let w : Win = win_at c.won j in
-          let sv : StandsIn c.forward v = stands v (Contains-get_or c.won i (win_at [] 0) hi) in
-          let sw : StandsIn c.forward w = stands w (Contains-get_or c.won j (win_at [] 0) hj) in
-          let cv : get_or (cells_won c.won) i 0 ≡ v.cell = get_or-map (λ (x : Win). x.cell) c.won i (win_at [] 0) 0 hi in
-          let cw : get_or (cells_won c.won) j 0 ≡ w.cell = get_or-map (λ (x : Win). x.cell) c.won j (win_at [] 0) 0 hj in
-          let same : v.cell ≡ w.cell = sym cv ∙ e ∙ cw in
-          let wv : get_or (words_won c.won) i 0 ≡ v.word = get_or-map (λ (x : Win). x.word) c.won i (win_at [] 0) 0 hi in
-          let ww : get_or (words_won c.won) j 0 ≡ w.word = get_or-map (λ (x : Win). x.word) c.won j (win_at [] 0) 0 hj in
-          are.apart i j lt (omega arith) (wv ∙ sym sv.word ∙ ap (λ (n : ℕ). get_or c.forward n 0) same ∙ sw.word ∙ sym ww)
 
   -- no more cells are won than there are
   pub won_le : length (cells_won c.won) ≤ length c.forward
@@ -193,6 +194,44 @@ module _ (c : Claimed) (are : AreClaims c) where
       let low = (stands found.0 found.1).cell in
       let is = found.2 in
       omega arith)
+
+  -- nor are more won than stand behind the first, where none of these is won
+  module _ (first : ℕ) (behind : All (λ (w : Win). first ≤ w.cell) c.won) where
+    past : List ℕ
+    past = map (λ (n : ℕ). n - first) (cells_won c.won)
+
+    past_at : (i : ℕ) → i < length past → (i < length (cells_won c.won)) × (get_or past i 0 + first ≡ get_or (cells_won c.won) i 0)
+    unfolding past
+    past_at i low =
+        let cells : length past ≡ length (cells_won c.won) = length-map (cells_won c.won) (λ (n : ℕ). n - first) in
+        let wins : length (cells_won c.won) ≡ length c.won = length-map c.won (λ (v : Win). v.cell) in
+        let less : get_or past i 0 ≡ get_or (cells_won c.won) i 0 - first = get_or-map (λ (n : ℕ). n - first) (cells_won c.won) i 0 0 (omega arith) in
+        let is : get_or (cells_won c.won) i 0 ≡ (win_at c.won i).cell = get_or-map (λ (v : Win). v.cell) c.won i (win_at [] 0) 0 (omega arith) in
+        let late : first ≤ (win_at c.won i).cell = All-get_or (λ (w : Win). first ≤ w.cell) c.won i (win_at [] 0) (omega arith) behind in
+        (omega arith, omega arith)
+
+    past_distinct : IsDistinct eqb past
+    past_distinct = IsDistinct-from_apart eqb past (λ i j d low high.
+        let one = past_at i (omega arith) in let two = past_at j high in
+        let same : get_or past i d ≡ get_or past i 0 = get_or_default past i d 0 (omega arith) in
+        let other : get_or past j d ≡ get_or past j 0 = get_or_default past j d 0 high in
+        let ne : get_or past i d ≢ get_or past j d = λ e. won_apart i j low two.0 (omega arith) in
+        grind (arith, nat_tests))
+
+    pub won_behind : length c.won ≤ length c.forward - first
+    unfolding past
+    won_behind =
+        let cells : length past ≡ length (cells_won c.won) = length-map (cells_won c.won) (λ (n : ℕ). n - first) in
+        let wins : length (cells_won c.won) ≡ length c.won = length-map c.won (λ (v : Win). v.cell) in
+        let few : length past ≤ length c.forward - first = length-le_from_distinct_below past (length c.forward - first) past_distinct (λ q any.
+        let held : Contains past q = Contains-from_any {eq = eqb} (λ x y t. (Decides-eqb x y).0 t) q past any in
+        let at = past_at held.0 held.1 in
+        let is : get_or past held.0 0 ≡ q = get_or_default past held.0 0 q held.1 ∙ held.2 in
+        let found = win_from_cell c.won (get_or (cells_won c.won) held.0 0) (Contains-get_or (cells_won c.won) held.0 0 at.0) in
+        let low = (stands found.0 found.1).cell in
+        let cell = found.2 in
+        omega arith) in
+        omega arith
 
   -- every forwarding word has a place in range
   pub have_places : All (λ word. IsPlace (place_in word)) c.forward

@@ -28,14 +28,15 @@ pub struct Claims {
 }
 
 impl Model for Claims {
-    ghost use Rattle.std.specs.Prelude.{◌≡◌, ◌*◌};
+    ghost use Rattle.std.specs.Prelude.{◌≡◌, ◌*◌, ◌-◌, ◌≤◌, length, vec_capacity};
+    ghost use Rattle.std.specs.List.{All};
     ghost use Rattle.tg_evac.specs.Claims.{Claimed, AreClaims};
 
     ghost Value = { Claimed };
 
     ghost view = { λ c. record { plan = c.plan; forward = c.forward.words; won = c.won.items; next = c.next } };
 
-    ghost invariant = { λ c. AreClaims (record { plan = c.plan; forward = c.forward.words; won = c.won.items; next = c.next }) × (c.forward.skipped ≡ 64 * c.plan.kept) };
+    ghost invariant = { λ c. AreClaims (record { plan = c.plan; forward = c.forward.words; won = c.won.items; next = c.next }) × (c.forward.skipped ≡ 64 * c.plan.kept) × All (λ w. 64 * c.plan.kept ≤ w.cell) c.won.items × (length c.forward.words - 64 * c.plan.kept ≤ vec_capacity c.won) };
 }
 
 impl Claims {
@@ -49,13 +50,13 @@ impl Claims {
         ensures plan { IfOk result (λ claims. claims.plan ≡ plan) }
         ensures refused { IfErr result (λ fault. fault ≡ CollectFault.OutOfMemory) }
     {
-        // Where all cells are live, the list's last growth ends with as many pairs as there are cells.
-        let moved_blocks = cells / CELLS as u64 - plan.kept;
+        let kept = CELLS as u64 * plan.kept;
         Ok(Claims {
             plan,
-            forward: Forwarding::new(alloc, cells, CELLS as u64 * plan.kept)?,
-            won: Vec::with_capacity(alloc, moved_blocks as usize)?,
-            next: [CELLS as u64 * plan.kept, 0],
+            forward: Forwarding::new(alloc, cells, kept)?,
+            // There is room for every cell that may be won at once, so the list never grows.
+            won: Vec::with_capacity(alloc, (cells - kept) as usize)?,
+            next: [kept, 0],
         })
     }
 
@@ -124,7 +125,7 @@ impl Claims {
             return Err(CollectFault::HeapFull);
         }
         let word = link(space, number);
-        self.won.push(Win { cell, word })?;
+        self.won.push_reserved(Win { cell, word });
         self.forward.set(cell, word);
         self.next[space as usize] = number + 1;
         Ok(word)

@@ -12,8 +12,8 @@ ghost use Rattle.tg_evac.specs.Claimers.{AddsWins, KnowsMore};
 use crate::claimer::Claimer;
 use crate::fault::CollectFault;
 use crate::plan::space_for;
-use tg_block::WORDS;
-use tg_space::{Kind, Spaces, first_pointer};
+use tg_block::{CHUNK_TAG, OBJECT_TAG, WORDS};
+use tg_space::{Kind, Spaces};
 use tg_word::{place_of, with_place};
 
 // The first word of an object, and of a chunk, that may name a cell. A loop from a known word on is laid out word by word.
@@ -40,14 +40,11 @@ pub fn image<C: Claimer>(
     ensures image { IfOk result (λ image. (to : ℕ → PlaceOf) → C.knows claimer.new to → image ≡ image_of (from_space (C.walked claimer.old).kind) spaces.now.spaces to words.now) }
     ensures full { IfErr result (λ fault. fault ≡ CollectFault.HeapFull → C.is_full claimer.new) }
 {
-    let first = first_pointer(words[0]);
-    if first == OBJECT_POINTERS {
-        return image_from(claimer, spaces, kind, words, OBJECT_POINTERS, straight);
+    match words[0] {
+        OBJECT_TAG => image_from(claimer, spaces, kind, words, OBJECT_POINTERS, straight),
+        CHUNK_TAG => image_from(claimer, spaces, kind, words, CHUNK_POINTERS, straight),
+        _ => image_from(claimer, spaces, kind, words, WORDS, straight),
     }
-    if first == CHUNK_POINTERS {
-        return image_from(claimer, spaces, kind, words, CHUNK_POINTERS, straight);
-    }
-    image_from(claimer, spaces, kind, words, first, straight)
 }
 
 // The words, of which those from one on are moved, and what they name is claimed.

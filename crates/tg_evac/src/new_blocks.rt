@@ -1,5 +1,5 @@
 //! New blocks of a space, filled cell after cell.
-ghost use Rattle.std.specs.Prelude.{◌≡◌, ◌<◌, ◌≤◌, ◌-◌, ◌^◌, ◌++◌, ◌∷◌, [], length, replicate, IfOk, OnOk};
+ghost use Rattle.std.specs.Prelude.{◌≡◌, ◌<◌, ◌≤◌, ◌-◌, ◌^◌, ◌++◌, ◌∷◌, [], length, replicate, vec_capacity, IfOk, OnOk};
 ghost use Rattle.std.specs.List.{All};
 ghost use Rattle.tg_block.specs.Cells.{IsBlock, free_cell};
 ghost use Rattle.tg_space.specs.SpaceList.{IsSpace};
@@ -18,12 +18,12 @@ use tg_space::Space;
 pub struct NewBlocks {
     alloc: Global,
     full: Space,
-    // The cells behind the full blocks.
+    // The cells behind the full blocks. There is room for all of a block.
     last: Vec<[u64; WORDS]>,
 }
 
 impl Model for NewBlocks {
-    ghost use Rattle.std.specs.Prelude.{ℕ, List, ◌++◌};
+    ghost use Rattle.std.specs.Prelude.{ℕ, List, ◌≤◌, ◌++◌, vec_capacity};
     ghost use Rattle.std.specs.List.{flat_map};
     ghost use Rattle.tg_space.specs.SpaceList.{IsSpace};
     ghost use Rattle.tg_evac.specs.Copies.{IsOpenBlock};
@@ -32,7 +32,7 @@ impl Model for NewBlocks {
 
     ghost view = { λ b. flat_map (λ block. block) b.full ++ b.last.items };
 
-    ghost invariant = { λ b. IsSpace b.full × IsOpenBlock b.last.items };
+    ghost invariant = { λ b. IsSpace b.full × IsOpenBlock b.last.items × (64 ≤ vec_capacity b.last) };
 }
 
 impl NewBlocks {
@@ -56,7 +56,7 @@ impl NewBlocks {
         if self.last.len() == CELLS {
             close(self.alloc, &mut self.full, &mut self.last)?;
         }
-        self.last.push(words)?;
+        self.last.push_reserved(words);
         Ok(())
     }
 
@@ -81,10 +81,12 @@ fn close(alloc: Global, full: &mut Space, last: &mut Vec<[u64; WORDS]>) -> Resul
     requires whole { IsBlock last.old.items }
     requires space { IsSpace full.old }
     requires room { length full.old < 2 ^ 20 }
+    requires cells { 64 ≤ vec_capacity last.old }
     ensures space { IsSpace full.new }
     ensures full { OnOk result (full.new ≡ full.old ++ last.old.items ∷ []) }
     ensures empty { OnOk result (last.new.items ≡ []) }
     ensures fits { IsOpenBlock last.new.items }
+    ensures cells { 64 ≤ vec_capacity last.new }
 {
     let cells = mem::replace(last, Vec::with_capacity(alloc, CELLS)?);
     full.push(Block::of(cells))

@@ -1,4 +1,4 @@
-use Rattle.std.proofs.Common.{◌≡◌, ◌==◌, ◌^◌, [], ap, sym, subst, arith, lit<, ◌∙◌}
+use Rattle.std.proofs.Common.{◌==◌, ◌^◌, [], ap, subst, arith, lit<, ◌∙◌}
 use Rattle.tg_word.specs.declared.Place.{Place}
 use Rattle.std.proofs.lemmas.List.Elements.{Contains-get_or}
 use Rattle.tg_word.specs.Word.{place_in}

@@ -1,17 +1,19 @@
-use Rattle.std.proofs.Common.{◌≡◌, ℕ, ◌<◌, ◌+◌, List, [], ◌∷◌, ◌++◌, length, get_or, set, ap, ◌∙◌, subst, sym, refl, lit<, arith}
+use Rattle.std.proofs.Common.{◌≡◌, ℕ, ◌<◌, ◌≤◌, ◌+◌, ◌-◌, ◌*◌, List, [], ◌∷◌, ◌++◌, length, get_or, set, ap, ◌∙◌, subst, sym, refl, lit<, arith}
 use Rattle.std.specs.List.{Contains}
-use Rattle.std.proofs.lemmas.List.Elements.{Contains-append_right}
+use Rattle.std.specs.Vec.{vec_capacity}
+use Rattle.std.proofs.lemmas.List.{length_push, length-set}
+use Rattle.std.proofs.lemmas.List.Elements.{All-push, Contains-append_right}
 use Rattle.tg_word.specs.declared.Place.{Place}
 use Rattle.tg_word.specs.Word.{link_to, place_in}
 use Rattle.tg_space.specs.SpaceTable.{place_in_space}
 use Rattle.tg_evac.specs.declared.win.Win.{Win}
 use Rattle.tg_evac.specs.Claims.{Claimed, IsFull, IsWinFor}
 use Rattle.tg_evac.specs.Claimers.{AddsWins, walked_of}
-use Rattle.tg_evac.proofs.Claiming.{claims_more, adds_one, full_at, place_back}
+use Rattle.tg_evac.proofs.Claiming.{claims_more, adds_one, full_at, place_back, won_behind}
 use Rattle.tg_evac.proofs.claims.Claims.give_place.Goals as goal
 
-pub invariant_of-self-2 : goal.invariant_of-self-2
-invariant_of-self-2 c =
+pub push_reserved-requires : goal.push_reserved-requires
+push_reserved-requires c =
     let inside = c.self.inside in let cell = c.args.cell in let space = c.args.space in
     let v : Claimed = record { plan = inside.plan; forward = inside.forward.words; won = inside.won.items; next = inside.next } in
     let same : v ≡ c.args.self.now = c.self.view_is in
@@ -19,11 +21,34 @@ invariant_of-self-2 c =
     let w : Win = record { cell = cell; word = c.link-word.result } in
     let low : cell < length v.forward = subst (λ (x : Claimed). cell < length x.forward) (sym same) c.requires.inside in
     let none : get_or v.forward cell 0 ≡ 0 = subst (λ (x : Claimed). get_or x.forward cell 0 ≡ 0) (sym same) c.requires.none in
+    let late : 64 * v.plan.kept ≤ cell = subst (λ (x : Claimed). 64 * x.plan.kept ≤ cell) (sym same) c.requires.moved in
+    let room : number < v.plan.room = omega arith in
+    let is : c.link-word.result ≡ link_to (place_in_space space number) = c.link-word.ensures in
+    let next : number ≡ get_or v.next space 0 = cc in
+    let more = claims_more v c.self.invariant.0 w space number c.requires.space next low none room is in
+    let few = won_behind (record { plan = v.plan; forward = set v.forward w.cell w.word; won = v.won ++ w ∷ []; next = set v.next space (number + 1) }) more (64 * v.plan.kept)
+    (All-push (λ (x : Win). 64 * v.plan.kept ≤ x.cell) v.won w c.self.invariant.2 late) in
+    let one = length_push v.won w in let long = length-set v.forward w.cell w.word in let cap = c.self.invariant.3 in
+    omega (arith, inside.won.ok)
+
+pub invariant_of-self : goal.invariant_of-self
+invariant_of-self c =
+    let inside = c.self.inside in let cell = c.args.cell in let space = c.args.space in
+    let v : Claimed = record { plan = inside.plan; forward = inside.forward.words; won = inside.won.items; next = inside.next } in
+    let same : v ≡ c.args.self.now = c.self.view_is in
+    let number = get_or inside.next space 0 in
+    let w : Win = record { cell = cell; word = c.link-word.result } in
+    let low : cell < length v.forward = subst (λ (x : Claimed). cell < length x.forward) (sym same) c.requires.inside in
+    let none : get_or v.forward cell 0 ≡ 0 = subst (λ (x : Claimed). get_or x.forward cell 0 ≡ 0) (sym same) c.requires.none in
+    let late : 64 * v.plan.kept ≤ cell = subst (λ (x : Claimed). 64 * x.plan.kept ≤ cell) (sym same) c.requires.moved in
     let two : space < 2 = c.requires.space in
     let room : number < v.plan.room = omega arith in
     let is : c.link-word.result ≡ link_to (place_in_space space number) = c.link-word.ensures in
     let next : number ≡ get_or v.next space 0 = cc in
-    rw (c.in_ok-push.ensures.items, c.set.ensures.words, c.set.ensures.skipped) (claims_more v c.self.invariant.0 w space number two next low none room is, c.self.invariant.1)
+    let long = length-set v.forward cell c.link-word.result in let cap = c.self.invariant.3 in let kept = c.push_reserved.ensures.capacity in
+    let fits : length (set v.forward cell c.link-word.result) - 64 * v.plan.kept ≤ vec_capacity c.push_reserved.new.self = omega arith in
+    rw (c.push_reserved.ensures.items, c.set.ensures.words, c.set.ensures.skipped)
+    (claims_more v c.self.invariant.0 w space number two next low none room is, c.self.invariant.1, All-push (λ (x : Win). 64 * v.plan.kept ≤ x.cell) v.won w c.self.invariant.2 late, fits)
 
 pub returns-then-self-number-clause-full : goal.returns-then-self-number-clause-full
 returns-then-self-number-clause-full c _ =
@@ -36,7 +61,7 @@ pub returns-clause-held : goal.returns-clause-held
 returns-clause-held c =
     let w : Win = record { cell = c.args.cell; word = c.link-word.result } in
     let here : Contains (c.self.inside.won.items ++ w ∷ []) w = Contains-append_right c.self.inside.won.items (w ∷ []) w (0, lit< tt, refl) in
-    subst (λ (ws : List Win). Contains ws w) (sym c.in_ok-push.ensures.items) here
+    subst (λ (ws : List Win). Contains ws w) (sym c.push_reserved.ensures.items) here
 
 pub returns-clause-added : goal.returns-clause-added
 returns-clause-added c =
@@ -54,6 +79,6 @@ returns-clause-added c =
     let to : IsWinFor cell space w = record { number = refl; to = ap (λ (n : ℕ). (place_in n).space) is ∙ ap (λ (p : Place). p.space) (place_back space number c.requires.space (omega arith)) } in
     let one = adds_one v c.self.invariant.0 w space number c.requires.space next low none room is (IsWinFor cell space) to in
     let after : List Win → List ℕ → Claimed = λ (won : List Win) (forward : List ℕ). record { plan = v.plan; forward = forward; won = won; next = set v.next space (number + 1) } in
-    let first = subst (λ (won : List Win). AddsWins (IsWinFor cell space) (walked_of v) (walked_of (after won (set v.forward cell c.link-word.result)))) (sym c.in_ok-push.ensures.items) one in
-    let then = subst (λ (forward : List ℕ). AddsWins (IsWinFor cell space) (walked_of v) (walked_of (after c.push.new.self.items forward))) (sym c.set.ensures.words) first in
-    subst (λ (x : Claimed). AddsWins (IsWinFor cell space) (walked_of x) (walked_of (after c.push.new.self.items c.set.new.self.words))) same then
+    let first = subst (λ (won : List Win). AddsWins (IsWinFor cell space) (walked_of v) (walked_of (after won (set v.forward cell c.link-word.result)))) (sym c.push_reserved.ensures.items) one in
+    let then = subst (λ (forward : List ℕ). AddsWins (IsWinFor cell space) (walked_of v) (walked_of (after c.push_reserved.new.self.items forward))) (sym c.set.ensures.words) first in
+    subst (λ (x : Claimed). AddsWins (IsWinFor cell space) (walked_of x) (walked_of (after c.push_reserved.new.self.items c.set.new.self.words))) same then
