@@ -61,7 +61,7 @@ enum {
     TG_HEAP_FULL = 33,        /* no cell or block is left, by the limits; after tg_collect there may be */
     TG_VERTICES_FULL = 34,    /* tg_create: as many vertices were made as may be; the journal has an entry of it */
 
-    TG_NO_SUCH_WORKER = 48,   /* no worker has the name */
+    TG_NO_SUCH_WORKER = 48,   /* exactly where no worker of an open store has the name, and nothing asked for is TG_BAD_.. */
 
     TG_BAD_RIGHTS = 64,       /* no right, or a bit that is none */
     TG_BAD_LAW = 65,          /* no such law, or a log of 0 or of more than 64 numbers */
@@ -158,8 +158,7 @@ tg_status tg_grant(tg_store *store, uint64_t worker, uint64_t via, uint64_t targ
 tg_status tg_remove(tg_store *store, uint64_t worker, uint64_t target, uint64_t rights, tg_denial *denial);
 tg_status tg_write(tg_store *store, uint64_t worker, uint64_t target, uint64_t value, tg_denial *denial);
 
-/* Makes a vertex over which the worker has the rights. Its name goes to *name. Where there is no memory for the value,
-   that is answered before the worker is looked at. */
+/* Makes a vertex over which the worker has the rights. Its name goes to *name. */
 tg_status tg_create(tg_store *store, uint64_t worker, uint64_t rights, const tg_value *value, uint64_t *name);
 
 /* The state of the target, at most 64 numbers, by the worker's r over it: the first `room` of them go to numbers, and how

@@ -1,7 +1,10 @@
-/* The sizes, offsets and constants of the header, as the library was proved with them. It is compiled, and not run. */
+/* The sizes, offsets and constants of interface 1, which a program built against it has in its code. It is compiled, and not run.
+   That the library has the same is seen by layout.awk. */
 #include "kovshenul.h"
 
 #define SAME(is, wanted) _Static_assert((is) == (wanted), #is)
+
+SAME(TG_ABI, 1);
 
 SAME(sizeof(bool), 1);
 SAME(sizeof(void *), 8);

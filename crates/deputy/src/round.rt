@@ -1,5 +1,6 @@
 //! The story, from sharing the store to the audit.
-ghost use Rattle.std.specs.Prelude.{◌≡◌, ◌+◌, length};
+ghost use Rattle.std.specs.Prelude.{◌≡◌, ◌+◌};
+ghost use Rattle.tg_shared.specs.Sessions.{start_of_store};
 
 use crate::errands::{Errands, hand_on, make, read_and_collect, run_errands};
 use crate::opening::{open_store, opening};
@@ -82,7 +83,7 @@ fn share<L: Round + Send + Sync, R: Threads + Wait + Sync>(
 ) -> Result<(Store<CellPayload>, Told), Stop>
     requires name { blank.name ≡ L.name }
     requires parts { (blank.parts ≡ L.parts) × (blank.parts ≡ store.opening.limit + 1) }
-    requires start { length store.entries ≡ L.start }
+    requires start { start_of_store store ≡ L.start }
 {
     let Ok(
         Shared {

@@ -1,5 +1,6 @@
 //! A session whose calls meet want of memory: run with each allocation refused in turn.
-ghost use Rattle.std.specs.Prelude.{◌≡◌, ◌+◌, length};
+ghost use Rattle.std.specs.Prelude.{◌≡◌, ◌+◌};
+ghost use Rattle.tg_shared.specs.Sessions.{start_of_store};
 
 use crate::opened::{draft, store_with};
 use std::alloc::Global;
@@ -51,7 +52,7 @@ fn answered<L: Round, R: Wait>(
 ) -> Option<(u64, u64, u64)>
     requires name { blank.name ≡ L.name }
     requires parts { (blank.parts ≡ L.parts) × (blank.parts ≡ store.opening.limit + 1) }
-    requires start { length store.entries ≡ L.start }
+    requires start { start_of_store store ≡ L.start }
 {
     let vertex = draft(alloc)?;
     let Shared {

@@ -1,5 +1,6 @@
 //! Receipts that are altered, and a session that is kept back.
-ghost use Rattle.std.specs.Prelude.{◌≡◌, ◌+◌, length};
+ghost use Rattle.std.specs.Prelude.{◌≡◌, ◌+◌};
+ghost use Rattle.tg_shared.specs.Sessions.{start_of_store};
 
 use crate::opened::store_with;
 use std::alloc::Global;
@@ -72,7 +73,7 @@ fn closed_twice<L: Round, R: Wait>(
 ) -> Option<(CloseFault, bool, bool)>
     requires name { blank.name ≡ L.name }
     requires parts { (blank.parts ≡ L.parts) × (blank.parts ≡ store.opening.limit + 1) }
-    requires start { length store.entries ≡ L.start }
+    requires start { start_of_store store ≡ L.start }
 {
     let Shared {
         store,

@@ -1,5 +1,6 @@
 //! Two sessions on two threads.
-ghost use Rattle.std.specs.Prelude.{◌≡◌, ◌+◌, length};
+ghost use Rattle.std.specs.Prelude.{◌≡◌, ◌+◌};
+ghost use Rattle.tg_shared.specs.Sessions.{start_of_store};
 
 use crate::opened::{opening_with, store_with};
 use std::alloc::Global;
@@ -70,7 +71,7 @@ fn work_on_threads<L: Round + Send + Sync, R: Threads + Wait + Sync>(
 ) -> Option<(Store<CellPayload>, u64, u64)>
     requires name { blank.name ≡ L.name }
     requires parts { (blank.parts ≡ L.parts) × (blank.parts ≡ store.opening.limit + 1) }
-    requires start { length store.entries ≡ L.start }
+    requires start { start_of_store store ≡ L.start }
 {
     let Shared {
         store,

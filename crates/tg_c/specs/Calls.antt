@@ -120,15 +120,13 @@ IsReplyTo command.List r = IsListed r
 
 -- ---- creates
 
--- The answer to a create of a worker: the clauses of the store's `create`. Where there is no memory for the state of
--- the new vertex, that is told of an unknown worker too.
+-- the answer to a create of a worker: the clauses of the store's `create`
 pub record Creates (worker : ℕ) (label : RightSet) (value : Value) (old new : StoreState) (answer : Result ℕ CreateFault) : Type 0 where
   pub entry : IfOk answer (λ name. Enters old new worker (Create label value.law value.state) (reply.Name name))
   pub named : (g : ProtectionGraph) → StandsFor old g → IfOk answer (λ name. answer_of g worker (Create label value.law value.state) ≡ reply.Name name)
   pub next : (g : ProtectionGraph) → StandsFor old g → OnOk answer (StandsFor new (step g worker (Create label value.law value.state)))
   pub stored : IfOk answer (λ name. IsNamed (content_of new.heap) name × ((content_of new.heap).value name ≡ Some value))
-  pub no_such_worker : (g : ProtectionGraph) → StandsFor old g → answer ≡ Err create.NoSuchWorker → ¬ IsSubject g worker
-  pub no_worker : (g : ProtectionGraph) → StandsFor old g → (¬ IsSubject g worker) → (answer ≡ Err create.NoSuchWorker) ⊎ (answer ≡ Err create.OutOfMemory)
+  pub no_such_worker : (g : ProtectionGraph) → StandsFor old g → (answer ≡ Err create.NoSuchWorker) ↔ (¬ IsSubject g worker)
   pub no_more : (g : ProtectionGraph) → StandsFor old g → answer ≡ Err create.VerticesFull → IsSubject g worker × (g.limit ≤ g.made)
   pub no_more_entry : answer ≡ Err create.VerticesFull → OnlyEnters old new worker (Create label value.law value.state) reply.VerticesFull
   pub full : (g : ProtectionGraph) → StandsFor old g → answer ≡ Err create.HeapFull →

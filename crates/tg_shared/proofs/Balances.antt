@@ -1,5 +1,8 @@
 -- What an entry makes of the balance behind the lock.
-use Rattle.std.proofs.Common.{◌≡◌, ℕ, ◌+◌, ◌≤◌, List, ◌∷◌, [], length, length-append, sym, ap, ◌∙◌, arith}
+use Rattle.std.proofs.Common.{◌≡◌, ℕ, ◌+◌, ◌≤◌, List, ◌∷◌, [], length, length-append, sym, subst, ap, ◌∙◌, arith}
+use Rattle.std.specs.Prelude.{take}
+use Rattle.std.proofs.lemmas.List.{length-take, take-append-le}
+use Rattle.std.proofs.Math.Seq.{take-length}
 use Rattle.tg_model.specs.declared.command.Deed.{Deed}
 use Rattle.tg_model.specs.declared.reply.Reply.{Reply}
 use Rattle.tg_model.specs.Graph.{ProtectionGraph}
@@ -9,7 +12,7 @@ use Rattle.tg_journal.specs.declared.entry.Entry.{Entry}
 use Rattle.tg_journal.proofs.HistoryLaws.{le-graph_after-made}
 use Rattle.tg_store.specs.Store.{StoreState, Enters, graph_of_store}
 use Rattle.tg_store.proofs.StandLaws.{graph-entered}
-use Rattle.tg_shared.specs.Sessions.{IsBalanced}
+use Rattle.tg_shared.specs.Sessions.{GoesOn, IsBalanced, Start, start_of_store}
 
 -- one entry more, which is counted
 pub balanced_entered : (old new : StoreState) (start sessions total next rest parts worker : ℕ) (deed : Deed) (reply : Reply) → IsBalanced old start sessions total rest parts
@@ -32,3 +35,40 @@ balanced_entered old new start sessions total next rest parts worker deed reply 
 -- a store that is shared has made its subjects at least
 pub opened_made : (s : StoreState) → s.opening.workers ≤ (graph_of_store s).made
 opened_made s = le-graph_after-made (start_of s.opening) s.entries
+
+-- the shared store goes on: with an entry more, and with the same entries
+pub goes_on_entered : (start : Start) (old new : StoreState) (worker : ℕ) (deed : Deed) (reply : Reply) → GoesOn start old
+    → Enters old new worker deed reply → new.opening ≡ old.opening → new.heap.table.limits ≡ old.heap.table.limits → GoesOn start new
+goes_on_entered start old new worker deed reply on entry opening limits =
+    let n = length start.entries in
+    let earlier : take n old.entries ≡ start.entries = on.earlier in
+    let long = ap (λ (es : List Entry). length es) earlier in
+    let few : n ≤ length old.entries = omega (arith, length-take n old.entries) in
+    let e : Entry = record { worker = worker; deed = deed; reply = reply } in
+    record {
+      opening = opening ∙ on.opening;
+      earlier = ap (take n) entry ∙ (take-append-le n old.entries (e ∷ []) few ∙ earlier);
+      limits = limits ∙ on.limits;
+    }
+
+pub goes_on_same : (start : Start) (old new : StoreState) → GoesOn start old
+    → new.entries ≡ old.entries → new.opening ≡ old.opening → new.heap.table.limits ≡ old.heap.table.limits → GoesOn start new
+goes_on_same start old new on entries opening limits = record {
+  opening = opening ∙ on.opening;
+  earlier = ap (take (length start.entries)) entries ∙ on.earlier;
+  limits = limits ∙ on.limits;
+}
+
+-- as long as before at least
+pub grown : (start : Start) (s : StoreState) → GoesOn start s → length start.entries ≤ length s.entries
+grown start s on =
+    let long = ap (λ (es : List Entry). length es) on.earlier in
+    omega (arith, length-take (length start.entries) s.entries)
+
+-- a store that was just shared goes on
+pub goes_on_start : (start : Start) (s : StoreState) → start_of_store s ≡ start → GoesOn start s
+goes_on_start start s is = record {
+  opening = ap (λ (b : Start). b.opening) is;
+  earlier = subst (λ (es : List Entry). take (length es) s.entries ≡ es) (ap (λ (b : Start). b.entries) is) (take-length s.entries);
+  limits = ap (λ (b : Start). b.limits) is;
+}

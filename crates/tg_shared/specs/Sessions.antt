@@ -1,10 +1,12 @@
 -- What contracts see of a session and of the value behind the lock, and what a call does to them.
-use Rattle.std.specs.Prelude.{◌≡◌, ◌≢◌, ℕ, ◌+◌, ◌≤◌, ◌==◌, List, [], ◌∷◌, ◌++◌, length, map}
+use Rattle.std.specs.Prelude.{◌≡◌, ◌≢◌, ℕ, ◌+◌, ◌≤◌, ◌==◌, List, [], ◌∷◌, ◌++◌, length, map, take}
 use Rattle.std.specs.List.{All, AllPairs, count_by, filter, sum_by}
 use Rattle.tg_model.specs.declared.command.Deed.{Deed}
 use Rattle.tg_model.specs.declared.reply.Reply.{Reply}
+use Rattle.tg_model.specs.Opened.{Plan}
+use Rattle.tg_space.specs.SpaceTable.{BlockLimits}
 use Rattle.tg_journal.specs.declared.entry.Entry.{Entry}
-use Rattle.tg_store.specs.Store.{StoreState, Enters, IsUnchanged, graph_of_store}
+use Rattle.tg_store.specs.Store.{StoreState, Enters, IsFaithful, IsUnchanged, graph_of_store}
 use Rattle.tg_shared.specs.declared.receipt.Receipt.{Receipt}
 use Rattle.tg_shared.specs.Receipts.{ReceiptsMatch, receipt_of}
 
@@ -20,6 +22,28 @@ pub record SessionState : Type 0 where
 pub record LockedState : Type 0 where
   pub store : StoreState
   pub sessions : ℕ
+
+-- What a store was when it was shared: its opening, the entries that its journal had, and its limits.
+pub record Start : Type 0 where
+  pub opening : Plan
+  pub entries : List Entry
+  pub limits : BlockLimits
+
+abbrev pub start_of_store : StoreState → Start
+start_of_store s = record { opening = s.opening; entries = s.entries; limits = s.heap.table.limits }
+
+-- ---- what is behind the lock
+
+-- The store is the one that was shared, and has only gone on: opening and limits are as they were, and the journal begins
+-- with the entries that it had.
+pub record GoesOn (start : Start) (s : StoreState) : Type 0 where
+  pub opening : s.opening ≡ start.opening
+  pub earlier : take (length start.entries) s.entries ≡ start.entries
+  pub limits : s.heap.table.limits ≡ start.limits
+
+-- This holds of some store that may have been behind the lock: of the shared one, gone on, which keeps the store's promise.
+abbrev pub AtSome : Start → (StoreState → Type 0) → Type 0
+AtSome start holds = (s : StoreState) × GoesOn start s × IsFaithful s × holds s
 
 -- ---- what a call does
 

@@ -1,8 +1,16 @@
 //! The calls of a session, each under the lock.
-ghost use Rattle.std.specs.Prelude.{◌≡◌, ◌≢◌, ℕ, IfOk, IfErr, MatchResult, ⊤};
+ghost use Rattle.std.specs.Prelude.{◌≡◌, ◌≢◌, ◌≤◌, ◌+◌, ℕ, IfOk, IfErr, MatchResult, ⊤, length};
+ghost use Rattle.tg_model.specs.Graph.{IsReachable, IsSubject};
+ghost use Rattle.tg_model.specs.Rules.{IsAllowed, answer_of};
 ghost use Rattle.tg_model.specs.declared.command.Deed.TheVariants.{Create, Plain};
 ghost use Rattle.tg_model.specs.declared.reply.Reply.TheVariants.{Name, VerticesFull};
-ghost use Rattle.tg_shared.specs.Sessions.{HasReceipt, KeepsReceipts};
+ghost use Rattle.tg_space.specs.Collection.{MayLackRoom, used_cells};
+ghost use Rattle.tg_space.specs.SpaceTable.{kept_blocks};
+ghost use Rattle.tg_graph.specs.Heap.{content_of};
+ghost use Rattle.tg_graph.specs.Spots.{LacksCellsFor};
+ghost use Rattle.tg_rules.specs.Effect.{AddsEdge, LacksCellsToServe};
+ghost use Rattle.tg_store.specs.Store.{IsCountOf, graph_of_store};
+ghost use Rattle.tg_shared.specs.Sessions.{AtSome, HasReceipt, KeepsReceipts};
 
 use crate::round::Round;
 use crate::session::Session;
@@ -21,7 +29,9 @@ impl<L: Round> Session<L> {
 
     /// Asks the shared store for a command of the session's subject, by one call of [`Locked::apply`](crate::Locked::apply)
     /// under the lock. Answers the reply, lent from the receipt: exactly one was added, with this command and this reply.
-    /// Where the call is refused, the receipts stay.
+    /// It is the rules' reply on the graph of a store that may have been behind the lock: the shared one, gone on. Where the
+    /// call is refused, the receipts stay, and of such a store the refusal was due: there was no such worker, or the command
+    /// was allowed and a cell was lacking. Want of memory may come at any call.
     pub fn call<P: Payload, R: Wait>(
         &mut self,
         rt: &R,
@@ -30,15 +40,23 @@ impl<L: Round> Session<L> {
     ) -> Result<&Reply, ApplyFault>
         ensures* receipt { sem 𝓛 (follows_so (the_row L.row (record { start = L.start }) L.Ledger) (the_row L.row (record { start = L.start }) L.Ledger) self.entry.ghost_name none (λ _ _. ⊤)
             (λ after. MatchResult result (λ reply. HasReceipt self.old after (Plain command) reply.now) (λ _. KeepsReceipts self.old after))) }
+        ensures answered { IfOk result (λ reply. AtSome L.start (λ s. reply.now ≡ answer_of (graph_of_store s) self.old.worker (Plain command))) }
+        ensures no_such_worker { IfErr result (λ why. why ≡ ApplyFault.NoSuchWorker → AtSome L.start (λ s. ¬ IsSubject (graph_of_store s) self.old.worker)) }
+        ensures full { IfErr result (λ why. why ≡ ApplyFault.HeapFull → AtSome L.start (λ s.
+            IsAllowed (graph_of_store s) self.old.worker (Plain command) × AddsEdge command × LacksCellsToServe s.heap.table self.old.worker command)) }
     {
         self.make_room(&[])?;
-        store.locked.lock(rt).apply(self, command)?;
+        let mut locked = store.locked.lock(rt);
+        // for what is told of it: the shared store, gone on
+        let _ = locked.store();
+        locked.apply(self, command)?;
         Ok(self.last_reply())
     }
 
     /// Makes a vertex of the session's subject, by one call of [`Locked::create`](crate::Locked::create) under the lock.
     /// A name, and `VerticesFull`, have added exactly one receipt, with this create and that answer. Where the call is
-    /// refused otherwise, the receipts stay. A refused draft is handed back.
+    /// refused otherwise, the receipts stay. Of a store that may have been behind the lock the name is the rules' answer,
+    /// and each refusal but want of memory is due. A refused draft is handed back.
     pub fn create<P: Payload, R: Wait>(
         &mut self,
         rt: &R,
@@ -49,6 +67,13 @@ impl<L: Round> Session<L> {
         ensures receipt { IfOk result (λ name. HasReceipt self.old self.new (Create label draft.law draft.state) (Name name)) }
         ensures full { IfErr result (λ refused. refused.why ≡ CreateFault.VerticesFull → HasReceipt self.old self.new (Create label draft.law draft.state) VerticesFull) }
         ensures refused { IfErr result (λ refused. refused.why ≢ CreateFault.VerticesFull → KeepsReceipts self.old self.new) }
+        ensures named { IfOk result (λ name. AtSome L.start (λ s. answer_of (graph_of_store s) self.old.worker (Create label draft.law draft.state) ≡ Name name)) }
+        ensures no_such_worker { IfErr result (λ refused. refused.why ≡ CreateFault.NoSuchWorker → AtSome L.start (λ s. ¬ IsSubject (graph_of_store s) self.old.worker)) }
+        ensures no_more { IfErr result (λ refused. refused.why ≡ CreateFault.VerticesFull → AtSome L.start (λ s.
+            IsSubject (graph_of_store s) self.old.worker × ((graph_of_store s).limit ≤ (graph_of_store s).made))) }
+        ensures heap_full { IfErr result (λ refused. refused.why ≡ CreateFault.HeapFull → AtSome L.start (λ s.
+            IsAllowed (graph_of_store s) self.old.worker (Create label draft.law draft.state)
+            × LacksCellsFor s.heap.table (self.old.worker + 2) 1 self.old.worker (graph_of_store s).made)) }
         ensures handed_back { IfErr result (λ refused. refused.draft ≡ draft) }
     {
         if self.make_room(draft.value().state.as_slice()).is_err() {
@@ -57,17 +82,29 @@ impl<L: Round> Session<L> {
                 why: CreateFault::OutOfMemory,
             });
         }
-        store.locked.lock(rt).create(self, label, draft)
+        let mut locked = store.locked.lock(rt);
+        let _ = locked.store();
+        locked.create(self, label, draft)
     }
 
     /// Collects the heap of the shared store, by one call of [`Locked::collect`](crate::Locked::collect) under the lock,
-    /// and answers how many vertices it then has. It makes no entry and no receipt.
+    /// and answers how many vertices it then has: the number of a store that may have been behind the lock, and after a full
+    /// collection that of the vertices that can be reached. It makes no entry and no receipt.
     pub fn collect<P: Payload, R: Wait>(
         &self,
         rt: &R,
         store: &SharedStore<L, P>,
         kind: Kind,
-    ) -> Result<u64, CollectFault> {
-        store.locked.lock(rt).collect(kind)
+    ) -> Result<u64, CollectFault>
+        ensures number { IfOk result (λ number. AtSome L.start (λ s.
+            (number ≡ length (content_of s.heap).names) × (kind ≡ Kind.Full → IsCountOf (IsReachable (graph_of_store s)) number))) }
+        ensures full { IfErr result (λ why. why ≡ CollectFault.HeapFull → AtSome L.start (λ s.
+            MayLackRoom s.heap.table.limits.space_blocks 1 (kept_blocks kind s.heap.table.spaces) (used_cells kind s.heap.table.spaces))) }
+    {
+        let mut locked = store.locked.lock(rt);
+        let _ = locked.store();
+        let left = locked.collect(kind)?;
+        let _ = locked.store();
+        Ok(left)
     }
 }

@@ -33,7 +33,7 @@ pub struct LockedRefused<L: Round, P: Payload> {
 }
 
 impl<L: Round, P: Payload> Locked<L, P> {
-    ghost use Rattle.tg_shared.specs.Sessions.{AreSharedOut, MayClose, count_of};
+    ghost use Rattle.tg_shared.specs.Sessions.{AreSharedOut, GoesOn, MayClose, count_of};
 
     /// Ends a round: hands out the store, where all sessions are given back and their receipts are right. Then the journal
     /// has grown by as many entries as there are receipts, and they are shared out among the sessions.
@@ -43,13 +43,14 @@ impl<L: Round, P: Payload> Locked<L, P> {
     /// no memory.
     pub fn close(self, sessions: Vec<Session<L>>) -> Result<Store<P>, LockedRefused<L, P>>
         ensures store { IfOk result (λ store. store ≡ self.store) }
-        ensures matching { OnOk result (MayClose self.store.entries L.start sessions.items) }
+        ensures matching { OnOk result (MayClose self.store.entries (length L.start.entries) sessions.items) }
         ensures all { OnOk result (length sessions.items ≡ self.sessions) }
-        ensures count { OnOk result (length self.store.entries ≡ L.start + count_of sessions.items) }
-        ensures shared_out { OnOk result (AreSharedOut (drop L.start self.store.entries) sessions.items) }
+        ensures count { OnOk result (length self.store.entries ≡ length L.start.entries + count_of sessions.items) }
+        ensures shared_out { OnOk result (AreSharedOut (drop (length L.start.entries) self.store.entries) sessions.items) }
+        ensures gone_on { GoesOn L.start self.store }
         ensures missing { IsErrAnd result (λ refused. refused.why ≡ CloseFault.SessionsMissing) ↔ (length sessions.items < self.sessions) }
         ensures mismatch { IsErrAnd result (λ refused. refused.why ≡ CloseFault.ReceiptMismatch) ↔
-            ((self.sessions ≤ length sessions.items) × (¬ MayClose self.store.entries L.start sessions.items)) }
+            ((self.sessions ≤ length sessions.items) × (¬ MayClose self.store.entries (length L.start.entries) sessions.items)) }
         ensures handed_back { IfErr result (λ refused. (refused.locked ≡ self) × (refused.sessions.items ≡ sessions.items)) }
     {
         if (sessions.len() as u64) < self.sessions {

@@ -17,8 +17,9 @@
 //!
 //! What a call does to the value behind the lock stands in the contracts of [`Locked`], the type that is locked: each of
 //! its calls is one call of the store and makes at most one receipt. A caller of a session can't name what was behind the
-//! lock then; it is told of its own receipts. Whenever the lock is free, the store keeps its promise
-//! ([`Locked::store`]), and the book that stands beside it has counted each entry since.
+//! lock then; it is told of its own receipts, and that its answer was right of some store that may have been there: of the
+//! shared one, gone on. Whenever the lock is free, the store is that one and keeps its promise ([`Locked::store`]), and the
+//! book that stands beside it has counted each entry since.
 //!
 //! **Why the count is known.** The book is that of a ledger ([`std::sync::ledger`]), whose parts are cut once: each
 //! session has one, and what is left lies behind the lock. With each entry the book and the share of the session grow by

@@ -28,14 +28,14 @@ pub struct Locked<L: Round, P: Payload> {
 }
 
 impl<L: Round, P: Payload> Model for Locked<L, P> {
-    ghost use Rattle.std.specs.Prelude.{◌≡◌};
-    ghost use Rattle.tg_shared.specs.Sessions.{LockedState, IsBalanced};
+    ghost use Rattle.std.specs.Prelude.{◌≡◌, length};
+    ghost use Rattle.tg_shared.specs.Sessions.{GoesOn, IsBalanced, LockedState};
 
     ghost Value = { LockedState };
 
     ghost view = { λ a. record { store = a.store; sessions = a.sessions } };
 
-    ghost invariant = { λ a. IsBalanced a.store L.start a.sessions a.book.total a.rest.parts L.parts × (a.start ≡ L.start) × (a.rest.amount ≡ 0) };
+    ghost invariant = { λ a. IsBalanced a.store (length L.start.entries) a.sessions a.book.total a.rest.parts L.parts × (a.start ≡ length L.start.entries) × (a.rest.amount ≡ 0) × GoesOn L.start a.store };
 }
 
 impl<L: Round, P: Payload> Locked<L, P> {
@@ -51,14 +51,16 @@ impl<L: Round, P: Payload> Locked<L, P> {
     ghost use Rattle.tg_graph.specs.Kept.{VerticesOfOldStay};
     ghost use Rattle.tg_rules.specs.Effect.{AddsEdge, LacksCellsToServe};
     ghost use Rattle.tg_store.specs.Store.{IsCountOf, IsFaithful, StandsFor};
-    ghost use Rattle.tg_shared.specs.Sessions.{AreFresh, Records, RecordsNothing};
+    ghost use Rattle.tg_shared.specs.Sessions.{AreFresh, GoesOn, Records, RecordsNothing, start_of_store};
 
     /// The store. What holds whenever the lock is free is told here: the store's own promise, that its journal is a legal
-    /// history of its opening and its heap stands for the graph after it; and no entry from before it was shared is gone.
+    /// history of its opening and its heap stands for the graph after it; and it is the store that was shared, gone on: with its
+    /// opening and its limits, and with all entries from before.
     pub fn store(&self) -> &Store<P>
         ensures same { result.now ≡ self.now.store }
         ensures faithful { IsFaithful self.now.store }
-        ensures grown { L.start ≤ length self.now.store.entries }
+        ensures gone_on { GoesOn L.start self.now.store }
+        ensures grown { length L.start.entries ≤ length self.now.store.entries }
     {
         let _ = self.store.journal();
         &self.store
@@ -74,7 +76,7 @@ impl<L: Round, P: Payload> Locked<L, P> {
     ) -> Result<(Locked<L, P>, Vec<Session<L>>), Store<P>>
         requires name { blank.name ≡ L.name }
         requires parts { (blank.parts ≡ L.parts) × (blank.parts ≡ store.opening.limit + 1) }
-        requires start { length store.entries ≡ L.start }
+        requires start { start_of_store store ≡ L.start }
         ensures store { IfOk result (λ opened. opened.0.store ≡ store) }
         ensures sessions { (g : ProtectionGraph) → StandsFor store g → IfOk result (λ opened. AreFresh g.subjects opened.1.items) }
         ensures number { IfOk result (λ opened. opened.0.sessions ≡ length opened.1.items) }

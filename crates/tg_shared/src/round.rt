@@ -1,5 +1,6 @@
 //! The time from sharing a store to closing it, as a type.
-ghost use Rattle.std.specs.Prelude.{ℕ};
+ghost use Rattle.std.specs.Prelude.{[]};
+ghost use Rattle.tg_shared.specs.Sessions.{Start};
 
 use std::marker::Brand;
 use std::sync::ledger::Ledger;
@@ -7,10 +8,10 @@ use std::sync::ledger::Ledger;
 /// One shared store, from [`SharedStore::new`](crate::SharedStore::new) to [`close`](crate::close). Its parameter ties
 /// the sessions to the store. A function that shares a store is generic in it, and is called with `Brand`.
 pub trait Round: Ledger {
-    /// How many entries the journal had when the store was shared.
-    ghost start: { ℕ };
+    /// What the store was when it was shared.
+    ghost start: { Start };
 }
 
 impl Round for Brand {
-    ghost start = { 0 };
+    ghost start = { record { opening = record { workers = 0; edges = []; values = []; limit = 0 }; entries = []; limits = record { max_blocks = 0; space_blocks = 0 } } };
 }

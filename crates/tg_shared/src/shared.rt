@@ -1,7 +1,7 @@
 //! The store behind its lock, from sharing it to closing it.
 ghost use Rattle.std.specs.Prelude.{◌≡◌, ◌+◌, IfOk, IfErr, drop, length};
 ghost use Rattle.tg_store.specs.Store.{IsFaithful};
-ghost use Rattle.tg_shared.specs.Sessions.{AreFresh, AreSharedOut, MayClose, count_of};
+ghost use Rattle.tg_shared.specs.Sessions.{AreFresh, AreSharedOut, AtSome, GoesOn, MayClose, count_of};
 
 use crate::closing::{CloseFault, LockedRefused};
 use crate::locked::Locked;
@@ -43,6 +43,7 @@ pub struct CloseRefused<L: Round, P: Payload> {
 impl<L: Round, P: Payload> SharedStore<L, P> {
     ghost use Rattle.tg_model.specs.Graph.{ProtectionGraph};
     ghost use Rattle.tg_store.specs.Store.{StandsFor};
+    ghost use Rattle.tg_shared.specs.Sessions.{start_of_store};
 
     /// Shares a store: puts it behind a lock, and makes a session for each subject of the graph that it stands for. The
     /// blank is spent, and has to have one part more than vertices may be made. Answers only want of memory otherwise.
@@ -53,7 +54,7 @@ impl<L: Round, P: Payload> SharedStore<L, P> {
     ) -> Result<Shared<L, P>, SharedRefused<P>>
         requires name { blank.name ≡ L.name }
         requires parts { (blank.parts ≡ L.parts) × (blank.parts ≡ store.opening.limit + 1) }
-        requires start { length store.entries ≡ L.start }
+        requires start { start_of_store store ≡ L.start }
         ensures sessions { (g : ProtectionGraph) → StandsFor store g → IfOk result (λ shared. AreFresh g.subjects shared.sessions.items) }
         ensures handed_back { IfErr result (λ refused. refused.store ≡ store) }
     {
@@ -71,18 +72,22 @@ impl<L: Round, P: Payload> SharedStore<L, P> {
 
 /// Ends a round: hands out the store, where all sessions are given back and their receipts are right. The store's journal
 /// has then grown by as many entries as there are receipts: each entry since the store was shared stands in exactly one of
-/// them, and the receipts of each session are all its entries, in their order.
+/// them, and the receipts of each session are all its entries, in their order. It is the store that was shared, with its
+/// opening, its limits and the entries that it had.
 ///
 /// `SessionsMissing` is answered where there are fewer sessions than were made, and looked for first; `ReceiptMismatch`
-/// only where the sessions may not close. Store and sessions then come back. Takes no memory, and no lock is waited for.
+/// only where the sessions may not close with some journal that may have been behind the lock. Store and sessions then come
+/// back. Takes no memory, and no lock is waited for.
 pub fn close<L: Round, P: Payload>(
     store: SharedStore<L, P>,
     sessions: Vec<Session<L>>,
 ) -> Result<Store<P>, CloseRefused<L, P>>
-    ensures matching { IfOk result (λ store. MayClose store.entries L.start sessions.items) }
-    ensures count { IfOk result (λ store. length store.entries ≡ L.start + count_of sessions.items) }
-    ensures shared_out { IfOk result (λ store. AreSharedOut (drop L.start store.entries) sessions.items) }
+    ensures matching { IfOk result (λ store. MayClose store.entries (length L.start.entries) sessions.items) }
+    ensures count { IfOk result (λ store. length store.entries ≡ length L.start.entries + count_of sessions.items) }
+    ensures shared_out { IfOk result (λ store. AreSharedOut (drop (length L.start.entries) store.entries) sessions.items) }
     ensures faithful { IfOk result IsFaithful }
+    ensures gone_on { IfOk result (GoesOn L.start) }
+    ensures mismatch { IfErr result (λ refused. refused.why ≡ CloseFault.ReceiptMismatch → AtSome L.start (λ s. ¬ MayClose s.entries (length L.start.entries) sessions.items)) }
     ensures handed_back { IfErr result (λ refused. refused.sessions.items ≡ sessions.items) }
 {
     let SharedStore { locked } = store;
@@ -97,6 +102,7 @@ pub fn close<L: Round, P: Payload>(
                 sessions,
                 why,
             } = refused;
+            let _ = locked.store();
             let store = SharedStore {
                 locked: Mutex::new(locked),
             };

@@ -1,4 +1,4 @@
-use Rattle.std.proofs.Common.{inl, subst, ap, Ok, Err}
+use Rattle.std.proofs.Common.{subst, ap, Ok, Err}
 use Rattle.tg_model.specs.declared.value.Value.{Value}
 use Rattle.tg_c.specs.Calls.{Creates}
 use Rattle.tg_c.proofs.session.Session.create.Goals as goal
@@ -11,8 +11,7 @@ returns-in-Ok-create c =
       named = told.name;
       next = told.step;
       stored = told.stored;
-      no_such_worker = λ g stands is. absurd (cc is);
-      no_worker = λ g stands none. absurd ((told.no_such_worker g stands).1 none);
+      no_such_worker = λ g stands. ((λ is. absurd (cc is)), λ none. absurd ((told.no_such_worker g stands).1 none));
       no_more = λ g stands is. absurd (cc is);
       no_more_entry = λ is. absurd (cc is);
       full = λ g stands is. absurd (cc is);
@@ -29,8 +28,7 @@ returns-in-Err c =
       named = λ g stands. tt;
       next = λ g stands. tt;
       stored = tt;
-      no_such_worker = λ g stands is. (told.no_such_worker g stands).0 (cc is);
-      no_worker = λ g stands none. inl (ap Err ((told.no_such_worker g stands).1 none));
+      no_such_worker = λ g stands. ((λ is. (told.no_such_worker g stands).0 (cc is)), λ none. ap Err ((told.no_such_worker g stands).1 none));
       no_more = λ g stands is. told.no_more g stands (cc is);
       no_more_entry = λ is. told.no_more_entry (cc is);
       full = λ g stands is. told.full g stands (cc is);

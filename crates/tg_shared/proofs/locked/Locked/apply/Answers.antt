@@ -1,11 +1,11 @@
-use Rattle.std.proofs.Common.{◌≡◌, ◌+◌, ◌∙◌, ℕ, sym, ap, subst}
+use Rattle.std.proofs.Common.{◌≡◌, ◌∙◌, ℕ, sym, ap, subst}
 use Rattle.std.proofs.lemmas.Result.{err_from_is_err_and}
 use Rattle.tg_model.specs.Graph.{IsSubject}
 use Rattle.tg_model.specs.Rules.{Permits}
 use Rattle.tg_rules.specs.Effect.{AddsEdge, LacksCellsToServe}
 use Rattle.tg_store.specs.Store.{StandsFor, graph_of_store}
 use Rattle.tg_shared.specs.Sessions.{LockedState}
-use Rattle.tg_shared.proofs.Balances.{balanced_entered}
+use Rattle.tg_shared.proofs.Balances.{balanced_entered, goes_on_entered}
 use Rattle.tg_shared.proofs.locked.Locked.apply.Goals as goal
 
 pub returns-in_err-reply-clause-no_such_worker : goal.returns-in_err-reply-clause-no_such_worker
@@ -35,4 +35,5 @@ invariant_of-self-2 g c = (
   balanced_entered _ _ _ _ _ _ _ _ _ _ _ c.self.invariant.0 c.in_ok-reply.ensures.entry c.apply.ensures.opening c.note.ensures.book,
   c.self.invariant.1,
   c.self.invariant.2,
+  goes_on_entered _ _ _ _ _ _ c.self.invariant.3 c.in_ok-reply.ensures.entry c.apply.ensures.opening c.apply.ensures.limits,
 )

@@ -17,7 +17,7 @@ returns-clause-count g c =
     omega (arith, ap count_of all, c.loop-session.invariant.amount, c.audit.ensures.whole parts)
 
 pub returns-clause-shared_out : goal.returns-clause-shared_out
-returns-clause-shared_out g c = shared_out c.args.self.store.entries g.L.Round.start c.args.sessions.items (search rules) (returns-clause-count g c)
+returns-clause-shared_out g c = shared_out c.args.self.store.entries (length g.L.Round.start.entries) c.args.sessions.items (search rules) (returns-clause-count g c)
 
 pub returns-clause-mismatch : goal.returns-clause-mismatch
 returns-clause-mismatch g c = ((λ none. absurd none), λ no. no.1 (search rules))

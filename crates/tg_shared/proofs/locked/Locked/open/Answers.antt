@@ -7,8 +7,8 @@ use Rattle.tg_model.specs.Opened.{Plan, start_of}
 use Rattle.tg_journal.specs.declared.entry.Entry.{Entry}
 use Rattle.tg_store.specs.Store.{graph_of_store}
 use Rattle.tg_journal.proofs.HistoryLaws.{graph_after-subjects}
-use Rattle.tg_shared.specs.Sessions.{SessionState, AreFresh}
-use Rattle.tg_shared.proofs.Balances.{opened_made}
+use Rattle.tg_shared.specs.Sessions.{SessionState, Start, AreFresh}
+use Rattle.tg_shared.proofs.Balances.{goes_on_start, opened_made}
 use Rattle.tg_shared.proofs.locked.Locked.open.Goals as goal
 
 pub invariant_of-locked : goal.invariant_of-locked
@@ -19,15 +19,17 @@ invariant_of-locked g c =
     let left : c.sessions_of.new.rest.parts + c.workers-workers.result ≡ c.open-book.result.1.parts = c.in-Ok.ensures.rest.0 in
     let made : c.args.store.opening.workers ≤ (graph_of_store c.args.store).made = opened_made c.args.store in
     let entries : c.journal.result.now.entries ≡ c.args.store.entries = c.journal.ensures.entries in
-    let start : c.len-start.result ≡ g.L.Round.start = c.len-start.ensures ∙ (ap (λ (es : List Entry). length es) entries ∙ c.requires.start) in (
+    let shared : length c.args.store.entries ≡ length g.L.Round.start.entries = ap (λ (s : Start). length s.entries) c.requires.start in
+    let start : c.len-start.result ≡ length g.L.Round.start.entries = c.len-start.ensures ∙ (ap (λ (es : List Entry). length es) entries ∙ shared) in (
       record {
-        counted = c.requires.start ∙ (let e : g.L.Round.start ≡ g.L.Round.start + c.open-book.result.0.total = omega arith in e);
+        counted = shared ∙ (let e : length g.L.Round.start.entries ≡ length g.L.Round.start.entries + c.open-book.result.0.total = omega arith in e);
         cut = (let e : c.workers-workers.result + c.sessions_of.new.rest.parts ≡ g.L.Ledger.parts = omega arith in e);
         enough = sym c.requires.parts.0 ∙ c.requires.parts.1;
         made = subst (λ (n : ℕ). n ≤ (graph_of_store c.args.store).made) (sym workers) made;
       },
       start,
       c.in-Ok.ensures.rest.1,
+      goes_on_start g.L.Round.start c.args.store c.requires.start,
     )
 
 pub returns-clause-sessions : goal.returns-clause-sessions

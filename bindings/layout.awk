@@ -1,0 +1,148 @@
+# Writes a C file that compiles exactly where kovshenul.h fits the library's text: each struct of numbers has the same
+# fields at the same offsets, each export the same parameters, each constant the number that the contracts give it.
+#
+# It reads crates/tg_c/src/forms.rt, handle.rt, place.rt and exports.rt, crates/tg_c/specs/Forms.antt and
+# crates/tg_rights/specs/RightSet.antt.
+
+function same(is, wanted) {
+    printf "SAME(%s, %s);\n", is, wanted
+    checks++
+}
+
+# The C type of a Rattle type; nothing for what takes no bytes, or isn't known here.
+function type_of(word) {
+    if (word in types) return types[word]
+    if (word ~ /^&mut \[.*\]$/) return types[substr(word, 7, length(word) - 7)] " *, size_t"
+    if (word ~ /^&\[.*\]$/) return "const " types[substr(word, 3, length(word) - 3)] " *, size_t"
+    if (word ~ /^&mut /) return types[substr(word, 6)] " *"
+    if (word ~ /^&/) return "const " types[substr(word, 2)] " *"
+    if (word ~ /^\*mut /) return "void *"
+    print "#error no C type for " word
+    return "int"
+}
+
+function prototype(text,    name, parts, count, i, given, list) {
+    name = text
+    sub(/^.*fn /, "", name)
+    sub(/\(.*$/, "", name)
+    sub(/^[^(]*\(/, "", text)
+    sub(/\).*$/, "", text)
+    count = split(text, parts, ",")
+    list = ""
+    for (i = 1; i <= count; i++) {
+        given = parts[i]
+        sub(/^[^:]*: */, "", given)
+        gsub(/^ +| +$/, "", given)
+        if (given != "" && given != "Global") list = list (list == "" ? "" : ", ") type_of(given)
+    }
+    printf "uint32_t %s(%s);\n", name, list == "" ? "void" : list
+    checks++
+}
+
+BEGIN {
+    print "#include \"kovshenul.h\""
+    print "#define SAME(is, wanted) _Static_assert((is) == (wanted), #is)"
+    types["u8"] = "uint8_t"; types["u32"] = "uint32_t"; types["u64"] = "uint64_t"; types["bool"] = "bool"
+    types["EdgeIn"] = "tg_edge"; types["ValueIn"] = "tg_value"; types["LimitsIn"] = "tg_limits"
+    types["DenialOut"] = "tg_denial"; types["EdgeOut"] = "tg_target"; types["CensusOut"] = "tg_counts"
+    types["Place"] = "tg_store"; types["Handle"] = "twin_Handle"
+    same("sizeof(void *)", 8)
+    same("sizeof(bool)", 1)
+    same("sizeof(size_t)", 8)
+}
+
+# ---- structs: a twin of each, with the fields in the order of the text, which repr(C) keeps
+
+/^#\[repr\(C\)\]/ { repr = 1 }
+
+repr && /^pub struct / {
+    struct = $3
+    repr = 0
+    fields = 0
+    printf "typedef struct {\n"
+    next
+}
+
+struct && /^}/ {
+    printf "} twin_%s;\n", struct
+    # the header has no name for a handle: it is looked at in its place
+    if (struct == "Place") same("offsetof(twin_Place, handle.at)", "offsetof(tg_store, handle.at)")
+    if (struct == "Handle") fields = 0
+    else same("sizeof(twin_" struct ")", "sizeof(" types[struct] ")")
+    for (i = 1; i <= fields; i++) {
+        same("offsetof(twin_" struct ", " field[i] ")", "offsetof(" types[struct] ", " field[i] ")")
+        same("sizeof(((twin_" struct " *)0)->" field[i] ")", "sizeof(((" types[struct] " *)0)->" field[i] ")")
+    }
+    struct = ""
+    next
+}
+
+struct && /^ +(pub )?[a-z_]+: / && !/ghost/ && !/: Global,/ {
+    line = $0
+    gsub(/^ +(pub )?|,$/, "", line)
+    fields++
+    field[fields] = line
+    sub(/:.*$/, "", field[fields])
+    sub(/^[^:]*: /, "", line)
+    printf "    %s %s;\n", type_of(line), field[fields]
+}
+
+# ---- exports
+
+/^pub extern "C" fn / { text = ""; open = 1 }
+
+open {
+    text = text " " $0
+    if (/-> u32/) {
+        prototype(text)
+        open = 0
+    }
+}
+
+# ---- constants
+
+/^bits_of s = / {
+    split("READ WRITE TAKE GRANT", names, " ")
+    line = $0
+    for (i = 1; match(line, /s\.[rwtg] [0-9]+/); i++) {
+        same("TG_" names[i], substr(line, RSTART + 4, RLENGTH - 4))
+        line = substr(line, RSTART + RLENGTH)
+    }
+}
+
+/law == [0-9]/ {
+    number = $0
+    sub(/^.*law == /, "", number)
+    sub(/[^0-9].*$/, "", number)
+    name = $0
+    sub(/^.*law = law\./, "", name)
+    sub(/[^A-Za-z].*$/, "", name)
+    same("TG_" toupper(name), number)
+}
+
+/^kind_at number = / {
+    line = $0
+    while (match(line, /number == [0-9]+ then Some [A-Za-z]+/)) {
+        split(substr(line, RSTART, RLENGTH), words, " ")
+        same("TG_" toupper(words[6]), words[3])
+        line = substr(line, RSTART + RLENGTH)
+    }
+}
+
+/^rule_number rule\.[A-Z]/ {
+    name = $2
+    sub(/^rule\./, "", name)
+    same("TG_RULE_" toupper(name), $4)
+}
+
+/^denial_at rule / {
+    number = $0
+    sub(/^.*cause = /, "", number)
+    sub(/;.*$/, "", number)
+    same(/NotDistinct/ ? "TG_NOT_DISTINCT" : "TG_MISSING", number)
+}
+
+END {
+    # as many as there are, so that a text that is written in another way isn't passed over
+    if (checks != wanted) print "#error " checks " facts were read, and not " wanted
+}
