@@ -1,11 +1,10 @@
 //! What each of the three does with its session.
 
-use crate::opening::{HAND, cell, label};
+use crate::opening::{HAND, label};
 use crate::stop::Stop;
-use std::alloc::Global;
 use std::sync::Wait;
 use tg_model::{Command, Reply};
-use tg_payload::CellPayload;
+use tg_payload::{Draft, Payload};
 use tg_shared::{Round, Session, SharedStore};
 use tg_store::Kind;
 
@@ -23,20 +22,20 @@ pub struct Errands {
     pub ledger_by_hand: bool,
 }
 
-/// Makes a vertex that stores 0, which the session's subject may read and write. Answers its name.
-pub fn make<L: Round, R: Wait>(
+/// Makes a vertex for the draft, which the session's subject may read and write. Answers its name.
+pub fn make<L: Round, P: Payload, R: Wait>(
     rt: &R,
-    alloc: Global,
-    store: &SharedStore<L, CellPayload>,
+    store: &SharedStore<L, P>,
     session: &mut Session<L>,
+    draft: Draft<P>,
 ) -> Result<u64, Stop> {
-    Ok(session.create(rt, store, label("rw")?, cell(alloc)?)?)
+    Ok(session.create(rt, store, label("rw")?, draft)?)
 }
 
 /// Hands the right to write to the paper on to the deputy's hand.
-pub fn hand_on<L: Round, R: Wait>(
+pub fn hand_on<L: Round, P: Payload, R: Wait>(
     rt: &R,
-    store: &SharedStore<L, CellPayload>,
+    store: &SharedStore<L, P>,
     client: &mut Session<L>,
     paper: u64,
 ) -> Result<(), Stop> {
@@ -51,9 +50,9 @@ pub fn hand_on<L: Round, R: Wait>(
 }
 
 // Writes 1 to the target, and answers whether that was done.
-fn write<L: Round, R: Wait>(
+fn write<L: Round, P: Payload, R: Wait>(
     rt: &R,
-    store: &SharedStore<L, CellPayload>,
+    store: &SharedStore<L, P>,
     session: &mut Session<L>,
     target: u64,
 ) -> Result<bool, Stop> {
@@ -61,10 +60,34 @@ fn write<L: Round, R: Wait>(
     Ok(matches!(reply, Reply::Done))
 }
 
-/// Runs the client's errands, with the deputy's own rights and with those of its hand.
-pub fn run_errands<L: Round, R: Wait>(
+/// What the deputy does on its thread: it runs the client's errands, and gives back its session and that of its hand.
+pub fn be_deputy<L: Round, P: Payload, R: Wait>(
     rt: &R,
-    store: &SharedStore<L, CellPayload>,
+    store: &SharedStore<L, P>,
+    mut deputy: Session<L>,
+    mut hand: Session<L>,
+    ledger: u64,
+    paper: u64,
+) -> (Session<L>, Session<L>, Result<Errands, Stop>) {
+    let errands = run_errands(rt, store, &mut deputy, &mut hand, ledger, paper);
+    (deputy, hand, errands)
+}
+
+/// What the client does on its thread: it reads its paper and collects, and gives back its session.
+pub fn be_client<L: Round, P: Payload, R: Wait>(
+    rt: &R,
+    store: &SharedStore<L, P>,
+    mut client: Session<L>,
+    paper: u64,
+) -> (Session<L>, Result<(), Stop>) {
+    let read = read_and_collect(rt, store, &mut client, paper);
+    (client, read)
+}
+
+// Runs the client's errands, with the deputy's own rights and with those of its hand.
+fn run_errands<L: Round, P: Payload, R: Wait>(
+    rt: &R,
+    store: &SharedStore<L, P>,
     deputy: &mut Session<L>,
     hand: &mut Session<L>,
     ledger: u64,
@@ -77,10 +100,10 @@ pub fn run_errands<L: Round, R: Wait>(
     })
 }
 
-/// Reads the paper and collects, again and again.
-pub fn read_and_collect<L: Round, R: Wait>(
+// Reads the paper and collects, again and again.
+fn read_and_collect<L: Round, P: Payload, R: Wait>(
     rt: &R,
-    store: &SharedStore<L, CellPayload>,
+    store: &SharedStore<L, P>,
     client: &mut Session<L>,
     paper: u64,
 ) -> Result<(), Stop> {

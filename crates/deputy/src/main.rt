@@ -15,12 +15,14 @@ mod opening;
 mod round;
 mod stop;
 
-use round::run_shared;
+use opening::Payloads;
+use round::{Made, run_shared};
 use std::alloc::Global;
 use std::process::ExitCode;
 use std::sync::Wait;
 use std::thread::Threads;
 use stop::Stop;
+use tg_payload::{CellPayload, Draft};
 
 fn main(rt: HostRuntime) -> ExitCode {
     match run_and_tell(&rt, rt.alloc()) {
@@ -32,7 +34,17 @@ fn main(rt: HostRuntime) -> ExitCode {
     }
 }
 
+// All subjects and what they make store a cell with 0.
 fn run_and_tell<R: Threads + Wait + Sync + Print>(rt: &R, alloc: Global) -> Result<(), Stop> {
-    let told = run_shared(rt, alloc)?;
+    let payloads = Payloads {
+        deputy: CellPayload::new(0),
+        client: CellPayload::new(0),
+        hand: CellPayload::new(0),
+    };
+    let made = Made {
+        ledger: Draft::new(alloc, CellPayload::new(0))?,
+        paper: Draft::new(alloc, CellPayload::new(0))?,
+    };
+    let told = run_shared(rt, alloc, payloads, made)?;
     told.print(rt)
 }

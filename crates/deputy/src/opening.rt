@@ -3,7 +3,7 @@
 use crate::stop::Stop;
 use std::alloc::Global;
 use tg_model::{Edge, Opening};
-use tg_payload::{CellPayload, Draft};
+use tg_payload::{Draft, Payload};
 use tg_rights::{Label, Rights};
 use tg_store::{Limits, Store};
 
@@ -23,31 +23,39 @@ const MOST_BLOCKS: u64 = 16;
 
 const MOST_BLOCKS_OF_A_SPACE: u64 = 4;
 
+/// What the three store.
+#[derive(Drop)]
+pub struct Payloads<P: Payload> {
+    pub deputy: P,
+    pub client: P,
+    pub hand: P,
+}
+
 /// A label with the rights of these letters.
 pub fn label(letters: &str) -> Result<Label, Stop> {
     let rights = Rights::read_text(letters.as_bytes()).ok_or(Stop::BadLabel)?;
     Label::new(rights).ok_or(Stop::BadLabel)
 }
 
-/// A draft of a cell with 0.
-pub fn cell(alloc: Global) -> Result<Draft<CellPayload>, Stop> {
-    Ok(Draft::new(alloc, CellPayload::new(0))?)
-}
-
-// A draft for each of the three.
-fn drafts(alloc: Global) -> Result<Vec<Draft<CellPayload>>, Stop> {
+/// Drafts of the payloads of the three, by rising name.
+pub fn drafts_of<P: Payload>(alloc: Global, payloads: Payloads<P>) -> Result<Vec<Draft<P>>, Stop> {
+    let Payloads {
+        deputy,
+        client,
+        hand,
+    } = payloads;
     let mut drafts = Vec::new(alloc);
-    for _ in 0..3 {
-        drafts.push(cell(alloc)?)?;
-    }
+    drafts.push(Draft::new(alloc, deputy)?)?;
+    drafts.push(Draft::new(alloc, client)?)?;
+    drafts.push(Draft::new(alloc, hand)?)?;
     Ok(drafts)
 }
 
-/// The opening: all store a cell with 0, and the client may grant to the deputy's hand.
-pub fn opening(alloc: Global) -> Result<Opening, Stop> {
+/// The opening: the three store what is in the drafts, and the client may grant to the deputy's hand.
+pub fn opening_of<P: Payload>(alloc: Global, drafts: &[Draft<P>]) -> Result<Opening, Stop> {
     let mut values = Vec::new(alloc);
-    for _ in 0..3 {
-        values.push(cell(alloc)?.value().copy(alloc)?)?;
+    for draft in drafts {
+        values.push(draft.value().copy(alloc)?)?;
     }
     let mut edges = Vec::new(alloc);
     edges.push(Edge {
@@ -59,7 +67,8 @@ pub fn opening(alloc: Global) -> Result<Opening, Stop> {
 }
 
 /// A store with this opening.
-pub fn open_store(alloc: Global) -> Result<Store<CellPayload>, Stop> {
+pub fn open_store<P: Payload>(alloc: Global, drafts: Vec<Draft<P>>) -> Result<Store<P>, Stop> {
+    let opening = opening_of(alloc, &drafts)?;
     let limits = Limits::new(MOST_BLOCKS, MOST_BLOCKS_OF_A_SPACE)?;
-    Ok(Store::open(alloc, opening(alloc)?, limits, drafts(alloc)?)?)
+    Ok(Store::open(alloc, opening, limits, drafts)?)
 }
