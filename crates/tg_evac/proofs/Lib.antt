@@ -11,3 +11,4 @@ pub mod Collecting
 pub mod Sound
 pub mod Young
 pub mod Behind
+pub mod Moved

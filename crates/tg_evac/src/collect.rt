@@ -2,7 +2,7 @@
 ghost use Rattle.std.specs.Prelude.{◌≡◌, ℕ, ◌+◌, ◌*◌, ◌≤◌, [], length, IfErr, IfOk, OnOk};
 ghost use Rattle.std.specs.List.{All};
 ghost use Rattle.tg_word.specs.declared.Place.{Place as PlaceOf};
-ghost use Rattle.tg_space.specs.Collection.{AreFewBlocks, IsCollection, MayLackRoom, used_cells};
+ghost use Rattle.tg_space.specs.Collection.{AreFewBlocks, IsCollection, MayLackRoom, copies_in, used_cells};
 ghost use Rattle.tg_space.specs.Soundness.{AreSound, IsRootIn};
 ghost use Rattle.tg_space.specs.SpaceList.{cells_of};
 ghost use Rattle.tg_space.specs.SpaceTable.{IsSpaceTable, kept_blocks};
@@ -36,7 +36,8 @@ pub struct Copied {
 /// Exactly the cells of from-space in the closure of the roots are copied; a copy is its original with the places of what
 /// it names replaced. A full collection copies all of them to Old, whose new blocks are numbered from 0. A nursery
 /// collection leaves the blocks of Old, and numbers the new ones behind them. It copies cells of Aged to Old, and cells of
-/// nurseries to Aged, but those that are first met from a remembered cell or from a copy in Old go straight to Old.
+/// nurseries to Aged, but those that are first met from a remembered cell or from a copy in Old go straight to Old. So no
+/// more cells are copied than there are cells of from-space that aren't free.
 ///
 /// The refusals change nothing: `OutOfMemory` where memory was refused, and `HeapFull` where Aged or Old would need more
 /// than `space_blocks` blocks, so that at least as many cells of from-space aren't free as there is room for in Old.
@@ -48,6 +49,7 @@ pub fn collect_one(
 ) -> Result<Copied, CollectFault>
     requires { AreSound spaces.now.spaces roots.now }
     ensures collected { IfOk result (λ copied. IsCollection kind spaces.now.spaces roots.now copied.forward.words copied.adoption.aged copied.adoption.old copied.remembered.places) }
+    ensures moved { IfOk result (λ copied. copies_in copied.forward.words 0 + copies_in copied.forward.words 1 ≤ used_cells kind spaces.now.spaces) }
     ensures few { IfOk result (λ copied. AreFewBlocks spaces.now.limits.space_blocks (kept_blocks kind spaces.now.spaces) 0 copied.forward.words copied.adoption.aged copied.adoption.old) }
     ensures full { IfErr result (λ fault. fault ≡ CollectFault.HeapFull → MayLackRoom spaces.now.limits.space_blocks 1 (kept_blocks kind spaces.now.spaces) (used_cells kind spaces.now.spaces)) }
 {
@@ -68,6 +70,7 @@ fn collect_kind(
 ) -> Result<Copied, CollectFault>
     requires { AreSound spaces.now.spaces roots.now }
     ensures collected { IfOk result (λ copied. IsCollection kind spaces.now.spaces roots.now copied.forward.words copied.adoption.aged copied.adoption.old copied.remembered.places) }
+    ensures moved { IfOk result (λ copied. copies_in copied.forward.words 0 + copies_in copied.forward.words 1 ≤ used_cells kind spaces.now.spaces) }
     ensures few { IfOk result (λ copied. AreFewBlocks spaces.now.limits.space_blocks (kept_blocks kind spaces.now.spaces) 0 copied.forward.words copied.adoption.aged copied.adoption.old) }
     ensures full { IfErr result (λ fault. fault ≡ CollectFault.HeapFull → MayLackRoom spaces.now.limits.space_blocks 1 (kept_blocks kind spaces.now.spaces) (used_cells kind spaces.now.spaces)) }
 {

@@ -1,4 +1,5 @@
 mod AnswerLaws
+mod BlockLaws
 mod CollectLaws
 mod CreateLaws
 mod DifferenceLaws

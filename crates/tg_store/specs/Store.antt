@@ -1,5 +1,5 @@
 -- What a store is to its callers: an opening, the journal of what was decided since, and a heap. What holds of every store.
-use Rattle.std.specs.Prelude.{◌≡◌, ◌↔◌, ℕ, ◌==◌, List, [], ◌∷◌, ◌++◌, length}
+use Rattle.std.specs.Prelude.{◌≡◌, ◌↔◌, ◌≤◌, ◌⊎◌, ◌+◌, ℕ, ◌==◌, List, [], ◌∷◌, ◌++◌, length}
 use Rattle.std.specs.List.{Contains, IsDistinct}
 use Rattle.tg_model.specs.declared.command.Deed.{Deed}
 use Rattle.tg_model.specs.declared.reply.Reply.{Reply}
@@ -7,6 +7,11 @@ use Rattle.tg_model.specs.Graph.{ProtectionGraph}
 use Rattle.tg_model.specs.Opened.{Plan, IsPlan, start_of}
 use Rattle.tg_journal.specs.declared.entry.Entry.{Entry}
 use Rattle.tg_journal.specs.History.{IsLegal, graph_after}
+use Rattle.tg_space.specs.SpaceList.{block_count, space_of}
+use Rattle.tg_space.specs.SpaceTable.{SpaceTable}
+use Rattle.tg_space.specs.Collection.{blocks_for, used_cells}
+use Rattle.tg_space.specs.declared.spaces.Kind.{Kind}
+use Rattle.tg_space.specs.declared.spaces.Kind.TheVariants.{Full, Nursery}
 use Rattle.tg_graph.specs.Heap as graph
 use Rattle.tg_graph.specs.Heap.{HeapState, content_of}
 use Rattle.tg_graph.specs.Standing as standing
@@ -55,6 +60,14 @@ pub record IsUnchanged (old new : StoreState) : Type 0 where
   pub opening : new.opening ≡ old.opening
   pub entries : new.entries ≡ old.entries
   pub heap : graph.IsUnchanged old.heap new.heap
+
+-- How few blocks a collection leaves. Of a full one they are no more than the cells in use need; of a nursery collection at
+-- most one more than the younger cells in use need, beside those that Old had, since it fills blocks of two spaces.
+pub record HasFewBlocks (kind : Kind) (old new : SpaceTable) : Type 0 where
+  -- no space has more than it may, or else no more than it had
+  pub within : (space : ℕ) → (length (space_of new.spaces space) ≤ old.limits.space_blocks) ⊎ (length (space_of new.spaces space) ≤ length (space_of old.spaces space))
+  pub full : kind ≡ Full → block_count new.spaces ≤ blocks_for (used_cells Full old.spaces)
+  pub nursery : kind ≡ Nursery → block_count new.spaces ≤ length (space_of old.spaces 0) + blocks_for (used_cells Nursery old.spaces) + 1
 
 -- ---- counts
 

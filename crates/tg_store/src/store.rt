@@ -57,7 +57,7 @@ impl<P: Payload> Store<P> {
     ghost use Rattle.tg_graph.specs.Spots.{IsMadeInRow, LacksCellsFor};
     ghost use Rattle.tg_graph.specs.Kept.{VerticesOfOldStay};
     ghost use Rattle.tg_rules.specs.Effect.{AddsEdge, LacksCellsToServe};
-    ghost use Rattle.tg_store.specs.Store.{Enters, IsCountOf, IsFaithful, IsUnchanged, OnlyEnters, StandsFor};
+    ghost use Rattle.tg_store.specs.Store.{Enters, HasFewBlocks, IsCountOf, IsFaithful, IsUnchanged, OnlyEnters, StandsFor};
 
     /// A store that starts from the opening, with the payloads of the drafts, one for each worker, and with no entry in
     /// its journal. `PayloadMismatch` is answered exactly where the drafts' laws and states aren't the opening's, with
@@ -224,6 +224,10 @@ impl<P: Payload> Store<P> {
     /// which it looks at the remembered ones and the workers' rows alone: it may keep vertices that nobody reaches. After
     /// either no nursery has a block.
     ///
+    /// After a full collection there are no more blocks than the cells in use need, 64 in each. A nursery collection leaves
+    /// the blocks of Old, and adds no more than the younger cells in use need, or one more, since it fills blocks of Old and of
+    /// Aged. No space has more blocks than `Limits` gives it, or else no more than it had.
+    ///
     /// `HeapFull` is answered only where the cells in use that would be moved may not fit into the blocks that a space may
     /// have, and else `OutOfMemory` alone; the store is then as it was.
     pub fn collect(&mut self, kind: Kind) -> Result<u64, CollectFault>
@@ -232,6 +236,7 @@ impl<P: Payload> Store<P> {
         ensures reachable { (g : ProtectionGraph) → StandsFor self.old g → IfOk result (λ number. kind ≡ Kind.Full → IsCountOf (IsReachable g) number) }
         ensures only_old { OnOk result (kind ≡ Kind.Full → (space : ℕ) → space ≢ 0 → space_of self.new.heap.table.spaces space ≡ []) }
         ensures no_nursery { OnOk result ((space : ℕ) → 2 ≤ space → space_of self.new.heap.table.spaces space ≡ []) }
+        ensures blocks { OnOk result (HasFewBlocks kind self.old.heap.table self.new.heap.table) }
         ensures stay { OnOk result (kind ≡ Kind.Nursery → VerticesOfOldStay self.old.heap.table.spaces self.new.heap.table.spaces) }
         ensures entries { self.new.entries ≡ self.old.entries }
         ensures full { result ≡ Err CollectFault.HeapFull →

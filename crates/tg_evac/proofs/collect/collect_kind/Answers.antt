@@ -14,6 +14,7 @@ use Rattle.tg_evac.specs.Claims.{Claimed, IsTracedFrom, won_in}
 use Rattle.tg_evac.specs.Claimers.{HasPlacesOf, copies_to, image_at}
 use Rattle.tg_evac.specs.Copies.{HoldCells, IsPlaceIn, moved_cell, new_cell}
 use Rattle.tg_evac.proofs.Claiming.{has_places, have_places, in_room}
+use Rattle.tg_evac.proofs.Moved.{moved_few}
 use Rattle.tg_evac.proofs.Sound.{have_pointers}
 use Rattle.tg_evac.proofs.Collecting.{collected, few, none_young, old_few}
 use Rattle.tg_evac.proofs.collect.collect_kind.Goals as goal
@@ -99,6 +100,13 @@ notes_of-requires-clause-full c =
     c.in_ok-adoption.adoption.aged c.in_ok-adoption.adoption.old c.in_ok-adoption.ensures.aged.1.1 c.in_ok-adoption.ensures.old.1.1
     (subst (λ (cells : List (List ℕ)). HoldCells cells c.in_ok-adoption.adoption.aged) (aged_is from) c.in_ok-adoption.ensures.aged.0)
     (subst (λ (cells : List (List ℕ)). HoldCells cells c.in_ok-adoption.adoption.old) (old_is from) c.in_ok-adoption.ensures.old.0))
+
+pub returns-clause-moved : goal.returns-clause-moved
+unfolding claims_of
+returns-clause-moved c =
+    let from = (goal.at.returns-clause-moved c).In_ok-copies in
+    let is = table_list c.args.spaces.now c.cells-cells.ensures.table in
+    moved_few c.args.kind c.args.spaces.now.spaces is (have_pointers c.args.spaces.now.spaces c.args.roots.now c.requires is) c.args.roots.now c.requires.roots_held (claims_of from) c.claims.invariant.0 (traced from)
 
 pub returns-clause-few : goal.returns-clause-few
 unfolding claims_of

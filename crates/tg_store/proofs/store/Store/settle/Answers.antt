@@ -1,8 +1,11 @@
 -- The heap then has what can be reached, and stands for the same graph.
-use Rattle.std.proofs.Common.{◌∙◌, length, refl, ap, subst}
+use Rattle.std.proofs.Common.{◌∙◌, ◌≤◌, ◌+◌, length, refl, ap, subst}
+use Rattle.tg_space.specs.SpaceTable.{SpaceTable, kept_blocks}
+use Rattle.tg_space.specs.Collection.{AreFewBlocks, copies_in, used_cells}
 use Rattle.tg_graph.specs.Heap.{content_of}
 use Rattle.tg_graph.specs.Kept.{VerticesOfOldStay}
-use Rattle.tg_store.specs.Store.{StoreState, StandsFor, graph_of_store}
+use Rattle.tg_store.specs.Store.{HasFewBlocks, StoreState, StandsFor, graph_of_store}
+use Rattle.tg_store.proofs.BlockLaws.{few_left}
 use Rattle.tg_store.proofs.CollectLaws.{IsStore-collected, counted_left, kept_in_full, names_left}
 use Rattle.tg_store.proofs.store.Store.settle.Goals as goal
 
@@ -33,3 +36,14 @@ returns-clause-reachable g c =
 pub returns-clause-stay : goal.returns-clause-stay
 returns-clause-stay g c =
     λ nursery. subst (λ (state : StoreState). VerticesOfOldStay state.heap.table.spaces c.settle.new.self.table.spaces) c.self.view_is (c.in_ok-settle.ensures.stay nursery)
+
+pub returns-clause-blocks : goal.returns-clause-blocks
+returns-clause-blocks g c =
+    let heap = c.self.inside.heap in
+    let made = c.in_ok-copied.copied in
+    let kind = c.args.kind in
+    let few = subst (λ (t : SpaceTable). AreFewBlocks t.limits.space_blocks (kept_blocks kind t.spaces) 0 made.forward.words made.adoption.aged made.adoption.old) c.spaces.ensures c.in_ok-copied.ensures.few in
+    let moved = subst (λ (t : SpaceTable). copies_in made.forward.words 0 + copies_in made.forward.words 1 ≤ used_cells kind t.spaces) c.spaces.ensures c.in_ok-copied.ensures.moved in
+    subst (λ (state : StoreState). HasFewBlocks kind state.heap.table c.settle.new.self.table) c.self.view_is
+    (few_left heap.table c.settle.new.self.table made.forward.words made.adoption.aged made.adoption.old kind few moved c.in_ok-settle.ensures.blocks
+    heap c.in_ok-settle.ensures.written)
