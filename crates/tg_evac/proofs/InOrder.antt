@@ -48,11 +48,11 @@ module _ (cells : List (List ℕ)) (blocks : BlockList) (hold : HoldCells cells 
   pub held_count : 64 * length blocks ≡ length cells + hold.free
   held_count = sym (length-blocks blocks are) ∙ ap length hold.is ∙ length-append cells (replicate hold.free free_cell) ∙ ap (λ (n : ℕ). length cells + n) (length-replicate hold.free free_cell)
 
-  held_cell : (b i : ℕ) → b < length blocks → i < 64 → 64 * b + i < length cells → cell_of (get_or blocks b []) i ≡ get_or cells (64 * b + i) []
+  pub held_cell : (b i : ℕ) → b < length blocks → i < 64 → 64 * b + i < length cells → cell_of (get_or blocks b []) i ≡ get_or cells (64 * b + i) []
   held_cell b i low inside below =
       block_cell blocks are b i low inside ∙ ap (λ (cs : List (List ℕ)). get_or cs (64 * b + i) []) hold.is ∙ get_or_append_left cells (replicate hold.free free_cell) [] (64 * b + i) below
 
-  held_rest : (b i : ℕ) → b < length blocks → i < 64 → length cells ≤ 64 * b + i → cell_of (get_or blocks b []) i ≡ free_cell
+  pub held_rest : (b i : ℕ) → b < length blocks → i < 64 → length cells ≤ 64 * b + i → cell_of (get_or blocks b []) i ≡ free_cell
   held_rest b i low inside past =
       let count = held_count in
       block_cell blocks are b i low inside ∙ ap (λ (cs : List (List ℕ)). get_or cs (64 * b + i) []) hold.is

@@ -3,3 +3,4 @@ pub mod Traces
 pub mod Filled
 pub mod Seating
 pub mod Working
+pub mod Handing

@@ -125,6 +125,13 @@ impl Space {
         self.push(Block::new(alloc)?)
     }
 
+    /// The blocks, in order.
+    pub fn into_blocks(self) -> Vec<Block>
+        ensures { result.items ≡ self }
+    {
+        self.blocks
+    }
+
     /// Puts the blocks of another space behind its own. No block is copied.
     ///
     /// It is refused only where memory was; then nothing is changed.
