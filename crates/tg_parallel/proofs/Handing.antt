@@ -1,7 +1,7 @@
 -- What a helper hands over: its copies stand in its blocks, each block with its number.
 use Rattle.std.proofs.Common.{◌≡◌, ◌≢◌, ℕ, zero, suc, ◌+◌, ◌-◌, ◌*◌, ◌/◌, ◌%◌, ◌^◌, ◌<◌, ◌≤◌, ◌==◌, ◌⊎◌, ◌++◌, List, [], ◌∷◌, Bool, true, false, length, get_or, take, map, replicate, refl, sym, ap, subst, ◌∙◌, inl, inr, ⊎_elim, arith, nat_lt, eq-eqb, Result, Ok, Err}
 use Rattle.std.specs.List.{All, Contains, list_all}
-use Rattle.std.specs.Result.{IfOk, OnOk}
+use Rattle.std.specs.Result.{IfErr, IfOk, OnOk}
 use Rattle.std.proofs.lemmas.Bool.{cases_eq, cases_lt}
 use Rattle.std.proofs.lemmas.Bool.Decides.{nat_tests}
 use Rattle.std.proofs.lemmas.List.{get_or-map, get_or-replicate, get_or_append_left, get_or_default, get_or_past, length-map, take_all}
@@ -23,7 +23,7 @@ use Rattle.tg_evac.specs.Claims.{win_at, won_in}
 use Rattle.tg_evac.specs.Claimers.{copies_to, image_at}
 use Rattle.tg_evac.specs.Copies.{HoldCells}
 use Rattle.tg_evac.proofs.InOrder.{held_cell, held_count, held_rest}
-use Rattle.tg_parallel.specs.Parts.{AreImages, HasCopies, HasMetAll, HasPlaces, IsPart, Numbered, cells_met, numbers_of, win_of, wins_of}
+use Rattle.tg_parallel.specs.Parts.{AreImages, HasClaimedPast, HasCopies, HasMetAll, HasPlaces, IsPart, Numbered, cells_met, numbers_of, win_of, wins_of}
 use Rattle.tg_parallel.specs.Seats.{AreFilled, AreLaidOut, HasCopied, Sitting, block_at, own_place, pair_at, pairs_in, walked_at}
 use Rattle.tg_parallel.proofs.Filled.{has_index, rising_once, won_at}
 use Rattle.tg_parallel.proofs.Seating.{wins_in}
@@ -187,3 +187,16 @@ one_past limit (b ∷ numbers) h = ⊎_elim
 pub parts_are : {A E : Type 0} (r : Result A E) {P Q R : A → Type 0} {B C : Type 0} → ((x : A) → P x → Q x → B → C → R x) → IfOk r P → IfOk r Q → OnOk r B → OnOk r C → IfOk r R
 parts_are (Ok x) f p q b c = f x p q b c
 parts_are (Err e) f p q b c = p
+
+pub ok_always : {A E P : Type 0} (r : Result A E) → P → OnOk r P
+ok_always (Ok x) p = p
+ok_always (Err e) p = tt
+
+pub err_weaker : {A E : Type 0} {P Q : E → Type 0} (r : Result A E) → ((e : E) → P e → Q e) → IfErr r P → IfErr r Q
+err_weaker (Ok x) f p = p
+err_weaker (Err e) f p = f e p
+
+-- a number past the limit is one of a block that was claimed
+pub past_limit : (limit : ℕ) (v : Record) (aged old : List ℕ) → aged ≡ v.aged_blocks → old ≡ v.old_blocks → (b : ℕ) × (Contains aged b ⊎ Contains old b) × (limit ≤ b) → HasClaimedPast limit v
+past_limit limit v aged old in_aged in_old found =
+    (found.0, ⊎_elim (λ (a : Contains aged found.0). inl (subst (λ (l : List ℕ). Contains l found.0) in_aged a)) (λ (o : Contains old found.0). inr (subst (λ (l : List ℕ). Contains l found.0) in_old o)) found.1, found.2)

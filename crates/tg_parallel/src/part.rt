@@ -56,7 +56,10 @@ impl Part {
         ensures old_few { OnOk result (All (λ b. b < limit) old.now) }
         ensures full { IfErr result (λ fault. fault ≡ CollectFault.HeapFull → (b : ℕ) × (Contains aged.now b ⊎ Contains old.now b) × (limit ≤ b)) }
     {
-        if !are_below(aged, limit) || !are_below(old, limit) {
+        if !are_below(aged, limit) {
+            return Err(CollectFault::HeapFull);
+        }
+        if !are_below(old, limit) {
             return Err(CollectFault::HeapFull);
         }
         let blocks = copies.finish()?;
