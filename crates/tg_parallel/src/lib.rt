@@ -12,7 +12,6 @@ pub mod laws;
 mod links;
 mod many;
 mod merge;
-mod numbered;
 mod own_blocks;
 mod part;
 mod seat;
