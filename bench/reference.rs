@@ -1,6 +1,6 @@
 //! The plain program that the store is measured against: the same scripts and replies, written in plain Rust with no
 //! proof in mind. A vertex is a struct with an ordered map of its edges. A collection marks what is reached and empties
-//! the rest, and moves nothing.
+//! the rest, and moves nothing. With `--journal` it keeps each command with its answer, as the store does.
 //!
 //! Build: rustc -O --edition 2021 reference.rs
 
@@ -53,12 +53,36 @@ struct Options {
     workers: u64,
     vertices: u64,
     stock: Vec<Law>,
+    journal: bool,
+}
+
+#[allow(dead_code)]
+enum Reply {
+    Done,
+    Name(u64),
+    Values(Vec<u64>),
+    Edges(Vec<(u64, u8)>),
+    Denied,
+}
+
+/// A command that was answered: who asked, by which rule, the numbers and rights of its line, and the answer.
+#[allow(dead_code)]
+struct Entry {
+    worker: u64,
+    rule: u8,
+    rights: u8,
+    numbers: [u64; 2],
+    reply: Reply,
 }
 
 fn options() -> Option<Options> {
-    let mut options = Options { workers: 2, vertices: 1_000_000, stock: vec![] };
+    let mut options = Options { workers: 2, vertices: 1_000_000, stock: vec![], journal: false };
     let mut words = std::env::args().skip(1);
     while let Some(word) = words.next() {
+        if word == "--journal" {
+            options.journal = true;
+            continue;
+        }
         let value = words.next()?;
         match word.as_str() {
             "--workers" => options.workers = value.parse().ok()?,
@@ -129,9 +153,18 @@ struct Store {
     vertices: Vec<Vertex>,
     options: Options,
     next_box: usize,
+    journal: Vec<Entry>,
 }
 
 impl Store {
+    /// Keeps what was answered, where a journal is asked for.
+    fn keep(&mut self, worker: u64, rule: u8, rights: u8, numbers: [u64; 2], reply: impl FnOnce(&Store) -> Reply) {
+        if self.options.journal {
+            let reply = reply(self);
+            self.journal.push(Entry { worker, rule, rights, numbers, reply });
+        }
+    }
+
     fn label(&self, from: u64, to: u64) -> u8 {
         let vertex = self.vertices.get(from as usize);
         vertex.and_then(|vertex| vertex.edges.get(&to)).copied().unwrap_or(0)
@@ -174,40 +207,54 @@ impl Store {
                     let _ = write!(out, " {to}:");
                     put_rights(out, *set);
                 }
+                self.keep(x, b'l', 0, [0; 2], |store| {
+                    Reply::Edges(store.vertices[x as usize].edges.iter().map(|(to, set)| (*to, *set)).collect())
+                });
             }
             (b"read", 2) => {
                 let y = number(words[1])?;
-                if !self.denial(out, "read", &[x, y], &[(x, y, READ)]) {
+                let denied = self.denial(out, "read", &[x, y], &[(x, y, READ)]);
+                if !denied {
                     out.push_str("ok");
                     for value in &self.vertices[y as usize].state {
                         let _ = write!(out, " {value}");
                     }
                 }
+                self.keep(x, b'r', 0, [y, 0], |store| {
+                    if denied { Reply::Denied } else { Reply::Values(store.vertices[y as usize].state.clone()) }
+                });
             }
             (b"write", 3) => {
                 let (y, value) = (number(words[1])?, number(words[2])?);
-                if !self.denial(out, "write", &[x, y], &[(x, y, WRITE)]) {
+                let denied = self.denial(out, "write", &[x, y], &[(x, y, WRITE)]);
+                if !denied {
                     self.vertices[y as usize].write(value);
                     out.push_str("ok");
                 }
+                self.keep(x, b'w', 0, [y, value], |_| if denied { Reply::Denied } else { Reply::Done });
             }
             (b"take", 4) => {
                 let (y, z, set) = (number(words[1])?, number(words[2])?, rights(words[3])?);
-                if !self.denial(out, "take", &[x, y, z], &[(x, y, TAKE), (y, z, set)]) {
+                let denied = self.denial(out, "take", &[x, y, z], &[(x, y, TAKE), (y, z, set)]);
+                if !denied {
                     self.add(x, z, set);
                     out.push_str("ok");
                 }
+                self.keep(x, b't', set, [y, z], |_| if denied { Reply::Denied } else { Reply::Done });
             }
             (b"grant", 4) => {
                 let (y, z, set) = (number(words[1])?, number(words[2])?, rights(words[3])?);
-                if !self.denial(out, "grant", &[x, y, z], &[(x, y, GRANT), (x, z, set)]) {
+                let denied = self.denial(out, "grant", &[x, y, z], &[(x, y, GRANT), (x, z, set)]);
+                if !denied {
                     self.add(y, z, set);
                     out.push_str("ok");
                 }
+                self.keep(x, b'g', set, [y, z], |_| if denied { Reply::Denied } else { Reply::Done });
             }
             (b"remove", 3) => {
                 let (y, set) = (number(words[1])?, rights(words[2])?);
-                if !self.denial(out, "remove", &[x, y], &[(x, y, set)]) {
+                let denied = self.denial(out, "remove", &[x, y], &[(x, y, set)]);
+                if !denied {
                     let edges = &mut self.vertices[x as usize].edges;
                     let left = edges[&y] & !set;
                     if left == 0 {
@@ -217,6 +264,7 @@ impl Store {
                     }
                     out.push_str("ok");
                 }
+                self.keep(x, b'm', set, [y, 0], |_| if denied { Reply::Denied } else { Reply::Done });
             }
             _ => return None,
         }
@@ -236,6 +284,7 @@ impl Store {
             self.next_box += 1;
             self.add(x, name, set);
             let _ = write!(out, "ok {name}");
+            self.keep(x, b'c', set, [0; 2], |_| Reply::Name(name));
         }
     }
 
@@ -267,7 +316,7 @@ fn main() -> io::Result<()> {
         std::process::exit(2);
     };
     let vertices = (0..options.workers).map(|_| Vertex::new(Law::Cell)).collect();
-    let mut store = Store { vertices, options, next_box: 0 };
+    let mut store = Store { vertices, options, next_box: 0, journal: vec![] };
     let mut input = io::stdin().lock();
     let mut output = io::BufWriter::with_capacity(1 << 16, io::stdout().lock());
     let mut line = vec![];

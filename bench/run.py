@@ -1,8 +1,9 @@
 #!/usr/bin/env python3
 """run.py [PROGRAM] [--rounds N]
 
-Runs the store beside the plain program of reference.rs on scripts that it makes, and prints for each the seconds of
-both (the median of the rounds, which take turns), their ratio, and whether they wrote the same. It asserts nothing:
+Runs the store beside the plain program of reference.rs, without a journal and with one, on scripts that it makes, and
+prints for each the seconds of the three (the median of the rounds, which take turns), the store's by each of the others', and
+whether all wrote the same. It asserts nothing:
 what else the machine does moves all of it. PROGRAM is crates/tgstore/out/tgstore unless it is given."""
 import os
 import statistics
@@ -49,23 +50,34 @@ def collections():
     return ["--workers", "1", "--stock", "c20200"], lines
 
 
+def holes():
+    """A row of 30,000 edges, of which the newest is given up and another made in its place, 20,000 times."""
+    lines = ["0 create r"] * 30_000
+    last = 30_000
+    for i in range(20_000):
+        lines += [f"0 remove {last} r", "0 create r"]
+        last = 30_001 + i
+    return ["--workers", "1", "--stock", "c50000"], lines
+
+
 SCRIPTS = {
     "lists": lists,
     "creates": creates,
     "reads and writes": reads_and_writes,
     "takes": takes,
+    "holes": holes,
     "collections": collections,
 }
 
 
-def seconds(program, words, script, output):
+def seconds(command, script, output):
     """The seconds that one run takes, from start to end."""
     with open(script, "rb") as source, open(output, "wb") as sink:
         start = time.perf_counter()
-        status = subprocess.run([program] + words, stdin=source, stdout=sink).returncode
+        status = subprocess.run(command, stdin=source, stdout=sink).returncode
         took = time.perf_counter() - start
     if status:
-        print(f"{program}: status {status}")
+        print(f"{command[0]}: status {status}")
     return took
 
 
@@ -79,14 +91,15 @@ def measure(name, folder, program, reference, rounds):
     script = os.path.join(folder, "script")
     with open(script, "w") as file:
         file.write("".join(line + "\n" for line in lines))
-    outputs = [os.path.join(folder, "ours"), os.path.join(folder, "plain")]
-    ours, plain = [], []
+    runs = [("ours", [program] + words), ("plain", [reference] + words), ("journal", [reference] + words + ["--journal"])]
+    took = {name: [] for name, _ in runs}
     for _ in range(rounds):
-        ours.append(seconds(program, words, script, outputs[0]))
-        plain.append(seconds(reference, words, script, outputs[1]))
-    a, b = statistics.median(ours), statistics.median(plain)
-    same = "yes" if read(outputs[0]) == read(outputs[1]) else "NO"
-    print(f"{name:18} {len(lines):8} {a:9.3f} {b:9.3f} {a / b:7.2f}  {same}", flush=True)
+        for kind, command in runs:
+            took[kind].append(seconds(command, script, os.path.join(folder, kind)))
+    ours, plain, journal = (statistics.median(took[kind]) for kind, _ in runs)
+    wrote = [read(os.path.join(folder, kind)) for kind, _ in runs]
+    same = "yes" if wrote[0] == wrote[1] == wrote[2] else "NO"
+    print(f"{name:18} {len(lines):8} {ours:9.3f} {plain:9.3f} {journal:9.3f} {ours / plain:7.2f} {ours / journal:9.2f}  {same}", flush=True)
 
 
 def main():
@@ -102,7 +115,7 @@ def main():
     with tempfile.TemporaryDirectory() as folder:
         reference = os.path.join(folder, "reference")
         subprocess.run(["rustc", "-O", "--edition", "2021", "-o", reference, os.path.join(HERE, "reference.rs")], check=True)
-        print(f"{'script':18} {'lines':>8} {'store s':>9} {'plain s':>9} {'ratio':>7}  same output")
+        print(f"{'script':18} {'lines':>8} {'store s':>9} {'plain s':>9} {'journal s':>9} {'ratio':>7} {'of journal':>9}  same output")
         for name in SCRIPTS:
             measure(name, folder, program, reference, rounds)
 

@@ -1,7 +1,7 @@
 #!/bin/sh
-# run.sh: how long a nursery collection takes beside 5,000 old vertices and beside 50,000, and the making and giving up of a
-# vertex before it, in microseconds, and the ratio. It proves, builds and runs the program beside it, with the crates that it
-# needs, in a temporary folder. A number is the best of five. It wants awk.
+# run.sh: how long a nursery collection takes beside 5,000 old vertices, beside 50,000, and beside a row of 10,000 edges in Old,
+# and the making and giving up of a vertex before it, in microseconds, and the ratios to the first. It proves, builds and runs the
+# program beside it, with the crates that it needs, in a temporary folder. A number is the best of five. It wants awk.
 set -eu
 here=$(cd "$(dirname "$0")" && pwd)
 . "$here/../temporary.sh"
@@ -10,25 +10,23 @@ take_crates minors tg_rights tg_model tg_word tg_block tg_space tg_remember tg_n
 for round in 1 2 3 4 5; do
     "$program/out/minors"
 done | awk '
-    NF != 5 { print; exit }
+    NF != 6 { print; exit }
     {
-        if (!($1 in cells)) order[++sizes] = $1
-        cells[$1] = 64 * $2
-        for (i = 4; i <= 5; i++) {
-            micros = $i / $3 / 1000
-            if (!(($1, i) in best) || micros < best[$1, i]) best[$1, i] = micros
+        name = $1 " " $2
+        if (!(name in cells)) order[++sizes] = name
+        cells[name] = 64 * $3
+        for (i = 5; i <= 6; i++) {
+            micros = $i / $4 / 1000
+            if (!((name, i) in best) || micros < best[name, i]) best[name, i] = micros
         }
-    }
-    function row(name, cells, made, collection) {
-        printf "%-12s %8s %16.2f %12.2f\n", name, cells, made, collection
     }
     END {
         if (sizes == 0) exit 1
-        printf "%-12s %8s %16s %12s\n", "old vertices", "cells", "make, give up", "collection"
+        printf "%7s %12s %8s %16s %12s %16s\n", "row", "old vertices", "cells", "make, give up", "collection", "of the first"
+        few = order[1]
         for (k = 1; k <= sizes; k++) {
             s = order[k]
-            row(s, cells[s], best[s, 4], best[s, 5])
+            split(s, part, " ")
+            printf "%7s %12s %8s %16.2f %12.2f %8.2f %7.2f\n", part[1], part[2], cells[s], best[s, 5], best[s, 6], best[s, 5] / best[few, 5], best[s, 6] / best[few, 6]
         }
-        few = order[1]
-        if (sizes == 2) row("ratio", "", best[s, 4] / best[few, 4], best[s, 5] / best[few, 5])
     }'
