@@ -4,16 +4,16 @@ use Rattle.tg_graph.specs.Kept.{IsDeadAt}
 use Rattle.tg_graph.proofs.KeptDropped.{dead_numbered, dead_tagged}
 use Rattle.tg_graph.proofs.settle.dead_key.Goals as goal
 
-pub returns-then-cell-ne-OBJECT_TAG-clause-none : goal.returns-then-cell-ne-OBJECT_TAG-clause-none
-returns-then-cell-ne-OBJECT_TAG-clause-none c _ key is =
+pub returns-then-words-ne-OBJECT_TAG-clause-none : goal.returns-then-words-ne-OBJECT_TAG-clause-none
+returns-then-words-ne-OBJECT_TAG-clause-none c _ key is =
     let whole = table_list c.args.spaces.now c.requires.table in
     let tag = dead_tagged c.args.spaces.now.spaces whole c.args.forward.now.words c.args.number key is in
-    c.if-cell-ne-OBJECT_TAG.true (ap (λ (words : List ℕ). get_or words 0 0) c.numbered_cell-cell.ensures.words ∙ tag)
+    c.if-words-ne-OBJECT_TAG.true (ap (λ (words : List ℕ). get_or words 0 0) c.numbered_words-words.ensures.words ∙ tag)
 
 pub returns-clause-some : goal.returns-clause-some
 returns-clause-some c =
     let h = c.args.spaces.now.spaces in
     let whole = table_list c.args.spaces.now c.requires.table in
-    let tag = ap (λ (words : List ℕ). get_or words 0 0) (sym c.numbered_cell-cell.ensures.words) ∙ c.if-cell-ne-OBJECT_TAG.false in
-    subst (λ (words : List ℕ). IsDeadAt h c.args.forward.now.words c.args.number (get_or words 2 0)) (sym c.numbered_cell-cell.ensures.words)
+    let tag = ap (λ (words : List ℕ). get_or words 0 0) (sym c.numbered_words-words.ensures.words) ∙ c.if-words-ne-OBJECT_TAG.false in
+    subst (λ (words : List ℕ). IsDeadAt h c.args.forward.now.words c.args.number (get_or words 2 0)) (sym c.numbered_words-words.ensures.words)
     (dead_numbered h whole c.args.forward.now.words c.args.number c.requires.inside (sym c.word.ensures ∙ c.if-word-ne0.false) tag)
