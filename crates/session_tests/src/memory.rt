@@ -2,7 +2,7 @@
 ghost use Rattle.std.specs.Prelude.{◌≡◌, ◌+◌};
 ghost use Rattle.tg_shared.specs.Sessions.{start_of_store};
 
-use crate::opened::{draft, store_with};
+use crate::opened::{closed, draft, store_with};
 use std::alloc::Global;
 use std::marker::Brand;
 use std::sync::Wait;
@@ -11,7 +11,7 @@ use std::test::Fail;
 use tg_model::Command;
 use tg_payload::{CellPayload, Draft};
 use tg_rights::{Label, Right, Rights};
-use tg_shared::{Round, Session, Shared, SharedStore, close};
+use tg_shared::{Round, Session, Shared, SharedStore};
 use tg_store::Store;
 
 // Makes a vertex for the draft; where that is refused, it is tried once more with the draft that came back. How many
@@ -42,7 +42,7 @@ fn list_twice<L: Round, R: Wait>(
     u64::from(first).wrapping_add(u64::from(second))
 }
 
-// Lets the first session make a vertex and list. How many calls were answered, how many receipts it has, and how many
+// Lets the second session make a vertex and list. How many calls were answered, how many receipts it has, and how many
 // entries there are when the store is closed.
 fn answered<L: Round, R: Wait>(
     rt: &R,
@@ -54,18 +54,41 @@ fn answered<L: Round, R: Wait>(
     requires parts { (blank.parts ≡ L.parts) × (blank.parts ≡ store.opening.limit + 1) }
     requires start { start_of_store store ≡ L.start }
 {
-    let vertex = draft(alloc)?;
+    match SharedStore::<L, CellPayload>::new(alloc, blank, store) {
+        Ok(shared) => answered_of_shared(rt, alloc, shared),
+        Err(_) => None,
+    }
+}
+
+// Does so with a store that is shared.
+fn answered_of_shared<L: Round, R: Wait>(
+    rt: &R,
+    alloc: Global,
+    shared: Shared<L, CellPayload>,
+) -> Option<(u64, u64, u64)> {
     let Shared {
         store,
         mut sessions,
-    } = SharedStore::<L, CellPayload>::new(alloc, blank, store).ok()?;
+    } = shared;
+    let (calls, receipts) = answered_to_second(rt, alloc, &store, &mut sessions)?;
+    let store = closed(store, sessions)?;
+    Some((calls, receipts, store.journal().len()))
+}
+
+// Takes the second session, and puts it back once it has made a vertex and listed.
+fn answered_to_second<L: Round, R: Wait>(
+    rt: &R,
+    alloc: Global,
+    store: &SharedStore<L, CellPayload>,
+    sessions: &mut Vec<Session<L>>,
+) -> Option<(u64, u64)> {
+    let vertex = draft(alloc)?;
     let mut second = sessions.pop()?;
-    let made = create_at_last(rt, &store, &mut second, vertex)?;
-    let calls = made.wrapping_add(list_twice(rt, &store, &mut second));
+    let made = create_at_last(rt, store, &mut second, vertex)?;
+    let calls = made.wrapping_add(list_twice(rt, store, &mut second));
     let receipts = second.receipts().len() as u64;
     sessions.push(second).ok()?;
-    let store = close(store, sessions).ok()?;
-    Some((calls, receipts, store.journal().len()))
+    Some((calls, receipts))
 }
 
 // What is seen of a store of two workers: as many receipts and entries as calls that were answered.

@@ -4,6 +4,7 @@ use std::alloc::Global;
 use tg_model::{Edge, Law, Numbers, Opening, Value};
 use tg_payload::{CellPayload, Draft};
 use tg_rights::{Label, Rights};
+use tg_shared::{Round, Session, SharedStore, close};
 use tg_store::{Limits, Store};
 
 // A cell with 0.
@@ -43,4 +44,12 @@ pub(crate) fn store_with(alloc: Global, letters: &str) -> Option<Store<CellPaylo
     drafts.push(draft(alloc)?).ok()?;
     let limits = Limits::new(64, 16).ok()?;
     Store::open(alloc, opening_with(alloc, letters)?, limits, drafts).ok()
+}
+
+/// The store, once it is closed with all of its sessions.
+pub(crate) fn closed<L: Round>(
+    store: SharedStore<L, CellPayload>,
+    sessions: Vec<Session<L>>,
+) -> Option<Store<CellPayload>> {
+    close(store, sessions).ok()
 }

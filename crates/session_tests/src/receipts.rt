@@ -2,7 +2,7 @@
 ghost use Rattle.std.specs.Prelude.{◌≡◌, ◌+◌};
 ghost use Rattle.tg_shared.specs.Sessions.{start_of_store};
 
-use crate::opened::store_with;
+use crate::opened::{closed, store_with};
 use std::alloc::Global;
 use std::marker::Brand;
 use std::sync::Wait;
@@ -75,25 +75,58 @@ fn closed_twice<L: Round, R: Wait>(
     requires parts { (blank.parts ≡ L.parts) × (blank.parts ≡ store.opening.limit + 1) }
     requires start { start_of_store store ≡ L.start }
 {
+    match SharedStore::<L, CellPayload>::new(alloc, blank, store) {
+        Ok(shared) => seen_of_shared(rt, alloc, shared),
+        Err(_) => None,
+    }
+}
+
+// Lets the second session write and read, and then closes twice.
+fn seen_of_shared<L: Round, R: Wait>(
+    rt: &R,
+    alloc: Global,
+    shared: Shared<L, CellPayload>,
+) -> Option<(CloseFault, bool, bool)> {
     let Shared {
         store,
         mut sessions,
-    } = SharedStore::<L, CellPayload>::new(alloc, blank, store).ok()?;
+    } = shared;
     let mut second = sessions.pop()?;
     write_and_read(rt, &store, &mut second)?;
     let (plain, altered) = plain_and_altered(alloc, second.receipts())?;
+    close_twice(store, sessions, second, &plain, &altered)
+}
+
+// Closes without the second session, and then with it.
+fn close_twice<L: Round>(
+    store: SharedStore<L, CellPayload>,
+    sessions: Vec<Session<L>>,
+    second: Session<L>,
+    plain: &[Receipt],
+    altered: &[Receipt],
+) -> Option<(CloseFault, bool, bool)> {
     let CloseRefused {
         store,
         mut sessions,
         why,
     } = close(store, sessions).err()?;
     sessions.push(second).ok()?;
-    let store = close(store, sessions).ok()?;
+    let (is_plain, is_altered) = matches_of(store, sessions, plain, altered)?;
+    Some((why, is_plain, is_altered))
+}
+
+// Closes with all sessions, and matches receipts of the second worker with the journal.
+fn matches_of<L: Round>(
+    store: SharedStore<L, CellPayload>,
+    sessions: Vec<Session<L>>,
+    plain: &[Receipt],
+    altered: &[Receipt],
+) -> Option<(bool, bool)> {
+    let store = closed(store, sessions)?;
     let journal = store.journal();
     Some((
-        why,
-        receipts_match(journal, 1, &plain),
-        receipts_match(journal, 1, &altered),
+        receipts_match(journal, 1, plain),
+        receipts_match(journal, 1, altered),
     ))
 }
 

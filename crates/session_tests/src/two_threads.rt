@@ -2,7 +2,7 @@
 ghost use Rattle.std.specs.Prelude.{◌≡◌, ◌+◌};
 ghost use Rattle.tg_shared.specs.Sessions.{start_of_store};
 
-use crate::opened::{opening_with, store_with};
+use crate::opened::{closed, opening_with, store_with};
 use std::alloc::Global;
 use std::marker::Brand;
 use std::sync::Wait;
@@ -12,7 +12,7 @@ use std::thread::{Threads, join};
 use tg_journal::{AuditFault, audit};
 use tg_model::{Command, Reply};
 use tg_payload::CellPayload;
-use tg_shared::{Round, Session, Shared, SharedStore, close};
+use tg_shared::{Round, Session, Shared, SharedStore};
 use tg_store::{Kind, Store};
 
 // Whether the session may write the value to the target.
@@ -73,21 +73,52 @@ fn work_on_threads<L: Round + Send + Sync, R: Threads + Wait + Sync>(
     requires parts { (blank.parts ≡ L.parts) × (blank.parts ≡ store.opening.limit + 1) }
     requires start { start_of_store store ≡ L.start }
 {
+    match SharedStore::<L, CellPayload>::new(alloc, blank, store) {
+        Ok(shared) => work_and_close(rt, shared),
+        Err(_) => None,
+    }
+}
+
+// Does so with a store that is shared.
+fn work_and_close<L: Round + Send + Sync, R: Threads + Wait + Sync>(
+    rt: &R,
+    shared: Shared<L, CellPayload>,
+) -> Option<(Store<CellPayload>, u64, u64)> {
     let Shared {
         store,
         mut sessions,
-    } = SharedStore::<L, CellPayload>::new(alloc, blank, store).ok()?;
+    } = shared;
+    let (good, others) = work_by_both(rt, &store, &mut sessions)?;
+    let store = closed(store, sessions)?;
+    Some((store, good, others))
+}
+
+// Takes both sessions, and puts them back once they have worked.
+fn work_by_both<L: Round + Send + Sync, R: Threads + Wait + Sync>(
+    rt: &R,
+    store: &SharedStore<L, CellPayload>,
+    sessions: &mut Vec<Session<L>>,
+) -> Option<(u64, u64)> {
     let second = sessions.pop()?;
     let first = sessions.pop()?;
-    let shared = &store;
-    let ((first, good), (second, others)) = join(
-        rt,
-        move || work(rt, shared, first),
-        move || work(rt, shared, second),
-    );
+    let ((first, good), (second, others)) = work_at_once(rt, store, first, second);
     sessions.push(first).ok()?;
     sessions.push(second).ok()?;
-    Some((close(store, sessions).ok()?, good, others))
+    Some((good, others))
+}
+
+// Lets each session work on a thread.
+fn work_at_once<L: Round + Send + Sync, R: Threads + Wait + Sync>(
+    rt: &R,
+    store: &SharedStore<L, CellPayload>,
+    first: Session<L>,
+    second: Session<L>,
+) -> ((Session<L>, u64), (Session<L>, u64)) {
+    join(
+        rt,
+        move || work(rt, store, first),
+        move || work(rt, store, second),
+    )
 }
 
 // What is seen of a store whose workers have these rights over one another: how many calls of each were answered as they
@@ -97,12 +128,30 @@ fn seen_with<R: Threads + Wait + Sync>(
     alloc: Global,
     letters: &str,
 ) -> Option<(u64, u64, u64, Result<(), AuditFault>)> {
-    let kept = opening_with(alloc, "rw")?;
+    let (store, good, others) = worked_with(rt, alloc, letters)?;
+    Some((
+        good,
+        others,
+        store.journal().len(),
+        audit_of(alloc, &store)?,
+    ))
+}
+
+// Such a store once both have worked.
+fn worked_with<R: Threads + Wait + Sync>(
+    rt: &R,
+    alloc: Global,
+    letters: &str,
+) -> Option<(Store<CellPayload>, u64, u64)> {
     let store = store_with(alloc, letters)?;
     let blank = Blank::new(store.opening().max_vertices().checked_add(1)?);
-    let (store, good, others) = work_on_threads::<Brand, R>(rt, alloc, blank, store)?;
-    let outcome = audit(alloc, &kept, store.journal().entries());
-    Some((good, others, store.journal().len(), outcome))
+    work_on_threads::<Brand, R>(rt, alloc, blank, store)
+}
+
+// What an audit finds that starts from the opening with rw.
+fn audit_of(alloc: Global, store: &Store<CellPayload>) -> Option<Result<(), AuditFault>> {
+    let kept = opening_with(alloc, "rw")?;
+    Some(audit(alloc, &kept, store.journal().entries()))
 }
 
 #[test]

@@ -1,5 +1,5 @@
 use Rattle.tg_shared.specs.Sessions.{start_of_store}
-use Rattle.session_tests.proofs.two_threads.seen_with.Given as goal
+use Rattle.session_tests.proofs.two_threads.worked_with.Given as goal
 
 abbrev pub ghosts-work_on_threads-L-Ledger : goal.ghosts-work_on_threads-L-Ledger
 ghosts-work_on_threads-L-Ledger g a = record { name = a.blank.name; parts = a.blank.parts }
