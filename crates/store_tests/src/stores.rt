@@ -539,10 +539,10 @@ fn draw(seed: &mut u64) -> u64 {
     *seed >> 33
 }
 
-// Some command by way of one of the first eight vertices, over one whose name has no bits but those of the mask.
-fn some_command(seed: &mut u64, mask: u64) -> Option<Command> {
+// Some command over the first eight vertices.
+fn some_command(seed: &mut u64) -> Option<Command> {
     let via = draw(seed) % 8;
-    let target = draw(seed) & mask;
+    let target = draw(seed) % 8;
     let rights = Label::new(Rights::from_bits((draw(seed) % 16) as u8)?)?;
     Some(match draw(seed) % 6 {
         0 => Command::Take {
@@ -576,12 +576,7 @@ fn create_with_all(alloc: Global, store: &mut Store<CellPayload>, worker: u64) -
 }
 
 // Collects, or makes a vertex, or lets a worker command something.
-fn take_step(
-    alloc: Global,
-    store: &mut Store<CellPayload>,
-    mask: u64,
-    seed: &mut u64,
-) -> Option<()> {
+fn take_step(alloc: Global, store: &mut Store<CellPayload>, seed: &mut u64) -> Option<()> {
     let worker = draw(seed) % 2;
     match draw(seed) % 12 {
         0 => {
@@ -592,7 +587,7 @@ fn take_step(
         }
         3 => create_with_all(alloc, store, worker)?,
         _ => {
-            if let Some(some) = some_command(seed, mask) {
+            if let Some(some) = some_command(seed) {
                 command(store, worker, some)?;
             }
         }
@@ -605,11 +600,10 @@ fn take_steps(
     alloc: Global,
     store: &mut Store<CellPayload>,
     steps: u64,
-    mask: u64,
     seed: &mut u64,
 ) -> Option<()> {
     for _ in 0..steps {
-        take_step(alloc, store, mask, seed)?;
+        take_step(alloc, store, seed)?;
     }
     Some(())
 }
@@ -619,10 +613,9 @@ fn audit_after_steps(
     alloc: Global,
     store: &mut Store<CellPayload>,
     steps: u64,
-    mask: u64,
     seed: &mut u64,
 ) -> Option<Result<(), AuditFault>> {
-    take_steps(alloc, store, steps, mask, seed)?;
+    take_steps(alloc, store, steps, seed)?;
     Some(audit_of(alloc, store))
 }
 
@@ -634,7 +627,7 @@ fn open_large(alloc: Global) -> Option<Store<CellPayload>> {
 // What the audit finds in the journal of such a store after 400 steps.
 fn audit_of_steps(alloc: Global, seed: &mut u64) -> Option<Result<(), AuditFault>> {
     let mut store = open_large(alloc)?;
-    audit_after_steps(alloc, &mut store, 400, 7, seed)
+    audit_after_steps(alloc, &mut store, 400, seed)
 }
 
 // The audit replays the journal on the plain graph, which no collection enters.
@@ -644,28 +637,6 @@ fn random_commands_between_collections(rt: HostRuntime) -> Result<(), Fail> {
     let mut seed = 1;
     for _ in 0..20 {
         let outcome = audit_of_steps(alloc, &mut seed).ok_or("a refusal")?;
-        assert_eq!(rt; outcome, Ok(()));
-    }
-    Ok(())
-}
-
-// What the audit finds in the journal of such a store after 400 steps over 64 vertices, which worker 0 makes first.
-fn audit_of_long_rows(alloc: Global, seed: &mut u64) -> Option<Result<(), AuditFault>> {
-    let mut store = open_large(alloc)?;
-    for _ in 0..64 {
-        create_with_all(alloc, &mut store, 0)?;
-    }
-    audit_after_steps(alloc, &mut store, 400, 63, seed)
-}
-
-// Rows of more than four cells, where a command looks into the index of the row, and a list walks along it. The plain graph
-// that the audit replays says what both have to find, before a collection and after it.
-#[test]
-fn random_commands_on_long_rows(rt: HostRuntime) -> Result<(), Fail> {
-    let alloc = rt.alloc();
-    let mut seed = 7;
-    for _ in 0..10 {
-        let outcome = audit_of_long_rows(alloc, &mut seed).ok_or("a refusal")?;
         assert_eq!(rt; outcome, Ok(()));
     }
     Ok(())
