@@ -36,9 +36,9 @@
 //! collection has all its copies in Old, and looks for none.
 //!
 //! So each live cell that is moved is read once and written once, and of the others only remembered cells and the cells of
-//! rows are looked at. A collection takes the new blocks, a word for each cell of from-space, a list of two words for each
-//! cell that is moved, and the notes; nothing grows with the number of references, and nothing of a nursery collection with
-//! the cells that Old has.
+//! rows are looked at. A collection takes the new blocks, a word for each cell of from-space, the list of won cells, two
+//! words for each with room for all of from-space, and the notes; nothing grows with the number of references, and nothing
+//! of a nursery collection with the cells that Old has.
 //!
 //! **Who may call.** The store calls [`collect_one`] with the rows of the heap's workers as roots, and for a nursery
 //! collection with its remembered cells, and hands what it gets to the heap's graph, which settles there. It may use that
