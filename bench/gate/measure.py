@@ -1,8 +1,9 @@
 #!/usr/bin/env python3
 """measure.py whole [LOG]                      what each crate takes of a whole `rt ci`
 measure.py everyday [CRATE FILE FUNCTION]   how long a changed body is on its way to green
+measure.py functions CRATE                  which functions the last check of a crate from nothing took longest for
 
-Both run at the top of the repository that the script stands in, and print Markdown.
+All run at the top of the repository that the script stands in, and print Markdown.
 
 `whole` runs the gate once, from nothing, and writes what it says to LOG (out.txt in a temporary folder unless it is
 given). The total is the processor time of the gate and of all that it started, as the kernel counts it once they have
@@ -12,6 +13,10 @@ took more than 15 seconds of processor time, and its status is that of the gate.
 `everyday` puts a statement that does nothing in front of one body (`find_edge` in `src/heap.rt` of `tg_graph`, unless it
 is told otherwise), runs `rt check` there and in each crate above, with the tests where it has any, puts the file back and
 checks again. A round before these two isn't counted.
+
+`functions` checks nothing: it reads when each module of `out/incremental` was written. What stands between one and the
+one before it is the time of that module, by the clock; the part `Lts` of a function is what it owns and borrows at each
+of its points. It says nothing of a folder that more than one check wrote to.
 
 Other work on the machine moves all of it: the load is printed beside the figures."""
 import os
@@ -255,11 +260,34 @@ def everyday(crate, file, function):
     return 0
 
 
+def functions(crate):
+    """Prints the dearest functions of a crate, each with its dearest module."""
+    written = []
+    for at, _, files in os.walk(f"{TOP}/crates/{crate}/out/incremental"):
+        if os.path.basename(at) != "records":
+            written += [(os.stat(f"{at}/{it}").st_mtime, it[:-6]) for it in files if it.endswith(".oantt")]
+    written.sort()
+    spent = {}
+    for (before, _), (after, module) in zip(written, written[1:]):
+        path = module.removeprefix(f"Rattle-{crate}-proofs.")
+        function, _, part = path.rpartition(".")
+        spent.setdefault(function or "(what stands in no function)", []).append((after - before, part))
+    if not spent:
+        sys.exit(f"{crate} has no kept work: rt check writes it")
+    print("| Function | seconds | its dearest part |\n|---|---|---|")
+    for function, parts in sorted(spent.items(), key=lambda it: -sum(seconds for seconds, _ in it[1]))[:20]:
+        seconds, part = max(parts)
+        print(f"| `{function}` | {sum(it for it, _ in parts):.1f} | {part} {seconds:.1f} |")
+    return 0
+
+
 def main(words):
     if words[:1] == ["whole"] and len(words) <= 2:
         return whole(words[1] if len(words) == 2 else os.path.join(tempfile.mkdtemp(), "out.txt"))
     if words[:1] == ["everyday"] and len(words) in (1, 4):
         return everyday(*(words[1:] or ["tg_graph", "src/heap.rt", "find_edge"]))
+    if words[:1] == ["functions"] and len(words) == 2:
+        return functions(words[1])
     print(__doc__, file=sys.stderr)
     return 2
 

@@ -94,7 +94,7 @@ fn answered_to_second<L: Round, R: Wait>(
 // What is seen of a store of two workers: as many receipts and entries as calls that were answered.
 fn seen_of_two<R: Wait>(rt: &R, alloc: Global) -> Option<(u64, u64, u64)> {
     let store = store_with(alloc, "rw")?;
-    let blank = Blank::new(store.opening().max_vertices().checked_add(1)?);
+    let blank = Blank::new(store.opening().max_vertices() + 1);
     answered::<Brand, R>(rt, alloc, blank, store)
 }
 

@@ -133,7 +133,7 @@ fn matches_of<L: Round>(
 // What is seen of a store of two workers.
 fn seen_of_two<R: Wait>(rt: &R, alloc: Global) -> Option<(CloseFault, bool, bool)> {
     let store = store_with(alloc, "rw")?;
-    let blank = Blank::new(store.opening().max_vertices().checked_add(1)?);
+    let blank = Blank::new(store.opening().max_vertices() + 1);
     closed_twice::<Brand, R>(rt, alloc, blank, store)
 }
 

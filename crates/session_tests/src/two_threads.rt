@@ -129,12 +129,7 @@ fn seen_with<R: Threads + Wait + Sync>(
     letters: &str,
 ) -> Option<(u64, u64, u64, Result<(), AuditFault>)> {
     let (store, good, others) = worked_with(rt, alloc, letters)?;
-    Some((
-        good,
-        others,
-        store.journal().len(),
-        audit_of(alloc, &store)?,
-    ))
+    seen_of(alloc, &store, good, others)
 }
 
 // Such a store once both have worked.
@@ -144,14 +139,21 @@ fn worked_with<R: Threads + Wait + Sync>(
     letters: &str,
 ) -> Option<(Store<CellPayload>, u64, u64)> {
     let store = store_with(alloc, letters)?;
-    let blank = Blank::new(store.opening().max_vertices().checked_add(1)?);
+    let blank = Blank::new(store.opening().max_vertices() + 1);
     work_on_threads::<Brand, R>(rt, alloc, blank, store)
 }
 
-// What an audit finds that starts from the opening with rw.
-fn audit_of(alloc: Global, store: &Store<CellPayload>) -> Option<Result<(), AuditFault>> {
+// This, once the calls are counted.
+fn seen_of(
+    alloc: Global,
+    store: &Store<CellPayload>,
+    good: u64,
+    others: u64,
+) -> Option<(u64, u64, u64, Result<(), AuditFault>)> {
     let kept = opening_with(alloc, "rw")?;
-    Some(audit(alloc, &kept, store.journal().entries()))
+    let journal = store.journal();
+    let outcome = audit(alloc, &kept, journal.entries());
+    Some((good, others, journal.len(), outcome))
 }
 
 #[test]
