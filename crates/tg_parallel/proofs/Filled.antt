@@ -64,7 +64,7 @@ rising_push xs n rising all i j lt low =
     let r : get_or xs i 0 < n = all i 0 (omega arith) in omega arith)
     (cases_lt j (length xs))
 
-has_index : (xs : List ℕ) (i : ℕ) → i < length xs → has (get_or xs i 0) xs ≡ true
+pub has_index : (xs : List ℕ) (i : ℕ) → i < length xs → has (get_or xs i 0) xs ≡ true
 has_index xs i low = any_at (λ (y : ℕ). y == get_or xs i 0) xs i 0 low (eq-eqb (get_or xs i 0) (get_or xs i 0) refl)
 
 -- ---- when a block may be claimed, and a place be given away

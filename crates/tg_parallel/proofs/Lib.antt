@@ -8,4 +8,4 @@ pub mod Merging
 pub mod Filled
 pub mod Seating
 pub mod Working
-pub mod Numbering
+pub mod Handing

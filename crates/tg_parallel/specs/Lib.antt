@@ -3,5 +3,4 @@ pub mod Seats
 pub mod Helping
 pub mod Merged
 pub mod Whole
-pub mod Numbering
 pub mod Faults

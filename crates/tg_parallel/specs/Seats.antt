@@ -3,6 +3,7 @@ use Rattle.std.specs.Prelude.{◌≡◌, ◌≢◌, ℕ, ◌+◌, ◌*◌, ◌/�
 use Rattle.std.specs.List.{All, AllPairs, Contains, filter}
 use Rattle.tg_word.specs.declared.Place.{Place}
 use Rattle.tg_word.specs.Word.{IsPlace}
+use Rattle.tg_block.specs.Cells.{cell_of, free_cell}
 use Rattle.tg_space.specs.SpaceList.{SpaceList}
 use Rattle.tg_space.specs.Targets.{from_space, all_root_targets}
 use Rattle.tg_space.specs.declared.spaces.Kind.{Kind}
@@ -15,7 +16,7 @@ use Rattle.tg_race.specs.Words.{space_of}
 use Rattle.tg_evac.specs.declared.win.Win.{Win}
 use Rattle.tg_evac.specs.Claimers.{AreScanned, Walked}
 use Rattle.tg_parallel.specs.declared.own_blocks.OwnBlocks.{OwnBlocks}
-use Rattle.tg_parallel.specs.Parts.{HasPlaces, cells_met, roots_in, wins_of}
+use Rattle.tg_parallel.specs.Parts.{HasPlaces, Numbered, cells_met, numbers_of, roots_in, wins_of}
 
 -- ---- a helper's own blocks of one space
 
@@ -130,3 +131,14 @@ pub record HasCopied (kind : Kind) (h : SpaceList) (roots : List Root) (chunks :
   pub met : All (Contains (cells_met s.done)) (all_root_targets (from_space kind) h (roots_in roots chunks))
   pub all : scanned ≡ length s.done.won
   pub copies : AreScanned h (walked_at s) (HasPlaces s.done) scanned aged old
+
+-- ---- what is handed over
+
+-- the block at a number
+abbrev pub block_at : Numbered → ℕ → List (List ℕ)
+block_at blocks i = (slice_index_or blocks i (0, [])).1
+
+-- The cells stand in these blocks, one block after the other, and free ones behind the last. Each block has its number.
+pub record AreLaidOut (cells : List (List ℕ)) (numbers : List ℕ) (blocks : Numbered) : Type 0 where
+  pub numbered : numbers_of blocks ≡ numbers
+  pub stand : (i j : ℕ) → i < length numbers → j < 64 → cell_of (block_at blocks i) j ≡ slice_index_or cells (64 * i + j) free_cell

@@ -1,16 +1,23 @@
 //! One helper of a collection.
-ghost use Rattle.std.specs.Prelude.{◌≡◌};
+ghost use Rattle.std.specs.Prelude.{◌≡◌, ◌<◌, ◌≤◌, ◌^◌, ◌⊎◌, ℕ, All, Contains, IfErr, IfOk, OnOk, drop, length, nat_lt, slice_index_or};
+ghost use Rattle.std.specs.List.{list_all};
+ghost use Rattle.std.specs.Vec.Iter.{into_iter_items};
+ghost use Rattle.tg_block.specs.Cells.{free_block};
 ghost use Rattle.tg_space.specs.Soundness.{AreSound};
 ghost use Rattle.tg_race.specs.Race.{empty};
-ghost use Rattle.tg_parallel.specs.Parts.{AreCountsOf};
+ghost use Rattle.tg_parallel.specs.Parts.{AreCountsOf, numbers_of};
 ghost use Rattle.tg_parallel.specs.Helping.{IsHelped};
+ghost use Rattle.tg_parallel.specs.Seats.{AreLaidOut, block_at};
 
 use crate::gate::Gate;
-use std::alloc::Global;
+use crate::seat::Seat;
+use crate::work::work;
+use std::alloc::{AllocError, Global};
+use std::vec::IntoIter;
 use tg_block::Block;
-use tg_evac::CollectFault;
+use tg_evac::{CollectFault, Copies};
 use tg_race::{Helper, RaceTable};
-use tg_space::{Kind, Root, Spaces};
+use tg_space::{Kind, Root, Space, Spaces};
 
 /// What a helper has copied: its blocks, each with its number.
 #[derive(Drop)]
@@ -30,8 +37,81 @@ pub struct Helped {
     pub part: Result<Part, CollectFault>,
 }
 
+impl Part {
+    /// The part of a helper that has made these copies, with the numbers of the blocks that it has claimed.
+    ///
+    /// It is refused with `HeapFull` where a number is past the limit, and with `OutOfMemory` where memory was refused.
+    pub fn of(
+        alloc: Global,
+        copies: Copies,
+        aged: &[u64],
+        old: &[u64],
+        limit: u64,
+    ) -> Result<Part, CollectFault>
+        requires aged_room { length copies.aged ≤ 2 ^ 26 }
+        requires old_room { length copies.old ≤ 2 ^ 26 }
+        ensures aged { IfOk result (λ part. AreLaidOut copies.aged aged.now part.aged.items) }
+        ensures old { IfOk result (λ part. AreLaidOut copies.old old.now part.old.items) }
+        ensures aged_few { OnOk result (All (λ b. b < limit) aged.now) }
+        ensures old_few { OnOk result (All (λ b. b < limit) old.now) }
+        ensures full { IfErr result (λ fault. fault ≡ CollectFault.HeapFull → (b : ℕ) × (Contains aged.now b ⊎ Contains old.now b) × (limit ≤ b)) }
+    {
+        if !are_below(aged, limit) {
+            return Err(CollectFault::HeapFull);
+        }
+        if !are_below(old, limit) {
+            return Err(CollectFault::HeapFull);
+        }
+        let blocks = copies.finish()?;
+        Ok(Part {
+            aged: laid_out(alloc, aged, blocks.aged)?,
+            old: laid_out(alloc, old, blocks.old)?,
+        })
+    }
+}
+
+// Whether all numbers are below the limit.
+fn are_below(numbers: &[u64], limit: u64) -> bool
+    ensures { result ≡ list_all (λ b. nat_lt b limit) numbers.now }
+{
+    numbers.iter().all(|number| *number < limit)
+}
+
+// As many of these blocks as there are numbers, each with its number, and free ones behind the last.
+fn laid_out(
+    alloc: Global,
+    numbers: &[u64],
+    blocks: Space,
+) -> Result<Vec<(u64, Block)>, AllocError>
+    ensures numbered { IfOk result (λ laid. numbers_of laid.items ≡ numbers.now) }
+    ensures each { IfOk result (λ laid. (i : ℕ) → i < length numbers.now → block_at laid.items i ≡ slice_index_or blocks i free_block) }
+{
+    let mut blocks = blocks.into_blocks().into_iter();
+    let mut laid = Vec::with_capacity(alloc, numbers.len())?;
+    for number in numbers {
+        let block = next_block(alloc, &mut blocks)?;
+        laid.push((*number, block))?;
+    }
+    Ok(laid)
+}
+
+// The next of these blocks, and a free one where there is none.
+fn next_block(alloc: Global, blocks: &mut IntoIter<Block>) -> Result<Block, AllocError>
+    ensures block { IfOk result (λ block. block ≡ slice_index_or (into_iter_items blocks.old) 0 free_block) }
+    ensures rest { OnOk result (into_iter_items blocks.new ≡ drop 1 (into_iter_items blocks.old)) }
+{
+    match blocks.next() {
+        Some(block) => Ok(block),
+        None => Block::new(alloc),
+    }
+}
+
 /// Claims roots until there are none left, wins the cells that they lead to and that no other helper has won, and copies
-/// each to its place. No call of it waits, but that of the gate may.
+/// each to its place: one of several that collect together, as the collectors of Halstead's Multilisp do. No call of it
+/// waits, but that of the gate may.
+///
+/// The record of the helper tells what it has won and seen, and its part has the copies of what it has won. A helper that
+/// is refused memory, or room, says so and leaves what it has claimed claimed: the collection is then refused.
 pub fn help<G: Gate>(
     alloc: Global,
     table: &RaceTable,
@@ -48,8 +128,18 @@ pub fn help<G: Gate>(
     requires fresh { helper.done ≡ empty 1 }
     ensures { IsHelped kind spaces.now roots.now table.now 1 result }
 {
-    Helped {
-        helper,
-        part: Err(CollectFault::OutOfMemory),
+    let limit = spaces.limits().space_blocks();
+    let mut seat = Seat::new(alloc, table, helper, kind, limit);
+    let worked = work(alloc, &mut seat, number, spaces, roots, kind, gate);
+    let (helper, aged, old) = seat.into_parts();
+    match worked {
+        Ok(copies) => Helped {
+            helper,
+            part: Part::of(alloc, copies, &aged, &old, limit),
+        },
+        Err(fault) => Helped {
+            helper,
+            part: Err(fault),
+        },
     }
 }

@@ -1,5 +1,5 @@
 //! A helper at its seat, which claims cells at the table that it shares with others.
-ghost use Rattle.std.specs.Prelude.{◌≡◌, ℕ, ◌<◌, ◌≤◌, ◌^◌, false, All, Contains, IfErr, IfOk, IsTrue, OnOk, length};
+ghost use Rattle.std.specs.Prelude.{◌≡◌, ℕ, ◌<◌, ◌≤◌, ◌^◌, false, true, All, Contains, IfErr, IfOk, IsTrue, OnOk, length};
 ghost use Rattle.tg_word.specs.declared.Place.{Place as PlaceOf};
 ghost use Rattle.tg_word.specs.Word.{IsPlace, place_in};
 ghost use Rattle.tg_race.specs.Course.{has_met};
@@ -8,7 +8,7 @@ ghost use Rattle.tg_race.specs.Race.{empty, with_chunk};
 ghost use Rattle.tg_evac.specs.Claims.{IsWinFor, win_at, won_in};
 ghost use Rattle.tg_evac.specs.Claimers.{AddsWins, KnowsMore};
 ghost use Rattle.tg_parallel.specs.Parts.{HasClaimedPast, HasPlaces, cells_met, wins_of};
-ghost use Rattle.tg_parallel.specs.Seats.{walked_at};
+ghost use Rattle.tg_parallel.specs.Seats.{AreFilled, walked_at};
 
 use crate::links::word_to;
 use crate::own_blocks::OwnBlocks;
@@ -67,6 +67,20 @@ impl<'a> Seat<'a> {
         ensures fresh { All (λ c. c < result) self.entry.now.done.chunks }
     {
         self.winner.claim_roots(self.table)
+    }
+
+    /// The helper, and the numbers of its blocks of Aged and of Old, in the order in which they were claimed.
+    pub fn into_parts(self) -> (Helper, Vec<u64>, Vec<u64>)
+        ensures seat { result.0.table ≡ self.entry.board.table }
+        ensures done { result.0.done ≡ self.entry.done }
+        ensures places { All (λ q. IsPlace q.1 × (q.1.space < 2)) self.entry.done.won }
+        ensures aged { (used : ℕ) × AreFilled true self.entry.done result.1.items used }
+        ensures old { (used : ℕ) × AreFilled false self.entry.done result.2.items used }
+    {
+        let Seat {
+            winner, aged, old, ..
+        } = self;
+        (winner.into_helper(), aged.numbers, old.numbers)
     }
 
     // How many cells were won.

@@ -125,10 +125,9 @@ impl Space {
         self.push(Block::new(alloc)?)
     }
 
-    /// The blocks, in order. No block is copied.
+    /// The blocks, in order.
     pub fn into_blocks(self) -> Vec<Block>
-        ensures blocks { result.items ≡ self }
-        ensures few { length result.items ≤ 2 ^ 20 }
+        ensures { result.items ≡ self }
     {
         self.blocks
     }

@@ -108,7 +108,8 @@ impl Spaces {
 
     /// How many blocks the heap may have.
     pub fn limits(&self) -> Limits
-        ensures { result ≡ self.now.limits }
+        ensures limits { result ≡ self.now.limits }
+        ensures table { IsSpaceTable self.now }
     {
         self.limits
     }

@@ -1,0 +1,53 @@
+use Rattle.std.proofs.Common.{◌≡◌, ◌<◌, ◌≤◌, List, ℕ, true, false, length, inl, inr, ap, sym, subst, ◌∙◌}
+use Rattle.std.specs.List.{All}
+use Rattle.tg_space.specs.SpaceTable.{BlockLimits}
+use Rattle.tg_space.proofs.Tables.{table_list}
+use Rattle.tg_race.specs.declared.record.Record.{Record}
+use Rattle.tg_race.specs.Race.{past}
+use Rattle.tg_race.specs.Seats.{Board}
+use Rattle.tg_evac.proofs.Sound.{have_pointers}
+use Rattle.tg_parallel.specs.Parts.{AreEarned, HasClaimedPast, IsPart}
+use Rattle.tg_parallel.specs.Seats.{AreFilled, AreLaidOut, Sitting}
+use Rattle.tg_parallel.proofs.Handing.{aged_room, err_weaker, is_part, ok_always, old_room, parts_are, past_limit}
+use Rattle.tg_parallel.proofs.part.help.Goals as goal
+
+pub work-worked-requires-clause-pointers : goal.work-worked-requires-clause-pointers
+work-worked-requires-clause-pointers g c = λ _ _. have_pointers c.args.spaces.now.spaces c.args.roots.now c.requires.sound (table_list c.args.spaces.now c.limits.ensures.table)
+
+pub of-requires-clause-aged_room : goal.of-requires-clause-aged_room
+of-requires-clause-aged_room g c =
+    let s = c.work-worked.new.seat in let e = c.into_parts-helper.ensures in
+    let kind = c.in-Ok.ensures.same.kind ∙ ap (λ (x : Sitting). x.kind) c.new-seat.ensures in
+    aged_room c.args.kind c.args.spaces.now c.args.roots.now s kind e.places c.in-Ok.ensures.copied c.into_parts-helper.result.1.items c.into_parts-helper.result.2.items e.aged.0 e.old.0 e.aged.1 e.old.1
+
+pub of-requires-clause-old_room : goal.of-requires-clause-old_room
+of-requires-clause-old_room g c =
+    let s = c.work-worked.new.seat in let e = c.into_parts-helper.ensures in
+    let kind = c.in-Ok.ensures.same.kind ∙ ap (λ (x : Sitting). x.kind) c.new-seat.ensures in
+    old_room c.args.kind c.args.spaces.now c.args.roots.now s kind e.places c.in-Ok.ensures.copied c.into_parts-helper.result.1.items c.into_parts-helper.result.2.items e.aged.0 e.old.0 e.aged.1 e.old.1
+
+pub returns-in-Ok : goal.returns-in-Ok
+returns-in-Ok g c =
+    let s = c.work-worked.new.seat in let e = c.into_parts-helper.ensures in
+    let t = c.args.spaces.now in let h = t.spaces in let roots = c.args.roots.now in let kind = c.args.kind in
+    let same_kind : s.kind ≡ kind = c.in-Ok.ensures.same.kind ∙ ap (λ (x : Sitting). x.kind) c.new-seat.ensures in
+    let board : s.board ≡ c.args.table.now = c.in-Ok.ensures.same.board ∙ ap (λ (x : Sitting). x.board) c.new-seat.ensures in
+    let limit : c.space_blocks-limit.result ≡ t.limits.space_blocks = c.space_blocks-limit.ensures.value ∙ ap (λ (l : BlockLimits). l.space_blocks) c.limits.ensures.limits in
+    let aged = c.deref.result.now in let old = c.deref-in-Ok.result.now in
+    let in_aged : AreFilled true s.done aged e.aged.0 = subst (λ (l : List ℕ). AreFilled true s.done l e.aged.0) (sym c.deref.ensures.value) e.aged.1 in
+    let in_old : AreFilled false s.done old e.old.0 = subst (λ (l : List ℕ). AreFilled false s.done l e.old.0) (sym c.deref-in-Ok.ensures.value) e.old.1 in
+    record {
+      seat = e.seat ∙ ap (λ (b : Board). b.table) board;
+      share = ap (λ (v : Record). v.share) e.done ∙ c.in-Ok.ensures.same.share ∙ ap (λ (x : Sitting). x.done.share) c.new-seat.ensures ∙ ap (λ (v : Record). v.share) c.requires.fresh;
+      earned = subst (λ (v : Record). AreEarned kind h roots v) (sym e.done) c.in-Ok.ensures.earned;
+      last = ok_always c.of.result (subst (λ (v : Record). 0 < past c.args.table.now.counts v) (sym e.done) (subst (λ (b : Board). 0 < past b.counts s.done) board c.in-Ok.ensures.last));
+      whole = parts_are c.of.result
+          (λ part laid_aged laid_old few_aged few_old. subst (λ (v : Record). IsPart kind t roots v part.aged.items part.old.items) (sym e.done)
+          (is_part kind t roots s same_kind e.places c.in-Ok.ensures.copied aged old e.aged.0 e.old.0 in_aged in_old part.aged.items part.old.items laid_aged laid_old
+          (subst (λ (n : ℕ). All (λ b. b < n) aged) limit few_aged) (subst (λ (n : ℕ). All (λ b. b < n) old) limit few_old)))
+          c.of.ensures.aged c.of.ensures.old c.of.ensures.aged_few c.of.ensures.old_few;
+      full = err_weaker c.of.result
+          (λ fault told is. subst (λ (v : Record). HasClaimedPast t.limits.space_blocks v) (sym e.done)
+          (subst (λ (n : ℕ). HasClaimedPast n s.done) limit (past_limit c.space_blocks-limit.result s.done aged old in_aged.same in_old.same (told is))))
+          c.of.ensures.full;
+    }
