@@ -1,5 +1,5 @@
 -- A helper's own blocks of a space: one more block, one more place given away, and what changes elsewhere.
-use Rattle.std.proofs.Common.{◌≡◌, ◌≢◌, ℕ, zero, suc, ◌+◌, ◌-◌, ◌*◌, ◌/◌, ◌%◌, ◌^◌, ◌<◌, ◌≤◌, ◌==◌, ◌&&◌, ◌||◌, ◌⊎◌, ◌++◌, if◌then◌else◌, not, List, [], ◌∷◌, Bool, true, false, length, get_or, map, refl, sym, ap, subst, ◌∙◌, eqb-true, eq-eqb, inl, inr, ⊎_elim, arith}
+use Rattle.std.proofs.Common.{◌≡◌, ◌≢◌, ℕ, zero, suc, ◌+◌, ◌-◌, ◌*◌, ◌/◌, ◌%◌, ◌^◌, ◌<◌, ◌≤◌, ◌==◌, ◌&&◌, ◌++◌, if◌then◌else◌, not, List, [], ◌∷◌, Bool, true, false, length, get_or, map, refl, sym, ap, subst, ◌∙◌, eqb-true, eq-eqb, inl, inr, ⊎_elim, arith}
 use Rattle.std.specs.List.{All, Contains, filter, list_all}
 use Rattle.std.proofs.lemmas.Bool.{cases_lt, cases_eq, and_parts, cond-true}
 use Rattle.std.proofs.lemmas.Bool.Decides.{nat_tests}
@@ -98,16 +98,16 @@ module _ (aged : Bool) (v : Record) (numbers : List ℕ) (used : ℕ) (filled : 
         go : (b : Bool) → uses v (own_place aged numbers used) ≡ b → b ≡ false
         go false e = refl
         go true e = absurd (
-          let p : Place = own_place aged numbers used in
-          let found = any_found (λ (q : ℕ × Place). same_place q.1 p) v.won e in
-          let s = and_parts (found.0.1.space == p.space) ((found.0.1.block == p.block) && (found.0.1.cell == p.cell)) found.2 in
-          let b = and_parts (found.0.1.block == p.block) (found.0.1.cell == p.cell) s.1 in
-          let at = won_at found.0 found.1 (eqb-true found.0.1.space p.space s.0) in
-          let low = at.1 in
-          let block : get_or numbers (at.0 / 64) 0 ≡ get_or numbers (used / 64) 0 = sym (ap (λ (x : Place). x.block) at.3) ∙ eqb-true found.0.1.block p.block b.0 in
-          let cell : at.0 % 64 ≡ used % 64 = sym (ap (λ (x : Place). x.cell) at.3) ∙ eqb-true found.0.1.cell p.cell b.1 in
-          let same = rising_once numbers filled.rising (at.0 / 64) (used / 64) (omega arith) (omega arith) block in
-          omega arith)
+            let p : Place = own_place aged numbers used in
+            let found = any_found (λ (q : ℕ × Place). same_place q.1 p) v.won e in
+            let s = and_parts (found.0.1.space == p.space) ((found.0.1.block == p.block) && (found.0.1.cell == p.cell)) found.2 in
+            let b = and_parts (found.0.1.block == p.block) (found.0.1.cell == p.cell) s.1 in
+            let at = won_at found.0 found.1 (eqb-true found.0.1.space p.space s.0) in
+            let low = at.1 in
+            let block : get_or numbers (at.0 / 64) 0 ≡ get_or numbers (used / 64) 0 = sym (ap (λ (x : Place). x.block) at.3) ∙ eqb-true found.0.1.block p.block b.0 in
+            let cell : at.0 % 64 ≡ used % 64 = sym (ap (λ (x : Place). x.cell) at.3) ∙ eqb-true found.0.1.cell p.cell b.1 in
+            let same = rising_once numbers filled.rising (at.0 / 64) (used / 64) (omega arith) (omega arith) block in
+            omega arith)
 
     mine : owns v (own_place aged numbers used) ≡ true
     mine = by_space aged filled.same

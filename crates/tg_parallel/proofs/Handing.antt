@@ -1,15 +1,15 @@
 -- What a helper hands over: its copies stand in its blocks, each block with its number.
-use Rattle.std.proofs.Common.{◌≡◌, ◌≢◌, ℕ, zero, suc, ◌+◌, ◌-◌, ◌*◌, ◌/◌, ◌%◌, ◌^◌, ◌<◌, ◌≤◌, ◌==◌, ◌⊎◌, ◌++◌, List, [], ◌∷◌, Bool, true, false, length, get_or, take, map, replicate, refl, sym, ap, subst, ◌∙◌, inl, inr, ⊎_elim, arith, nat_lt, eq-eqb, Result, Ok, Err}
+use Rattle.std.proofs.Common.{◌≡◌, ◌≢◌, ℕ, ◌+◌, ◌*◌, ◌/◌, ◌%◌, ◌^◌, ◌<◌, ◌≤◌, ◌==◌, ◌⊎◌, List, [], ◌∷◌, Bool, true, false, length, get_or, take, map, refl, sym, ap, subst, ◌∙◌, inl, inr, ⊎_elim, arith, nat_lt, Result, Ok, Err}
 use Rattle.std.specs.List.{All, Contains, list_all}
 use Rattle.std.specs.Result.{IfErr, IfOk, OnOk}
 use Rattle.std.proofs.lemmas.Bool.{cases_eq, cases_lt}
 use Rattle.std.proofs.lemmas.Bool.Decides.{nat_tests}
-use Rattle.std.proofs.lemmas.List.{get_or-map, get_or-replicate, get_or_append_left, get_or_default, get_or_past, length-map, take_all}
-use Rattle.std.proofs.lemmas.List.Elements.{All-contains, All-contains_itself, All-filter, All-get_or, Contains-append_right}
+use Rattle.std.proofs.lemmas.List.{get_or-map, get_or-replicate, get_or_default, get_or_past, length-map, take_all}
+use Rattle.std.proofs.lemmas.List.Elements.{All-contains_itself, All-filter, All-get_or, Contains-append_right}
 use Rattle.tg_word.specs.declared.Place.{Place}
 use Rattle.tg_word.specs.Word.{IsPlace}
 use Rattle.tg_block.specs.Cells.{IsBlock, cell_of, free_block, free_cell}
-use Rattle.tg_space.specs.SpaceList.{SpaceList, BlockList, IsSpace}
+use Rattle.tg_space.specs.SpaceList.{BlockList}
 use Rattle.tg_space.specs.SpaceTable.{SpaceTable}
 use Rattle.tg_space.specs.Targets.{from_space, targets_of}
 use Rattle.tg_space.specs.declared.spaces.Kind.{Kind}
@@ -23,8 +23,8 @@ use Rattle.tg_evac.specs.Claims.{win_at, won_in}
 use Rattle.tg_evac.specs.Claimers.{copies_to, image_at}
 use Rattle.tg_evac.specs.Copies.{HoldCells}
 use Rattle.tg_evac.proofs.InOrder.{held_cell, held_count, held_rest}
-use Rattle.tg_parallel.specs.Parts.{AreImages, HasClaimedPast, HasCopies, HasMetAll, HasPlaces, IsPart, Numbered, cells_met, numbers_of, win_of, wins_of}
-use Rattle.tg_parallel.specs.Seats.{AreFilled, AreLaidOut, HasCopied, Sitting, block_at, own_place, pair_at, pairs_in, walked_at}
+use Rattle.tg_parallel.specs.Parts.{HasClaimedPast, HasCopies, HasMetAll, IsPart, Numbered, cells_met, numbers_of, win_of, wins_of}
+use Rattle.tg_parallel.specs.Seats.{AreFilled, AreLaidOut, HasCopied, Sitting, block_at, own_place, pair_at, pairs_in}
 use Rattle.tg_parallel.proofs.Filled.{has_index, rising_once, won_at}
 use Rattle.tg_parallel.proofs.Seating.{wins_in}
 
@@ -164,8 +164,8 @@ module _ (kind : Kind) (t : SpaceTable) (roots : List Root) (s : Sitting) (same_
     aged_few = subst (λ (l : List ℕ). All (λ b. b < t.limits.space_blocks) l) aged_filled.same aged_few;
     old_few = subst (λ (l : List ℕ). All (λ b. b < t.limits.space_blocks) l) old_filled.same old_few;
     images = λ _ _ to has. record {
-        in_aged = have_copies true s.done aged_numbers aged_used aged_filled (image_at kind t.spaces to) aged_blocks aged aged_laid (copies_are 1 to aged (copied.copies.in_aged to has));
-        in_old = have_copies false s.done old_numbers old_used old_filled (image_at kind t.spaces to) old_blocks old old_laid (copies_are 0 to old (copied.copies.in_old to has));
+      in_aged = have_copies true s.done aged_numbers aged_used aged_filled (image_at kind t.spaces to) aged_blocks aged aged_laid (copies_are 1 to aged (copied.copies.in_aged to has));
+      in_old = have_copies false s.done old_numbers old_used old_filled (image_at kind t.spaces to) old_blocks old old_laid (copies_are 0 to old (copied.copies.in_old to has));
     };
   }
 

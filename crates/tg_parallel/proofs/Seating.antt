@@ -1,10 +1,10 @@
 -- A seat: what it holds at first and after a claim, and what a walk sees of it.
-use Rattle.std.proofs.Common.{◌≡◌, ◌≢◌, ℕ, zero, suc, ◌+◌, ◌*◌, ◌/◌, ◌%◌, ◌^◌, ◌<◌, ◌≤◌, ◌==◌, ◌||◌, ◌⊎◌, ◌++◌, not, List, [], ◌∷◌, Bool, true, false, length, get_or, map, refl, sym, ap, subst, ◌∙◌, eqb, eq-eqb, ⊎_elim, arith, if◌then◌else◌}
+use Rattle.std.proofs.Common.{◌≡◌, ◌≢◌, ℕ, suc, ◌^◌, ◌<◌, ◌≤◌, ◌==◌, ◌||◌, ◌++◌, List, [], ◌∷◌, Bool, true, false, length, get_or, map, refl, sym, ap, subst, ◌∙◌, eqb, eq-eqb, ⊎_elim, arith}
 use Rattle.std.specs.List.{All, AllPairs, Contains, list_any}
 use Rattle.std.proofs.lemmas.Bool.{cases_eq, false≢true}
 use Rattle.std.proofs.lemmas.Bool.Decides.{Decides-eqb}
-use Rattle.std.proofs.lemmas.List.{append-nil, get_or-map, get_or_default, length-map, map-append}
-use Rattle.std.proofs.lemmas.List.Elements.{All-append, All-contains, All-get_or, All-map, All-weaker, Contains-append_cases, Contains-append_left, Contains-append_right, Contains-get_or}
+use Rattle.std.proofs.lemmas.List.{append-nil, get_or-map, length-map, map-append}
+use Rattle.std.proofs.lemmas.List.Elements.{All-append, All-contains, All-map, All-weaker, Contains-append_cases, Contains-append_left, Contains-append_right, Contains-get_or}
 use Rattle.std.proofs.lemmas.List.Quantifiers.{all_pairs_push}
 use Rattle.std.proofs.lemmas.Map.Made.{IsDistinct-from_AllPairs}
 use Rattle.std.proofs.lemmas.Map.Steps.{length-le_from_distinct_below}
@@ -24,7 +24,7 @@ use Rattle.tg_evac.specs.Claims.{IsWinFor, is_in, win_at, won_in}
 use Rattle.tg_evac.specs.Claimers.{AddsWins}
 use Rattle.tg_parallel.specs.declared.own_blocks.OwnBlocks.{OwnBlocks}
 use Rattle.tg_parallel.specs.Parts.{HasPlaceOf, HasPlaces, cells_met, win_of, wins_of}
-use Rattle.tg_parallel.specs.Seats.{AreFilled, Finds, IsSeat, OtherStays, Sitting, pair_at, pairs_in, walked_at}
+use Rattle.tg_parallel.specs.Seats.{AreFilled, Finds, IsSeat, OtherStays, pair_at, pairs_in, walked_at}
 use Rattle.tg_parallel.proofs.Lists.{all_left, any_has, map_found}
 
 pub place_back : (p : Place) → IsPlace p → place_in (link_to p) ≡ p

@@ -1,27 +1,24 @@
 -- The work of a helper, chunk by chunk: what was won is earned, and what was met grows.
-use Rattle.std.proofs.Common.{◌≡◌, ◌≢◌, ℕ, zero, suc, ◌+◌, ◌-◌, ◌*◌, ◌/◌, ◌<◌, ◌≤◌, ◌++◌, if◌then◌else◌, List, [], ◌∷◌, Bool, true, false, length, get_or, take, drop, map, refl, sym, ap, subst, ◌∙◌, inl, inr, ⊎_elim, arith, nat_lt, Result, Ok, Err}
+use Rattle.std.proofs.Common.{◌≡◌, ℕ, ◌+◌, ◌*◌, ◌/◌, ◌<◌, ◌≤◌, ◌++◌, if◌then◌else◌, List, [], ◌∷◌, true, false, length, take, refl, sym, ap, subst, ◌∙◌, inl, arith, Result, Ok, Err}
 use Rattle.std.specs.Int.{div_ceil}
 use Rattle.std.specs.Result.{OnOk}
-use Rattle.std.specs.List.{All, Contains, flat_map, list_all}
-use Rattle.std.proofs.lemmas.Bool.{cases_lt}
+use Rattle.std.specs.List.{All, Contains}
 use Rattle.std.proofs.lemmas.Bool.Decides.{nat_tests}
 use Rattle.std.proofs.lemmas.Grind.{div_ceil_times, flat_map-append}
-use Rattle.std.proofs.lemmas.List.{append-nil, drop_all, length-map, length_push, get_or_append_left, get_or_push}
+use Rattle.std.proofs.lemmas.List.{append-nil, drop_all, length-map}
 use Rattle.std.proofs.lemmas.List.Elements.{All-append, All-contains, All-nil, All-push, Contains-append_left, Contains-push}
 use Rattle.tg_space.specs.SpaceList.{SpaceList}
-use Rattle.tg_space.specs.Targets.{from_space, all_root_targets, root_targets_of, targets_of}
+use Rattle.tg_space.specs.Targets.{from_space, all_root_targets, root_targets_of}
 use Rattle.tg_space.specs.declared.spaces.Kind.{Kind}
 use Rattle.tg_space.specs.declared.spaces.Root.{Root}
-use Rattle.tg_race.specs.declared.record.Counts.{Counts}
 use Rattle.tg_race.specs.declared.record.Record.{Record}
 use Rattle.tg_race.specs.Conditions.{can_claim_roots}
 use Rattle.tg_race.specs.Race.{chunks_of, empty, is_chunk, past, with_chunk}
 use Rattle.tg_race.specs.Seats.{Board}
 use Rattle.tg_race.proofs.Sums.{weigh_push}
-use Rattle.tg_evac.specs.declared.win.Win.{Win}
 use Rattle.tg_evac.specs.Claims.{AreTraced, IsRootClaim}
-use Rattle.tg_evac.specs.Claimers.{AddsWins, AreScanned, KeepsWins, KnowsMore}
-use Rattle.tg_evac.proofs.Pieces.{none_scanned, scanned_more}
+use Rattle.tg_evac.specs.Claimers.{AddsWins, AreScanned, KeepsWins}
+use Rattle.tg_evac.proofs.Pieces.{none_scanned}
 use Rattle.tg_evac.proofs.Reasons.{traced_more}
 use Rattle.tg_evac.proofs.Walking.{still_met}
 use Rattle.tg_parallel.specs.Parts.{AreCountsOf, AreEarned, HasPlaces, cells_met, roots_in, roots_of_chunk, win_of, wins_of}

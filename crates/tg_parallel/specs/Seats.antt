@@ -1,5 +1,5 @@
 -- What a helper holds while it works: its record, and the places that it gives away in its own blocks, one after the other.
-use Rattle.std.specs.Prelude.{◌≡◌, ◌≢◌, ℕ, ◌+◌, ◌*◌, ◌/◌, ◌%◌, ◌^◌, ◌<◌, ◌≤◌, ◌==◌, Bool, true, false, not, List, [], ◌∷◌, ◌++◌, length, map, slice_index, slice_index_or}
+use Rattle.std.specs.Prelude.{◌≡◌, ◌≢◌, ℕ, ◌+◌, ◌*◌, ◌/◌, ◌%◌, ◌^◌, ◌<◌, ◌≤◌, ◌==◌, Bool, true, false, not, List, [], ◌∷◌, ◌++◌, length, slice_index, slice_index_or}
 use Rattle.std.specs.List.{All, AllPairs, Contains, filter}
 use Rattle.tg_word.specs.declared.Place.{Place}
 use Rattle.tg_word.specs.Word.{IsPlace}
@@ -13,7 +13,6 @@ use Rattle.tg_race.specs.Conditions.{blocks_of}
 use Rattle.tg_race.specs.Race.{is_chunk, used_in}
 use Rattle.tg_race.specs.Seats.{Board, Seated}
 use Rattle.tg_race.specs.Words.{space_of}
-use Rattle.tg_evac.specs.declared.win.Win.{Win}
 use Rattle.tg_evac.specs.Claimers.{AreScanned, Walked}
 use Rattle.tg_parallel.specs.declared.own_blocks.OwnBlocks.{OwnBlocks}
 use Rattle.tg_parallel.specs.Parts.{HasPlaces, Numbered, cells_met, numbers_of, roots_in, wins_of}

@@ -78,11 +78,7 @@ fn are_below(numbers: &[u64], limit: u64) -> bool
 }
 
 // As many of these blocks as there are numbers, each with its number, and free ones behind the last.
-fn laid_out(
-    alloc: Global,
-    numbers: &[u64],
-    blocks: Space,
-) -> Result<Vec<(u64, Block)>, AllocError>
+fn laid_out(alloc: Global, numbers: &[u64], blocks: Space) -> Result<Vec<(u64, Block)>, AllocError>
     ensures numbered { IfOk result (λ laid. numbers_of laid.items ≡ numbers.now) }
     ensures each { IfOk result (λ laid. (i : ℕ) → i < length numbers.now → block_at laid.items i ≡ slice_index_or blocks i free_block) }
 {

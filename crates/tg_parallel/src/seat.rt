@@ -78,7 +78,10 @@ impl<'a> Seat<'a> {
         ensures old { (used : ℕ) × AreFilled false self.entry.done result.2.items used }
     {
         let Seat {
-            winner, aged, old, ..
+            winner,
+            aged,
+            old,
+            ..
         } = self;
         (winner.into_helper(), aged.numbers, old.numbers)
     }

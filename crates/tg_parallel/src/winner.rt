@@ -118,7 +118,8 @@ impl Winner {
             let Ok(()) = self.won.push(Win {
                 cell,
                 word: word_to(place),
-            }) else {
+            })
+            else {
                 unreachable!()
             };
         }

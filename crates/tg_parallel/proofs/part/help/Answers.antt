@@ -1,4 +1,4 @@
-use Rattle.std.proofs.Common.{◌≡◌, ◌<◌, ◌≤◌, List, ℕ, true, false, length, inl, inr, ap, sym, subst, ◌∙◌}
+use Rattle.std.proofs.Common.{◌≡◌, ◌<◌, List, ℕ, true, false, ap, sym, subst, ◌∙◌}
 use Rattle.std.specs.List.{All}
 use Rattle.tg_space.specs.SpaceTable.{BlockLimits}
 use Rattle.tg_space.proofs.Tables.{table_list}
@@ -7,7 +7,7 @@ use Rattle.tg_race.specs.Race.{past}
 use Rattle.tg_race.specs.Seats.{Board}
 use Rattle.tg_evac.proofs.Sound.{have_pointers}
 use Rattle.tg_parallel.specs.Parts.{AreEarned, HasClaimedPast, IsPart}
-use Rattle.tg_parallel.specs.Seats.{AreFilled, AreLaidOut, Sitting}
+use Rattle.tg_parallel.specs.Seats.{AreFilled, Sitting}
 use Rattle.tg_parallel.proofs.Handing.{aged_room, err_weaker, is_part, ok_always, old_room, parts_are, past_limit}
 use Rattle.tg_parallel.proofs.part.help.Goals as goal
 

@@ -1,4 +1,4 @@
-use Rattle.std.proofs.Common.{◌≡◌, ◌<◌, List, ℕ, length, take, drop, get_or}
+use Rattle.std.proofs.Common.{◌≡◌, ◌<◌, ℕ, length, take, drop, get_or}
 use Rattle.tg_block.specs.Cells.{free_block}
 use Rattle.tg_parallel.specs.Parts.{numbers_of}
 use Rattle.tg_parallel.specs.Seats.{block_at}

@@ -1,5 +1,4 @@
-use Rattle.std.proofs.Common.{◌≡◌, ℕ, List, length, ap, sym, subst, ◌∙◌}
-use Rattle.tg_space.specs.declared.spaces.Root.{Root}
+use Rattle.std.proofs.Common.{sym, subst, ◌∙◌}
 use Rattle.tg_space.specs.declared.spaces.Kind.{Kind}
 use Rattle.tg_evac.specs.Claims.{AreTraced}
 use Rattle.tg_evac.proofs.Pieces.{scanned_more}

@@ -1,6 +1,5 @@
-use Rattle.std.proofs.Common.{◌≡◌, ◌<◌, ℕ, List, [], ap, sym, subst, ◌∙◌, arith}
+use Rattle.std.proofs.Common.{◌≡◌, [], ap, sym, subst, ◌∙◌, arith}
 use Rattle.tg_race.specs.declared.record.Record.{Record}
-use Rattle.tg_race.specs.Race.{chunks_of}
 use Rattle.tg_race.specs.Seats.{Board}
 use Rattle.tg_parallel.specs.Parts.{AreCountsOf}
 use Rattle.tg_parallel.specs.Seats.{Sitting}
@@ -54,8 +53,11 @@ loop-chunk-preserved g c =
     record {
       same = same_both c.loop-chunk.invariant.same (same_both c.copy_chunk.ensures.same (same_drawn u v r is));
       earned = earned_drawn c.args.kind h roots u v r is c.copy_chunk.ensures.earned;
-      drawn = (u.done.chunks, drawn_next d.0 c.loop-chunk.chunk s u v r d.1 (omega (arith, c.loop-chunk-test.true)) c.copy_chunk.ensures.same c.copy_chunk.ensures.chunks is,
-          copied_drawn c.args.kind h roots u v r is u.done.chunks copies.scanned copies.aged copies.old c.in_ok-copy_chunk.ensures.copied);
+      drawn = (
+        u.done.chunks,
+        drawn_next d.0 c.loop-chunk.chunk s u v r d.1 (omega (arith, c.loop-chunk-test.true)) c.copy_chunk.ensures.same c.copy_chunk.ensures.chunks is,
+        copied_drawn c.args.kind h roots u v r is u.done.chunks copies.scanned copies.aged copies.old c.in_ok-copy_chunk.ensures.copied,
+      );
     }
 
 pub returns-clause-last : goal.returns-clause-last

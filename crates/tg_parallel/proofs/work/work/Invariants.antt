@@ -1,4 +1,4 @@
-use Rattle.std.proofs.Common.{◌≡◌, ◌-◌, ◌/◌, ◌+◌, List, ℕ, length}
+use Rattle.std.proofs.Common.{◌-◌, List, ℕ}
 use Rattle.tg_parallel.specs.Parts.{AreEarned}
 use Rattle.tg_parallel.specs.Seats.{HasCopied, HasDrawn, IsSameSeat}
 use Rattle.tg_parallel.proofs.work.work.Given as goal

@@ -1,4 +1,4 @@
-use Rattle.std.proofs.Common.{◌≡◌, ℕ, ◌+◌, ◌^◌, ◌<◌, ◌/◌, ap, subst, sym, arith, true, get_or}
+use Rattle.std.proofs.Common.{◌≡◌, ◌+◌, ◌^◌, ◌<◌, ◌/◌, ap, subst, sym, true, get_or}
 use Rattle.tg_word.specs.declared.Place.{Place}
 use Rattle.tg_word.specs.Word.{IsPlace}
 use Rattle.tg_race.specs.Claims.{place_found}
@@ -7,7 +7,7 @@ use Rattle.tg_race.specs.declared.helper.Claim.{Claim}
 use Rattle.tg_race.specs.Race.{with_won}
 use Rattle.tg_race.specs.Seats.{Seated}
 use Rattle.tg_parallel.specs.Seats.{AreFilled}
-use Rattle.tg_parallel.proofs.Filled.{filled_won, finds_blocks, finds_seen, finds_won, may_give, only_none, other_won, seen_known, seen_met, won_known, won_met}
+use Rattle.tg_parallel.proofs.Filled.{filled_won, finds_blocks, finds_seen, may_give, only_none, other_won, seen_known, seen_met, won_known, won_met}
 use Rattle.tg_parallel.proofs.own_blocks.OwnBlocks.give.Goals as goal
 
 pub claim_cell-requires-clause-allowed : goal.claim_cell-requires-clause-allowed
@@ -24,7 +24,7 @@ returns-in-Won-clause-filled c =
     let done = ap (λ (x : Seated). x.done) c.in_ok-claim_cell.ensures.done in
     let few : get_or c.args.self.now.numbers.items (c.args.self.now.used / 64) 0 < 2 ^ 20 = subst (λ (p : Place). p.block < 2 ^ 20) c.requires.next c.requires.few in
     rw (done, c.in-Won.is) (subst (λ (p : Place). AreFilled c.args.self.now.aged (with_won c.args.winner.now.done (c.args.cell, p)) c.args.self.now.numbers.items (c.args.self.now.used + 1)) (sym c.requires.next)
-        (filled_won c.args.self.now.aged c.args.winner.now.done c.args.self.now.numbers.items c.args.self.now.used c.args.cell c.requires.filled c.requires.room few))
+    (filled_won c.args.self.now.aged c.args.winner.now.done c.args.self.now.numbers.items c.args.self.now.used c.args.cell c.requires.filled c.requires.room few))
 
 pub returns-in-Won-clause-other : goal.returns-in-Won-clause-other
 returns-in-Won-clause-other c =

@@ -1,6 +1,6 @@
 use Rattle.std.proofs.Common.{◌≡◌, ℕ, ◌*◌, ◌++◌, ◌∷◌, [], List, length, ap, ◌∙◌, arith}
 use Rattle.tg_race.specs.Seats.{Seated}
-use Rattle.tg_parallel.proofs.Filled.{filled_grown, may_claim, only_block, other_grown}
+use Rattle.tg_parallel.proofs.Filled.{filled_grown, may_claim}
 use Rattle.tg_parallel.proofs.own_blocks.OwnBlocks.make_room.Goals as goal
 use Rattle.tg_parallel.proofs.own_blocks.OwnBlocks.make_room.Goals.{After-reserve}
 

@@ -1,7 +1,7 @@
-use Rattle.std.proofs.Common.{◌≡◌, ℕ, Bool, not, subst}
+use Rattle.std.proofs.Common.{Bool, not, subst}
 use Rattle.tg_parallel.specs.Seats.{AreFilled}
 use Rattle.std.proofs.lemmas.Result.{err_from_is_err_and}
-use Rattle.tg_parallel.proofs.Filled.{claimed_past, finds_after, finds_blocks}
+use Rattle.tg_parallel.proofs.Filled.{claimed_past, finds_blocks}
 use Rattle.tg_parallel.proofs.own_blocks.OwnBlocks.place_of.Goals as goal
 
 pub returns-in_err-place-clause-finds : goal.returns-in_err-place-clause-finds

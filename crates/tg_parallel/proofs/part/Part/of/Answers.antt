@@ -1,4 +1,4 @@
-use Rattle.std.proofs.Common.{◌≡◌, List, ℕ, inl, inr, sym, ◌∙◌}
+use Rattle.std.proofs.Common.{inl, inr, sym, ◌∙◌}
 use Rattle.tg_parallel.proofs.Handing.{are_laid_out, one_past}
 use Rattle.tg_parallel.proofs.part.Part.of.Goals as goal
 

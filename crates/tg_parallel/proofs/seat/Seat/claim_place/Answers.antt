@@ -1,5 +1,4 @@
-use Rattle.std.proofs.Common.{◌≡◌, ◌<◌, ℕ, List, length, ap, sym, subst, ◌∙◌}
-use Rattle.std.specs.List.{Contains}
+use Rattle.std.proofs.Common.{ℕ, ap, sym, subst, ◌∙◌}
 use Rattle.tg_word.specs.declared.Place.{Place}
 use Rattle.tg_word.specs.Word.{place_in}
 use Rattle.tg_race.specs.declared.record.Record.{Record}
@@ -7,7 +6,7 @@ use Rattle.tg_race.specs.Race.{with_seen}
 use Rattle.tg_race.specs.Seats.{Seated}
 use Rattle.tg_evac.specs.Claims.{IsWinFor}
 use Rattle.tg_evac.specs.Claimers.{AddsWins}
-use Rattle.tg_parallel.specs.Parts.{HasPlaces, cells_met}
+use Rattle.tg_parallel.specs.Parts.{HasPlaces}
 use Rattle.tg_parallel.specs.Seats.{Sitting, walked_at}
 use Rattle.tg_parallel.proofs.Filled.{finds_seen, seen_known, seen_met}
 use Rattle.tg_parallel.proofs.Seating.{adds_found, grows_more, place_back, which}

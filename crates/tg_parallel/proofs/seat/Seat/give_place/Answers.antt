@@ -1,4 +1,4 @@
-use Rattle.std.proofs.Common.{◌≡◌, ◌<◌, ℕ, false, true, Bool, ap, sym, subst, ◌∙◌, arith, ⊎_elim}
+use Rattle.std.proofs.Common.{◌≡◌, ◌<◌, false, ap, sym, subst, ◌∙◌, arith}
 use Rattle.tg_race.specs.Course.{has_met}
 use Rattle.tg_race.specs.Words.{space_of}
 use Rattle.tg_evac.specs.Claims.{IsWinFor}

@@ -1,7 +1,5 @@
-use Rattle.std.proofs.Common.{◌≡◌, List, ℕ, true, false, ap, sym, subst, ◌∙◌, arith}
-use Rattle.tg_race.specs.declared.record.Record.{Record}
+use Rattle.std.proofs.Common.{◌≡◌, true, false, ap, ◌∙◌, arith}
 use Rattle.tg_race.specs.Seats.{Seated}
-use Rattle.tg_parallel.specs.Seats.{AreFilled}
 use Rattle.tg_parallel.proofs.Seating.{filled_none}
 use Rattle.tg_parallel.proofs.seat.Seat.new.Goals as goal
 
