@@ -142,19 +142,27 @@ fn help_is_status_0(rt: HostRuntime) -> Result<(), Fail> {
 fn help_is_true(rt: HostRuntime) -> Result<(), Fail> {
     let alloc = rt.alloc();
     let text = text_with(alloc, ["tgstore", "--help"].as_slice(), 0)?;
-    let lines = [
-        format!(in alloc; "How many workers there are, from 1 to {MAX_WORKERS}. ")?,
-        format!(in alloc; "[default: {DEFAULT_WORKERS}]")?,
-        format!(in alloc; "How many vertices may ever be made, from 1 to {MAX_VERTICES}. ")?,
-        format!(in alloc; "[default: {DEFAULT_VERTICES}]")?,
-        format!(in alloc;
-            "How many blocks of {CELLS} cells the heap may have, from 1 to {MOST_BLOCKS}. "
-        )?,
-        format!(in alloc; "[default: {DEFAULT_BLOCKS}]")?,
-        format!(in alloc; "of at most {MOST_LINE_BYTES} bytes")?,
-        format!(in alloc; "at most {} MiB in all", MOST_BYTES >> 20)?,
+    let lines: [(&str, u64, &str); 9] = [
+        ("How many workers there are, from 1 to ", MAX_WORKERS, ". "),
+        ("[default: ", DEFAULT_WORKERS, "]"),
+        (
+            "How many vertices may ever be made, from 1 to ",
+            MAX_VERTICES,
+            ". ",
+        ),
+        ("[default: ", DEFAULT_VERTICES, "]"),
+        (
+            "How many blocks of ",
+            CELLS as u64,
+            " cells the heap may have, from 1 to ",
+        ),
+        (" cells the heap may have, from 1 to ", MOST_BLOCKS, ". "),
+        ("[default: ", DEFAULT_BLOCKS, "]"),
+        ("of at most ", MOST_LINE_BYTES as u64, " bytes"),
+        ("at most ", u64::from(MOST_BYTES >> 20), " MiB in all"),
     ];
-    for line in &lines {
+    for (before, number, after) in lines {
+        let line = format!(in alloc; "{before}{number}{after}")?;
         assert!(rt; text.as_str().contains(line.as_str()), "{line}");
     }
     Ok(())

@@ -287,30 +287,47 @@ fn filled_and_removed(alloc: Global, written: &mut String) -> Result<(), Fail> {
     Ok(())
 }
 
+// Runs such lines and then these, with one worker and a heap of two blocks, and compares what is written and how the run ends.
+fn runs_when_removed(
+    rt: &(impl Abort + AllocGlobal),
+    stock: &[u8],
+    lines: &str,
+    replies: &str,
+) -> Result<(), Fail> {
+    let script = removed_then(rt.alloc(), lines)?;
+    let written = written_then(rt.alloc(), replies)?;
+    let (script, written) = (script.as_bytes(), written.as_bytes());
+    runs_in(rt, blocks(1, 2)?, stock, script, written, Ok(()))
+}
+
+// Such lines, and then these.
+fn removed_then(alloc: Global, lines: &str) -> Result<String, Fail> {
+    let mut script = String::new(alloc);
+    fill_and_remove(alloc, &mut script)?;
+    script.push_str(lines)?;
+    Ok(script)
+}
+
+// What is written for them, and then this.
+fn written_then(alloc: Global, replies: &str) -> Result<String, Fail> {
+    let mut written = String::new(alloc);
+    filled_and_removed(alloc, &mut written)?;
+    written.push_str(replies)?;
+    Ok(written)
+}
+
 // 109 edges fill a block; after 64 of them are removed the heap has room again, once it was collected.
 #[test]
 fn exact_fit_of_one_block(rt: HostRuntime) -> Result<(), Fail> {
-    let alloc = rt.alloc();
-    let (mut script, mut written) = (String::new(alloc), String::new(alloc));
-    fill_and_remove(alloc, &mut script)?;
-    filled_and_removed(alloc, &mut written)?;
-    script.push_str("full\n0 create rw\n0 write 110 5\n0 write 110 5\n0 read 110\n0 create r\n")?;
-    written.push_str("ok 46\nok 110\nok\nok\nok 10\nrefused stock\n")?;
-    let (script, written) = (script.as_bytes(), written.as_bytes());
-    runs_in(&rt, blocks(1, 2)?, b"c109s", script, written, Ok(()))
+    let lines = "full\n0 create rw\n0 write 110 5\n0 write 110 5\n0 read 110\n0 create r\n";
+    let replies = "ok 46\nok 110\nok\nok\nok 10\nrefused stock\n";
+    runs_when_removed(&rt, b"c109s", lines, replies)
 }
 
 // A nursery collection frees what isn't reached: the same script, with a collection that answers no number.
 #[test]
 fn minor_frees_young_vertices(rt: HostRuntime) -> Result<(), Fail> {
-    let alloc = rt.alloc();
-    let (mut script, mut written) = (String::new(alloc), String::new(alloc));
-    fill_and_remove(alloc, &mut script)?;
-    filled_and_removed(alloc, &mut written)?;
-    script.push_str("minor\n0 create rw\n")?;
-    written.push_str("ok\nok 110\n")?;
-    let (script, written) = (script.as_bytes(), written.as_bytes());
-    runs_in(&rt, blocks(1, 2)?, b"c110", script, written, Ok(()))
+    runs_when_removed(&rt, b"c110", "minor\n0 create rw\n", "ok\nok 110\n")
 }
 
 // Adds so many lines of creates and what is written for them, with names from the first on.
@@ -335,20 +352,39 @@ fn push_creates(
 fn minor_frees_no_old_vertices(rt: HostRuntime) -> Result<(), Fail> {
     let alloc = rt.alloc();
     let (mut script, mut written) = (String::new(alloc), String::new(alloc));
-    push_creates(alloc, &mut script, &mut written, 1, 80)?;
-    script.push_str("full\n")?;
-    written.push_str("ok 81\n")?;
-    for name in 1..81u64 {
-        script.push_str(format!(in alloc; "0 remove {name} r\n")?.as_str())?;
-        written.push_str("ok\n")?;
-    }
-    script.push_str("minor\n")?;
-    written.push_str("ok\n")?;
-    push_creates(alloc, &mut script, &mut written, 81, 64)?;
-    script.push_str("0 create r\nfull\n0 create r\n")?;
-    written.push_str("refused heap\nok 65\nok 145\n")?;
+    push_old_vertices(alloc, &mut script, &mut written)?;
     let (script, written) = (script.as_bytes(), written.as_bytes());
     runs_in(&rt, blocks(1, 3)?, b"c145", script, written, Ok(()))
+}
+
+// Adds those lines and what is written for them.
+fn push_old_vertices(alloc: Global, script: &mut String, written: &mut String) -> Result<(), Fail> {
+    push_creates(alloc, script, written, 1, 80)?;
+    push_line(script, written, "full\n", "ok 81\n")?;
+    for name in 1..81u64 {
+        let line = format!(in alloc; "0 remove {name} r\n")?;
+        push_line(script, written, line.as_str(), "ok\n")?;
+    }
+    push_line(script, written, "minor\n", "ok\n")?;
+    push_creates(alloc, script, written, 81, 64)?;
+    push_line(
+        script,
+        written,
+        "0 create r\nfull\n0 create r\n",
+        "refused heap\nok 65\nok 145\n",
+    )
+}
+
+// Adds these lines and what is written for them.
+fn push_line(
+    script: &mut String,
+    written: &mut String,
+    lines: &str,
+    replies: &str,
+) -> Result<(), Fail> {
+    script.push_str(lines)?;
+    written.push_str(replies)?;
+    Ok(())
 }
 
 // A block has 64 cells: 54 creates take one for the worker, 54 for the vertices and 9 for chunks of the worker's row. What
@@ -357,16 +393,23 @@ fn minor_frees_no_old_vertices(rt: HostRuntime) -> Result<(), Fail> {
 fn full_nursery_serves_what_needs_no_cell(rt: HostRuntime) -> Result<(), Fail> {
     let alloc = rt.alloc();
     let (mut script, mut written) = (String::new(alloc), String::new(alloc));
-    for name in 1..55u64 {
-        script.push_str("0 create rwtg\n")?;
-        written.push_str(format!(in alloc; "ok {name}\n")?.as_str())?;
-    }
-    script.push_str(
-        "0 grant 1 2 r\n0 grant 1 5 r\n0 take 1 2 r\n0 remove 5 rwtg\n0 take 1 5 r\n0 create r\n",
-    )?;
-    written.push_str("ok\nok\nok\nok\nok\nrefused heap\n")?;
+    push_full_nursery(alloc, &mut script, &mut written)?;
     let (script, written) = (script.as_bytes(), written.as_bytes());
     runs_in(&rt, blocks(1, 1)?, b"c56", script, written, Ok(()))
+}
+
+// Adds those lines and what is written for them.
+fn push_full_nursery(alloc: Global, script: &mut String, written: &mut String) -> Result<(), Fail> {
+    for name in 1..55u64 {
+        let reply = format!(in alloc; "ok {name}\n")?;
+        push_line(script, written, "0 create rwtg\n", reply.as_str())?;
+    }
+    push_line(
+        script,
+        written,
+        "0 grant 1 2 r\n0 grant 1 5 r\n0 take 1 2 r\n0 remove 5 rwtg\n0 take 1 5 r\n0 create r\n",
+        "ok\nok\nok\nok\nok\nrefused heap\n",
+    )
 }
 
 #[test]
