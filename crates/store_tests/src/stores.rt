@@ -1,13 +1,9 @@
 //! Boxes in a store, through generic code.
-ghost use Rattle.std.specs.Prelude.{◌≤◌};
-
 use crate::counting_payload::counting_box;
 use std::alloc::Global;
 use std::sync::Arc;
-use std::sync::Wait;
 use std::sync::atomic::{AtomicU64, Ordering};
 use std::test::Fail;
-use std::thread::Threads;
 use tg_journal::{AuditFault, Entry, audit};
 use tg_model::{Command, Deed, Law, Numbers, Opening, Reply, Value};
 use tg_payload::{CellPayload, Draft, Payload, PayloadBox};
@@ -386,58 +382,6 @@ fn cycle_of_dead_boxes(rt: HostRuntime) -> Result<(), Fail> {
     let drops = Arc::new(alloc, AtomicU64::new(0))?;
     let seen = dropped_boxes(alloc, &drops).ok_or("a refusal")?;
     assert_eq!(rt; seen, (0, 1, 1, 3));
-    Ok(())
-}
-
-// How many vertices a collection of the kind by so many helpers leaves.
-fn left_by_helpers<P: Payload, R: Threads + Wait + Sync>(
-    rt: &R,
-    store: &mut Store<P>,
-    kind: Kind,
-    helpers: u32,
-) -> Option<u64>
-    requires { (1 ≤ helpers) × (helpers ≤ 8) }
-{
-    store.collect_with(rt, kind, helpers).ok()
-}
-
-// What a nursery collection and then a full one by so many helpers leave of such a cycle, and how many boxes both drop.
-fn dropped_by_helpers<P: Payload, R: Threads + Wait + Sync>(
-    rt: &R,
-    alloc: Global,
-    worker: P,
-    payloads: Vec<P>,
-    drops: &AtomicU64,
-    helpers: u32,
-) -> Option<(u64, u64, u64)>
-    requires { (1 ≤ helpers) × (helpers ≤ 8) }
-{
-    let mut store = opened_one(alloc, worker, 4)?;
-    make_dead_cycle(alloc, &mut store, payloads)?;
-    let young = left_by_helpers(rt, &mut store, Kind::Nursery, helpers)?;
-    let left = left_by_helpers(rt, &mut store, Kind::Full, helpers)?;
-    Some((young, left, drops.load(Ordering::SeqCst)))
-}
-
-// The same of boxes with payloads that count their drops.
-fn boxes_dropped_by_helpers<R: Threads + Wait + Sync>(
-    rt: &R,
-    alloc: Global,
-    helpers: u32,
-) -> Option<(u64, u64, u64)>
-    requires { (1 ≤ helpers) × (helpers ≤ 8) }
-{
-    let drops = Arc::new(alloc, AtomicU64::new(0)).ok()?;
-    let payloads = counting_boxes(alloc, 3, &drops)?;
-    dropped_by_helpers(rt, alloc, cell_box(alloc, 0)?, payloads, &drops, helpers)
-}
-
-#[test]
-fn cycle_of_dead_boxes_and_helpers(rt: HostRuntime) -> Result<(), Fail> {
-    for helpers in [1, 2, 8] {
-        let seen = boxes_dropped_by_helpers(&rt, rt.alloc(), helpers).ok_or("a refusal")?;
-        assert_eq!(rt; seen, (1, 1, 3));
-    }
     Ok(())
 }
 
