@@ -61,7 +61,16 @@ boxed stock (l ∷ lines) = record { line = l; value = box_of stock l } ∷ boxe
 abbrev pub IsRefused : Refusal → Option Entry → Answer → Type 0
 IsRefused r e a = (e ≡ None) × (a ≡ told.Refused r)
 
--- a refusal of the store
+-- memory or room was wanting
+abbrev pub IsWant : Refusal → Type 0
+IsWant refusal.Memory = Unit {0}
+IsWant refusal.Heap = Unit {0}
+IsWant refusal.Worker = ⊥
+IsWant refusal.Vertices = ⊥
+IsWant refusal.Threads = ⊥
+IsWant refusal.Stock = ⊥
+
+-- a refusal of the store, to a command
 abbrev pub IsOfStore : Refusal → Type 0
 IsOfStore refusal.Memory = Unit {0}
 IsOfStore refusal.Heap = Unit {0}
@@ -82,7 +91,7 @@ IsMade x label None e a = IsRefused refusal.Stock e a
 
 -- a collection has no entry
 abbrev pub IsCollected : Answer → Option Entry → Answer → Type 0
-IsCollected collected e a = (e ≡ None) × ((a ≡ collected) ⊎ ((r : Refusal) × IsOfStore r × (a ≡ told.Refused r)))
+IsCollected collected e a = (e ≡ None) × ((a ≡ collected) ⊎ ((r : Refusal) × IsWant r × (a ≡ told.Refused r)))
 
 -- What is told of a line, where there are so many workers. A line that names none of them is refused.
 abbrev pub Tells : ℕ → Line → Option Value → Option Entry → Answer → Type 0

@@ -25,7 +25,7 @@ use Rattle.tg_threads.specs.declared.threads.Work.{Work}
 use Rattle.tg_threads.specs.declared.worker.Finished.{Finished}
 use Rattle.tg_threads.specs.declared.task.Told.{Told}
 use Rattle.tg_threads.specs.declared.task.Told.TheVariants as came
-use Rattle.tg_threads.specs.Output.{Boxed, Tells, IsOfStore}
+use Rattle.tg_threads.specs.Output.{Boxed, Tells, IsOfStore, IsWant}
 
 -- ---- who runs a line
 
@@ -60,12 +60,12 @@ abbrev pub HasMade : RightSet → Option Value → Told → SessionState → Ses
 HasMade label (Some value) t old new = HasAsked (deed.Create label value.law value.state) t old new
 HasMade label None t old new = (t ≡ came.Refused refusal.Stock) × KeepsReceipts old new
 
--- the heap was collected, or the store refused
+-- the heap was collected, or memory or room was wanting
 abbrev pub HasCollected : Kind → Told → Type 0
 HasCollected k (came.Entered at) = ⊥
 HasCollected kind.Full (came.Collected kept) = (n : ℕ) × (kept ≡ Some n)
 HasCollected kind.Nursery (came.Collected kept) = kept ≡ None
-HasCollected k (came.Refused r) = IsOfStore r
+HasCollected k (came.Refused r) = IsWant r
 
 -- a session ran the line
 abbrev pub HasRun : ℕ → Boxed → Told → SessionState → SessionState → Type 0
