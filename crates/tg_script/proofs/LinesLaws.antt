@@ -73,6 +73,10 @@ pub reads_end : (lines : List Line) (workers room count : ℕ) (opening : Bool) 
 reads_end [] workers room count opening bytes left h = h.1
 reads_end (l ∷ lines) workers room count opening bytes left h = reads_end lines workers (room - (length (line_text l) + 1)) (count + 1) (opening_after opening l) h.0 left h.5
 
+pub keeps_same : (a : Option (List ℕ)) → Keeps a a
+keeps_same None = tt
+keeps_same (Some xs) = refl
+
 pub keeps_then : (a b c : Option (List ℕ)) → Keeps a b → Keeps b c → Keeps a c
 keeps_then None b c h k = tt
 keeps_then (Some xs) b c h k = let P : Option (List ℕ) → Type 0 = λ x. Keeps x c in subst P h k

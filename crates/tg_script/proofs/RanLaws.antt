@@ -25,7 +25,7 @@ pub record IsFresh (s : Script) (n : ℕ) : Type 0 where
   pub count : s.count ≡ 0
   pub opening : s.opening ≡ true
 
-fresh_reads : (s : Script) (workers : ℕ) (bytes : List ℕ) (lines : List Line) (end : Option ScriptFault) (left : List ℕ) → IsFresh s workers → ReadsFrom s bytes lines end left → ReadsScript workers bytes lines end left
+pub fresh_reads : (s : Script) (workers : ℕ) (bytes : List ℕ) (lines : List Line) (end : Option ScriptFault) (left : List ℕ) → IsFresh s workers → ReadsFrom s bytes lines end left → ReadsScript workers bytes lines end left
 fresh_reads s workers bytes lines end left fresh h =
     let A : ℕ → Type 0 = λ x. Reads x s.lines.room s.count s.opening bytes lines end left in
     let B : ℕ → Type 0 = λ x. Reads workers x s.count s.opening bytes lines end left in

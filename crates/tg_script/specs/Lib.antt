@@ -5,3 +5,4 @@ pub mod Opening
 pub mod Supply
 pub mod Answering
 pub mod Run
+pub mod Whole

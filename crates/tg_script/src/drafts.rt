@@ -21,8 +21,8 @@ pub fn drafts_of<P: Payload>(alloc: Global, payloads: Vec<P>) -> Result<Vec<Draf
     Ok(drafts)
 }
 
-// Copies of the drafts' values, which fit their laws.
-pub(crate) fn values_of<P: Payload>(
+/// Copies of the drafts' values, which fit their laws. Answers only want of memory otherwise.
+pub fn values_of<P: Payload>(
     alloc: Global,
     drafts: &[Draft<P>],
 ) -> Result<Vec<Value>, AllocError>

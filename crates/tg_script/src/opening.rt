@@ -53,7 +53,7 @@ pub(crate) fn read_edges<S: Source, K: Sink>(
 
 /// Opens the store with the workers, the edges between them and their payloads. Refused for a number of vertices that
 /// is out of its range, or else for want of memory, or of a block for each worker where the heap may have fewer.
-pub(crate) fn open_store<P: Payload>(
+pub fn open_store<P: Payload>(
     alloc: Global,
     workers: u64,
     edges: Vec<Edge>,

@@ -40,7 +40,7 @@ pub use fetch::{Lines, MOST_BYTES, MOST_LINE_BYTES};
 pub use line::Line;
 pub use memory::{Bytes, Written};
 pub use read::read_line;
-pub use reply::write_reply;
+pub use reply::{write_reply, write_reply_of};
 pub use sink::{Put, Sink, WriteFailed, put_all, put_texts};
 pub use source::{Fetched, Next, Source};
 pub use stock::{MOST_BOXES, StockFault, StockItem, read_stock};

@@ -1,5 +1,5 @@
 //! Answers, written as text.
-ghost use Rattle.std.specs.Prelude.{◌≡◌, List, ℕ, decimal};
+ghost use Rattle.std.specs.Prelude.{◌≡◌, List, [], ◌∷◌, ℕ, decimal};
 ghost use Rattle.std.specs.List.{flat_map};
 ghost use Rattle.tg_text.specs.Sinks.{Writes};
 ghost use Rattle.tg_text.specs.Texts.{answer_text, told_text, reply_text, rule_text, cause_text, denial_text, value_text, edge_text, collected_text, refusal_text};
@@ -16,6 +16,20 @@ pub fn write_reply<K: Sink>(sink: &mut K, answer: &Answer) -> Result<(), WriteFa
     ensures { Writes (K.taken sink.old) (K.failures sink.old) (answer_text answer.now) result (K.taken sink.new) (K.failures sink.new) }
 {
     write_told(sink, answer)?;
+    end_line(sink)
+}
+
+/// Writes a reply's text, one line, or a front of it where the sink fails. Takes no memory.
+pub fn write_reply_of<K: Sink>(sink: &mut K, reply: &Reply) -> Result<(), WriteFailed>
+    ensures { Writes (K.taken sink.old) (K.failures sink.old) (answer_text (Answer.Reply reply.now)) result (K.taken sink.new) (K.failures sink.new) }
+{
+    write_answer(sink, reply)?;
+    end_line(sink)
+}
+
+fn end_line<K: Sink>(sink: &mut K) -> Result<(), WriteFailed>
+    ensures { Writes (K.taken sink.old) (K.failures sink.old) (10 ∷ []) result (K.taken sink.new) (K.failures sink.new) }
+{
     put_all(sink, b"\n")
 }
 

@@ -1,0 +1,69 @@
+//! A script that is read to its end before any line is run.
+ghost use Rattle.std.specs.Prelude.{◌≡◌, ◌+◌, ℕ, ◌≤◌, List, Some, false, IfOk, OnOk};
+ghost use Rattle.std.specs.List.{All};
+ghost use Rattle.tg_model.specs.Opened.{JoinsWorkers};
+ghost use Rattle.tg_text.specs.Sinks.{Keeps};
+ghost use Rattle.tg_script.specs.Opening.{IsCommand};
+ghost use Rattle.tg_script.specs.Whole.{ReadsWhole, ReadsOn};
+
+use crate::opening::{Front, read_edges};
+use crate::script::Script;
+use std::alloc::Global;
+use tg_model::Edge;
+use tg_text::{Line, ScriptFault, Sink, Source};
+
+/// The lines of a script: the edges in front, and all lines behind them.
+#[derive(Debug, Drop)]
+pub struct WholeScript {
+    pub edges: Vec<Edge>,
+    pub lines: Vec<Line>,
+}
+
+/// Reads a whole script for so many workers, or up to its first fault; `OutOfMemory` where there is none for a line. The source
+/// is asked for at most 1,048,577 bytes, and what was put into the sink is finished before it is asked for what it doesn't hold.
+pub fn read_script<S: Source, K: Sink>(
+    alloc: Global,
+    source: &mut S,
+    sink: &mut K,
+    workers: u64,
+) -> Result<WholeScript, ScriptFault>
+    ensures edges { IfOk result (λ whole. All (JoinsWorkers workers) whole.edges.items) }
+    ensures commands { IfOk result (λ whole. All IsCommand whole.lines.items) }
+    ensures bytes { (bytes : List ℕ) → S.left source.old ≡ Some bytes → (left : List ℕ) × (S.left source.new ≡ Some left) × ReadsWhole workers bytes result left }
+    ensures taken { Keeps (K.taken sink.old) (K.taken sink.new) }
+    ensures asked { S.asked source.new ≤ S.asked source.old + 1048577 }
+{
+    let mut script = Script::new(workers);
+    let Front { edges, first } = read_edges(alloc, &mut script, source, sink)?;
+    let mut lines = Vec::new(alloc);
+    let Some(first) = first else {
+        return Ok(WholeScript { edges, lines });
+    };
+    if lines.push(first).is_err() {
+        return Err(ScriptFault::OutOfMemory);
+    }
+    read_commands(&mut script, source, sink, &mut lines)?;
+    Ok(WholeScript { edges, lines })
+}
+
+// Reads the lines behind the first on that is no edge line.
+fn read_commands<S: Source, K: Sink>(
+    script: &mut Script,
+    source: &mut S,
+    sink: &mut K,
+    lines: &mut Vec<Line>,
+) -> Result<(), ScriptFault>
+    requires opening { script.old.opening ≡ false }
+    requires commands { All IsCommand lines.old.items }
+    ensures commands { OnOk result (All IsCommand lines.new.items) }
+    ensures bytes { (bytes : List ℕ) → S.left source.old ≡ Some bytes → (left : List ℕ) × (S.left source.new ≡ Some left) × ReadsOn script.old bytes lines.old.items lines.new.items result left }
+    ensures taken { Keeps (K.taken sink.old) (K.taken sink.new) }
+    ensures asked { S.asked source.new ≤ S.asked source.old + script.old.lines.room + 1 }
+{
+    while let Some(line) = script.next(source, sink)? {
+        if lines.push(line).is_err() {
+            return Err(ScriptFault::OutOfMemory);
+        }
+    }
+    Ok(())
+}

@@ -1,0 +1,3 @@
+pub mod RunLaws
+pub mod BringLaws
+pub mod OneLaws

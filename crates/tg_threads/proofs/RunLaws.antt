@@ -1,0 +1,103 @@
+-- What a session's calls come to, line by line.
+use Rattle.std.proofs.Common.{◌≡◌, ◌<◌, inl, inr, ℕ, Bool, true, false, cond, List, [], ◌∷◌, ◌++◌, Option, Some, None, refl, sym, ap, ◌∙◌, subst, append-nil, append_assoc}
+use Rattle.std.specs.Prelude.{nat_lt, map}
+use Rattle.std.specs.List.{All}
+use Rattle.std.proofs.lemmas.List.Elements.{All-head, All-tail}
+use Rattle.std.proofs.lemmas.Bool.{ltb-true}
+use Rattle.tg_rights.specs.RightSet.{RightSet}
+use Rattle.tg_model.specs.declared.value.Value.{Value}
+use Rattle.tg_model.specs.declared.command.Command.{Command}
+use Rattle.tg_model.specs.declared.command.Deed.TheVariants as deed
+use Rattle.tg_journal.specs.declared.entry.Entry.{Entry}
+use Rattle.tg_space.specs.declared.spaces.Kind.TheVariants as kind
+use Rattle.tg_text.specs.declared.line.Line.TheVariants as line
+use Rattle.tg_text.specs.declared.answer.Answer.TheVariants as answer
+use Rattle.tg_shared.specs.declared.receipt.Receipt.{Receipt}
+use Rattle.tg_shared.specs.Receipts.{receipt_of}
+use Rattle.tg_shared.specs.Sessions.{SessionState, KeepsReceipts}
+use Rattle.tg_threads.specs.declared.task.Told.{Told}
+use Rattle.tg_threads.specs.declared.task.Told.TheVariants as came
+use Rattle.tg_threads.specs.Output.{Boxed}
+use Rattle.tg_threads.specs.Tasks.{IsRunBy, HasAsked, HasMade, HasCollected, HasRun, RunsOne, Runs}
+
+some_same : {X : Type 0} (a b : X) → Some a ≡ Some b → a ≡ b
+some_same a b h = cc
+
+named_test : (b : Bool) (x workers y : ℕ) → nat_lt x workers ≡ b → cond b (Some x) None ≡ Some y → (x < workers) × (x ≡ y)
+named_test true x workers y t h = (ltb-true x workers t, some_same x y h)
+named_test false x workers y t h = absurd cc
+
+-- the worker that a line names is one of the workers
+pub named : (x workers y : ℕ) → cond (nat_lt x workers) (Some x) None ≡ Some y → (x < workers) × (x ≡ y)
+named x workers y h = named_test (nat_lt x workers) x workers y refl h
+
+-- a session that keeps its receipts gets none
+none_more : (old new : SessionState) → KeepsReceipts old new → (new.worker ≡ old.worker) × (new.receipts ≡ old.receipts ++ [])
+none_more old new keeps = (keeps.0, keeps.1 ∙ sym (append-nil old.receipts))
+
+pub asked_runs : (workers x : ℕ) (command : Command) (box : Option Value) (t : Told) (old new : SessionState) → IsRunBy workers old.worker (record { line = line.Plain x command; value = box }) → HasAsked (deed.Plain command) t old new → HasRun workers (record { line = line.Plain x command; value = box }) t old new
+asked_runs workers x command box (came.Entered at) old new by h =
+    let n = named x workers old.worker by in
+    let e : Entry = record { worker = old.worker; deed = deed.Plain command; reply = h.0 } in
+    (receipt_of at e ∷ [], h.1.0, h.1.1, (e, refl, inl (n.0, (sym n.1, refl, refl))))
+asked_runs workers x command box (came.Collected kept) old new by h = absurd h
+asked_runs workers x command box (came.Refused r) old new by h =
+    let n = named x workers old.worker by in
+    let k = none_more old new h.1 in
+    ([], k.0, k.1, (refl, inl (n.0, (r, h.0, refl))))
+
+pub made_runs : (workers x : ℕ) (label : RightSet) (box : Option Value) (t : Told) (old new : SessionState) → IsRunBy workers old.worker (record { line = line.Create x label; value = box }) → HasMade label box t old new → HasRun workers (record { line = line.Create x label; value = box }) t old new
+made_runs workers x label (Some value) (came.Entered at) old new by h =
+    let n = named x workers old.worker by in
+    let e : Entry = record { worker = old.worker; deed = deed.Create label value.law value.state; reply = h.0 } in
+    (receipt_of at e ∷ [], h.1.0, h.1.1, (e, refl, inl (n.0, (sym n.1, refl, refl))))
+made_runs workers x label (Some value) (came.Collected kept) old new by h = absurd h
+made_runs workers x label (Some value) (came.Refused r) old new by h =
+    let n = named x workers old.worker by in
+    let k = none_more old new h.1 in
+    ([], k.0, k.1, (refl, inl (n.0, (r, h.0, refl))))
+made_runs workers x label None t old new by h =
+    let n = named x workers old.worker by in
+    let k = none_more old new h.1 in
+    let P : Told → Type 0 = λ a. RunsOne workers (record { line = line.Create x label; value = None }) a [] in
+    ([], k.0, k.1, subst P (sym h.0) (refl, inl (n.0, (refl, refl))))
+
+pub full_runs : (workers : ℕ) (box : Option Value) (t : Told) (s : SessionState) → HasCollected kind.Full t → HasRun workers (record { line = line.Full; value = box }) t s s
+full_runs workers box (came.Entered at) s h = absurd h
+full_runs workers box (came.Collected kept) s h = ([], refl, sym (append-nil s.receipts), (refl, (h.0, (refl, inl (ap answer.Collected h.1)))))
+full_runs workers box (came.Refused r) s h = ([], refl, sym (append-nil s.receipts), (refl, (0, (refl, inr (r, h, refl)))))
+
+pub minor_runs : (workers : ℕ) (box : Option Value) (t : Told) (s : SessionState) → HasCollected kind.Nursery t → HasRun workers (record { line = line.Minor; value = box }) t s s
+minor_runs workers box (came.Entered at) s h = absurd h
+minor_runs workers box (came.Collected kept) s h = ([], refl, sym (append-nil s.receipts), (refl, (refl, inl (ap answer.Collected h))))
+minor_runs workers box (came.Refused r) s h = ([], refl, sym (append-nil s.receipts), (refl, (refl, inr (r, h, refl))))
+
+-- ---- many lines
+
+pub runs_none : (workers : ℕ) → Runs workers [] [] []
+runs_none workers = (refl, refl)
+
+-- one line more
+pub runs_more : (workers : ℕ) (bs : List Boxed) (ts : List Told) (rs : List Receipt) (b : Boxed) (t : Told) (more : List Receipt) → Runs workers bs ts rs → RunsOne workers b t more → Runs workers (bs ++ b ∷ []) (ts ++ t ∷ []) (rs ++ more)
+runs_more workers [] ts rs b t more h one = (t, [], more, [], ap (λ x. x ++ t ∷ []) h.0, ap (λ x. x ++ more) h.1 ∙ sym (append-nil more), one, (refl, refl))
+runs_more workers (b' ∷ bs) ts rs b t more h one =
+    (h.0, h.1 ++ t ∷ [], h.2, h.3 ++ more, ap (λ x. x ++ t ∷ []) h.4, ap (λ x. x ++ more) h.5 ∙ append_assoc h.2 h.3 more, h.6, runs_more workers bs h.1 h.3 b t more h.7 one)
+
+pub map_push : {X Y : Type 0} (f : X → Y) (xs : List X) (x : X) → map f (xs ++ x ∷ []) ≡ map f xs ++ f x ∷ []
+map_push f [] x = refl
+map_push f (y ∷ xs) x = ap (λ l. f y ∷ l) (map_push f xs x)
+
+mapped_in : {X Y : Type 0} (f : X → Y) (P : Y → Type 0) (xs : List X) (x : X) (ys : List X) → All P (map f ((xs ++ x ∷ []) ++ ys)) → P (f x)
+mapped_in f P [] x ys all = All-head P (f x) (map f ys) all
+mapped_in f P (y ∷ xs) x ys all = mapped_in f P xs x ys (All-tail P (f y) (map f ((xs ++ x ∷ []) ++ ys)) all)
+
+-- what holds of all of them holds of the one that comes next
+pub mapped_at : {X Y : Type 0} (f : X → Y) (P : Y → Type 0) (xs : List X) (x : X) (ys all : List X) → (xs ++ x ∷ []) ++ ys ≡ all → All P (map f all) → P (f x)
+mapped_at f P xs x ys all is h = mapped_in f P xs x ys (subst (λ l. All P (map f l)) (sym is) h)
+
+-- a session ran one line more
+pub run_more : (workers x : ℕ) (bs : List Boxed) (ts : List Told) (old new : SessionState) (b : Boxed) (t : Told) → old.worker ≡ x → Runs workers bs ts old.receipts → x < workers → IsRunBy workers x b →
+    (old.worker < workers → IsRunBy workers old.worker b → HasRun workers b t old new) → (new.worker ≡ x) × Runs workers (bs ++ b ∷ []) (ts ++ t ∷ []) new.receipts
+run_more workers x bs ts old new b t same runs low by step =
+    let h = step (subst (λ n. n < workers) (sym same) low) (subst (λ n. IsRunBy workers n b) (sym same) by) in
+    (h.1 ∙ same, subst (λ r. Runs workers (bs ++ b ∷ []) (ts ++ t ∷ []) r) (sym h.2) (runs_more workers bs ts old.receipts b t h.0 runs h.3))

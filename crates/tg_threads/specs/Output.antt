@@ -1,0 +1,148 @@
+-- What is written for a script whose workers run their lines side by side. Nothing here knows of threads, of locks, or of how
+-- replies are kept and put out.
+use Rattle.std.specs.Prelude.{◌≡◌, ◌≢◌, ◌⊎◌, ℕ, ◌<◌, ◌≤◌, ◌==◌, List, [], ◌∷◌, ◌++◌, length, Option, Some, None, codes, decimal}
+use Rattle.std.specs.List.{All, filter}
+use Rattle.std.specs.Option.{option_to_list}
+use Rattle.tg_rights.specs.RightSet.{RightSet}
+use Rattle.tg_model.specs.declared.value.Value.{Value}
+use Rattle.tg_model.specs.declared.command.Deed.{Deed}
+use Rattle.tg_model.specs.declared.command.Deed.TheVariants as deed
+use Rattle.tg_model.specs.declared.reply.Reply.TheVariants as reply
+use Rattle.tg_journal.specs.declared.entry.Entry.{Entry}
+use Rattle.tg_journal.specs.History.{IsLegal}
+use Rattle.tg_text.specs.declared.line.Line.{Line}
+use Rattle.tg_text.specs.declared.line.Line.TheVariants as line
+use Rattle.tg_text.specs.declared.answer.Answer.{Answer}
+use Rattle.tg_text.specs.declared.answer.Answer.TheVariants as told
+use Rattle.tg_text.specs.declared.answer.Refusal.{Refusal}
+use Rattle.tg_text.specs.declared.answer.Refusal.TheVariants as refusal
+use Rattle.tg_text.specs.Texts.{answer_text}
+use Rattle.tg_script.specs.Script.{Start, commands_of, scene_of}
+
+-- ---- which box a line has
+
+-- a line, and the value in its box
+pub record Boxed : Type 0 where
+  pub line : Line
+  pub value : Option Value
+
+abbrev pub first_of : List Value → Option Value
+first_of [] = None
+first_of (value ∷ stock) = Some value
+
+abbrev pub behind_first : List Value → List Value
+behind_first [] = []
+behind_first (value ∷ stock) = stock
+
+-- a create line has the first box that is left
+abbrev pub box_of : List Value → Line → Option Value
+box_of stock (line.Create x label) = first_of stock
+box_of stock (line.Edge edge) = None
+box_of stock (line.Plain x command) = None
+box_of stock line.Full = None
+box_of stock line.Minor = None
+
+-- and uses it up, whatever becomes of the line
+abbrev pub stock_behind : List Value → Line → List Value
+stock_behind stock (line.Create x label) = behind_first stock
+stock_behind stock (line.Edge edge) = stock
+stock_behind stock (line.Plain x command) = stock
+stock_behind stock line.Full = stock
+stock_behind stock line.Minor = stock
+
+-- so the i-th create line has the i-th box of the stock
+abbrev pub boxed : List Value → List Line → List Boxed
+boxed stock [] = []
+boxed stock (l ∷ lines) = record { line = l; value = box_of stock l } ∷ boxed (stock_behind stock l) lines
+
+-- ---- what is told of one line: the entry that it made, if any, and the answer
+
+-- refused, without an entry
+abbrev pub IsRefused : Refusal → Option Entry → Answer → Type 0
+IsRefused r e a = (e ≡ None) × (a ≡ told.Refused r)
+
+-- memory or room was wanting
+abbrev pub IsWant : Refusal → Type 0
+IsWant refusal.Memory = Unit {0}
+IsWant refusal.Heap = Unit {0}
+IsWant refusal.Worker = ⊥
+IsWant refusal.Vertices = ⊥
+IsWant refusal.Threads = ⊥
+IsWant refusal.Stock = ⊥
+
+-- a refusal of the store, to a command
+abbrev pub IsOfStore : Refusal → Type 0
+IsOfStore refusal.Memory = Unit {0}
+IsOfStore refusal.Heap = Unit {0}
+IsOfStore refusal.Worker = Unit {0}
+IsOfStore refusal.Vertices = ⊥
+IsOfStore refusal.Threads = ⊥
+IsOfStore refusal.Stock = ⊥
+
+-- x asked for the deed: its entry has both, and the answer is the entry's reply; or else the store refused
+abbrev pub IsAnswered : ℕ → Deed → Option Entry → Answer → Type 0
+IsAnswered x d (Some e) a = (e.worker ≡ x) × (e.deed ≡ d) × (a ≡ told.Reply e.reply)
+IsAnswered x d None a = (r : Refusal) × IsOfStore r × (a ≡ told.Refused r)
+
+-- x asked for a vertex, with this box or with none
+abbrev pub IsMade : ℕ → RightSet → Option Value → Option Entry → Answer → Type 0
+IsMade x label (Some value) e a = IsAnswered x (deed.Create label value.law value.state) e a
+IsMade x label None e a = IsRefused refusal.Stock e a
+
+-- a collection has no entry
+abbrev pub IsCollected : Answer → Option Entry → Answer → Type 0
+IsCollected collected e a = (e ≡ None) × ((a ≡ collected) ⊎ ((r : Refusal) × IsWant r × (a ≡ told.Refused r)))
+
+-- What is told of a line, where there are so many workers. A line that names none of them is refused.
+abbrev pub Tells : ℕ → Line → Option Value → Option Entry → Answer → Type 0
+Tells workers (line.Edge edge) box e a = ⊥
+Tells workers (line.Create x label) box e a = ((x < workers) × IsMade x label box e a) ⊎ ((workers ≤ x) × IsRefused refusal.Worker e a)
+Tells workers (line.Plain x command) box e a = ((x < workers) × IsAnswered x (deed.Plain command) e a) ⊎ ((workers ≤ x) × IsRefused refusal.Worker e a)
+Tells workers line.Full box e a = (n : ℕ) × IsCollected (told.Collected (Some n)) e a
+Tells workers line.Minor box e a = IsCollected (told.Collected None) e a
+
+-- ---- what is written for all of them
+
+-- these are the entries that the lines made, in script order, and this is the text
+abbrev pub AreTold : ℕ → List Boxed → List Entry → List ℕ → Type 0
+AreTold workers [] made text = (made ≡ []) × (text ≡ [])
+AreTold workers (b ∷ bs) made text =
+    (e : Option Entry) × (a : Answer) × (more : List Entry) × (rest : List ℕ) × Tells workers b.line b.value e a
+    × (made ≡ option_to_list e ++ more) × (text ≡ answer_text a ++ rest) × AreTold workers bs more rest
+
+-- the history has exactly these entries, and those of each worker in this order; entries of different workers may stand in any
+abbrev pub HasEach : List Entry → List Entry → Type 0
+HasEach entries made = (x : ℕ) → filter (λ e. e.worker == x) entries ≡ filter (λ e. e.worker == x) made
+
+-- the last line
+abbrev pub end_text : ℕ → List ℕ
+end_text count = codes "entries " ++ decimal count ++ codes " audit ok" ++ 10 ∷ []
+
+-- The text may be written for these lines: there is a legal history of their opening whose entries are those of the command lines,
+-- one for each that has one and no other, each worker's in script order; and the text tells in script order the reply of each
+-- entry where its line stands, a refusal for each command line without an entry, and one line for each collection. Behind them
+-- stands the history's length.
+pub record IsRaceOutput (start : Start) (lines : List Line) (text : List ℕ) : Type 0 where
+  pub entries : List Entry
+  pub made : List Entry
+  pub replies : List ℕ
+  pub legal : IsLegal (scene_of start lines).graph entries
+  pub told : AreTold start.workers (boxed start.stock (commands_of lines)) made replies
+  pub each : HasEach entries made
+  pub text_is : text ≡ replies ++ end_text (length entries)
+
+-- ---- where there is one worker
+
+-- a command line of worker 0
+abbrev pub IsOfFirst : Line → Type 0
+IsOfFirst (line.Edge edge) = ⊥
+IsOfFirst (line.Create x label) = x ≡ 0
+IsOfFirst (line.Plain x command) = x ≡ 0
+IsOfFirst line.Full = ⊥
+IsOfFirst line.Minor = ⊥
+
+-- all lines are commands of worker 0, each has its entry, and none was answered that no more vertices may be made
+pub record IsOfOne (lines : List Line) (made : List Entry) : Type 0 where
+  pub first : All IsOfFirst lines
+  pub entered : length made ≡ length lines
+  pub room : All (λ e. e.reply ≢ reply.VerticesFull) made

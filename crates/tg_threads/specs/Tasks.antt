@@ -1,0 +1,119 @@
+-- Who runs which line, what it comes to, and how the parts of a race stand to what is told of it.
+use Rattle.std.specs.Prelude.{◌≡◌, ℕ, ◌<◌, List, [], ◌∷◌, ◌++◌, length, map, Option, Some, None, nat_lt, slice_get, if◌then◌else◌}
+use Rattle.std.specs.List.{All, flat_map}
+use Rattle.tg_rights.specs.RightSet.{RightSet}
+use Rattle.tg_model.specs.declared.value.Value.{Value}
+use Rattle.tg_model.specs.declared.command.Deed.{Deed}
+use Rattle.tg_model.specs.declared.command.Deed.TheVariants as deed
+use Rattle.tg_model.specs.declared.reply.Reply.{Reply}
+use Rattle.tg_space.specs.declared.spaces.Kind.{Kind}
+use Rattle.tg_space.specs.declared.spaces.Kind.TheVariants as kind
+use Rattle.tg_journal.specs.declared.entry.Entry.{Entry}
+use Rattle.tg_text.specs.declared.line.Line.{Line}
+use Rattle.tg_text.specs.declared.line.Line.TheVariants as line
+use Rattle.tg_text.specs.declared.answer.Answer.{Answer}
+use Rattle.tg_text.specs.declared.answer.Answer.TheVariants as answer
+use Rattle.tg_text.specs.declared.answer.Refusal.TheVariants as refusal
+use Rattle.tg_text.specs.Texts.{answer_text}
+use Rattle.tg_shared.specs.declared.receipt.Receipt.{Receipt}
+use Rattle.tg_shared.specs.Receipts.{receipt_of}
+use Rattle.tg_shared.specs.Sessions.{SessionState, AddsReceipt, KeepsReceipts}
+use Rattle.tg_threads.specs.declared.task.Task.{Task}
+use Rattle.std.specs.declared.thread.PromisedHandle.{PromisedHandle}
+use Rattle.tg_threads.specs.declared.threads.Assigned.{Assigned}
+use Rattle.tg_threads.specs.declared.threads.Work.{Work}
+use Rattle.tg_threads.specs.declared.worker.Finished.{Finished}
+use Rattle.tg_threads.specs.declared.task.Told.{Told}
+use Rattle.tg_threads.specs.declared.task.Told.TheVariants as came
+use Rattle.tg_threads.specs.Output.{Boxed, Tells, IsOfStore, IsWant}
+
+-- ---- who runs a line
+
+-- the worker whose thread runs the line: its own, or worker 0 for a collection; and nobody's for one that names no worker
+abbrev pub runner_of : ℕ → Line → Option ℕ
+runner_of workers (line.Edge edge) = None
+runner_of workers (line.Create x label) = if nat_lt x workers then Some x else None
+runner_of workers (line.Plain x command) = if nat_lt x workers then Some x else None
+runner_of workers line.Full = Some 0
+runner_of workers line.Minor = Some 0
+
+-- a task's line, with the value of its payload
+abbrev pub boxed_of : {P : Type 0} → Task P → Boxed
+boxed_of t = record { line = t.line; value = t.draft }
+
+-- ---- what a line comes to
+
+-- the receipt that its session got of it, and what is told of it then
+abbrev pub RunsOne : ℕ → Boxed → Told → List Receipt → Type 0
+RunsOne workers b (came.Entered at) more = (e : Entry) × (more ≡ receipt_of at e ∷ []) × Tells workers b.line b.value (Some e) (answer.Reply e.reply)
+RunsOne workers b (came.Collected kept) more = (more ≡ []) × Tells workers b.line b.value None (answer.Collected kept)
+RunsOne workers b (came.Refused r) more = (more ≡ []) × Tells workers b.line b.value None (answer.Refused r)
+
+-- a session asked for the deed: exactly one receipt more, with it and the reply, or a refusal of the store
+abbrev pub HasAsked : Deed → Told → SessionState → SessionState → Type 0
+HasAsked d (came.Entered at) old new = (reply : Reply) × AddsReceipt old new at d reply
+HasAsked d (came.Collected kept) old new = ⊥
+HasAsked d (came.Refused r) old new = IsOfStore r × KeepsReceipts old new
+
+-- a session asked for a vertex with this box; without one it asked for nothing
+abbrev pub HasMade : RightSet → Option Value → Told → SessionState → SessionState → Type 0
+HasMade label (Some value) t old new = HasAsked (deed.Create label value.law value.state) t old new
+HasMade label None t old new = (t ≡ came.Refused refusal.Stock) × KeepsReceipts old new
+
+-- the heap was collected, or memory or room was wanting
+abbrev pub HasCollected : Kind → Told → Type 0
+HasCollected k (came.Entered at) = ⊥
+HasCollected kind.Full (came.Collected kept) = (n : ℕ) × (kept ≡ Some n)
+HasCollected kind.Nursery (came.Collected kept) = kept ≡ None
+HasCollected k (came.Refused r) = IsWant r
+
+-- a session ran the line
+abbrev pub HasRun : ℕ → Boxed → Told → SessionState → SessionState → Type 0
+HasRun workers b t old new = (more : List Receipt) × (new.worker ≡ old.worker) × (new.receipts ≡ old.receipts ++ more) × RunsOne workers b t more
+
+-- these lines were run one after the other, came to this, and these are the receipts
+abbrev pub Runs : ℕ → List Boxed → List Told → List Receipt → Type 0
+Runs workers [] ts rs = (ts ≡ []) × (rs ≡ [])
+Runs workers (b ∷ bs) ts rs =
+    (t : Told) × (ts' : List Told) × (more : List Receipt) × (rs' : List Receipt) × (ts ≡ t ∷ ts') × (rs ≡ more ++ rs') × RunsOne workers b t more × Runs workers bs ts' rs'
+
+abbrev pub IsRunBy : ℕ → ℕ → Boxed → Type 0
+IsRunBy workers x b = runner_of workers b.line ≡ Some x
+
+-- the worker's session ran its lines, all that its thread was given, and they came to this
+abbrev pub Brings : ℕ → List Boxed → SessionState → List Told → Type 0
+Brings x bs session ts =
+    (workers : ℕ) → x < workers → All (IsRunBy workers x) bs → (session.worker ≡ x) × Runs workers bs ts session.receipts
+
+-- the worker, and the lines that its thread is given
+abbrev pub assigned_of : {L P : Type 0} → Work L P → ℕ × List Boxed
+assigned_of w = (w.session.worker, map boxed_of w.tasks.items)
+
+-- the same, as a thread's handle has it
+abbrev pub promised_by : {T P : Type 0} → PromisedHandle T (Assigned P) → ℕ × List Boxed
+promised_by h = (h.promise.worker, map boxed_of h.promise.tasks.value.items)
+
+-- each of them ran its lines
+abbrev pub AllBring : {L : Type 0} → List (ℕ × List Boxed) → List (Finished L) → Type 0
+AllBring [] all = all ≡ []
+AllBring {L = L} (a ∷ given) all = (f : Finished L) × (more : List (Finished L)) × (all ≡ f ∷ more) × Brings a.0 a.1 f.session f.told.items × AllBring {L = L} given more
+
+-- ---- what it is with the journal at hand
+
+abbrev pub entry_answer : Option Entry → Answer
+entry_answer (Some e) = answer.Reply e.reply
+entry_answer None = answer.Refused refusal.Memory
+
+abbrev pub told_answer : List Entry → Told → Answer
+told_answer entries (came.Entered at) = entry_answer (slice_get entries at)
+told_answer entries (came.Collected kept) = answer.Collected kept
+told_answer entries (came.Refused r) = answer.Refused r
+
+-- an entry is where it is told to be
+abbrev pub IsThere : List Entry → Told → Type 0
+IsThere entries (came.Entered at) = at < length entries
+IsThere entries (came.Collected kept) = Unit {0}
+IsThere entries (came.Refused r) = Unit {0}
+
+abbrev pub text_of_told : List Entry → List Told → List ℕ
+text_of_told entries ts = flat_map (λ t. answer_text (told_answer entries t)) ts

@@ -1,0 +1,124 @@
+//! The threads of the workers.
+ghost use Rattle.std.specs.Prelude.{◌≡◌, [], IfOk, map};
+ghost use Rattle.std.specs.List.{All};
+ghost use Rattle.tg_threads.specs.Tasks.{AllBring, Brings, assigned_of, boxed_of, promised_by};
+
+use crate::gate::Gate;
+use crate::task::Task;
+use crate::worker::{Finished, run_tasks};
+use std::alloc::{AllocError, AllocFailed, Global};
+use std::snapshot::Snapshot;
+use std::sync::Wait;
+use std::thread;
+use std::thread::{Promise, PromisedHandle, Threads};
+use tg_payload::Payload;
+use tg_shared::{Round, Session, SharedStore};
+use thiserror::Error;
+
+/// A worker's session, and the lines that its thread has to run.
+#[derive(Drop)]
+pub struct Work<L: Round, P: Payload> {
+    pub session: Session<L>,
+    pub tasks: Vec<Task<P>>,
+}
+
+/// Why not all of the workers' lines were run. The sessions are lost.
+#[derive(Clone, Copy, PartialEq, Eq, Debug, Error)]
+pub enum ThreadsFault {
+    /// There was no memory for what a worker's lines come to. None of that worker's lines was run.
+    #[error("out of memory")]
+    OutOfMemory,
+    /// A worker's thread couldn't be started. Those that were started have ended.
+    #[error("no thread")]
+    NoThread,
+}
+
+impl From<AllocError> for ThreadsFault {
+    fn from(_error: AllocError) -> ThreadsFault {
+        ThreadsFault::OutOfMemory
+    }
+}
+
+impl<T: Drop> From<AllocFailed<T>> for ThreadsFault {
+    // What there was no memory for is dropped.
+    fn from(_refused: AllocFailed<T>) -> ThreadsFault {
+        ThreadsFault::OutOfMemory
+    }
+}
+
+/// What a worker's thread has to bring back: its session, which has run these lines.
+#[derive(Drop)]
+pub(crate) struct Assigned<P: Payload> {
+    worker: u64,
+    tasks: Snapshot<Vec<Task<P>>>,
+}
+
+impl<L: Round, P: Payload> Promise<Result<Finished<L>, AllocError>> for Assigned<P> {
+    ghost use Rattle.std.specs.Prelude.{IfOk, map};
+    ghost use Rattle.tg_threads.specs.Tasks.{Brings, boxed_of};
+
+    ghost kept_by = { λ p r. IfOk r (λ finished. Brings p.worker (map boxed_of p.tasks.value.items) finished.session finished.told.items) };
+}
+
+/// Gives each worker a thread that runs its lines, and waits for all of them. What they bring back stands in the order of the
+/// workers: each session has run its lines one after the other, and each line has come to a receipt, to a refusal or to a
+/// collection. Where a thread can't be started, those that were started run to their end. The sessions have no receipts yet.
+pub fn run_threads<
+    L: Round + Send + Sync,
+    P: Payload + Send,
+    G: Gate + Sync,
+    R: Threads + Wait + Sync,
+>(
+    rt: &R,
+    alloc: Global,
+    store: &SharedStore<L, P>,
+    gate: &G,
+    works: Vec<Work<L, P>>,
+) -> Result<Vec<Finished<L>>, ThreadsFault>
+    requires { All (λ w. w.session.receipts ≡ []) works.items }
+    ensures { IfOk result (λ all. AllBring (map assigned_of works.items) all.items) }
+{
+    thread::scope(
+        thread::scope_env(),
+        rt,
+        |scope| -> Result<Vec<Finished<L>>, ThreadsFault>
+            requires { All (λ w. w.session.receipts ≡ []) works.items }
+            ensures { IfOk result (λ all. AllBring (map assigned_of works.items) all.items) }
+        {
+            let mut handles = Vec::with_capacity(alloc, works.len())?;
+            for work in works {
+                let Work { session, tasks } = work;
+                let assigned = Assigned {
+                    worker: session.worker(),
+                    tasks: Snapshot::of(&tasks),
+                };
+                let Ok(handle) = scope.spawn_with(
+                    assigned,
+                    move || -> Result<Finished<L>, AllocError>
+                        requires { session.receipts ≡ [] }
+                        ensures { IfOk result (λ finished. Brings session.worker (map boxed_of tasks.items) finished.session finished.told.items) }
+                    { run_tasks(rt, alloc, store, gate, session, tasks) },
+                ) else {
+                    return Err(ThreadsFault::NoThread);
+                };
+                handles.push(handle)?;
+            }
+            join_all(rt, alloc, handles)
+        },
+    )
+}
+
+// Waits for the threads, and gives what they brought back, in order.
+fn join_all<L: Round, P: Payload, R: Threads>(
+    rt: &R,
+    alloc: Global,
+    handles: Vec<PromisedHandle<Result<Finished<L>, AllocError>, Assigned<P>>>,
+) -> Result<Vec<Finished<L>>, ThreadsFault>
+    ensures { IfOk result (λ all. AllBring (map promised_by handles.items) all.items) }
+{
+    let mut all = Vec::new(alloc);
+    for handle in handles {
+        all.push(handle.join(rt)?)?;
+    }
+    Ok(all)
+}

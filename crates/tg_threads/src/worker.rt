@@ -1,0 +1,142 @@
+//! The run of one worker's lines.
+ghost use Rattle.std.specs.Prelude.{◌≡◌, ◌<◌, ◌++◌, ◌∷◌, [], ℕ, length, map, List, IfOk};
+ghost use Rattle.tg_model.specs.declared.command.Deed.TheVariants as Deed;
+ghost use Rattle.tg_shared.specs.declared.receipt.Receipt.{Receipt as ReceiptOf};
+ghost use Rattle.tg_threads.specs.Output.{IsOfStore};
+ghost use Rattle.tg_threads.specs.Tasks.{Brings, HasAsked, HasCollected, HasMade, HasRun, IsRunBy, boxed_of};
+
+use crate::gate::Gate;
+use crate::task::{Task, Told};
+use std::alloc::{AllocError, Global};
+use std::sync::Wait;
+use tg_model::Command;
+use tg_payload::{Draft, Payload};
+use tg_rights::Label;
+use tg_shared::{Round, Session, SharedStore};
+use tg_store::{ApplyFault, CollectFault, CreateFault, Kind};
+use tg_text::{Line, Refusal};
+
+/// A worker's session after its lines, and what each of them came to, in their order.
+#[derive(Drop)]
+pub struct Finished<L: Round> {
+    pub session: Session<L>,
+    pub told: Vec<Told>,
+}
+
+/// Runs the lines, one after the other, and passes the gate before each. Answers only want of memory otherwise, before any
+/// line is run.
+pub(crate) fn run_tasks<L: Round, P: Payload, G: Gate, R: Wait>(
+    rt: &R,
+    alloc: Global,
+    store: &SharedStore<L, P>,
+    gate: &G,
+    mut session: Session<L>,
+    tasks: Vec<Task<P>>,
+) -> Result<Finished<L>, AllocError>
+    requires fresh { session.receipts ≡ [] }
+    ensures { IfOk result (λ finished. Brings session.worker (map boxed_of tasks.items) finished.session finished.told.items) }
+{
+    let mut told = Vec::with_capacity(alloc, tasks.len())?;
+    for task in tasks {
+        gate.pass(session.worker());
+        told.push(run_task(rt, store, &mut session, task))?;
+    }
+    Ok(Finished { session, told })
+}
+
+// Runs one line.
+fn run_task<L: Round, P: Payload, R: Wait>(
+    rt: &R,
+    store: &SharedStore<L, P>,
+    session: &mut Session<L>,
+    task: Task<P>,
+) -> Told
+    ensures { (workers : ℕ) → session.old.worker < workers → IsRunBy workers session.old.worker (boxed_of task) →
+        HasRun workers (boxed_of task) result session.old session.new }
+{
+    let Task { line, draft } = task;
+    match line {
+        Line::Plain { command, .. } => apply(rt, store, session, command),
+        Line::Create { label, .. } => create(rt, store, session, label, draft),
+        Line::Full => collect(rt, store, session, Kind::Full),
+        Line::Minor => collect(rt, store, session, Kind::Nursery),
+        // No thread runs an edge line.
+        Line::Edge(_) => Told::Refused(Refusal::Worker),
+    }
+}
+
+fn apply<L: Round, P: Payload, R: Wait>(
+    rt: &R,
+    store: &SharedStore<L, P>,
+    session: &mut Session<L>,
+    command: Command,
+) -> Told
+    ensures { HasAsked (Deed.Plain command) result session.old session.new }
+{
+    if let Err(fault) = session.call(rt, store, command) {
+        return Told::Refused(apply_refusal(fault));
+    }
+    last_told(session)
+}
+
+// The payload is dropped where no vertex is made.
+fn create<L: Round, P: Payload, R: Wait>(
+    rt: &R,
+    store: &SharedStore<L, P>,
+    session: &mut Session<L>,
+    label: Label,
+    draft: Option<Draft<P>>,
+) -> Told
+    ensures { HasMade label draft result session.old session.new }
+{
+    let Some(draft) = draft else {
+        return Told::Refused(Refusal::Stock);
+    };
+    if let Err(refused) = session.create(rt, store, label, draft) {
+        match refused.why {
+            CreateFault::VerticesFull => (),
+            CreateFault::NoSuchWorker => return Told::Refused(Refusal::Worker),
+            CreateFault::OutOfMemory => return Told::Refused(Refusal::Memory),
+            CreateFault::HeapFull => return Told::Refused(Refusal::Heap),
+        }
+    }
+    last_told(session)
+}
+
+// How many vertices the heap then has is told of a full collection alone.
+fn collect<L: Round, P: Payload, R: Wait>(
+    rt: &R,
+    store: &SharedStore<L, P>,
+    session: &Session<L>,
+    kind: Kind,
+) -> Told
+    ensures { HasCollected kind result }
+{
+    match (session.collect(rt, store, kind), kind) {
+        (Ok(kept), Kind::Full) => Told::Collected(Some(kept)),
+        (Ok(_), Kind::Nursery) => Told::Collected(None),
+        (Err(CollectFault::OutOfMemory), _) => Told::Refused(Refusal::Memory),
+        (Err(CollectFault::HeapFull), _) => Told::Refused(Refusal::Heap),
+    }
+}
+
+fn apply_refusal(fault: ApplyFault) -> Refusal
+    ensures { IsOfStore result }
+{
+    match fault {
+        ApplyFault::NoSuchWorker => Refusal::Worker,
+        ApplyFault::OutOfMemory => Refusal::Memory,
+        ApplyFault::HeapFull => Refusal::Heap,
+    }
+}
+
+// The entry of the last receipt.
+fn last_told<L: Round>(session: &Session<L>) -> Told
+    requires { 0 < length session.now.receipts }
+    ensures { (front : List ReceiptOf) (last : ReceiptOf) → session.now.receipts ≡ front ++ last ∷ [] → result ≡ Told.Entered last.at }
+{
+    let last = session.receipts().len() - 1;
+    Told::Entered {
+        at: session.receipts()[last].at,
+    }
+}
