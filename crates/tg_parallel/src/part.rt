@@ -41,7 +41,7 @@ impl Part {
     /// The part of a helper that has made these copies, with the numbers of the blocks that it has claimed.
     ///
     /// It is refused with `HeapFull` where a number is past the limit, and with `OutOfMemory` where memory was refused.
-    pub fn of(
+    pub(crate) fn of(
         alloc: Global,
         copies: Copies,
         aged: &[u64],
