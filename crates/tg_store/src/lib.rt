@@ -39,5 +39,4 @@ pub use census::Census;
 pub use fault::{ApplyFault, CreateFault, CreateRefused, OpenFault, OpenRefused};
 pub use store::Store;
 pub use tg_evac::CollectFault;
-pub use tg_parallel::HelpersFault;
 pub use tg_space::{Kind, Limits};

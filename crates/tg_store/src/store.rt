@@ -8,13 +8,10 @@ use crate::census::Census;
 use crate::fault::{ApplyFault, CreateFault, CreateRefused, OpenFault, OpenRefused};
 use std::alloc::{AllocError, Global};
 use std::marker::Model;
-use std::sync::Wait;
-use std::thread::Threads;
 use tg_evac::{CollectFault, Copied, collect_one};
 use tg_graph::{Heap, HeapRefused};
 use tg_journal::{Entry, Journal};
 use tg_model::{Command, Deed, Opening, Reply, Value};
-use tg_parallel::{HelpersFault, NoGate, collect_many};
 use tg_payload::{Draft, Payload};
 use tg_rights::Label;
 use tg_space::{Kind, Limits};
@@ -48,12 +45,12 @@ impl<P: Payload> Store<P> {
     ghost use Rattle.tg_model.specs.Opened.{start_of};
     ghost use Rattle.tg_model.specs.Rules.{IsAllowed, step, answer_of};
     ghost use Rattle.tg_model.specs.declared.reply.Denial.{Denial};
-    ghost use Rattle.tg_space.specs.Collection.{IsCollection, MayLackRoom, used_cells};
+    ghost use Rattle.tg_space.specs.Collection.{MayLackRoom, used_cells};
     ghost use Rattle.tg_space.specs.SpaceList.{block_count, space_of};
     ghost use Rattle.tg_space.specs.SpaceTable.{kept_blocks};
     ghost use Rattle.tg_payload.specs.Table.{count};
     ghost use Rattle.tg_graph.specs.Content.{IsNamed};
-    ghost use Rattle.tg_graph.specs.Heap.{content_of, roots_of};
+    ghost use Rattle.tg_graph.specs.Heap.{content_of};
     ghost use Rattle.tg_graph.specs.Spots.{IsMadeInRow, LacksCellsFor};
     ghost use Rattle.tg_graph.specs.Kept.{VerticesOfOldStay};
     ghost use Rattle.tg_rules.specs.Effect.{AddsEdge, LacksCellsToServe};
@@ -247,65 +244,6 @@ impl<P: Payload> Store<P> {
     {
         let roots = self.heap.roots(self.alloc, kind)?;
         let copied = collect_one(self.alloc, self.heap.spaces(), &roots, kind)?;
-        Ok(self.settle(kind, copied)?)
-    }
-
-    /// The same with as many helpers: one on the calling thread, and each other on a thread of its own. All threads that were
-    /// started have ended before the answer.
-    ///
-    /// `HeapFull` is answered only where the cells in use that would be moved may not fit into the blocks that a space may
-    /// have, of which each helper may leave one open; `NoThread` where a thread couldn't be started, and never of one helper
-    /// alone; else `OutOfMemory` alone. The store is then as it was.
-    pub fn collect_with<R: Threads + Wait + Sync>(
-        &mut self,
-        rt: &R,
-        kind: Kind,
-        helpers: u32,
-    ) -> Result<u64, HelpersFault>
-        requires some { 1 ≤ helpers }
-        requires few { helpers ≤ 8 }
-        ensures number { IfOk result (λ number. number ≡ length (content_of self.new.heap).names) }
-        ensures names { (g : ProtectionGraph) → StandsFor self.old g → OnOk result (kind ≡ Kind.Full → (x : ℕ) → IsNamed (content_of self.new.heap) x ↔ IsReachable g x) }
-        ensures reachable { (g : ProtectionGraph) → StandsFor self.old g → IfOk result (λ number. kind ≡ Kind.Full → IsCountOf (IsReachable g) number) }
-        ensures only_old { OnOk result (kind ≡ Kind.Full → (space : ℕ) → space ≢ 0 → space_of self.new.heap.table.spaces space ≡ []) }
-        ensures no_nursery { OnOk result ((space : ℕ) → 2 ≤ space → space_of self.new.heap.table.spaces space ≡ []) }
-        ensures stay { OnOk result (kind ≡ Kind.Nursery → VerticesOfOldStay self.old.heap.table.spaces self.new.heap.table.spaces) }
-        ensures entries { self.new.entries ≡ self.old.entries }
-        ensures full { result ≡ Err HelpersFault.HeapFull →
-            MayLackRoom self.old.heap.table.limits.space_blocks helpers (kept_blocks kind self.old.heap.table.spaces) (used_cells kind self.old.heap.table.spaces) }
-        ensures alone { helpers ≡ 1 → result ≢ Err HelpersFault.NoThread }
-        ensures refused { OnErr result (self.new ≡ self.old) }
-        ensures opening { self.new.opening ≡ self.old.opening }
-        ensures limits { self.new.heap.table.limits ≡ self.old.heap.table.limits }
-    {
-        let roots = self.heap.roots(self.alloc, kind)?;
-        let copied = collect_many(
-            rt,
-            self.alloc,
-            self.heap.spaces(),
-            &roots,
-            kind,
-            helpers,
-            &NoGate,
-        )?;
-        Ok(self.settle(kind, copied)?)
-    }
-
-    // Puts a collection from the heap's own roots in the place of what it moved, and answers how many vertices the heap then
-    // has.
-    fn settle(&mut self, kind: Kind, copied: Copied) -> Result<u64, AllocError>
-        requires { IsCollection kind self.old.heap.table.spaces (roots_of kind self.old.heap) copied.forward.words copied.adoption.aged copied.adoption.old copied.remembered.places }
-        ensures number { IfOk result (λ number. number ≡ length (content_of self.new.heap).names) }
-        ensures names { (g : ProtectionGraph) → StandsFor self.old g → OnOk result (kind ≡ Kind.Full → (x : ℕ) → IsNamed (content_of self.new.heap) x ↔ IsReachable g x) }
-        ensures reachable { (g : ProtectionGraph) → StandsFor self.old g → IfOk result (λ number. kind ≡ Kind.Full → IsCountOf (IsReachable g) number) }
-        ensures only_old { OnOk result (kind ≡ Kind.Full → (space : ℕ) → space ≢ 0 → space_of self.new.heap.table.spaces space ≡ []) }
-        ensures no_nursery { OnOk result ((space : ℕ) → 2 ≤ space → space_of self.new.heap.table.spaces space ≡ []) }
-        ensures stay { OnOk result (kind ≡ Kind.Nursery → VerticesOfOldStay self.old.heap.table.spaces self.new.heap.table.spaces) }
-        ensures entries { self.new.entries ≡ self.old.entries }
-        ensures refused { OnErr result (self.new ≡ self.old) }
-        ensures opening { self.new.opening ≡ self.old.opening }
-        ensures limits { self.new.heap.table.limits ≡ self.old.heap.table.limits }
-    {
         let Copied {
             forward,
             adoption,

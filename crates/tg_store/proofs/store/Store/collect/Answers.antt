@@ -7,7 +7,7 @@ use Rattle.tg_graph.specs.Kept.{VerticesOfOldStay}
 use Rattle.tg_store.specs.Store.{HasFewBlocks, StoreState, StandsFor, graph_of_store}
 use Rattle.tg_store.proofs.BlockLaws.{few_left}
 use Rattle.tg_store.proofs.CollectLaws.{IsStore-collected, counted_left, kept_in_full, names_left}
-use Rattle.tg_store.proofs.store.Store.settle.Goals as goal
+use Rattle.tg_store.proofs.store.Store.collect.Goals as goal
 
 pub invariant_of-self-2 : goal.invariant_of-self-2
 invariant_of-self-2 g c =
