@@ -22,10 +22,7 @@ pub fn drafts_of<P: Payload>(alloc: Global, payloads: Vec<P>) -> Result<Vec<Draf
 }
 
 /// Copies of the drafts' values, which fit their laws. Answers only want of memory otherwise.
-pub fn values_of<P: Payload>(
-    alloc: Global,
-    drafts: &[Draft<P>],
-) -> Result<Vec<Value>, AllocError>
+pub fn values_of<P: Payload>(alloc: Global, drafts: &[Draft<P>]) -> Result<Vec<Value>, AllocError>
     ensures values { IfOk result (λ values. values.items ≡ drafts.now) }
     ensures fit { IfOk result (λ values. All ValueFits values.items) }
 {

@@ -36,13 +36,14 @@ only_first : (entries : List Entry) → ((x : ℕ) → x ≢ 0 → filter (λ e.
 only_first [] none = refl
 only_first (e ∷ entries) none =
     by_test (e.worker == 0) refl (only_first entries (λ x other. tail_none (e.worker == x) e (filter (λ e'. e'.worker == x) entries) (none x other))) where
-  front : ℕ → List Entry
-  front x = filter (λ e. e.worker == x) entries
-  by_test : (b : Bool) → (e.worker == 0) ≡ b → front 0 ≡ entries → cond (e.worker == 0) (e ∷ front 0) (front 0) ≡ e ∷ entries
-  by_test true is rest = ap (λ b. cond b (e ∷ front 0) (front 0)) is ∙ ap (λ es. e ∷ es) rest
-  by_test false is rest =
-      let here : cond (e.worker == e.worker) (e ∷ front e.worker) (front e.worker) ≡ [] = none e.worker (eqb-false e.worker 0 is) in
-      absurd (no_cons e (front e.worker) (sym (ap (λ b. cond b (e ∷ front e.worker) (front e.worker)) (eq-eqb e.worker e.worker refl)) ∙ here))
+      front : ℕ → List Entry
+      front x = filter (λ e. e.worker == x) entries
+
+      by_test : (b : Bool) → (e.worker == 0) ≡ b → front 0 ≡ entries → cond (e.worker == 0) (e ∷ front 0) (front 0) ≡ e ∷ entries
+      by_test true is rest = ap (λ b. cond b (e ∷ front 0) (front 0)) is ∙ ap (λ es. e ∷ es) rest
+      by_test false is rest =
+          let here : cond (e.worker == e.worker) (e ∷ front e.worker) (front e.worker) ≡ [] = none e.worker (eqb-false e.worker 0 is) in
+          absurd (no_cons e (front e.worker) (sym (ap (λ b. cond b (e ∷ front e.worker) (front e.worker)) (eq-eqb e.worker e.worker refl)) ∙ here))
 
 -- all are of worker 0
 abbrev AreFirst : List Entry → Type 0

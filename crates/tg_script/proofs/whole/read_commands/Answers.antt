@@ -33,10 +33,15 @@ pub returns-then-is_err-clause-bytes : goal.returns-then-is_err-clause-bytes
 returns-then-is_err-clause-bytes g c = λ bytes known.
     let i = c.loop-line.invariant.bytes bytes known in
     let came = rw c.in-Some.is at c.in_ok-line.ensures.bytes in
-    let n = came i.0 i.2 in
-    (n.0, n.1, (i.1 ++ c.in-Some.line ∷ [],
-     behind_all c.args.script.now c.next.new.self bytes n.0 (i.1 ++ c.in-Some.line ∷ []) (Some fault.OutOfMemory) n.0
-       (behind_more c.args.script.now c.loop-line.script c.next.new.self bytes i.0 n.0 i.1 c.in-Some.line i.4 n.2) refl))
+    let n = came i.0 i.2 in (
+      n.0,
+      n.1,
+      (
+        i.1 ++ c.in-Some.line ∷ [],
+        behind_all c.args.script.now c.next.new.self bytes n.0 (i.1 ++ c.in-Some.line ∷ []) (Some fault.OutOfMemory) n.0
+            (behind_more c.args.script.now c.loop-line.script c.next.new.self bytes i.0 n.0 i.1 c.in-Some.line i.4 n.2) refl,
+      ),
+    )
 
 pub loop-line-preserved : goal.loop-line-preserved
 loop-line-preserved g c =
@@ -51,9 +56,13 @@ loop-line-preserved g c =
       commands = subst Q (sym more) (All-push IsCommand c.loop-line.lines.items c.in-Some.line c.loop-line.invariant.commands n.0);
       bytes = λ bytes known.
           let i = c.loop-line.invariant.bytes bytes known in
-          let m = came i.0 i.2 in
-          (m.0, i.1 ++ c.in-Some.line ∷ [], m.1, more ∙ ap (λ x. x ++ c.in-Some.line ∷ []) i.3 ∙ append_assoc c.args.lines.now.items i.1 (c.in-Some.line ∷ []),
-           behind_more c.args.script.now c.loop-line.script c.next.new.self bytes i.0 m.0 i.1 c.in-Some.line i.4 m.2);
+          let m = came i.0 i.2 in (
+            m.0,
+            i.1 ++ c.in-Some.line ∷ [],
+            m.1,
+            more ∙ ap (λ x. x ++ c.in-Some.line ∷ []) i.3 ∙ append_assoc c.args.lines.now.items i.1 (c.in-Some.line ∷ []),
+            behind_more c.args.script.now c.loop-line.script c.next.new.self bytes i.0 m.0 i.1 c.in-Some.line i.4 m.2,
+          );
       taken = keeps_then (g.K.Sink.taken c.args.sink.now) (g.K.Sink.taken c.loop-line.sink) (g.K.Sink.taken c.next.new.sink) c.loop-line.invariant.taken c.in_ok-line.ensures.taken;
       asked = omega (arith, asked, c.loop-line.invariant.asked);
     }

@@ -45,6 +45,9 @@ returns-clause-bytes g c = λ bytes known.
     let edges = edge_lines c.in_ok-edges.field-0.edges.items in
     let n = (rw c.in-Some.is at c.in_ok-edges.ensures.bytes) bytes known in
     let m = c.in_ok-read_commands.ensures.bytes n.0 n.1 in
-    let one = pushed c.push.new.self.items c.new-lines.result.items c.in-Some.first c.push.result (sym c.if-is_err.ensures.value) c.push.ensures.items ∙ ap (λ (x : List Line). x ++ c.in-Some.first ∷ []) c.new-lines.ensures.items in
-    (m.0, m.1, subst (λ x. ReadsScript c.args.workers bytes (edges ++ x) None m.0) (sym (m.2.1 ∙ ap (λ (x : List Line). x ++ m.2.0) one))
-      (behind_first_line c.new-script.result c.read_edges.new.script c.args.workers bytes n.0 edges c.in-Some.first m.2.0 None m.0 fresh n.2 m.2.2))
+    let one = pushed c.push.new.self.items c.new-lines.result.items c.in-Some.first c.push.result (sym c.if-is_err.ensures.value) c.push.ensures.items ∙ ap (λ (x : List Line). x ++ c.in-Some.first ∷ []) c.new-lines.ensures.items in (
+      m.0,
+      m.1,
+      subst (λ x. ReadsScript c.args.workers bytes (edges ++ x) None m.0) (sym (m.2.1 ∙ ap (λ (x : List Line). x ++ m.2.0) one))
+          (behind_first_line c.new-script.result c.read_edges.new.script c.args.workers bytes n.0 edges c.in-Some.first m.2.0 None m.0 fresh n.2 m.2.2),
+    )
