@@ -1,5 +1,5 @@
 -- What a store is to its callers: an opening, the journal of what was decided since, and a heap. What holds of every store.
-use Rattle.std.specs.Prelude.{◌≡◌, ◌↔◌, ◌≤◌, ◌⊎◌, ◌+◌, ℕ, ◌==◌, List, [], ◌∷◌, ◌++◌, length}
+use Rattle.std.specs.Prelude.{◌≡◌, ◌↔◌, ◌≤◌, ◌⊎◌, ◌+◌, ℕ, ◌==◌, List, [], ◌∷◌, ◌++◌, length, map}
 use Rattle.std.specs.List.{Contains, IsDistinct}
 use Rattle.tg_model.specs.declared.command.Deed.{Deed}
 use Rattle.tg_model.specs.declared.reply.Reply.{Reply}
@@ -7,13 +7,14 @@ use Rattle.tg_model.specs.Graph.{ProtectionGraph}
 use Rattle.tg_model.specs.Opened.{Plan, IsPlan, start_of}
 use Rattle.tg_journal.specs.declared.entry.Entry.{Entry}
 use Rattle.tg_journal.specs.History.{IsLegal, graph_after}
-use Rattle.tg_space.specs.SpaceList.{block_count, space_of}
-use Rattle.tg_space.specs.SpaceTable.{SpaceTable}
+use Rattle.tg_space.specs.SpaceList.{BlockList, block_count, space_of}
+use Rattle.tg_space.specs.SpaceTable.{SpaceTable, with_adopted}
 use Rattle.tg_space.specs.Collection.{blocks_for, used_cells}
 use Rattle.tg_space.specs.declared.spaces.Kind.{Kind}
 use Rattle.tg_space.specs.declared.spaces.Kind.TheVariants.{Full, Nursery}
 use Rattle.tg_graph.specs.Heap as graph
 use Rattle.tg_graph.specs.Heap.{HeapState, content_of}
+use Rattle.tg_graph.specs.Kept.{AreWritten, rewritten_at}
 use Rattle.tg_graph.specs.Standing as standing
 
 -- What a store holds: the opening that it was opened with, the entries of its journal, oldest first, and its heap.
@@ -60,6 +61,12 @@ pub record IsUnchanged (old new : StoreState) : Type 0 where
   pub opening : new.opening ≡ old.opening
   pub entries : new.entries ≡ old.entries
   pub heap : graph.IsUnchanged old.heap new.heap
+
+-- What a collection made stands in the place of what it moved: of a full one it is all that there is; a nursery collection has
+-- written the remembered cells besides.
+pub record HasAdopted (kind : Kind) (old new : HeapState) (forward : List ℕ) (aged more : BlockList) : Type 0 where
+  pub full : kind ≡ Full → new.table ≡ with_adopted old.table Full aged more
+  pub nursery : kind ≡ Nursery → AreWritten (with_adopted old.table Nursery aged more) new.table (map (rewritten_at old.table.spaces forward) old.remembered)
 
 -- How few blocks a collection leaves. Of a full one they are no more than the cells in use need; of a nursery collection at
 -- most one more than the younger cells in use need, beside those that Old had, since it fills blocks of two spaces.

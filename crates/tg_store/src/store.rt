@@ -14,7 +14,7 @@ use tg_journal::{Entry, Journal};
 use tg_model::{Command, Deed, Opening, Reply, Value};
 use tg_payload::{Draft, Payload};
 use tg_rights::Label;
-use tg_space::{Kind, Limits};
+use tg_space::{Kind, Limits, Root, Spaces};
 
 /// An object store with access control, over payloads that its callers hand in. Contracts see it as a `StoreState`,
 /// and tell each call by the protection graph that this stands for: that of its opening, after the deeds of its journal.
@@ -45,16 +45,17 @@ impl<P: Payload> Store<P> {
     ghost use Rattle.tg_model.specs.Opened.{start_of};
     ghost use Rattle.tg_model.specs.Rules.{IsAllowed, step, answer_of};
     ghost use Rattle.tg_model.specs.declared.reply.Denial.{Denial};
-    ghost use Rattle.tg_space.specs.Collection.{MayLackRoom, used_cells};
+    ghost use Rattle.tg_space.specs.Collection.{IsCollection, MayLackRoom, used_cells};
+    ghost use Rattle.tg_space.specs.Soundness.{AreSound};
     ghost use Rattle.tg_space.specs.SpaceList.{block_count, space_of};
     ghost use Rattle.tg_space.specs.SpaceTable.{kept_blocks};
     ghost use Rattle.tg_payload.specs.Table.{count};
     ghost use Rattle.tg_graph.specs.Content.{IsNamed};
-    ghost use Rattle.tg_graph.specs.Heap.{content_of};
+    ghost use Rattle.tg_graph.specs.Heap.{content_of, roots_of};
     ghost use Rattle.tg_graph.specs.Spots.{IsMadeInRow, LacksCellsFor};
     ghost use Rattle.tg_graph.specs.Kept.{VerticesOfOldStay};
     ghost use Rattle.tg_rules.specs.Effect.{AddsEdge, LacksCellsToServe};
-    ghost use Rattle.tg_store.specs.Store.{Enters, HasFewBlocks, IsCountOf, IsFaithful, IsUnchanged, OnlyEnters, StandsFor};
+    ghost use Rattle.tg_store.specs.Store.{Enters, HasAdopted, HasFewBlocks, IsCountOf, IsFaithful, IsUnchanged, OnlyEnters, StandsFor};
 
     /// A store that starts from the opening, with the payloads of the drafts, one for each worker, and with no entry in
     /// its journal. `PayloadMismatch` is answered exactly where the drafts' laws and states aren't the opening's, with
@@ -244,6 +245,42 @@ impl<P: Payload> Store<P> {
     {
         let roots = self.heap.roots(self.alloc, kind)?;
         let copied = collect_one(self.alloc, self.heap.spaces(), &roots, kind)?;
+        Ok(self.settle(kind, copied)?)
+    }
+
+    /// What a collection of this kind starts from: the rows of the workers, by rising name; for a nursery collection the
+    /// remembered cells too. This, [`spaces`](Store::spaces) and [`settle`](Store::settle) are for collectors outside of this
+    /// crate. Fails only when out of memory.
+    pub fn roots(&self, kind: Kind) -> Result<Vec<Root>, AllocError>
+        ensures roots { IfOk result (λ roots. roots.items ≡ roots_of kind self.now.heap) }
+        ensures sound { AreSound self.now.heap.table.spaces (roots_of kind self.now.heap) }
+    {
+        self.heap.roots(self.alloc, kind)
+    }
+
+    /// The cells that a collection goes over. Takes no memory.
+    pub fn spaces(&self) -> &Spaces
+        ensures { result.now ≡ self.now.heap.table }
+    {
+        self.heap.spaces()
+    }
+
+    /// Puts what a collection of the store's own cells made, from its own roots, in the place of what it moved, and answers how
+    /// many vertices the heap then has. Fails only when out of memory; the store is then as it was.
+    pub fn settle(&mut self, kind: Kind, copied: Copied) -> Result<u64, AllocError>
+        requires { IsCollection kind self.old.heap.table.spaces (roots_of kind self.old.heap) copied.forward.words copied.adoption.aged copied.adoption.old copied.remembered.places }
+        ensures number { IfOk result (λ number. number ≡ length (content_of self.new.heap).names) }
+        ensures names { (g : ProtectionGraph) → StandsFor self.old g → OnOk result (kind ≡ Kind.Full → (x : ℕ) → IsNamed (content_of self.new.heap) x ↔ IsReachable g x) }
+        ensures reachable { (g : ProtectionGraph) → StandsFor self.old g → IfOk result (λ number. kind ≡ Kind.Full → IsCountOf (IsReachable g) number) }
+        ensures only_old { OnOk result (kind ≡ Kind.Full → (space : ℕ) → space ≢ 0 → space_of self.new.heap.table.spaces space ≡ []) }
+        ensures no_nursery { OnOk result ((space : ℕ) → 2 ≤ space → space_of self.new.heap.table.spaces space ≡ []) }
+        ensures stay { OnOk result (kind ≡ Kind.Nursery → VerticesOfOldStay self.old.heap.table.spaces self.new.heap.table.spaces) }
+        ensures adopted { OnOk result (HasAdopted kind self.old.heap self.new.heap copied.forward.words copied.adoption.aged copied.adoption.old) }
+        ensures entries { self.new.entries ≡ self.old.entries }
+        ensures refused { OnErr result (self.new ≡ self.old) }
+        ensures opening { self.new.opening ≡ self.old.opening }
+        ensures limits { self.new.heap.table.limits ≡ self.old.heap.table.limits }
+    {
         let Copied {
             forward,
             adoption,

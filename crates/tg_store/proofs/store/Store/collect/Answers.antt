@@ -1,49 +1,18 @@
--- The heap then has what can be reached, and stands for the same graph.
-use Rattle.std.proofs.Common.{◌∙◌, ◌≤◌, ◌+◌, length, refl, ap, subst}
+-- How few blocks are left.
+use Rattle.std.proofs.Common.{◌≤◌, ◌+◌, subst}
 use Rattle.tg_space.specs.SpaceTable.{SpaceTable, kept_blocks}
 use Rattle.tg_space.specs.Collection.{AreFewBlocks, copies_in, used_cells}
-use Rattle.tg_graph.specs.Heap.{content_of}
-use Rattle.tg_graph.specs.Kept.{VerticesOfOldStay}
-use Rattle.tg_store.specs.Store.{HasFewBlocks, StoreState, StandsFor, graph_of_store}
+use Rattle.tg_store.specs.Store.{StoreState}
 use Rattle.tg_store.proofs.BlockLaws.{few_left}
-use Rattle.tg_store.proofs.CollectLaws.{IsStore-collected, counted_left, kept_in_full, names_left}
 use Rattle.tg_store.proofs.store.Store.collect.Goals as goal
-
-pub invariant_of-self-2 : goal.invariant_of-self-2
-invariant_of-self-2 g c =
-    let old : StoreState = record { opening = c.self.inside.opening; entries = c.self.inside.journal.entries; heap = c.self.inside.heap } in
-    let new : StoreState = record { opening = c.self.inside.opening; entries = c.self.inside.journal.entries; heap = c.settle.new.self } in
-    IsStore-collected old new c.self.inside.made c.self.invariant c.args.kind c.in_ok-settle.ensures.kept refl refl c.settle.ensures.workers
-
-pub returns-clause-names : goal.returns-clause-names
-returns-clause-names g c =
-    let old : StoreState = record { opening = c.self.inside.opening; entries = c.self.inside.journal.entries; heap = c.self.inside.heap } in
-    let new : StoreState = record { opening = c.self.inside.opening; entries = c.self.inside.journal.entries; heap = c.settle.new.self } in
-    λ graph stands full.
-    let here : StandsFor old graph = ap graph_of_store c.self.view_is ∙ stands in
-    let keeps = kept_in_full c.args.kind (content_of old.heap) (content_of new.heap) (length old.heap.workers) full c.in_ok-settle.ensures.kept in
-    names_left old new c.self.inside.made c.self.invariant keeps graph here
-
-pub returns-clause-reachable : goal.returns-clause-reachable
-returns-clause-reachable g c =
-    let old : StoreState = record { opening = c.self.inside.opening; entries = c.self.inside.journal.entries; heap = c.self.inside.heap } in
-    let new : StoreState = record { opening = c.self.inside.opening; entries = c.self.inside.journal.entries; heap = c.settle.new.self } in
-    λ graph stands full.
-    let here : StandsFor old graph = ap graph_of_store c.self.view_is ∙ stands in
-    let keeps = kept_in_full c.args.kind (content_of old.heap) (content_of new.heap) (length old.heap.workers) full c.in_ok-settle.ensures.kept in
-    counted_left old new c.self.inside.made c.self.invariant keeps graph c.vertices.result here c.vertices.ensures.number c.vertices.ensures.once
-
-pub returns-clause-stay : goal.returns-clause-stay
-returns-clause-stay g c =
-    λ nursery. subst (λ (state : StoreState). VerticesOfOldStay state.heap.table.spaces c.settle.new.self.table.spaces) c.self.view_is (c.in_ok-settle.ensures.stay nursery)
 
 pub returns-clause-blocks : goal.returns-clause-blocks
 returns-clause-blocks g c =
-    let heap = c.self.inside.heap in
     let made = c.in_ok-copied.copied in
     let kind = c.args.kind in
     let few = subst (λ (t : SpaceTable). AreFewBlocks t.limits.space_blocks (kept_blocks kind t.spaces) 0 made.forward.words made.adoption.aged made.adoption.old) c.spaces.ensures c.in_ok-copied.ensures.few in
     let moved = subst (λ (t : SpaceTable). copies_in made.forward.words 0 + copies_in made.forward.words 1 ≤ used_cells kind t.spaces) c.spaces.ensures c.in_ok-copied.ensures.moved in
-    subst (λ (state : StoreState). HasFewBlocks kind state.heap.table c.settle.new.self.table) c.self.view_is
-    (few_left heap.table c.settle.new.self.table made.forward.words made.adoption.aged made.adoption.old kind few moved c.in_ok-settle.ensures.blocks
-    heap c.in_ok-settle.ensures.written)
+    let old_few = subst (λ (state : StoreState). AreFewBlocks state.heap.table.limits.space_blocks (kept_blocks kind state.heap.table.spaces) 0 made.forward.words made.adoption.aged made.adoption.old) c.self.view_is few in
+    let old_moved = subst (λ (state : StoreState). copies_in made.forward.words 0 + copies_in made.forward.words 1 ≤ used_cells kind state.heap.table.spaces) c.self.view_is moved in
+    let adopted = c.in_ok-settle.ensures.adopted in
+    few_left c.args.self.now.heap.table c.settle.new.self.heap.table made.forward.words made.adoption.aged made.adoption.old kind old_few old_moved adopted.full c.args.self.now.heap adopted.nursery

@@ -1,0 +1,60 @@
+//! A store's collections by several helpers.
+//!
+//! [`collect_with`] is `Store::collect` with up to eight helpers on threads. It stands in a crate of its own, over the store and
+//! over `tg_parallel`, because a library for C can't hold what starts threads or waits, and the store is part of one.
+#![tactic(auto)]
+
+ghost use Rattle.std.specs.Prelude.{◌≡◌, ◌≢◌, ◌↔◌, ◌≤◌, ℕ, [], Err, IfOk, OnErr, OnOk, length};
+ghost use Rattle.tg_model.specs.Graph.{ProtectionGraph, IsReachable};
+ghost use Rattle.tg_space.specs.Collection.{MayLackRoom, used_cells};
+ghost use Rattle.tg_space.specs.SpaceList.{space_of};
+ghost use Rattle.tg_space.specs.SpaceTable.{kept_blocks};
+ghost use Rattle.tg_graph.specs.Content.{IsNamed};
+ghost use Rattle.tg_graph.specs.Heap.{content_of};
+ghost use Rattle.tg_graph.specs.Kept.{VerticesOfOldStay};
+ghost use Rattle.tg_store.specs.Store.{IsCountOf, StandsFor};
+
+use std::alloc::Global;
+use std::sync::Wait;
+use std::thread::Threads;
+use tg_parallel::{NoGate, collect_many};
+use tg_payload::Payload;
+use tg_space::Kind;
+use tg_store::Store;
+
+pub use tg_parallel::HelpersFault;
+
+/// Collects as `Store::collect` does, with as many helpers, from 1 to 8: one on the calling thread, and each other on a thread of
+/// its own, as the collectors of Halstead's Multilisp did. All threads that were started have ended before the answer, which is
+/// the number of vertices that the heap then has.
+///
+/// `HeapFull` is answered only where the cells in use that would be moved may not fit into the blocks that a space may
+/// have, of which each helper may leave one open; `NoThread` where a thread couldn't be started, and never of one helper
+/// alone; else `OutOfMemory` alone. The store is then as it was.
+pub fn collect_with<P: Payload, R: Threads + Wait + Sync>(
+    rt: &R,
+    alloc: Global,
+    store: &mut Store<P>,
+    kind: Kind,
+    helpers: u32,
+) -> Result<u64, HelpersFault>
+    requires some { 1 ≤ helpers }
+    requires few { helpers ≤ 8 }
+    ensures number { IfOk result (λ number. number ≡ length (content_of store.new.heap).names) }
+    ensures names { (g : ProtectionGraph) → StandsFor store.old g → OnOk result (kind ≡ Kind.Full → (x : ℕ) → IsNamed (content_of store.new.heap) x ↔ IsReachable g x) }
+    ensures reachable { (g : ProtectionGraph) → StandsFor store.old g → IfOk result (λ number. kind ≡ Kind.Full → IsCountOf (IsReachable g) number) }
+    ensures only_old { OnOk result (kind ≡ Kind.Full → (space : ℕ) → space ≢ 0 → space_of store.new.heap.table.spaces space ≡ []) }
+    ensures no_nursery { OnOk result ((space : ℕ) → 2 ≤ space → space_of store.new.heap.table.spaces space ≡ []) }
+    ensures stay { OnOk result (kind ≡ Kind.Nursery → VerticesOfOldStay store.old.heap.table.spaces store.new.heap.table.spaces) }
+    ensures entries { store.new.entries ≡ store.old.entries }
+    ensures full { result ≡ Err HelpersFault.HeapFull →
+        MayLackRoom store.old.heap.table.limits.space_blocks helpers (kept_blocks kind store.old.heap.table.spaces) (used_cells kind store.old.heap.table.spaces) }
+    ensures alone { helpers ≡ 1 → result ≢ Err HelpersFault.NoThread }
+    ensures refused { OnErr result (store.new ≡ store.old) }
+    ensures opening { store.new.opening ≡ store.old.opening }
+    ensures limits { store.new.heap.table.limits ≡ store.old.heap.table.limits }
+{
+    let roots = store.roots(kind)?;
+    let copied = collect_many(rt, alloc, store.spaces(), &roots, kind, helpers, &NoGate)?;
+    Ok(store.settle(kind, copied)?)
+}
