@@ -246,6 +246,15 @@ fn old_cell_stays_remembered(rt: HostRuntime) -> Result<(), Fail> {
     runs(&rt, 1, 1_000_000, b"c2", script, written, Ok(()))
 }
 
+// A right that was granted and given up again is denied, and its place serves another, with a collection of each kind between.
+#[test]
+fn index_follows_grants_and_collections(rt: HostRuntime) -> Result<(), Fail> {
+    let script =
+        b"edge 0 1 tg\nedge 1 0 r\n0 create r\n0 create w\n0 grant 1 3 w\nminor\n1 remove 3 w\n1 write 3 1\nfull\n0 grant 1 2 r\n1 list\n1 read 2\n";
+    let written = b"ok 2\nok 3\nok\nok\nok\ndenied write 1->3 w\nok 4\nok\nok 0:r 2:r\nok 0\n";
+    runs(&rt, 2, 1_000_000, b"c2", script, written, Ok(()))
+}
+
 // What nobody reaches is collected. Its name is not used again.
 #[test]
 fn removed_vertex_is_collected(rt: HostRuntime) -> Result<(), Fail> {

@@ -1,9 +1,14 @@
 //! Boxes in a store, through generic code.
+ghost use Rattle.std.specs.Prelude.{◌≤◌};
+
 use crate::counting_payload::counting_box;
 use std::alloc::Global;
 use std::sync::Arc;
+use std::sync::Wait;
 use std::sync::atomic::{AtomicU64, Ordering};
 use std::test::Fail;
+use std::thread::Threads;
+use tg_helpers::collect_with;
 use tg_journal::{AuditFault, Entry, audit};
 use tg_model::{Command, Deed, Law, Numbers, Opening, Reply, Value};
 use tg_payload::{CellPayload, Draft, Payload, PayloadBox};
@@ -385,6 +390,59 @@ fn cycle_of_dead_boxes(rt: HostRuntime) -> Result<(), Fail> {
     Ok(())
 }
 
+// How many vertices a collection of the kind by so many helpers leaves.
+fn left_by_helpers<P: Payload, R: Threads + Wait + Sync>(
+    rt: &R,
+    alloc: Global,
+    store: &mut Store<P>,
+    kind: Kind,
+    helpers: u32,
+) -> Option<u64>
+    requires { (1 ≤ helpers) × (helpers ≤ 8) }
+{
+    collect_with(rt, alloc, store, kind, helpers).ok()
+}
+
+// What a nursery collection and then a full one by so many helpers leave of such a cycle, and how many boxes both drop.
+fn dropped_by_helpers<P: Payload, R: Threads + Wait + Sync>(
+    rt: &R,
+    alloc: Global,
+    worker: P,
+    payloads: Vec<P>,
+    drops: &AtomicU64,
+    helpers: u32,
+) -> Option<(u64, u64, u64)>
+    requires { (1 ≤ helpers) × (helpers ≤ 8) }
+{
+    let mut store = opened_one(alloc, worker, 4)?;
+    make_dead_cycle(alloc, &mut store, payloads)?;
+    let young = left_by_helpers(rt, alloc, &mut store, Kind::Nursery, helpers)?;
+    let left = left_by_helpers(rt, alloc, &mut store, Kind::Full, helpers)?;
+    Some((young, left, drops.load(Ordering::SeqCst)))
+}
+
+// The same of boxes with payloads that count their drops.
+fn boxes_dropped_by_helpers<R: Threads + Wait + Sync>(
+    rt: &R,
+    alloc: Global,
+    helpers: u32,
+) -> Option<(u64, u64, u64)>
+    requires { (1 ≤ helpers) × (helpers ≤ 8) }
+{
+    let drops = Arc::new(alloc, AtomicU64::new(0)).ok()?;
+    let payloads = counting_boxes(alloc, 3, &drops)?;
+    dropped_by_helpers(rt, alloc, cell_box(alloc, 0)?, payloads, &drops, helpers)
+}
+
+#[test]
+fn cycle_of_dead_boxes_and_helpers(rt: HostRuntime) -> Result<(), Fail> {
+    for helpers in [1, 2, 8] {
+        let seen = boxes_dropped_by_helpers(&rt, rt.alloc(), helpers).ok_or("a refusal")?;
+        assert_eq!(rt; seen, (1, 1, 3));
+    }
+    Ok(())
+}
+
 // What the worker is answered who makes a vertex that stores a cell with 0.
 fn create_cell(
     alloc: Global,
@@ -539,10 +597,10 @@ fn draw(seed: &mut u64) -> u64 {
     *seed >> 33
 }
 
-// Some command over the first eight vertices.
-fn some_command(seed: &mut u64) -> Option<Command> {
+// Some command by way of one of the first eight vertices, over one whose name has no bits but those of the mask.
+fn some_command(seed: &mut u64, mask: u64) -> Option<Command> {
     let via = draw(seed) % 8;
-    let target = draw(seed) % 8;
+    let target = draw(seed) & mask;
     let rights = Label::new(Rights::from_bits((draw(seed) % 16) as u8)?)?;
     Some(match draw(seed) % 6 {
         0 => Command::Take {
@@ -576,7 +634,12 @@ fn create_with_all(alloc: Global, store: &mut Store<CellPayload>, worker: u64) -
 }
 
 // Collects, or makes a vertex, or lets a worker command something.
-fn take_step(alloc: Global, store: &mut Store<CellPayload>, seed: &mut u64) -> Option<()> {
+fn take_step(
+    alloc: Global,
+    store: &mut Store<CellPayload>,
+    mask: u64,
+    seed: &mut u64,
+) -> Option<()> {
     let worker = draw(seed) % 2;
     match draw(seed) % 12 {
         0 => {
@@ -587,7 +650,7 @@ fn take_step(alloc: Global, store: &mut Store<CellPayload>, seed: &mut u64) -> O
         }
         3 => create_with_all(alloc, store, worker)?,
         _ => {
-            if let Some(some) = some_command(seed) {
+            if let Some(some) = some_command(seed, mask) {
                 command(store, worker, some)?;
             }
         }
@@ -600,10 +663,11 @@ fn take_steps(
     alloc: Global,
     store: &mut Store<CellPayload>,
     steps: u64,
+    mask: u64,
     seed: &mut u64,
 ) -> Option<()> {
     for _ in 0..steps {
-        take_step(alloc, store, seed)?;
+        take_step(alloc, store, mask, seed)?;
     }
     Some(())
 }
@@ -613,9 +677,10 @@ fn audit_after_steps(
     alloc: Global,
     store: &mut Store<CellPayload>,
     steps: u64,
+    mask: u64,
     seed: &mut u64,
 ) -> Option<Result<(), AuditFault>> {
-    take_steps(alloc, store, steps, seed)?;
+    take_steps(alloc, store, steps, mask, seed)?;
     Some(audit_of(alloc, store))
 }
 
@@ -627,7 +692,7 @@ fn open_large(alloc: Global) -> Option<Store<CellPayload>> {
 // What the audit finds in the journal of such a store after 400 steps.
 fn audit_of_steps(alloc: Global, seed: &mut u64) -> Option<Result<(), AuditFault>> {
     let mut store = open_large(alloc)?;
-    audit_after_steps(alloc, &mut store, 400, seed)
+    audit_after_steps(alloc, &mut store, 400, 7, seed)
 }
 
 // The audit replays the journal on the plain graph, which no collection enters.
@@ -637,6 +702,28 @@ fn random_commands_between_collections(rt: HostRuntime) -> Result<(), Fail> {
     let mut seed = 1;
     for _ in 0..20 {
         let outcome = audit_of_steps(alloc, &mut seed).ok_or("a refusal")?;
+        assert_eq!(rt; outcome, Ok(()));
+    }
+    Ok(())
+}
+
+// What the audit finds in the journal of such a store after 400 steps over 64 vertices, which worker 0 makes first.
+fn audit_of_long_rows(alloc: Global, seed: &mut u64) -> Option<Result<(), AuditFault>> {
+    let mut store = open_large(alloc)?;
+    for _ in 0..64 {
+        create_with_all(alloc, &mut store, 0)?;
+    }
+    audit_after_steps(alloc, &mut store, 400, 63, seed)
+}
+
+// Rows of more than four cells, where a command looks into the index of the row, and a list walks along it. The plain graph
+// that the audit replays says what both have to find, before a collection and after it.
+#[test]
+fn random_commands_on_long_rows(rt: HostRuntime) -> Result<(), Fail> {
+    let alloc = rt.alloc();
+    let mut seed = 7;
+    for _ in 0..10 {
+        let outcome = audit_of_long_rows(alloc, &mut seed).ok_or("a refusal")?;
         assert_eq!(rt; outcome, Ok(()));
     }
     Ok(())
