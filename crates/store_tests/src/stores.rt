@@ -3,9 +3,8 @@ ghost use Rattle.std.specs.Prelude.{◌≤◌};
 
 use crate::counting_payload::counting_box;
 use std::alloc::Global;
-use std::sync::Arc;
-use std::sync::Wait;
 use std::sync::atomic::{AtomicU64, Ordering};
+use std::sync::{Arc, Wait};
 use std::test::Fail;
 use std::thread::Threads;
 use tg_helpers::collect_with;

@@ -17,12 +17,11 @@ ghost use Rattle.tg_store.specs.Store.{IsCountOf, StandsFor};
 use std::alloc::Global;
 use std::sync::Wait;
 use std::thread::Threads;
+pub use tg_parallel::HelpersFault;
 use tg_parallel::{NoGate, collect_many};
 use tg_payload::Payload;
 use tg_space::Kind;
 use tg_store::Store;
-
-pub use tg_parallel::HelpersFault;
 
 /// Collects as `Store::collect` does, with as many helpers, from 1 to 8: one on the calling thread, and each other on a thread of
 /// its own, as the collectors of Halstead's Multilisp did. All threads that were started have ended before the answer, which is

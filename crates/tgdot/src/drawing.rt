@@ -70,7 +70,9 @@ fn draw_edges<R: Print>(rt: &R, graph: &Graph, from: u64, reached: bool) -> Resu
         if !rights.is_empty() {
             let text = rights.text();
             let letters = str::from_utf8(text.as_bytes()).unwrap_or("?");
-            println!(rt; "    {from} -> {to} [label=\"{letters}\" color={colour} fontcolor={colour}]")?;
+            println!(rt;
+                "    {from} -> {to} [label=\"{letters}\" color={colour} fontcolor={colour}]"
+            )?;
         }
     }
     Ok(())

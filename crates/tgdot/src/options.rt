@@ -32,9 +32,24 @@ pub fn read_words<'a, S: AsStr>(alloc: Global, words: &'a [S]) -> Result<Options
         .bin_name("tgdot")?
         .about(ABOUT)
         .after_help(EXAMPLE)
-        .arg(option(alloc, "workers", "N", "How many workers there are, from 1 to 64 [default: 2]"))?
-        .arg(option(alloc, "vertices", "N", "How many vertices may ever be made [default: 1000000]"))?
-        .arg(option(alloc, "stock", "TEXT", "The boxes that creates take, as tgstore has them"))?;
+        .arg(option(
+            alloc,
+            "workers",
+            "N",
+            "How many workers there are, from 1 to 64 [default: 2]",
+        ))?
+        .arg(option(
+            alloc,
+            "vertices",
+            "N",
+            "How many vertices may ever be made [default: 1000000]",
+        ))?
+        .arg(option(
+            alloc,
+            "stock",
+            "TEXT",
+            "The boxes that creates take, as tgstore has them",
+        ))?;
     let matches = command.try_get_matches_from_mut(words)?;
     let workers = number(matches.get_str("workers"), 2, MAX_WORKERS);
     let max_vertices = number(matches.get_str("vertices"), 1_000_000, MAX_VERTICES);

@@ -13,7 +13,13 @@ pub fn run_script<R: Input>(rt: &R, alloc: Global, options: Options) -> Result<G
     let stock = read_stock(alloc, options.stock.as_bytes())?;
     let lines = read_lines(rt, alloc, options.workers)?;
     let mut graph = open_graph(alloc, options, lines.as_slice())?;
-    run_commands(alloc, &mut graph, options.workers, lines.as_slice(), stock.as_slice())?;
+    run_commands(
+        alloc,
+        &mut graph,
+        options.workers,
+        lines.as_slice(),
+        stock.as_slice(),
+    )?;
     Ok(graph)
 }
 
@@ -60,7 +66,10 @@ fn open_graph(alloc: Global, options: Options, lines: &[Line]) -> Result<Graph, 
     let mut values = Vec::new(alloc);
     for _ in 0..options.workers {
         let state = state_of(alloc, StockItem::Cell)?;
-        values.push(Value { law: Law::Cell, state })?;
+        values.push(Value {
+            law: Law::Cell,
+            state,
+        })?;
     }
     let opening = Opening::new(options.workers, edges, values, options.max_vertices)?;
     Ok(Graph::open(alloc, &opening)?)
@@ -104,7 +113,11 @@ fn create(
         return Ok(false);
     };
     let state = state_of(alloc, kind)?;
-    let deed = Deed::Create { label, law: law_of(kind), state };
+    let deed = Deed::Create {
+        label,
+        law: law_of(kind),
+        state,
+    };
     if !deed.fits() {
         return Ok(false);
     }
