@@ -6,8 +6,9 @@ ghost use Rattle.tg_rights.specs.RightSet.{is_none_held};
 ghost use Rattle.tg_model.specs.Rules.{unless_distinct, unless_held, denial_of};
 ghost use Rattle.tg_graph.specs.Heap.{content_of};
 ghost use Rattle.tg_rules.specs.Verdict.{verdict_of, HasVertex};
+ghost use Rattle.tg_rules.specs.Parties.{AreParties};
 
-use crate::vertex::{Vertex, worker_of};
+use crate::vertex::{Parties, Vertex, worker_of};
 use tg_graph::Heap;
 use tg_model::{Cause, Command, Denial, Rule};
 use tg_payload::Payload;
@@ -29,16 +30,24 @@ pub fn decide<P: Payload>(heap: &Heap<P>, worker: u64, command: &Command) -> Ver
     requires { worker < length heap.now.workers }
     ensures { result ≡ verdict_of (denial_of (content_of heap.now).label worker command.now) }
 {
-    match check(heap, worker, command) {
-        Ok(()) => Verdict::Served,
+    match find_parties(heap, worker, command) {
+        Ok(_) => Verdict::Served,
         Err(denial) => Verdict::Denied(denial),
     }
 }
 
-// Makes each check of a command.
-fn check<P: Payload>(heap: &Heap<P>, worker: u64, command: &Command) -> Result<(), Denial>
+/// Makes each check of a command, as [`decide`] does, and answers the vertices that the command is about, so that
+/// [`perform_between`] needn't look them up again. Takes no memory.
+///
+/// [`perform_between`]: crate::perform_between
+pub fn find_parties<P: Payload>(
+    heap: &Heap<P>,
+    worker: u64,
+    command: &Command,
+) -> Result<Parties, Denial>
     requires { worker < length heap.now.workers }
-    ensures { result_err result ≡ denial_of (content_of heap.now).label worker command.now }
+    ensures denial { result_err result ≡ denial_of (content_of heap.now).label worker command.now }
+    ensures found { IfOk result (AreParties heap.now worker command.now) }
 {
     let worker = worker_of(heap, worker);
     match *command {
@@ -61,7 +70,10 @@ fn check<P: Payload>(heap: &Heap<P>, worker: u64, command: &Command) -> Result<(
         Command::Write { target, .. } => {
             check_use(heap, Rule::Write, worker, target, Rights::of(Right::W))
         }
-        Command::List => Ok(()),
+        Command::List => Ok(Parties {
+            from: worker,
+            target: worker,
+        }),
     }
 }
 
@@ -72,15 +84,19 @@ fn check_take<P: Payload>(
     via: u64,
     target: u64,
     rights: Label,
-) -> Result<(), Denial>
+) -> Result<Parties, Denial>
     requires { HasVertex heap.now worker }
-    ensures { result_err result ≡ denial_of (content_of heap.now).label worker.name (Command.Take via target rights) }
+    ensures denial { result_err result ≡ denial_of (content_of heap.now).label worker.name (Command.Take via target rights) }
+    ensures found { IfOk result (AreParties heap.now worker.name (Command.Take via target rights)) }
 {
     let same = worker.name == via || via == target || worker.name == target;
     check_distinct(Rule::Take, same)?;
     let via = check_held(heap, Rule::Take, worker, via, Rights::of(Right::T))?;
-    check_held(heap, Rule::Take, via, target, rights.rights())?;
-    Ok(())
+    let target = check_held(heap, Rule::Take, via, target, rights.rights())?;
+    Ok(Parties {
+        from: worker,
+        target,
+    })
 }
 
 // The checks of a grant.
@@ -90,15 +106,19 @@ fn check_grant<P: Payload>(
     via: u64,
     target: u64,
     rights: Label,
-) -> Result<(), Denial>
+) -> Result<Parties, Denial>
     requires { HasVertex heap.now worker }
-    ensures { result_err result ≡ denial_of (content_of heap.now).label worker.name (Command.Grant via target rights) }
+    ensures denial { result_err result ≡ denial_of (content_of heap.now).label worker.name (Command.Grant via target rights) }
+    ensures found { IfOk result (AreParties heap.now worker.name (Command.Grant via target rights)) }
 {
     let same = worker.name == via || via == target || worker.name == target;
     check_distinct(Rule::Grant, same)?;
-    check_held(heap, Rule::Grant, worker, via, Rights::of(Right::G))?;
-    check_held(heap, Rule::Grant, worker, target, rights.rights())?;
-    Ok(())
+    let receiver = check_held(heap, Rule::Grant, worker, via, Rights::of(Right::G))?;
+    let target = check_held(heap, Rule::Grant, worker, target, rights.rights())?;
+    Ok(Parties {
+        from: receiver,
+        target,
+    })
 }
 
 // The checks of a command that wants only rights of the worker over its target.
@@ -108,14 +128,19 @@ fn check_use<P: Payload>(
     worker: Vertex,
     target: u64,
     rights: Rights,
-) -> Result<(), Denial>
+) -> Result<Parties, Denial>
     requires worker { HasVertex heap.now worker }
     requires some { is_none_held rights ≡ false }
-    ensures { result_err result ≡ option_or (unless_distinct rule (worker.name == target)) (unless_held (content_of heap.now).label rule worker.name target rights) }
+    ensures denial { result_err result ≡ option_or (unless_distinct rule (worker.name == target)) (unless_held (content_of heap.now).label rule worker.name target rights) }
+    ensures from { IfOk result (λ parties. parties.from ≡ worker) }
+    ensures target { IfOk result (λ parties. HasVertex heap.now parties.target × (parties.target.name ≡ target)) }
 {
     check_distinct(rule, worker.name == target)?;
-    check_held(heap, rule, worker, target, rights)?;
-    Ok(())
+    let target = check_held(heap, rule, worker, target, rights)?;
+    Ok(Parties {
+        from: worker,
+        target,
+    })
 }
 
 // Denies a command in which two vertices that must differ are one.

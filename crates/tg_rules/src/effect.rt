@@ -1,10 +1,16 @@
 //! What a command does that is served.
 ghost use Rattle.std.specs.Prelude.{◌≡◌, ◌≢◌, ◌<◌, ◌+◌, None, Err, IfOk, OnOk, OnErr, length};
-ghost use Rattle.tg_model.specs.Rules.{denial_of};
+ghost use Rattle.tg_model.specs.Graph.{with_rights, without_rights};
+ghost use Rattle.tg_model.specs.Rules.{denial_of, state_of, written_at};
 ghost use Rattle.tg_graph.specs.Heap.{content_of, IsUnchanged, KeepsPlaces};
+ghost use Rattle.tg_graph.specs.Content.{IsContent, IsNamed};
+ghost use Rattle.tg_graph.specs.Spots.{LacksCellsFor};
 ghost use Rattle.tg_rules.specs.Effect.{IsReplyOn, IsContentAfter, OnlyLooks, AddsEdge, LacksCellsToServe};
+ghost use Rattle.tg_rules.specs.Parties.{AreParties};
+ghost use Rattle.tg_rules.specs.Verdict.{HasVertex};
 
-use crate::vertex::{target_of, worker_of};
+use crate::decision::find_parties;
+use crate::vertex::{Parties, Vertex};
 use std::alloc::AllocError;
 use tg_graph::Heap;
 use tg_model::{Command, Reply};
@@ -68,121 +74,106 @@ pub fn perform<P: Payload>(
     ensures refused { OnErr result (IsUnchanged heap.old heap.new) }
     ensures full { result ≡ Err PerformFault.HeapFull → AddsEdge command.now × LacksCellsToServe heap.old.table worker command.now }
 {
-    match *command {
-        Command::Take {
-            via,
-            target,
-            rights,
-        } => take(heap, worker, via, target, rights),
-        Command::Grant {
-            via,
-            target,
-            rights,
-        } => grant(heap, worker, via, target, rights),
-        Command::Remove { target, rights } => Ok(remove(heap, worker, target, rights)),
-        Command::Read { target } => read(heap, worker, target),
-        Command::Write { target, value } => write(heap, worker, target, value),
-        Command::List => list(heap, worker),
+    match find_parties(heap, worker, command) {
+        Ok(parties) => perform_between(heap, worker, command, parties),
+        Err(_) => unreachable!(),
     }
 }
 
-// Rights of one vertex over another become the worker's as well.
-fn take<P: Payload>(
+/// Performs a command of a worker between the vertices that its checks met: what [`perform`] does, without looking them
+/// up again.
+pub fn perform_between<P: Payload>(
     heap: &mut Heap<P>,
     worker: u64,
-    via: u64,
-    target: u64,
+    command: &Command,
+    parties: Parties,
+) -> Result<Reply, PerformFault>
+    requires worker { worker < length heap.old.workers }
+    requires parties { AreParties heap.old worker command.now parties }
+    ensures reply { IfOk result (λ reply. IsReplyOn (content_of heap.old) worker command.now reply) }
+    ensures content { OnOk result (IsContentAfter (content_of heap.old) (content_of heap.new) worker command.now) }
+    ensures kept { OnOk result (KeepsPlaces heap.old heap.new) }
+    ensures looks { OnlyLooks command.now → heap.new ≡ heap.old }
+    ensures refused { OnErr result (IsUnchanged heap.old heap.new) }
+    ensures full { result ≡ Err PerformFault.HeapFull → AddsEdge command.now × LacksCellsToServe heap.old.table worker command.now }
+{
+    let Parties { from, target } = parties;
+    match *command {
+        Command::Take { rights, .. } | Command::Grant { rights, .. } => {
+            add(heap, worker, from, target, rights)
+        }
+        Command::Remove {
+            target: name,
+            rights,
+        } => Ok(remove(heap, from, name, rights)),
+        Command::Read { .. } => read(heap, target),
+        Command::Write { value, .. } => write(heap, target, value),
+        Command::List => list(heap, from),
+    }
+}
+
+// One vertex gets rights over another.
+fn add<P: Payload>(
+    heap: &mut Heap<P>,
+    worker: u64,
+    from: Vertex,
+    target: Vertex,
     rights: Label,
 ) -> Result<Reply, PerformFault>
     requires worker { worker < length heap.old.workers }
-    requires served { denial_of (content_of heap.old).label worker (Command.Take via target rights) ≡ None }
+    requires from { HasVertex heap.old from }
+    requires target { HasVertex heap.old target }
     ensures reply { IfOk result (λ reply. reply ≡ Reply.Done) }
-    ensures content { OnOk result (IsContentAfter (content_of heap.old) (content_of heap.new) worker (Command.Take via target rights)) }
+    ensures content { OnOk result (IsContent (content_of heap.new) (IsNamed (content_of heap.old))
+        (with_rights (content_of heap.old).label from.name target.name rights) (content_of heap.old).value) }
     ensures kept { OnOk result (KeepsPlaces heap.old heap.new) }
     ensures refused { OnErr result (IsUnchanged heap.old heap.new) }
-    ensures full { result ≡ Err PerformFault.HeapFull → LacksCellsToServe heap.old.table worker (Command.Take via target rights) }
+    ensures full { result ≡ Err PerformFault.HeapFull → LacksCellsFor heap.old.table (worker + 2) 0 from.name target.name }
 {
-    let from = worker_of(heap, worker);
-    let via = target_of(heap, from, via);
-    let to = target_of(heap, via, target);
-    heap.add_edge(worker, from.place, to.place, rights)?;
+    heap.add_edge(worker, from.place, target.place, rights)?;
     Ok(Reply::Done)
 }
 
-// Rights of the worker over one vertex become another's as well.
-fn grant<P: Payload>(
-    heap: &mut Heap<P>,
-    worker: u64,
-    via: u64,
-    target: u64,
-    rights: Label,
-) -> Result<Reply, PerformFault>
-    requires worker { worker < length heap.old.workers }
-    requires served { denial_of (content_of heap.old).label worker (Command.Grant via target rights) ≡ None }
-    ensures reply { IfOk result (λ reply. reply ≡ Reply.Done) }
-    ensures content { OnOk result (IsContentAfter (content_of heap.old) (content_of heap.new) worker (Command.Grant via target rights)) }
-    ensures kept { OnOk result (KeepsPlaces heap.old heap.new) }
-    ensures refused { OnErr result (IsUnchanged heap.old heap.new) }
-    ensures full { result ≡ Err PerformFault.HeapFull → LacksCellsToServe heap.old.table worker (Command.Grant via target rights) }
-{
-    let granter = worker_of(heap, worker);
-    let from = target_of(heap, granter, via);
-    let to = target_of(heap, granter, target);
-    heap.add_edge(worker, from.place, to.place, rights)?;
-    Ok(Reply::Done)
-}
-
-// Rights of the worker are given up.
-fn remove<P: Payload>(heap: &mut Heap<P>, worker: u64, target: u64, rights: Label) -> Reply
-    requires { worker < length heap.old.workers }
+// Rights of a vertex are given up.
+fn remove<P: Payload>(heap: &mut Heap<P>, from: Vertex, name: u64, rights: Label) -> Reply
+    requires { HasVertex heap.old from }
     ensures reply { result ≡ Reply.Done }
-    ensures content { IsContentAfter (content_of heap.old) (content_of heap.new) worker (Command.Remove target rights) }
+    ensures content { IsContent (content_of heap.new) (IsNamed (content_of heap.old))
+        (without_rights (content_of heap.old).label from.name name rights) (content_of heap.old).value }
     ensures kept { KeepsPlaces heap.old heap.new }
 {
-    let from = worker_of(heap, worker);
-    heap.drop_rights(from.place, target, rights);
+    heap.drop_rights(from.place, name, rights);
     Reply::Done
 }
 
 // The state of a vertex.
-fn read<P: Payload>(heap: &Heap<P>, worker: u64, target: u64) -> Result<Reply, PerformFault>
-    requires worker { worker < length heap.now.workers }
-    requires served { denial_of (content_of heap.now).label worker (Command.Read target) ≡ None }
-    ensures reply { IfOk result (λ reply. IsReplyOn (content_of heap.now) worker (Command.Read target) reply) }
+fn read<P: Payload>(heap: &Heap<P>, target: Vertex) -> Result<Reply, PerformFault>
+    requires { HasVertex heap.now target }
+    ensures reply { IfOk result (λ reply. reply ≡ Reply.Values (state_of ((content_of heap.now).value target.name))) }
     ensures room { result ≢ Err PerformFault.HeapFull }
 {
-    let from = worker_of(heap, worker);
-    let vertex = target_of(heap, from, target);
-    Ok(Reply::Values(heap.state(vertex.place)?))
+    Ok(Reply::Values(heap.state(target.place)?))
 }
 
 // The state of a vertex becomes that after a number is written.
-fn write<P: Payload>(
-    heap: &mut Heap<P>,
-    worker: u64,
-    target: u64,
-    number: u64,
-) -> Result<Reply, PerformFault>
-    requires worker { worker < length heap.old.workers }
-    requires served { denial_of (content_of heap.old).label worker (Command.Write target number) ≡ None }
+fn write<P: Payload>(heap: &mut Heap<P>, target: Vertex, number: u64) -> Result<Reply, PerformFault>
+    requires { HasVertex heap.old target }
     ensures reply { IfOk result (λ reply. reply ≡ Reply.Done) }
-    ensures content { OnOk result (IsContentAfter (content_of heap.old) (content_of heap.new) worker (Command.Write target number)) }
+    ensures content { OnOk result (IsContent (content_of heap.new) (IsNamed (content_of heap.old)) (content_of heap.old).label
+        (written_at (content_of heap.old).value target.name number)) }
     ensures kept { OnOk result (KeepsPlaces heap.old heap.new) }
     ensures refused { OnErr result (IsUnchanged heap.old heap.new) }
     ensures room { result ≢ Err PerformFault.HeapFull }
 {
-    let from = worker_of(heap, worker);
-    let vertex = target_of(heap, from, target);
-    heap.write(vertex.place, number)?;
+    heap.write(target.place, number)?;
     Ok(Reply::Done)
 }
 
-// The edges of the worker.
-fn list<P: Payload>(heap: &Heap<P>, worker: u64) -> Result<Reply, PerformFault>
-    requires { worker < length heap.now.workers }
-    ensures reply { IfOk result (λ reply. IsReplyOn (content_of heap.now) worker Command.List reply) }
+// The edges of a vertex.
+fn list<P: Payload>(heap: &Heap<P>, from: Vertex) -> Result<Reply, PerformFault>
+    requires { HasVertex heap.now from }
+    ensures reply { IfOk result (IsReplyOn (content_of heap.now) from.name Command.List) }
     ensures room { result ≢ Err PerformFault.HeapFull }
 {
-    let from = worker_of(heap, worker);
     Ok(Reply::Edges(heap.row(from.place)?))
 }

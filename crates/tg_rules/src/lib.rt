@@ -4,7 +4,10 @@
 //! the rules say on that content, and changes nothing. [`perform`] does what a command asks for that is served: it
 //! answers and changes the content as the rules say, or is refused for want of memory or room and changes nothing.
 //!
-//! Both go along edges from the worker's own vertex, and never look for a name in any other way:
+//! A store does both with one look-up for each edge: [`find_parties`] makes the checks and answers the vertices that it met,
+//! and [`perform_between`] performs the command between these.
+//!
+//! All go along edges from the worker's own vertex, and never look for a name in any other way:
 //!
 //! ```text
 //!   take y z      x --t--> y --rights--> z       x, y: the row of x      y, z: the row of y
@@ -27,5 +30,6 @@ mod effect;
 pub mod laws;
 mod vertex;
 
-pub use decision::{Verdict, decide};
-pub use effect::{PerformFault, perform};
+pub use decision::{Verdict, decide, find_parties};
+pub use effect::{PerformFault, perform, perform_between};
+pub use vertex::Parties;

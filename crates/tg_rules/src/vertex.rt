@@ -1,7 +1,5 @@
-//! Vertices of a heap, and the way along its edges.
+//! Vertices of a heap, and those that a command is about.
 ghost use Rattle.std.specs.Prelude.{◌≡◌, ◌<◌, length};
-ghost use Rattle.tg_model.specs.Graph.{HasEdge};
-ghost use Rattle.tg_graph.specs.Heap.{content_of};
 ghost use Rattle.tg_rules.specs.Verdict.{HasVertex};
 
 use tg_graph::Heap;
@@ -27,18 +25,11 @@ pub(crate) fn worker_of<P: Payload>(heap: &Heap<P>, worker: u64) -> Vertex
     }
 }
 
-/// The vertex to which an edge leads.
-pub(crate) fn target_of<P: Payload>(heap: &Heap<P>, from: Vertex, name: u64) -> Vertex
-    requires from { HasVertex heap.now from }
-    requires edge { HasEdge (content_of heap.now).label from.name name }
-    ensures name { result.name ≡ name }
-    ensures vertex { HasVertex heap.now result }
-{
-    match heap.find_edge(from.place, name) {
-        Some(found) => Vertex {
-            name,
-            place: found.place,
-        },
-        None => unreachable!(),
-    }
+/// The vertices that a command is about, as its checks met them.
+#[derive(Clone, Copy, PartialEq, Eq, Debug)]
+pub struct Parties {
+    // The vertex whose row gets or loses rights, or is listed.
+    pub(crate) from: Vertex,
+    // The vertex that the command names last, or the worker's own where it names none.
+    pub(crate) target: Vertex,
 }

@@ -6,17 +6,18 @@ ghost use Rattle.tg_model.specs.declared.command.Deed.TheVariants.{Plain};
 ghost use Rattle.tg_graph.specs.Heap.{IsUnchanged, content_of};
 ghost use Rattle.tg_graph.specs.Standing.{StandsFor};
 ghost use Rattle.tg_rules.specs.Effect.{AddsEdge, LacksCellsToServe, OnlyLooks};
+ghost use Rattle.tg_rules.specs.Parties.{AreParties};
 
 use crate::fault::ApplyFault;
 use std::alloc::Global;
 use tg_graph::Heap;
 use tg_model::{Command, Denial, Reply};
 use tg_payload::Payload;
-use tg_rules::{Verdict, decide, perform};
+use tg_rules::{Parties, find_parties, perform_between};
 
 // A reply twice: for the one who asked, and for the journal.
 #[derive(Drop)]
-pub(crate) struct Answer {
+pub(crate) struct Replies {
     pub(crate) reply: Reply,
     pub(crate) copy: Reply,
 }
@@ -29,7 +30,7 @@ pub(crate) fn answer_command<P: Payload>(
     heap: &mut Heap<P>,
     worker: u64,
     command: &Command,
-) -> Result<Answer, ApplyFault>
+) -> Result<Replies, ApplyFault>
     requires { worker < length heap.old.workers }
     ensures copy { IfOk result (λ answer. answer.copy ≡ answer.reply) }
     ensures reply { (g : ProtectionGraph) → StandsFor (content_of heap.old) g → IsSubject g worker →
@@ -44,18 +45,18 @@ pub(crate) fn answer_command<P: Payload>(
     ensures full { result ≡ Err ApplyFault.HeapFull → (denial_of (content_of heap.old).label worker command.now ≡ None)
         × AddsEdge command.now × LacksCellsToServe heap.old.table worker command.now }
 {
-    match decide(heap, worker, command) {
-        Verdict::Served => serve(alloc, heap, worker, command),
-        Verdict::Denied(denial) => Ok(denied(&denial)),
+    match find_parties(heap, worker, command) {
+        Ok(parties) => serve(alloc, heap, worker, command, parties),
+        Err(denial) => Ok(denied(&denial)),
     }
 }
 
 // The reply to a command that is denied.
-fn denied(denial: &Denial) -> Answer
+fn denied(denial: &Denial) -> Replies
     ensures reply { result.reply ≡ Reply.Denied denial.now }
     ensures copy { result.copy ≡ Reply.Denied denial.now }
 {
-    Answer {
+    Replies {
         reply: Reply::Denied(*denial),
         copy: Reply::Denied(*denial),
     }
@@ -67,8 +68,10 @@ fn serve<P: Payload>(
     heap: &mut Heap<P>,
     worker: u64,
     command: &Command,
-) -> Result<Answer, ApplyFault>
+    parties: Parties,
+) -> Result<Replies, ApplyFault>
     requires worker { worker < length heap.old.workers }
+    requires parties { AreParties heap.old worker command.now parties }
     requires served { denial_of (content_of heap.old).label worker command.now ≡ None }
     ensures copy { IfOk result (λ answer. answer.copy ≡ answer.reply) }
     ensures reply { (g : ProtectionGraph) → StandsFor (content_of heap.old) g → IsSubject g worker →
@@ -82,9 +85,9 @@ fn serve<P: Payload>(
     ensures full { result ≡ Err ApplyFault.HeapFull → AddsEdge command.now × LacksCellsToServe heap.old.table worker command.now }
 {
     if only_looks(command) {
-        look(alloc, heap, worker, command)
+        look(alloc, heap, worker, command, parties)
     } else {
-        change(heap, worker, command)
+        change(heap, worker, command, parties)
     }
 }
 
@@ -94,8 +97,10 @@ fn look<P: Payload>(
     heap: &mut Heap<P>,
     worker: u64,
     command: &Command,
-) -> Result<Answer, ApplyFault>
+    parties: Parties,
+) -> Result<Replies, ApplyFault>
     requires worker { worker < length heap.old.workers }
+    requires parties { AreParties heap.old worker command.now parties }
     requires served { denial_of (content_of heap.old).label worker command.now ≡ None }
     requires looks { OnlyLooks command.now }
     ensures copy { IfOk result (λ answer. answer.copy ≡ answer.reply) }
@@ -109,9 +114,9 @@ fn look<P: Payload>(
     ensures worker { result ≢ Err ApplyFault.NoSuchWorker }
     ensures full { result ≢ Err ApplyFault.HeapFull }
 {
-    let reply = perform(heap, worker, command)?;
+    let reply = perform_between(heap, worker, command, parties)?;
     let copy = reply.copy(alloc)?;
-    Ok(Answer { reply, copy })
+    Ok(Replies { reply, copy })
 }
 
 // Performs a command whose reply says no more than that it is done.
@@ -119,8 +124,10 @@ fn change<P: Payload>(
     heap: &mut Heap<P>,
     worker: u64,
     command: &Command,
-) -> Result<Answer, ApplyFault>
+    parties: Parties,
+) -> Result<Replies, ApplyFault>
     requires worker { worker < length heap.old.workers }
+    requires parties { AreParties heap.old worker command.now parties }
     requires served { denial_of (content_of heap.old).label worker command.now ≡ None }
     requires changes { ¬ OnlyLooks command.now }
     ensures copy { IfOk result (λ answer. answer.copy ≡ answer.reply) }
@@ -134,8 +141,8 @@ fn change<P: Payload>(
     ensures worker { result ≢ Err ApplyFault.NoSuchWorker }
     ensures full { result ≡ Err ApplyFault.HeapFull → AddsEdge command.now × LacksCellsToServe heap.old.table worker command.now }
 {
-    let _done = perform(heap, worker, command)?;
-    Ok(Answer {
+    let _done = perform_between(heap, worker, command, parties)?;
+    Ok(Replies {
         reply: Reply::Done,
         copy: Reply::Done,
     })

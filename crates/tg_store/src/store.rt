@@ -3,7 +3,7 @@ ghost use Rattle.std.specs.Prelude.{◌≡◌, ◌≢◌, ◌↔◌, ◌≤◌, 
 ghost use Rattle.tg_model.specs.Rules.{step};
 ghost use Rattle.tg_store.specs.Faults.{IsFirstDifference};
 
-use crate::answer::{Answer, answer_command};
+use crate::answer::{Replies, answer_command};
 use crate::census::Census;
 use crate::fault::{ApplyFault, CreateFault, CreateRefused, OpenFault, OpenRefused};
 use std::alloc::{AllocError, Global};
@@ -146,7 +146,7 @@ impl<P: Payload> Store<P> {
             return Err(ApplyFault::NoSuchWorker);
         }
         self.journal.reserve()?;
-        let Answer { reply, copy } = answer_command(self.alloc, &mut self.heap, worker, &command)?;
+        let Replies { reply, copy } = answer_command(self.alloc, &mut self.heap, worker, &command)?;
         self.journal.push(Entry {
             worker,
             deed: Deed::Plain(command),

@@ -12,4 +12,4 @@ returns-clause-reply g c =
 pub returns-clause-step : goal.returns-clause-step
 returns-clause-step g c =
     λ graph stands subject.
-    StandsFor-served (content_of c.args.heap.now) (content_of c.perform.new.heap) graph stands c.args.worker subject c.args.command.now c.requires.served c.in_ok-_done.ensures.content
+    StandsFor-served (content_of c.args.heap.now) (content_of c.perform_between.new.heap) graph stands c.args.worker subject c.args.command.now c.requires.served c.in_ok-_done.ensures.content

@@ -1,0 +1,32 @@
+-- The vertices that a command is about.
+use Rattle.std.specs.Prelude.{◌≡◌, ℕ}
+use Rattle.tg_model.specs.declared.command.Command.{Command}
+use Rattle.tg_model.specs.declared.command.Command.TheVariants.{Take, Grant, Remove, Read, Write, List as Listing}
+use Rattle.tg_graph.specs.Heap.{HeapState}
+use Rattle.tg_rules.specs.declared.vertex.Parties.{Parties}
+use Rattle.tg_rules.specs.Verdict.{HasVertex}
+
+-- the vertex whose row gets or loses rights by a command of x, or is listed
+abbrev pub owner_of_row : ℕ → Command → ℕ
+owner_of_row x (Take y z rights) = x
+owner_of_row x (Grant y z rights) = y
+owner_of_row x (Remove y rights) = x
+owner_of_row x (Read y) = x
+owner_of_row x (Write y v) = x
+owner_of_row x Listing = x
+
+-- the vertex that a command of x names last, or x where it names none
+abbrev pub last_named : ℕ → Command → ℕ
+last_named x (Take y z rights) = z
+last_named x (Grant y z rights) = z
+last_named x (Remove y rights) = y
+last_named x (Read y) = y
+last_named x (Write y v) = y
+last_named x Listing = x
+
+-- the two vertices of the heap that a command of x is about
+pub record AreParties (s : HeapState) (x : ℕ) (command : Command) (p : Parties) : Type 0 where
+  pub from : HasVertex s p.from
+  pub from_name : p.from.name ≡ owner_of_row x command
+  pub target : HasVertex s p.target
+  pub target_name : p.target.name ≡ last_named x command
