@@ -1,5 +1,5 @@
 -- What is decided and answered on a content is what the graph answers for which it stands.
-use Rattle.std.proofs.Common.{◌≡◌, ℕ, ◌<◌, Option, Some, None, refl, sym, ap, ◌∙◌}
+use Rattle.std.proofs.Common.{◌≡◌, ℕ, ◌<◌, Some, None, sym, ap, ◌∙◌}
 use Rattle.std.specs.List.{All}
 use Rattle.std.proofs.lemmas.List.Elements.{All-contains_itself}
 use Rattle.tg_model.specs.declared.command.Command.{Command}
@@ -12,19 +12,7 @@ use Rattle.tg_model.specs.Rules.{denial_of, denied_or, reply_of, answer_of}
 use Rattle.tg_graph.specs.Content.{Content}
 use Rattle.tg_graph.specs.Standing.{StandsFor}
 use Rattle.tg_graph.proofs.StandingLaws.{answer_of-stands}
-use Rattle.tg_rules.specs.declared.decision.Verdict.TheVariants.{Served, Denied}
-use Rattle.tg_rules.specs.Verdict.{verdict_of}
 use Rattle.tg_rules.specs.Effect.{IsReplyOn}
-
--- ---- verdicts
-
-pub served-none : (o : Option Denial) → verdict_of o ≡ Served → o ≡ None
-served-none None e = refl
-served-none (Some denial) e = absurd cc
-
-pub denied-some : (o : Option Denial) (denial : Denial) → verdict_of o ≡ Denied denial → o ≡ Some denial
-denied-some None denial e = absurd cc
-denied-some (Some other) denial e = let same : other ≡ denial = cc in ap Some same
 
 -- ---- answers
 

@@ -18,8 +18,6 @@ use Rattle.tg_graph.specs.Standing.{StandsFor}
 use Rattle.tg_graph.proofs.StandingLaws.{answer_of-stands, denial_of-stands, StandsFor-denied, IsSameContent-self}
 use Rattle.tg_model.proofs.AllowedLaws.{permits-no_denial}
 use Rattle.tg_rules.specs.Effect.{IsReplyOn, OnlyLooks}
-use Rattle.tg_rules.specs.Verdict.{verdict_of}
-use Rattle.tg_rules.specs.declared.decision.Verdict.TheVariants as verdict
 
 -- a command that changes something is answered that it is done
 pub reply_of-done : (label : ℕ → ℕ → RightSet) (value : ℕ → Option Value) (n x : ℕ) (command : Command) → (OnlyLooks command → ⊥) → reply_of label value n x command ≡ Done
@@ -48,11 +46,6 @@ module _ (c : Content) (g : ProtectionGraph) (stands : StandsFor c g) (x : ℕ) 
   done-served changes = sym (answered ∙ reply_of-done c.label c.value g.made x command changes)
 
 -- ---- where a command is denied
-
--- what was decided
-pub denial-verdict : (o : Option Denial) (denial : Denial) → verdict.Denied denial ≡ verdict_of o → o ≡ Some denial
-denial-verdict None denial e = absurd (cc e)
-denial-verdict (Some d) denial e = let same : denial ≡ d = cc e in ap Some (sym same)
 
 module _ (c : Content) (g : ProtectionGraph) (stands : StandsFor c g) (x : ℕ) (command : Command) (subject : IsSubject g x) (denial : Denial) (denied : denial_of c.label x command ≡ Some denial) where
   pub reply-denied : Denied denial ≡ answer_of g x (Plain command)

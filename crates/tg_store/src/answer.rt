@@ -46,7 +46,13 @@ pub(crate) fn answer_command<P: Payload>(
         × AddsEdge command.now × LacksCellsToServe heap.old.table worker command.now }
 {
     match find_parties(heap, worker, command) {
-        Ok(parties) => serve(alloc, heap, worker, command, parties),
+        Ok(parties) => {
+            if only_looks(command) {
+                look(alloc, heap, worker, command, parties)
+            } else {
+                change(heap, worker, command, parties)
+            }
+        }
         Err(denial) => Ok(denied(&denial)),
     }
 }
@@ -59,35 +65,6 @@ fn denied(denial: &Denial) -> Replies
     Replies {
         reply: Reply::Denied(*denial),
         copy: Reply::Denied(*denial),
-    }
-}
-
-// Performs a command that is served.
-fn serve<P: Payload>(
-    alloc: Global,
-    heap: &mut Heap<P>,
-    worker: u64,
-    command: &Command,
-    parties: Parties,
-) -> Result<Replies, ApplyFault>
-    requires worker { worker < length heap.old.workers }
-    requires parties { AreParties heap.old worker command.now parties }
-    requires served { denial_of (content_of heap.old).label worker command.now ≡ None }
-    ensures copy { IfOk result (λ answer. answer.copy ≡ answer.reply) }
-    ensures reply { (g : ProtectionGraph) → StandsFor (content_of heap.old) g → IsSubject g worker →
-        IfOk result (λ answer. answer.reply ≡ answer_of g worker (Plain command.now)) }
-    ensures step { (g : ProtectionGraph) → StandsFor (content_of heap.old) g → IsSubject g worker →
-        OnOk result (StandsFor (content_of heap.new) (step g worker (Plain command.now))) }
-    ensures workers { heap.new.workers ≡ heap.old.workers }
-    ensures limits { heap.new.table.limits ≡ heap.old.table.limits }
-    ensures refused { OnErr result (IsUnchanged heap.old heap.new) }
-    ensures worker { result ≢ Err ApplyFault.NoSuchWorker }
-    ensures full { result ≡ Err ApplyFault.HeapFull → AddsEdge command.now × LacksCellsToServe heap.old.table worker command.now }
-{
-    if only_looks(command) {
-        look(alloc, heap, worker, command, parties)
-    } else {
-        change(heap, worker, command, parties)
     }
 }
 
