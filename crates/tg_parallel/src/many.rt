@@ -291,7 +291,7 @@ fn finish(
     ensures full { IfErr result (λ fault. fault ≡ CollectFault.HeapFull → MayLackRoom spaces.now.limits.space_blocks table.counts.helpers (kept_blocks plan.kind spaces.now.spaces) (used_cells plan.kind spaces.now.spaces)) }
 {
     let Helped { helper, part } = helped;
-    let forward = Forwarding::of(CELLS as u64 * plan.kept, table.close(helper));
+    let forward = Forwarding::of_closed(CELLS as u64 * plan.kept, table.close(helper));
     match part {
         Ok(part) => Ok(put_together(alloc, forward, spaces, roots, plan, part)?),
         Err(fault) => Err(fault),

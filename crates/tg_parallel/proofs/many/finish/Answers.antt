@@ -19,12 +19,12 @@ use Rattle.tg_parallel.proofs.many.finish.Goals.{In_ok-put_together-in-Ok}
 words_are : (kept skipped : ℕ) → kept ≡ skipped → (ws : List ℕ) (f : ForwardingWords) → f ≡ record { skipped = 64 * skipped; words = replicate (64 * skipped) 0 ++ ws } → f.words ≡ replicate (64 * kept) 0 ++ ws
 words_are kept skipped same ws f is = ap (λ (x : ForwardingWords). x.words) is ∙ ap (λ (n : ℕ). replicate (64 * n) 0 ++ ws) (sym same)
 
-whole : (c : In_ok-put_together-in-Ok) → IsWholePart c.args.plan.kind c.args.spaces.now c.args.roots.now c.args.table.counts c.of-forward.result.words c.args.helped.helper.done c.in-Ok.part.aged.items c.in-Ok.part.old.items
+whole : (c : In_ok-put_together-in-Ok) → IsWholePart c.args.plan.kind c.args.spaces.now c.args.roots.now c.args.table.counts c.of_closed-forward.result.words c.args.helped.helper.done c.in-Ok.part.aged.items c.in-Ok.part.old.items
 whole c =
     let v = c.args.helped.helper.done in let p = c.in-Ok.part in
     record {
       counts = c.requires.counts;
-      closed = subst (λ (ws : List ℕ). IsClosed c.args.table.counts ws v) (sym (words_are c.args.table.counts.kept c.args.plan.kept (c.requires.counts.kept ∙ sym c.requires.plan.kept) c.close.result.items c.of-forward.result c.of-forward.ensures)) c.close.ensures;
+      closed = subst (λ (ws : List ℕ). IsClosed c.args.table.counts ws v) (sym (words_are c.args.table.counts.kept c.args.plan.kept (c.requires.counts.kept ∙ sym c.requires.plan.kept) c.close.result c.of_closed-forward.result c.of_closed-forward.ensures)) c.close.ensures;
       last = ok_at (λ (_ : Part). 0 < past c.args.table.counts v) c.args.helped.part p c.in-Ok.is c.requires.helped.last;
       earned = c.requires.helped.earned;
       part = ok_at (λ (q : Part). IsPart c.args.plan.kind c.args.spaces.now c.args.roots.now v q.aged.items q.old.items) c.args.helped.part p c.in-Ok.is c.requires.helped.whole;
@@ -34,20 +34,20 @@ pub returns-in_ok-put_together-in-Ok-clause-collected : goal.returns-in_ok-put_t
 returns-in_ok-put_together-in-Ok-clause-collected c =
     let v = c.args.helped.helper.done in let p = c.in-Ok.part in let made = c.in_ok-put_together-in-Ok.field-0 in
     subst (λ (ws : List ℕ). IsCollection c.args.plan.kind c.args.spaces.now.spaces c.args.roots.now ws made.adoption.aged made.adoption.old made.remembered.places) (sym c.in_ok-put_together-in-Ok.ensures.words)
-    (finished c.args.plan.kind c.args.spaces.now c.args.roots.now c.args.table.counts c.of-forward.result.words v p.aged.items p.old.items c.requires.spaces c.requires.limit (whole c)
+    (finished c.args.plan.kind c.args.spaces.now c.args.roots.now c.args.table.counts c.of_closed-forward.result.words v p.aged.items p.old.items c.requires.spaces c.requires.limit (whole c)
     made.adoption.aged made.adoption.old c.in_ok-put_together-in-Ok.ensures.merged made.remembered.places c.in_ok-put_together-in-Ok.ensures.noted)
 
 pub returns-in_ok-put_together-in-Ok-clause-moved : goal.returns-in_ok-put_together-in-Ok-clause-moved
 returns-in_ok-put_together-in-Ok-clause-moved c =
     let all = whole c in
     subst (λ (ws : List ℕ). copies_in ws 0 + copies_in ws 1 ≤ used_cells c.args.plan.kind c.args.spaces.now.spaces) (sym c.in_ok-put_together-in-Ok.ensures.words)
-    (moved_few c.args.plan.kind c.args.spaces.now c.args.roots.now c.args.table.counts c.of-forward.result.words c.args.helped.helper.done c.requires.spaces c.requires.sound c.requires.counts all.closed all.earned)
+    (moved_few c.args.plan.kind c.args.spaces.now c.args.roots.now c.args.table.counts c.of_closed-forward.result.words c.args.helped.helper.done c.requires.spaces c.requires.sound c.requires.counts all.closed all.earned)
 
 pub returns-in_ok-put_together-in-Ok-clause-few : goal.returns-in_ok-put_together-in-Ok-clause-few
 returns-in_ok-put_together-in-Ok-clause-few c =
     let v = c.args.helped.helper.done in let p = c.in-Ok.part in let made = c.in_ok-put_together-in-Ok.field-0 in
     subst (λ (ws : List ℕ). AreFewBlocks c.args.spaces.now.limits.space_blocks (kept_blocks c.args.plan.kind c.args.spaces.now.spaces) c.args.table.counts.helpers ws made.adoption.aged made.adoption.old) (sym c.in_ok-put_together-in-Ok.ensures.words)
-    (few_blocks c.args.plan.kind c.args.spaces.now c.args.roots.now c.args.table.counts c.of-forward.result.words v p.aged.items p.old.items (whole c)
+    (few_blocks c.args.plan.kind c.args.spaces.now c.args.roots.now c.args.table.counts c.of_closed-forward.result.words v p.aged.items p.old.items (whole c)
     made.adoption.aged made.adoption.old c.in_ok-put_together-in-Ok.ensures.merged)
 
 pub returns-in-Err-clause-full : goal.returns-in-Err-clause-full

@@ -12,7 +12,7 @@ fetch_add-requires c =
     let board = c.table.view_is in
     let full = none_open_aged c.args.self.now.done (subst (λ (b : Bool). can_claim_block b c.args.self.now.done ≡ true) c.if-aged.true c.requires.allowed) in (
       ap (λ (x : Seated). x.table.id) me ∙ (ap (λ (t : TableOf). t.id) c.requires.own ∙ sym (ap (λ (x : Board). x.table.id) board)),
-      omega (arith, c.table.invariant.1, c.table.invariant.4),
+      omega (arith, c.table.invariant.1, c.table.invariant.3),
       draws_aged _ _ _ _ (ap (λ (x : Seated). open_aged x.done) me ∙ full) c.self.invariant.1,
     )
 
@@ -22,6 +22,6 @@ fetch_add-requires-else-aged c =
     let board = c.table.view_is in
     let full = none_open_old c.args.self.now.done (subst (λ (b : Bool). can_claim_block b c.args.self.now.done ≡ true) c.if-aged.false c.requires.allowed) in (
       ap (λ (x : Seated). x.table.id) me ∙ (ap (λ (t : TableOf). t.id) c.requires.own ∙ sym (ap (λ (x : Board). x.table.id) board)),
-      omega (arith, c.table.invariant.1, c.table.invariant.4),
+      omega (arith, c.table.invariant.1, c.table.invariant.3),
       draws_old _ _ _ _ (ap (λ (x : Seated). open_old x.done) me ∙ full) c.self.invariant.1,
     )

@@ -9,6 +9,6 @@ fetch_add-requires c =
     let me = c.self.view_is in
     let board = c.table.view_is in (
       ap (λ (x : Seated). x.table.id) me ∙ (ap (λ (t : TableOf). t.id) c.requires.own ∙ sym (ap (λ (x : Board). x.table.id) board)),
-      omega (arith, c.table.invariant.1, c.table.invariant.4),
+      omega (arith, c.table.invariant.1, c.table.invariant.3),
       draws_chunk _ _ _ _ (rw (c.table.invariant.0, ap (λ (x : Board). x.counts) board, ap (λ (x : Seated). x.done) me) (none_past c.args.table.now.counts c.args.self.now.done c.requires.allowed)) c.self.invariant.1,
     )

@@ -15,6 +15,6 @@ split_seat-seat-requires c =
     let share = ap (λ (x : Seated). x.done.share) me in
     let done : c.self.inside.seat.me.0.done ≡ c.args.self.now.done = ap (λ (x : Seated). x.done) me in (
       ap (λ (x : Seated). x.table.id) me ∙ (ap (λ (t : TableOf). t.id) c.requires.own ∙ sym (ap (λ (x : Board). x.table.id) board)),
-      omega (arith, c.table.invariant.1, c.table.invariant.4),
+      omega (arith, c.table.invariant.1, c.table.invariant.3),
       cuts _ _ _ (omega arith) (done ∙ (fresh.1 ∙ ap (λ (x : Record). empty x.share) (sym done))),
     )
