@@ -123,9 +123,10 @@ fn race_of_three_cells(rt: HostRuntime) -> Result<(), Fail> {
 
 #[test]
 fn one_helper_at_the_table(rt: HostRuntime) -> Result<(), Fail> {
-    let (table, mut helper) = RaceTable::open(rt.alloc(), 5, 9, 3, 1)?;
+    // three blocks of Old stay, and five cells behind them may be moved
+    let (table, mut helper) = RaceTable::open(rt.alloc(), 197, 9, 3, 1)?;
     assert!(rt; helper.claim_roots(&table) == 0);
-    assert!(rt; helper.look(&table, 4).is_none());
+    assert!(rt; helper.look(&table, 196).is_none());
     assert!(rt; helper.claim_block(&table, false) == 3);
     assert!(rt; helper.claim_block(&table, true) == 0);
     let words = table.close(helper);

@@ -12,7 +12,7 @@ use crate::win::Win;
 use std::alloc::Global;
 use std::marker::Model;
 use tg_block::CELLS;
-use tg_space::Forwarding;
+use tg_space::ForwardingTable;
 use tg_word::link;
 
 /// What one collection has claimed: the forwarding word of each cell, and the cells that were won, in order.
@@ -20,7 +20,7 @@ use tg_word::link;
 pub struct Claims {
     plan: Plan,
     /// The forwarding word of each cell, 0 where it has none.
-    pub forward: Forwarding,
+    pub forward: ForwardingTable,
     /// The cells that were won, in the order in which they were.
     pub won: Vec<Win>,
     // The number of the next new cell of Old, and of Aged.
@@ -53,7 +53,7 @@ impl Claims {
         let kept = CELLS as u64 * plan.kept;
         Ok(Claims {
             plan,
-            forward: Forwarding::new(alloc, cells, kept)?,
+            forward: ForwardingTable::new(alloc, cells, kept)?,
             // There is room for every cell that may be won at once, so the list never grows.
             won: Vec::with_capacity(alloc, (cells - kept) as usize)?,
             next: [kept, 0],

@@ -79,6 +79,7 @@ fn collect_kind(
     let mut claims = Claims::new(alloc, cells, plan)?;
     let copies = trace(alloc, &mut claims, spaces, kind, roots)?;
     let Claims { forward, .. } = claims;
+    let forward = forward.into_forwarding();
     let adoption = copies.finish()?;
     let remembered = notes_of(
         alloc,

@@ -1,11 +1,12 @@
 -- How many blocks a closed table has given away: they are within the limit, and nearly as few as the copies need; and a block
 -- past the limit tells of many cells in use.
-use Rattle.std.proofs.Common.{◌≡◌, ◌≢◌, ℕ, suc, ◌+◌, ◌-◌, ◌<◌, ◌≤◌, ◌==◌, List, [], ◌∷◌, Bool, true, false, cond, if◌then◌else◌, length, refl, sym, ap, ◌∙◌, eq-eqb, ⊎_elim, arith}
+use Rattle.std.proofs.Common.{◌≡◌, ◌≢◌, ℕ, suc, ◌+◌, ◌-◌, ◌<◌, ◌≤◌, ◌==◌, List, [], ◌∷◌, Bool, true, false, cond, if◌then◌else◌, length, refl, sym, ap, ◌∙◌, eq-eqb, eqb-true, ⊎_elim, arith}
 use Rattle.std.specs.List.{All, Contains}
 use Rattle.std.proofs.lemmas.Bool.{cases_eq}
 use Rattle.std.proofs.lemmas.List.{length-map}
 use Rattle.std.proofs.lemmas.List.Elements.{All-contains}
 use Rattle.std.proofs.lemmas.List.Sums.{sum_by-cons}
+use Rattle.tg_word.specs.declared.Place.{Place}
 use Rattle.tg_word.specs.Word.{place_in}
 use Rattle.tg_space.specs.Collection.{AreFewBlocks, MayLackRoom, copies_in, is_copy_in, used_cells}
 use Rattle.tg_space.specs.Soundness.{AreSound}
@@ -33,6 +34,41 @@ use Rattle.tg_parallel.specs.Parts.{AreCountsOf, AreEarned, IsPastLimit, Numbere
 use Rattle.tg_parallel.proofs.Lists.{any_has}
 use Rattle.tg_parallel.proofs.Wins.{cells_distinct, cells_long, traced_all}
 
+-- ---- copies
+
+-- the words of copies in a space are those of the pairs that were won into it
+count_words : (s i : ℕ) (ws : List ℕ) → weigh_words (λ q. if q.1.space == s then 1 else 0) i ws ≡ copies_in ws s
+unfolding place_of
+count_words s i [] = refl
+count_words s i (w ∷ ws) = by_test (w == 0) refl (count_words s (suc i) ws)
+  where
+    cons : copies_in (w ∷ ws) s ≡ cond (is_copy_in s w) 1 0 + copies_in ws s
+    cons = sum_by-cons (λ (x : ℕ). cond (is_copy_in s x) 1 0) w ws
+
+    by_test : (z : Bool) → (w == 0) ≡ z → weigh_words (λ q. if q.1.space == s then 1 else 0) (suc i) ws ≡ copies_in ws s → (if w == 0 then 0 else (if (place_of w).space == s then 1 else 0)) + weigh_words (λ q. if q.1.space == s then 1 else 0) (suc i) ws ≡ copies_in (w ∷ ws) s
+    by_test true z ih =
+        let one : ◌≡◌ {A = ℕ} (cond (is_copy_in s w) 1 0) 0 = rw z refl in
+        let here : ◌≡◌ {A = ℕ} (if w == 0 then 0 else (if (place_in w).space == s then 1 else 0)) 0 = rw z refl in
+        omega (arith, cons, one, here, ih)
+    by_test false z ih =
+        let one : ◌≡◌ {A = ℕ} (cond (is_copy_in s w) 1 0) (cond ((place_in w).space == s) 1 0) = rw z refl in
+        let here : ◌≡◌ {A = ℕ} (if w == 0 then 0 else (if (place_in w).space == s then 1 else 0)) (cond ((place_in w).space == s) 1 0) = rw z refl in
+        omega (arith, cons, one, here, ih)
+
+-- a copy is in one space
+two_spaces : (won : List (ℕ × Place)) → in_space 0 won + in_space 1 won ≤ length won
+two_spaces [] = omega arith
+two_spaces (q ∷ qs) = by_test (q.1.space == 0) refl (q.1.space == 1) refl (two_spaces qs)
+  where
+    by_test : (a : Bool) → (q.1.space == 0) ≡ a → (b : Bool) → (q.1.space == 1) ≡ b → in_space 0 qs + in_space 1 qs ≤ length qs → (if a then 1 else 0) + in_space 0 qs + ((if b then 1 else 0) + in_space 1 qs) ≤ suc (length qs)
+    by_test true e true f h = absurd (omega (arith, eqb-true q.1.space 0 e, eqb-true q.1.space 1 f))
+    by_test true e false f h = omega arith
+    by_test false e true f h = omega arith
+    by_test false e false f h = omega arith
+
+copies_won : (k : Counts) (words : List ℕ) (done : Record) → IsClosed k words done → (s : ℕ) → in_space s done.won ≡ copies_in words s
+copies_won k words done closed s = let all = closed.rule.wins_once.won (λ q. if q.1.space == s then 1 else 0) in omega (arith, count_words s 0 words)
+
 -- ---- a block past the limit
 
 module _ (kind : Kind) (t : SpaceTable) (roots : List Root) (k : Counts) (words : List ℕ) (done : Record)
@@ -42,6 +78,10 @@ module _ (kind : Kind) (t : SpaceTable) (roots : List Root) (k : Counts) (words 
       let list = table_list t table in
       let used = all_used kind t.spaces roots (wins_of done.won) (traced_all kind t.spaces roots done earned) list (have_pointers t.spaces roots sound list) sound.roots_held in
       omega (arith, cells_long k words done closed, won_few kind t.spaces list (cells_won (wins_of done.won)) (cells_distinct k words done closed) used)
+
+  -- no more cells are copied than are in use
+  pub moved_few : copies_in words 0 + copies_in words 1 ≤ used_cells kind t.spaces
+  moved_few = omega (arith, won_used, two_spaces done.won, copies_won k words done closed 0, copies_won k words done closed 1)
 
   pub lacks : IsPastLimit t done → MayLackRoom t.limits.space_blocks k.helpers (kept_blocks kind t.spaces) (used_cells kind t.spaces)
   lacks past =
@@ -70,29 +110,10 @@ numbers_within start numbers are limit below = ⊎_elim
 pub blocks_long : (blocks : Numbered) (numbers : List ℕ) → numbers_of blocks ≡ numbers → length blocks ≡ length numbers
 blocks_long blocks numbers is = sym (length-map blocks (λ (b : ℕ × List (List ℕ)). b.0)) ∙ ap (λ (l : List ℕ). length l) is
 
--- the words of copies in a space are those of the pairs that were won into it
-count_words : (s i : ℕ) (ws : List ℕ) → weigh_words (λ q. if q.1.space == s then 1 else 0) i ws ≡ copies_in ws s
-unfolding place_of
-count_words s i [] = refl
-count_words s i (w ∷ ws) = by_test (w == 0) refl (count_words s (suc i) ws)
-  where
-    cons : copies_in (w ∷ ws) s ≡ cond (is_copy_in s w) 1 0 + copies_in ws s
-    cons = sum_by-cons (λ (x : ℕ). cond (is_copy_in s x) 1 0) w ws
-
-    by_test : (z : Bool) → (w == 0) ≡ z → weigh_words (λ q. if q.1.space == s then 1 else 0) (suc i) ws ≡ copies_in ws s → (if w == 0 then 0 else (if (place_of w).space == s then 1 else 0)) + weigh_words (λ q. if q.1.space == s then 1 else 0) (suc i) ws ≡ copies_in (w ∷ ws) s
-    by_test true z ih =
-        let one : ◌≡◌ {A = ℕ} (cond (is_copy_in s w) 1 0) 0 = rw z refl in
-        let here : ◌≡◌ {A = ℕ} (if w == 0 then 0 else (if (place_in w).space == s then 1 else 0)) 0 = rw z refl in
-        omega (arith, cons, one, here, ih)
-    by_test false z ih =
-        let one : ◌≡◌ {A = ℕ} (cond (is_copy_in s w) 1 0) (cond ((place_in w).space == s) 1 0) = rw z refl in
-        let here : ◌≡◌ {A = ℕ} (if w == 0 then 0 else (if (place_in w).space == s then 1 else 0)) (cond ((place_in w).space == s) 1 0) = rw z refl in
-        omega (arith, cons, one, here, ih)
-
 module _ (kind : Kind) (t : SpaceTable) (roots : List Root) (k : Counts) (words : List ℕ) (done : Record) (aged old : Numbered)
     (whole : IsWholePart kind t roots k words done aged old) (aged_blocks old_blocks : BlockList) (merged : AreMerged kind (kept_blocks kind t.spaces) aged old aged_blocks old_blocks) where
   copies_are : (s : ℕ) → in_space s done.won ≡ copies_in words s
-  copies_are s = let all = whole.closed.rule.wins_once.won (λ q. if q.1.space == s then 1 else 0) in omega (arith, count_words s 0 words)
+  copies_are s = copies_won k words done whole.closed s
 
   aged_at_most : length aged_blocks ≤ length done.aged_blocks
   aged_at_most = by_kind kind refl

@@ -1,8 +1,8 @@
 //! The laws of joining, each the contract of a function that does nothing.
-ghost use Rattle.std.specs.Prelude.{ℕ, List, ◌++◌, ◌<◌, ◌≤◌, ◌^◌, ◌↔◌, ◌⊎◌};
+ghost use Rattle.std.specs.Prelude.{ℕ, List, ◌+◌, ◌++◌, ◌<◌, ◌≤◌, ◌^◌, ◌↔◌, ◌⊎◌};
 ghost use Rattle.std.specs.List.{Contains};
 ghost use Rattle.tg_word.specs.declared.Place.{Place};
-ghost use Rattle.tg_space.specs.Collection.{AreFewBlocks, IsCollection, MayLackRoom, used_cells};
+ghost use Rattle.tg_space.specs.Collection.{AreFewBlocks, IsCollection, MayLackRoom, copies_in, used_cells};
 ghost use Rattle.tg_space.specs.Generations.{NamesYoung};
 ghost use Rattle.tg_space.specs.Soundness.{AreSound};
 ghost use Rattle.tg_space.specs.SpaceList.{BlockList, SpaceList};
@@ -34,6 +34,11 @@ pub fn a_block_past_the_limit_tells_of_want_of_room()
 /// copies need, but for one a helper.
 pub fn helpers_blocks_are_few()
     ensures { (kind : Kind) (t : SpaceTable) (roots : List Root) (k : Counts) (words : List ℕ) (done : Record) (aged old : Numbered) → IsWholePart kind t roots k words done aged old → (aged_blocks old_blocks : BlockList) → AreMerged kind (kept_blocks kind t.spaces) aged old aged_blocks old_blocks → AreFewBlocks t.limits.space_blocks (kept_blocks kind t.spaces) k.helpers words aged_blocks old_blocks }
+{}
+
+/// Where one record stands for all helpers and its wins were earned, no more cells are copied than are in use.
+pub fn helpers_copy_cells_in_use()
+    ensures { (kind : Kind) (t : SpaceTable) (roots : List Root) (k : Counts) (words : List ℕ) (done : Record) → IsSpaceTable t → AreSound t.spaces roots → AreCountsOf kind t.spaces roots k → IsClosed k words done → AreEarned kind t.spaces roots done → copies_in words 0 + copies_in words 1 ≤ used_cells kind t.spaces }
 {}
 
 /// Where one record stands for all helpers and has claimed past the last chunk, what they have handed over is a collection,

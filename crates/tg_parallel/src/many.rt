@@ -1,7 +1,7 @@
 //! Collections by a helper at a table, and by several on threads.
 ghost use Rattle.std.specs.Prelude.{◌≡◌, ◌≢◌, ℕ, ◌+◌, ◌≤◌, ◌^◌, ◌↔◌, ◌⊎◌, All, Contains, IfErr, IfOk, List, OnOk, length};
 ghost use Rattle.tg_word.specs.declared.Place.{Place as PlaceOf};
-ghost use Rattle.tg_space.specs.Collection.{AreFewBlocks, IsCollection, MayLackRoom, used_cells};
+ghost use Rattle.tg_space.specs.Collection.{AreFewBlocks, IsCollection, MayLackRoom, copies_in, used_cells};
 ghost use Rattle.tg_space.specs.Generations.{NamesYoung};
 ghost use Rattle.tg_space.specs.Soundness.{AreSound};
 ghost use Rattle.tg_space.specs.SpaceTable.{IsSpaceTable, SpaceTable, kept_blocks};
@@ -27,6 +27,7 @@ use std::alloc::{AllocError, Global};
 use std::sync::Wait;
 use std::thread;
 use std::thread::{Promise, PromisedHandle, Scope, Threads, join_promised};
+use tg_block::CELLS;
 use tg_evac::{CollectFault, Copied, Plan, notes_of};
 use tg_race::{Helper, RaceTable};
 use tg_space::{Forwarding, Kind, Root, Spaces};
@@ -35,6 +36,7 @@ use tg_space::{Forwarding, Kind, Root, Spaces};
 ///
 /// What it leaves is a collection as that of `tg_evac::collect_one`, and it is refused as that is, but that each space may
 /// have one block more than its copies need.
+#[tactic(auto, using(tg_evac::proofs::Behind::kept_within))]
 pub fn collect_seated(
     alloc: Global,
     spaces: &Spaces,
@@ -43,6 +45,7 @@ pub fn collect_seated(
 ) -> Result<Copied, CollectFault>
     requires { AreSound spaces.now.spaces roots.now }
     ensures collected { IfOk result (λ copied. IsCollection kind spaces.now.spaces roots.now copied.forward.words copied.adoption.aged copied.adoption.old copied.remembered.places) }
+    ensures moved { IfOk result (λ copied. copies_in copied.forward.words 0 + copies_in copied.forward.words 1 ≤ used_cells kind spaces.now.spaces) }
     ensures few { IfOk result (λ copied. AreFewBlocks spaces.now.limits.space_blocks (kept_blocks kind spaces.now.spaces) 1 copied.forward.words copied.adoption.aged copied.adoption.old) }
     ensures full { IfErr result (λ fault. fault ≡ CollectFault.HeapFull → MayLackRoom spaces.now.limits.space_blocks 1 (kept_blocks kind spaces.now.spaces) (used_cells kind spaces.now.spaces)) }
 {
@@ -61,6 +64,7 @@ pub fn collect_seated(
 /// into the blocks that a space may have, if each helper leaves one open; `NoThread` where a thread couldn't be started, and
 /// never of one helper alone. Where several helpers fail, the fault is that of the least number. Those that were started
 /// end before the answer.
+#[tactic(auto, using(tg_evac::proofs::Behind::kept_within))]
 pub fn collect_many<R: Threads + Wait + Sync, G: Gate>(
     rt: &R,
     alloc: Global,
@@ -74,6 +78,7 @@ pub fn collect_many<R: Threads + Wait + Sync, G: Gate>(
     requires some { 1 ≤ helpers }
     requires few { helpers ≤ 8 }
     ensures collected { IfOk result (λ copied. IsCollection kind spaces.now.spaces roots.now copied.forward.words copied.adoption.aged copied.adoption.old copied.remembered.places) }
+    ensures moved { IfOk result (λ copied. copies_in copied.forward.words 0 + copies_in copied.forward.words 1 ≤ used_cells kind spaces.now.spaces) }
     ensures few { IfOk result (λ copied. AreFewBlocks spaces.now.limits.space_blocks (kept_blocks kind spaces.now.spaces) helpers copied.forward.words copied.adoption.aged copied.adoption.old) }
     ensures full { IfErr result (λ fault. fault ≡ HelpersFault.HeapFull → MayLackRoom spaces.now.limits.space_blocks helpers (kept_blocks kind spaces.now.spaces) (used_cells kind spaces.now.spaces)) }
     ensures alone { helpers ≡ 1 → IfErr result (λ fault. fault ≢ HelpersFault.NoThread) }
@@ -277,16 +282,18 @@ fn finish(
     requires spaces { IsSpaceTable spaces.now }
     requires limit { spaces.now.limits.space_blocks ≤ 2 ^ 20 }
     requires plan { IsPlanFor plan.kind spaces.now plan }
+    requires few { plan.kept ≤ 2 ^ 20 }
     requires counts { AreCountsOf plan.kind spaces.now.spaces roots.now table.counts }
     requires helped { IsHelped plan.kind spaces.now roots.now table table.counts.helpers helped }
     ensures collected { IfOk result (λ copied. IsCollection plan.kind spaces.now.spaces roots.now copied.forward.words copied.adoption.aged copied.adoption.old copied.remembered.places) }
+    ensures moved { IfOk result (λ copied. copies_in copied.forward.words 0 + copies_in copied.forward.words 1 ≤ used_cells plan.kind spaces.now.spaces) }
     ensures few { IfOk result (λ copied. AreFewBlocks spaces.now.limits.space_blocks (kept_blocks plan.kind spaces.now.spaces) table.counts.helpers copied.forward.words copied.adoption.aged copied.adoption.old) }
     ensures full { IfErr result (λ fault. fault ≡ CollectFault.HeapFull → MayLackRoom spaces.now.limits.space_blocks table.counts.helpers (kept_blocks plan.kind spaces.now.spaces) (used_cells plan.kind spaces.now.spaces)) }
 {
     let Helped { helper, part } = helped;
-    let words = table.close(helper);
+    let forward = Forwarding::of_closed(CELLS as u64 * plan.kept, table.close(helper));
     match part {
-        Ok(part) => Ok(put_together(alloc, words, spaces, roots, plan, part)?),
+        Ok(part) => Ok(put_together(alloc, forward, spaces, roots, plan, part)?),
         Err(fault) => Err(fault),
     }
 }
@@ -294,7 +301,7 @@ fn finish(
 // What is handed over, of the closed words and of all blocks.
 fn put_together(
     alloc: Global,
-    words: Vec<u64>,
+    forward: Forwarding,
     spaces: &Spaces,
     roots: &[Root],
     plan: Plan,
@@ -304,12 +311,11 @@ fn put_together(
     requires spaces { IsSpaceTable spaces.now }
     requires limit { spaces.now.limits.space_blocks ≤ 2 ^ 20 }
     requires plan { IsPlanFor plan.kind spaces.now plan }
-    requires made { (k : Counts) × (done : Record) × IsWholePart plan.kind spaces.now roots.now k words.items done part.aged.items part.old.items }
-    ensures words { IfOk result (λ copied. copied.forward.words ≡ words.items) }
+    requires made { (k : Counts) × (done : Record) × IsWholePart plan.kind spaces.now roots.now k forward.words done part.aged.items part.old.items }
+    ensures words { IfOk result (λ copied. copied.forward.words ≡ forward.words) }
     ensures merged { IfOk result (λ copied. AreMerged plan.kind (kept_blocks plan.kind spaces.now.spaces) part.aged.items part.old.items copied.adoption.aged copied.adoption.old) }
-    ensures noted { IfOk result (λ copied. (p : PlaceOf) → Contains copied.remembered.places p ↔ ((Contains roots.now (RememberedAt p) × NamesYoung (moved_cell plan.kind spaces.now.spaces words.items p)) ⊎ (IsPlaceIn 0 (kept_blocks plan.kind spaces.now.spaces) copied.adoption.old p × NamesYoung (new_cell (kept_blocks plan.kind spaces.now.spaces) copied.adoption.old p)))) }
+    ensures noted { IfOk result (λ copied. (p : PlaceOf) → Contains copied.remembered.places p ↔ ((Contains roots.now (RememberedAt p) × NamesYoung (moved_cell plan.kind spaces.now.spaces forward.words p)) ⊎ (IsPlaceIn 0 (kept_blocks plan.kind spaces.now.spaces) copied.adoption.old p × NamesYoung (new_cell (kept_blocks plan.kind spaces.now.spaces) copied.adoption.old p)))) }
 {
-    let forward = Forwarding::of(0, words);
     let adoption = merged(alloc, plan.kind, part)?;
     let remembered = notes_of(
         alloc,

@@ -51,6 +51,7 @@ impl OwnBlocks {
     ) -> Result<Place, CollectFault>
         requires own { winner.old.table ≡ table.now.table }
         requires inside { cell < table.now.counts.cells }
+        requires moved { 64 * table.now.counts.kept ≤ cell }
         requires limit { limit ≤ 2 ^ 20 }
         requires filled { AreFilled self.now.aged winner.old.done self.now.numbers.items self.now.used }
         ensures space { self.exit.now.aged ≡ self.entry.now.aged }
@@ -118,6 +119,7 @@ impl OwnBlocks {
     ) -> Result<Place, CollectFault>
         requires own { winner.old.table ≡ table.now.table }
         requires inside { cell < table.now.counts.cells }
+        requires moved { 64 * table.now.counts.kept ≤ cell }
         requires filled { AreFilled self.now.aged winner.old.done self.now.numbers.items self.now.used }
         requires room { self.now.used < 64 * length self.now.numbers.items }
         requires next { place ≡ own_place self.now.aged self.now.numbers.items self.now.used }

@@ -1,5 +1,5 @@
 //! A helper at its seat, which claims cells at the table that it shares with others.
-ghost use Rattle.std.specs.Prelude.{◌≡◌, ℕ, ◌<◌, ◌≤◌, ◌^◌, false, true, All, Contains, IfErr, IfOk, IsTrue, OnOk, length};
+ghost use Rattle.std.specs.Prelude.{◌≡◌, ℕ, ◌*◌, ◌<◌, ◌≤◌, ◌^◌, false, true, All, Contains, IfErr, IfOk, IsTrue, OnOk, length};
 ghost use Rattle.tg_word.specs.declared.Place.{Place as PlaceOf};
 ghost use Rattle.tg_word.specs.Word.{IsPlace, place_in};
 ghost use Rattle.tg_race.specs.Course.{has_met};
@@ -111,6 +111,7 @@ impl<'a> Seat<'a> {
     #[inline(always)]
     fn claim_place(&mut self, cell: u64, space: u64) -> Result<u64, CollectFault>
         requires inside { cell < self.now.board.counts.cells }
+        requires moved { 64 * self.now.board.counts.kept ≤ cell }
         requires space { space < 2 }
         ensures added { AddsWins (IsWinFor cell space) (walked_at self.entry.now) (walked_at self.exit.now) }
         ensures grows { KnowsMore (HasPlaces self.entry.now.done) (HasPlaces self.exit.now.done) }
@@ -127,6 +128,7 @@ impl<'a> Seat<'a> {
     // Gives a cell that has no place the next one of a space, unless another helper does so first.
     fn give_place(&mut self, cell: u64, space: u64) -> Result<Place, CollectFault>
         requires inside { cell < self.now.board.counts.cells }
+        requires moved { 64 * self.now.board.counts.kept ≤ cell }
         requires space { space < 2 }
         requires unmet { has_met self.now.done cell ≡ false }
         ensures added { AddsWins (IsWinFor cell space) (walked_at self.entry.now) (walked_at self.exit.now) }

@@ -1,5 +1,5 @@
 //! A helper with the list of what it has won.
-ghost use Rattle.std.specs.Prelude.{◌≡◌, ◌<◌, false, All, IfNone, IfOk, IfSome, IsTrue, Some, [], length};
+ghost use Rattle.std.specs.Prelude.{◌≡◌, ◌*◌, ◌<◌, ◌≤◌, false, All, IfNone, IfOk, IfSome, IsTrue, Some, [], length};
 ghost use Rattle.std.specs.Result.{OnErr};
 ghost use Rattle.tg_word.specs.declared.Place.{Place as PlaceOf};
 ghost use Rattle.tg_word.specs.Word.{IsPlace};
@@ -88,6 +88,7 @@ impl Winner {
     pub fn look(&mut self, table: &RaceTable, cell: u64) -> Option<Place>
         requires own { self.old.table ≡ table.now.table }
         requires inside { cell < table.now.counts.cells }
+        requires moved { 64 * table.now.counts.kept ≤ cell }
         ensures none { IfNone result (self.new ≡ self.old) }
         ensures some { IfSome result (λ p. self.new ≡ record self.old { done = with_seen self.old.done (cell, p) }) }
         ensures place { IfSome result IsPlace }
@@ -106,6 +107,7 @@ impl Winner {
     ) -> Result<Claim, AllocError>
         requires own { self.old.table ≡ table.now.table }
         requires inside { cell < table.now.counts.cells }
+        requires moved { 64 * table.now.counts.kept ≤ cell }
         requires place { IsPlace place }
         requires allowed { IsTrue (can_use self.old.done place) }
         ensures done { IfOk result (λ claim. self.new ≡ record self.old { done = claimed self.old.done cell place claim }) }

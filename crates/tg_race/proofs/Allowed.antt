@@ -1,13 +1,15 @@
 -- Each step on the table keeps the rule.
-use Rattle.std.proofs.Common.{true, false, ◌≡◌, ◌≢◌, ℕ, zero, suc, ◌+◌, ◌-◌, ◌%◌, ◌^◌, ◌<◌, ◌==◌, List, [], ◌∷◌, ◌++◌, length, replicate, get_or, drop, set, slice_index, if◌then◌else◌, eqb, eq-eqb, ne_eqb, sym, refl, ap, ◌∙◌, subst, ⊎_elim, mod-eq_of_lt, arith}
+use Rattle.std.proofs.Common.{true, false, ◌≡◌, ◌≢◌, ℕ, zero, suc, ◌+◌, ◌-◌, ◌*◌, ◌%◌, ◌^◌, ◌<◌, ◌≤◌, ◌==◌, List, [], ◌∷◌, ◌++◌, length, map, replicate, get_or, drop, set, slice_index, if◌then◌else◌, eqb, eq-eqb, ne_eqb, sym, refl, ap, ◌∙◌, subst, ⊎_elim, mod-eq_of_lt, arith}
 use Rattle.std.proofs.lemmas.Bool.{cond-true, cond-false, cases_eq}
 use mathlib.Core.Option.{some, some-injective, some-ne-none, none}
 use lib.ListN.{get_elem?}
 use prog.Atomic.{either}
 use Rattle.atomic_table.specs.Table.{State, Me, step, Act, keeps, Allows, Splits, Joins, stepped, Valid, carried_after, opening, Final, Seen}
-use Rattle.std.proofs.lemmas.List.{set-get_or}
-use Rattle.atomic_table.proofs.Lists.{exchanged, set_again}
+use Rattle.std.proofs.lemmas.List.{get_or-append-add, length-replicate, map-append, map-set, replicate-append-replicate, set-append_right, set-get_or}
+use Rattle.std.proofs.lemmas.List.Elements.{All-append, All-cons, All-head, All-nil, All-set, All-tail}
+use Rattle.atomic_table.proofs.Lists.{at_map, exchanged, set_again}
 use Rattle.tg_race.specs.declared.record.Counts.{Counts}
+use Rattle.tg_race.specs.declared.plays.View.{View}
 use Rattle.tg_race.specs.declared.record.Record.{Record}
 use Rattle.tg_word.specs.declared.Place.{Place}
 use Rattle.tg_word.specs.Word.{IsPlace}
@@ -20,20 +22,36 @@ use Rattle.tg_race.proofs.Drawn.{drawn_under}
 use Rattle.tg_race.proofs.Standing.{won_stands, seen_at, unmet}
 use Rattle.tg_race.specs.Words.{place_at}
 use Rattle.tg_race.specs.Race.{Rule, HasMet, empty, past, with_chunk, with_seen, with_won, with_block, both, less_one}
-use Rattle.tg_race.specs.Board.{Holds, AreSmall, IsClosed, IsKnown, words_of, drew_chunk, drew_aged, drew_old, looked, tried}
+use Rattle.tg_race.specs.Board.{Holds, AreSmall, IsClosed, IsKnown, KnowsSkipped, cell_at, does, skipped_of, words_of, drew_chunk, drew_aged, drew_old, looked, tried}
 use Rattle.tg_race.proofs.Parts.{open_aged, open_old, claims_of, rule_of, parts_of}
 use Rattle.tg_race.proofs.Steps.{claim_keeps, claim_aged_keeps, claim_old_keeps, win_keeps, look_keeps, split_keeps, join_keeps, starts, alone_keeps, few_chunks, few_aged, few_old}
 
 -- the view of a seat, in the race that stands for the table
-in_race : (k : Counts) (s : State ℕ Record) (h : Holds k s) (id : ℕ) (v : Record) → get_elem? s.views id ≡ some v → get_elem? h.race.records id ≡ some v
-in_race k s h id v at = subst (λ (l : List Record). get_elem? l id ≡ some v) h.records at
+in_race : (k : Counts) (s : State ℕ View) (h : Holds k s) (id : ℕ) (u : View) → get_elem? s.views id ≡ some u → get_elem? h.race.records id ≡ some u.done
+in_race k s h id u at = subst (λ (l : List Record). get_elem? l id ≡ some u.done) h.records (at_map (λ (x : View). x.done) s.views id u at)
 
-pub draws_chunk : (k : Counts) (slots id : ℕ) (m : Me ℕ Record) → past k m.0 ≡ 0 → 0 < m.0.share
+-- the seat with another record
+with_record : (k : Counts) (s : State ℕ View) (h : Holds k s) (id : ℕ) (u : View) (w : Record) → map (λ (x : View). x.done) (set s.views id (does u w)) ≡ set h.race.records id w
+with_record k s h id u w = map-set (λ (x : View). x.done) s.views id (does u w) ∙ ap (λ (l : List Record). set l id w) h.records
+
+at_all : {A : Type 0} (P : A → Type 0) (l : List A) (i : ℕ) (a : A) → All P l → get_elem? l i ≡ some a → P a
+at_all P [] i a all at = absurd (some-ne-none a (sym at))
+at_all P (x ∷ l) zero a all at = subst P (some-injective x a at) (All-head P x l all)
+at_all P (x ∷ l) (suc i) a all at = at_all P l i a (All-tail P x l all) at
+
+-- a seat that isn't spent knows how many cells have no word
+is_skipped : (k : Counts) (s : State ℕ View) (h : Holds k s) (id : ℕ) (u : View) → 0 < u.done.share → get_elem? s.views id ≡ some u → u.skipped ≡ skipped_of k
+is_skipped k s h id u alive at = at_all (KnowsSkipped k) s.views id u h.skipped at alive
+
+still_skipped : (k : Counts) (s : State ℕ View) (h : Holds k s) (id : ℕ) (u : View) (w : Record) → u.skipped ≡ skipped_of k → All (KnowsSkipped k) (set s.views id (does u w))
+still_skipped k s h id u w is = All-set (KnowsSkipped k) s.views id (does u w) (λ _. is) h.skipped
+
+pub draws_chunk : (k : Counts) (slots id : ℕ) (m : Me ℕ View) → past k m.0.done ≡ 0 → 0 < m.0.done.share
     → Allows (Holds k) slots id m 0 (λ n. (n + 1) % 2 ^ 64) (drew_chunk (step slots 0 1 0 none) m)
 draws_chunk k slots id m none_past alive s h len at fits =
     let r = h.race in
     let n : ℕ = slice_index s.words 0 in
-    let w = with_chunk m.0 n in
+    let w = does m.0 (with_chunk m.0.done n) in
     let is : n ≡ r.next_chunk = ap (λ (ws : List ℕ). get_or ws 0 0) h.words in
     let few = few_chunks k r (parts_of k r h.rule) in
     let small = h.small in
@@ -42,21 +60,24 @@ draws_chunk k slots id m none_past alive s h len at fits =
       keeps,
       tt,
       record {
-        race = record r { next_chunk = r.next_chunk + 1; records = set r.records id (with_chunk m.0 r.next_chunk) };
+        moved = h.moved;
+        whole = h.whole;
+        race = record r { next_chunk = r.next_chunk + 1; records = set r.records id (with_chunk m.0.done r.next_chunk) };
         words = ap (λ (x : ℕ). set s.words 0 x) next ∙ ap (λ (ws : List ℕ). set ws 0 (r.next_chunk + 1)) h.words;
-        records = ap (λ (x : ℕ). set s.views id (with_chunk m.0 x)) is ∙ ap (λ (l : List Record). set l id (with_chunk m.0 r.next_chunk)) h.records;
-        rule = rule_of _ _ (claim_keeps k r id m.0 (parts_of k h.race h.rule) (in_race k s h id m.0 at) none_past alive);
+        records = ap (λ (x : ℕ). map (λ (u : View). u.done) (set s.views id (does m.0 (with_chunk m.0.done x)))) is ∙ with_record k s h id m.0 (with_chunk m.0.done r.next_chunk);
+        skipped = still_skipped k s h id m.0 _ (is_skipped k s h id m.0 alive at);
+        rule = rule_of _ _ (claim_keeps k r id m.0.done (parts_of k h.race h.rule) (in_race k s h id m.0 at) none_past alive);
         small = small;
       },
-      (refl, subst (λ (x : ℕ). All (λ c. c < x) m.0.chunks) (sym is) (drawn_under 0 r.next_chunk (λ u. u.chunks) r.records id m.0 h.rule.chunks_once (in_race k s h id m.0 at))),
+      (refl, subst (λ (x : ℕ). All (λ c. c < x) m.0.done.chunks) (sym is) (drawn_under 0 r.next_chunk (λ u. u.chunks) r.records id m.0.done h.rule.chunks_once (in_race k s h id m.0 at))),
     )
 
-pub draws_aged : (k : Counts) (slots id : ℕ) (m : Me ℕ Record) → open_aged m.0 ≡ 0 → 0 < m.0.share
+pub draws_aged : (k : Counts) (slots id : ℕ) (m : Me ℕ View) → open_aged m.0.done ≡ 0 → 0 < m.0.done.share
     → Allows (Holds k) slots id m 1 (λ n. (n + 1) % 2 ^ 64) (drew_aged (step slots 1 1 0 none) m)
 draws_aged k slots id m none_open alive s h len at fits =
     let r = h.race in
     let n : ℕ = slice_index s.words 1 in
-    let w = with_block true m.0 n in
+    let w = does m.0 (with_block true m.0.done n) in
     let is : n ≡ r.next_aged = ap (λ (ws : List ℕ). get_or ws 1 0) h.words in
     let few = few_aged k r (parts_of k r h.rule) in
     let small = h.small in
@@ -65,21 +86,24 @@ draws_aged k slots id m none_open alive s h len at fits =
       keeps,
       tt,
       record {
-        race = record r { next_aged = r.next_aged + 1; records = set r.records id (with_block true m.0 r.next_aged) };
+        moved = h.moved;
+        whole = h.whole;
+        race = record r { next_aged = r.next_aged + 1; records = set r.records id (with_block true m.0.done r.next_aged) };
         words = ap (λ (x : ℕ). set s.words 1 x) next ∙ ap (λ (ws : List ℕ). set ws 1 (r.next_aged + 1)) h.words;
-        records = ap (λ (x : ℕ). set s.views id (with_block true m.0 x)) is ∙ ap (λ (l : List Record). set l id (with_block true m.0 r.next_aged)) h.records;
-        rule = rule_of _ _ (claim_aged_keeps k r id m.0 (parts_of k h.race h.rule) (in_race k s h id m.0 at) none_open alive);
+        records = ap (λ (x : ℕ). map (λ (u : View). u.done) (set s.views id (does m.0 (with_block true m.0.done x)))) is ∙ with_record k s h id m.0 (with_block true m.0.done r.next_aged);
+        skipped = still_skipped k s h id m.0 _ (is_skipped k s h id m.0 alive at);
+        rule = rule_of _ _ (claim_aged_keeps k r id m.0.done (parts_of k h.race h.rule) (in_race k s h id m.0 at) none_open alive);
         small = small;
       },
-      (refl, subst (λ (x : ℕ). All (λ b. b < x) m.0.aged_blocks) (sym is) (drawn_under 0 r.next_aged (λ u. u.aged_blocks) r.records id m.0 h.rule.blocks_once.0 (in_race k s h id m.0 at))),
+      (refl, subst (λ (x : ℕ). All (λ b. b < x) m.0.done.aged_blocks) (sym is) (drawn_under 0 r.next_aged (λ u. u.aged_blocks) r.records id m.0.done h.rule.blocks_once.0 (in_race k s h id m.0 at))),
     )
 
-pub draws_old : (k : Counts) (slots id : ℕ) (m : Me ℕ Record) → open_old m.0 ≡ 0 → 0 < m.0.share
+pub draws_old : (k : Counts) (slots id : ℕ) (m : Me ℕ View) → open_old m.0.done ≡ 0 → 0 < m.0.done.share
     → Allows (Holds k) slots id m 2 (λ n. (n + 1) % 2 ^ 64) (drew_old (step slots 2 1 0 none) m)
 draws_old k slots id m none_open alive s h len at fits =
     let r = h.race in
     let n : ℕ = slice_index s.words 2 in
-    let w = with_block false m.0 n in
+    let w = does m.0 (with_block false m.0.done n) in
     let is : n ≡ r.next_old = ap (λ (ws : List ℕ). get_or ws 2 0) h.words in
     let few = few_old k r (parts_of k r h.rule) in
     let small = h.small in
@@ -88,154 +112,212 @@ draws_old k slots id m none_open alive s h len at fits =
       keeps,
       tt,
       record {
-        race = record r { next_old = r.next_old + 1; records = set r.records id (with_block false m.0 r.next_old) };
+        moved = h.moved;
+        whole = h.whole;
+        race = record r { next_old = r.next_old + 1; records = set r.records id (with_block false m.0.done r.next_old) };
         words = ap (λ (x : ℕ). set s.words 2 x) next ∙ ap (λ (ws : List ℕ). set ws 2 (r.next_old + 1)) h.words;
-        records = ap (λ (x : ℕ). set s.views id (with_block false m.0 x)) is ∙ ap (λ (l : List Record). set l id (with_block false m.0 r.next_old)) h.records;
-        rule = rule_of _ _ (claim_old_keeps k r id m.0 (parts_of k h.race h.rule) (in_race k s h id m.0 at) none_open alive);
+        records = ap (λ (x : ℕ). map (λ (u : View). u.done) (set s.views id (does m.0 (with_block false m.0.done x)))) is ∙ with_record k s h id m.0 (with_block false m.0.done r.next_old);
+        skipped = still_skipped k s h id m.0 _ (is_skipped k s h id m.0 alive at);
+        rule = rule_of _ _ (claim_old_keeps k r id m.0.done (parts_of k h.race h.rule) (in_race k s h id m.0 at) none_open alive);
         small = small;
       },
-      (refl, subst (λ (x : ℕ). All (λ b. b < x) m.0.old_blocks) (sym is) (drawn_under k.kept r.next_old (λ u. u.old_blocks) r.records id m.0 h.rule.blocks_once.1 (in_race k s h id m.0 at))),
+      (refl, subst (λ (x : ℕ). All (λ b. b < x) m.0.done.old_blocks) (sym is) (drawn_under k.kept r.next_old (λ u. u.old_blocks) r.records id m.0.done h.rule.blocks_once.1 (in_race k s h id m.0 at))),
     )
 
-module _ (k : Counts) (slots id : ℕ) (m : Me ℕ Record) (alive : 0 < m.0.share) (s : State ℕ Record) (h : Holds k s) (at : get_elem? s.views id ≡ some m.0) where
-  -- the table after a step at the word of a cell, which makes it x, and the record w
-  abbrev after : ℕ → ℕ → Record → State ℕ Record
-  after i x w = stepped s i x id m.1 w keeps
+module _ (k : Counts) (slots id : ℕ) (m : Me ℕ View) (alive : 0 < m.0.done.share) (s : State ℕ View) (h : Holds k s) (at : get_elem? s.views id ≡ some m.0) where
+  -- the cell whose word stands so far behind the counters
+  abbrev cell : ℕ → ℕ
+  cell d = skipped_of k + d
 
-  three : (c : ℕ) → c + 3 ≡ suc (suc (suc c))
-  three c = omega arith
+  -- the table after a step at that word, which makes it x, and the record w
+  abbrev after : ℕ → ℕ → Record → State ℕ View
+  after i x w = stepped s i x id m.1 (does m.0 w) keeps
 
-  word_is : (c : ℕ) → slice_index s.words (c + 3) ≡ get_or h.race.words c 0
-  word_is c = ap (λ (ws : List ℕ). get_or ws (c + 3) 0) h.words ∙ ap (λ (i : ℕ). get_or (words_of h.race) i 0) (three c)
+  three : (d : ℕ) → d + 3 ≡ suc (suc (suc d))
+  three d = omega arith
 
-  forward_at : (c : ℕ) → c < k.cells → slice_index s.words (c + 3) ≢ 0 → IsForward (slice_index s.words (c + 3))
-  forward_at c inside some_ =
-      let near : c < length h.race.words = omega (arith, h.rule.size) in
-      subst (λ (w : ℕ). w ≢ 0 → IsForward w) (sym (word_is c)) (h.rule.wins_once.forward c 0 near) some_
+  knows : m.0.skipped ≡ skipped_of k
+  knows = is_skipped k s h id m.0 alive at
+
+  abbrev of_kept : List ℕ
+  of_kept = replicate (skipped_of k) 0
+
+  zeros : length of_kept ≡ skipped_of k
+  zeros = length-replicate (skipped_of k) 0
+
+  word_is : (d : ℕ) → slice_index s.words (d + 3) ≡ get_or h.race.words (cell d) 0
+  word_is d =
+      ap (λ (ws : List ℕ). get_or ws (d + 3) 0) h.words
+      ∙ (ap (λ (i : ℕ). get_or (words_of h.race h.moved) i 0) (three d)
+      ∙ (sym (get_or-append-add (replicate (skipped_of k) 0) h.moved d 0)
+      ∙ (ap (λ (n : ℕ). get_or (replicate (skipped_of k) 0 ++ h.moved) (n + d) 0) zeros
+      ∙ sym (ap (λ (ws : List ℕ). get_or ws (cell d) 0) h.whole))))
+
+  -- the word of one cell is another one
+  one_word : (d x : ℕ) → set h.race.words (cell d) x ≡ replicate (skipped_of k) 0 ++ set h.moved d x
+  one_word d x =
+      ap (λ (ws : List ℕ). set ws (cell d) x) h.whole
+      ∙ (set-append_right (replicate (skipped_of k) 0) h.moved (skipped_of k) (cell d) x zeros (omega arith)
+      ∙ ap (λ (i : ℕ). replicate (skipped_of k) 0 ++ set h.moved i x) (let e : skipped_of k + d - skipped_of k ≡ d = omega arith in e))
+
+  forward_at : (d : ℕ) → cell d < k.cells → slice_index s.words (d + 3) ≢ 0 → IsForward (slice_index s.words (d + 3))
+  forward_at d inside some_ =
+      let near : cell d < length h.race.words = omega (arith, h.rule.size) in
+      subst (λ (w : ℕ). w ≢ 0 → IsForward w) (sym (word_is d)) (h.rule.wins_once.forward (cell d) 0 near) some_
 
   -- nothing changes but the record, which has seen a pair
-  sees : (c : ℕ) → c < k.cells → slice_index s.words (c + 3) ≢ 0 → Holds k (after (c + 3) (slice_index s.words (c + 3)) (with_seen m.0 (c, place_of (slice_index s.words (c + 3)))))
-  sees c inside some_ = let x : ℕ = slice_index s.words (c + 3) in let w = with_seen m.0 (c, place_of x) in record {
+  sees : (d : ℕ) → cell d < k.cells → slice_index s.words (d + 3) ≢ 0 → Holds k (after (d + 3) (slice_index s.words (d + 3)) (with_seen m.0.done (cell d, place_of (slice_index s.words (d + 3)))))
+  sees d inside some_ = let x : ℕ = slice_index s.words (d + 3) in let w = with_seen m.0.done (cell d, place_of x) in record {
     race = record h.race { records = set h.race.records id w };
-    words = set-get_or s.words (c + 3) 0 ∙ h.words;
-    records = ap (λ (l : List Record). set l id w) h.records;
-    rule = rule_of _ _ (look_keeps k h.race id m.0 c (place_of x) (parts_of k h.race h.rule) (in_race k s h id m.0 at) alive (sym (word_is c) ∙ sym (forward_at c inside some_).1));
+    moved = h.moved;
+    whole = h.whole;
+    words = set-get_or s.words (d + 3) 0 ∙ h.words;
+    records = with_record k s h id m.0 w;
+    skipped = still_skipped k s h id m.0 w knows;
+    rule = rule_of _ _ (look_keeps k h.race id m.0.done (cell d) (place_of x) (parts_of k h.race h.rule) (in_race k s h id m.0 at) alive (sym (word_is d) ∙ sym (forward_at d inside some_).1));
     small = h.small;
   }
 
-  stays : (c : ℕ) → Holds k (after (c + 3) (slice_index s.words (c + 3)) m.0)
-  stays c = record {
+  stays : (d : ℕ) → Holds k (after (d + 3) (slice_index s.words (d + 3)) m.0.done)
+  stays d = record {
     race = h.race;
-    words = set-get_or s.words (c + 3) 0 ∙ h.words;
-    records = set_again s.views id m.0 at ∙ h.records;
+    moved = h.moved;
+    whole = h.whole;
+    words = set-get_or s.words (d + 3) 0 ∙ h.words;
+    records = ap (λ (l : List View). map (λ (u : View). u.done) l) (set_again s.views id m.0 at) ∙ h.records;
+    skipped = still_skipped k s h id m.0 m.0.done knows;
     rule = h.rule;
     small = h.small;
   }
 
-  wins : (c : ℕ) (p : Place) → c < k.cells → slice_index s.words (c + 3) ≡ 0 → IsPlace p → 0 < claims_of p m.0 → weigh (place_at p) m.0.won ≡ 0
-      → Holds k (after (c + 3) (word_of p) (with_won m.0 (c, p)))
-  wins c p inside free in' own fresh = let w = with_won m.0 (c, p) in record {
-    race = record h.race { words = set h.race.words c (word_of p); records = set h.race.records id w };
-    words = ap (λ (ws : List ℕ). set ws (c + 3) (word_of p)) h.words ∙ ap (λ (i : ℕ). set (words_of h.race) i (word_of p)) (three c);
-    records = ap (λ (l : List Record). set l id w) h.records;
-    rule = rule_of _ _ (win_keeps k h.race id m.0 c p (parts_of k h.race h.rule) (in_race k s h id m.0 at) alive inside (sym (word_is c) ∙ free) in' own fresh);
+  wins : (d : ℕ) (p : Place) → cell d < k.cells → slice_index s.words (d + 3) ≡ 0 → IsPlace p → 0 < claims_of p m.0.done → weigh (place_at p) m.0.done.won ≡ 0
+      → Holds k (after (d + 3) (word_of p) (with_won m.0.done (cell d, p)))
+  wins d p inside free in' own fresh = let w = with_won m.0.done (cell d, p) in record {
+    race = record h.race { words = set h.race.words (cell d) (word_of p); records = set h.race.records id w };
+    moved = set h.moved d (word_of p);
+    whole = one_word d (word_of p);
+    words = ap (λ (ws : List ℕ). set ws (d + 3) (word_of p)) h.words ∙ ap (λ (i : ℕ). set (words_of h.race h.moved) i (word_of p)) (three d);
+    records = with_record k s h id m.0 w;
+    skipped = still_skipped k s h id m.0 w knows;
+    rule = rule_of _ _ (win_keeps k h.race id m.0.done (cell d) p (parts_of k h.race h.rule) (in_race k s h id m.0 at) alive inside (sym (word_is d) ∙ free) in' own fresh);
     small = h.small;
   }
 
   -- the seat goes on where the word becomes x
-  abbrev GoesOn : ℕ → ℕ → (Me ℕ Record → Type 0) → Type 0
-  GoesOn i x tells = (w : Record) × (a : Act ℕ) × Valid s.homes m.1 a × Holds k (stepped s i x id m.1 w a) × tells (w, carried_after m.1 a)
+  abbrev GoesOn : ℕ → ℕ → (Me ℕ View → Type 0) → Type 0
+  GoesOn i x tells = (w : View) × (a : Act ℕ) × Valid s.homes m.1 a × Holds k (stepped s i x id m.1 w a) × tells (w, carried_after m.1 a)
 
-  back : (c : ℕ) → c + 3 - 3 ≡ c
-  back c = omega arith
+  back : (d : ℕ) → cell_at m.0 (d + 3) ≡ cell d
+  back d = omega (arith, knows)
 
   -- the word of a cell is that of the place with which the record has met it, and isn't 0 if it has
-  known : (c : ℕ) → IsKnown m.0 (c + 3 - 3) (slice_index s.words (c + 3))
-  known c = subst (λ (i : ℕ). IsKnown m.0 i (slice_index s.words (c + 3))) (sym (back c)) (here, λ none. unmet k h.race h.rule id m.0 (in_race k s h id m.0 at) c (sym (word_is c) ∙ none))
+  known : (d : ℕ) → IsKnown m.0.done (cell_at m.0 (d + 3)) (slice_index s.words (d + 3))
+  known d = subst (λ (i : ℕ). IsKnown m.0.done i (slice_index s.words (d + 3))) (sym (back d)) (here, λ none. unmet k h.race h.rule id m.0.done (in_race k s h id m.0 at) (cell d) (sym (word_is d) ∙ none))
     where
-      here : (p : Place) → HasMet m.0 c p → slice_index s.words (c + 3) ≡ word_of p
-      here p (inl won) = word_is c ∙ won_stands k h.race h.rule id m.0 (in_race k s h id m.0 at) c p won
-      here p (inr seen) = word_is c ∙ seen_at h.race.words m.0.seen c p (h.rule.seen_stands id m.0 (in_race k s h id m.0 at)) seen
+      here : (p : Place) → HasMet m.0.done (cell d) p → slice_index s.words (d + 3) ≡ word_of p
+      here p (inl won) = word_is d ∙ won_stands k h.race h.rule id m.0.done (in_race k s h id m.0 at) (cell d) p won
+      here p (inr seen) = word_is d ∙ seen_at h.race.words m.0.done.seen (cell d) p (h.rule.seen_stands id m.0.done (in_race k s h id m.0 at)) seen
 
-  looks_free : (c : ℕ) → slice_index s.words (c + 3) ≡ 0 → GoesOn (c + 3) (slice_index s.words (c + 3)) (looked (step slots (c + 3) 0 0 none) m (slice_index s.words (c + 3)))
-  looks_free c e = let n : ℕ = slice_index s.words (c + 3) in
-      (m.0, keeps, tt, stays c, ((λ ne. absurd (ne e)), ap (λ (v : Record). (v, m.1)) (sym (cond-true (eqb n 0) m.0 (with_seen m.0 (c + 3 - 3, place_of n)) (eq-eqb n 0 e))), known c))
+  looks_free : (d : ℕ) → slice_index s.words (d + 3) ≡ 0 → GoesOn (d + 3) (slice_index s.words (d + 3)) (looked (step slots (d + 3) 0 0 none) m (slice_index s.words (d + 3)))
+  looks_free d e = let n : ℕ = slice_index s.words (d + 3) in
+      (does m.0 m.0.done, keeps, tt, stays d, ((λ ne. absurd (ne e)), ap (λ (v : Record). (does m.0 v, m.1)) (sym (cond-true (eqb n 0) m.0.done (with_seen m.0.done (cell_at m.0 (d + 3), place_of n)) (eq-eqb n 0 e))), known d))
 
-  looks_taken : (c : ℕ) → c < k.cells → slice_index s.words (c + 3) ≢ 0 → GoesOn (c + 3) (slice_index s.words (c + 3)) (looked (step slots (c + 3) 0 0 none) m (slice_index s.words (c + 3)))
-  looks_taken c inside ne = let n : ℕ = slice_index s.words (c + 3) in (
-    with_seen m.0 (c, place_of n),
+  looks_taken : (d : ℕ) → cell d < k.cells → slice_index s.words (d + 3) ≢ 0 → GoesOn (d + 3) (slice_index s.words (d + 3)) (looked (step slots (d + 3) 0 0 none) m (slice_index s.words (d + 3)))
+  looks_taken d inside ne = let n : ℕ = slice_index s.words (d + 3) in (
+    does m.0 (with_seen m.0.done (cell d, place_of n)),
     keeps,
     tt,
-    sees c inside ne,
+    sees d inside ne,
     (
-      forward_at c inside,
-      ap (λ (v : Record). (v, m.1)) (sym (cond-false (eqb n 0) m.0 (with_seen m.0 (c + 3 - 3, place_of n)) (ne_eqb n 0 ne) ∙ ap (λ (i : ℕ). with_seen m.0 (i, place_of n)) (back c))),
-      known c,
+      forward_at d inside,
+      ap (λ (v : Record). (does m.0 v, m.1)) (sym (cond-false (eqb n 0) m.0.done (with_seen m.0.done (cell_at m.0 (d + 3), place_of n)) (ne_eqb n 0 ne) ∙ ap (λ (i : ℕ). with_seen m.0.done (i, place_of n)) (back d))),
+      known d,
     ),
   )
 
-  tries_free : (c : ℕ) (p : Place) → c < k.cells → IsPlace p → 0 < claims_of p m.0 → weigh (place_at p) m.0.won ≡ 0 → slice_index s.words (c + 3) ≡ 0
-      → GoesOn (c + 3) (word_of p) (tried (step slots (c + 3) 0 (word_of p) none) m (slice_index s.words (c + 3)))
-  tries_free c p inside in' own fresh e = let n : ℕ = slice_index s.words (c + 3) in (
-    with_won m.0 (c, p),
+  tries_free : (d : ℕ) (p : Place) → cell d < k.cells → IsPlace p → 0 < claims_of p m.0.done → weigh (place_at p) m.0.done.won ≡ 0 → slice_index s.words (d + 3) ≡ 0
+      → GoesOn (d + 3) (word_of p) (tried (step slots (d + 3) 0 (word_of p) none) m (slice_index s.words (d + 3)))
+  tries_free d p inside in' own fresh e = let n : ℕ = slice_index s.words (d + 3) in (
+    does m.0 (with_won m.0.done (cell d, p)),
     keeps,
     tt,
-    wins c p inside e in' own fresh,
+    wins d p inside e in' own fresh,
     (
       (λ ne. absurd (ne e)),
-      ap (λ (v : Record). (v, m.1)) (sym (cond-true (eqb n 0) (with_won m.0 (c + 3 - 3, place_of (word_of p))) (with_seen m.0 (c + 3 - 3, place_of n)) (eq-eqb n 0 e)
-          ∙ (ap (λ (i : ℕ). with_won m.0 (i, place_of (word_of p))) (back c) ∙ ap (λ (q : Place). with_won m.0 (c, q)) (place_of-word_of p in')))),
+      ap (λ (v : Record). (does m.0 v, m.1)) (sym (cond-true (eqb n 0) (with_won m.0.done (cell_at m.0 (d + 3), place_of (word_of p))) (with_seen m.0.done (cell_at m.0 (d + 3), place_of n)) (eq-eqb n 0 e)
+          ∙ (ap (λ (i : ℕ). with_won m.0.done (i, place_of (word_of p))) (back d) ∙ ap (λ (q : Place). with_won m.0.done (cell d, q)) (place_of-word_of p in')))),
     ),
   )
 
-  tries_taken : (c : ℕ) (p : Place) → c < k.cells → slice_index s.words (c + 3) ≢ 0 → GoesOn (c + 3) (slice_index s.words (c + 3)) (tried (step slots (c + 3) 0 (word_of p) none) m (slice_index s.words (c + 3)))
-  tries_taken c p inside ne = let n : ℕ = slice_index s.words (c + 3) in (
-    with_seen m.0 (c, place_of n),
+  tries_taken : (d : ℕ) (p : Place) → cell d < k.cells → slice_index s.words (d + 3) ≢ 0 → GoesOn (d + 3) (slice_index s.words (d + 3)) (tried (step slots (d + 3) 0 (word_of p) none) m (slice_index s.words (d + 3)))
+  tries_taken d p inside ne = let n : ℕ = slice_index s.words (d + 3) in (
+    does m.0 (with_seen m.0.done (cell d, place_of n)),
     keeps,
     tt,
-    sees c inside ne,
+    sees d inside ne,
     (
-      forward_at c inside,
-      ap (λ (v : Record). (v, m.1)) (sym (cond-false (eqb n 0) (with_won m.0 (c + 3 - 3, place_of (word_of p))) (with_seen m.0 (c + 3 - 3, place_of n)) (ne_eqb n 0 ne) ∙ ap (λ (i : ℕ). with_seen m.0 (i, place_of n)) (back c))),
+      forward_at d inside,
+      ap (λ (v : Record). (does m.0 v, m.1)) (sym (cond-false (eqb n 0) (with_won m.0.done (cell_at m.0 (d + 3), place_of (word_of p))) (with_seen m.0.done (cell_at m.0 (d + 3), place_of n)) (ne_eqb n 0 ne) ∙ ap (λ (i : ℕ). with_seen m.0.done (i, place_of n)) (back d))),
     ),
   )
 
-pub looks : (k : Counts) (slots id c : ℕ) (m : Me ℕ Record) → 0 < m.0.share → c < k.cells
-    → Allows (Holds k) slots id m (c + 3) (λ n. n) (looked (step slots (c + 3) 0 0 none) m)
-looks k slots id c m alive inside s h len at fits = ⊎_elim (looks_free k slots id m alive s h at c) (looks_taken k slots id m alive s h at c inside) (cases_eq (slice_index s.words (c + 3)) 0)
+-- the cell whose word stands there
+pub word_of_cell : (c kept skipped word : ℕ) → 64 * kept ≤ c → word + 64 * kept ≡ c + 3 → skipped ≡ 64 * kept → skipped + (word - 3) ≡ c
+word_of_cell c kept skipped word behind is same = omega arith
 
-pub tries : (k : Counts) (slots id c : ℕ) (p : Place) (m : Me ℕ Record) → 0 < m.0.share → c < k.cells → IsPlace p → 0 < claims_of p m.0 → weigh (place_at p) m.0.won ≡ 0
-    → Allows (Holds k) slots id m (c + 3) (λ n. either (n == 0) (word_of p) n) (tried (step slots (c + 3) 0 (word_of p) none) m)
-tries k slots id c p m alive inside in' own fresh s h len at fits =
-    exchanged (slice_index s.words (c + 3)) 0 (word_of p) (λ x. GoesOn k slots id m alive s h at (c + 3) x (tried (step slots (c + 3) 0 (word_of p) none) m (slice_index s.words (c + 3))))
-    (tries_free k slots id m alive s h at c p inside in' own fresh) (tries_taken k slots id m alive s h at c p inside)
+-- a step at the word so far behind the counters, which is that of the cell so far behind those that are skipped
+pub looks : (k : Counts) (slots id d : ℕ) (m : Me ℕ View) → 0 < m.0.done.share → skipped_of k + d < k.cells
+    → Allows (Holds k) slots id m (d + 3) (λ n. n) (looked (step slots (d + 3) 0 0 none) m)
+looks k slots id d m alive inside s h len at fits = ⊎_elim (looks_free k slots id m alive s h at d) (looks_taken k slots id m alive s h at d inside) (cases_eq (slice_index s.words (d + 3)) 0)
 
-pub cuts : (k : Counts) (id : ℕ) (v : Record) → 1 < v.share → v ≡ empty v.share → Splits (Holds k) id v (less_one v) (empty 1)
-cuts k id v many is s h at =
+pub tries : (k : Counts) (slots id d : ℕ) (p : Place) (m : Me ℕ View) → 0 < m.0.done.share → skipped_of k + d < k.cells → IsPlace p → 0 < claims_of p m.0.done → weigh (place_at p) m.0.done.won ≡ 0
+    → Allows (Holds k) slots id m (d + 3) (λ n. either (n == 0) (word_of p) n) (tried (step slots (d + 3) 0 (word_of p) none) m)
+tries k slots id d p m alive inside in' own fresh s h len at fits =
+    exchanged (slice_index s.words (d + 3)) 0 (word_of p) (λ x. GoesOn k slots id m alive s h at (d + 3) x (tried (step slots (d + 3) 0 (word_of p) none) m (slice_index s.words (d + 3))))
+    (tries_free k slots id m alive s h at d p inside in' own fresh) (tries_taken k slots id m alive s h at d p inside)
+
+pub cuts : (k : Counts) (id : ℕ) (u : View) → 1 < u.done.share → u.done ≡ empty u.done.share → Splits (Holds k) id u (does u (less_one u.done)) (does u (empty 1))
+cuts k id u many is s h at =
+    let v : Record = u.done in
     let n : ℕ = v.share - 1 in
     let more : v ≡ empty (n + 1) = is ∙ ap empty (let e : v.share ≡ n + 1 = omega arith in e) in
-    let less : less_one v ≡ empty n = ap less_one more ∙ ap empty (let e : n + 1 - 1 ≡ n = omega arith in e) in record {
+    let less : less_one v ≡ empty n = ap less_one more ∙ ap empty (let e : n + 1 - 1 ≡ n = omega arith in e) in
+    let knows : u.skipped ≡ skipped_of k = is_skipped k s h id u (omega arith) at in record {
       race = record h.race { records = set h.race.records id (empty n) ++ empty 1 ∷ [] };
+      moved = h.moved;
+      whole = h.whole;
       words = h.words;
-      records = ap (λ (w : Record). set s.views id w ++ empty 1 ∷ []) less ∙ ap (λ (l : List Record). set l id (empty n) ++ empty 1 ∷ []) h.records;
-      rule = rule_of _ _ (split_keeps k h.race id n (parts_of k h.race h.rule) (in_race k s h id v at ∙ ap (λ (w : Record). some w) more) (omega arith));
+      records = map-append (λ (x : View). x.done) (set s.views id (does u (less_one v))) (does u (empty 1) ∷ [])
+          ∙ (ap (λ (l : List Record). l ++ empty 1 ∷ []) (with_record k s h id u (less_one v)) ∙ ap (λ (w : Record). set h.race.records id w ++ empty 1 ∷ []) less);
+      skipped = All-append (KnowsSkipped k) (set s.views id (does u (less_one v))) (does u (empty 1) ∷ []) (still_skipped k s h id u (less_one v) knows)
+          (All-cons (KnowsSkipped k) (does u (empty 1)) [] (λ _. knows) (All-nil (KnowsSkipped k)));
+      rule = rule_of _ _ (split_keeps k h.race id n (parts_of k h.race h.rule) (in_race k s h id u at ∙ ap (λ (w : Record). some w) more) (omega arith));
       small = h.small;
     }
 
-pub glues : (k : Counts) (id : ℕ) (v : Record) (other : ℕ) (w : Record) → Joins (Holds k) id v other w (both v w) (empty 0)
-glues k id v other w s h at apart at' = record {
-  race = record h.race { records = set (set h.race.records id (both v w)) other (empty 0) };
-  words = h.words;
-  records = ap (λ (l : List Record). set (set l id (both v w)) other (empty 0)) h.records;
-  rule = rule_of _ _ (join_keeps k h.race id v other w (parts_of k h.race h.rule) (in_race k s h id v at) apart (subst (λ (l : List Record). get_elem? (set l id (both v w)) other ≡ some w) h.records at'));
-  small = h.small;
-}
+pub glues : (k : Counts) (id : ℕ) (u : View) (other : ℕ) (w : View) → 0 < u.done.share → Joins (Holds k) id u other w (does u (both u.done w.done)) (record { skipped = 0; done = empty 0 })
+glues k id u other w alive s h at apart at' =
+    let one : List View = set s.views id (does u (both u.done w.done)) in
+    let spent : View = record { skipped = 0; done = empty 0 } in
+    let now : map (λ (x : View). x.done) one ≡ set h.race.records id (both u.done w.done) = with_record k s h id u (both u.done w.done) in record {
+      race = record h.race { records = set (set h.race.records id (both u.done w.done)) other (empty 0) };
+      moved = h.moved;
+      whole = h.whole;
+      words = h.words;
+      records = map-set (λ (x : View). x.done) one other spent ∙ ap (λ (l : List Record). set l other (empty 0)) now;
+      skipped = All-set (KnowsSkipped k) one other spent (λ (alive : 0 < 0). absurd (omega arith)) (still_skipped k s h id u (both u.done w.done) (is_skipped k s h id u alive at));
+      rule = rule_of _ _ (join_keeps k h.race id u.done other w.done (parts_of k h.race h.rule) (in_race k s h id u at) apart (subst (λ (l : List Record). get_elem? l other ≡ some w.done) now (at_map (λ (x : View). x.done) one other w at')));
+      small = h.small;
+    }
 
-pub opens : (k : Counts) → AreSmall k → Holds k (opening (set (replicate (k.cells + 3) 0) 2 k.kept) [] (empty k.helpers))
-opens k small = record {
+pub opens : (k : Counts) (n : ℕ) → AreSmall k → n + skipped_of k ≡ k.cells → Holds k (opening (set (replicate (n + 3) 0) 2 k.kept) [] (record { skipped = skipped_of k; done = empty k.helpers }))
+opens k n small all = record {
   race = record { next_chunk = 0; next_aged = 0; next_old = k.kept; words = replicate k.cells 0; records = empty k.helpers ∷ [] };
-  words = ap (λ (n : ℕ). set (replicate n 0) 2 k.kept) (let e : k.cells + 3 ≡ suc (suc (suc k.cells)) = omega arith in e);
+  moved = replicate n 0;
+  whole = ap (λ (c : ℕ). replicate c 0) (let e : k.cells ≡ skipped_of k + n = omega (arith, all) in e) ∙ sym (replicate-append-replicate (skipped_of k) n 0);
+  words = ap (λ (c : ℕ). set (replicate c 0) 2 k.kept) (let e : n + 3 ≡ suc (suc (suc n)) = omega arith in e);
   records = refl;
+  skipped = All-cons (KnowsSkipped k) (record { skipped = skipped_of k; done = empty k.helpers }) [] (λ _. refl) (All-nil (KnowsSkipped k));
   rule = rule_of _ _ (starts k);
   small = small;
 }
@@ -245,21 +327,22 @@ found_at [] i a e = absurd (some-ne-none a (sym e))
 found_at (x ∷ xs) zero a e = some-injective x a e
 found_at (x ∷ xs) (suc i) a e = found_at xs i a e
 
-pub closes : (k : Counts) (id : ℕ) (v : Record) (ws xs : List ℕ) → Final (Seen (Holds k) id v) ws xs → v.share ≡ k.helpers → IsClosed k (drop 3 ws) v
-closes k id v ws xs final all =
+pub closes : (k : Counts) (id : ℕ) (u : View) (ws xs : List ℕ) → Final (Seen (Holds k) id u) ws xs → u.done.share ≡ k.helpers → IsClosed k (replicate (skipped_of k) 0 ++ drop 3 ws) u.done
+closes k id u ws xs final all =
     let s = final.0 in
     let h = final.1.0 in
-    let rest : h.race.words ≡ drop 3 ws = sym (ap (λ (l : List ℕ). drop 3 l) h.words) ∙ ap (λ (l : List ℕ). drop 3 l) final.2 in
-    let rule = rule_of _ _ (alone_keeps k h.race id v (parts_of k h.race h.rule) (in_race k s h id v final.1.1) all) in record {
+    let rest : h.moved ≡ drop 3 ws = sym (ap (λ (l : List ℕ). drop 3 l) h.words) ∙ ap (λ (l : List ℕ). drop 3 l) final.2 in
+    let is : h.race.words ≡ replicate (skipped_of k) 0 ++ drop 3 ws = h.whole ∙ ap (λ (l : List ℕ). replicate (skipped_of k) 0 ++ l) rest in
+    let rule = rule_of _ _ (alone_keeps k h.race id u.done (parts_of k h.race h.rule) (in_race k s h id u final.1.1) all) in record {
       next_chunk = h.race.next_chunk;
       next_aged = h.race.next_aged;
       next_old = h.race.next_old;
-      rule = subst (λ (l : List ℕ). Rule k (record { next_chunk = h.race.next_chunk; next_aged = h.race.next_aged; next_old = h.race.next_old; words = l; records = v ∷ [] })) rest rule;
+      rule = subst (λ (l : List ℕ). Rule k (record { next_chunk = h.race.next_chunk; next_aged = h.race.next_aged; next_old = h.race.next_old; words = l; records = u.done ∷ [] })) is rule;
     }
 
 -- what a claim of a cell leaves, where it found 0
-pub won_is : (v u : Record) (c : ℕ) (p : Place) (w n : ℕ) → IsPlace p → w ≡ word_of p → n ≡ 0
-    → (if n == 0 then with_won v (c + 3 - 3, place_of w) else u) ≡ with_won v (c, p)
-won_is v u c p w n in' is free =
-    cond-true (eqb n 0) (with_won v (c + 3 - 3, place_of w)) u (eq-eqb n 0 free)
-    ∙ (ap (λ (i : ℕ). with_won v (i, place_of w)) (let e : c + 3 - 3 ≡ c = omega arith in e) ∙ ap (λ (q : Place). with_won v (c, q)) (ap place_of is ∙ place_of-word_of p in'))
+pub won_is : (v u : Record) (c d : ℕ) (p : Place) (w n : ℕ) → IsPlace p → d ≡ c → w ≡ word_of p → n ≡ 0
+    → (if n == 0 then with_won v (d, place_of w) else u) ≡ with_won v (c, p)
+won_is v u c d p w n in' here is free =
+    cond-true (eqb n 0) (with_won v (d, place_of w)) u (eq-eqb n 0 free)
+    ∙ (ap (λ (i : ℕ). with_won v (i, place_of w)) here ∙ ap (λ (q : Place). with_won v (c, q)) (ap place_of is ∙ place_of-word_of p in'))

@@ -1,5 +1,5 @@
 //! A helper: a seat at the table. Each call is one event of the race, and ensures what that event does to the record.
-ghost use Rattle.std.specs.Prelude.{◌≡◌, ◌<◌, false, IfSome, IfNone, IsTrue, Some, All};
+ghost use Rattle.std.specs.Prelude.{◌≡◌, ◌*◌, ◌<◌, ◌≤◌, false, IfSome, IfNone, IsTrue, Some, All};
 ghost use Rattle.tg_word.specs.declared.Place.{Place as PlaceOf};
 ghost use Rattle.tg_word.specs.Word.{IsPlace};
 ghost use Rattle.tg_race.specs.Race.{HasMet, empty, with_chunk, with_seen, with_block, both, less_one};
@@ -8,9 +8,8 @@ ghost use Rattle.tg_race.specs.Course.{has_met};
 ghost use Rattle.tg_race.specs.Claims.{claimed, place_found};
 
 use crate::links::{place_in, word_to};
-use crate::plays::{Cut, DrawAged, DrawChunk, DrawOld, Glue, Look, Try};
+use crate::plays::{Cut, DrawAged, DrawChunk, DrawOld, Glue, Look, Try, View};
 use crate::race_table::RaceTable;
-use crate::record::Record;
 use atomic_table::Seat;
 use std::marker::Model;
 use tg_word::Place;
@@ -29,7 +28,7 @@ pub enum Claim {
 /// A clause sees the table that it sits at and what it has done (`done`, its record).
 #[derive(Drop)]
 pub struct Helper {
-    pub(crate) seat: Seat<u8, Record>,
+    pub(crate) seat: Seat<u8, View>,
 }
 
 impl Model for Helper {
@@ -38,9 +37,9 @@ impl Model for Helper {
 
     ghost Value = { Seated };
 
-    ghost view = { λ h. record { table = h.seat.table_id; done = h.seat.me.0 } };
+    ghost view = { λ h. record { table = record { id = h.seat.table_id; skipped = h.seat.me.0.skipped }; done = h.seat.me.0.done } };
 
-    ghost invariant = { λ h. (h.seat.me.1 ≡ []) × (0 < h.seat.me.0.share) };
+    ghost invariant = { λ h. (h.seat.me.1 ≡ []) × (0 < h.seat.me.0.done.share) };
 }
 
 impl Helper {
@@ -84,6 +83,7 @@ impl Helper {
     pub fn look(&mut self, table: &RaceTable, cell: u64) -> Option<Place>
         requires own { self.old.table ≡ table.now.table }
         requires inside { cell < table.now.counts.cells }
+        requires moved { 64 * table.now.counts.kept ≤ cell }
         ensures none { IfNone result (self.new ≡ self.old) }
         ensures some { IfSome result (λ p. self.new ≡ record self.old { done = with_seen self.old.done (cell, p) }) }
         ensures place { IfSome result IsPlace }
@@ -93,7 +93,7 @@ impl Helper {
         let word = table
             .table
             .shared
-            .load::<Look>(&mut self.seat, cell as usize + 3);
+            .load::<Look>(&mut self.seat, table.word_number(cell));
         if word == 0 {
             None
         } else {
@@ -107,6 +107,7 @@ impl Helper {
     pub fn claim_cell(&mut self, table: &RaceTable, cell: u64, place: Place) -> Claim
         requires own { self.old.table ≡ table.now.table }
         requires inside { cell < table.now.counts.cells }
+        requires moved { 64 * table.now.counts.kept ≤ cell }
         requires place { IsPlace place }
         requires allowed { IsTrue (can_use self.old.done place) }
         ensures done { self.new ≡ record self.old { done = claimed self.old.done cell place result } }
@@ -115,7 +116,7 @@ impl Helper {
         let found = table
             .table
             .shared
-            .compare_exchange::<Try>(&mut self.seat, cell as usize + 3, 0, word_to(place));
+            .compare_exchange::<Try>(&mut self.seat, table.word_number(cell), 0, word_to(place));
         if found == 0 {
             return Claim::Won;
         }

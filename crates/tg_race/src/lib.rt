@@ -5,11 +5,14 @@
 //!
 //! ```text
 //! word   0            1             2            3 + i
-//!       +------------+-------------+------------+----------------------------------------+
-//!       | next chunk | next block  | next block | where the cell numbered i went, or 0   |
-//!       | of roots   | of Aged     | of Old     | (a reference with no rights)           |
-//!       +------------+-------------+------------+----------------------------------------+
+//!       +------------+-------------+------------+--------------------------------------------------+
+//!       | next chunk | next block  | next block | where the i-th cell behind those of Old's kept   |
+//!       | of roots   | of Aged     | of Old     | blocks went, or 0 (a reference with no rights)   |
+//!       +------------+-------------+------------+--------------------------------------------------+
 //! ```
+//!
+//! The blocks that Old keeps come first, and their cells go nowhere: they have no word in the table, so that a nursery
+//! collection takes no memory for Old. Contracts see a word for each cell, and those of the kept blocks are 0.
 //!
 //! A helper claims chunks of 8 roots and blocks of places by drawing numbers from the counters, and gives a cell a place
 //! by exchanging its word, which is 0, for that place. One helper wins; the others see where the cell went, and that is

@@ -1,20 +1,22 @@
 //! Where the cells of a heap go.
 ghost use Rattle.std.specs.Prelude.{◌≡◌, ◌<◌, ◌≤◌, ◌++◌, length, replicate, slice_index, slice_set, IfOk};
+ghost use Rattle.tg_space.specs.Forwarding.{words_in};
 
 use std::alloc::{AllocError, Global};
 use std::marker::Model;
+use tg_closed::ClosedWords;
 
-/// The forwarding word of each cell, by its flat number: the word of its new place, or 0 where it has none. The first
-/// cells may be skipped: their words are 0 for good, and take no memory.
+/// Forwarding words while one thread gives them: for each cell, by its flat number, the word of its new place, or 0 where it
+/// has none. The first cells may be skipped: their words are 0 for good, and take no memory.
 ///
 /// The idea is that of a collector's forwarding addresses, in a table of their own beside cells that are only read.
 #[derive(Drop)]
-pub struct Forwarding {
+pub struct ForwardingTable {
     skipped: u64,
     words: Vec<u64>,
 }
 
-impl Model for Forwarding {
+impl Model for ForwardingTable {
     ghost use Rattle.std.specs.Prelude.{◌++◌, replicate};
     ghost use Rattle.tg_space.specs.Forwarding.{ForwardingWords};
 
@@ -23,7 +25,7 @@ impl Model for Forwarding {
     ghost view = { λ f. record { skipped = f.skipped; words = replicate f.skipped 0 ++ f.words.items } };
 }
 
-impl Forwarding {
+impl ForwardingTable {
     /// A word of 0 for each of as many cells, of which the first ones are skipped.
     ///
     /// It is refused only where memory for the words of the others was.
@@ -33,26 +35,7 @@ impl Forwarding {
         ensures words { IfOk result (λ forward. forward.words ≡ replicate cells 0) }
     {
         let words = vec![in alloc; 0; (cells - skipped) as usize]?;
-        Ok(Forwarding { skipped, words })
-    }
-
-    /// These words behind those of the cells that are skipped.
-    pub fn of(skipped: u64, words: Vec<u64>) -> Self
-        ensures { result ≡ record { skipped = skipped; words = replicate skipped 0 ++ words.items } }
-    {
-        Forwarding { skipped, words }
-    }
-
-    /// The word of a cell.
-    #[inline(always)]
-    pub fn word(&self, cell: u64) -> u64
-        requires { cell < length self.now.words }
-        ensures { result ≡ slice_index self.now.words cell }
-    {
-        if cell < self.skipped {
-            return 0;
-        }
-        self.words[(cell - self.skipped) as usize]
+        Ok(ForwardingTable { skipped, words })
     }
 
     /// The word of a cell that isn't skipped.
@@ -74,5 +57,79 @@ impl Forwarding {
         ensures skipped { self.new.skipped ≡ self.old.skipped }
     {
         self.words[(cell - self.skipped) as usize] = word;
+    }
+
+    /// The words, which are given no more.
+    pub fn into_forwarding(self) -> Forwarding
+        ensures { result ≡ self }
+    {
+        Forwarding {
+            skipped: self.skipped,
+            words: Words::Listed(self.words),
+        }
+    }
+}
+
+/// The forwarding word of each cell, by its flat number: the word of its new place, or 0 where it has none. The first
+/// cells may be skipped: their words are 0. The others are read where they were given, by one thread or by several.
+#[derive(Drop)]
+pub struct Forwarding {
+    skipped: u64,
+    words: Words,
+}
+
+/// Where forwarding words stand.
+#[derive(Drop)]
+pub enum Words {
+    /// In one thread's table.
+    Listed(Vec<u64>),
+    /// In a table that several helpers shared.
+    Closed(ClosedWords),
+}
+
+impl Model for Forwarding {
+    ghost use Rattle.std.specs.Prelude.{◌++◌, replicate};
+    ghost use Rattle.tg_space.specs.Forwarding.{ForwardingWords, words_in};
+
+    ghost Value = { ForwardingWords };
+
+    ghost view = { λ f. record { skipped = f.skipped; words = replicate f.skipped 0 ++ words_in f.words } };
+}
+
+impl Forwarding {
+    /// These words of a closed table behind those of the cells that are skipped.
+    pub fn of_closed(skipped: u64, words: ClosedWords) -> Self
+        ensures { result ≡ record { skipped = skipped; words = replicate skipped 0 ++ words } }
+    {
+        Forwarding {
+            skipped,
+            words: Words::Closed(words),
+        }
+    }
+
+    /// The word of a cell.
+    #[inline(always)]
+    pub fn word(&self, cell: u64) -> u64
+        requires { cell < length self.now.words }
+        ensures { result ≡ slice_index self.now.words cell }
+    {
+        if cell < self.skipped {
+            return 0;
+        }
+        self.words.word((cell - self.skipped) as usize)
+    }
+}
+
+impl Words {
+    // The word with this number.
+    #[inline(always)]
+    fn word(&self, number: usize) -> u64
+        requires { number < length (words_in self.now) }
+        ensures { result ≡ slice_index (words_in self.now) number }
+    {
+        match self {
+            Words::Listed(words) => words[number],
+            Words::Closed(words) => words.word(number),
+        }
     }
 }

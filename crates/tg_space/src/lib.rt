@@ -22,7 +22,7 @@
 //!
 //! **Who may call.** The heap's graph reads and writes words and allocates; a collection only reads, builds new
 //! blocks in a `Space` of its own, and hands them over by `adopt`. So a collection that is refused leaves all as it
-//! was. Only `new`, `add_block`, `adopt`, `Forwarding::new`, and of a `Space` `push`, `add_block` and `append` take
+//! was. Only `new`, `add_block`, `adopt`, `ForwardingTable::new`, and of a `Space` `push`, `add_block` and `append` take
 //! memory.
 //!
 //! **What stands here for several crates above**, as definitions in `specs/`: the targets of cells and roots, the
@@ -31,7 +31,7 @@
 //! tracing: what was traced from the roots, and is complete, is exactly the closure.
 #![tactic(auto)]
 
-pub use forwarding::Forwarding;
+pub use forwarding::{Forwarding, ForwardingTable};
 pub use limits::Limits;
 pub use space::Space;
 pub use spaces::{Adoption, AllocateFault, Kind, Root, Spaces, first_pointer};

@@ -38,12 +38,12 @@ fewer_held t u s forward done some =
     (λ le. le)
     (cases_lt (length (space_of t.spaces 0)) (length (space_of u.spaces 0)))
 
-module _ (old new : SpaceTable) (forward : List ℕ) (aged more : BlockList) where
-  pub few_left : (kind : Kind) → AreFewBlocks old.limits.space_blocks (kept_blocks kind old.spaces) 0 forward aged more → copies_in forward 0 + copies_in forward 1 ≤ used_cells kind old.spaces →
-      (kind ≡ Full → new ≡ with_adopted old Full aged more) → (s : HeapState) → (kind ≡ Nursery → AreWritten (with_adopted old Nursery aged more) new (map (rewritten_at s.table.spaces forward) s.remembered)) → HasFewBlocks kind old new
+module _ (spare : ℕ) (old new : SpaceTable) (forward : List ℕ) (aged more : BlockList) where
+  pub few_left : (kind : Kind) → AreFewBlocks old.limits.space_blocks (kept_blocks kind old.spaces) spare forward aged more → copies_in forward 0 + copies_in forward 1 ≤ used_cells kind old.spaces →
+      (kind ≡ Full → new ≡ with_adopted old Full aged more) → (s : HeapState) → (kind ≡ Nursery → AreWritten (with_adopted old Nursery aged more) new (map (rewritten_at s.table.spaces forward) s.remembered)) → HasFewBlocks kind spare old new
   few_left Full few moved adopted_as s written = record {
     within = λ space. subst (λ (t : SpaceTable). (length (space_of t.spaces space) ≤ old.limits.space_blocks) ⊎ (length (space_of t.spaces space) ≤ length (space_of old.spaces space))) (sym (adopted_as refl)) (inl (within space));
-    full = λ _. subst (λ (t : SpaceTable). block_count t.spaces ≤ blocks_for (used_cells Full old.spaces)) (sym (adopted_as refl)) all;
+    full = λ _. subst (λ (t : SpaceTable). block_count t.spaces ≤ blocks_for (used_cells Full old.spaces) + spare) (sym (adopted_as refl)) all;
     nursery = λ other. let no : ◌≡◌ {A = Kind} Full Nursery = other in absurd cc;
   }
     where
@@ -51,7 +51,7 @@ module _ (old new : SpaceTable) (forward : List ℕ) (aged more : BlockList) whe
       within zero = let fits = few.old_within in omega arith
       within (suc space) = let none = ap length (only_old_after old.spaces aged more (suc space) (λ z. omega arith)) in omega arith
 
-      all : block_count (adopted Full old.spaces aged more) ≤ blocks_for (used_cells Full old.spaces)
+      all : block_count (adopted Full old.spaces aged more) ≤ blocks_for (used_cells Full old.spaces) + spare
       all =
           let none = λ (space : ℕ) (low : 2 ≤ space). only_old_after old.spaces aged more space (λ z. omega arith) in
           let aged_none = ap length (only_old_after old.spaces aged more 1 (λ z. omega arith)) in

@@ -1,5 +1,5 @@
 mod AnswerLaws
-mod BlockLaws
+pub mod BlockLaws
 mod CollectLaws
 mod CreateLaws
 mod DifferenceLaws

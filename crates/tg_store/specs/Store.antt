@@ -1,5 +1,5 @@
 -- What a store is to its callers: an opening, the journal of what was decided since, and a heap. What holds of every store.
-use Rattle.std.specs.Prelude.{◌≡◌, ◌↔◌, ◌≤◌, ◌⊎◌, ◌+◌, ℕ, ◌==◌, List, [], ◌∷◌, ◌++◌, length, map}
+use Rattle.std.specs.Prelude.{◌≡◌, ◌↔◌, ◌≤◌, ◌⊎◌, ◌+◌, ◌*◌, ℕ, ◌==◌, List, [], ◌∷◌, ◌++◌, length, map}
 use Rattle.std.specs.List.{Contains, IsDistinct}
 use Rattle.tg_model.specs.declared.command.Deed.{Deed}
 use Rattle.tg_model.specs.declared.reply.Reply.{Reply}
@@ -69,12 +69,13 @@ pub record HasAdopted (kind : Kind) (old new : HeapState) (forward : List ℕ) (
   pub nursery : kind ≡ Nursery → AreWritten (with_adopted old.table Nursery aged more) new.table (map (rewritten_at old.table.spaces forward) old.remembered)
 
 -- How few blocks a collection leaves. Of a full one they are no more than the cells in use need; of a nursery collection at
--- most one more than the younger cells in use need, beside those that Old had, since it fills blocks of two spaces.
-pub record HasFewBlocks (kind : Kind) (old new : SpaceTable) : Type 0 where
+-- most one more than the younger cells in use need, beside those that Old had, since it fills blocks of two spaces. Each space
+-- may have so many more, where several helpers fill blocks of their own.
+pub record HasFewBlocks (kind : Kind) (more : ℕ) (old new : SpaceTable) : Type 0 where
   -- no space has more than it may, or else no more than it had
   pub within : (space : ℕ) → (length (space_of new.spaces space) ≤ old.limits.space_blocks) ⊎ (length (space_of new.spaces space) ≤ length (space_of old.spaces space))
-  pub full : kind ≡ Full → block_count new.spaces ≤ blocks_for (used_cells Full old.spaces)
-  pub nursery : kind ≡ Nursery → block_count new.spaces ≤ length (space_of old.spaces 0) + blocks_for (used_cells Nursery old.spaces) + 1
+  pub full : kind ≡ Full → block_count new.spaces ≤ blocks_for (used_cells Full old.spaces) + more
+  pub nursery : kind ≡ Nursery → block_count new.spaces ≤ length (space_of old.spaces 0) + blocks_for (used_cells Nursery old.spaces) + 1 + 2 * more
 
 -- ---- counts
 

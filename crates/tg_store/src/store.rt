@@ -234,7 +234,7 @@ impl<P: Payload> Store<P> {
         ensures reachable { (g : ProtectionGraph) → StandsFor self.old g → IfOk result (λ number. kind ≡ Kind.Full → IsCountOf (IsReachable g) number) }
         ensures only_old { OnOk result (kind ≡ Kind.Full → (space : ℕ) → space ≢ 0 → space_of self.new.heap.table.spaces space ≡ []) }
         ensures no_nursery { OnOk result ((space : ℕ) → 2 ≤ space → space_of self.new.heap.table.spaces space ≡ []) }
-        ensures blocks { OnOk result (HasFewBlocks kind self.old.heap.table self.new.heap.table) }
+        ensures blocks { OnOk result (HasFewBlocks kind 0 self.old.heap.table self.new.heap.table) }
         ensures stay { OnOk result (kind ≡ Kind.Nursery → VerticesOfOldStay self.old.heap.table.spaces self.new.heap.table.spaces) }
         ensures entries { self.new.entries ≡ self.old.entries }
         ensures full { result ≡ Err CollectFault.HeapFull →

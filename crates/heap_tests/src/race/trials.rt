@@ -26,6 +26,7 @@ fn follow(seed: u64) -> u64 {
 fn try_cell(helper: &mut Helper, table: &RaceTable, cell: u64, block: u64, used: u64) -> Found
     requires own { helper.old.table ≡ table.now.table }
     requires inside { cell < table.now.counts.cells }
+    requires moved { table.now.counts.kept ≡ 0 }
     requires range { (block < 2 ^ 20) × (used < 64) }
     requires owned { IsTrue (has block helper.old.done.aged_blocks) }
     requires free { (n : ℕ) → used ≤ n → uses helper.old.done (record { space = 1; block = block; cell = n }) ≡ false }
@@ -74,6 +75,7 @@ fn work(
     requires own { helper.table ≡ table.now.table }
     requires fresh { helper.done ≡ empty 1 }
     requires cells { (0 < cells) × (cells ≡ table.now.counts.cells) }
+    requires moved { table.now.counts.kept ≡ 0 }
     ensures { IfOk result (λ r. (r.0.table ≡ helper.table) × (r.0.done.share ≡ 1)) }
 {
     let block = helper.claim_block(table, true);
@@ -109,6 +111,7 @@ fn work_by_all<R: Threads + Sync>(
     requires fresh { helper.done ≡ empty helpers }
     requires helpers { 0 < helpers }
     requires cells { (0 < cells) × (cells ≡ table.now.counts.cells) }
+    requires moved { table.now.counts.kept ≡ 0 }
     ensures { IfOk result (λ r. (r.0.table ≡ helper.table) × (r.0.done.share ≡ helpers)) }
 {
     if helpers == 1 {

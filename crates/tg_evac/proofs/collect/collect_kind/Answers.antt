@@ -1,9 +1,11 @@
-use Rattle.std.proofs.Common.{◌≡◌, ◌↔◌, ◌⊎◌, ℕ, length, List, ap, sym, subst, arith, lit<, ◌∙◌}
+use Rattle.std.proofs.Common.{◌≡◌, ◌↔◌, ◌⊎◌, ℕ, ◌+◌, ◌≤◌, length, List, ap, sym, subst, arith, lit<, ◌∙◌}
 use Rattle.std.specs.List.{Contains}
 use Rattle.std.proofs.lemmas.List.{length-map}
 use Rattle.tg_word.specs.declared.Place.{Place}
 use Rattle.tg_space.proofs.Tables.{table_list}
-use Rattle.tg_space.specs.Collection.{new_place}
+use Rattle.tg_space.specs.Collection.{AreFewBlocks, IsCollection, copies_in, new_place, used_cells}
+use Rattle.tg_space.specs.Forwarding.{ForwardingWords}
+use Rattle.tg_space.specs.SpaceTable.{kept_blocks}
 use Rattle.tg_space.specs.Generations.{NamesYoung}
 use Rattle.tg_space.specs.declared.spaces.Kind.{Kind}
 use Rattle.tg_space.specs.declared.spaces.Kind.TheVariants.{Full}
@@ -12,7 +14,7 @@ use Rattle.tg_evac.specs.declared.plan.Plan.{Plan}
 use Rattle.tg_evac.specs.declared.win.Win.{Win}
 use Rattle.tg_evac.specs.Claims.{Claimed, IsTracedFrom, won_in}
 use Rattle.tg_evac.specs.Claimers.{HasPlacesOf, copies_to, image_at}
-use Rattle.tg_evac.specs.Copies.{HoldCells, IsPlaceIn, moved_cell, new_cell}
+use Rattle.tg_evac.specs.Copies.{HavePlaces, HoldCells, IsPlaceIn, moved_cell, new_cell}
 use Rattle.tg_evac.proofs.Claiming.{has_places, have_places, in_room}
 use Rattle.tg_evac.proofs.Moved.{moved_few}
 use Rattle.tg_evac.proofs.Sound.{have_pointers}
@@ -77,7 +79,9 @@ finish-requires-clause-old c =
 
 pub notes_of-requires-clause-places : goal.notes_of-requires-clause-places
 unfolding claims_of
-notes_of-requires-clause-places c = have_places (claims_of (goal.at.notes_of-requires-clause-places c).In_ok-copies) c.claims.invariant.0
+notes_of-requires-clause-places c =
+    subst (λ (f : ForwardingWords). HavePlaces f.words) (sym c.into_forwarding-forward.ensures)
+    (have_places (claims_of (goal.at.notes_of-requires-clause-places c).In_ok-copies) c.claims.invariant.0)
 
 pub notes_of-requires-clause-few : goal.notes_of-requires-clause-few
 unfolding claims_of
@@ -106,24 +110,28 @@ unfolding claims_of
 returns-clause-moved c =
     let from = (goal.at.returns-clause-moved c).In_ok-copies in
     let is = table_list c.args.spaces.now c.cells-cells.ensures.table in
-    moved_few c.args.kind c.args.spaces.now.spaces is (have_pointers c.args.spaces.now.spaces c.args.roots.now c.requires is) c.args.roots.now c.requires.roots_held (claims_of from) c.claims.invariant.0 (traced from)
+    subst (λ (f : ForwardingWords). copies_in f.words 0 + copies_in f.words 1 ≤ used_cells c.args.kind c.args.spaces.now.spaces) (sym c.into_forwarding-forward.ensures)
+    (moved_few c.args.kind c.args.spaces.now.spaces is (have_pointers c.args.spaces.now.spaces c.args.roots.now c.requires is) c.args.roots.now c.requires.roots_held (claims_of from) c.claims.invariant.0 (traced from))
 
 pub returns-clause-few : goal.returns-clause-few
 unfolding claims_of
 returns-clause-few c =
     let from = (goal.at.returns-clause-few c).In_ok-copies in
-    few c.args.kind c.args.spaces.now c.args.roots.now c.of-plan.result c.of-plan.ensures.plan c.cells-cells.ensures.table (claims_of from) c.claims.invariant.0 (plan_is from) (traced from)
+    subst (λ (f : ForwardingWords). AreFewBlocks c.args.spaces.now.limits.space_blocks (kept_blocks c.args.kind c.args.spaces.now.spaces) 0 f.words c.in_ok-adoption.adoption.aged c.in_ok-adoption.adoption.old) (sym c.into_forwarding-forward.ensures)
+    (few c.args.kind c.args.spaces.now c.args.roots.now c.of-plan.result c.of-plan.ensures.plan c.cells-cells.ensures.table (claims_of from) c.claims.invariant.0 (plan_is from) (traced from)
     c.in_ok-adoption.adoption.aged c.in_ok-adoption.adoption.old c.in_ok-adoption.ensures.aged.1.1 c.in_ok-adoption.ensures.old.1.1
     (subst (λ (cells : List (List ℕ)). HoldCells cells c.in_ok-adoption.adoption.aged) (aged_is from) c.in_ok-adoption.ensures.aged.0)
-    (subst (λ (cells : List (List ℕ)). HoldCells cells c.in_ok-adoption.adoption.old) (old_is from) c.in_ok-adoption.ensures.old.0) c.args.spaces.now.limits.space_blocks (ap (λ (p : Plan). p.room) (plan_is from) ∙ c.of-plan.ensures.plan.room)
+    (subst (λ (cells : List (List ℕ)). HoldCells cells c.in_ok-adoption.adoption.old) (old_is from) c.in_ok-adoption.ensures.old.0) c.args.spaces.now.limits.space_blocks (ap (λ (p : Plan). p.room) (plan_is from) ∙ c.of-plan.ensures.plan.room))
 
 pub returns-clause-collected : goal.returns-clause-collected
 unfolding claims_of
 returns-clause-collected c =
     let from = (goal.at.returns-clause-collected c).In_ok-copies in
     let h = c.args.spaces.now.spaces in let old = c.in_ok-adoption.adoption.old in let forward = c.claims.inside.forward.words in let noted = c.in_ok-remembered.remembered.places in
-    collected c.args.kind c.args.spaces.now c.args.roots.now c.of-plan.result c.of-plan.ensures.plan c.cells-cells.ensures.table (claims_of from) c.claims.invariant.0 (plan_is from) (traced from)
+    subst (λ (f : ForwardingWords). IsCollection c.args.kind h c.args.roots.now f.words c.in_ok-adoption.adoption.aged old noted) (sym c.into_forwarding-forward.ensures)
+    (collected c.args.kind c.args.spaces.now c.args.roots.now c.of-plan.result c.of-plan.ensures.plan c.cells-cells.ensures.table (claims_of from) c.claims.invariant.0 (plan_is from) (traced from)
     c.in_ok-adoption.adoption.aged c.in_ok-adoption.adoption.old c.in_ok-adoption.ensures.aged.1.1 c.in_ok-adoption.ensures.old.1.1
     (subst (λ (cells : List (List ℕ)). HoldCells cells c.in_ok-adoption.adoption.aged) (aged_is from) c.in_ok-adoption.ensures.aged.0)
     (subst (λ (cells : List (List ℕ)). HoldCells cells c.in_ok-adoption.adoption.old) (old_is from) c.in_ok-adoption.ensures.old.0) noted
-    (subst (λ (n : ℕ). (p : Place) → Contains noted p ↔ ((Contains c.args.roots.now (Remembered p) × NamesYoung (moved_cell c.args.kind h forward p)) ⊎ (IsPlaceIn 0 n old p × NamesYoung (new_cell n old p)))) c.of-plan.ensures.plan.kept c.in_ok-remembered.ensures)
+    (subst (λ (n : ℕ). (p : Place) → Contains noted p ↔ ((Contains c.args.roots.now (Remembered p) × NamesYoung (moved_cell c.args.kind h forward p)) ⊎ (IsPlaceIn 0 n old p × NamesYoung (new_cell n old p)))) c.of-plan.ensures.plan.kept
+    (subst (λ (f : ForwardingWords). (p : Place) → Contains noted p ↔ ((Contains c.args.roots.now (Remembered p) × NamesYoung (moved_cell c.args.kind h f.words p)) ⊎ (IsPlaceIn 0 c.of-plan.result.kept old p × NamesYoung (new_cell c.of-plan.result.kept old p)))) c.into_forwarding-forward.ensures c.in_ok-remembered.ensures)))

@@ -1,5 +1,7 @@
-use Rattle.std.proofs.Common.{◌≡◌, ℕ, ◌<◌, List, subst, sym}
-use Rattle.tg_space.specs.Collection.{AreFewBlocks, IsCollection}
+use Rattle.std.proofs.Common.{◌≡◌, ℕ, ◌+◌, ◌*◌, ◌++◌, ◌<◌, ◌≤◌, ◌∙◌, List, ap, replicate, subst, sym}
+use Rattle.tg_space.specs.Forwarding.{ForwardingWords}
+use Rattle.tg_race.specs.Board.{IsClosed}
+use Rattle.tg_space.specs.Collection.{AreFewBlocks, IsCollection, copies_in, used_cells}
 use Rattle.tg_space.specs.SpaceTable.{kept_blocks}
 use Rattle.tg_race.specs.Race.{past}
 use Rattle.tg_evac.specs.declared.fault.CollectFault.{CollectFault}
@@ -9,16 +11,20 @@ use Rattle.tg_parallel.specs.Parts.{IsPart, IsPastLimit}
 use Rattle.tg_parallel.specs.Whole.{IsWholePart}
 use Rattle.tg_parallel.proofs.Finish.{finished}
 use Rattle.tg_parallel.proofs.Merging.{err_at, ok_at}
-use Rattle.tg_parallel.proofs.Room.{few_blocks, lacks}
+use Rattle.tg_parallel.proofs.Room.{few_blocks, lacks, moved_few}
 use Rattle.tg_parallel.proofs.many.finish.Goals as goal
 use Rattle.tg_parallel.proofs.many.finish.Goals.{In_ok-put_together-in-Ok}
 
-whole : (c : In_ok-put_together-in-Ok) → IsWholePart c.args.plan.kind c.args.spaces.now c.args.roots.now c.args.table.counts c.close-words.result.items c.args.helped.helper.done c.in-Ok.part.aged.items c.in-Ok.part.old.items
+-- the words of all cells: a 0 for each of those that stay, and the closed ones
+words_are : (kept skipped : ℕ) → kept ≡ skipped → (ws : List ℕ) (f : ForwardingWords) → f ≡ record { skipped = 64 * skipped; words = replicate (64 * skipped) 0 ++ ws } → f.words ≡ replicate (64 * kept) 0 ++ ws
+words_are kept skipped same ws f is = ap (λ (x : ForwardingWords). x.words) is ∙ ap (λ (n : ℕ). replicate (64 * n) 0 ++ ws) (sym same)
+
+whole : (c : In_ok-put_together-in-Ok) → IsWholePart c.args.plan.kind c.args.spaces.now c.args.roots.now c.args.table.counts c.of_closed-forward.result.words c.args.helped.helper.done c.in-Ok.part.aged.items c.in-Ok.part.old.items
 whole c =
     let v = c.args.helped.helper.done in let p = c.in-Ok.part in
     record {
       counts = c.requires.counts;
-      closed = c.close-words.ensures;
+      closed = subst (λ (ws : List ℕ). IsClosed c.args.table.counts ws v) (sym (words_are c.args.table.counts.kept c.args.plan.kept (c.requires.counts.kept ∙ sym c.requires.plan.kept) c.close.result c.of_closed-forward.result c.of_closed-forward.ensures)) c.close.ensures;
       last = ok_at (λ (_ : Part). 0 < past c.args.table.counts v) c.args.helped.part p c.in-Ok.is c.requires.helped.last;
       earned = c.requires.helped.earned;
       part = ok_at (λ (q : Part). IsPart c.args.plan.kind c.args.spaces.now c.args.roots.now v q.aged.items q.old.items) c.args.helped.part p c.in-Ok.is c.requires.helped.whole;
@@ -28,17 +34,23 @@ pub returns-in_ok-put_together-in-Ok-clause-collected : goal.returns-in_ok-put_t
 returns-in_ok-put_together-in-Ok-clause-collected c =
     let v = c.args.helped.helper.done in let p = c.in-Ok.part in let made = c.in_ok-put_together-in-Ok.field-0 in
     subst (λ (ws : List ℕ). IsCollection c.args.plan.kind c.args.spaces.now.spaces c.args.roots.now ws made.adoption.aged made.adoption.old made.remembered.places) (sym c.in_ok-put_together-in-Ok.ensures.words)
-    (finished c.args.plan.kind c.args.spaces.now c.args.roots.now c.args.table.counts c.close-words.result.items v p.aged.items p.old.items c.requires.spaces c.requires.limit (whole c)
+    (finished c.args.plan.kind c.args.spaces.now c.args.roots.now c.args.table.counts c.of_closed-forward.result.words v p.aged.items p.old.items c.requires.spaces c.requires.limit (whole c)
     made.adoption.aged made.adoption.old c.in_ok-put_together-in-Ok.ensures.merged made.remembered.places c.in_ok-put_together-in-Ok.ensures.noted)
+
+pub returns-in_ok-put_together-in-Ok-clause-moved : goal.returns-in_ok-put_together-in-Ok-clause-moved
+returns-in_ok-put_together-in-Ok-clause-moved c =
+    let all = whole c in
+    subst (λ (ws : List ℕ). copies_in ws 0 + copies_in ws 1 ≤ used_cells c.args.plan.kind c.args.spaces.now.spaces) (sym c.in_ok-put_together-in-Ok.ensures.words)
+    (moved_few c.args.plan.kind c.args.spaces.now c.args.roots.now c.args.table.counts c.of_closed-forward.result.words c.args.helped.helper.done c.requires.spaces c.requires.sound c.requires.counts all.closed all.earned)
 
 pub returns-in_ok-put_together-in-Ok-clause-few : goal.returns-in_ok-put_together-in-Ok-clause-few
 returns-in_ok-put_together-in-Ok-clause-few c =
     let v = c.args.helped.helper.done in let p = c.in-Ok.part in let made = c.in_ok-put_together-in-Ok.field-0 in
     subst (λ (ws : List ℕ). AreFewBlocks c.args.spaces.now.limits.space_blocks (kept_blocks c.args.plan.kind c.args.spaces.now.spaces) c.args.table.counts.helpers ws made.adoption.aged made.adoption.old) (sym c.in_ok-put_together-in-Ok.ensures.words)
-    (few_blocks c.args.plan.kind c.args.spaces.now c.args.roots.now c.args.table.counts c.close-words.result.items v p.aged.items p.old.items (whole c)
+    (few_blocks c.args.plan.kind c.args.spaces.now c.args.roots.now c.args.table.counts c.of_closed-forward.result.words v p.aged.items p.old.items (whole c)
     made.adoption.aged made.adoption.old c.in_ok-put_together-in-Ok.ensures.merged)
 
 pub returns-in-Err-clause-full : goal.returns-in-Err-clause-full
 returns-in-Err-clause-full c = λ is.
     let past = err_at (λ (fault : CollectFault). fault ≡ HeapFull → IsPastLimit c.args.spaces.now c.args.helped.helper.done) c.args.helped.part c.in-Err.fault c.in-Err.is c.requires.helped.full is in
-    lacks c.args.plan.kind c.args.spaces.now c.args.roots.now c.args.table.counts c.close-words.result.items c.args.helped.helper.done c.requires.spaces c.requires.sound c.requires.counts c.close-words.ensures c.requires.helped.earned past
+    lacks c.args.plan.kind c.args.spaces.now c.args.roots.now c.args.table.counts _ c.args.helped.helper.done c.requires.spaces c.requires.sound c.requires.counts c.close.ensures c.requires.helped.earned past

@@ -15,4 +15,4 @@ returns-clause-blocks g c =
     let old_few = subst (λ (state : StoreState). AreFewBlocks state.heap.table.limits.space_blocks (kept_blocks kind state.heap.table.spaces) 0 made.forward.words made.adoption.aged made.adoption.old) c.self.view_is few in
     let old_moved = subst (λ (state : StoreState). copies_in made.forward.words 0 + copies_in made.forward.words 1 ≤ used_cells kind state.heap.table.spaces) c.self.view_is moved in
     let adopted = c.in_ok-settle.ensures.adopted in
-    few_left c.args.self.now.heap.table c.settle.new.self.heap.table made.forward.words made.adoption.aged made.adoption.old kind old_few old_moved adopted.full c.args.self.now.heap adopted.nursery
+    few_left 0 c.args.self.now.heap.table c.settle.new.self.heap.table made.forward.words made.adoption.aged made.adoption.old kind old_few old_moved adopted.full c.args.self.now.heap adopted.nursery

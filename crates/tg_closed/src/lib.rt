@@ -1,0 +1,58 @@
+//! The words of a table that several helpers shared, read where they stand once no one shares it any more.
+//!
+//! A collection by several helpers gives each cell its new place in such a table (`tg_race`). What settles the heap afterwards
+//! reads these words in place (`tg_space`), so that closing the table copies none of them.
+#![tactic(auto)]
+
+ghost use Rattle.std.specs.Prelude.{◌≡◌, ◌+◌, ◌<◌, ◌≤◌, drop, length, slice_index};
+ghost use Rattle.std.specs.Slots.{IsFull, slots_items, slots_len};
+
+use atomic_table::Closed;
+use std::alloc::Global;
+use std::marker::Model;
+
+/// The words of a closed table, behind the first ones, which are of no use any more. A clause sees a list of words.
+pub struct ClosedWords {
+    closed: Closed<u8, Global>,
+    // how many words stand in front
+    front: usize,
+}
+
+impl Model for ClosedWords {
+    ghost use Rattle.std.specs.Prelude.{◌≡◌, ◌≤◌, ℕ, List, drop};
+    ghost use Rattle.std.specs.Slots.{IsFull, slots_items, slots_len};
+
+    ghost Value = { List ℕ };
+
+    ghost view = { λ w. drop w.front (slots_items w.closed.words) };
+
+    ghost invariant = { λ w. IsFull w.closed.words × (w.front ≤ slots_len w.closed.words) × (slots_len w.closed.slots ≡ 0) };
+}
+
+impl ClosedWords {
+    /// The words of a closed table without slots, behind so many in front.
+    pub fn of(closed: Closed<u8, Global>, front: usize) -> Self
+        requires full { IsFull closed.words }
+        requires front { front ≤ slots_len closed.words }
+        requires none { slots_len closed.slots ≡ 0 }
+        ensures { result ≡ drop front (slots_items closed.words) }
+    {
+        ClosedWords { closed, front }
+    }
+
+    /// The word with this number.
+    #[inline(always)]
+    pub fn word(&self, number: usize) -> u64
+        requires { number < length self.now }
+        ensures { result ≡ slice_index self.now number }
+    {
+        self.closed.word(self.front + number)
+    }
+}
+
+impl Drop for ClosedWords {
+    fn drop(self) {
+        let Self { closed, front: _ } = self;
+        closed.free();
+    }
+}
