@@ -99,13 +99,18 @@ fn enter(journal: &mut Journal, entry: Entry) -> Result<(), AllocError> {
     Ok(())
 }
 
+// Adds the entries behind the first, with the state that is said to have been read, and with the one who is denied to write.
+fn enter_rest(alloc: Global, journal: &mut Journal, state: u64, writer: u64) -> Result<(), Fail> {
+    enter(journal, granted()?)?;
+    enter(journal, read(alloc, state)?)?;
+    Ok(enter(journal, denied_write(writer))?)
+}
+
 // The journal, with the state that is said to have been read, and with the one who is denied to write.
 fn grant_then_denied_write(alloc: Global, state: u64, writer: u64) -> Result<Journal, Fail> {
     let mut journal = Journal::new(alloc);
     enter(&mut journal, created(alloc)?)?;
-    enter(&mut journal, granted()?)?;
-    enter(&mut journal, read(alloc, state)?)?;
-    enter(&mut journal, denied_write(writer))?;
+    enter_rest(alloc, &mut journal, state, writer)?;
     Ok(journal)
 }
 
@@ -155,21 +160,6 @@ fn audited_part(alloc: Global, from: usize, to: usize) -> Result<Option<u64>, Fa
     }
 }
 
-// What the audit finds in a journal of the two entries.
-fn audited_pair(alloc: Global, first: Entry, second: Entry) -> Result<Option<u64>, Fail> {
-    let mut journal = Journal::new(alloc);
-    enter(&mut journal, first)?;
-    enter(&mut journal, second)?;
-    audited(alloc, journal.entries())
-}
-
-// What the audit finds in a journal of this entry.
-fn audited_alone(alloc: Global, entry: Entry) -> Result<Option<u64>, Fail> {
-    let mut journal = Journal::new(alloc);
-    enter(&mut journal, entry)?;
-    audited(alloc, journal.entries())
-}
-
 // Worker 0 makes a cell without a state.
 fn misfit(alloc: Global) -> Result<Entry, Fail> {
     Ok(Entry {
@@ -183,9 +173,14 @@ fn misfit(alloc: Global) -> Result<Entry, Fail> {
     })
 }
 
-// What the audit finds in a journal that has its first entry twice.
-fn audited_twice(alloc: Global) -> Result<Option<u64>, Fail> {
-    audited_pair(alloc, created(alloc)?, created(alloc)?)
+// What the audit finds in the journal with these entries in front of those behind its first one.
+fn audited_behind(alloc: Global, front: Vec<Entry>) -> Result<Option<u64>, Fail> {
+    let mut journal = Journal::new(alloc);
+    for entry in front {
+        enter(&mut journal, entry)?;
+    }
+    enter_rest(alloc, &mut journal, 0, 1)?;
+    audited(alloc, journal.entries())
 }
 
 // What the audit finds without the first entry, without the last, with an unknown worker, with the first entry twice,
@@ -195,8 +190,8 @@ fn damages(alloc: Global) -> Result<[Option<u64>; 5], Fail> {
         audited_part(alloc, 1, 4)?,
         audited_part(alloc, 0, 3)?,
         audited_with(alloc, 0, 9)?,
-        audited_twice(alloc)?,
-        audited_alone(alloc, misfit(alloc)?)?,
+        audited_behind(alloc, vec![in alloc; created(alloc)?, created(alloc)?]?)?,
+        audited_behind(alloc, vec![in alloc; misfit(alloc)?]?)?,
     ])
 }
 

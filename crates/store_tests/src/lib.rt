@@ -9,6 +9,8 @@ mod command_line;
 #[cfg(test)]
 mod counting_payload;
 #[cfg(test)]
+mod hostile;
+#[cfg(test)]
 mod payloads;
 #[cfg(test)]
 mod scripts;

@@ -33,7 +33,7 @@ fn run_with<P: Payload>(
 }
 
 // Runs the script with so many workers, who store cells, and compares what is written and how the run ends.
-fn runs(
+pub(crate) fn runs(
     rt: &(impl Abort + AllocGlobal),
     workers: u64,
     max_vertices: u64,

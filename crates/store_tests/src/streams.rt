@@ -19,6 +19,11 @@ const SCRIPT: &[u8] = b"0 create rw\n0 list\n";
 
 const REPLIES: &[u8] = b"ok 1\nok 1:rw\n";
 
+// A script of two workers.
+const GRANT: &[u8] = b"edge 0 1 tg\n0 create rw\n0 grant 1 2 r\n1 read 2\n1 write 2 7\n";
+
+const GRANT_REPLIES: &[u8] = b"ok 2\nok\nok 0\ndenied write 1->2 w\n";
+
 fn broken() -> io::Error {
     io::Error::from(ErrorKind::BrokenPipe)
 }
@@ -93,9 +98,10 @@ impl Write for Trickle {
     }
 }
 
-// Runs the reader's script with one worker and a stock of one cell, and answers the writer.
+// Runs the reader's script with so many workers and a stock of one cell, and answers the writer.
 fn run_between<R: Read + Drop, W: Write + Drop>(
     alloc: Global,
+    workers: u64,
     reader: R,
     writer: W,
 ) -> Result<(W, Result<(), ScriptFault>), AllocError> {
@@ -105,6 +111,7 @@ fn run_between<R: Read + Drop, W: Write + Drop>(
     };
     run_counted::<Brand, Brand, Brand, BufReader<R>, W>(
         alloc,
+        workers,
         asked,
         read_failures,
         write_failures,
@@ -113,27 +120,36 @@ fn run_between<R: Read + Drop, W: Write + Drop>(
     )
 }
 
-// Runs the source's script with one worker and a stock of one cell.
+// Runs the source's script with so many workers and a stock of one cell.
 fn run_one<S: Source, K: Sink>(
     alloc: Global,
+    workers: u64,
     source: &mut S,
     sink: &mut K,
 ) -> Result<Result<(), ScriptFault>, AllocError> {
     let Ok(limits) = Limits::new(4096, 1 << 20) else {
         return Err(AllocError);
     };
+    let mut cells = Vec::new(alloc);
+    for _ in 0..workers {
+        cells.push(CellPayload::new(0))?;
+    }
     let settings = Settings {
-        workers: 1,
+        workers: cells.len() as u64,
         max_vertices: 1_000_000,
         limits,
     };
-    let workers = drafts_of(alloc, vec![in alloc; CellPayload::new(0)]?)?;
+    if settings.workers < 1 || 64 < settings.workers {
+        return Err(AllocError);
+    }
+    let workers = drafts_of(alloc, cells)?;
     let stock = drafts_of(alloc, vec![in alloc; CellPayload::new(0)]?)?;
     Ok(run_script_one(alloc, source, sink, settings, workers, stock))
 }
 
 fn run_counted<A: Ledger, B: Ledger, C: Ledger, R: BufRead + Drop, W: Write + Drop>(
     alloc: Global,
+    workers: u64,
     asked: Blank,
     read_failures: Blank,
     write_failures: Blank,
@@ -147,48 +163,62 @@ fn run_counted<A: Ledger, B: Ledger, C: Ledger, R: BufRead + Drop, W: Write + Dr
     let (asked, read_failures) = (Count::<A>::new(asked), Count::<B>::new(read_failures));
     let mut source = OfRead::new(reader, asked, read_failures);
     let mut sink = OfWrite::new(writer, Count::<C>::new(write_failures));
-    let outcome = run_one(alloc, &mut source, &mut sink)?;
+    let outcome = run_one(alloc, workers, &mut source, &mut sink)?;
     let OfWrite { writer, .. } = sink;
     Ok((writer, outcome))
 }
 
-// What is written for the script when its second line comes after an error or not, and the writer has this trouble; and how
-// the run ends.
-fn run_in_trouble(
+// What is written for the reader's script of so many workers where the writer has this trouble, and how the run ends.
+fn run_to_trickle<R: Read + Drop>(
     alloc: Global,
-    fails: bool,
+    workers: u64,
+    reader: R,
     trouble: Trouble,
 ) -> Result<(Vec<u8>, Result<(), ScriptFault>), AllocError> {
-    let (first, rest) = SCRIPT.split_at(12);
-    let reader = Cut { first, rest, fails };
     let writer = Trickle {
         taken: Vec::new(alloc),
         trouble,
     };
-    let (writer, outcome) = run_between(alloc, reader, writer)?;
+    let (writer, outcome) = run_between(alloc, workers, reader, writer)?;
     Ok((writer.taken, outcome))
 }
 
+// The second line comes after an error, once, and is not asked for again.
 #[test]
-fn mid_stream(rt: HostRuntime) -> Result<(), Fail> {
-    let failed = Err(ScriptFault::WriteFailed);
-    let cases: [(bool, Trouble, &[u8], Result<(), ScriptFault>); 5] = [
-        (false, Trouble::Nothing, REPLIES, Ok(())),
-        (
-            true,
-            Trouble::Nothing,
-            b"ok 1\n",
-            Err(ScriptFault::ReadFailed),
-        ),
-        (false, Trouble::Fails, b"o", failed),
-        (false, Trouble::TakesNone, b"o", failed),
-        (false, Trouble::CannotFlush, REPLIES, failed),
-    ];
-    for (fails, trouble, written, outcome) in cases {
-        let (taken, ended) = run_in_trouble(rt.alloc(), fails, trouble)?;
+fn failing_reader(rt: HostRuntime) -> Result<(), Fail> {
+    let (first, rest) = SCRIPT.split_at(12);
+    for (fails, written, outcome) in [
+        (true, b"ok 1\n".as_slice(), Err(ScriptFault::ReadFailed)),
+        (false, REPLIES, Ok(())),
+    ] {
+        let reader = Cut { first, rest, fails };
+        let (taken, ended) = run_to_trickle(rt.alloc(), 1, reader, Trouble::Nothing)?;
         assert_eq!(rt; taken.as_slice(), written);
         assert_eq!(rt; ended, outcome);
     }
+    Ok(())
+}
+
+// The writer fails once, at its second byte or at its last flush, and is not asked again.
+#[test]
+fn failing_writer(rt: HostRuntime) -> Result<(), Fail> {
+    for (trouble, written) in [
+        (Trouble::Fails, b"o".as_slice()),
+        (Trouble::TakesNone, b"o"),
+        (Trouble::CannotFlush, REPLIES),
+    ] {
+        let (taken, ended) = run_to_trickle(rt.alloc(), 1, SCRIPT, trouble)?;
+        assert_eq!(rt; taken.as_slice(), written);
+        assert_eq!(rt; ended, Err(ScriptFault::WriteFailed));
+    }
+    Ok(())
+}
+
+#[test]
+fn one_byte_writer(rt: HostRuntime) -> Result<(), Fail> {
+    let (taken, ended) = run_to_trickle(rt.alloc(), 2, GRANT, Trouble::Nothing)?;
+    assert_eq!(rt; taken.as_slice(), GRANT_REPLIES);
+    assert_eq!(rt; ended, Ok(()));
     Ok(())
 }
 
@@ -251,7 +281,7 @@ fn run_for_client(
         shown,
         flushes: 0,
     };
-    let (screen, outcome) = run_between(alloc, client, screen)?;
+    let (screen, outcome) = run_between(alloc, 1, client, screen)?;
     Ok((screen.flushes, outcome))
 }
 

@@ -1,5 +1,5 @@
 -- What comes of the next line of a script, and what that says of how its bytes are read.
-use Rattle.std.specs.Prelude.{◌≡◌, ℕ, ◌+◌, List, [], ◌∷◌, ◌++◌, Option, Some, None, Result, Ok, Err}
+use Rattle.std.specs.Prelude.{◌≡◌, ◌⊎◌, ℕ, ◌+◌, List, [], ◌∷◌, ◌++◌, Option, Some, None, Result, Ok, Err}
 use Rattle.std.specs.List.{flat_map}
 use Rattle.tg_text.specs.declared.line.Line.{Line}
 use Rattle.tg_text.specs.declared.fault.ScriptFault.{ScriptFault}
@@ -22,6 +22,10 @@ abbrev pub IsOfReading : ScriptFault → Type 0
 IsOfReading fault.ReadFailed = Unit {0}
 IsOfReading fault.WriteFailed = Unit {0}
 IsOfReading f = IsOfBytes (Some f)
+
+-- a fault that is met in reading lines and keeping them: one of reading, or want of memory
+abbrev pub IsOfKeeping : ScriptFault → Type 0
+IsOfKeeping f = IsOfReading f ⊎ (f ≡ fault.OutOfMemory)
 
 -- a line, the end of the input, or the first fault, and the bytes that are left behind it
 abbrev pub NextLine : Script → List ℕ → Result (Option Line) ScriptFault → Script → List ℕ → Type 0

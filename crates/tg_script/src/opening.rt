@@ -1,9 +1,9 @@
 //! The opening of a run: the edge lines of its script, and the store that they make.
-ghost use Rattle.std.specs.Prelude.{◌≡◌, ◌+◌, ◌<◌, ◌≤◌, ℕ, List, length, Some, true, false, IfOk, IfSome};
+ghost use Rattle.std.specs.Prelude.{◌≡◌, ◌+◌, ◌<◌, ◌≤◌, ℕ, List, length, Some, true, false, IfOk, IfErr, IfSome};
 ghost use Rattle.std.specs.List.{All};
 ghost use Rattle.tg_model.specs.Opened.{Plan, JoinsWorkers};
 ghost use Rattle.tg_text.specs.Sinks.{Keeps};
-ghost use Rattle.tg_script.specs.Lines.{read_failures, write_failures};
+ghost use Rattle.tg_script.specs.Lines.{IsOfKeeping, read_failures, write_failures};
 ghost use Rattle.tg_script.specs.Opening.{ReadsEdges, IsCommand, Opens};
 
 use crate::drafts::values_of;
@@ -32,6 +32,7 @@ pub(crate) fn read_edges<S: Source, K: Sink>(
     ensures edges { IfOk result (λ front. All (JoinsWorkers script.old.workers) front.edges.items) }
     ensures first { IfOk result (λ front. IfSome front.first (λ line. IsCommand line × (script.new.opening ≡ false))) }
     ensures bytes { (bytes : List ℕ) → S.left source.old ≡ Some bytes → (rest : List ℕ) × (S.left source.new ≡ Some rest) × ReadsEdges script.old bytes result script.new rest }
+    ensures fault { IfErr result IsOfKeeping }
     ensures failures { S.failures source.new ≡ S.failures source.old + read_failures result }
     ensures taken { Keeps (K.taken sink.old) (K.taken sink.new) }
     ensures write_failures { K.failures sink.new ≡ K.failures sink.old + write_failures result }

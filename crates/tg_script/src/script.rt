@@ -22,10 +22,10 @@ pub(crate) struct Script {
 }
 
 impl Script {
-    ghost use Rattle.std.specs.Prelude.{◌≡◌, ◌+◌, ◌<◌, ◌≤◌, ℕ, List, Some, Ok, true, IfOk, IfSome};
+    ghost use Rattle.std.specs.Prelude.{◌≡◌, ◌+◌, ◌<◌, ◌≤◌, ℕ, List, Some, Ok, true, IfOk, IfErr, IfSome};
     ghost use Rattle.tg_text.specs.Reading.{MayStand, opening_after};
     ghost use Rattle.tg_text.specs.Sinks.{Keeps};
-    ghost use Rattle.tg_script.specs.Lines.{NextLine, TakesLine, Follows, read_failures, write_failures};
+    ghost use Rattle.tg_script.specs.Lines.{IsOfReading, NextLine, TakesLine, Follows, read_failures, write_failures};
 
     /// No line was read.
     pub(crate) fn new(workers: u64) -> Script
@@ -51,6 +51,7 @@ impl Script {
         sink: &mut K,
     ) -> Result<Option<Line>, ScriptFault>
         ensures bytes { (bytes : List ℕ) → S.left source.old ≡ Some bytes → (rest : List ℕ) × (S.left source.new ≡ Some rest) × NextLine self.old bytes result self.new rest }
+        ensures fault { IfErr result IsOfReading }
         ensures follows { IfOk result (λ next. IfSome next (λ line. Follows self.old line self.new)) }
         ensures shorter { IfOk result (λ next. IfSome next (λ _. self.new.lines.room < self.old.lines.room)) }
         ensures failures { S.failures source.new ≡ S.failures source.old + read_failures result }

@@ -1,8 +1,9 @@
 //! A script that is read to its end before any line is run.
-ghost use Rattle.std.specs.Prelude.{◌≡◌, ◌+◌, ℕ, ◌≤◌, List, Some, false, IfOk, OnOk};
+ghost use Rattle.std.specs.Prelude.{◌≡◌, ◌+◌, ℕ, ◌≤◌, List, Some, false, IfOk, IfErr, OnOk};
 ghost use Rattle.std.specs.List.{All};
 ghost use Rattle.tg_model.specs.Opened.{JoinsWorkers};
 ghost use Rattle.tg_text.specs.Sinks.{Keeps};
+ghost use Rattle.tg_script.specs.Lines.{IsOfKeeping, read_failures, write_failures};
 ghost use Rattle.tg_script.specs.Opening.{IsCommand};
 ghost use Rattle.tg_script.specs.Whole.{ReadsWhole, ReadsOn};
 
@@ -19,8 +20,9 @@ pub struct WholeScript {
     pub lines: Vec<Line>,
 }
 
-/// Reads a whole script for so many workers, or up to its first fault; `OutOfMemory` where there is none for a line. The source
-/// is asked for at most 1,048,577 bytes, and what was put into the sink is finished before it is asked for what it doesn't hold.
+/// Reads a whole script for so many workers, or up to its first fault; `OutOfMemory` where there is none for a line, `ReadFailed`
+/// and `WriteFailed` exactly where the source or the sink failed. The source is asked for at most 1,048,577 bytes, and what was put
+/// into the sink is finished before it is asked for what it doesn't hold.
 pub fn read_script<S: Source, K: Sink>(
     alloc: Global,
     source: &mut S,
@@ -30,7 +32,10 @@ pub fn read_script<S: Source, K: Sink>(
     ensures edges { IfOk result (λ whole. All (JoinsWorkers workers) whole.edges.items) }
     ensures commands { IfOk result (λ whole. All IsCommand whole.lines.items) }
     ensures bytes { (bytes : List ℕ) → S.left source.old ≡ Some bytes → (left : List ℕ) × (S.left source.new ≡ Some left) × ReadsWhole workers bytes result left }
+    ensures fault { IfErr result IsOfKeeping }
+    ensures read_failed { S.failures source.new ≡ S.failures source.old + read_failures result }
     ensures taken { Keeps (K.taken sink.old) (K.taken sink.new) }
+    ensures write_failed { K.failures sink.new ≡ K.failures sink.old + write_failures result }
     ensures asked { S.asked source.new ≤ S.asked source.old + 1048577 }
 {
     let mut script = Script::new(workers);
@@ -57,7 +62,10 @@ fn read_commands<S: Source, K: Sink>(
     requires commands { All IsCommand lines.old.items }
     ensures commands { OnOk result (All IsCommand lines.new.items) }
     ensures bytes { (bytes : List ℕ) → S.left source.old ≡ Some bytes → (left : List ℕ) × (S.left source.new ≡ Some left) × ReadsOn script.old bytes lines.old.items lines.new.items result left }
+    ensures fault { IfErr result IsOfKeeping }
+    ensures read_failed { S.failures source.new ≡ S.failures source.old + read_failures result }
     ensures taken { Keeps (K.taken sink.old) (K.taken sink.new) }
+    ensures write_failed { K.failures sink.new ≡ K.failures sink.old + write_failures result }
     ensures asked { S.asked source.new ≤ S.asked source.old + script.old.lines.room + 1 }
 {
     while let Some(line) = script.next(source, sink)? {

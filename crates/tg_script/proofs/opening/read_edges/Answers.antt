@@ -25,6 +25,7 @@ returns-in_default-line g c =
           let i = c.loop-edges.invariant.bytes bytes known in
           let n = came i.0 i.1 in
           (n.0, n.1, behind_more c.args.script.now c.loop-edges.script c.next.new.self bytes i.0 n.0 (edge_lines c.loop-edges.edges.items) c.in-Some.line i.2 n.2);
+      fault = tt;
       failures = omega (arith, c.in_ok-line.ensures.failures, c.loop-edges.invariant.failures);
       taken = keeps_then (g.K.Sink.taken c.args.sink.now) (g.K.Sink.taken c.loop-edges.sink) (g.K.Sink.taken c.next.new.sink) c.loop-edges.invariant.taken c.in_ok-line.ensures.taken;
       write_failures = omega (arith, c.in_ok-line.ensures.write_failures, c.loop-edges.invariant.written);

@@ -17,7 +17,9 @@ loop-line-init g c =
       opening = c.requires.opening;
       commands = c.requires.commands;
       bytes = λ bytes known. (bytes, [], known, sym (append-nil c.args.lines.now.items), behind_none c.args.script.now bytes);
+      read_failed = refl;
       taken = keeps_same (g.K.Sink.taken c.args.sink.now);
+      write_failed = refl;
       asked = refl {a = s.asked c.args.source.now + c.args.script.now.lines.room};
     }
 
@@ -63,6 +65,8 @@ loop-line-preserved g c =
             more ∙ ap (λ x. x ++ c.in-Some.line ∷ []) i.3 ∙ append_assoc c.args.lines.now.items i.1 (c.in-Some.line ∷ []),
             behind_more c.args.script.now c.loop-line.script c.next.new.self bytes i.0 m.0 i.1 c.in-Some.line i.4 m.2,
           );
+      read_failed = omega (arith, c.in_ok-line.ensures.failures, c.loop-line.invariant.read_failed);
+      write_failed = omega (arith, c.in_ok-line.ensures.write_failures, c.loop-line.invariant.write_failed);
       taken = keeps_then (g.K.Sink.taken c.args.sink.now) (g.K.Sink.taken c.loop-line.sink) (g.K.Sink.taken c.next.new.sink) c.loop-line.invariant.taken c.in_ok-line.ensures.taken;
       asked = omega (arith, asked, c.loop-line.invariant.asked);
     }

@@ -15,7 +15,9 @@ invariant-loop-line g l =
       commands : All IsCommand l.lines.items;
       bytes : (bytes : List ℕ) → s.left l.fn.source ≡ Some bytes →
           (rest : List ℕ) × (more : List Line) × (s.left l.source ≡ Some rest) × (l.lines.items ≡ l.fn.lines.items ++ more) × Behind l.fn.script bytes more l.script rest;
+      read_failed : s.failures l.source ≡ s.failures l.fn.source;
       taken : Keeps (k.taken l.fn.sink) (k.taken l.sink);
+      write_failed : k.failures l.sink ≡ k.failures l.fn.sink;
       asked : s.asked l.source + l.script.lines.room ≡ s.asked l.fn.source + l.fn.script.lines.room;
     }
 
