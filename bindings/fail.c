@@ -1,29 +1,42 @@
-/* Refuses each allocation of a run in turn. It is linked with --wrap=malloc,--wrap=realloc.
+/* Refuses each allocation of a run in turn. It is linked with --wrap=malloc,--wrap=realloc,--wrap=free.
 
    A call whose allocation was refused answers TG_OUT_OF_MEMORY, and passes when it is made again; but where the refused
-   memory was room that a vector would only have liked to have, the call is served all the same. Both are counted. */
+   memory was room that a vector would only have liked to have, the call is served all the same. Both are counted. And once the
+   store is closed, each block was given back. */
 #include "kovshenul.h"
 #include <stdio.h>
 #include <stdlib.h>
 
 void *__real_malloc(size_t size);
 void *__real_realloc(void *at, size_t size);
+void __real_free(void *at);
 
 static int is_counting;
+static int is_empty;    /* no memory is given */
 static long made;       /* allocations of this run */
 static long refuse_at;  /* the one that is refused, or -1 */
 static long told;       /* calls of this run that answered TG_OUT_OF_MEMORY */
+static long held;       /* blocks that weren't given back yet */
 
 static int is_refused(void) {
-    return is_counting && made++ == refuse_at;
+    return is_empty || (is_counting && made++ == refuse_at);
 }
 
 void *__wrap_malloc(size_t size) {
-    return is_refused() ? NULL : __real_malloc(size);
+    void *made_at = is_refused() ? NULL : __real_malloc(size);
+    held += made_at != NULL;
+    return made_at;
 }
 
 void *__wrap_realloc(void *at, size_t size) {
-    return is_refused() ? NULL : __real_realloc(at, size);
+    void *made_at = is_refused() ? NULL : __real_realloc(at, size);
+    held += at == NULL && made_at != NULL;
+    return made_at;
+}
+
+void __wrap_free(void *at) {
+    held -= at != NULL;
+    __real_free(at);
 }
 
 static void stop(int line, tg_status status) {
@@ -68,9 +81,25 @@ static uint64_t tell_story(void) {
     }
     CALL(tg_entries(&store, &entries));
     CALL(tg_audit(&store, &count));
-    if (tg_close(&store) != TG_DONE || count != entries)
+    if (tg_close(&store) != TG_DONE || count != entries || held != 0)
         stop(__LINE__, 0);
     return entries;
+}
+
+/* With no memory at all an opening is refused for that alone where nothing else is wrong with it. */
+static void open_without_memory(void) {
+    static const tg_value worker = { TG_CELL, 0, 0 }, other = { 4, 0, 0 };
+    static const tg_edge edge = { 0, 0, 0 };
+    static const tg_limits limits = { 10, 8, 4 }, few = { 10, 0, 4 };
+    tg_store store = TG_STORE_INIT;
+    is_empty = 1;
+    if (tg_open(&store, &other, 1, &edge, 0, &limits) != TG_BAD_LAW)
+        stop(__LINE__, 0);
+    if (tg_open(&store, &worker, 1, &edge, 0, &few) != TG_BAD_LIMITS)
+        stop(__LINE__, 0);
+    if (tg_open(&store, &worker, 1, &edge, 0, &limits) != TG_OUT_OF_MEMORY || held != 0)
+        stop(__LINE__, 0);
+    is_empty = 0;
 }
 
 int main(void) {
@@ -87,6 +116,7 @@ int main(void) {
         unnoticed += 1 - told;
     }
     is_counting = 0;
+    open_without_memory();
     printf("fail ok: of %ld allocations refused in turn %ld were told, and %ld were served without\n", all, refused, unnoticed);
     return 0;
 }

@@ -57,7 +57,7 @@ enum {
     TG_NOT_OPEN = 16,         /* exactly where the store is closed and what was asked for is no TG_BAD_.. */
     TG_ALREADY_OPEN = 17,     /* tg_open: exactly where the store is open */
 
-    TG_OUT_OF_MEMORY = 32,    /* malloc or realloc gave none; the same call may be made again */
+    TG_OUT_OF_MEMORY = 32,    /* malloc or realloc gave none; the same call may be made again. Never in the place of a TG_BAD_.. */
     TG_HEAP_FULL = 33,        /* no cell or block is left, by the limits; after tg_collect there may be */
     TG_VERTICES_FULL = 34,    /* tg_create: as many vertices were made as may be; the journal has an entry of it */
 
@@ -140,7 +140,12 @@ enum {
 /* The number of the library's interface. */
 uint32_t tg_abi(void);
 
-/* Opens a store: as many workers as values, and the edges between them. A refused *store is as it was. */
+/* Opens a store: as many workers as values, and the edges between them. A refused *store is as it was.
+
+   What is asked for is looked at in this order, before any memory is asked for, and the first fault is told: the values'
+   laws (TG_BAD_LAW), the edges' rights (TG_BAD_RIGHTS), the number of workers (TG_BAD_WORKERS), max_vertices
+   (TG_BAD_LIMITS), the edges' ends (TG_BAD_EDGE), the other limits (TG_BAD_LIMITS), and whether there may be a block for
+   each worker (TG_HEAP_FULL). Where there is no fault, the answer is TG_DONE or TG_OUT_OF_MEMORY. */
 tg_status tg_open(tg_store *store, const tg_value *workers, size_t worker_count, const tg_edge *edges, size_t edge_count,
                   const tg_limits *limits);
 

@@ -77,6 +77,18 @@ static void openings(void) {
     refused(TG_HEAP_FULL, workers, 2, edge, (tg_limits){ 12, 1, 4 });
 }
 
+/* Where there are several faults, the first is told: each of these has the next one too. */
+static void first_faults(void) {
+    const tg_value bad[2] = { { TG_CELL, 0, 0 }, { 4, 0, 0 } };
+    const tg_limits none = { 0, 0, 0 };
+    refused(TG_BAD_LAW, bad, 2, (tg_edge){ 0, 0, 16 }, none);
+    refused(TG_BAD_RIGHTS, workers, 0, (tg_edge){ 0, 0, 16 }, none);
+    refused(TG_BAD_WORKERS, workers, 0, (tg_edge){ 0, 0, TG_READ }, none);
+    refused(TG_BAD_LIMITS, workers, 2, (tg_edge){ 0, 0, TG_READ }, none);
+    refused(TG_BAD_EDGE, workers, 2, (tg_edge){ 0, 0, TG_READ }, (tg_limits){ 12, 0, 0 });
+    refused(TG_BAD_LIMITS, workers, 2, (tg_edge){ 0, 1, TG_READ }, (tg_limits){ 12, 1, 0 });
+}
+
 static void bad_requests(tg_store *store) {
     const tg_value bad = { 7, 0, 0 };
     tg_target row[1];
@@ -167,6 +179,7 @@ int main(void) {
     WANT(tg_abi() == TG_ABI);
     closed();
     openings();
+    first_faults();
     WANT(tg_open(&store, workers, 2, edges, 2, &limits) == TG_DONE && store.is_open && store.handle.at != NULL);
     bad_requests(&store);
     rules(&store);

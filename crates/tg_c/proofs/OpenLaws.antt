@@ -1,37 +1,58 @@
--- What an opening is refused for, by the faults of the store's own calls.
-use Rattle.std.proofs.Common.{◌≡◌, ◌<◌, inl, ℕ, List, subst, ap, refl, length, map, slice_get, ◌∙◌}
+-- An opening whose demands are met can be refused for want of memory alone.
+use Rattle.std.proofs.Common.{◌≡◌, ◌≤◌, ◌<◌, inl, inr, ℕ, List, IfErr, Result, Err, refl, sym, subst, ap, ◌∙◌, length, map, slice_get, arith}
 use Rattle.tg_model.specs.declared.edge.Edge.{Edge}
 use Rattle.tg_model.specs.declared.value.Value.{Value}
 use Rattle.tg_model.specs.declared.opening.OpeningFault.{OpeningFault}
-use Rattle.tg_model.specs.declared.opening.OpeningFault.TheVariants as fault
 use Rattle.tg_model.specs.Opened.{IsFaultOf, Plan}
 use Rattle.tg_store.specs.Faults.{IsFirstDifference}
 use Rattle.tg_store.specs.declared.fault.OpenFault.{OpenFault}
 use Rattle.tg_store.specs.declared.fault.OpenFault.TheVariants as opened
+use Rattle.tg_c.specs.declared.refusal.Refusal.{Refusal}
+use Rattle.tg_c.specs.declared.refusal.Refusal.TheVariants as refusal
 use Rattle.tg_c.specs.declared.forms.EdgeIn.{EdgeIn}
 use Rattle.tg_c.specs.declared.forms.LimitsIn.{LimitsIn}
 use Rattle.tg_c.specs.declared.forms.ValueIn.{ValueIn}
-use Rattle.tg_c.specs.Calls.{MayRefuse}
+use Rattle.tg_c.specs.Calls.{AreMet, IsRefusedFor, IsWant, demands_of}
 use Rattle.tg_c.specs.Forms.{edge_in, plan_of, value_in}
-use Rattle.tg_c.specs.Statuses.{of_open, of_opening}
+use Rattle.tg_c.specs.Statuses.{of_open, status_of}
+use Rattle.tg_c.proofs.PlanLaws.{no_fault, plan_is}
 
-of_plan : (workers : List ValueIn) (edges : List EdgeIn) (limits : LimitsIn) (why : OpeningFault) → IsFaultOf (plan_of workers edges limits.max_vertices) why → MayRefuse workers edges limits (of_opening why)
-of_plan workers edges limits fault.BadWorkers says = says
-of_plan workers edges limits fault.BadLimits says = inl says
-of_plan workers edges limits (fault.BadEdge at) says = (at, says)
-of_plan workers edges limits (fault.BadValues at) says = (at, says)
+-- all demands are met, and this is want of memory
+pub wants : {X : Type 0} (workers : List ValueIn) (edges : List EdgeIn) (limits : LimitsIn) (r : Result X Refusal) (why : Refusal)
+    → AreMet (demands_of workers edges limits) → r ≡ Err why → why ≡ refusal.OutOfMemory → IfErr r (IsRefusedFor workers edges limits)
+wants workers edges limits r why met is want = subst (λ s. IfErr s (IsRefusedFor workers edges limits)) (sym is) (inr (met, want))
 
-pub refused_plan : (workers : List ValueIn) (edges : List EdgeIn) (limits : LimitsIn) (values : List Value) (list : List Edge) (why : OpeningFault)
-    → values ≡ map value_in workers → list ≡ map edge_in edges
-    → IsFaultOf (record { workers = length workers; edges = list; values = values; limit = limits.max_vertices }) why → MayRefuse workers edges limits (of_opening why)
-refused_plan workers edges limits values list why same_values same_edges says =
-    of_plan workers edges limits why (subst (λ (p : Plan). IsFaultOf p why)
+pub want_else : (fault why : Refusal) (says : Type 0) → ¬ says → IsWant fault says why → why ≡ refusal.OutOfMemory
+want_else fault why says none (inl want) = want
+want_else fault why says none (inr told) = absurd (none told.1)
+
+pub not_done : (why : Refusal) → ¬ (status_of why ≡ 0)
+not_done refusal.NotOpen is = omega (arith, is)
+not_done refusal.AlreadyOpen is = omega (arith, is)
+not_done refusal.OutOfMemory is = omega (arith, is)
+not_done refusal.HeapFull is = omega (arith, is)
+not_done refusal.VerticesFull is = omega (arith, is)
+not_done refusal.NoSuchWorker is = omega (arith, is)
+not_done refusal.BadRights is = omega (arith, is)
+not_done refusal.BadLaw is = omega (arith, is)
+not_done refusal.BadKind is = omega (arith, is)
+not_done refusal.BadWorkers is = omega (arith, is)
+not_done refusal.BadLimits is = omega (arith, is)
+not_done refusal.BadEdge is = omega (arith, is)
+not_done refusal.BadValues is = omega (arith, is)
+not_done refusal.BadEntry is = omega (arith, is)
+
+pub no_plan_fault : (workers : List ValueIn) (edges : List EdgeIn) (limits : LimitsIn) (values : List Value) (list : List Edge) (why : OpeningFault)
+    → AreMet (demands_of workers edges limits) → values ≡ map value_in workers → list ≡ map edge_in edges
+    → IsFaultOf (record { workers = length workers; edges = list; values = values; limit = limits.max_vertices }) why → ⊥
+no_plan_fault workers edges limits values list why met same_values same_edges says =
+    no_fault (plan_of workers edges limits.max_vertices) why (plan_is workers edges limits met) (subst (λ (p : Plan). IsFaultOf p why)
     (ap (λ vs. record { workers = length workers; edges = list; values = vs; limit = limits.max_vertices }) same_values
     ∙ ap (λ es. record { workers = length workers; edges = es; values = map value_in workers; limit = limits.max_vertices }) same_edges) says)
 
-pub refused_store : (workers : List ValueIn) (edges : List EdgeIn) (limits : LimitsIn) (values drafts : List Value) (why : OpenFault)
-    → values ≡ drafts → ((at : ℕ) → why ≡ opened.PayloadMismatch at → IsFirstDifference values drafts at)
-    → (why ≡ opened.HeapFull → limits.max_blocks < length workers) → MayRefuse workers edges limits (of_open why)
-refused_store workers edges limits values drafts (opened.PayloadMismatch at) same mismatch full = absurd ((mismatch at refl).here (ap (λ xs. slice_get xs at) same))
-refused_store workers edges limits values drafts opened.OutOfMemory same mismatch full = tt
-refused_store workers edges limits values drafts opened.HeapFull same mismatch full = full refl
+pub store_wants : (values drafts : List Value) (blocks workers : ℕ) (why : OpenFault)
+    → values ≡ drafts → workers ≤ blocks → ((at : ℕ) → why ≡ opened.PayloadMismatch at → IsFirstDifference values drafts at)
+    → (why ≡ opened.HeapFull → blocks < workers) → of_open why ≡ refusal.OutOfMemory
+store_wants values drafts blocks workers (opened.PayloadMismatch at) same room mismatch full = absurd ((mismatch at refl).here (ap (λ xs. slice_get xs at) same))
+store_wants values drafts blocks workers opened.OutOfMemory same room mismatch full = refl
+store_wants values drafts blocks workers opened.HeapFull same room mismatch full = absurd (omega (arith, full refl))

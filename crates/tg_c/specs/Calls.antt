@@ -1,11 +1,10 @@
 -- What the calls of C do to a place and its store. Each but the opening is a call on a place: a closed one is refused
 -- as that, and on an open one the store's answer is told, of which the clauses of the store's own call hold.
-use Rattle.std.specs.Prelude.{◌≡◌, ◌≢◌, ◌↔◌, ◌⊎◌, ◌≤◌, ◌<◌, ◌+◌, ℕ, true, false, List, [], Some, Result, Ok, Err, IfOk, IfErr, OnOk, OnErr, length}
+use Rattle.std.specs.Prelude.{◌≡◌, ◌≢◌, ◌↔◌, ◌⊎◌, ◌≤◌, ◌+◌, ℕ, true, false, List, [], ◌∷◌, Some, Result, Ok, Err, IfOk, IfErr, OnOk, OnErr, length}
 use Rattle.tg_rights.specs.RightSet.{RightSet}
 use Rattle.tg_model.specs.Graph.{ProtectionGraph, IsSubject, IsReachable}
 use Rattle.tg_model.specs.Rules.{IsAllowed, step, answer_of}
-use Rattle.tg_model.specs.Opened.{IsFaultOf, start_of}
-use Rattle.tg_model.specs.declared.opening.OpeningFault.TheVariants as fault
+use Rattle.tg_model.specs.Opened.{HasLimits, HasWorkers, start_of}
 use Rattle.tg_model.specs.declared.command.Command.{Command}
 use Rattle.tg_model.specs.declared.command.Command.TheVariants as command
 use Rattle.tg_model.specs.declared.command.Deed.TheVariants.{Plain, Create}
@@ -22,13 +21,13 @@ use Rattle.tg_payload.specs.Table.{count}
 use Rattle.tg_graph.specs.Content.{IsNamed}
 use Rattle.tg_graph.specs.Heap.{content_of}
 use Rattle.tg_graph.specs.Kept.{VerticesOfOldStay}
-use Rattle.tg_graph.specs.Spots.{LacksCellsFor}
+use Rattle.tg_graph.specs.Spots.{IsMadeInRow, LacksCellsFor}
 use Rattle.tg_rules.specs.Effect.{AddsEdge, LacksCellsToServe}
 use Rattle.tg_evac.specs.declared.fault.CollectFault.{CollectFault}
 use Rattle.tg_evac.specs.declared.fault.CollectFault.TheVariants as collect
 use Rattle.tg_journal.specs.declared.replay.AuditFault.{AuditFault}
 use Rattle.tg_journal.specs.declared.replay.AuditFault.TheVariants as audit
-use Rattle.tg_store.specs.Store.{StoreState, StandsFor, Enters, OnlyEnters, IsCountOf, IsUnchanged}
+use Rattle.tg_store.specs.Store.{StoreState, StandsFor, Enters, HasFewBlocks, OnlyEnters, IsCountOf, IsUnchanged}
 use Rattle.tg_store.specs.declared.census.Census.{Census}
 use Rattle.tg_store.specs.declared.fault.ApplyFault.{ApplyFault}
 use Rattle.tg_store.specs.declared.fault.ApplyFault.TheVariants as apply
@@ -40,7 +39,7 @@ use Rattle.tg_c.specs.declared.refusal.Refusal.TheVariants as refusal
 use Rattle.tg_c.specs.declared.forms.EdgeIn.{EdgeIn}
 use Rattle.tg_c.specs.declared.forms.LimitsIn.{LimitsIn}
 use Rattle.tg_c.specs.declared.forms.ValueIn.{ValueIn}
-use Rattle.tg_c.specs.Forms.{AreValues, HaveLabels, plan_of}
+use Rattle.tg_c.specs.Forms.{AreValues, HaveLabels, JoinWorkers, plan_of}
 use Rattle.tg_c.specs.Statuses.{of_apply, of_audit, of_collect, of_create, refused_as, status_of}
 
 -- what the store in an open place holds
@@ -126,12 +125,14 @@ pub record Creates (worker : ℕ) (label : RightSet) (value : Value) (old new : 
   pub named : (g : ProtectionGraph) → StandsFor old g → IfOk answer (λ name. answer_of g worker (Create label value.law value.state) ≡ reply.Name name)
   pub next : (g : ProtectionGraph) → StandsFor old g → OnOk answer (StandsFor new (step g worker (Create label value.law value.state)))
   pub stored : IfOk answer (λ name. IsNamed (content_of new.heap) name × ((content_of new.heap).value name ≡ Some value))
+  pub placed : IfOk answer (λ name. IsMadeInRow old.heap.table new.heap.table old.heap.remembered new.heap.remembered (worker + 2) worker name label)
   pub no_such_worker : (g : ProtectionGraph) → StandsFor old g → (answer ≡ Err create.NoSuchWorker) ↔ (¬ IsSubject g worker)
   pub no_more : (g : ProtectionGraph) → StandsFor old g → answer ≡ Err create.VerticesFull → IsSubject g worker × (g.limit ≤ g.made)
   pub no_more_entry : answer ≡ Err create.VerticesFull → OnlyEnters old new worker (Create label value.law value.state) reply.VerticesFull
   pub full : (g : ProtectionGraph) → StandsFor old g → answer ≡ Err create.HeapFull →
       IsAllowed g worker (Create label value.law value.state) × LacksCellsFor old.heap.table (worker + 2) 1 worker g.made
   pub refused : IfErr answer (λ why. why ≢ create.VerticesFull → IsUnchanged old new)
+  pub same_graph : (g : ProtectionGraph) → StandsFor old g → OnErr answer (StandsFor new g)
   pub opening : new.opening ≡ old.opening
   pub limits : new.heap.table.limits ≡ old.heap.table.limits
 
@@ -147,6 +148,7 @@ pub record Collects (kind : Kind) (old new : StoreState) (answer : Result ℕ Co
   pub reachable : (g : ProtectionGraph) → StandsFor old g → IfOk answer (λ n. kind ≡ Full → IsCountOf (IsReachable g) n)
   pub only_old : OnOk answer (kind ≡ Full → (space : ℕ) → space ≢ 0 → space_of new.heap.table.spaces space ≡ [])
   pub no_nursery : OnOk answer ((space : ℕ) → 2 ≤ space → space_of new.heap.table.spaces space ≡ [])
+  pub blocks : OnOk answer (HasFewBlocks kind old.heap.table new.heap.table)
   pub stay : OnOk answer (kind ≡ Nursery → VerticesOfOldStay old.heap.table.spaces new.heap.table.spaces)
   pub entries : new.entries ≡ old.entries
   pub full : answer ≡ Err collect.HeapFull →
@@ -184,32 +186,48 @@ Audits old new = IsCall of_audit IsAudited old new
 
 -- ---- the opening
 
--- the store of an opening: it has no entry, and stands for the graph of what C asked for, all of which was as asked
+-- something that an opening asks for, and what is told where it doesn't hold
+pub record Demand : Type 1 where
+  pub holds : Type 0
+  pub told : Refusal
+
+abbrev pub demand : Type 0 → Refusal → Demand
+demand holds told = record { holds = holds; told = told }
+
+-- what an opening asks for, in the order in which it is looked at
+abbrev pub demands_of : List ValueIn → List EdgeIn → LimitsIn → List Demand
+demands_of workers edges limits =
+    demand (AreValues workers) refusal.BadLaw
+    ∷ demand (HaveLabels edges) refusal.BadRights
+    ∷ demand (HasWorkers (plan_of workers edges limits.max_vertices)) refusal.BadWorkers
+    ∷ demand (HasLimits (plan_of workers edges limits.max_vertices)) refusal.BadLimits
+    ∷ demand (JoinWorkers (length workers) edges) refusal.BadEdge
+    ∷ demand (AreLimits (limits_of limits.max_blocks limits.max_space_blocks)) refusal.BadLimits
+    ∷ demand (length workers ≤ limits.max_blocks) refusal.HeapFull
+    ∷ []
+
+abbrev pub AreMet : List Demand → Type 0
+AreMet [] = Unit {0}
+AreMet (d ∷ ds) = d.holds × AreMet ds
+
+-- this is told of the first that doesn't hold
+abbrev pub IsFirstUnmet : List Demand → Refusal → Type 0
+IsFirstUnmet [] why = ⊥
+IsFirstUnmet (d ∷ ds) why = ((¬ d.holds) × (why ≡ d.told)) ⊎ (d.holds × IsFirstUnmet ds why)
+
+-- why an opening is refused: by the first demand that isn't met; or all are met, and memory was wanting
+abbrev pub IsRefusedFor : List ValueIn → List EdgeIn → LimitsIn → Refusal → Type 0
+IsRefusedFor workers edges limits why =
+    IsFirstUnmet (demands_of workers edges limits) why
+    ⊎ (AreMet (demands_of workers edges limits) × (why ≡ refusal.OutOfMemory))
+
+-- The store of an opening, all of whose demands are met: it has no entry, and stands for the graph of what C asked for.
 pub record IsOpened (s : StoreState) (workers : List ValueIn) (edges : List EdgeIn) (limits : LimitsIn) : Type 0 where
-  pub values : AreValues workers
-  pub labels : HaveLabels edges
+  pub met : AreMet (demands_of workers edges limits)
   pub opening : s.opening ≡ plan_of workers edges limits.max_vertices
   pub stands : StandsFor s (start_of (plan_of workers edges limits.max_vertices))
   pub no_entry : s.entries ≡ []
   pub limits_kept : s.heap.table.limits ≡ limits_of limits.max_blocks limits.max_space_blocks
-
--- where an opening may be refused so
-abbrev pub MayRefuse : List ValueIn → List EdgeIn → LimitsIn → Refusal → Type 0
-MayRefuse workers edges limits refusal.BadLaw = ¬ AreValues workers
-MayRefuse workers edges limits refusal.BadRights = ¬ HaveLabels edges
-MayRefuse workers edges limits refusal.BadWorkers = IsFaultOf (plan_of workers edges limits.max_vertices) fault.BadWorkers
-MayRefuse workers edges limits refusal.BadLimits =
-    IsFaultOf (plan_of workers edges limits.max_vertices) fault.BadLimits ⊎ (¬ AreLimits (limits_of limits.max_blocks limits.max_space_blocks))
-MayRefuse workers edges limits refusal.BadEdge = (at : ℕ) × IsFaultOf (plan_of workers edges limits.max_vertices) (fault.BadEdge at)
-MayRefuse workers edges limits refusal.HeapFull = limits.max_blocks < length workers
-MayRefuse workers edges limits refusal.OutOfMemory = Unit {0}
-MayRefuse workers edges limits refusal.BadValues = (at : ℕ) × IsFaultOf (plan_of workers edges limits.max_vertices) (fault.BadValues at)
-MayRefuse workers edges limits refusal.NotOpen = ⊥
-MayRefuse workers edges limits refusal.AlreadyOpen = ⊥
-MayRefuse workers edges limits refusal.VerticesFull = ⊥
-MayRefuse workers edges limits refusal.NoSuchWorker = ⊥
-MayRefuse workers edges limits refusal.BadKind = ⊥
-MayRefuse workers edges limits refusal.BadEntry = ⊥
 
 -- the refusal is want of memory, or else this one, and then what it says holds
 abbrev pub IsWant : Refusal → Type 0 → Refusal → Type 0
@@ -221,6 +239,7 @@ IsStatusWhere which status = (why : Refusal) × which why × (status ≡ status_
 
 -- What an opening of C does to the place. Refused, it leaves the place as it was.
 pub record Opens (old new : Place) (workers : List ValueIn) (edges : List EdgeIn) (limits : LimitsIn) (status : ℕ) : Type 0 where
-  pub already_open : old.is_open ≡ true → (status ≡ status_of refusal.AlreadyOpen) × (new ≡ old)
+  pub already_open : old.is_open ≡ true → status ≡ status_of refusal.AlreadyOpen
   pub opened : status ≡ 0 → (new.is_open ≡ true) × IsOpened (state_in new) workers edges limits
-  pub refused : old.is_open ≡ false → status ≢ 0 → (new ≡ old) × IsStatusWhere (MayRefuse workers edges limits) status
+  pub refused : old.is_open ≡ false → status ≢ 0 → IsStatusWhere (IsRefusedFor workers edges limits) status
+  pub kept : status ≢ 0 → new ≡ old

@@ -11,7 +11,7 @@ use Rattle.tg_model.specs.declared.reply.Cause.TheVariants.{NotDistinct, Missing
 use Rattle.tg_model.specs.declared.edge.Edge.{Edge}
 use Rattle.tg_model.specs.declared.value.Value.{Value}
 use Rattle.tg_model.specs.declared.law.Law.TheVariants as law
-use Rattle.tg_model.specs.Opened.{Plan}
+use Rattle.tg_model.specs.Opened.{Plan, JoinsWorkers}
 use Rattle.tg_space.specs.declared.spaces.Kind.{Kind}
 use Rattle.tg_space.specs.declared.spaces.Kind.TheVariants.{Full, Nursery}
 use Rattle.tg_store.specs.declared.census.Census.{Census}
@@ -65,6 +65,10 @@ label_or_none None = no_rights
 
 abbrev pub edge_in : EdgeIn → Edge
 edge_in e = record { from = e.from; to = e.to; label = label_or_none (label_at e.rights) }
+
+-- each edge joins two different workers, of which there are so many
+abbrev pub JoinWorkers : ℕ → List EdgeIn → Type 0
+JoinWorkers workers edges = All (λ e. JoinsWorkers workers (edge_in e)) edges
 
 -- the opening that C asks for
 abbrev pub plan_of : List ValueIn → List EdgeIn → ℕ → Plan

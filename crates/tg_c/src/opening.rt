@@ -1,14 +1,78 @@
-//! What C hands in for an opening, as what the store takes.
-ghost use Rattle.std.specs.Prelude.{◌≡◌, IfOk, IfErr, map};
-ghost use Rattle.tg_c.specs.Calls.{IsWant};
-ghost use Rattle.tg_c.specs.Forms.{AreValues, HaveLabels, edge_in, value_in};
+//! What C hands in for an opening: whether it is as asked, and as what the store takes.
+ghost use Rattle.std.specs.Prelude.{◌≡◌, IfOk, IfErr, MatchResult, length, map};
+ghost use Rattle.tg_space.specs.SpaceTable.{limits_of};
+ghost use Rattle.tg_c.specs.Calls.{AreMet, IsFirstUnmet, IsWant, demands_of};
+ghost use Rattle.tg_c.specs.Forms.{AreValues, HaveLabels, JoinWorkers, edge_in, value_in};
 
-use crate::forms::{EdgeIn, ValueIn, label_of};
+use crate::forms::{EdgeIn, LimitsIn, ValueIn, label_of};
 use crate::payload::LawPayload;
 use crate::refusal::Refusal;
 use std::alloc::Global;
-use tg_model::{Edge, Value};
+use tg_model::{Edge, MAX_VERTICES, MAX_WORKERS, Value};
 use tg_payload::Draft;
+use tg_store::Limits;
+
+/// Looks at what an opening asks for, one demand after the other, and takes no memory. Where all are met the answer is the
+/// limits of the heap, and else what is told of the first that isn't.
+pub fn check_opening(
+    alloc: Global,
+    workers: &[ValueIn],
+    edges: &[EdgeIn],
+    limits: &LimitsIn,
+) -> Result<Limits, Refusal>
+    ensures met { IfOk result (λ blocks. AreMet (demands_of workers.now edges.now limits.now)
+        × (blocks ≡ limits_of limits.now.max_blocks limits.now.max_space_blocks)) }
+    ensures refused { IfErr result (IsFirstUnmet (demands_of workers.now edges.now limits.now)) }
+{
+    let count = workers.len() as u64;
+    check_values(alloc, workers)?;
+    check_rights(edges)?;
+    if count < 1 || MAX_WORKERS < count {
+        return Err(Refusal::BadWorkers);
+    }
+    let max_vertices = limits.max_vertices;
+    if max_vertices < 1 || MAX_VERTICES < max_vertices || max_vertices < count {
+        return Err(Refusal::BadLimits);
+    }
+    check_ends(count, edges)?;
+    let blocks = Limits::new(limits.max_blocks, limits.max_space_blocks)?;
+    if limits.max_blocks < count {
+        return Err(Refusal::HeapFull);
+    }
+    Ok(blocks)
+}
+
+// Whether each worker's value is one that a law has.
+fn check_values(alloc: Global, workers: &[ValueIn]) -> Result<(), Refusal>
+    ensures { MatchResult result (λ _. AreValues workers.now) (λ why. (¬ AreValues workers.now) × (why ≡ Refusal.BadLaw)) }
+{
+    for worker in workers {
+        worker.payload(alloc)?;
+    }
+    Ok(())
+}
+
+// Whether the bits of each edge are rights.
+fn check_rights(edges: &[EdgeIn]) -> Result<(), Refusal>
+    ensures { MatchResult result (λ _. HaveLabels edges.now) (λ why. (¬ HaveLabels edges.now) × (why ≡ Refusal.BadRights)) }
+{
+    for edge in edges {
+        label_of(edge.rights)?;
+    }
+    Ok(())
+}
+
+// Whether each edge joins two different workers, of which there are so many.
+fn check_ends(workers: u64, edges: &[EdgeIn]) -> Result<(), Refusal>
+    ensures { MatchResult result (λ _. JoinWorkers workers edges.now) (λ why. (¬ JoinWorkers workers edges.now) × (why ≡ Refusal.BadEdge)) }
+{
+    for edge in edges {
+        if edge.from == edge.to || workers <= edge.from || workers <= edge.to {
+            return Err(Refusal::BadEdge);
+        }
+    }
+    Ok(())
+}
 
 /// A draft for each worker, of what it is to store.
 pub fn drafts_in(alloc: Global, workers: &[ValueIn]) -> Result<Vec<Draft<LawPayload>>, Refusal>

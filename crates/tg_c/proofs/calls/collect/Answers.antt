@@ -16,6 +16,7 @@ returns c =
       reachable = told.reachable;
       only_old = told.only_old;
       no_nursery = told.no_nursery;
+      blocks = told.blocks;
       stay = told.stay;
       entries = told.entries;
       full = told.full;

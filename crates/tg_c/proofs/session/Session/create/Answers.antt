@@ -11,11 +11,13 @@ returns-in-Ok-create c =
       named = told.name;
       next = told.step;
       stored = told.stored;
+      placed = told.placed;
       no_such_worker = λ g stands. ((λ is. absurd (cc is)), λ none. absurd ((told.no_such_worker g stands).1 none));
       no_more = λ g stands is. absurd (cc is);
       no_more_entry = λ is. absurd (cc is);
       full = λ g stands is. absurd (cc is);
       refused = tt;
+      same_graph = λ g stands. tt;
       opening = told.opening;
       limits = told.limits;
     })
@@ -28,11 +30,13 @@ returns-in-Err c =
       named = λ g stands. tt;
       next = λ g stands. tt;
       stored = tt;
+      placed = tt;
       no_such_worker = λ g stands. ((λ is. (told.no_such_worker g stands).0 (cc is)), λ none. ap Err ((told.no_such_worker g stands).1 none));
       no_more = λ g stands is. told.no_more g stands (cc is);
       no_more_entry = λ is. told.no_more_entry (cc is);
       full = λ g stands is. told.full g stands (cc is);
       refused = told.refused;
+      same_graph = told.same_graph;
       opening = told.opening;
       limits = told.limits;
     })

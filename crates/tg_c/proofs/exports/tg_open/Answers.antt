@@ -1,0 +1,11 @@
+use Rattle.std.proofs.Common.{refl, ◌∙◌, sym}
+use Rattle.tg_c.proofs.OpenLaws.{not_done}
+use Rattle.tg_c.proofs.exports.tg_open.Goals as goal
+
+pub returns-in-Err : goal.returns-in-Err
+returns-in-Err c = record {
+  already_open = λ was. absurd (cc (was, c.if-store.false));
+  opened = λ done. absurd (not_done c.in-Err.refusal (sym c.status-in-Err.ensures ∙ done));
+  refused = λ was fails. (c.in-Err.refusal, c.in-Err.ensures.refused, c.status-in-Err.ensures);
+  kept = λ fails. refl;
+}
