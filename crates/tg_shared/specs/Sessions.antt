@@ -6,6 +6,7 @@ use Rattle.tg_model.specs.declared.reply.Reply.{Reply}
 use Rattle.tg_model.specs.Opened.{Plan}
 use Rattle.tg_space.specs.SpaceTable.{BlockLimits}
 use Rattle.tg_journal.specs.declared.entry.Entry.{Entry}
+use Rattle.tg_journal.specs.History.{IsLegalEntry}
 use Rattle.tg_store.specs.Store.{StoreState, Enters, IsFaithful, IsUnchanged, graph_of_store}
 use Rattle.tg_shared.specs.declared.receipt.Receipt.{Receipt}
 use Rattle.tg_shared.specs.Receipts.{ReceiptsMatch, receipt_of}
@@ -32,6 +33,10 @@ pub record Start : Type 0 where
 abbrev pub start_of_store : StoreState → Start
 start_of_store s = record { opening = s.opening; entries = s.entries; limits = s.heap.table.limits }
 
+-- how many sessions were made then: one for each subject of the opening
+abbrev pub sessions_made : Start → ℕ
+sessions_made start = start.opening.workers
+
 -- ---- what is behind the lock
 
 -- The store is the one that was shared, and has only gone on: opening and limits are as they were, and the journal begins
@@ -57,9 +62,12 @@ AddsReceipt old new at deed reply =
     (new.worker ≡ old.worker)
     × (new.receipts ≡ old.receipts ++ receipt_of at (record { worker = old.worker; deed = deed; reply = reply }) ∷ [])
 
--- the same, at some place
-abbrev pub HasReceipt : SessionState → SessionState → Deed → Reply → Type 0
-HasReceipt old new deed reply = (at : ℕ) × AddsReceipt old new at deed reply
+-- Exactly one receipt more, of an entry with this deed and this reply. The entry came next in the journal of a store that may
+-- have been behind the lock, and was legal there: the reply is the rules' answer on that store's graph.
+abbrev pub IsAnswered : Start → SessionState → SessionState → Deed → Reply → Type 0
+IsAnswered start old new deed reply =
+    AtSome start (λ s. AddsReceipt old new (length s.entries) deed reply
+    × IsLegalEntry (graph_of_store s) (record { worker = old.worker; deed = deed; reply = reply }))
 
 -- exactly one entry more, and exactly one receipt of it, at the place of the entry
 pub record Records (old new : StoreState) (before after : SessionState) (deed : Deed) (reply : Reply) : Type 0 where

@@ -1,7 +1,7 @@
 //! The calls of a session, each under the lock.
 ghost use Rattle.std.specs.Prelude.{◌≡◌, ◌≢◌, ◌≤◌, ◌+◌, ℕ, IfOk, IfErr, MatchResult, ⊤, length};
 ghost use Rattle.tg_model.specs.Graph.{IsReachable, IsSubject};
-ghost use Rattle.tg_model.specs.Rules.{IsAllowed, answer_of};
+ghost use Rattle.tg_model.specs.Rules.{IsAllowed};
 ghost use Rattle.tg_model.specs.declared.command.Deed.TheVariants.{Create, Plain};
 ghost use Rattle.tg_model.specs.declared.reply.Reply.TheVariants.{Name, VerticesFull};
 ghost use Rattle.tg_space.specs.Collection.{MayLackRoom, used_cells};
@@ -10,7 +10,7 @@ ghost use Rattle.tg_graph.specs.Heap.{content_of};
 ghost use Rattle.tg_graph.specs.Spots.{LacksCellsFor};
 ghost use Rattle.tg_rules.specs.Effect.{AddsEdge, LacksCellsToServe};
 ghost use Rattle.tg_store.specs.Store.{IsCountOf, graph_of_store};
-ghost use Rattle.tg_shared.specs.Sessions.{AtSome, HasReceipt, KeepsReceipts};
+ghost use Rattle.tg_shared.specs.Sessions.{AtSome, IsAnswered, KeepsReceipts};
 
 use crate::round::Round;
 use crate::session::Session;
@@ -29,9 +29,10 @@ impl<L: Round> Session<L> {
 
     /// Asks the shared store for a command of the session's subject, by one call of [`Locked::apply`](crate::Locked::apply)
     /// under the lock. Answers the reply, lent from the receipt: exactly one was added, with this command and this reply.
-    /// It is the rules' reply on the graph of a store that may have been behind the lock: the shared one, gone on. Where the
-    /// call is refused, the receipts stay, and of such a store the refusal was due: there was no such worker, or the command
-    /// was allowed and a cell was lacking. Want of memory may come at any call.
+    /// Its entry came next in the journal of a store that may have been behind the lock, the shared one, gone on, and was legal
+    /// there: the reply is the rules' on the graph of that store. Where the call is refused, the receipts stay, and of such a
+    /// store the refusal was due: there was no such worker, or the command was allowed and a cell was lacking. Want of memory
+    /// may come at any call.
     pub fn call<P: Payload, R: Wait>(
         &mut self,
         rt: &R,
@@ -39,8 +40,7 @@ impl<L: Round> Session<L> {
         command: Command,
     ) -> Result<&Reply, ApplyFault>
         ensures* receipt { sem 𝓛 (follows_so (the_row L.row (record { start = L.start }) L.Ledger) (the_row L.row (record { start = L.start }) L.Ledger) self.entry.ghost_name none (λ _ _. ⊤)
-            (λ after. MatchResult result (λ reply. HasReceipt self.old after (Plain command) reply.now) (λ _. KeepsReceipts self.old after))) }
-        ensures answered { IfOk result (λ reply. AtSome L.start (λ s. reply.now ≡ answer_of (graph_of_store s) self.old.worker (Plain command))) }
+            (λ after. MatchResult result (λ reply. IsAnswered L.start self.old after (Plain command) reply.now) (λ _. KeepsReceipts self.old after))) }
         ensures no_such_worker { IfErr result (λ why. why ≡ ApplyFault.NoSuchWorker → AtSome L.start (λ s. ¬ IsSubject (graph_of_store s) self.old.worker)) }
         ensures full { IfErr result (λ why. why ≡ ApplyFault.HeapFull → AtSome L.start (λ s.
             IsAllowed (graph_of_store s) self.old.worker (Plain command) × AddsEdge command × LacksCellsToServe s.heap.table self.old.worker command)) }
@@ -50,13 +50,15 @@ impl<L: Round> Session<L> {
         // for what is told of it: the shared store, gone on
         let _ = locked.store();
         locked.apply(self, command)?;
+        // and that the new entry is legal
+        let _ = locked.store();
         Ok(self.last_reply())
     }
 
     /// Makes a vertex of the session's subject, by one call of [`Locked::create`](crate::Locked::create) under the lock.
-    /// A name, and `VerticesFull`, have added exactly one receipt, with this create and that answer. Where the call is
-    /// refused otherwise, the receipts stay. Of a store that may have been behind the lock the name is the rules' answer,
-    /// and each refusal but want of memory is due. A refused draft is handed back.
+    /// A name, and `VerticesFull`, have added exactly one receipt, with this create and that answer. Its entry came next in the
+    /// journal of a store that may have been behind the lock, and was legal there. Where the call is refused otherwise, the
+    /// receipts stay, and of such a store the refusal was due, but for want of memory. A refused draft is handed back.
     pub fn create<P: Payload, R: Wait>(
         &mut self,
         rt: &R,
@@ -64,13 +66,10 @@ impl<L: Round> Session<L> {
         label: Label,
         draft: Draft<P>,
     ) -> Result<u64, CreateRefused<P>>
-        ensures receipt { IfOk result (λ name. HasReceipt self.old self.new (Create label draft.law draft.state) (Name name)) }
-        ensures full { IfErr result (λ refused. refused.why ≡ CreateFault.VerticesFull → HasReceipt self.old self.new (Create label draft.law draft.state) VerticesFull) }
+        ensures receipt { IfOk result (λ name. IsAnswered L.start self.old self.new (Create label draft.law draft.state) (Name name)) }
+        ensures full { IfErr result (λ refused. refused.why ≡ CreateFault.VerticesFull → IsAnswered L.start self.old self.new (Create label draft.law draft.state) VerticesFull) }
         ensures refused { IfErr result (λ refused. refused.why ≢ CreateFault.VerticesFull → KeepsReceipts self.old self.new) }
-        ensures named { IfOk result (λ name. AtSome L.start (λ s. answer_of (graph_of_store s) self.old.worker (Create label draft.law draft.state) ≡ Name name)) }
         ensures no_such_worker { IfErr result (λ refused. refused.why ≡ CreateFault.NoSuchWorker → AtSome L.start (λ s. ¬ IsSubject (graph_of_store s) self.old.worker)) }
-        ensures no_more { IfErr result (λ refused. refused.why ≡ CreateFault.VerticesFull → AtSome L.start (λ s.
-            IsSubject (graph_of_store s) self.old.worker × ((graph_of_store s).limit ≤ (graph_of_store s).made))) }
         ensures heap_full { IfErr result (λ refused. refused.why ≡ CreateFault.HeapFull → AtSome L.start (λ s.
             IsAllowed (graph_of_store s) self.old.worker (Create label draft.law draft.state)
             × LacksCellsFor s.heap.table (self.old.worker + 2) 1 self.old.worker (graph_of_store s).made)) }
@@ -84,7 +83,9 @@ impl<L: Round> Session<L> {
         }
         let mut locked = store.locked.lock(rt);
         let _ = locked.store();
-        locked.create(self, label, draft)
+        let created = locked.create(self, label, draft);
+        let _ = locked.store();
+        created
     }
 
     /// Collects the heap of the shared store, by one call of [`Locked::collect`](crate::Locked::collect) under the lock,

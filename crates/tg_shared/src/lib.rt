@@ -33,6 +33,7 @@
 
 mod call;
 mod closing;
+mod helpers;
 pub mod laws;
 mod locked;
 mod receipt;
@@ -47,3 +48,4 @@ pub use receipt::{Receipt, receipts_match};
 pub use round::Round;
 pub use session::Session;
 pub use shared::{CloseRefused, Shared, SharedRefused, SharedStore, close};
+pub use tg_helpers::HelpersFault;

@@ -29,13 +29,13 @@ pub struct Locked<L: Round, P: Payload> {
 
 impl<L: Round, P: Payload> Model for Locked<L, P> {
     ghost use Rattle.std.specs.Prelude.{◌≡◌, length};
-    ghost use Rattle.tg_shared.specs.Sessions.{GoesOn, IsBalanced, LockedState};
+    ghost use Rattle.tg_shared.specs.Sessions.{GoesOn, IsBalanced, LockedState, sessions_made};
 
     ghost Value = { LockedState };
 
     ghost view = { λ a. record { store = a.store; sessions = a.sessions } };
 
-    ghost invariant = { λ a. IsBalanced a.store (length L.start.entries) a.sessions a.book.total a.rest.parts L.parts × (a.start ≡ length L.start.entries) × (a.rest.amount ≡ 0) × GoesOn L.start a.store };
+    ghost invariant = { λ a. IsBalanced a.store (length L.start.entries) a.sessions a.book.total a.rest.parts L.parts × (a.start ≡ length L.start.entries) × (a.rest.amount ≡ 0) × GoesOn L.start a.store × (a.sessions ≡ sessions_made L.start) };
 }
 
 impl<L: Round, P: Payload> Locked<L, P> {
@@ -50,17 +50,18 @@ impl<L: Round, P: Payload> Locked<L, P> {
     ghost use Rattle.tg_graph.specs.Spots.{IsMadeInRow, LacksCellsFor};
     ghost use Rattle.tg_graph.specs.Kept.{VerticesOfOldStay};
     ghost use Rattle.tg_rules.specs.Effect.{AddsEdge, LacksCellsToServe};
-    ghost use Rattle.tg_store.specs.Store.{IsCountOf, IsFaithful, StandsFor};
-    ghost use Rattle.tg_shared.specs.Sessions.{AreFresh, GoesOn, Records, RecordsNothing, start_of_store};
+    ghost use Rattle.tg_store.specs.Store.{HasFewBlocks, IsCountOf, IsFaithful, StandsFor};
+    ghost use Rattle.tg_shared.specs.Sessions.{AreFresh, GoesOn, Records, RecordsNothing, sessions_made, start_of_store};
 
     /// The store. What holds whenever the lock is free is told here: the store's own promise, that its journal is a legal
     /// history of its opening and its heap stands for the graph after it; and it is the store that was shared, gone on: with its
-    /// opening and its limits, and with all entries from before.
+    /// opening and its limits, and with all entries from before. One session was made for each subject that it had.
     pub fn store(&self) -> &Store<P>
         ensures same { result.now ≡ self.now.store }
         ensures faithful { IsFaithful self.now.store }
         ensures gone_on { GoesOn L.start self.now.store }
         ensures grown { length L.start.entries ≤ length self.now.store.entries }
+        ensures sessions { self.now.sessions ≡ sessions_made L.start }
     {
         let _ = self.store.journal();
         &self.store
@@ -189,6 +190,7 @@ impl<L: Round, P: Payload> Locked<L, P> {
         ensures reachable { (g : ProtectionGraph) → StandsFor self.old.store g → IfOk result (λ number. kind ≡ Kind.Full → IsCountOf (IsReachable g) number) }
         ensures only_old { OnOk result (kind ≡ Kind.Full → (space : ℕ) → space ≢ 0 → space_of self.new.store.heap.table.spaces space ≡ []) }
         ensures no_nursery { OnOk result ((space : ℕ) → 2 ≤ space → space_of self.new.store.heap.table.spaces space ≡ []) }
+        ensures blocks { OnOk result (HasFewBlocks kind self.old.store.heap.table self.new.store.heap.table) }
         ensures stay { OnOk result (kind ≡ Kind.Nursery → VerticesOfOldStay self.old.store.heap.table.spaces self.new.store.heap.table.spaces) }
         ensures entries { self.new.store.entries ≡ self.old.store.entries }
         ensures full { result ≡ Err CollectFault.HeapFull →

@@ -1,7 +1,7 @@
 //! The store behind its lock, from sharing it to closing it.
-ghost use Rattle.std.specs.Prelude.{◌≡◌, ◌+◌, IfOk, IfErr, drop, length};
+ghost use Rattle.std.specs.Prelude.{◌≡◌, ◌↔◌, ◌<◌, ◌+◌, IfOk, IfErr, IsErrAnd, OnOk, drop, length};
 ghost use Rattle.tg_store.specs.Store.{IsFaithful};
-ghost use Rattle.tg_shared.specs.Sessions.{AreFresh, AreSharedOut, AtSome, GoesOn, MayClose, count_of};
+ghost use Rattle.tg_shared.specs.Sessions.{AreFresh, AreSharedOut, AtSome, GoesOn, MayClose, count_of, sessions_made};
 
 use crate::closing::{CloseFault, LockedRefused};
 use crate::locked::Locked;
@@ -75,9 +75,9 @@ impl<L: Round, P: Payload> SharedStore<L, P> {
 /// them, and the receipts of each session are all its entries, in their order. It is the store that was shared, with its
 /// opening, its limits and the entries that it had.
 ///
-/// `SessionsMissing` is answered where there are fewer sessions than were made, and looked for first; `ReceiptMismatch`
-/// only where the sessions may not close with some journal that may have been behind the lock. Store and sessions then come
-/// back. Takes no memory, and no lock is waited for.
+/// `SessionsMissing` is answered exactly where there are fewer sessions than were made, and looked for first;
+/// `ReceiptMismatch` only where the sessions may not close with some journal that may have been behind the lock. Store and
+/// sessions then come back. Takes no memory, and no lock is waited for.
 pub fn close<L: Round, P: Payload>(
     store: SharedStore<L, P>,
     sessions: Vec<Session<L>>,
@@ -87,11 +87,16 @@ pub fn close<L: Round, P: Payload>(
     ensures shared_out { IfOk result (λ store. AreSharedOut (drop (length L.start.entries) store.entries) sessions.items) }
     ensures faithful { IfOk result IsFaithful }
     ensures gone_on { IfOk result (GoesOn L.start) }
+    ensures all { OnOk result (length sessions.items ≡ sessions_made L.start) }
+    ensures missing { IsErrAnd result (λ refused. refused.why ≡ CloseFault.SessionsMissing) ↔ (length sessions.items < sessions_made L.start) }
     ensures mismatch { IfErr result (λ refused. refused.why ≡ CloseFault.ReceiptMismatch → AtSome L.start (λ s. ¬ MayClose s.entries (length L.start.entries) sessions.items)) }
     ensures handed_back { IfErr result (λ refused. refused.sessions.items ≡ sessions.items) }
 {
     let SharedStore { locked } = store;
-    match locked.into_inner().close(sessions) {
+    let locked = locked.into_inner();
+    // for what is told of it: the shared store, gone on, and how many sessions were made
+    let _ = locked.store();
+    match locked.close(sessions) {
         Ok(store) => {
             let _ = store.journal();
             Ok(store)
@@ -102,7 +107,6 @@ pub fn close<L: Round, P: Payload>(
                 sessions,
                 why,
             } = refused;
-            let _ = locked.store();
             let store = SharedStore {
                 locked: Mutex::new(locked),
             };

@@ -36,4 +36,5 @@ invariant_of-self-2 g c = (
   c.self.invariant.1,
   c.self.invariant.2,
   goes_on_entered _ _ _ _ _ _ c.self.invariant.3 c.in_ok-reply.ensures.entry c.apply.ensures.opening c.apply.ensures.limits,
+  c.self.invariant.4,
 )

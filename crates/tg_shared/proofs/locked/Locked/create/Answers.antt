@@ -17,12 +17,14 @@ invariant_of-self-2 g c =
         c.self.invariant.1,
         c.self.invariant.2,
         goes_on_entered _ _ _ _ _ _ c.self.invariant.3 (IfOk-at_ok _ w.in-Ok.is c.create-created.ensures.entry) c.create-created.ensures.opening c.create-created.ensures.limits,
+        c.self.invariant.4,
       )
       | in-Err-VerticesFull w ↦ (
         balanced_entered _ _ _ _ _ _ _ _ _ _ _ c.self.invariant.0 (IfErr-at_err _ w.in-Err-VerticesFull.is c.create-created.ensures.no_more_entry (search rules)).entry c.create-created.ensures.opening c.note.ensures.book,
         c.self.invariant.1,
         c.self.invariant.2,
         goes_on_entered _ _ _ _ _ _ c.self.invariant.3 (IfErr-at_err _ w.in-Err-VerticesFull.is c.create-created.ensures.no_more_entry (search rules)).entry c.create-created.ensures.opening c.create-created.ensures.limits,
+        c.self.invariant.4,
       )
     ]
 

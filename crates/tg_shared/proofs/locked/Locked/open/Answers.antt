@@ -30,6 +30,7 @@ invariant_of-locked g c =
       start,
       c.in-Ok.ensures.rest.1,
       goes_on_start g.L.Round.start c.args.store c.requires.start,
+      workers ∙ ap (λ (s : Start). s.opening.workers) c.requires.start,
     )
 
 pub returns-clause-sessions : goal.returns-clause-sessions

@@ -2,13 +2,14 @@ use Rattle.std.proofs.Common.{List, ℕ, ◌≡◌, ◌∙◌, ◌∷◌, [], le
 use Rattle.tg_model.specs.declared.command.Deed.TheVariants.{Plain}
 use Rattle.tg_model.specs.Graph.{IsSubject, ProtectionGraph}
 use Rattle.tg_model.specs.Rules.{Permits, answer_of}
-use Rattle.tg_store.specs.Store.{StoreState, graph_of_store}
+use Rattle.tg_store.specs.Store.{StoreState, IsFaithful, graph_of_store}
 use Rattle.tg_shared.specs.declared.receipt.Receipt.{Receipt}
 use Rattle.tg_shared.specs.Receipts.{receipt_of}
 use Rattle.std.proofs.lemmas.Result.{err_from_is_err_and}
 use Rattle.tg_rules.specs.Effect.{AddsEdge, LacksCellsToServe}
-use Rattle.tg_shared.proofs.Calls.{err_here, found, kept, ok_none, refused_here}
-use Rattle.tg_shared.proofs.Replies.{added}
+use Rattle.tg_shared.specs.Sessions.{LockedState}
+use Rattle.tg_shared.proofs.Calls.{err_here, found, kept, refused_here}
+use Rattle.tg_shared.proofs.Replies.{answered}
 use Rattle.tg_shared.proofs.session.Session.call.Goals as goal
 
 pub last_reply-requires : goal.last_reply-requires
@@ -19,20 +20,13 @@ last_reply-requires g c =
 
 pub returns : goal.returns
 returns g c =
-    let graph : ProtectionGraph = graph_of_store c.deref_mut.result.now.store in
-    let adds = (c.in_ok-apply.ensures.entry graph refl).receipt in
-    let shown = c.last_reply.ensures _ _ adds.1 in (
-      (refl, (λ _. tt), added c.args.self.now c.make_room.new.self c.apply.new.session (length c.deref_mut.result.now.store.entries) (Plain c.args.command) (answer_of graph c.make_room.new.self.worker (Plain c.args.command)) c.last_reply.result.now c.in_ok-make_room.ensures.receipts adds shown),
-      record {
-        receipt = tt;
-        answered =
-            let s : StoreState = c.deref_mut.result.now.store in
-            let held = found g.L.Round.start c.deref.result.now c.deref_mut.result.now (c.deref.ensures ∙ sym c.deref_mut.ensures.value) c.store.ensures.gone_on c.store.ensures.faithful in
-            let worker : c.make_room.new.self.worker ≡ c.args.self.now.worker = c.in_ok-make_room.ensures.receipts.0 in
-            (s, held.0, held.1, subst (λ (w : ℕ). c.last_reply.result.now ≡ answer_of (graph_of_store s) w (Plain c.args.command)) worker shown);
-        no_such_worker = tt;
-        full = tt;
-      },
+    let s : StoreState = c.deref_mut.result.now.store in
+    let records = c.in_ok-apply.ensures.entry (graph_of_store s) refl in
+    let shown = c.last_reply.ensures _ _ records.receipt.1 in
+    let held = found g.L.Round.start c.deref.result.now c.deref_mut.result.now (c.deref.ensures ∙ sym c.deref_mut.ensures.value) c.store.ensures.gone_on c.store.ensures.faithful in
+    let after : IsFaithful c.apply.new.self.store = subst (λ (b : LockedState). IsFaithful b.store) c.deref-2.ensures c.store-2.ensures.faithful in (
+      (refl, (λ _. tt), answered g.L.Round.start s c.apply.new.self.store c.args.self.now c.make_room.new.self c.apply.new.session (Plain c.args.command) _ c.last_reply.result.now held.0 held.1 c.in_ok-make_room.ensures.receipts records c.apply.ensures.opening after shown),
+      record { receipt = tt; no_such_worker = tt; full = tt },
     )
 
 pub returns-in_err-apply : goal.returns-in_err-apply
@@ -46,7 +40,6 @@ returns-in_err-apply g c =
       (refl, (λ _. tt), refused_here answer given.0 _ _ given.1 (kept c.args.self.now c.make_room.new.self c.apply.new.session c.in_ok-make_room.ensures.receipts keeps)),
       record {
         receipt = tt;
-        answered = ok_none answer given.0 _ given.1;
         no_such_worker = err_here answer given.0 _ given.1 (λ why. (s, held.0, held.1, subst (λ (w : ℕ). ¬ IsSubject (graph_of_store s) w) worker ((c.in_err-apply.ensures.no_such_worker (graph_of_store s) refl).0 (cc (why, given.1, given.2)))));
         full = err_here answer given.0 _ given.1 (λ why. (s, held.0, held.1, subst (λ (w : ℕ). Permits (graph_of_store s).label w c.args.command × AddsEdge c.args.command × LacksCellsToServe s.heap.table w c.args.command) worker (c.in_err-apply.ensures.full (graph_of_store s) refl (cc (why, given.1, given.2)))));
       },

@@ -1,0 +1,85 @@
+//! Collections of the shared store by several helpers.
+ghost use Rattle.std.specs.Prelude.{◌≡◌, ◌≢◌, ◌↔◌, ◌≤◌, ℕ, [], Err, IfOk, IfErr, OnErr, OnOk, length};
+ghost use Rattle.tg_model.specs.Graph.{ProtectionGraph, IsReachable};
+ghost use Rattle.tg_space.specs.Collection.{MayLackRoom, used_cells};
+ghost use Rattle.tg_space.specs.SpaceList.{space_of};
+ghost use Rattle.tg_space.specs.SpaceTable.{kept_blocks};
+ghost use Rattle.tg_graph.specs.Content.{IsNamed};
+ghost use Rattle.tg_graph.specs.Heap.{content_of};
+ghost use Rattle.tg_graph.specs.Kept.{VerticesOfOldStay};
+ghost use Rattle.tg_store.specs.Store.{IsCountOf, StandsFor, graph_of_store};
+ghost use Rattle.tg_shared.specs.Sessions.{AtSome};
+
+use crate::locked::Locked;
+use crate::round::Round;
+use crate::session::Session;
+use crate::shared::SharedStore;
+use std::alloc::Global;
+use std::sync::Wait;
+use std::thread::Threads;
+use tg_helpers::{HelpersFault, collect_with};
+use tg_payload::Payload;
+use tg_store::Kind;
+
+impl<L: Round, P: Payload> Locked<L, P> {
+    /// Collects the heap as [`collect`](Locked::collect) does, with as many helpers, from 1 to 8, by one call of
+    /// `tg_helpers::collect_with`. The journal stays as it is, and no session is touched.
+    pub fn collect_with<R: Threads + Wait + Sync>(
+        &mut self,
+        rt: &R,
+        alloc: Global,
+        kind: Kind,
+        helpers: u32,
+    ) -> Result<u64, HelpersFault>
+        requires some { 1 ≤ helpers }
+        requires few { helpers ≤ 8 }
+        ensures number { IfOk result (λ number. number ≡ length (content_of self.new.store.heap).names) }
+        ensures names { (g : ProtectionGraph) → StandsFor self.old.store g → OnOk result (kind ≡ Kind.Full → (x : ℕ) → IsNamed (content_of self.new.store.heap) x ↔ IsReachable g x) }
+        ensures reachable { (g : ProtectionGraph) → StandsFor self.old.store g → IfOk result (λ number. kind ≡ Kind.Full → IsCountOf (IsReachable g) number) }
+        ensures only_old { OnOk result (kind ≡ Kind.Full → (space : ℕ) → space ≢ 0 → space_of self.new.store.heap.table.spaces space ≡ []) }
+        ensures no_nursery { OnOk result ((space : ℕ) → 2 ≤ space → space_of self.new.store.heap.table.spaces space ≡ []) }
+        ensures stay { OnOk result (kind ≡ Kind.Nursery → VerticesOfOldStay self.old.store.heap.table.spaces self.new.store.heap.table.spaces) }
+        ensures entries { self.new.store.entries ≡ self.old.store.entries }
+        ensures full { result ≡ Err HelpersFault.HeapFull →
+            MayLackRoom self.old.store.heap.table.limits.space_blocks helpers (kept_blocks kind self.old.store.heap.table.spaces) (used_cells kind self.old.store.heap.table.spaces) }
+        ensures alone { helpers ≡ 1 → result ≢ Err HelpersFault.NoThread }
+        ensures refused { OnErr result (self.new ≡ self.old) }
+        ensures opening { self.new.store.opening ≡ self.old.store.opening }
+        ensures limits { self.new.store.heap.table.limits ≡ self.old.store.heap.table.limits }
+        ensures sessions { self.new.sessions ≡ self.old.sessions }
+    {
+        collect_with(rt, alloc, &mut self.store, kind, helpers)
+    }
+}
+
+impl<L: Round> Session<L> {
+    /// Collects the heap of the shared store as [`collect`](Session::collect) does, with as many helpers, from 1 to 8: one on
+    /// the calling thread, and each other on a thread of its own. It is one call of
+    /// [`Locked::collect_with`](crate::Locked::collect_with) under the lock, and all threads that were started have ended
+    /// before the lock is let go. Answers how many vertices the heap then has.
+    ///
+    /// Of a store that may have been behind the lock `HeapFull` was due, where each helper may leave a block open; `NoThread`
+    /// is answered where a thread couldn't be started, and never of one helper alone; else `OutOfMemory` alone. It makes no entry
+    /// and no receipt.
+    pub fn collect_with<P: Payload, R: Threads + Wait + Sync>(
+        &self,
+        rt: &R,
+        store: &SharedStore<L, P>,
+        kind: Kind,
+        helpers: u32,
+    ) -> Result<u64, HelpersFault>
+        requires some { 1 ≤ helpers }
+        requires few { helpers ≤ 8 }
+        ensures number { IfOk result (λ number. AtSome L.start (λ s.
+            (number ≡ length (content_of s.heap).names) × (kind ≡ Kind.Full → IsCountOf (IsReachable (graph_of_store s)) number))) }
+        ensures full { IfErr result (λ why. why ≡ HelpersFault.HeapFull → AtSome L.start (λ s.
+            MayLackRoom s.heap.table.limits.space_blocks helpers (kept_blocks kind s.heap.table.spaces) (used_cells kind s.heap.table.spaces))) }
+        ensures alone { helpers ≡ 1 → result ≢ Err HelpersFault.NoThread }
+    {
+        let mut locked = store.locked.lock(rt);
+        let _ = locked.store();
+        let left = locked.collect_with(rt, self.alloc(), kind, helpers)?;
+        let _ = locked.store();
+        Ok(left)
+    }
+}
