@@ -1,3 +1,7 @@
-pub mod RunLaws
 pub mod BringLaws
+pub mod FitLaws
 pub mod OneLaws
+pub mod OrderLaws
+pub mod RunLaws
+pub mod ShareLaws
+pub mod WeaveLaws

@@ -1,2 +1,3 @@
 pub mod Output
+pub mod Shares
 pub mod Tasks

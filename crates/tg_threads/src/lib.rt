@@ -11,13 +11,17 @@
 
 mod gate;
 pub mod laws;
+mod sharing;
 mod task;
 mod telling;
 mod threads;
+mod weaving;
 mod worker;
 
 pub use gate::{Gate, NoGate};
+pub use sharing::share_out;
 pub use task::{Task, Told, runner};
 pub use telling::tell_all;
 pub use threads::{ThreadsFault, Work, run_threads};
+pub use weaving::{in_script_order, sessions_of};
 pub use worker::Finished;
