@@ -1,8 +1,8 @@
-pub mod RunLaws
 pub mod BringLaws
-pub mod OneLaws
-pub mod ShareLaws
-pub mod OrderLaws
 pub mod FitLaws
-pub mod WeaveLaws
+pub mod OneLaws
+pub mod OrderLaws
 pub mod RaceLaws
+pub mod RunLaws
+pub mod ShareLaws
+pub mod WeaveLaws

@@ -1,0 +1,195 @@
+-- What the threads brought back, with the journal that the closed store has, is what a race may tell.
+use Rattle.std.proofs.Common.{◌≡◌, ◌≢◌, ◌<◌, ◌≤◌, ◌+◌, ◌==◌, ℕ, zero, suc, Bool, true, false, cond, List, [], ◌∷◌, length, map, filter, get_or, Some, None, slice_get, option_map, refl, sym, ap, ◌∙◌, subst, arith, ne_eqb, ⊎_elim}
+use Rattle.std.specs.List.{All, AllZip, count_by, range_with_len}
+use Rattle.std.proofs.lemmas.Bool.{cases_eq, cases_lt}
+use Rattle.std.proofs.lemmas.Option.{slice_get_within, slice_get-get_or, slice_get-map, get_or_from_slice_get}
+use Rattle.std.proofs.lemmas.List.{length-map}
+use Rattle.std.proofs.lemmas.List.Elements.{All-head, All-tail}
+use Rattle.std.proofs.lemmas.List.Sums.{sum_by-cons}
+use Rattle.std.proofs.lemmas.List.FromFn.{get_or-map-range_with_len, length-map-range_with_len, fill_by_all}
+use Rattle.tg_model.specs.declared.value.Value.{Value}
+use Rattle.tg_journal.specs.declared.entry.Entry.{Entry}
+use Rattle.tg_text.specs.declared.line.Line.{Line}
+use Rattle.tg_text.specs.declared.answer.Refusal.TheVariants as refusal
+use Rattle.tg_script.specs.Opening.{IsCommand}
+use Rattle.tg_shared.specs.declared.receipt.Receipt.{Receipt}
+use Rattle.tg_shared.specs.Receipts.{Stands}
+use Rattle.tg_shared.specs.Sessions.{SessionState, MatchesSince, MayClose, AreSharedOut}
+use Rattle.tg_threads.specs.declared.task.Told.{Told}
+use Rattle.tg_threads.specs.declared.task.Told.TheVariants as came
+use Rattle.tg_threads.specs.declared.worker.Finished.{Finished}
+use Rattle.tg_threads.specs.Output.{Boxed, HasEach, boxed, stock_behind}
+use Rattle.tg_threads.specs.Tasks.{runner_of, Runs, Brings, AllBring}
+use Rattle.tg_threads.specs.Shares.{is_run_by, lines_of, all_assigned, told_of, IsInScriptOrder, AreRaced}
+use Rattle.tg_threads.proofs.ShareLaws.{own_lines}
+use Rattle.tg_threads.proofs.OrderLaws.{count_of}
+use Rattle.tg_threads.proofs.FitLaws.{Fits, made_of, all_fit, woven, fit_told, fit_there, own_made, told_past}
+
+-- ---- what each thread brought
+
+pub bring_as_many : {L : Type 0} (given : List (ℕ × List Boxed)) (all : List (Finished L)) → AllBring given all → length all ≡ length given
+bring_as_many {L = L} [] all h = ap (λ (fs : List (Finished L)). length fs) h
+bring_as_many {L = L} (a ∷ given) all h = ap (λ (fs : List (Finished L)). length fs) h.2 ∙ ap suc (bring_as_many given h.1 h.4)
+
+brings_at : {L : Type 0} (given : List (ℕ × List Boxed)) (all : List (Finished L)) (k : ℕ) (a : ℕ × List Boxed) → AllBring given all → slice_get given k ≡ Some a →
+    (f : Finished L) × (slice_get all k ≡ Some f) × Brings a.0 a.1 f.session f.told.items
+brings_at [] all k a h at = absurd cc
+brings_at {L = L} (b ∷ given) all zero a h at =
+    let same : b ≡ a = cc in
+    (h.0, ap (λ (fs : List (Finished L)). slice_get fs 0) h.2, subst (λ (c : ℕ × List Boxed). Brings c.0 c.1 h.0.session h.0.told.items) same h.3)
+brings_at {L = L} (b ∷ given) all (suc k) a h at =
+    let more = brings_at given h.1 k a h.4 at in
+    (more.0, ap (λ (fs : List (Finished L)). slice_get fs (suc k)) h.2 ∙ more.1, more.2)
+
+-- worker x's thread ran its lines
+record IsBrought {L : Type 0} (workers : ℕ) (bs : List Boxed) (all : List (Finished L)) (x : ℕ) (f : Finished L) : Type 0 where
+  at : slice_get all x ≡ Some f
+  worker : f.session.worker ≡ x
+  runs : Runs workers (lines_of workers x bs) f.told.items f.session.receipts
+
+brought : {L : Type 0} (workers : ℕ) (bs : List Boxed) (all : List (Finished L)) → AllBring (all_assigned workers bs) all → (x : ℕ) → x < workers → (f : Finished L) × IsBrought workers bs all x f
+brought workers bs all h x low =
+    let as_given : ℕ → ℕ × List Boxed = λ y. (y, lines_of workers y bs) in
+    let long : length (all_assigned workers bs) ≡ workers = length-map-range_with_len as_given 0 workers in
+    let at : slice_get (all_assigned workers bs) x ≡ Some (as_given x) =
+    slice_get-get_or (all_assigned workers bs) x (0, []) (omega (arith, low, long)) ∙ ap (λ a. Some a) (get_or-map-range_with_len as_given 0 workers x x (0, []) low (omega arith)) in
+    let b = brings_at (all_assigned workers bs) all x (as_given x) h at in
+    let ran = b.2 workers low (own_lines workers x bs) in
+    (b.0, record { at = b.1; worker = ran.0; runs = ran.1 })
+
+-- ---- as many as there were lines
+
+runs_long : (workers : ℕ) (bs : List Boxed) (ts : List Told) (rs : List Receipt) → Runs workers bs ts rs → length ts ≡ length bs
+runs_long workers [] ts rs h = ap (λ (us : List Told). length us) h.0
+runs_long workers (b ∷ bs) ts rs h = ap (λ (us : List Told). length us) h.4 ∙ ap suc (runs_long workers bs h.1 h.3 h.7)
+
+pub lines_boxed : (stock : List Value) (lines : List Line) → map (λ b. b.line) (boxed stock lines) ≡ lines
+lines_boxed stock [] = refl
+lines_boxed stock (l ∷ lines) = ap (λ ls. l ∷ ls) (lines_boxed (stock_behind stock l) lines)
+
+one_long : {X Y : Type 0} (c : Bool) (x : X) (y : Y) (xs : List X) (ys : List Y) → length xs ≡ length ys → length (cond c (x ∷ xs) xs) ≡ length (cond c (y ∷ ys) ys)
+one_long true x y xs ys h = ap suc h
+one_long false x y xs ys h = h
+
+lines_long : (workers x : ℕ) (bs : List Boxed) → length (lines_of workers x bs) ≡ count_of workers x (map (λ b. b.line) bs)
+lines_long workers x [] = refl
+lines_long workers x (b ∷ bs) = one_long (is_run_by workers x b.line) b b.line (lines_of workers x bs) (filter (is_run_by workers x) (map (λ (c : Boxed). c.line) bs)) (lines_long workers x bs)
+
+map_at : {X Y : Type 0} (f : X → Y) (xs : List X) (k : ℕ) (x : X) (d : Y) → slice_get xs k ≡ Some x → get_or (map f xs) k d ≡ f x
+map_at f xs k x d at = get_or_from_slice_get (map f xs) k (f x) d (slice_get-map f xs k ∙ ap (option_map f) at)
+
+-- each thread brought as many as it was given lines
+pub each_told : {L : Type 0} (workers : ℕ) (stock : List Value) (lines : List Line) (all : List (Finished L)) → AllBring (all_assigned workers (boxed stock lines)) all →
+    map (λ f. length f.told.items) all ≡ map (λ x. length (filter (is_run_by workers x) lines)) (range_with_len 0 workers)
+each_told {L = L} workers stock lines all h =
+    let long_of : Finished L → ℕ = λ f. length f.told.items in
+    let bs = boxed stock lines in
+    fill_by_all (λ x. count_of workers x lines) (map long_of all) workers 0
+    (length-map all long_of ∙ bring_as_many (all_assigned workers bs) all h ∙ length-map-range_with_len (λ x. (x, lines_of workers x bs)) 0 workers)
+    (λ x low.
+    let b = brought workers bs all h x low in
+    map_at long_of all x b.0 0 b.1.at ∙ runs_long workers (lines_of workers x bs) b.0.told.items b.0.session.receipts b.1.runs
+    ∙ lines_long workers x bs ∙ ap (count_of workers x) (lines_boxed stock lines))
+
+-- ---- with the journal
+
+All_at : {X : Type 0} (P : X → Type 0) (xs : List X) (k : ℕ) (x : X) → All P xs → slice_get xs k ≡ Some x → P x
+All_at P xs k x all at = subst P (get_or_from_slice_get xs k x x at) (all k x (slice_get_within xs k x at))
+
+standing : (entries : List Entry) (start : ℕ) (s : SessionState) → MatchesSince entries start s → All (Stands entries s.worker) s.receipts
+unfolding MatchesSince
+standing entries start s matches = matches.0.standing
+
+-- what was told of worker x's lines fits them, and tells of its entries
+record IsOwn (workers : ℕ) (entries : List Entry) (bs : List Boxed) (x : ℕ) (ts : List Told) : Type 0 where
+  fits : AllZip (Fits workers entries) (lines_of workers x bs) ts
+  made : made_of entries ts ≡ filter (λ e. e.worker == x) entries
+
+own_of : {L : Type 0} (workers start x : ℕ) (entries : List Entry) (bs : List Boxed) (all : List (Finished L)) (f : Finished L) → IsBrought workers bs all x f →
+    All (MatchesSince entries start) (map (λ f. f.session) all) → All (λ s. map (λ r. r.entry) s.receipts ≡ filter (λ e. e.worker == s.worker) entries) (map (λ f. f.session) all) →
+    IsOwn workers entries bs x f.told.items
+own_of {L = L} workers start x entries bs all f b matching own =
+    let session : Finished L → SessionState = λ g. g.session in
+    let at : slice_get (map session all) x ≡ Some f.session = slice_get-map session all x ∙ ap (option_map session) b.at in
+    let stands = standing entries start f.session (All_at (MatchesSince entries start) (map session all) x f.session matching at) in
+    let fit = all_fit workers f.session.worker entries (lines_of workers x bs) f.told.items f.session.receipts b.runs stands in
+    record {
+      fits = fit.0;
+      made = fit.1 ∙ All_at (λ s. map (λ (r : Receipt). r.entry) s.receipts ≡ filter (λ e. e.worker == s.worker) entries) (map session all) x f.session own at
+          ∙ ap (λ w. filter (λ e. e.worker == w) entries) b.worker;
+    }
+
+-- ---- the journal has no entry of a worker that there isn't
+
+count_none : (w : ℕ) (sessions : List SessionState) → All (λ s. s.worker ≢ w) sessions → count_by (λ s. s.worker == w) sessions ≡ 0
+count_none w [] others = refl
+count_none w (s ∷ sessions) others =
+    sum_by-cons (λ s. cond (s.worker == w) 1 0) s sessions
+    ∙ (λ i. cond (ne_eqb s.worker w (All-head (λ s. s.worker ≢ w) s sessions others) i) 1 0 + count_none w sessions (All-tail (λ s. s.worker ≢ w) s sessions others) i)
+
+none_of : (x : ℕ) (entries : List Entry) (sessions : List SessionState) → All (λ e. count_by (λ s. s.worker == e.worker) sessions ≡ 1) entries → All (λ s. s.worker ≢ x) sessions → filter (λ e. e.worker == x) entries ≡ []
+none_of x [] sessions each others = refl
+none_of x (e ∷ entries) sessions each others = ⊎_elim
+    (λ (same : e.worker ≡ x).
+    let one : count_by (λ s. s.worker == e.worker) sessions ≡ 1 = All-head (λ e. count_by (λ s. s.worker == e.worker) sessions ≡ 1) e entries each in
+    let none : count_by (λ s. s.worker == e.worker) sessions ≡ 0 = ap (λ w. count_by (λ s. s.worker == w) sessions) same ∙ count_none x sessions others in
+    absurd (omega (arith, one, none)))
+    (λ (other : e.worker ≢ x).
+    ap (λ c. cond c (e ∷ filter (λ e. e.worker == x) entries) (filter (λ e. e.worker == x) entries)) (ne_eqb e.worker x other)
+    ∙ none_of x entries sessions (All-tail (λ e. count_by (λ s. s.worker == e.worker) sessions ≡ 1) e entries each) others)
+    (cases_eq e.worker x)
+
+others_past : {L : Type 0} (workers x : ℕ) (bs : List Boxed) (all : List (Finished L)) → AllBring (all_assigned workers bs) all → workers ≤ x → All (λ s. s.worker ≢ x) (map (λ f. f.session) all)
+others_past {L = L} workers x bs all h past = λ k d low.
+    let session : Finished L → SessionState = λ g. g.session in
+    let long : length all ≡ workers = bring_as_many (all_assigned workers bs) all h ∙ length-map-range_with_len (λ x. (x, lines_of workers x bs)) 0 workers in
+    let many : length (map session all) ≡ length all = length-map all session in
+    let below : k < workers = omega (arith, low, many, long) in
+    let b = brought workers bs all h k below in
+    let is : (get_or (map session all) k d).worker ≡ k = ap (λ (s : SessionState). s.worker) (map_at session all k b.0 d b.1.at) ∙ b.1.worker in
+    λ same. absurd (omega (arith, is, same, below, past))
+
+-- ---- the race
+
+own_race : {L : Type 0} (workers start : ℕ) (stock : List Value) (lines : List Line) (all : List (Finished L)) (ts : List Told) (entries : List Entry) →
+    AllBring (all_assigned workers (boxed stock lines)) all → IsInScriptOrder workers lines (map (λ f. f.told.items) all) ts →
+    MayClose entries start (map (λ f. f.session) all) → AreSharedOut entries (map (λ f. f.session) all) → (x : ℕ) → x < workers → IsOwn workers entries (boxed stock lines) x (told_of workers x lines ts)
+own_race {L = L} workers start stock lines all ts entries bring order closes shared x below =
+    let told : Finished L → List Told = λ f. f.told.items in
+    let b = brought workers (boxed stock lines) all bring x below in
+    let is : b.0.told.items ≡ told_of workers x lines ts =
+    sym (map_at told all x b.0 [] b.1.at) ∙ ap (λ l. get_or l x []) order.own ∙ get_or-map-range_with_len (λ y. told_of workers y lines ts) 0 workers x x [] below (omega arith) in
+    subst (IsOwn workers entries (boxed stock lines) x) is (own_of workers start x entries (boxed stock lines) all b.0 b.1 closes.matching shared.own)
+
+each_race : {L : Type 0} (workers : ℕ) (stock : List Value) (lines : List Line) (all : List (Finished L)) (ts : List Told) (entries : List Entry) → 0 < workers →
+    AllBring (all_assigned workers (boxed stock lines)) all → AreSharedOut entries (map (λ f. f.session) all) → AllZip (Fits workers entries) (boxed stock lines) ts →
+    ((x : ℕ) → x < workers → IsOwn workers entries (boxed stock lines) x (told_of workers x lines ts)) → HasEach entries (made_of entries ts)
+each_race {L = L} workers stock lines all ts entries low bring shared fits own = λ x.
+    let bs = boxed stock lines in
+    let told_same : told_of workers x lines ts ≡ told_of workers x (map (λ (b : Boxed). b.line) bs) ts = ap (λ ls. told_of workers x ls ts) (sym (lines_boxed stock lines)) in
+    let made = own_made workers entries x bs ts fits in
+    ⊎_elim
+    (λ (below : x < workers). sym (own x below).made ∙ ap (made_of entries) told_same ∙ sym made)
+    (λ (past : workers ≤ x).
+    none_of x entries (map (λ (f : Finished L). f.session) all) shared.each_of_one (others_past workers x bs all bring past)
+    ∙ sym (made ∙ ap (made_of entries) (sym told_same ∙ told_past workers x lines ts low past)))
+    (cases_lt x workers)
+
+-- What the lines came to in script order is what may be told of a race, where the store was closed with the sessions that the
+-- threads brought back.
+pub raced : {L : Type 0} (workers start : ℕ) (stock : List Value) (lines : List Line) (all : List (Finished L)) (ts : List Told) (entries : List Entry) → 0 < workers → All IsCommand lines →
+    AllBring (all_assigned workers (boxed stock lines)) all → IsInScriptOrder workers lines (map (λ f. f.told.items) all) ts →
+    MayClose entries start (map (λ f. f.session) all) → AreSharedOut entries (map (λ f. f.session) all) → AreRaced workers (boxed stock lines) entries ts
+raced {L = L} workers start stock lines all ts entries low commands bring order closes shared =
+    let bs = boxed stock lines in
+    let same : lines ≡ map (λ (b : Boxed). b.line) bs = sym (lines_boxed stock lines) in
+    let own = own_race workers start stock lines all ts entries bring order closes shared in
+    let fits = woven workers entries bs ts low (subst (All IsCommand) same commands)
+    (subst (λ ls. AllZip (λ l t. runner_of workers l ≡ None → t ≡ came.Refused refusal.Worker) ls ts) same order.nobodys)
+    (λ x below. subst (λ ls. AllZip (Fits workers entries) (lines_of workers x bs) (told_of workers x ls ts)) same (own x below).fits) in
+    record {
+      made = made_of entries ts;
+      told = fit_told workers entries bs ts fits;
+      each = each_race workers stock lines all ts entries low bring shared fits own;
+      there = fit_there workers entries bs ts fits;
+    }
