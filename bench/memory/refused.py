@@ -1,0 +1,114 @@
+#!/usr/bin/env python3
+"""refused.py [TEST ..]
+
+Runs each test of crates/memory_tests that has each request refused in turn, and then the program on three small scripts: once
+for every request that it makes, with that one refused. A request is a call for memory, or for the start of a thread. A test must
+pass; of the program what_is_wrong of runs.py is asked. In each run as many threads must be waited for as were started, and what
+holds memory at the end must be what holds it where nothing is refused. It prints how many requests there were, and
+stops at the first run that is wrong. It wants cc, and the test's and the program's outputs of `rt test` and `rt run`."""
+import os
+import re
+import struct
+import subprocess
+import sys
+import tempfile
+
+from runs import CRATES, HERE, MOST_SECONDS, PROGRAM, Run, WAYS, knows, listings, logs, rows, stop, what_is_wrong
+
+TESTS = os.path.join(CRATES, "memory_tests", "out", "memory_tests_tests")
+
+# The numbers of refuse.c.
+TOLD = struct.Struct("7q")
+
+SCRIPTS = [rows(24), listings(12, 6), logs(18, 6)]
+
+
+class Refuser:
+    """Has one request of a run refused, and reads what was met."""
+
+    def __init__(self, folder):
+        self.library = os.path.join(folder, "refuse.so")
+        self.tell = os.path.join(folder, "told")
+        source = os.path.join(HERE, "refuse.c")
+        subprocess.run(["cc", "-O2", "-fPIC", "-shared", "-o", self.library, source, "-ldl"], check=True)
+
+    def environment(self, at):
+        with open(self.tell, "wb") as file:
+            file.write(bytes(TOLD.size))
+        return {"LD_PRELOAD": self.library, "REFUSE_AT": str(at), "REFUSE_TELL": self.tell}
+
+    def told(self):
+        with open(self.tell, "rb") as file:
+            return Told(*TOLD.unpack(file.read()))
+
+
+class Told:
+    def __init__(self, requests, refused, starts, beside, held, started, joined):
+        self.requests = requests
+        self.refused = refused
+        self.starts = starts
+        self.beside = beside
+        self.held = held
+        self.started = started
+        self.joined = joined
+
+
+def try_each(name, refuser, run):
+    """Refuses each request of a run in turn; `run` says what is wrong with it, given the environment."""
+    refusals = starts = beside = 0
+    held = None
+    at = 0
+    while True:
+        wrong = run(refuser.environment(at))
+        told = refuser.told()
+        if not wrong and told.started != told.joined:
+            wrong = f"{told.started} threads were started and {told.joined} were waited for"
+        if held is None:
+            held = told.held
+        if not wrong and told.held != held:
+            wrong = f"{told.held} pieces of memory are held at the end, and {held} where nothing is refused"
+        if wrong:
+            stop(f"{name}, request {at} refused: {wrong}")
+        if at and not told.refused:
+            break
+        refusals += told.refused
+        starts += told.starts
+        beside += told.beside
+        at += 1
+    print(f"{name}: {refusals} requests, each refused once; {starts} were for a thread, and {beside} came from another thread than the first", flush=True)
+
+
+def of_test(test):
+    def run(environment):
+        done = subprocess.run([TESTS, test], stdout=subprocess.PIPE, stderr=subprocess.STDOUT, timeout=MOST_SECONDS, env=environment)
+        return None if done.returncode == 0 else f"status {done.returncode}: {done.stdout.decode()}"
+
+    return run
+
+
+def of_program(script, way):
+    def run(environment):
+        return what_is_wrong(script, way, Run(script, way, environment=environment))
+
+    return run
+
+
+def main():
+    wanted = sys.argv[1:]
+    listed = subprocess.run([TESTS, "--list"], stdout=subprocess.PIPE, check=True).stdout.decode()
+    tests = re.findall(r"[\w:]*refused\w*", listed)
+    with tempfile.TemporaryDirectory() as folder:
+        refuser = Refuser(folder)
+        for test in tests:
+            if not wanted or any(word in test for word in wanted):
+                try_each(test, refuser, of_test(test))
+        for way in WAYS if not wanted else []:
+            if not knows(way):
+                print(f"the program doesn't know {' '.join(way)}")
+                continue
+            for script in SCRIPTS:
+                try_each(f"tgstore {' '.join(way)} on {script.name}", refuser, of_program(script, way))
+
+
+if __name__ == "__main__":
+    main()
