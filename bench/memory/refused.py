@@ -1,11 +1,13 @@
 #!/usr/bin/env python3
-"""refused.py [TEST ..]
+"""refused.py [--tests FILE] [--program FILE] [WORD ..]
 
 Runs each test of crates/memory_tests that has each request refused in turn, and then the program on three small scripts: once
 for every request that it makes, with that one refused. A request is a call for memory, or for the start of a thread. A test must
-pass; of the program what_is_wrong of runs.py is asked. In each run as many threads must be waited for as were started, and what
-holds memory at the end must be what holds it where nothing is refused. It prints how many requests there were, and
-stops at the first run that is wrong. It wants cc, and the test's and the program's outputs of `rt test` and `rt run`."""
+pass; of the program what_is_wrong of runs.py is asked. In each run each thread that was started is joined, or let go where a
+scope waits for it; and with one thread as much memory must be given back as where nothing is refused. It prints how many requests there were, and
+stops at the first run that is wrong. With words, only what has one of them in its name is run. It wants cc, and what `rt test` and
+`rt run` leave, which may be given."""
+import argparse
 import os
 import re
 import struct
@@ -18,7 +20,7 @@ from runs import CRATES, HERE, MOST_SECONDS, PROGRAM, Run, WAYS, knows, listings
 TESTS = os.path.join(CRATES, "memory_tests", "out", "memory_tests_tests")
 
 # The numbers of refuse.c.
-TOLD = struct.Struct("7q")
+TOLD = struct.Struct("8q")
 
 SCRIPTS = [rows(24), listings(12, 6), logs(18, 6)]
 
@@ -43,7 +45,7 @@ class Refuser:
 
 
 class Told:
-    def __init__(self, requests, refused, starts, beside, held, started, joined):
+    def __init__(self, requests, refused, starts, beside, held, started, joined, detached):
         self.requests = requests
         self.refused = refused
         self.starts = starts
@@ -51,6 +53,7 @@ class Told:
         self.held = held
         self.started = started
         self.joined = joined
+        self.detached = detached
 
 
 def try_each(name, refuser, run):
@@ -61,11 +64,12 @@ def try_each(name, refuser, run):
     while True:
         wrong = run(refuser.environment(at))
         told = refuser.told()
-        if not wrong and told.started != told.joined:
-            wrong = f"{told.started} threads were started and {told.joined} were waited for"
+        if not wrong and told.started != told.joined + told.detached:
+            wrong = f"of {told.started} threads {told.joined} were joined and {told.detached} let go"
         if held is None:
             held = told.held
-        if not wrong and told.held != held:
+        # What the C library keeps for the next thread is held too.
+        if not wrong and told.held != held and not told.started:
             wrong = f"{told.held} pieces of memory are held at the end, and {held} where nothing is refused"
         if wrong:
             stop(f"{name}, request {at} refused: {wrong}")
@@ -78,36 +82,45 @@ def try_each(name, refuser, run):
     print(f"{name}: {refusals} requests, each refused once; {starts} were for a thread, and {beside} came from another thread than the first", flush=True)
 
 
-def of_test(test):
+def of_test(tests, test):
     def run(environment):
-        done = subprocess.run([TESTS, test], stdout=subprocess.PIPE, stderr=subprocess.STDOUT, timeout=MOST_SECONDS, env=environment)
+        done = subprocess.run([tests, test], stdout=subprocess.PIPE, stderr=subprocess.STDOUT, timeout=MOST_SECONDS, env=environment)
         return None if done.returncode == 0 else f"status {done.returncode}: {done.stdout.decode()}"
 
     return run
 
 
-def of_program(script, way):
+def of_program(program, script, way):
     def run(environment):
-        return what_is_wrong(script, way, Run(script, way, environment=environment))
+        return what_is_wrong(script, way, Run(script, way, environment=environment, program=program), program)
 
     return run
 
 
+def all_runs(tests, program):
+    """Each run that has its requests refused, with its name."""
+    listed = subprocess.run([tests, "--list"], stdout=subprocess.PIPE, check=True).stdout.decode()
+    for test in re.findall(r"[\w:]*refused\w*", listed):
+        yield test, of_test(tests, test)
+    for way in WAYS:
+        if not knows(way, program):
+            print(f"the program doesn't know {' '.join(way)}")
+            continue
+        for script in SCRIPTS:
+            yield " ".join(["tgstore", *way, "on", script.name]), of_program(program, script, way)
+
+
 def main():
-    wanted = sys.argv[1:]
-    listed = subprocess.run([TESTS, "--list"], stdout=subprocess.PIPE, check=True).stdout.decode()
-    tests = re.findall(r"[\w:]*refused\w*", listed)
+    words = argparse.ArgumentParser()
+    words.add_argument("--tests", default=TESTS)
+    words.add_argument("--program", default=PROGRAM)
+    words.add_argument("words", nargs="*")
+    words = words.parse_args()
     with tempfile.TemporaryDirectory() as folder:
         refuser = Refuser(folder)
-        for test in tests:
-            if not wanted or any(word in test for word in wanted):
-                try_each(test, refuser, of_test(test))
-        for way in WAYS if not wanted else []:
-            if not knows(way):
-                print(f"the program doesn't know {' '.join(way)}")
-                continue
-            for script in SCRIPTS:
-                try_each(f"tgstore {' '.join(way)} on {script.name}", refuser, of_program(script, way))
+        for name, run in all_runs(words.tests, words.program):
+            if not words.words or any(word in name for word in words.words):
+                try_each(name, refuser, run)
 
 
 if __name__ == "__main__":

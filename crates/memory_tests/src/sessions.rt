@@ -138,19 +138,26 @@ fn share<L: Round, R: Wait>(
     }
 }
 
+// Shares the store with a blank of its own.
+fn share_once<R: Wait>(
+    rt: &R,
+    alloc: Global,
+    store: Store<LogPayload>,
+) -> Result<Option<(u64, u64, Store<LogPayload>)>, Store<LogPayload>> {
+    let blank = Blank::new(store.opening().max_vertices() + 1);
+    share::<Brand, R>(rt, alloc, blank, store)
+}
+
 // Shares the store, and again where that was refused.
 fn share_at_last<R: Wait>(
     rt: &R,
     alloc: Global,
     store: Store<LogPayload>,
 ) -> Option<(u64, u64, Store<LogPayload>)> {
-    let blank = Blank::new(store.opening().max_vertices() + 1);
-    let store = match share::<Brand, R>(rt, alloc, blank, store) {
-        Ok(seen) => return seen,
-        Err(store) => store,
-    };
-    let blank = Blank::new(store.opening().max_vertices() + 1);
-    share::<Brand, R>(rt, alloc, blank, store).ok()?
+    match share_once(rt, alloc, store) {
+        Ok(seen) => seen,
+        Err(store) => share_once(rt, alloc, store).ok()?,
+    }
 }
 
 // The number of the last collection, how many receipts and how many entries there are, and whether each entry is right.
