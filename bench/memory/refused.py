@@ -1,13 +1,15 @@
 #!/usr/bin/env python3
 """refused.py [--tests FILE] [--program FILE] [WORD ..]
 
-Runs each test of crates/memory_tests that has each request refused in turn, and then the program on three small scripts: once
+Runs each test of crates/memory_tests that has each request refused in turn, and then the program on six small scripts: once
 for every request that it makes, with that one refused. A request is a call for memory, or for the start of a thread. A test must
 pass; of the program what_is_wrong of runs.py is asked. In each run each thread that was started is joined, or let go where a
 scope waits for it; and with one thread as much memory must be given back as where nothing is refused. It prints how many requests there were, and
 stops at the first run that is wrong. With words, only what has one of them in its name is run. It wants cc, and what `rt test` and
 `rt run` leave, which may be given."""
 import argparse
+import collections
+import itertools
 import os
 import re
 import struct
@@ -15,14 +17,15 @@ import subprocess
 import sys
 import tempfile
 
-from runs import CRATES, HERE, MOST_SECONDS, PROGRAM, Run, WAYS, knows, listings, logs, rows, stop, what_is_wrong
+from runs import CRATES, HERE, MOST_SECONDS, PROGRAM, Run, WAYS, knows, listings, log_and_sum_payloads, logs, old_cell_stays_remembered
+from runs import refused_lines, rows, stop, ten_edges_and_a_hole, what_is_wrong
 
 TESTS = os.path.join(CRATES, "memory_tests", "out", "memory_tests_tests")
 
 # The numbers of refuse.c.
 TOLD = struct.Struct("8q")
 
-SCRIPTS = [rows(24), listings(12, 6), logs(18, 6)]
+SCRIPTS = [ten_edges_and_a_hole(), old_cell_stays_remembered(), log_and_sum_payloads(), rows(24), listings(12, 6), logs(18, 6)]
 
 
 class Refuser:
@@ -56,43 +59,52 @@ class Told:
         self.detached = detached
 
 
+def what_is_left(told, held):
+    """Why threads or memory aren't as they have to be at the end, or None."""
+    if told.started != told.joined + told.detached:
+        return f"of {told.started} threads {told.joined} were joined and {told.detached} let go"
+    # What the C library keeps for the next thread is held too.
+    if told.held != held and not told.started:
+        return f"{told.held} pieces of memory are held at the end, and {held} where nothing is refused"
+    return None
+
+
 def try_each(name, refuser, run):
-    """Refuses each request of a run in turn; `run` says what is wrong with it, given the environment."""
-    refusals = starts = beside = 0
+    """Refuses each request of a run in turn; `run` answers what is wrong with it and how it ended, given the environment."""
+    starts = beside = 0
+    ends = collections.Counter()
     held = None
-    at = 0
-    while True:
-        wrong = run(refuser.environment(at))
+    for at in itertools.count():
+        wrong, end = run(refuser.environment(at))
         told = refuser.told()
-        if not wrong and told.started != told.joined + told.detached:
-            wrong = f"of {told.started} threads {told.joined} were joined and {told.detached} let go"
-        if held is None:
-            held = told.held
-        # What the C library keeps for the next thread is held too.
-        if not wrong and told.held != held and not told.started:
-            wrong = f"{told.held} pieces of memory are held at the end, and {held} where nothing is refused"
+        held = told.held if held is None else held
+        wrong = wrong or what_is_left(told, held)
         if wrong:
             stop(f"{name}, request {at} refused: {wrong}")
-        if at and not told.refused:
+        if told.refused:
+            ends[end] += 1
+            starts += told.starts
+            beside += told.beside
+        elif at:
             break
-        refusals += told.refused
-        starts += told.starts
-        beside += told.beside
-        at += 1
-    print(f"{name}: {refusals} requests, each refused once; {starts} were for a thread, and {beside} came from another thread than the first", flush=True)
+    ended = ", ".join(f"{count} {end}" for end, count in sorted(ends.items()))
+    print(f"{name}: {sum(ends.values())} requests ({starts} for a thread, {beside} from another thread than the first): {ended}", flush=True)
 
 
 def of_test(tests, test):
     def run(environment):
         done = subprocess.run([tests, test], stdout=subprocess.PIPE, stderr=subprocess.STDOUT, timeout=MOST_SECONDS, env=environment)
-        return None if done.returncode == 0 else f"status {done.returncode}: {done.stdout.decode()}"
+        wrong = f"status {done.returncode}: {done.stdout.decode()}" if done.returncode else None
+        return wrong, "passed"
 
     return run
 
 
 def of_program(program, script, way):
     def run(environment):
-        return what_is_wrong(script, way, Run(script, way, environment=environment, program=program), program)
+        done = Run(script, way, environment=environment, program=program)
+        end = "ended in status 1" if done.status else "refused a line" if refused_lines(done) else "were whole"
+        return what_is_wrong(script, way, done, program), end
 
     return run
 

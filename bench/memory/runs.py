@@ -64,6 +64,25 @@ def logs(vertices, writes):
     return Script("logs", 2, f"l{vertices}", ["edge 0 1 g", "edge 1 0 t"], lines)
 
 
+def ten_edges_and_a_hole():
+    """One edge among ten is given up, and the next takes its place."""
+    lines = ["0 create r"] * 10 + ["0 remove 4 r", "0 create w", "0 list", "full", "0 list"]
+    return Script("ten_edges_and_a_hole", 1, "c11", [], lines)
+
+
+def old_cell_stays_remembered():
+    """An old cell names a young vertex through two nursery collections."""
+    lines = ["0 create tg", "minor", "minor", "0 create r", "0 grant 1 2 r", "minor", "0 remove 2 r", "minor"]
+    return Script("old_cell_stays_remembered", 1, "c2", [], lines + ["0 take 1 2 r", "0 read 2", "full", "0 list"])
+
+
+def log_and_sum_payloads():
+    """A log that takes in more than it keeps, a denied write, and a sum that wraps around."""
+    lines = ["0 create rw", "0 create rw", "0 read 2", "0 write 2 1", "0 write 2 2", "1 write 2 9", "0 write 2 3"]
+    lines += ["0 write 2 4", "0 write 2 5", "0 read 2", "0 write 3 18446744073709551615", "0 write 3 1", "0 read 3"]
+    return Script("log_and_sum_payloads", 2, "ls", [], lines)
+
+
 class Run:
     """A run of the program that has ended."""
 
