@@ -1,0 +1,139 @@
+#!/usr/bin/env python3
+"""refused.py [--tests FILE] [--program FILE] [WORD ..]
+
+Runs each test of crates/memory_tests that has each request refused in turn, and then the program on six small scripts: once
+for every request that it makes, with that one refused. A request is a call for memory, or for the start of a thread. A test must
+pass; of the program what_is_wrong of runs.py is asked. In each run each thread that was started is joined, or let go where a
+scope waits for it; and with one thread as much memory must be given back as where nothing is refused. It prints how many requests there were, and
+stops at the first run that is wrong. With words, only what has one of them in its name is run. It wants cc, and what `rt test` and
+`rt run` leave, which may be given."""
+import argparse
+import collections
+import itertools
+import os
+import re
+import struct
+import subprocess
+import sys
+import tempfile
+
+from runs import CRATES, HERE, MOST_SECONDS, PROGRAM, Run, WAYS, knows, listings, log_and_sum_payloads, logs, old_cell_stays_remembered
+from runs import refused_lines, rows, stop, ten_edges_and_a_hole, what_is_wrong
+
+TESTS = os.path.join(CRATES, "memory_tests", "out", "memory_tests_tests")
+
+# The numbers of refuse.c.
+TOLD = struct.Struct("8q")
+
+SCRIPTS = [ten_edges_and_a_hole(), old_cell_stays_remembered(), log_and_sum_payloads(), rows(24), listings(12, 6), logs(18, 6)]
+
+
+class Refuser:
+    """Has one request of a run refused, and reads what was met."""
+
+    def __init__(self, folder):
+        self.library = os.path.join(folder, "refuse.so")
+        self.tell = os.path.join(folder, "told")
+        source = os.path.join(HERE, "refuse.c")
+        subprocess.run(["cc", "-O2", "-fPIC", "-shared", "-o", self.library, source, "-ldl"], check=True)
+
+    def environment(self, at):
+        with open(self.tell, "wb") as file:
+            file.write(bytes(TOLD.size))
+        return {"LD_PRELOAD": self.library, "REFUSE_AT": str(at), "REFUSE_TELL": self.tell}
+
+    def told(self):
+        with open(self.tell, "rb") as file:
+            return Told(*TOLD.unpack(file.read()))
+
+
+class Told:
+    def __init__(self, requests, refused, starts, beside, held, started, joined, detached):
+        self.requests = requests
+        self.refused = refused
+        self.starts = starts
+        self.beside = beside
+        self.held = held
+        self.started = started
+        self.joined = joined
+        self.detached = detached
+
+
+def what_is_left(told, held):
+    """Why threads or memory aren't as they have to be at the end, or None."""
+    if told.started != told.joined + told.detached:
+        return f"of {told.started} threads {told.joined} were joined and {told.detached} let go"
+    # What the C library keeps for the next thread is held too.
+    if told.held != held and not told.started:
+        return f"{told.held} pieces of memory are held at the end, and {held} where nothing is refused"
+    return None
+
+
+def try_each(name, refuser, run):
+    """Refuses each request of a run in turn; `run` answers what is wrong with it and how it ended, given the environment."""
+    starts = beside = 0
+    ends = collections.Counter()
+    held = None
+    for at in itertools.count():
+        wrong, end = run(refuser.environment(at))
+        told = refuser.told()
+        held = told.held if held is None else held
+        wrong = wrong or what_is_left(told, held)
+        if wrong:
+            stop(f"{name}, request {at} refused: {wrong}")
+        if told.refused:
+            ends[end] += 1
+            starts += told.starts
+            beside += told.beside
+        elif at:
+            break
+    ended = ", ".join(f"{count} {end}" for end, count in sorted(ends.items()))
+    print(f"{name}: {sum(ends.values())} requests ({starts} for a thread, {beside} from another thread than the first): {ended}", flush=True)
+
+
+def of_test(tests, test):
+    def run(environment):
+        done = subprocess.run([tests, test], stdout=subprocess.PIPE, stderr=subprocess.STDOUT, timeout=MOST_SECONDS, env=environment)
+        wrong = f"status {done.returncode}: {done.stdout.decode()}" if done.returncode else None
+        return wrong, "passed"
+
+    return run
+
+
+def of_program(program, script, way):
+    def run(environment):
+        done = Run(script, way, environment=environment, program=program)
+        end = "ended in status 1" if done.status else "refused a line" if refused_lines(done) else "were whole"
+        return what_is_wrong(script, way, done, program), end
+
+    return run
+
+
+def all_runs(tests, program):
+    """Each run that has its requests refused, with its name."""
+    listed = subprocess.run([tests, "--list"], stdout=subprocess.PIPE, check=True).stdout.decode()
+    for test in re.findall(r"[\w:]*refused\w*", listed):
+        yield test, of_test(tests, test)
+    for way in WAYS:
+        if not knows(way, program):
+            print(f"the program doesn't know {' '.join(way)}")
+            continue
+        for script in SCRIPTS:
+            yield " ".join(["tgstore", *way, "on", script.name]), of_program(program, script, way)
+
+
+def main():
+    words = argparse.ArgumentParser()
+    words.add_argument("--tests", default=TESTS)
+    words.add_argument("--program", default=PROGRAM)
+    words.add_argument("words", nargs="*")
+    words = words.parse_args()
+    with tempfile.TemporaryDirectory() as folder:
+        refuser = Refuser(folder)
+        for name, run in all_runs(words.tests, words.program):
+            if not words.words or any(word in name for word in words.words):
+                try_each(name, refuser, run)
+
+
+if __name__ == "__main__":
+    main()

@@ -1,0 +1,141 @@
+"""What refused.py and limits.py share: the scripts, a run of the program, and what of it is right."""
+import os
+import subprocess
+import sys
+
+HERE = os.path.dirname(os.path.abspath(__file__))
+CRATES = os.path.join(HERE, "..", "..", "crates")
+PROGRAM = os.path.join(CRATES, "tgstore", "out", "tgstore")
+
+# How long a run may take, in seconds.
+MOST_SECONDS = 60
+
+# What may be asked of the program beside the words of a script. What it doesn't know is left out.
+WAYS = [[], ["--helpers", "2"], ["--helpers", "8"], ["--race"], ["--race", "--helpers", "2"]]
+
+# What a line may be answered that was not run.
+REFUSALS = {b"refused memory", b"refused threads"}
+
+
+class Script:
+    """Lines, with the words that they are run with."""
+
+    def __init__(self, name, workers, stock, edges, lines):
+        self.name = name
+        self.words = ["--workers", str(workers), "--stock", stock]
+        self.edges = edges
+        self.lines = lines
+
+    def text(self, lines=None):
+        lines = self.lines if lines is None else lines
+        return "".join(line + "\n" for line in self.edges + lines).encode()
+
+
+def rows(vertices, workers=4):
+    """Vertices that are handed on along rows, with collections of both kinds between."""
+    lines = []
+    for i in range(vertices):
+        name = workers + i
+        x, y = i % workers, (i + 1) % workers
+        lines += [f"{x} create rwtg", f"{x} grant {y} {name} rw", f"{y} write {name} {i}", f"{y} read {name}"]
+        if i % 5 == 4:
+            lines.append(f"{x} remove {name} rwtg")
+        if i % (vertices // 4) == vertices // 4 - 1:
+            lines += ["minor", "full"]
+    edges = [f"edge {x} {(x + 1) % workers} tg" for x in range(workers)]
+    return Script("rows", workers, f"c{vertices}", edges, lines)
+
+
+def listings(vertices, lists):
+    """A row that is listed again and again, so that the journal grows."""
+    lines = ["0 create r"] * vertices + ["0 list", "1 list"] * lists + ["full", "0 list"]
+    return Script("listings", 2, f"s{vertices}", ["edge 1 0 tg"], lines)
+
+
+def logs(vertices, writes):
+    """Logs that grow, are read and are given up, with a collection behind each."""
+    lines = []
+    for i in range(vertices):
+        lines.append("0 create rwg")
+        lines += [f"0 write {2 + i} {value}" for value in range(writes)]
+        lines += [f"0 grant 1 {2 + i} r", f"1 read {2 + i}", f"0 read {2 + i}"]
+        lines += ["minor"] if i % 2 else []
+        lines += [f"1 remove {1 + i} r", f"0 remove {1 + i} rwg", "full"] if i % 16 == 15 else []
+    return Script("logs", 2, f"l{vertices}", ["edge 0 1 g", "edge 1 0 t"], lines)
+
+
+def ten_edges_and_a_hole():
+    """One edge among ten is given up, and the next takes its place."""
+    lines = ["0 create r"] * 10 + ["0 remove 4 r", "0 create w", "0 list", "full", "0 list"]
+    return Script("ten_edges_and_a_hole", 1, "c11", [], lines)
+
+
+def old_cell_stays_remembered():
+    """An old cell names a young vertex through two nursery collections."""
+    lines = ["0 create tg", "minor", "minor", "0 create r", "0 grant 1 2 r", "minor", "0 remove 2 r", "minor"]
+    return Script("old_cell_stays_remembered", 1, "c2", [], lines + ["0 take 1 2 r", "0 read 2", "full", "0 list"])
+
+
+def log_and_sum_payloads():
+    """A log that takes in more than it keeps, a denied write, and a sum that wraps around."""
+    lines = ["0 create rw", "0 create rw", "0 read 2", "0 write 2 1", "0 write 2 2", "1 write 2 9", "0 write 2 3"]
+    lines += ["0 write 2 4", "0 write 2 5", "0 read 2", "0 write 3 18446744073709551615", "0 write 3 1", "0 read 3"]
+    return Script("log_and_sum_payloads", 2, "ls", [], lines)
+
+
+class Run:
+    """A run of the program that has ended."""
+
+    def __init__(self, script, way, lines=None, before=None, environment=None, program=PROGRAM):
+        done = subprocess.run(
+            [program] + script.words + way,
+            input=script.text(lines),
+            stdout=subprocess.PIPE,
+            stderr=subprocess.PIPE,
+            timeout=MOST_SECONDS,
+            preexec_fn=before,
+            env=environment,
+        )
+        self.status = done.returncode
+        self.replies = done.stdout.split(b"\n")
+        self.faults = done.stderr.split(b"\n")
+
+
+def knows(way, program=PROGRAM):
+    """Whether the program knows these words."""
+    return Run(Script("none", 1, "", [], []), way, program=program).status == 0
+
+
+def what_is_wrong(script, way, run, program=PROGRAM):
+    """Why the run isn't one that want of memory may leave, or None.
+
+    With status 1 one line stands on standard error and nothing was answered. With status 0 each line has its reply, and
+    the lines that were not refused are answered as in a run of them alone. Of a race whose lines were refused it is asked only
+    that each line has its reply, and the end its count of entries."""
+    if run.status == 1:
+        is_told = len(run.faults) == 2 and run.faults[0].startswith(b"tgstore: ") and run.faults[1] == b""
+        return None if is_told and run.replies == [b""] else f"status 1, with {run.faults} and {run.replies[:3]}"
+    if run.status != 0 or run.faults != [b""] or run.replies[-1] != b"":
+        return f"status {run.status}, with {run.faults}"
+    is_race = "--race" in way
+    replies = run.replies[: -2 if is_race else -1]
+    if len(replies) != len(script.lines):
+        return f"{len(replies)} replies to {len(script.lines)} lines"
+    if is_race and not (run.replies[-2].startswith(b"entries ") and run.replies[-2].endswith(b" audit ok")):
+        return f"a race that ends in {run.replies[-2]}"
+    left = [(line, reply) for line, reply in zip(script.lines, replies) if reply not in REFUSALS]
+    if is_race:
+        return None
+    alone = Run(script, [], [line for line, _ in left], program=program)
+    if alone.status != 0 or alone.replies[:-1] != [reply for _, reply in left]:
+        return "lines that were not refused are answered otherwise than alone"
+    return None
+
+
+def refused_lines(run):
+    """How many lines were refused."""
+    return sum(reply in REFUSALS for reply in run.replies)
+
+
+def stop(text):
+    sys.exit(f"{os.path.basename(sys.argv[0])}: {text}")

@@ -1,0 +1,105 @@
+//! Collections by several helpers.
+ghost use Rattle.std.specs.Prelude.{◌≤◌};
+
+use crate::again::{collect, create, is_legal, run_line, store};
+use std::alloc::Global;
+use std::sync::Wait;
+use std::test::Fail;
+use std::thread::Threads;
+use tg_payload::LogPayload;
+use tg_rights::{Label, Right, Rights};
+use tg_store::{Kind, Store};
+
+// The old cell of vertex 1 has to stay remembered, or the fourth nursery collection loses what it names.
+const LINES: [&[u8]; 11] = [
+    b"0 create tg",
+    b"minor",
+    b"minor",
+    b"0 create r",
+    b"0 grant 1 2 r",
+    b"minor",
+    b"0 remove 2 r",
+    b"minor",
+    b"0 take 1 2 r",
+    b"0 read 2",
+    b"full",
+];
+
+// Runs all lines. How many vertices the last collection left.
+fn run_all<R: Threads + Wait + Sync>(
+    rt: &R,
+    alloc: Global,
+    store: &mut Store<LogPayload>,
+    helpers: u32,
+) -> Option<u64>
+    requires { helpers ≤ 8 }
+{
+    let mut left = 0;
+    for line in LINES {
+        left = run_line(rt, alloc, store, line, helpers)?;
+    }
+    Some(left)
+}
+
+// How many vertices are left of all lines, how many entries there are, and whether each is right.
+fn seen_of_lines<R: Threads + Wait + Sync>(
+    rt: &R,
+    alloc: Global,
+    helpers: u32,
+) -> Option<(u64, u64, bool)>
+    requires { helpers ≤ 8 }
+{
+    let mut store = store(alloc, 1, &[])?;
+    let left = run_all(rt, alloc, &mut store, helpers)?;
+    Some((left, store.journal().len(), is_legal(alloc, &store)))
+}
+
+// Makes a vertex of each worker, whose row is a root, and collects by so many helpers. How many vertices are left.
+fn collect_rows<R: Threads + Wait + Sync>(
+    rt: &R,
+    alloc: Global,
+    store: &mut Store<LogPayload>,
+    kind: Kind,
+    helpers: u32,
+) -> Option<u64>
+    requires { helpers ≤ 8 }
+{
+    let read = Label::new(Rights::of(Right::R))?;
+    for worker in 0..64 {
+        let _name = create(alloc, store, worker, read)?;
+    }
+    collect(rt, alloc, store, kind, helpers)
+}
+
+// How many vertices a nursery collection and then a full one leave of 64 workers' rows, which helpers share out by eights, and
+// whether each entry is right.
+fn seen_of_rows<R: Threads + Wait + Sync>(
+    rt: &R,
+    alloc: Global,
+    helpers: u32,
+) -> Option<(u64, u64, bool)>
+    requires { helpers ≤ 8 }
+{
+    let mut store = store(alloc, 64, &[])?;
+    let young = collect_rows(rt, alloc, &mut store, Kind::Nursery, helpers)?;
+    let all = collect_rows(rt, alloc, &mut store, Kind::Full, helpers)?;
+    Some((young, all, is_legal(alloc, &store)))
+}
+
+#[test]
+fn collections_with_refused_memory(rt: HostRuntime) -> Result<(), Fail> {
+    for helpers in [1, 2, 8] {
+        let seen = seen_of_lines(&rt, rt.alloc(), helpers).ok_or("a line that is refused again")?;
+        assert_eq!(rt; seen, (3, 6, true));
+    }
+    Ok(())
+}
+
+#[test]
+fn shared_out_collections_with_refused_memory(rt: HostRuntime) -> Result<(), Fail> {
+    for helpers in [2, 8] {
+        let seen = seen_of_rows(&rt, rt.alloc(), helpers).ok_or("a call that is refused again")?;
+        assert_eq!(rt; seen, (128, 192, true));
+    }
+    Ok(())
+}

@@ -1,0 +1,76 @@
+//! A store's calls by one thread.
+use crate::again::{is_legal, run_line, store};
+use std::alloc::Global;
+use std::sync::Wait;
+use std::test::Fail;
+use std::thread::Threads;
+use tg_model::Edge;
+use tg_payload::LogPayload;
+use tg_rights::{Label, Rights};
+use tg_store::Store;
+
+/// An edge between two workers.
+pub(crate) fn edge(from: u64, to: u64, letters: &[u8]) -> Option<Edge> {
+    let label = Label::new(Rights::read_text(letters)?)?;
+    Some(Edge { from, to, label })
+}
+
+// Every command, a row that needs an index, a log that grows, a denial, and collections of both kinds.
+const LINES: [&[u8]; 26] = [
+    b"0 create rwtg",
+    b"0 write 2 5",
+    b"0 create r",
+    b"0 create r",
+    b"0 create r",
+    b"0 create r",
+    b"0 grant 1 2 rw",
+    b"0 grant 2 3 r",
+    b"minor",
+    b"1 read 2",
+    b"1 list",
+    b"0 take 2 3 r",
+    b"1 write 9 9",
+    b"0 remove 3 r",
+    b"minor",
+    b"1 write 2 6",
+    b"0 create w",
+    b"0 create w",
+    b"0 create w",
+    b"full",
+    b"0 take 2 3 r",
+    b"1 write 2 7",
+    b"1 write 2 8",
+    b"0 read 2",
+    b"minor",
+    b"0 list",
+];
+
+// Runs all lines. How many vertices the last collection left.
+fn run_all<R: Threads + Wait + Sync>(
+    rt: &R,
+    alloc: Global,
+    store: &mut Store<LogPayload>,
+) -> Option<u64> {
+    let mut left = 0;
+    for line in LINES {
+        left = run_line(rt, alloc, store, line, 0)?;
+    }
+    Some(left)
+}
+
+// How many vertices are left of all lines, how many entries there are, and whether each is right.
+fn seen_of_lines<R: Threads + Wait + Sync>(rt: &R, alloc: Global) -> Option<(u64, u64, bool)> {
+    let edges = [edge(0, 1, b"tg")?, edge(1, 0, b"r")?];
+    let mut store = store(alloc, 2, &edges)?;
+    let left = run_all(rt, alloc, &mut store)?;
+    Some((left, store.journal().len(), is_legal(alloc, &store)))
+}
+
+#[test]
+fn each_allocation_refused(rt: HostRuntime) -> Result<(), Fail> {
+    let seen = seen_of_lines(&rt, rt.alloc()).ok_or(
+        "a call that is refused again, or changes what it refused",
+    )?;
+    assert_eq!(rt; seen, (10, 22, true));
+    Ok(())
+}
