@@ -34,9 +34,11 @@ mod census;
 mod fault;
 pub mod laws;
 mod store;
+mod store_fault;
 
 pub use census::Census;
 pub use fault::{ApplyFault, CreateFault, CreateRefused, OpenFault, OpenRefused};
 pub use store::Store;
+pub use store_fault::StoreFault;
 pub use tg_evac::CollectFault;
 pub use tg_space::{Kind, Limits};
