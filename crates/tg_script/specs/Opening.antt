@@ -1,5 +1,5 @@
 -- What the opening of a run comes to: the edge lines in front of a script, and the store that they make.
-use Rattle.std.specs.Prelude.{◌≢◌, ℕ, ◌<◌, ◌≤◌, false, List, [], ◌∷◌, ◌++◌, map, Option, Some, None, Result, Ok, Err}
+use Rattle.std.specs.Prelude.{◌≡◌, ◌≢◌, ℕ, ◌<◌, ◌≤◌, false, List, [], ◌∷◌, ◌++◌, map, Option, Some, None, Result, Ok, Err}
 use Rattle.tg_model.specs.declared.edge.Edge.{Edge}
 use Rattle.tg_model.specs.Opened.{Plan, HasLimits, start_of}
 use Rattle.tg_store.specs.Store.{StoreState, StandsFor}
@@ -31,10 +31,10 @@ ReadsEdges s bytes (Ok front) t rest = ReadsFirst s bytes front.edges.items fron
 ReadsEdges s bytes (Err fault.OutOfMemory) t rest = (edges : List Edge) × (edges ≢ []) × ReadsFrom s bytes (edge_lines edges) (Some fault.OutOfMemory) rest
 ReadsEdges s bytes (Err f) t rest = IsOfReading f × (edges : List Edge) × ReadsFrom s bytes (edge_lines edges) (Some f) rest
 
--- The store stands for the graph that the plan starts from; or a limit of the plan is out of its range, or else memory was
--- wanting, or a block for each worker where the heap may have so many.
+-- The store is opened with the plan, has no entry, and stands for the graph that the plan starts from; or a limit of the plan is
+-- out of its range, or else memory was wanting, or a block for each worker where the heap may have so many.
 abbrev pub Opens : Plan → ℕ → Result StoreState ScriptFault → Type 0
-Opens p blocks (Ok store) = HasLimits p × (p.workers ≤ blocks) × StandsFor store (start_of p)
+Opens p blocks (Ok store) = HasLimits p × (p.workers ≤ blocks) × StandsFor store (start_of p) × (store.opening ≡ p) × (store.entries ≡ [])
 Opens p blocks (Err fault.BadLimits) = ¬ HasLimits p
 Opens p blocks (Err fault.OutOfMemory) = HasLimits p
 Opens p blocks (Err fault.HeapFull) = HasLimits p × (blocks < p.workers)

@@ -2,6 +2,7 @@ pub mod BringLaws
 pub mod FitLaws
 pub mod OneLaws
 pub mod OrderLaws
+pub mod RaceLaws
 pub mod RunLaws
 pub mod ShareLaws
 pub mod WeaveLaws

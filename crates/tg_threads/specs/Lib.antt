@@ -1,3 +1,4 @@
 pub mod Output
+pub mod Race
 pub mod Shares
 pub mod Tasks

@@ -1,16 +1,20 @@
 //! Workers' lines side by side: each worker has a thread of its own, with its session of a shared store.
 //!
-//! [`run_threads`] gives each session its lines, runs them one after the other on a thread, and brings the sessions back with what
-//! each line came to: the place of its entry in the journal, a collection, or a refusal. [`runner`] says whose thread runs a line of
-//! a script. When the store is closed, [`tell_all`] writes the reply to each line, and behind them the number of entries.
+//! [`run_race`] runs a whole script so. It reads all of its lines and opens its store, [`share_out`] gives each session its lines, and
+//! [`run_threads`] runs them on threads and brings the sessions back with what each line came to: the place of its entry in the
+//! journal, a collection, or a refusal. [`in_script_order`] puts these together again, the store is closed and audited, and
+//! [`tell_all`] writes the reply to each line, and behind them the number of entries. [`runner`] says whose thread runs a line.
 //!
 //! What may be written for a whole script stands in `specs/Output`, as a relation between its lines and a legal history: the order
 //! between workers is open, it is that in which the lock was taken. The law of one worker says that its replies are those of a plain
-//! run. `specs/Tasks` says what a session's run of its lines is.
+//! run. `specs/Race` says what then stands in the sink, and what does after a fault. `specs/Tasks` and `specs/Shares` are inside
+//! matters: what a session's run of its lines is, and how the lines are shared out.
 #![tactic(auto)]
 
+mod fault;
 mod gate;
 pub mod laws;
+mod race;
 mod sharing;
 mod task;
 mod telling;
@@ -18,7 +22,9 @@ mod threads;
 mod weaving;
 mod worker;
 
+pub use fault::RaceFault;
 pub use gate::{Gate, NoGate};
+pub use race::run_race;
 pub use sharing::share_out;
 pub use task::{Task, Told, runner};
 pub use telling::tell_all;

@@ -1,0 +1,110 @@
+//! Scripts that lie in memory, and what is written for them.
+ghost use Rattle.std.specs.Prelude.{◌≡◌, ◌<◌};
+
+use std::alloc::{AllocError, Global};
+use std::marker::Brand;
+use std::sync::Wait;
+use std::sync::ledger::{Blank, Ledger};
+use std::test::Fail;
+use std::thread::Threads;
+use tg_payload::{CellPayload, Draft};
+use tg_script::{Bytes, Count, Limits, Settings, Written, drafts_of, run_in_memory};
+use tg_threads::{Gate, RaceFault, run_race};
+
+/// What was written, and how it ended.
+#[derive(Debug, Drop)]
+pub(crate) struct Raced {
+    pub(crate) written: Vec<u8>,
+    pub(crate) outcome: Result<(), RaceFault>,
+}
+
+/// So many workers and vertices, and a heap with room.
+pub(crate) fn settings_of(workers: u64, max_vertices: u64) -> Result<Settings, Fail> {
+    match Limits::new(4096, 1 << 20) {
+        Ok(limits) => Ok(Settings {
+            workers,
+            max_vertices,
+            limits,
+        }),
+        Err(_) => Err(Fail::from("limits that are out of their range")),
+    }
+}
+
+// So many cells with 0.
+fn cells(alloc: Global, count: u64) -> Result<Vec<Draft<CellPayload>>, AllocError> {
+    let mut payloads = Vec::new(alloc);
+    for _ in 0..count {
+        payloads.push(CellPayload::new(0))?;
+    }
+    drafts_of(alloc, payloads)
+}
+
+/// Runs the script side by side, with a cell with 0 for each worker, and so many in the stock.
+pub(crate) fn race_script<G: Gate + Sync, R: Threads + Wait + Sync>(
+    rt: &R,
+    alloc: Global,
+    gate: &G,
+    settings: Settings,
+    stock: u64,
+    script: &[u8],
+) -> Result<Raced, AllocError> {
+    let (asked, failures) = (Blank::new(1), Blank::new(1));
+    race_counted::<Brand, Brand, G, R>(rt, alloc, gate, settings, stock, script, asked, failures)
+}
+
+// The counts of the source and of the sink are those of the ledgers A and F.
+fn race_counted<A: Ledger, F: Ledger, G: Gate + Sync, R: Threads + Wait + Sync>(
+    rt: &R,
+    alloc: Global,
+    gate: &G,
+    settings: Settings,
+    stock: u64,
+    script: &[u8],
+    asked: Blank,
+    failures: Blank,
+) -> Result<Raced, AllocError>
+    requires asked { (asked.name ≡ A.name) × (asked.parts ≡ A.parts) × (0 < asked.parts) }
+    requires failures { (failures.name ≡ F.name) × (failures.parts ≡ F.parts) × (0 < failures.parts) }
+{
+    let mut source = Bytes::new(script, Count::<A>::new(asked));
+    let mut sink = Written::new(alloc, Count::<F>::new(failures));
+    let workers = cells(alloc, settings.workers)?;
+    let stock = cells(alloc, stock)?;
+    if settings.workers < 1 || 64 < settings.workers || workers.len() as u64 != settings.workers {
+        return Err(AllocError);
+    }
+    let outcome = run_race(
+        rt,
+        alloc,
+        &mut source,
+        &mut sink,
+        gate,
+        settings,
+        workers,
+        stock,
+    );
+    let Written { bytes, .. } = sink;
+    Ok(Raced {
+        written: bytes,
+        outcome,
+    })
+}
+
+/// What is written for the script by a plain run, one line after the other, where it runs to its end.
+pub(crate) fn plain(
+    alloc: Global,
+    settings: Settings,
+    stock: u64,
+    script: &[u8],
+) -> Result<Option<Vec<u8>>, AllocError> {
+    let workers = cells(alloc, settings.workers)?;
+    let stock = cells(alloc, stock)?;
+    if settings.workers < 1 || 64 < settings.workers || workers.len() as u64 != settings.workers {
+        return Err(AllocError);
+    }
+    let ran = run_in_memory(alloc, script, settings, workers, stock);
+    match ran.outcome {
+        Ok(()) => Ok(Some(ran.written)),
+        Err(_) => Ok(None),
+    }
+}

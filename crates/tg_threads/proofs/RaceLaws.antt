@@ -1,0 +1,135 @@
+-- What comes of a whole race, from what its parts did.
+use mathlib.Core.Bool.{false≢true}
+use Rattle.std.proofs.Common.{◌≡◌, inl, inr, ℕ, List, [], ◌∷◌, ◌++◌, Option, Some, Result, Ok, Err, refl, sym, ap, ◌∙◌, subst, append-nil, length}
+use Rattle.std.specs.Prelude.{IsOk, map}
+use Rattle.std.specs.List.{All, filter, range_with_len}
+use Rattle.std.proofs.lemmas.List.{length-map}
+use Rattle.std.proofs.lemmas.List.Elements.{All-head}
+use Rattle.std.proofs.lemmas.List.FromFn.{length-map-range_with_len, length-range_with_len}
+use Rattle.tg_model.specs.declared.edge.Edge.{Edge}
+use Rattle.tg_model.specs.declared.value.Value.{Value}
+use Rattle.tg_model.specs.Opened.{Plan, start_of}
+use Rattle.tg_journal.specs.History.{IsLegal}
+use Rattle.tg_journal.specs.declared.entry.Entry.{Entry}
+use Rattle.tg_store.specs.Store.{StoreState}
+use Rattle.tg_text.specs.declared.line.Line.{Line}
+use Rattle.tg_text.specs.declared.line.Line.TheVariants as line
+use Rattle.tg_text.specs.Sinks.{Keeps}
+use Rattle.tg_script.specs.Opening.{IsCommand, edge_lines}
+use Rattle.tg_script.specs.Script.{Start, commands_of, edges_of}
+use Rattle.tg_script.proofs.LinesLaws.{keeps_known}
+use Rattle.tg_shared.specs.Sessions.{SessionState, AreFresh}
+use Rattle.tg_threads.specs.declared.fault.RaceFault.{RaceFault}
+use Rattle.tg_threads.specs.declared.fault.RaceFault.TheVariants as fault
+use Rattle.tg_threads.specs.declared.task.Told.{Told}
+use Rattle.tg_threads.specs.declared.worker.Finished.{Finished}
+use Rattle.tg_threads.specs.Output.{Boxed, IsRaceOutput, boxed, end_text}
+use Rattle.tg_threads.specs.Tasks.{AllBring, text_of_told}
+use Rattle.tg_threads.specs.Shares.{AreRaced, IsInScriptOrder, all_assigned, is_run_by, lines_of}
+use Rattle.tg_threads.specs.Race.{EndsRace, HasRaced, IsWhole, TellsRace, plan_of}
+use Rattle.tg_threads.proofs.WeaveLaws.{bring_as_many, each_told}
+
+-- as many fresh sessions as workers
+pub fresh_length : (workers : ℕ) (sessions : List SessionState) → AreFresh (range_with_len 0 workers) sessions → length sessions ≡ workers
+fresh_length workers sessions fresh =
+    sym (length-map sessions (λ (s : SessionState). s.worker)) ∙ ap (λ (l : List ℕ). length l) fresh.0 ∙ length-range_with_len 0 workers
+
+-- ---- the lines of a script that was read
+
+-- all edges stand in front
+pub edges_before : (edges : List Edge) (lines : List Line) → All IsCommand lines → edges_of (edge_lines edges ++ lines) ≡ edges
+edges_before [] [] h = refl
+edges_before [] (line.Edge e ∷ lines) h = absurd (false≢true (All-head IsCommand (line.Edge e) lines h).0)
+edges_before [] (line.Create x label ∷ lines) h = refl
+edges_before [] (line.Plain x command ∷ lines) h = refl
+edges_before [] (line.Full ∷ lines) h = refl
+edges_before [] (line.Minor ∷ lines) h = refl
+edges_before (e ∷ edges) lines h = ap (λ es. e ∷ es) (edges_before edges lines h)
+
+-- and the other lines behind them
+pub commands_behind : (edges : List Edge) (lines : List Line) → All IsCommand lines → commands_of (edge_lines edges ++ lines) ≡ lines
+commands_behind [] [] h = refl
+commands_behind [] (line.Edge e ∷ lines) h = absurd (false≢true (All-head IsCommand (line.Edge e) lines h).0)
+commands_behind [] (line.Create x label ∷ lines) h = refl
+commands_behind [] (line.Plain x command ∷ lines) h = refl
+commands_behind [] (line.Full ∷ lines) h = refl
+commands_behind [] (line.Minor ∷ lines) h = refl
+commands_behind (e ∷ edges) lines h = commands_behind edges lines h
+
+-- ---- what the threads brought back
+
+pub all_brought : {L : Type 0} (n workers : ℕ) (bs : List Boxed) (given : List (ℕ × List Boxed)) (all : List (Finished L)) → n ≡ workers → given ≡ all_assigned n bs → AllBring given all → AllBring (all_assigned workers bs) all
+all_brought {L = L} n workers bs given all same is h =
+    let P : List (ℕ × List Boxed) → Type 0 = λ g. AllBring g all in
+    subst P (is ∙ ap (λ (k : ℕ). all_assigned k bs) same) h
+
+-- one from each worker
+pub brought_by_each : {L : Type 0} (workers : ℕ) (bs : List Boxed) (all : List (Finished L)) → AllBring (all_assigned workers bs) all → length all ≡ workers
+brought_by_each workers bs all h = bring_as_many (all_assigned workers bs) all h ∙ length-map-range_with_len (λ x. (x, lines_of workers x bs)) 0 workers
+
+-- as many as each worker has lines
+pub brought_whole : {L : Type 0} (workers : ℕ) (stock : List Value) (lines : List Line) (all lent : List (Finished L)) → lent ≡ all → AllBring (all_assigned workers (boxed stock lines)) all →
+    map (λ f. length f.told.items) lent ≡ map (λ x. length (filter (is_run_by (length lent) x) lines)) (range_with_len 0 (length lent))
+brought_whole {L = L} workers stock lines all lent same h =
+    let P : List (Finished L) → ℕ → Type 0 = λ fs n. map (λ f. length f.told.items) fs ≡ map (λ x. length (filter (is_run_by n x) lines)) (range_with_len 0 n) in
+    subst (λ fs. P fs (length fs)) (sym same) (subst (P all) (sym (brought_by_each workers (boxed stock lines) all h)) (each_told workers stock lines all h))
+
+pub brought_in_order : {L : Type 0} (workers : ℕ) (lines : List Line) (all lent : List (Finished L)) (ts : List Told) → lent ≡ all → length all ≡ workers → IsInScriptOrder (length lent) lines (map (λ f. f.told.items) lent) ts → IsInScriptOrder workers lines (map (λ f. f.told.items) all) ts
+brought_in_order {L = L} workers lines all lent ts same many h =
+    let P : List (Finished L) → ℕ → Type 0 = λ fs n. IsInScriptOrder n lines (map (λ f. f.told.items) fs) ts in
+    subst (P all) many (subst (λ fs. P fs (length fs)) same h)
+
+-- ---- the whole
+
+-- what the lines came to, with a legal history, is an output
+raced_output : (start : Start) (lines : List Line) (s : StoreState) (ts : List Told) → s.opening ≡ plan_of start lines → AreRaced start.workers (boxed start.stock (commands_of lines)) s.entries ts → IsLegal (start_of s.opening) s.entries →
+    IsRaceOutput start lines (text_of_told s.entries ts ++ end_text (length s.entries))
+raced_output start lines s ts opening raced legal = record {
+  entries = s.entries;
+  made = raced.made;
+  replies = text_of_told s.entries ts;
+  legal = subst (λ (p : Plan). IsLegal (start_of p) s.entries) opening legal;
+  told = raced.told;
+  each = raced.each;
+  text_is = refl;
+}
+
+pub raced_same : (n workers : ℕ) (stock : List Value) (lent lines : List Line) (entries : List Entry) (ts : List Told) → n ≡ workers → lent ≡ lines → AreRaced n (boxed stock lent) entries ts → AreRaced workers (boxed stock lines) entries ts
+raced_same n workers stock lent lines entries ts same is h =
+    let P : ℕ → List Line → Type 0 = λ k ls. AreRaced k (boxed stock ls) entries ts in
+    subst (P workers) is (subst (λ k. P k lent) same h)
+
+pub race_told : {T : Type 0} (r : Result T RaceFault) (start : Start) (bytes before left : List ℕ) (lines : List Line) (s : StoreState) (ts : List Told) (after : Option (List ℕ)) → IsWhole start bytes lines left → s.opening ≡ plan_of start lines →
+    AreRaced start.workers (boxed start.stock (commands_of lines)) s.entries ts → TellsRace s ts before r after → HasRaced start bytes before r left after
+race_told (Ok done) start bytes before left lines s ts after whole opening raced h =
+    (lines, text_of_told s.entries ts ++ end_text (length s.entries), whole, raced_output start lines s ts opening raced h.0, h.1)
+race_told (Err (fault.Script f)) start bytes before left lines s ts after whole opening raced h = absurd h
+race_told (Err fault.OutOfMemory) start bytes before left lines s ts after whole opening raced h = (lines, whole, h)
+race_told (Err fault.NoThread) start bytes before left lines s ts after whole opening raced h = (lines, whole, h)
+race_told (Err fault.ReceiptMismatch) start bytes before left lines s ts after whole opening raced h = (lines, whole, h)
+race_told (Err fault.AuditFailed) start bytes before left lines s ts after whole opening raced h = (lines, whole, h)
+race_told (Err fault.WriteFailed) start bytes before left lines s ts after whole opening raced h =
+    (lines, h.1, h.2, whole, subst (λ text. IsRaceOutput start lines text) h.3 (raced_output start lines s ts opening raced h.0), h.4)
+
+-- ---- the end
+
+race_keeps : {T : Type 0} (r : Result T RaceFault) (start : Start) (bytes before left : List ℕ) (mid after : Option (List ℕ)) → HasRaced start bytes before r left mid → Keeps mid after → HasRaced start bytes before r left after
+race_keeps (Ok done) start bytes before left mid after h keeps = (h.0, h.1, h.2, h.3, keeps_known mid after (before ++ h.1) h.4 keeps)
+race_keeps (Err (fault.Script f)) start bytes before left mid after h keeps = (h.0, keeps_known mid after before h.1 keeps)
+race_keeps (Err fault.OutOfMemory) start bytes before left mid after h keeps = (h.0, h.1, keeps_known mid after before h.2 keeps)
+race_keeps (Err fault.NoThread) start bytes before left mid after h keeps = (h.0, h.1, keeps_known mid after before h.2 keeps)
+race_keeps (Err fault.ReceiptMismatch) start bytes before left mid after h keeps = (h.0, h.1, keeps_known mid after before h.2 keeps)
+race_keeps (Err fault.AuditFailed) start bytes before left mid after h keeps = (h.0, h.1, keeps_known mid after before h.2 keeps)
+race_keeps (Err fault.WriteFailed) start bytes before left mid after h keeps = (h.0, h.1, h.2, h.3, h.4, keeps_known mid after (before ++ h.1) h.5 keeps)
+
+-- the whole text was written, but the sink was not finished
+race_unfinished : {T : Type 0} (r : Result T RaceFault) (start : Start) (bytes before left : List ℕ) (after : Option (List ℕ)) → IsOk r → HasRaced start bytes before r left after → HasRaced {T = T} start bytes before (Err fault.WriteFailed) left after
+race_unfinished (Err f) start bytes before left after fine h = absurd (false≢true fine)
+race_unfinished (Ok done) start bytes before left after fine h =
+    (h.0, h.1, [], h.2, subst (λ text. IsRaceOutput start h.0 text) (sym (append-nil h.1)) h.3, h.4)
+
+pub race_ended : {T : Type 0} (outcome r : Result T RaceFault) (start : Start) (bytes before left : List ℕ) (mid after : Option (List ℕ)) → HasRaced start bytes before outcome left mid → EndsRace mid outcome r after → HasRaced start bytes before r left after
+race_ended outcome r start bytes before left mid after h (keeps, inl same) =
+    subst (λ x. HasRaced start bytes before x left after) (sym same) (race_keeps outcome start bytes before left mid after h keeps)
+race_ended outcome r start bytes before left mid after h (keeps, inr failed) =
+    subst (λ x. HasRaced start bytes before x left after) (sym failed.1) (race_unfinished outcome start bytes before left after failed.0 (race_keeps outcome start bytes before left mid after h keeps))

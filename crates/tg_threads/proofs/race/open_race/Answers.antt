@@ -1,0 +1,24 @@
+use Rattle.std.proofs.Common.{◌++◌, List, ap, sym, ◌∙◌}
+use Rattle.tg_model.specs.declared.edge.Edge.{Edge}
+use Rattle.tg_model.specs.Opened.{Plan}
+use Rattle.tg_script.specs.Opening.{edge_lines}
+use Rattle.tg_threads.proofs.RaceLaws.{commands_behind, edges_before}
+use Rattle.tg_threads.proofs.race.open_race.Goals as goal
+
+pub returns-clause-output : goal.returns-clause-output
+returns-clause-output g c = λ bytes known.
+    let edges = c.in_ok-whole.whole.edges.items in
+    let lines = c.in_ok-whole.whole.lines.items in
+    let commands = c.in_ok-whole.ensures.commands in
+    let read = c.in_ok-whole.ensures.bytes bytes known in
+    let opens = c.in_ok-store.ensures in
+    let plan : List Edge → Plan = λ es. record { workers = c.args.settings.workers; edges = es; values = c.args.workers.items; limit = c.args.settings.max_vertices } in (
+      read.0,
+      read.1,
+      (
+        edge_lines edges ++ lines,
+        (read.2, (opens.0, opens.1)),
+        sym (commands_behind edges lines commands),
+        opens.3 ∙ ap plan (sym (edges_before edges lines commands)),
+      ),
+    )

@@ -1,0 +1,97 @@
+-- What comes of a whole script whose workers run their lines side by side.
+use Rattle.std.specs.Prelude.{◌≡◌, ◌⊎◌, ℕ, ◌<◌, List, [], ◌++◌, length, Option, Some, None, Result, Ok, Err, IsOk}
+use Rattle.tg_model.specs.Opened.{Plan, start_of}
+use Rattle.tg_journal.specs.declared.entry.Entry.{Entry}
+use Rattle.tg_journal.specs.History.{IsLegal}
+use Rattle.tg_journal.specs.declared.replay.AuditFault.{AuditFault}
+use Rattle.tg_journal.specs.declared.replay.AuditFault.TheVariants as audit
+use Rattle.tg_text.specs.declared.line.Line.{Line}
+use Rattle.tg_text.specs.declared.fault.ScriptFault.{ScriptFault}
+use Rattle.tg_text.specs.declared.fault.ScriptFault.TheVariants as script
+use Rattle.tg_text.specs.Reading.{ReadsScript}
+use Rattle.tg_text.specs.Sinks.{Keeps}
+use Rattle.tg_script.specs.Script.{Start, CanOpen, HasRoom, commands_of, edges_of}
+use Rattle.tg_store.specs.Store.{StoreState}
+use Rattle.tg_threads.specs.declared.fault.RaceFault.{RaceFault}
+use Rattle.tg_threads.specs.declared.fault.RaceFault.TheVariants as fault
+use Rattle.tg_threads.specs.declared.threads.ThreadsFault.{ThreadsFault}
+use Rattle.tg_threads.specs.declared.threads.ThreadsFault.TheVariants as threads
+use Rattle.tg_threads.specs.declared.race.Opened.{Opened}
+use Rattle.tg_threads.specs.declared.task.Told.{Told}
+use Rattle.tg_threads.specs.Output.{IsRaceOutput, end_text}
+use Rattle.tg_threads.specs.Tasks.{text_of_told}
+
+-- ---- the script and its store
+
+-- the opening that a script asks for
+abbrev pub plan_of : Start → List Line → Plan
+plan_of start lines = record { workers = start.workers; edges = edges_of lines; values = start.values; limit = start.limit }
+
+-- the bytes are a whole script of these lines, and its store can be opened
+abbrev pub IsWhole : Start → List ℕ → List Line → List ℕ → Type 0
+IsWhole start bytes lines left = ReadsScript start.workers bytes lines None left × CanOpen start
+
+-- why a store isn't opened: a limit is out of its range, or else memory was wanting, or a block for each worker
+abbrev pub IsOpenFault : Start → ScriptFault → Type 0
+IsOpenFault start script.BadLimits = ¬ HasRoom start
+IsOpenFault start script.OutOfMemory = HasRoom start
+IsOpenFault start script.HeapFull = HasRoom start × (start.blocks < start.workers)
+IsOpenFault start f = ⊥
+
+-- the bytes are lines up to this fault; or they are a whole script, and this fault came of opening its store
+abbrev pub IsNotRun : Start → List ℕ → ScriptFault → List ℕ → Type 0
+IsNotRun start bytes f left =
+    (lines : List Line) × (ReadsScript start.workers bytes lines (Some f) left ⊎ (ReadsScript start.workers bytes lines None left × IsOpenFault start f))
+
+-- a fault behind the opening, before anything is written
+abbrev pub IsBeforeWriting : RaceFault → Type 0
+IsBeforeWriting (fault.Script f) = ⊥
+IsBeforeWriting fault.OutOfMemory = Unit {0}
+IsBeforeWriting fault.NoThread = Unit {0}
+IsBeforeWriting fault.ReceiptMismatch = Unit {0}
+IsBeforeWriting fault.AuditFailed = Unit {0}
+IsBeforeWriting fault.WriteFailed = ⊥
+
+-- a fault of the threads, and one of the audit, as one of a race
+abbrev pub of_threads : ThreadsFault → RaceFault
+of_threads threads.OutOfMemory = fault.OutOfMemory
+of_threads threads.NoThread = fault.NoThread
+
+abbrev pub of_audit : AuditFault → RaceFault
+of_audit audit.OutOfMemory = fault.OutOfMemory
+of_audit (audit.BadEntry at) = fault.AuditFailed
+
+-- ---- the whole
+
+-- What stands in the sink after a race over these bytes, where `before` stood in it, and what is left of them: a text that may be
+-- written for all of the script, or a front of one where the sink failed. For a script with a fault, for one whose store can't be
+-- opened, and where anything else was wanting, nothing more.
+abbrev pub HasRaced : {T : Type 0} → Start → List ℕ → List ℕ → Result T RaceFault → List ℕ → Option (List ℕ) → Type 0
+HasRaced start bytes before (Ok done) left after =
+    (lines : List Line) × (text : List ℕ) × IsWhole start bytes lines left × IsRaceOutput start lines text × (after ≡ Some (before ++ text))
+HasRaced start bytes before (Err fault.WriteFailed) left after =
+    (lines : List Line) × (front : List ℕ) × (rest : List ℕ) × IsWhole start bytes lines left × IsRaceOutput start lines (front ++ rest) × (after ≡ Some (before ++ front))
+HasRaced start bytes before (Err (fault.Script f)) left after = IsNotRun start bytes f left × (after ≡ Some before)
+HasRaced start bytes before (Err f) left after = (lines : List Line) × IsWhole start bytes lines left × (after ≡ Some before)
+
+-- ---- parts of it
+
+-- the whole script was read, and a store of its opening has no entry yet
+abbrev pub OpensRace : {P : Type 0} → Start → List ℕ → Result (Opened P) RaceFault → List ℕ → Type 0
+OpensRace start bytes (Ok opened) left =
+    (lines : List Line) × IsWhole start bytes lines left × (opened.lines.items ≡ commands_of lines) × (opened.store.opening ≡ plan_of start lines)
+OpensRace start bytes (Err (fault.Script f)) left = IsNotRun start bytes f left
+OpensRace start bytes (Err f) left = ⊥
+
+-- The store's journal is a legal history, and the text was written behind what stood there, or a front of it; or nothing.
+abbrev pub TellsRace : {T : Type 0} → StoreState → List Told → List ℕ → Result T RaceFault → Option (List ℕ) → Type 0
+TellsRace s ts before (Ok done) after = IsLegal (start_of s.opening) s.entries × (after ≡ Some (before ++ (text_of_told s.entries ts ++ end_text (length s.entries))))
+TellsRace s ts before (Err fault.WriteFailed) after =
+    IsLegal (start_of s.opening) s.entries
+    × (front : List ℕ) × (rest : List ℕ) × (text_of_told s.entries ts ++ end_text (length s.entries) ≡ front ++ rest) × (after ≡ Some (before ++ front))
+TellsRace s ts before (Err (fault.Script f)) after = ⊥
+TellsRace s ts before (Err f) after = after ≡ Some before
+
+-- The sink was finished: what was taken is the same still. A fault stands; where there was none and it failed, that is the fault.
+abbrev pub EndsRace : {T : Type 0} → Option (List ℕ) → Result T RaceFault → Result T RaceFault → Option (List ℕ) → Type 0
+EndsRace before outcome result after = Keeps before after × ((result ≡ outcome) ⊎ (IsOk outcome × (result ≡ Err fault.WriteFailed)))

@@ -1,0 +1,103 @@
+//! Why nothing, or not all, was written for a script.
+
+use crate::threads::ThreadsFault;
+use std::alloc::{AllocError, AllocFailed};
+use tg_journal::AuditFault;
+use tg_text::{ScriptFault, WriteFailed};
+use thiserror::Error;
+
+/// Why a race ended without its whole output. Nothing was written, but where writing failed.
+#[derive(Clone, Copy, PartialEq, Eq, Debug, Error)]
+pub enum RaceFault {
+    /// A fault in the script, or its store couldn't be opened. No line was run.
+    #[error("{0}")]
+    Script(ScriptFault),
+    /// Memory was wanting for the sessions, for what the lines come to, or for the audit.
+    #[error("out of memory")]
+    OutOfMemory,
+    /// A worker's thread couldn't be started.
+    #[error("no thread")]
+    NoThread,
+    /// The sessions' receipts aren't the journal's growth.
+    #[error("receipt mismatch")]
+    ReceiptMismatch,
+    /// The journal isn't a legal history of the script's opening.
+    #[error("audit failed")]
+    AuditFailed,
+    /// The writer came to an error, took no byte, or failed to flush.
+    #[error("write failed")]
+    WriteFailed,
+}
+
+impl From<ScriptFault> for RaceFault {
+    ghost use Rattle.std.specs.Prelude.{◌≡◌};
+    ghost use Rattle.tg_threads.specs.declared.fault.RaceFault.TheVariants.{Script};
+
+    ghost from_gives = { λ fault e. e ≡ Script fault };
+
+    fn from(fault: ScriptFault) -> RaceFault {
+        RaceFault::Script(fault)
+    }
+}
+
+impl From<AllocError> for RaceFault {
+    ghost use Rattle.std.specs.Prelude.{◌≡◌};
+    ghost use Rattle.tg_threads.specs.declared.fault.RaceFault.TheVariants.{OutOfMemory};
+
+    ghost from_gives = { λ _ e. e ≡ OutOfMemory };
+
+    fn from(_error: AllocError) -> RaceFault {
+        RaceFault::OutOfMemory
+    }
+}
+
+impl<T: Drop> From<AllocFailed<T>> for RaceFault {
+    ghost use Rattle.std.specs.Prelude.{◌≡◌};
+    ghost use Rattle.tg_threads.specs.declared.fault.RaceFault.TheVariants.{OutOfMemory};
+
+    ghost from_gives = { λ _ e. e ≡ OutOfMemory };
+
+    // What there was no memory for is dropped.
+    fn from(_refused: AllocFailed<T>) -> RaceFault {
+        RaceFault::OutOfMemory
+    }
+}
+
+impl From<ThreadsFault> for RaceFault {
+    ghost use Rattle.std.specs.Prelude.{◌≡◌};
+    ghost use Rattle.tg_threads.specs.Race.{of_threads};
+
+    ghost from_gives = { λ fault e. e ≡ of_threads fault };
+
+    fn from(fault: ThreadsFault) -> RaceFault {
+        match fault {
+            ThreadsFault::OutOfMemory => RaceFault::OutOfMemory,
+            ThreadsFault::NoThread => RaceFault::NoThread,
+        }
+    }
+}
+
+impl From<AuditFault> for RaceFault {
+    ghost use Rattle.std.specs.Prelude.{◌≡◌};
+    ghost use Rattle.tg_threads.specs.Race.{of_audit};
+
+    ghost from_gives = { λ fault e. e ≡ of_audit fault };
+
+    fn from(fault: AuditFault) -> RaceFault {
+        match fault {
+            AuditFault::OutOfMemory => RaceFault::OutOfMemory,
+            AuditFault::BadEntry { .. } => RaceFault::AuditFailed,
+        }
+    }
+}
+
+impl From<WriteFailed> for RaceFault {
+    ghost use Rattle.std.specs.Prelude.{◌≡◌};
+    ghost use Rattle.tg_threads.specs.declared.fault.RaceFault.TheVariants as fault;
+
+    ghost from_gives = { λ _ e. e ≡ fault.WriteFailed };
+
+    fn from(_failed: WriteFailed) -> RaceFault {
+        RaceFault::WriteFailed
+    }
+}

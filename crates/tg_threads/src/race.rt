@@ -1,0 +1,246 @@
+//! A whole script, whose workers run their lines side by side.
+ghost use Rattle.std.specs.Prelude.{◌≡◌, ◌+◌, ◌≤◌, ℕ, List, [], Some, true, IfErr, IfOk, length};
+ghost use Rattle.std.specs.List.{All, range_with_len};
+ghost use Rattle.tg_text.specs.Sinks.{Keeps};
+ghost use Rattle.tg_script.specs.Opening.{IsCommand};
+ghost use Rattle.tg_script.specs.Script.{Start};
+ghost use Rattle.tg_shared.specs.Sessions.{AreFresh, AreSharedOut, MayClose, start_of_store};
+ghost use Rattle.tg_threads.specs.Output.{boxed};
+ghost use Rattle.tg_threads.specs.Race.{EndsRace, HasRaced, IsBeforeWriting, OpensRace};
+ghost use Rattle.tg_threads.specs.Shares.{AreRaced};
+
+use crate::fault::RaceFault;
+use crate::gate::Gate;
+use crate::sharing::share_out;
+use crate::task::Told;
+use crate::telling::tell_all;
+use crate::threads::run_threads;
+use crate::weaving::{in_script_order, sessions_of};
+use std::alloc::Global;
+use std::marker::Brand;
+use std::sync::Wait;
+use std::sync::ledger::Blank;
+use std::thread::Threads;
+use tg_journal::audit;
+use tg_payload::{Draft, Payload};
+use tg_script::{Settings, open_store, read_script};
+use tg_shared::{Round, Session, Shared, SharedStore, close};
+use tg_store::Store;
+use tg_text::{Line, Sink, Source};
+
+/// Runs the script, with one payload for each worker, by rising name, and a stock of payloads for the vertices that it makes: the
+/// i-th create line has the i-th of them, and where no vertex is made it is dropped.
+///
+/// The whole script is read first; with a fault in it no line is run. Then each worker has a thread with its session, which runs the
+/// worker's lines in script order and passes the gate before each; the collections are worker 0's. Once all have ended the store is
+/// closed and audited, and only then anything is written: the reply to each line in script order, and the line with the number of
+/// entries. In what order lines of different workers are run is open, and who waits for whom.
+///
+/// After a fault nothing was written but after `WriteFailed`, which leaves a front of the text. A thread that can't be started is
+/// `NoThread`; those that were started have ended. The source is asked for at most 1,048,577 bytes. The sink is finished at the end,
+/// after a fault too, which then stands.
+pub fn run_race<P: Payload + Send, S: Source, K: Sink, G: Gate + Sync, R: Threads + Wait + Sync>(
+    rt: &R,
+    alloc: Global,
+    source: &mut S,
+    sink: &mut K,
+    gate: &G,
+    settings: Settings,
+    workers: Vec<Draft<P>>,
+    stock: Vec<Draft<P>>,
+) -> Result<(), RaceFault>
+    requires number { (1 ≤ settings.workers) × (settings.workers ≤ 64) }
+    requires workers { length workers.items ≡ settings.workers }
+    ensures output { let start : Start = record { workers = settings.workers; limit = settings.max_vertices; blocks = settings.limits.max_blocks; values = workers.items; stock = stock.items } in
+        (bytes before : List ℕ) → S.left source.old ≡ Some bytes → K.taken sink.old ≡ Some before →
+        (left : List ℕ) × (S.left source.new ≡ Some left) × HasRaced start bytes before result left (K.taken sink.new) }
+    ensures asked { S.asked source.new ≤ S.asked source.old + 1048577 }
+    ensures finished { K.finished sink.new ≡ true }
+{
+    let outcome = race(rt, alloc, source, sink, gate, settings, workers, stock);
+    finish(sink, outcome)
+}
+
+// Finishes the sink. A fault that came before stands.
+fn finish<K: Sink>(sink: &mut K, outcome: Result<(), RaceFault>) -> Result<(), RaceFault>
+    ensures outcome { EndsRace (K.taken sink.old) outcome result (K.taken sink.new) }
+    ensures finished { K.finished sink.new ≡ true }
+{
+    if sink.finish() {
+        return outcome;
+    }
+    match outcome {
+        Ok(()) => Err(RaceFault::WriteFailed),
+        Err(fault) => Err(fault),
+    }
+}
+
+// All but that the sink is finished.
+fn race<P: Payload + Send, S: Source, K: Sink, G: Gate + Sync, R: Threads + Wait + Sync>(
+    rt: &R,
+    alloc: Global,
+    source: &mut S,
+    sink: &mut K,
+    gate: &G,
+    settings: Settings,
+    workers: Vec<Draft<P>>,
+    stock: Vec<Draft<P>>,
+) -> Result<(), RaceFault>
+    requires number { (1 ≤ settings.workers) × (settings.workers ≤ 64) }
+    requires workers { length workers.items ≡ settings.workers }
+    ensures output { let start : Start = record { workers = settings.workers; limit = settings.max_vertices; blocks = settings.limits.max_blocks; values = workers.items; stock = stock.items } in
+        (bytes before : List ℕ) → S.left source.old ≡ Some bytes → K.taken sink.old ≡ Some before →
+        (left : List ℕ) × (S.left source.new ≡ Some left) × HasRaced start bytes before result left (K.taken sink.new) }
+    ensures asked { S.asked source.new ≤ S.asked source.old + 1048577 }
+{
+    let opened = open_race(alloc, source, sink, settings, workers)?;
+    let Opened { store, lines } = opened;
+    let raced = run_lines(rt, alloc, gate, store, stock, lines.as_slice())?;
+    raced.tell(alloc, sink)
+}
+
+// A store with no entry, and the lines that are to be run in it.
+#[derive(Drop)]
+pub(crate) struct Opened<P: Payload> {
+    store: Store<P>,
+    lines: Vec<Line>,
+}
+
+// Reads the whole script, and opens its store.
+fn open_race<P: Payload, S: Source, K: Sink>(
+    alloc: Global,
+    source: &mut S,
+    sink: &mut K,
+    settings: Settings,
+    workers: Vec<Draft<P>>,
+) -> Result<Opened<P>, RaceFault>
+    requires number { (1 ≤ settings.workers) × (settings.workers ≤ 64) }
+    requires workers { length workers.items ≡ settings.workers }
+    ensures new { IfOk result (λ opened. (opened.store.opening.workers ≡ settings.workers) × (opened.store.entries ≡ [])) }
+    ensures commands { IfOk result (λ opened. All IsCommand opened.lines.items) }
+    ensures output { let start : Start = record { workers = settings.workers; limit = settings.max_vertices; blocks = settings.limits.max_blocks; values = workers.items; stock = [] } in
+        (bytes : List ℕ) → S.left source.old ≡ Some bytes → (left : List ℕ) × (S.left source.new ≡ Some left) × OpensRace start bytes result left }
+    ensures taken { Keeps (K.taken sink.old) (K.taken sink.new) }
+    ensures asked { S.asked source.new ≤ S.asked source.old + 1048577 }
+{
+    let whole = read_script(alloc, source, sink, settings.workers)?;
+    let store = open_store(
+        alloc,
+        settings.workers,
+        whole.edges,
+        workers,
+        settings.max_vertices,
+        settings.limits,
+    )?;
+    Ok(Opened {
+        store,
+        lines: whole.lines,
+    })
+}
+
+// The store once all lines were run, and what they came to, in script order.
+#[derive(Drop)]
+struct Raced<P: Payload> {
+    store: Store<P>,
+    told: Vec<Told>,
+}
+
+impl<P: Payload> Raced<P> {
+    ghost use Rattle.std.specs.Prelude.{◌≡◌, List, ℕ, Some};
+    ghost use Rattle.std.specs.List.{All};
+    ghost use Rattle.tg_threads.specs.Race.{TellsRace};
+    ghost use Rattle.tg_threads.specs.Tasks.{IsThere};
+
+    // Audits the journal, and writes the replies.
+    fn tell<K: Sink>(&self, alloc: Global, sink: &mut K) -> Result<(), RaceFault>
+        requires { All (IsThere self.now.store.entries) self.now.told.items }
+        ensures { (before : List ℕ) → K.taken sink.old ≡ Some before → TellsRace self.now.store self.now.told.items before result (K.taken sink.new) }
+    {
+        let journal = self.store.journal();
+        audit(alloc, self.store.opening(), journal.entries())?;
+        Ok(tell_all(sink, journal, self.told.as_slice())?)
+    }
+}
+
+// Runs the lines in a store with no entry.
+fn run_lines<P: Payload + Send, G: Gate + Sync, R: Threads + Wait + Sync>(
+    rt: &R,
+    alloc: Global,
+    gate: &G,
+    store: Store<P>,
+    stock: Vec<Draft<P>>,
+    lines: &[Line],
+) -> Result<Raced<P>, RaceFault>
+    requires new { (1 ≤ store.opening.workers) × (store.entries ≡ []) }
+    requires commands { All IsCommand lines.now }
+    ensures raced { IfOk result (λ raced. (raced.store.opening ≡ store.opening) × AreRaced store.opening.workers (boxed stock.items lines.now) raced.store.entries raced.told.items) }
+    ensures fault { IfErr result IsBeforeWriting }
+{
+    let blank = Blank::new(store.opening().max_vertices() + 1);
+    share::<Brand, P, G, R>(rt, alloc, gate, blank, store, stock, lines)
+}
+
+// Shares the store, runs the lines, and closes.
+fn share<L: Round + Send + Sync, P: Payload + Send, G: Gate + Sync, R: Threads + Wait + Sync>(
+    rt: &R,
+    alloc: Global,
+    gate: &G,
+    blank: Blank,
+    store: Store<P>,
+    stock: Vec<Draft<P>>,
+    lines: &[Line],
+) -> Result<Raced<P>, RaceFault>
+    requires name { blank.name ≡ L.name }
+    requires parts { (blank.parts ≡ L.parts) × (blank.parts ≡ store.opening.limit + 1) }
+    requires start { start_of_store store ≡ L.start }
+    requires new { (1 ≤ store.opening.workers) × (store.entries ≡ []) }
+    requires commands { All IsCommand lines.now }
+    ensures raced { IfOk result (λ raced. (raced.store.opening ≡ store.opening) × AreRaced store.opening.workers (boxed stock.items lines.now) raced.store.entries raced.told.items) }
+    ensures fault { IfErr result IsBeforeWriting }
+{
+    match SharedStore::<L, P>::new(alloc, blank, store) {
+        Ok(shared) => run_shared(rt, alloc, gate, shared, stock, lines),
+        Err(_) => Err(RaceFault::OutOfMemory),
+    }
+}
+
+// Runs the lines in the shared store, and closes.
+fn run_shared<L: Round + Send + Sync, P: Payload + Send, G: Gate + Sync, R: Threads + Wait + Sync>(
+    rt: &R,
+    alloc: Global,
+    gate: &G,
+    shared: Shared<L, P>,
+    stock: Vec<Draft<P>>,
+    lines: &[Line],
+) -> Result<Raced<P>, RaceFault>
+    requires new { (1 ≤ L.start.opening.workers) × (L.start.entries ≡ []) }
+    requires fresh { AreFresh (range_with_len 0 L.start.opening.workers) shared.sessions.items }
+    requires commands { All IsCommand lines.now }
+    ensures raced { IfOk result (λ raced. (raced.store.opening ≡ L.start.opening) × AreRaced L.start.opening.workers (boxed stock.items lines.now) raced.store.entries raced.told.items) }
+    ensures fault { IfErr result IsBeforeWriting }
+{
+    let Shared { store, sessions } = shared;
+    let works = share_out(alloc, sessions, stock, lines)?;
+    let finished = run_threads(rt, alloc, &store, gate, works)?;
+    let told = in_script_order(alloc, lines, finished.as_slice())?;
+    let sessions = sessions_of(alloc, finished)?;
+    let store = closed(store, sessions)?;
+    Ok(Raced { store, told })
+}
+
+// The store, where all sessions have come back and their receipts are right.
+fn closed<L: Round, P: Payload>(
+    store: SharedStore<L, P>,
+    sessions: Vec<Session<L>>,
+) -> Result<Store<P>, RaceFault>
+    requires { L.start.entries ≡ [] }
+    ensures opening { IfOk result (λ store. store.opening ≡ L.start.opening) }
+    ensures matching { IfOk result (λ store. MayClose store.entries 0 sessions.items) }
+    ensures shared_out { IfOk result (λ store. AreSharedOut store.entries sessions.items) }
+    ensures fault { IfErr result IsBeforeWriting }
+{
+    match close(store, sessions) {
+        Ok(store) => Ok(store),
+        Err(_) => Err(RaceFault::ReceiptMismatch),
+    }
+}
