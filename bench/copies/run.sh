@@ -5,7 +5,7 @@
 set -eu
 here=$(cd "$(dirname "$0")" && pwd)
 . "$here/../temporary.sh"
-take_crates copies tg_rights tg_model tg_word tg_block tg_space tg_remember tg_evac
+take_crates copies tg_rights tg_model tg_word tg_block tg_closed tg_space tg_remember tg_evac
 mkdir -p "$program/proofs/are_plain"
 for name in Answers Invariants; do
     cp "$here/$name.antt.in" "$program/proofs/are_plain/$name.antt"

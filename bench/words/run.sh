@@ -4,6 +4,6 @@
 set -eu
 here=$(cd "$(dirname "$0")" && pwd)
 . "$here/../temporary.sh"
-take_crates words tg_rights tg_model tg_word tg_block tg_space
+take_crates words tg_rights tg_model tg_word tg_block tg_closed tg_space
 cd "$program"
 rt run

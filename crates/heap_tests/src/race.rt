@@ -2,6 +2,7 @@
 use crate::race::trials::{Found, race, win_and_look};
 use std::alloc::{AllocError, Global};
 use std::test::Fail;
+use tg_closed::ClosedWords;
 use tg_race::{Event, RaceTable, Record, Shape, World};
 use tg_word::{Place, place_of};
 
@@ -130,7 +131,7 @@ fn one_helper_at_the_table(rt: HostRuntime) -> Result<(), Fail> {
     assert!(rt; helper.claim_block(&table, false) == 3);
     assert!(rt; helper.claim_block(&table, true) == 0);
     let words = table.close(helper);
-    assert!(rt; words.len() == 5 && words.iter().all(|word| *word == 0));
+    assert!(rt; words.len() == 5 && taken(&words) == 0);
     Ok(())
 }
 
@@ -141,29 +142,37 @@ fn a_won_cell_is_seen(rt: HostRuntime) -> Result<(), Fail> {
 }
 
 // Whether each word is that of the one win of its cell, and what was lost was lost to that win.
-fn are_words_of(words: &[u64], found: &[Found]) -> bool {
+fn are_words_of(words: &ClosedWords, found: &[Found]) -> bool {
     let wins = found.iter().filter(|f| f.won).count();
-    let taken = words.iter().filter(|word| **word != 0).count();
-    wins == taken && found.iter().all(|f| is_word_of(words, *f))
+    wins == taken(words) && found.iter().all(|f| is_word_of(words, *f))
 }
 
-fn is_word_of(words: &[u64], found: Found) -> bool {
-    match words.get(found.cell as usize) {
-        Some(word) => leads_to(*word, found.place),
-        None => false,
+// How many words aren't 0.
+fn taken(words: &ClosedWords) -> usize {
+    let mut taken: usize = 0;
+    for i in 0..words.len() {
+        if words.word(i) != 0 {
+            taken = taken.wrapping_add(1);
+        }
     }
+    taken
+}
+
+fn is_word_of(words: &ClosedWords, found: Found) -> bool {
+    let cell = found.cell as usize;
+    cell < words.len() && leads_to(words.word(cell), found.place)
 }
 
 #[test]
 fn two_helpers_on_threads(rt: HostRuntime) -> Result<(), Fail> {
     let (words, found) = race(&rt, rt.alloc(), 2, 90)?;
-    assert!(rt; found.len() == 128 && are_words_of(words.as_slice(), found.as_slice()));
+    assert!(rt; found.len() == 128 && are_words_of(&words, found.as_slice()));
     Ok(())
 }
 
 #[test]
 fn eight_helpers_on_threads(rt: HostRuntime) -> Result<(), Fail> {
     let (words, found) = race(&rt, rt.alloc(), 8, 200)?;
-    assert!(rt; found.len() == 512 && are_words_of(words.as_slice(), found.as_slice()));
+    assert!(rt; found.len() == 512 && are_words_of(&words, found.as_slice()));
     Ok(())
 }

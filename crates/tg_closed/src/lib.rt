@@ -40,6 +40,13 @@ impl ClosedWords {
         ClosedWords { closed, front }
     }
 
+    /// How many words there are.
+    pub fn len(&self) -> usize
+        ensures { result ≡ length self.now }
+    {
+        self.closed.words.len() - self.front
+    }
+
     /// The word with this number.
     #[inline(always)]
     pub fn word(&self, number: usize) -> u64

@@ -12,7 +12,7 @@ ghost use Rattle.tg_space.specs.SpaceTable.{kept_blocks};
 ghost use Rattle.tg_graph.specs.Content.{IsNamed};
 ghost use Rattle.tg_graph.specs.Heap.{content_of};
 ghost use Rattle.tg_graph.specs.Kept.{VerticesOfOldStay};
-ghost use Rattle.tg_store.specs.Store.{IsCountOf, StandsFor};
+ghost use Rattle.tg_store.specs.Store.{HasFewBlocks, IsCountOf, StandsFor};
 
 use std::alloc::Global;
 use std::sync::Wait;
@@ -25,7 +25,8 @@ use tg_store::Store;
 
 /// Collects as `Store::collect` does, with as many helpers, from 1 to 8: one on the calling thread, and each other on a thread of
 /// its own, as the collectors of Halstead's Multilisp did. All threads that were started have ended before the answer, which is
-/// the number of vertices that the heap then has.
+/// the number of vertices that the heap then has. Each space may then have as many blocks more than after `Store::collect` as
+/// there are helpers, since each may leave one open.
 ///
 /// `HeapFull` is answered only where the cells in use that would be moved may not fit into the blocks that a space may
 /// have, of which each helper may leave one open; `NoThread` where a thread couldn't be started, and never of one helper
@@ -44,6 +45,7 @@ pub fn collect_with<P: Payload, R: Threads + Wait + Sync>(
     ensures reachable { (g : ProtectionGraph) → StandsFor store.old g → IfOk result (λ number. kind ≡ Kind.Full → IsCountOf (IsReachable g) number) }
     ensures only_old { OnOk result (kind ≡ Kind.Full → (space : ℕ) → space ≢ 0 → space_of store.new.heap.table.spaces space ≡ []) }
     ensures no_nursery { OnOk result ((space : ℕ) → 2 ≤ space → space_of store.new.heap.table.spaces space ≡ []) }
+    ensures blocks { OnOk result (HasFewBlocks kind helpers store.old.heap.table store.new.heap.table) }
     ensures stay { OnOk result (kind ≡ Kind.Nursery → VerticesOfOldStay store.old.heap.table.spaces store.new.heap.table.spaces) }
     ensures entries { store.new.entries ≡ store.old.entries }
     ensures full { result ≡ Err HelpersFault.HeapFull →

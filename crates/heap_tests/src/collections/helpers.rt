@@ -81,8 +81,13 @@ fn objects() -> Cells {
 
 // The rows of all objects: as many chunks of roots as there are eights of them.
 fn rows_of_all(alloc: Global) -> Result<Vec<Root>, Fail> {
+    rows_of(alloc, CELLS)
+}
+
+// The rows of the first objects.
+fn rows_of(alloc: Global, count: usize) -> Result<Vec<Root>, Fail> {
     let mut roots = Vec::new(alloc);
-    for number in 0..CELLS {
+    for number in 0..count {
         roots.push(Root::Row(place_at(number)))?;
     }
     Ok(roots)
@@ -136,6 +141,49 @@ fn two_helpers_at_one_gate(rt: HostRuntime) -> Result<(), Fail> {
     let copied = collect_many(&rt, alloc, &spaces, &roots, Kind::Full, 2, &gate)?;
     assert_eq!(rt; gate.missed.load(Ordering::SeqCst), 0);
     assert_eq!(rt; copies_of(&copied, CELLS as u64 - 1), 1);
+    Ok(())
+}
+
+// A gate at which two helpers meet, and that counts how often they pass.
+#[derive(Drop)]
+struct Counted {
+    meet: Meet,
+    passes: AtomicU64,
+}
+
+impl Gate for Counted {
+    fn pass(&self, helper: u32) {
+        self.meet.pass(helper);
+        self.passes.fetch_add(1, Ordering::SeqCst);
+    }
+}
+
+// Each of two helpers needs a block, of which there may be one. Where one helper is refused for that, the other claims all
+// chunks that are left, and passes the gate once more at its end. Only where one helper is too late to claim a chunk, neither is
+// refused.
+#[test]
+fn a_refused_helper_stops_no_other(rt: HostRuntime) -> Result<(), Fail> {
+    let alloc = rt.alloc();
+    let spaces = heap_within(alloc, &objects(), Limits::new(8, 1)?)?;
+    let roots = rows_of(alloc, 64)?;
+    assert!(rt; are_sound(&spaces, &roots));
+    let mut refused = 0u64;
+    for _ in 0..20 {
+        let gate = Counted {
+            meet: Meet {
+                first: AtomicU64::new(0),
+                second: AtomicU64::new(0),
+                missed: AtomicU64::new(0),
+            },
+            passes: AtomicU64::new(0),
+        };
+        let copied = collect_many(&rt, alloc, &spaces, &roots, Kind::Full, 2, &gate);
+        let ended = if copied.is_ok() { 2 } else { 1 };
+        assert!(rt; matches!(copied, Ok(_) | Err(HelpersFault::HeapFull)));
+        assert_eq!(rt; gate.passes.load(Ordering::SeqCst), 8 + ended);
+        refused = refused.wrapping_add(2 - ended);
+    }
+    assert!(rt; refused > 0);
     Ok(())
 }
 

@@ -5,6 +5,7 @@ ghost use Rattle.tg_race.specs.Conditions.{uses};
 
 use std::alloc::{AllocError, Global};
 use std::thread::{Threads, join};
+use tg_closed::ClosedWords;
 use tg_race::{Claim, Helper, RaceTable};
 use tg_word::Place;
 
@@ -121,11 +122,11 @@ fn work_by_all<R: Threads + Sync>(
     let (mine, theirs) = join(
         rt,
         move || -> Result<(Helper, Vec<Found>), AllocError>
-            requires { (helper.table ≡ table.now.table) × (helper.done ≡ empty (helpers - 1)) × (1 < helpers) × (0 < cells) × (cells ≡ table.now.counts.cells) }
+            requires { (helper.table ≡ table.now.table) × (helper.done ≡ empty (helpers - 1)) × (1 < helpers) × (0 < cells) × (cells ≡ table.now.counts.cells) × (table.now.counts.kept ≡ 0) }
             ensures { IfOk result (λ r. (r.0.table ≡ helper.table) × (r.0.done.share ≡ helpers - 1)) }
         { work_by_all(rt, alloc, table, helper, helpers - 1, cells) },
         move || -> Result<(Helper, Vec<Found>), AllocError>
-            requires { (other.table ≡ table.now.table) × (other.done ≡ empty 1) × (0 < cells) × (cells ≡ table.now.counts.cells) }
+            requires { (other.table ≡ table.now.table) × (other.done ≡ empty 1) × (0 < cells) × (cells ≡ table.now.counts.cells) × (table.now.counts.kept ≡ 0) }
             ensures { IfOk result (λ r. (r.0.table ≡ other.table) × (r.0.done.share ≡ 1)) }
         { work(alloc, table, other, cells, u64::from(helpers)) },
     );
@@ -142,7 +143,7 @@ pub(crate) fn race<R: Threads + Sync>(
     alloc: Global,
     helpers: u32,
     cells: u64,
-) -> Result<(Vec<u64>, Vec<Found>), AllocError>
+) -> Result<(ClosedWords, Vec<Found>), AllocError>
     requires { (0 < helpers) × (0 < cells) × (cells < 2 ^ 61) }
 {
     let (table, helper) = RaceTable::open(alloc, cells, 0, 0, helpers)?;
