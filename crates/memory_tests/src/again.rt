@@ -102,18 +102,21 @@ pub(crate) fn create(
     store.create(worker, label, draft).ok()
 }
 
+// Lets the worker command. Why it is refused, where it is.
+fn refusal(store: &mut Store<LogPayload>, worker: u64, command: &Command) -> Option<ApplyFault> {
+    store.apply(worker, *command).err()
+}
+
 /// Lets the worker command. Where it is refused the store is as it was, and the worker commands it again.
-pub(crate) fn apply(store: &mut Store<LogPayload>, worker: u64, command: Command) -> Option<()> {
+pub(crate) fn apply(store: &mut Store<LogPayload>, worker: u64, command: &Command) -> Option<()> {
     let before = seen(store);
-    let why = match store.apply(worker, command) {
-        Ok(_) => return Some(()),
-        Err(why) => why,
+    let Some(why) = refusal(store, worker, command) else {
+        return Some(());
     };
     if why != ApplyFault::OutOfMemory || seen(store) != before {
         return None;
     }
-    let _reply = store.apply(worker, command).ok()?;
-    Some(())
+    refusal(store, worker, command).is_none().then_some(())
 }
 
 // Collects by one thread alone where there are no helpers, and else by so many.
@@ -170,7 +173,7 @@ pub(crate) fn run_line<R: Threads + Wait + Sync>(
         Line::Create { worker, label } => {
             let _name = create(alloc, store, worker, label)?;
         }
-        Line::Plain { worker, command } => apply(store, worker, command)?,
+        Line::Plain { worker, command } => apply(store, worker, &command)?,
         Line::Full => return collect(rt, alloc, store, Kind::Full, helpers),
         Line::Minor => return collect(rt, alloc, store, Kind::Nursery, helpers),
     }

@@ -52,70 +52,102 @@ fn refusing_once(alloc: Global) -> Result<PayloadBox, AllocError> {
     Ok(boxed)
 }
 
-// A draft of the box.
-fn one_draft(alloc: Global, payload: PayloadBox) -> Result<Vec<Draft<PayloadBox>>, AllocError> {
+// A draft of the payload.
+fn one_draft<P: Payload>(alloc: Global, payload: P) -> Result<Vec<Draft<P>>, AllocError> {
     let mut payloads = Vec::new(alloc);
     payloads.push(payload)?;
     drafts_of(alloc, payloads)
 }
 
-// Runs the script with one worker, who stores a cell, and a stock of one such sum.
-fn ran(alloc: Global, script: &[u8]) -> Option<InMemory> {
+// Runs the script with one worker, who stores the first payload, and a stock of the second.
+fn ran<P: Payload>(alloc: Global, script: &[u8], own: P, stock: P) -> Option<InMemory> {
     let settings = Settings {
         workers: 1,
         max_vertices: 10,
         limits: Limits::new(8, 8).ok()?,
     };
-    let cell: PayloadBox = Box::new(alloc, CellPayload::new(0)).ok()?;
-    let workers = one_draft(alloc, cell).ok()?;
-    let stock = one_draft(alloc, refusing_once(alloc).ok()?).ok()?;
+    let workers = one_draft(alloc, own).ok()?;
+    let stock = one_draft(alloc, stock).ok()?;
+    if workers.len() != 1 {
+        return None;
+    }
     Some(run_in_memory(alloc, script, settings, workers, stock))
 }
 
-// A store of one worker, who stores a cell.
-fn open_one(alloc: Global) -> Option<Store<PayloadBox>> {
+// Runs the script with one worker, who stores a cell, and a stock of one such sum.
+fn ran_with_boxes(alloc: Global, script: &[u8]) -> Option<InMemory> {
     let cell: PayloadBox = Box::new(alloc, CellPayload::new(0)).ok()?;
-    let drafts = one_draft(alloc, cell).ok()?;
+    ran(alloc, script, cell, refusing_once(alloc).ok()?)
+}
+
+// A store of one worker.
+fn open_one<P: Payload>(alloc: Global, own: P) -> Option<Store<P>> {
+    let drafts = one_draft(alloc, own).ok()?;
     let values = values_of(alloc, &drafts).ok()?;
     let opening = Opening::new(1, Vec::new(alloc), values, 10).ok()?;
     Store::open(alloc, opening, Limits::new(8, 8).ok()?, drafts).ok()
 }
 
-// Makes a vertex for the payload, with rights to read and to write.
-fn create(store: &mut Store<PayloadBox>, draft: Draft<PayloadBox>) -> Option<u64> {
+// Makes a vertex, with rights to read and to write.
+fn create<P: Payload>(alloc: Global, store: &mut Store<P>, payload: P) -> Option<u64> {
     let label = Label::new(Rights::of(Right::R).union(Rights::of(Right::W)))?;
+    let draft = Draft::new(alloc, payload).ok()?;
     store.create(0, label, draft).ok()
 }
 
-// Writes 5, reads, and does both again. Why the first write is refused, and how many entries there are.
-fn written_twice(store: &mut Store<PayloadBox>, target: u64) -> Option<(ApplyFault, u64)> {
-    let write = Command::Write { target, value: 5 };
-    let why = store.apply(0, write).err()?;
-    let _before = store.apply(0, Command::Read { target }).ok()?;
-    let _done = store.apply(0, write).ok()?;
-    let _after = store.apply(0, Command::Read { target }).ok()?;
-    Some((why, store.journal().len()))
+// Writes 5 to the target. Why that is refused, where it is.
+fn refusal<P: Payload>(store: &mut Store<P>, target: u64) -> Option<ApplyFault> {
+    store.apply(0, Command::Write { target, value: 5 }).err()
 }
 
-// What is seen of such writes to the vertex of one such sum.
-fn seen_in_a_store(alloc: Global) -> Option<(ApplyFault, u64)> {
-    let mut store = open_one(alloc)?;
-    let mut sums = one_draft(alloc, refusing_once(alloc).ok()?).ok()?;
-    let target = create(&mut store, sums.pop()?)?;
-    written_twice(&mut store, target)
+// Reads the target.
+fn read<P: Payload>(store: &mut Store<P>, target: u64) -> Option<()> {
+    let _reply = store.apply(0, Command::Read { target }).ok()?;
+    Some(())
+}
+
+// Makes a vertex for the payload, writes to it, reads it, and does both again. Why the first write is refused, whether the second
+// is, and how many entries there are.
+fn seen_of_writes<P: Payload>(
+    alloc: Global,
+    store: &mut Store<P>,
+    payload: P,
+) -> Option<(ApplyFault, bool, u64)> {
+    let target = create(alloc, store, payload)?;
+    let why = refusal(store, target)?;
+    read(store, target)?;
+    let is_refused = refusal(store, target).is_some();
+    read(store, target)?;
+    Some((why, is_refused, store.journal().len()))
+}
+
+// What is seen of such writes in a store of its own.
+fn seen_in_a_store<P: Payload>(
+    alloc: Global,
+    own: P,
+    payload: P,
+) -> Option<(ApplyFault, bool, u64)> {
+    let mut store = open_one(alloc, own)?;
+    seen_of_writes(alloc, &mut store, payload)
+}
+
+// What is seen of a worker who stores a cell, and of one such sum.
+fn seen_of_boxes(alloc: Global) -> Option<(ApplyFault, bool, u64)> {
+    let cell: PayloadBox = Box::new(alloc, CellPayload::new(0)).ok()?;
+    seen_in_a_store(alloc, cell, refusing_once(alloc).ok()?)
 }
 
 // The write that is refused has no entry, and the read behind it is answered what was there before.
 #[test]
 fn box_that_refuses_once(rt: HostRuntime) -> Result<(), Fail> {
     let script = b"0 create rw\n0 write 1 5\n0 read 1\n0 write 1 5\n0 read 1\n";
-    let ran = ran(rt.alloc(), script).ok_or("out of memory")?;
+    let ran = ran_with_boxes(rt.alloc(), script).ok_or("out of memory")?;
     assert_eq!(rt; ran.outcome, Ok(()));
     assert_eq!(rt;
         ran.written.as_slice(),
         b"ok 1\nrefused memory\nok 0\nok\nok 5\n".as_slice()
     );
-    let seen = seen_in_a_store(rt.alloc()).ok_or("a refusal")?;
-    assert_eq!(rt; seen, (ApplyFault::OutOfMemory, 4));
+    let seen = seen_of_boxes(rt.alloc()).ok_or("a refusal")?;
+    assert_eq!(rt; seen, (ApplyFault::OutOfMemory, false, 4));
     Ok(())
 }

@@ -35,23 +35,34 @@ fn create<L: Round, R: Wait>(
     session.create(rt, store, label, draft).ok()
 }
 
+// Commands. Why it is refused, where it is.
+fn refusal<L: Round, R: Wait>(
+    rt: &R,
+    store: &SharedStore<L, LogPayload>,
+    session: &mut Session<L>,
+    command: &Command,
+) -> Option<ApplyFault> {
+    if let Err(why) = session.call(rt, store, *command) {
+        return Some(why);
+    }
+    None
+}
+
 // Commands. Where it is refused there is no receipt, and it is commanded again.
 fn call<L: Round, R: Wait>(
     rt: &R,
     store: &SharedStore<L, LogPayload>,
     session: &mut Session<L>,
-    command: Command,
+    command: &Command,
 ) -> Option<()> {
     let before = session.receipts().len();
-    let why = match session.call(rt, store, command) {
-        Ok(_) => return Some(()),
-        Err(why) => why,
+    let Some(why) = refusal(rt, store, session, command) else {
+        return Some(());
     };
     if why != ApplyFault::OutOfMemory || session.receipts().len() != before {
         return None;
     }
-    let _reply = session.call(rt, store, command).ok()?;
-    Some(())
+    refusal(rt, store, session, command).is_none().then_some(())
 }
 
 // Collects, and again where it is refused. How many vertices are left.
@@ -80,8 +91,8 @@ fn work<L: Round, R: Wait>(
             session.make_room(&[value]).ok()?;
         }
         let target = create(rt, alloc, store, session)?;
-        call(rt, store, session, Command::Write { target, value })?;
-        call(rt, store, session, Command::List)?;
+        call(rt, store, session, &Command::Write { target, value })?;
+        call(rt, store, session, &Command::List)?;
         let kind = if value == 7 {
             Kind::Full
         } else {
