@@ -1,10 +1,11 @@
 //! What each of the three does with its session.
 
-use crate::opening::{HAND, label};
+use crate::opening::{HAND, cell, label};
 use crate::stop::Stop;
+use std::alloc::Global;
 use std::sync::Wait;
 use tg_model::{Command, Reply};
-use tg_payload::{Draft, Payload};
+use tg_payload::CellPayload;
 use tg_shared::{Round, Session, SharedStore};
 use tg_store::Kind;
 
@@ -22,72 +23,56 @@ pub struct Errands {
     pub ledger_by_hand: bool,
 }
 
-/// Makes a vertex for the draft, which the session's subject may read and write. Answers its name.
-pub fn make<L: Round, P: Payload, R: Wait>(
+/// Makes a vertex, which the session's subject may read and write. Answers its name.
+pub fn make<L: Round, R: Wait>(
     rt: &R,
-    store: &SharedStore<L, P>,
+    alloc: Global,
+    store: &SharedStore<L, CellPayload>,
     session: &mut Session<L>,
-    draft: Draft<P>,
 ) -> Result<u64, Stop> {
-    Ok(session.create(rt, store, label("rw")?, draft)?)
+    Ok(session.create(rt, store, label("rw")?, cell(alloc)?)?)
 }
 
-/// Hands the right to write to the paper on to the deputy's hand.
-pub fn hand_on<L: Round, P: Payload, R: Wait>(
+// Puts a command to the store, and answers whether it was done. A denial is no refusal.
+fn is_done<L: Round, R: Wait>(
     rt: &R,
-    store: &SharedStore<L, P>,
-    client: &mut Session<L>,
-    paper: u64,
-) -> Result<(), Stop> {
-    let rights = label("w")?;
-    let grant = Command::Grant {
-        via: HAND,
-        target: paper,
-        rights,
-    };
-    let _granted = client.call(rt, store, grant)?;
-    Ok(())
-}
-
-// Writes 1 to the target, and answers whether that was done.
-fn write<L: Round, P: Payload, R: Wait>(
-    rt: &R,
-    store: &SharedStore<L, P>,
+    store: &SharedStore<L, CellPayload>,
     session: &mut Session<L>,
-    target: u64,
+    command: Command,
 ) -> Result<bool, Stop> {
-    let reply = session.call(rt, store, Command::Write { target, value: 1 })?;
+    let reply = session.call(rt, store, command)?;
     Ok(matches!(reply, Reply::Done))
 }
 
-/// What the deputy does on its thread: it runs the client's errands, and gives back its session and that of its hand.
-pub fn be_deputy<L: Round, P: Payload, R: Wait>(
+/// Hands the client's right to write to the paper on to the deputy's hand. Answers whether that was done.
+pub fn hand_on<L: Round, R: Wait>(
     rt: &R,
-    store: &SharedStore<L, P>,
-    mut deputy: Session<L>,
-    mut hand: Session<L>,
-    ledger: u64,
+    store: &SharedStore<L, CellPayload>,
+    client: &mut Session<L>,
     paper: u64,
-) -> (Session<L>, Session<L>, Result<Errands, Stop>) {
-    let errands = run_errands(rt, store, &mut deputy, &mut hand, ledger, paper);
-    (deputy, hand, errands)
+) -> Result<bool, Stop> {
+    let grant = Command::Grant {
+        via: HAND,
+        target: paper,
+        rights: label("w")?,
+    };
+    is_done(rt, store, client, grant)
 }
 
-/// What the client does on its thread: it reads its paper and collects, and gives back its session.
-pub fn be_client<L: Round, P: Payload, R: Wait>(
+// Writes 1 to the target, and answers whether that was done.
+fn write<L: Round, R: Wait>(
     rt: &R,
-    store: &SharedStore<L, P>,
-    mut client: Session<L>,
-    paper: u64,
-) -> (Session<L>, Result<(), Stop>) {
-    let read = read_and_collect(rt, store, &mut client, paper);
-    (client, read)
+    store: &SharedStore<L, CellPayload>,
+    session: &mut Session<L>,
+    target: u64,
+) -> Result<bool, Stop> {
+    is_done(rt, store, session, Command::Write { target, value: 1 })
 }
 
-// Runs the client's errands, with the deputy's own rights and with those of its hand.
-fn run_errands<L: Round, P: Payload, R: Wait>(
+/// What the deputy does on its thread: it runs the client's errands, with its own rights and with those of its hand.
+pub fn run_errands<L: Round, R: Wait>(
     rt: &R,
-    store: &SharedStore<L, P>,
+    store: &SharedStore<L, CellPayload>,
     deputy: &mut Session<L>,
     hand: &mut Session<L>,
     ledger: u64,
@@ -100,15 +85,15 @@ fn run_errands<L: Round, P: Payload, R: Wait>(
     })
 }
 
-// Reads the paper and collects, again and again.
-fn read_and_collect<L: Round, P: Payload, R: Wait>(
+/// What the client does on its thread: it reads its paper and collects, again and again.
+pub fn read_and_collect<L: Round, R: Wait>(
     rt: &R,
-    store: &SharedStore<L, P>,
+    store: &SharedStore<L, CellPayload>,
     client: &mut Session<L>,
     paper: u64,
 ) -> Result<(), Stop> {
     for _ in 0..READS {
-        let _read = client.call(rt, store, Command::Read { target: paper })?;
+        let _read = is_done(rt, store, client, Command::Read { target: paper })?;
         let _left = client.collect(rt, store, Kind::Full)?;
     }
     Ok(())

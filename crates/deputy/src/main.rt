@@ -7,25 +7,25 @@
 //!
 //! The deputy and its hand work on one thread. Meanwhile the client reads its paper on another, and has all garbage
 //! collected again and again. In the end the store is closed, which shows that each call stands in the journal, and the
-//! journal is audited from an opening that the program kept.
+//! journal is audited from an opening of the program's own.
 #![tactic(auto)]
 
 mod errands;
 mod opening;
 mod round;
 mod stop;
+mod tell;
 
-use opening::Payloads;
-use round::{Made, run_shared};
+use round::run_story;
 use std::alloc::Global;
 use std::process::ExitCode;
 use std::sync::Wait;
 use std::thread::Threads;
 use stop::Stop;
-use tg_payload::{CellPayload, Draft};
+use tell::print_told;
 
 fn main(rt: HostRuntime) -> ExitCode {
-    match run_and_tell(&rt, rt.alloc()) {
+    match run_and_print(&rt, rt.alloc()) {
         Ok(()) => ExitCode::SUCCESS,
         Err(stop) => {
             let _ = eprintln!(rt; "deputy: {stop}");
@@ -34,17 +34,7 @@ fn main(rt: HostRuntime) -> ExitCode {
     }
 }
 
-// All subjects and what they make store a cell with 0.
-fn run_and_tell<R: Threads + Wait + Sync + Print>(rt: &R, alloc: Global) -> Result<(), Stop> {
-    let payloads = Payloads {
-        deputy: CellPayload::new(0),
-        client: CellPayload::new(0),
-        hand: CellPayload::new(0),
-    };
-    let made = Made {
-        ledger: Draft::new(alloc, CellPayload::new(0))?,
-        paper: Draft::new(alloc, CellPayload::new(0))?,
-    };
-    let told = run_shared(rt, alloc, payloads, made)?;
-    told.print(rt)
+fn run_and_print<R: Threads + Wait + Sync + Print>(rt: &R, alloc: Global) -> Result<(), Stop> {
+    let (told, entries) = run_story(rt, alloc)?;
+    print_told(rt, &told, entries)
 }

@@ -4,7 +4,7 @@ use std::alloc::{AllocError, AllocFailed};
 use std::io;
 use tg_journal::AuditFault;
 use tg_model::OpeningFault;
-use tg_payload::{DraftRefused, Payload};
+use tg_payload::{CellPayload, DraftRefused};
 use tg_shared::CloseFault;
 use tg_store::{ApplyFault, CollectFault, CreateFault, CreateRefused, OpenFault, OpenRefused};
 use thiserror::Error;
@@ -60,23 +60,23 @@ impl<T: Drop> From<AllocFailed<T>> for Stop {
     }
 }
 
-impl<P: Payload> From<DraftRefused<P>> for Stop {
+impl From<DraftRefused<CellPayload>> for Stop {
     // The payload that was handed back is dropped.
-    fn from(_refused: DraftRefused<P>) -> Stop {
+    fn from(_refused: DraftRefused<CellPayload>) -> Stop {
         Stop::OutOfMemory
     }
 }
 
-impl<P: Payload> From<OpenRefused<P>> for Stop {
+impl From<OpenRefused<CellPayload>> for Stop {
     // The opening and the drafts that were handed back are dropped.
-    fn from(refused: OpenRefused<P>) -> Stop {
+    fn from(refused: OpenRefused<CellPayload>) -> Stop {
         Stop::Open(refused.why)
     }
 }
 
-impl<P: Payload> From<CreateRefused<P>> for Stop {
+impl From<CreateRefused<CellPayload>> for Stop {
     // The draft that was handed back is dropped.
-    fn from(refused: CreateRefused<P>) -> Stop {
+    fn from(refused: CreateRefused<CellPayload>) -> Stop {
         Stop::Create(refused.why)
     }
 }

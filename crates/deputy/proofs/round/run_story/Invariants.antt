@@ -1,5 +1,5 @@
 use Rattle.tg_shared.specs.Sessions.{start_of_store}
-use Rattle.deputy.proofs.round.run_opened.Given as goal
+use Rattle.deputy.proofs.round.run_story.Given as goal
 
 abbrev pub ghosts-share-L-Ledger : goal.ghosts-share-L-Ledger
 ghosts-share-L-Ledger g a = record { name = a.blank.name; parts = a.blank.parts }

@@ -1,0 +1,41 @@
+//! What is told of the story.
+
+use crate::errands::Errands;
+use crate::stop::Stop;
+
+/// What became of the story.
+#[derive(Clone, Copy, PartialEq, Eq, Debug)]
+pub struct Told {
+    /// The names of the ledger and of the paper.
+    pub ledger: u64,
+    pub paper: u64,
+    pub errands: Errands,
+}
+
+/// Prints it, with the number of entries of the journal, which passed its audit.
+pub fn print_told<R: Print>(rt: &R, told: &Told, entries: u64) -> Result<(), Stop> {
+    let Told {
+        ledger,
+        paper,
+        errands,
+    } = told;
+    println!(rt; "the deputy makes a ledger, whose name is {ledger}")?;
+    println!(rt; "the client makes a paper, whose name is {paper}")?;
+    print_errands(rt, errands)?;
+    println!(rt; "audit ok, {entries} entries")?;
+    Ok(())
+}
+
+fn print_errands<R: Print>(rt: &R, errands: &Errands) -> Result<(), Stop> {
+    let by_deputy = outcome(errands.ledger_by_deputy);
+    let paper_by_hand = outcome(errands.paper_by_hand);
+    let ledger_by_hand = outcome(errands.ledger_by_hand);
+    println!(rt; "the deputy writes to the ledger for the client: {by_deputy}")?;
+    println!(rt; "its hand writes to the paper for the client: {paper_by_hand}")?;
+    println!(rt; "its hand writes to the ledger for the client: {ledger_by_hand}")?;
+    Ok(())
+}
+
+fn outcome(is_done: bool) -> &'static str {
+    if is_done { "done" } else { "denied" }
+}
