@@ -59,6 +59,9 @@ module _ (old : StoreState) (made : ℕ) (is : IsStore old made) (x : ℕ) (belo
   pub room : made < old.opening.limit → (graph_of_store old).made < (graph_of_store old).limit
   room low = omega (arith, low, limit_of old is.faithful, is.is_made)
 
+  pub no_room : (g : ProtectionGraph) → StandsFor old g → made < old.opening.limit → g.limit ≤ g.made → ⊥
+  no_room g stands low all = let less : g.made < g.limit = subst (λ h. h.made < h.limit) stands (room low) in omega (arith, less, all)
+
   pub answer-name : made < old.opening.limit → answer_of (graph_of_store old) x (create_of label value) ≡ Name made
   answer-name low = answer-created (graph_of_store old) x label value.law value.state (room low) ∙ ap Name (sym is.is_made)
 

@@ -1,5 +1,5 @@
 //! The store and its calls.
-ghost use Rattle.std.specs.Prelude.{◌≡◌, ◌≢◌, ◌↔◌, ◌≤◌, ◌<◌, ◌+◌, ℕ, [], Err, Ok, Some, IfOk, IfErr, IsErrAnd, OnOk, OnErr, MatchOption, length};
+ghost use Rattle.std.specs.Prelude.{◌≡◌, ◌≢◌, ◌↔◌, ◌⊎◌, ◌≤◌, ◌<◌, ◌+◌, ℕ, [], Err, Ok, Some, IfOk, IfErr, IsErrAnd, OnOk, OnErr, MatchOption, length};
 ghost use Rattle.tg_model.specs.Rules.{step};
 ghost use Rattle.tg_store.specs.Faults.{IsFirstDifference};
 
@@ -159,8 +159,8 @@ impl<P: Payload> Store<P> {
     /// name, by the graph that the store stands for; exactly the entry of the create with that name was added to the
     /// journal, and then the store stands for the next graph.
     ///
-    /// `NoSuchWorker` is answered exactly where no worker has the name, and looked for first; `VerticesFull` only where
-    /// as many vertices were made as may be, and then no other answer than it and `OutOfMemory`; `HeapFull` only where
+    /// `NoSuchWorker` is answered exactly where no worker has the name, and looked for first; `VerticesFull` exactly where
+    /// as many vertices were made as may be, but for `OutOfMemory`; `HeapFull` only where
     /// a vertex may be made, and it and the reference to it need more cells than the nursery of the worker has left and
     /// gets; else `OutOfMemory` alone. A block is added only there where the cells left are too few. After a fault the draft is handed back and the store is as it was; but `VerticesFull` has an
     /// entry.
@@ -178,6 +178,8 @@ impl<P: Payload> Store<P> {
             (worker + 2) worker name label) }
         ensures no_such_worker { (g : ProtectionGraph) → StandsFor self.old g → IsErrAnd result (λ refused. refused.why ≡ CreateFault.NoSuchWorker) ↔ (¬ IsSubject g worker) }
         ensures no_more { (g : ProtectionGraph) → StandsFor self.old g → IfErr result (λ refused. refused.why ≡ CreateFault.VerticesFull → IsSubject g worker × (g.limit ≤ g.made)) }
+        ensures exhausted { (g : ProtectionGraph) → StandsFor self.old g → IsSubject g worker → g.limit ≤ g.made →
+            IsErrAnd result (λ refused. (refused.why ≡ CreateFault.VerticesFull) ⊎ (refused.why ≡ CreateFault.OutOfMemory)) }
         ensures no_more_entry { IfErr result (λ refused. refused.why ≡ CreateFault.VerticesFull →
             OnlyEnters self.old self.new worker (Deed.Create label draft.law draft.state) Reply.VerticesFull) }
         ensures full { (g : ProtectionGraph) → StandsFor self.old g → IfErr result (λ refused. refused.why ≡ CreateFault.HeapFull →

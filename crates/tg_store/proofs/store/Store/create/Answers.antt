@@ -1,5 +1,5 @@
 -- The new vertex is the graph's next, and exactly what is answered is entered.
-use Rattle.std.proofs.Common.{◌≡◌, ◌<◌, ◌≤◌, ◌+◌, ◌∙◌, ◌++◌, ◌∷◌, [], length, refl, sym, ap, subst, arith}
+use Rattle.std.proofs.Common.{◌≡◌, ◌<◌, ◌≤◌, ◌+◌, ◌∙◌, ◌++◌, ◌∷◌, [], length, refl, sym, ap, subst, inl, inr, arith}
 use Rattle.std.proofs.lemmas.Result.{err_from_is_err_and}
 use Rattle.tg_model.specs.declared.value.Value.{Value}
 use Rattle.tg_model.specs.declared.command.Deed.{Deed}
@@ -23,6 +23,14 @@ returns-then-worker-workers-clause-no_such_worker g c =
     rw c.create_refused.ensures
     (λ _ subject. no_subject old c.self.invariant.faithful graph c.args.worker here high subject, λ _. refl)
 
+pub returns-then-worker-workers-clause-exhausted : goal.returns-then-worker-workers-clause-exhausted
+returns-then-worker-workers-clause-exhausted g c =
+    let old : StoreState = record { opening = c.self.inside.opening; entries = c.self.inside.journal.entries; heap = c.self.inside.heap } in
+    let high : length old.heap.workers ≤ c.args.worker = omega arith in
+    λ graph stands subject _.
+    let here : StandsFor old graph = ap graph_of_store c.self.view_is ∙ stands in
+    absurd (no_subject old c.self.invariant.faithful graph c.args.worker here high subject)
+
 pub returns-in_default-clause-no_such_worker : goal.returns-in_default-clause-no_such_worker
 returns-in_default-clause-no_such_worker g c =
     let old : StoreState = record { opening = c.self.inside.opening; entries = c.self.inside.journal.entries; heap = c.self.inside.heap } in
@@ -31,6 +39,9 @@ returns-in_default-clause-no_such_worker g c =
     let here : StandsFor old graph = ap graph_of_store c.self.view_is ∙ stands in
     rw c.create_refused-in_default.ensures
     (λ e _. let f : ⊥ = cc e in f, λ none. absurd (none (subject_here old c.self.invariant.faithful graph c.args.worker here below)))
+
+pub returns-in_default-clause-exhausted : goal.returns-in_default-clause-exhausted
+returns-in_default-clause-exhausted g c = λ graph stands subject _. rw c.create_refused-in_default.ensures (inr refl)
 
 pub invariant_of-self-then-name-max_vertices : goal.invariant_of-self-then-name-max_vertices
 invariant_of-self-then-name-max_vertices g c =
@@ -63,6 +74,9 @@ returns-then-name-max_vertices-clause-no_more g c =
     let all = create.full old c.self.inside.made c.self.invariant c.args.worker below c.args.label c.args.draft high in
     rw c.create_refused-then-name-max_vertices.ensures
     (λ _. (subject_here old c.self.invariant.faithful graph c.args.worker here below, subst (λ (h : ProtectionGraph). h.limit ≤ h.made) here all))
+
+pub returns-then-name-max_vertices-clause-exhausted : goal.returns-then-name-max_vertices-clause-exhausted
+returns-then-name-max_vertices-clause-exhausted g c = λ graph stands subject _. rw c.create_refused-then-name-max_vertices.ensures (inl refl)
 
 pub returns-then-name-max_vertices-clause-same_graph : goal.returns-then-name-max_vertices-clause-same_graph
 returns-then-name-max_vertices-clause-same_graph g c =
@@ -101,6 +115,15 @@ returns-in_err-new_vertex-clause-no_such_worker g c =
     let here : StandsFor old graph = ap graph_of_store c.self.view_is ∙ stands in
     rw (given.1, given.2)
     (λ e _. create.no_such_create_fault _ e, λ none. absurd (none (subject_here old c.self.invariant.faithful graph c.args.worker here below)))
+
+pub returns-in_err-new_vertex-clause-exhausted : goal.returns-in_err-new_vertex-clause-exhausted
+returns-in_err-new_vertex-clause-exhausted g c =
+    let old : StoreState = record { opening = c.self.inside.opening; entries = c.self.inside.journal.entries; heap = c.self.inside.heap } in
+    let below : c.args.worker < length old.heap.workers = omega arith in
+    let low : c.self.inside.made < old.opening.limit = omega arith in
+    λ graph stands subject all.
+    let here : StandsFor old graph = ap graph_of_store c.self.view_is ∙ stands in
+    absurd (create.no_room old c.self.inside.made c.self.invariant c.args.worker below c.args.label c.args.draft graph here low all)
 
 pub returns-in_err-new_vertex-clause-full : goal.returns-in_err-new_vertex-clause-full
 returns-in_err-new_vertex-clause-full g c =
@@ -165,3 +188,12 @@ returns-clause-no_such_worker g c =
     λ graph stands.
     let here : StandsFor old graph = ap graph_of_store c.self.view_is ∙ stands in
     (λ e. absurd e, λ none. absurd (none (subject_here old c.self.invariant.faithful graph c.args.worker here below)))
+
+pub returns-clause-exhausted : goal.returns-clause-exhausted
+returns-clause-exhausted g c =
+    let old : StoreState = record { opening = c.self.inside.opening; entries = c.self.inside.journal.entries; heap = c.self.inside.heap } in
+    let below : c.args.worker < length old.heap.workers = omega arith in
+    let low : c.self.inside.made < old.opening.limit = omega arith in
+    λ graph stands subject all.
+    let here : StandsFor old graph = ap graph_of_store c.self.view_is ∙ stands in
+    absurd (create.no_room old c.self.inside.made c.self.invariant c.args.worker below c.args.label c.args.draft graph here low all)
