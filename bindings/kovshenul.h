@@ -59,7 +59,7 @@ enum {
 
     TG_OUT_OF_MEMORY = 32,    /* malloc or realloc gave none; the same call may be made again. Never in the place of a TG_BAD_.. */
     TG_HEAP_FULL = 33,        /* no cell or block is left, by the limits; after tg_collect there may be */
-    TG_VERTICES_FULL = 34,    /* tg_create: as many vertices were made as may be; the journal has an entry of it */
+    TG_VERTICES_FULL = 34,    /* tg_create: where as many vertices were made as may be; the journal has an entry of it */
 
     TG_NO_SUCH_WORKER = 48,   /* exactly where no worker of an open store has the name, and nothing asked for is TG_BAD_.. */
 

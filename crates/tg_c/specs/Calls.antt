@@ -128,6 +128,8 @@ pub record Creates (worker : ℕ) (label : RightSet) (value : Value) (old new : 
   pub placed : IfOk answer (λ name. IsMadeInRow old.heap.table new.heap.table old.heap.remembered new.heap.remembered (worker + 2) worker name label)
   pub no_such_worker : (g : ProtectionGraph) → StandsFor old g → (answer ≡ Err create.NoSuchWorker) ↔ (¬ IsSubject g worker)
   pub no_more : (g : ProtectionGraph) → StandsFor old g → answer ≡ Err create.VerticesFull → IsSubject g worker × (g.limit ≤ g.made)
+  pub exhausted : (g : ProtectionGraph) → StandsFor old g → IsSubject g worker → g.limit ≤ g.made →
+      (answer ≡ Err create.VerticesFull) ⊎ (answer ≡ Err create.OutOfMemory)
   pub no_more_entry : answer ≡ Err create.VerticesFull → OnlyEnters old new worker (Create label value.law value.state) reply.VerticesFull
   pub full : (g : ProtectionGraph) → StandsFor old g → answer ≡ Err create.HeapFull →
       IsAllowed g worker (Create label value.law value.state) × LacksCellsFor old.heap.table (worker + 2) 1 worker g.made

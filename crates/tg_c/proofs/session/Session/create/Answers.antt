@@ -1,4 +1,4 @@
-use Rattle.std.proofs.Common.{subst, ap, Ok, Err}
+use Rattle.std.proofs.Common.{subst, ap, inl, inr, Ok, Err}
 use Rattle.tg_model.specs.declared.value.Value.{Value}
 use Rattle.tg_c.specs.Calls.{Creates}
 use Rattle.tg_c.proofs.session.Session.create.Goals as goal
@@ -14,6 +14,7 @@ returns-in-Ok-create c =
       placed = told.placed;
       no_such_worker = λ g stands. ((λ is. absurd (cc is)), λ none. absurd ((told.no_such_worker g stands).1 none));
       no_more = λ g stands is. absurd (cc is);
+      exhausted = λ g stands subject full. absurd (told.exhausted g stands subject full);
       no_more_entry = λ is. absurd (cc is);
       full = λ g stands is. absurd (cc is);
       refused = tt;
@@ -33,6 +34,7 @@ returns-in-Err c =
       placed = tt;
       no_such_worker = λ g stands. ((λ is. (told.no_such_worker g stands).0 (cc is)), λ none. ap Err ((told.no_such_worker g stands).1 none));
       no_more = λ g stands is. told.no_more g stands (cc is);
+      exhausted = λ g stands subject full. elim (told.exhausted g stands subject full) [ inl why ↦ inl (ap Err why) | inr why ↦ inr (ap Err why) ];
       no_more_entry = λ is. told.no_more_entry (cc is);
       full = λ g stands is. told.full g stands (cc is);
       refused = told.refused;
