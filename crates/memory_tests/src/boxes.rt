@@ -7,7 +7,7 @@ use std::test::Fail;
 use tg_model::{Command, Law, Opening};
 use tg_payload::{CellPayload, Draft, Payload, PayloadBox};
 use tg_rights::{Label, Right, Rights};
-use tg_script::{InMemory, Limits, Settings, drafts_of, run_in_memory, values_of};
+use tg_script::{Helpers, InMemory, Limits, OneThread, Settings, drafts_of, run_in_memory, values_of};
 use tg_store::{ApplyFault, Store};
 
 // A sum whose first write is refused.
@@ -63,6 +63,7 @@ fn one_draft<P: Payload>(alloc: Global, payload: P) -> Result<Vec<Draft<P>>, All
 fn ran<P: Payload>(alloc: Global, script: &[u8], own: P, stock: P) -> Option<InMemory> {
     let settings = Settings {
         workers: 1,
+        helpers: Helpers::one(),
         max_vertices: 10,
         limits: Limits::new(8, 8).ok()?,
     };
@@ -71,7 +72,7 @@ fn ran<P: Payload>(alloc: Global, script: &[u8], own: P, stock: P) -> Option<InM
     if workers.len() != 1 {
         return None;
     }
-    Some(run_in_memory(alloc, script, settings, workers, stock))
+    Some(run_in_memory(alloc, &OneThread, script, settings, workers, stock))
 }
 
 // Runs the script with one worker, who stores a cell, and a stock of one such sum.

@@ -150,7 +150,7 @@ pub record Collects (kind : Kind) (old new : StoreState) (answer : Result ℕ Co
   pub reachable : (g : ProtectionGraph) → StandsFor old g → IfOk answer (λ n. kind ≡ Full → IsCountOf (IsReachable g) n)
   pub only_old : OnOk answer (kind ≡ Full → (space : ℕ) → space ≢ 0 → space_of new.heap.table.spaces space ≡ [])
   pub no_nursery : OnOk answer ((space : ℕ) → 2 ≤ space → space_of new.heap.table.spaces space ≡ [])
-  pub blocks : OnOk answer (HasFewBlocks kind old.heap.table new.heap.table)
+  pub blocks : OnOk answer (HasFewBlocks kind 0 old.heap.table new.heap.table)
   pub stay : OnOk answer (kind ≡ Nursery → VerticesOfOldStay old.heap.table.spaces new.heap.table.spaces)
   pub entries : new.entries ≡ old.entries
   pub full : answer ≡ Err collect.HeapFull →

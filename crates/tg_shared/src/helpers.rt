@@ -7,7 +7,7 @@ ghost use Rattle.tg_space.specs.SpaceTable.{kept_blocks};
 ghost use Rattle.tg_graph.specs.Content.{IsNamed};
 ghost use Rattle.tg_graph.specs.Heap.{content_of};
 ghost use Rattle.tg_graph.specs.Kept.{VerticesOfOldStay};
-ghost use Rattle.tg_store.specs.Store.{IsCountOf, StandsFor, graph_of_store};
+ghost use Rattle.tg_store.specs.Store.{HasFewBlocks, IsCountOf, StandsFor, graph_of_store};
 ghost use Rattle.tg_shared.specs.Sessions.{AtSome};
 
 use crate::locked::Locked;
@@ -38,6 +38,7 @@ impl<L: Round, P: Payload> Locked<L, P> {
         ensures reachable { (g : ProtectionGraph) → StandsFor self.old.store g → IfOk result (λ number. kind ≡ Kind.Full → IsCountOf (IsReachable g) number) }
         ensures only_old { OnOk result (kind ≡ Kind.Full → (space : ℕ) → space ≢ 0 → space_of self.new.store.heap.table.spaces space ≡ []) }
         ensures no_nursery { OnOk result ((space : ℕ) → 2 ≤ space → space_of self.new.store.heap.table.spaces space ≡ []) }
+        ensures blocks { OnOk result (HasFewBlocks kind helpers self.old.store.heap.table self.new.store.heap.table) }
         ensures stay { OnOk result (kind ≡ Kind.Nursery → VerticesOfOldStay self.old.store.heap.table.spaces self.new.store.heap.table.spaces) }
         ensures entries { self.new.store.entries ≡ self.old.store.entries }
         ensures full { result ≡ Err HelpersFault.HeapFull →
