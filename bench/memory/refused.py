@@ -59,13 +59,13 @@ class Told:
         self.detached = detached
 
 
-def what_is_left(told, held):
+def what_is_left(told, whole):
     """Why threads or memory aren't as they have to be at the end, or None."""
     if told.started != told.joined + told.detached:
         return f"of {told.started} threads {told.joined} were joined and {told.detached} let go"
     # What the C library keeps for the next thread is held too.
-    if told.held != held and not told.started:
-        return f"{told.held} pieces of memory are held at the end, and {held} where nothing is refused"
+    if told.held != whole.held and not told.started and not whole.started:
+        return f"{told.held} pieces of memory are held at the end, and {whole.held} where nothing is refused"
     return None
 
 
@@ -73,12 +73,12 @@ def try_each(name, refuser, run):
     """Refuses each request of a run in turn; `run` answers what is wrong with it and how it ended, given the environment."""
     starts = beside = 0
     ends = collections.Counter()
-    held = None
+    whole = None
     for at in itertools.count():
         wrong, end = run(refuser.environment(at))
         told = refuser.told()
-        held = told.held if held is None else held
-        wrong = wrong or what_is_left(told, held)
+        whole = whole or told
+        wrong = wrong or what_is_left(told, whole)
         if wrong:
             stop(f"{name}, request {at} refused: {wrong}")
         if told.refused:

@@ -42,14 +42,12 @@ impl Payload for RefusingOnce {
     }
 }
 
-// A box with such a sum, of 0.
-fn refusing_once(alloc: Global) -> Result<PayloadBox, AllocError> {
-    let refusing = RefusingOnce {
+// Such a sum, of 0.
+fn refusing_once() -> RefusingOnce {
+    RefusingOnce {
         sum: 0,
         has_refused: false,
-    };
-    let boxed: PayloadBox = Box::new(alloc, refusing)?;
-    Ok(boxed)
+    }
 }
 
 // A draft of the payload.
@@ -78,7 +76,8 @@ fn ran<P: Payload>(alloc: Global, script: &[u8], own: P, stock: P) -> Option<InM
 // Runs the script with one worker, who stores a cell, and a stock of one such sum.
 fn ran_with_boxes(alloc: Global, script: &[u8]) -> Option<InMemory> {
     let cell: PayloadBox = Box::new(alloc, CellPayload::new(0)).ok()?;
-    ran(alloc, script, cell, refusing_once(alloc).ok()?)
+    let sum: PayloadBox = Box::new(alloc, refusing_once()).ok()?;
+    ran(alloc, script, cell, sum)
 }
 
 // A store of one worker.
@@ -135,7 +134,8 @@ fn seen_in_a_store<P: Payload>(
 // What is seen of a worker who stores a cell, and of one such sum.
 fn seen_of_boxes(alloc: Global) -> Option<(ApplyFault, bool, u64)> {
     let cell: PayloadBox = Box::new(alloc, CellPayload::new(0)).ok()?;
-    seen_in_a_store(alloc, cell, refusing_once(alloc).ok()?)
+    let sum: PayloadBox = Box::new(alloc, refusing_once()).ok()?;
+    seen_in_a_store(alloc, cell, sum)
 }
 
 // The write that is refused has no entry, and the read behind it is answered what was there before.

@@ -42,6 +42,19 @@ fn run_all<R: Threads + Wait + Sync>(
 }
 
 // How many vertices are left of all lines, how many entries there are, and whether each is right.
+fn seen_in<R: Threads + Wait + Sync>(
+    rt: &R,
+    alloc: Global,
+    store: &mut Store<LogPayload>,
+    helpers: u32,
+) -> Option<(u64, u64, bool)>
+    requires { helpers ≤ 8 }
+{
+    let left = run_all(rt, alloc, store, helpers)?;
+    Some((left, store.journal().len(), is_legal(alloc, store)))
+}
+
+// What is seen in a store of one worker.
 fn seen_of_lines<R: Threads + Wait + Sync>(
     rt: &R,
     alloc: Global,
@@ -50,8 +63,7 @@ fn seen_of_lines<R: Threads + Wait + Sync>(
     requires { helpers ≤ 8 }
 {
     let mut store = store(alloc, 1, &[])?;
-    let left = run_all(rt, alloc, &mut store, helpers)?;
-    Some((left, store.journal().len(), is_legal(alloc, &store)))
+    seen_in(rt, alloc, &mut store, helpers)
 }
 
 // Makes a vertex of each worker, whose row is a root, and collects by so many helpers. How many vertices are left.
@@ -73,6 +85,20 @@ fn collect_rows<R: Threads + Wait + Sync>(
 
 // How many vertices a nursery collection and then a full one leave of 64 workers' rows, which helpers share out by eights, and
 // whether each entry is right.
+fn seen_in_rows<R: Threads + Wait + Sync>(
+    rt: &R,
+    alloc: Global,
+    store: &mut Store<LogPayload>,
+    helpers: u32,
+) -> Option<(u64, u64, bool)>
+    requires { helpers ≤ 8 }
+{
+    let young = collect_rows(rt, alloc, store, Kind::Nursery, helpers)?;
+    let all = collect_rows(rt, alloc, store, Kind::Full, helpers)?;
+    Some((young, all, is_legal(alloc, store)))
+}
+
+// What is seen in a store of 64 workers.
 fn seen_of_rows<R: Threads + Wait + Sync>(
     rt: &R,
     alloc: Global,
@@ -81,9 +107,7 @@ fn seen_of_rows<R: Threads + Wait + Sync>(
     requires { helpers ≤ 8 }
 {
     let mut store = store(alloc, 64, &[])?;
-    let young = collect_rows(rt, alloc, &mut store, Kind::Nursery, helpers)?;
-    let all = collect_rows(rt, alloc, &mut store, Kind::Full, helpers)?;
-    Some((young, all, is_legal(alloc, &store)))
+    seen_in_rows(rt, alloc, &mut store, helpers)
 }
 
 #[test]

@@ -2,8 +2,8 @@
 ghost use Rattle.std.specs.Prelude.{◌≡◌, ◌+◌};
 ghost use Rattle.tg_shared.specs.Sessions.{start_of_store};
 
-use crate::again::{draft, is_legal, store};
-use crate::stores::edge;
+use crate::again::{draft, is_legal};
+use crate::stores::opened;
 use std::alloc::Global;
 use std::marker::Brand;
 use std::sync::Wait;
@@ -171,17 +171,16 @@ fn share_at_last<R: Wait>(
     }
 }
 
-// The number of the last collection, how many receipts and how many entries there are, and whether each entry is right.
+// How many entries there are, and whether each is right.
+fn seen_of_journal(alloc: Global, store: &Store<LogPayload>) -> (u64, bool) {
+    (store.journal().len(), is_legal(alloc, store))
+}
+
+// The number of the last collection, how many receipts and how many entries there are, and whether each is right.
 fn seen_of_two<R: Wait>(rt: &R, alloc: Global) -> Option<(u64, u64, u64, bool)> {
-    let edges = [edge(0, 1, b"rw")?, edge(1, 0, b"rw")?];
-    let store = store(alloc, 2, &edges)?;
-    let (left, receipts, store) = share_at_last(rt, alloc, store)?;
-    Some((
-        left,
-        receipts,
-        store.journal().len(),
-        is_legal(alloc, &store),
-    ))
+    let (left, receipts, store) = share_at_last(rt, alloc, opened(alloc)?)?;
+    let (entries, is_right) = seen_of_journal(alloc, &store);
+    Some((left, receipts, entries, is_right))
 }
 
 #[test]

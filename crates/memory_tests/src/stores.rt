@@ -9,8 +9,8 @@ use tg_payload::LogPayload;
 use tg_rights::{Label, Rights};
 use tg_store::Store;
 
-/// An edge between two workers.
-pub(crate) fn edge(from: u64, to: u64, letters: &[u8]) -> Option<Edge> {
+// An edge between two workers.
+fn edge(from: u64, to: u64, letters: &[u8]) -> Option<Edge> {
     let label = Label::new(Rights::read_text(letters)?)?;
     Some(Edge { from, to, label })
 }
@@ -59,11 +59,25 @@ fn run_all<R: Threads + Wait + Sync>(
 }
 
 // How many vertices are left of all lines, how many entries there are, and whether each is right.
-fn seen_of_lines<R: Threads + Wait + Sync>(rt: &R, alloc: Global) -> Option<(u64, u64, bool)> {
+fn seen_in<R: Threads + Wait + Sync>(
+    rt: &R,
+    alloc: Global,
+    store: &mut Store<LogPayload>,
+) -> Option<(u64, u64, bool)> {
+    let left = run_all(rt, alloc, store)?;
+    Some((left, store.journal().len(), is_legal(alloc, store)))
+}
+
+/// A store of two workers, with edges between them.
+pub(crate) fn opened(alloc: Global) -> Option<Store<LogPayload>> {
     let edges = [edge(0, 1, b"tg")?, edge(1, 0, b"r")?];
-    let mut store = store(alloc, 2, &edges)?;
-    let left = run_all(rt, alloc, &mut store)?;
-    Some((left, store.journal().len(), is_legal(alloc, &store)))
+    store(alloc, 2, &edges)
+}
+
+// What is seen in a store of its own.
+fn seen_of_lines<R: Threads + Wait + Sync>(rt: &R, alloc: Global) -> Option<(u64, u64, bool)> {
+    let mut store = opened(alloc)?;
+    seen_in(rt, alloc, &mut store)
 }
 
 #[test]
