@@ -11,6 +11,8 @@ mod counting_payload;
 #[cfg(test)]
 mod payloads;
 #[cfg(test)]
+mod rows_by_helpers;
+#[cfg(test)]
 mod scripts;
 #[cfg(test)]
 mod stocks;
