@@ -8,7 +8,9 @@ use std::sync::ledger::{Blank, Ledger};
 use std::test::Fail;
 use std::thread::Threads;
 use tg_payload::{CellPayload, Draft};
-use tg_script::{Bytes, Count, Limits, Settings, Written, drafts_of, run_in_memory};
+use tg_script::{
+    Bytes, Count, Helpers, Limits, OneThread, Settings, Written, drafts_of, run_in_memory,
+};
 use tg_threads::{Gate, RaceFault, run_race};
 
 /// What was written, and how it ended.
@@ -23,6 +25,7 @@ pub(crate) fn settings_of(workers: u64, max_vertices: u64) -> Result<Settings, F
     match Limits::new(4096, 1 << 20) {
         Ok(limits) => Ok(Settings {
             workers,
+            helpers: Helpers::one(),
             max_vertices,
             limits,
         }),
@@ -102,7 +105,7 @@ pub(crate) fn plain(
     if settings.workers < 1 || 64 < settings.workers || workers.len() as u64 != settings.workers {
         return Err(AllocError);
     }
-    let ran = run_in_memory(alloc, script, settings, workers, stock);
+    let ran = run_in_memory(alloc, &OneThread, script, settings, workers, stock);
     match ran.outcome {
         Ok(()) => Ok(Some(ran.written)),
         Err(_) => Ok(None),

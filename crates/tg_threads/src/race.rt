@@ -51,7 +51,7 @@ pub fn run_race<P: Payload + Send, S: Source, K: Sink, G: Gate + Sync, R: Thread
 ) -> Result<(), RaceFault>
     requires number { (1 ≤ settings.workers) × (settings.workers ≤ 64) }
     requires workers { length workers.items ≡ settings.workers }
-    ensures output { let start : Start = record { workers = settings.workers; limit = settings.max_vertices; blocks = settings.limits.max_blocks; values = workers.items; stock = stock.items } in
+    ensures output { let start : Start = record { workers = settings.workers; helpers = settings.helpers; limit = settings.max_vertices; blocks = settings.limits.max_blocks; values = workers.items; stock = stock.items } in
         (bytes before : List ℕ) → S.left source.old ≡ Some bytes → K.taken sink.old ≡ Some before →
         (left : List ℕ) × (S.left source.new ≡ Some left) × HasRaced start bytes before result left (K.taken sink.new) }
     ensures asked { S.asked source.new ≤ S.asked source.old + 1048577 }
@@ -88,7 +88,7 @@ fn race<P: Payload + Send, S: Source, K: Sink, G: Gate + Sync, R: Threads + Wait
 ) -> Result<(), RaceFault>
     requires number { (1 ≤ settings.workers) × (settings.workers ≤ 64) }
     requires workers { length workers.items ≡ settings.workers }
-    ensures output { let start : Start = record { workers = settings.workers; limit = settings.max_vertices; blocks = settings.limits.max_blocks; values = workers.items; stock = stock.items } in
+    ensures output { let start : Start = record { workers = settings.workers; helpers = settings.helpers; limit = settings.max_vertices; blocks = settings.limits.max_blocks; values = workers.items; stock = stock.items } in
         (bytes before : List ℕ) → S.left source.old ≡ Some bytes → K.taken sink.old ≡ Some before →
         (left : List ℕ) × (S.left source.new ≡ Some left) × HasRaced start bytes before result left (K.taken sink.new) }
     ensures asked { S.asked source.new ≤ S.asked source.old + 1048577 }
@@ -118,7 +118,7 @@ fn open_race<P: Payload, S: Source, K: Sink>(
     requires workers { length workers.items ≡ settings.workers }
     ensures new { IfOk result (λ opened. (opened.store.opening.workers ≡ settings.workers) × (opened.store.entries ≡ [])) }
     ensures commands { IfOk result (λ opened. All IsCommand opened.lines.items) }
-    ensures output { let start : Start = record { workers = settings.workers; limit = settings.max_vertices; blocks = settings.limits.max_blocks; values = workers.items; stock = [] } in
+    ensures output { let start : Start = record { workers = settings.workers; helpers = settings.helpers; limit = settings.max_vertices; blocks = settings.limits.max_blocks; values = workers.items; stock = [] } in
         (bytes : List ℕ) → S.left source.old ≡ Some bytes → (left : List ℕ) × (S.left source.new ≡ Some left) × OpensRace start bytes result left }
     ensures taken { Keeps (K.taken sink.old) (K.taken sink.new) }
     ensures asked { S.asked source.new ≤ S.asked source.old + 1048577 }

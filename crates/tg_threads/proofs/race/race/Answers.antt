@@ -6,7 +6,7 @@ use Rattle.tg_threads.proofs.race.race.Goals as goal
 
 pub returns-clause-output : goal.returns-clause-output
 returns-clause-output g c = λ bytes before known taken.
-    let start : Start = record { workers = c.args.settings.workers; limit = c.args.settings.max_vertices; blocks = c.args.settings.limits.max_blocks; values = c.args.workers.items; stock = c.args.stock.items } in
+    let start : Start = record { workers = c.args.settings.workers; helpers = c.args.settings.helpers; limit = c.args.settings.max_vertices; blocks = c.args.settings.limits.max_blocks; values = c.args.workers.items; stock = c.args.stock.items } in
     let s = g.K.Sink in
     let opens = c.in_ok-opened.ensures.output bytes known in
     let whole = opens.2 in

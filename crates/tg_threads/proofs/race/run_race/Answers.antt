@@ -4,7 +4,7 @@ use Rattle.tg_threads.proofs.race.run_race.Goals as goal
 
 pub returns-clause-output : goal.returns-clause-output
 returns-clause-output g c = λ bytes before known taken.
-    let start : Start = record { workers = c.args.settings.workers; limit = c.args.settings.max_vertices; blocks = c.args.settings.limits.max_blocks; values = c.args.workers.items; stock = c.args.stock.items } in
+    let start : Start = record { workers = c.args.settings.workers; helpers = c.args.settings.helpers; limit = c.args.settings.max_vertices; blocks = c.args.settings.limits.max_blocks; values = c.args.workers.items; stock = c.args.stock.items } in
     let s = g.K.Sink in
     let had = c.race-outcome.ensures.output bytes before known taken in (
       had.0,
