@@ -1,7 +1,7 @@
 -- What was written for the whole of a script.
 use mathlib.Core.Bool.{false≢true}
 use Rattle.std.specs.Prelude.{IsOk, IfSome}
-use Rattle.std.proofs.Common.{◌≡◌, ◌≢◌, inl, inr, ℕ, ◌≤◌, Bool, true, false, List, [], ◌∷◌, ◌++◌, length, Option, Some, None, Result, Ok, Err, refl, sym, ap, ◌∙◌, subst, arith, append_assoc, append-nil}
+use Rattle.std.proofs.Common.{◌≡◌, ◌≢◌, inl, inr, ℕ, Bool, true, false, List, [], ◌∷◌, ◌++◌, length, Option, Some, None, Result, Ok, Err, refl, sym, ap, ◌∙◌, subst, arith, append_assoc, append-nil}
 use Rattle.tg_model.specs.declared.edge.Edge.{Edge}
 use Rattle.tg_model.specs.Opened.{Plan, HasLimits, start_of}
 use Rattle.tg_text.specs.declared.line.Line.{Line}
@@ -129,6 +129,7 @@ abbrev pub scene_with : Start → List Edge → Scene
 scene_with start edges = record {
   graph = start_of (record { workers = start.workers; edges = edges; values = start.values; limit = start.limit });
   stock = start.stock;
+  helpers = start.helpers;
 }
 
 told_output : (start : Start) (s t : Script) (bytes rest : List ℕ) (edges : List Edge) (l : Line) (end : Option ScriptFault) (left text : List ℕ) → IsFresh s start.workers → CanOpen start → IsCommand l → Behind s bytes (edge_lines edges ++ l ∷ []) t rest → IsTold t rest (scene_with start edges) l end left text → IsScriptOutput start bytes end left text

@@ -21,10 +21,11 @@ use Rattle.tg_text.specs.Texts.{answer_text}
 
 -- ---- the answer to one line
 
--- the graph, and the values that are left in the stock
+-- the graph, the values that are left in the stock, and how many helpers a collection has
 pub record Scene : Type 0 where
   pub graph : ProtectionGraph
   pub stock : List Value
+  pub helpers : ℕ
 
 -- The answer to a create line of x and the scene after it, where this stands in the stock. The first value is taken where a
 -- vertex is made.
@@ -32,7 +33,7 @@ abbrev pub Creates : Scene → ℕ → RightSet → List Value → Answer → Sc
 Creates s x label [] a t = (a ≡ told.Refused refusal.Stock) × (t ≡ s)
 Creates s x label (value ∷ rest) a t =
     (IsSubject s.graph x × (a ≡ told.Reply (answer_of s.graph x (deed.Create label value.law value.state)))
-    × (t ≡ record { graph = step s.graph x (deed.Create label value.law value.state); stock = if nat_lt s.graph.made s.graph.limit then rest else s.stock }))
+    × (t ≡ record s { graph = step s.graph x (deed.Create label value.law value.state); stock = if nat_lt s.graph.made s.graph.limit then rest else s.stock }))
     ⊎ ((¬ IsSubject s.graph x) × (a ≡ told.Refused refusal.Worker) × (t ≡ s))
 
 -- The answer to a line and the scene after it, where nothing is wanting. A full collection answers the number of the
@@ -47,18 +48,25 @@ Answers s (line.Plain x command) a t =
 Answers s line.Full a t = (n : ℕ) × IsCountOf (IsReachable s.graph) n × (a ≡ told.Collected (Some n)) × (t ≡ s)
 Answers s line.Minor a t = (a ≡ told.Collected None) × (t ≡ s)
 
+-- what a collection by so many helpers may be refused for: threads can be wanting only where there is more than one
+abbrev pub MayWant : ℕ → Refusal → Type 0
+MayWant helpers refusal.Memory = Unit {0}
+MayWant helpers refusal.Heap = Unit {0}
+MayWant helpers refusal.Threads = 1 < helpers
+MayWant helpers refusal.Worker = ⊥
+MayWant helpers refusal.Vertices = ⊥
+MayWant helpers refusal.Stock = ⊥
+
 -- What may be answered in place of that, with nothing changed: memory may be wanting for each line that reaches the store, one
--- of a worker or a collection; room in the heap for a collection, and for a create, a take or a grant that is allowed. There
--- is no second thread yet for whose want a line could be refused.
+-- of a worker or a collection; room in the heap for a collection, and for a create, a take or a grant that is allowed; threads
+-- for a collection by several helpers.
 abbrev pub MayRefuse : Scene → Line → Refusal → Type 0
 MayRefuse s (line.Create x label) refusal.Memory = IsSubject s.graph x × (s.stock ≢ [])
 MayRefuse s (line.Plain x command) refusal.Memory = IsSubject s.graph x
-MayRefuse s line.Full refusal.Memory = Unit {0}
-MayRefuse s line.Minor refusal.Memory = Unit {0}
 MayRefuse s (line.Create x label) refusal.Heap = IsSubject s.graph x × (s.stock ≢ []) × (s.graph.made < s.graph.limit)
 MayRefuse s (line.Plain x command) refusal.Heap = IsSubject s.graph x × IsAllowed s.graph x (deed.Plain command) × AddsEdge command
-MayRefuse s line.Full refusal.Heap = Unit {0}
-MayRefuse s line.Minor refusal.Heap = Unit {0}
+MayRefuse s line.Full r = MayWant s.helpers r
+MayRefuse s line.Minor r = MayWant s.helpers r
 MayRefuse s l r = ⊥
 
 -- the line is answered, or refused for want with the scene as it was
@@ -107,10 +115,11 @@ commands_of (line.Plain x command ∷ lines) = line.Plain x command ∷ lines
 commands_of (line.Full ∷ lines) = line.Full ∷ lines
 commands_of (line.Minor ∷ lines) = line.Minor ∷ lines
 
--- what a run is given beside the script: the number of workers, the most vertices, the most blocks of the heap, the workers'
--- values, and the stock
+-- what a run is given beside the script: the number of workers, how many helpers a collection has, the most vertices, the most
+-- blocks of the heap, the workers' values, and the stock
 pub record Start : Type 0 where
   pub workers : ℕ
+  pub helpers : ℕ
   pub limit : ℕ
   pub blocks : ℕ
   pub values : List Value
@@ -121,6 +130,7 @@ abbrev pub scene_of : Start → List Line → Scene
 scene_of start lines = record {
   graph = start_of (record { workers = start.workers; edges = edges_of lines; values = start.values; limit = start.limit });
   stock = start.stock;
+  helpers = start.helpers;
 }
 
 -- the limit leaves room for the workers

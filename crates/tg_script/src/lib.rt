@@ -1,19 +1,22 @@
 //! Scripts: a store that is driven by lines of text.
 //!
 //! A script is a list of lines: first the edges between workers, then commands, each of one worker, and collections. Its
-//! bytes come from a [`Source`], and the replies, one line each, go to a [`Sink`]. [`run_script_one`] runs a whole
-//! script: it reads a line, answers it and writes the reply before it reads the next.
+//! bytes come from a [`Source`], and the replies, one line each, go to a [`Sink`]. [`run_script_with`] runs a whole
+//! script: it reads a line, answers it and writes the reply before it reads the next. What makes its collections is a
+//! [`Collector`]; [`run_script_one`] is the run with [`OneThread`].
 //!
 //! How lines and answers are spelled, and how bytes are read, is `tg_text`'s; what callers need of it is offered here
 //! again. What a reader has to believe besides stands in `specs/`: `Script` says what is answered to the lines and in
 //! which cases a line may be refused instead, and `Running` what then stands in the sink. The other files of `specs/`
 //! are inside matters of this crate.
 //!
-//! Nothing here waits, and no line takes memory but an edge line and what the store takes. Programs call
-//! [`run_script_one`] with [`OfRead`] and [`OfWrite`]; [`Bytes`] and [`Written`] serve in memory.
+//! Nothing here waits or starts a thread, and no line takes memory but an edge line and what the store takes. Programs call
+//! [`run_script_with`] with [`OfRead`] and [`OfWrite`]; [`Bytes`] and [`Written`] serve in memory.
 #![tactic(auto)]
 
+mod collector;
 mod drafts;
+mod helpers;
 pub mod laws;
 mod opening;
 mod run;
@@ -22,9 +25,11 @@ mod script;
 mod supply;
 mod whole;
 
+pub use collector::{Collector, OneThread};
 pub use drafts::{drafts_of, values_of};
+pub use helpers::{Helpers, MOST_HELPERS};
 pub use opening::open_store;
-pub use run_script::{InMemory, Settings, run_in_memory, run_script_one};
+pub use run_script::{InMemory, Settings, run_in_memory, run_script_one, run_script_with};
 pub use tg_store::Limits;
 pub use tg_text::{
     Answer, Bytes, Count, Line, MOST_BOXES, MOST_BYTES, MOST_LINE_BYTES, Next, OfRead, OfWrite,

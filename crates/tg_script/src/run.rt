@@ -1,19 +1,22 @@
 //! A run under way: the store and the stock, and how each line is answered.
 ghost use Rattle.std.specs.Prelude.{◌≡◌};
-ghost use Rattle.tg_script.specs.Answering.{apply_refusal, collect_refusal, create_answer};
+ghost use Rattle.tg_script.specs.Answering.{apply_refusal, create_answer};
 
+use crate::collector::Collector;
+use crate::helpers::Helpers;
 use crate::supply::Supply;
 use tg_model::{Command, Reply};
 use tg_payload::{Draft, Payload};
 use tg_rights::Label;
-use tg_store::{ApplyFault, CollectFault, CreateFault, CreateRefused, Kind, Store};
+use tg_store::{ApplyFault, CreateFault, CreateRefused, Kind, Store};
 use tg_text::{Answer, Line, Refusal};
 
-/// The store, and the payloads for the vertices that are still to be made.
+/// The store, the payloads for the vertices that are still to be made, and how many helpers a collection has.
 #[derive(Drop)]
 pub(crate) struct Run<P: Payload> {
     pub(crate) store: Store<P>,
     pub(crate) supply: Supply<P>,
+    pub(crate) helpers: Helpers,
 }
 
 impl<P: Payload> Run<P> {
@@ -22,15 +25,15 @@ impl<P: Payload> Run<P> {
     ghost use Rattle.tg_script.specs.Run.{Handles, HandlesWith};
 
     /// What a line is answered. No line fails: where memory or room is wanting, that is the answer.
-    pub(crate) fn answer(&mut self, line: Line) -> Answer
+    pub(crate) fn answer<C: Collector>(&mut self, collector: &C, line: Line) -> Answer
         requires { IsCommand line }
         ensures { Handles self.old line result self.new }
     {
         match line {
             Line::Create { worker, label } => self.create(worker, label),
             Line::Plain { worker, command } => self.apply(worker, command),
-            Line::Full => self.collect_all(),
-            Line::Minor => self.collect_nurseries(),
+            Line::Full => self.collect_all(collector),
+            Line::Minor => self.collect_nurseries(collector),
             Line::Edge(_) => unreachable!(),
         }
     }
@@ -44,22 +47,22 @@ impl<P: Payload> Run<P> {
         }
     }
 
-    fn collect_all(&mut self) -> Answer
+    fn collect_all<C: Collector>(&mut self, collector: &C) -> Answer
         ensures { Handles self.old Line.Full result self.new }
     {
-        match self.store.collect(Kind::Full) {
+        match collector.collect(&mut self.store, Kind::Full, self.helpers) {
             Ok(kept) => Answer::Collected(Some(kept)),
-            Err(fault) => Answer::Refused(collect_refusal(fault)),
+            Err(refusal) => Answer::Refused(refusal),
         }
     }
 
     // How many vertices the heap then has isn't told: the graph doesn't say it.
-    fn collect_nurseries(&mut self) -> Answer
+    fn collect_nurseries<C: Collector>(&mut self, collector: &C) -> Answer
         ensures { Handles self.old Line.Minor result self.new }
     {
-        match self.store.collect(Kind::Nursery) {
+        match collector.collect(&mut self.store, Kind::Nursery, self.helpers) {
             Ok(_) => Answer::Collected(None),
-            Err(fault) => Answer::Refused(collect_refusal(fault)),
+            Err(refusal) => Answer::Refused(refusal),
         }
     }
 
@@ -96,15 +99,6 @@ fn apply_refusal(fault: ApplyFault) -> Refusal
         ApplyFault::NoSuchWorker => Refusal::Worker,
         ApplyFault::OutOfMemory => Refusal::Memory,
         ApplyFault::HeapFull => Refusal::Heap,
-    }
-}
-
-fn collect_refusal(fault: CollectFault) -> Refusal
-    ensures { result ≡ collect_refusal fault }
-{
-    match fault {
-        CollectFault::OutOfMemory => Refusal::Memory,
-        CollectFault::HeapFull => Refusal::Heap,
     }
 }
 

@@ -1,11 +1,15 @@
 //! The run of a whole script.
 ghost use Rattle.std.specs.Prelude.{◌≡◌, ◌+◌, ◌<◌, ◌≤◌, ℕ, List, [], length, Option, Some, Err, true, false, OnOk};
+ghost use Rattle.std.specs.List.{All};
+ghost use Rattle.tg_model.specs.Opened.{Plan, JoinsWorkers};
 ghost use Rattle.tg_script.specs.Lines.{read_failures, write_failures};
 ghost use Rattle.tg_script.specs.Opening.{IsCommand};
-ghost use Rattle.tg_script.specs.Run.{Shows};
+ghost use Rattle.tg_script.specs.Run.{OpensRun, Shows};
 ghost use Rattle.tg_script.specs.Running.{Ran, TellsAll, Finishes, RunsLine};
 ghost use Rattle.tg_script.specs.Script.{Scene, Start};
 
+use crate::collector::{Collector, OneThread};
+use crate::helpers::Helpers;
 use crate::opening::{Front, open_store, read_edges};
 use crate::run::Run;
 use crate::script::Script;
@@ -13,6 +17,7 @@ use crate::supply::Supply;
 use std::alloc::Global;
 use std::marker::Brand;
 use std::sync::ledger::{Blank, Ledger};
+use tg_model::Edge;
 use tg_payload::{Draft, Payload};
 use tg_store::Limits;
 use tg_text::{Bytes, Count, Line, ScriptFault, Sink, Source, WriteFailed, Written, write_reply};
@@ -22,6 +27,8 @@ use tg_text::{Bytes, Count, Line, ScriptFault, Sink, Source, WriteFailed, Writte
 pub struct Settings {
     /// The number of workers, from 1 to 64.
     pub workers: u64,
+    /// How many helpers each collection has.
+    pub helpers: Helpers,
     /// The most vertices that may ever be made, from 1 to 2^24 and not below the number of workers.
     pub max_vertices: u64,
     /// How many blocks the heap may have.
@@ -34,6 +41,35 @@ pub struct Settings {
 /// next line is run, and what was written is finished before the source is asked for what it doesn't hold. What is written is
 /// the text for the lines before the first fault, and after `WriteFailed` all of it but a part of the last reply. The
 /// source is asked for at most 1,048,577 bytes. The sink is finished at the end, after a fault too, which then stands.
+///
+/// The collector makes the collections, each with as many helpers as the settings have. Where that is more than one, a line may be
+/// answered `refused threads` for want of a thread; nothing is changed then.
+pub fn run_script_with<P: Payload, C: Collector, S: Source, K: Sink>(
+    alloc: Global,
+    collector: &C,
+    source: &mut S,
+    sink: &mut K,
+    settings: Settings,
+    workers: Vec<Draft<P>>,
+    stock: Vec<Draft<P>>,
+) -> Result<(), ScriptFault>
+    requires number { (1 ≤ settings.workers) × (settings.workers ≤ 64) }
+    requires workers { length workers.items ≡ settings.workers }
+    ensures output { let start : Start = record { workers = settings.workers; helpers = settings.helpers; limit = settings.max_vertices; blocks = settings.limits.max_blocks; values = workers.items; stock = stock.items } in
+        (bytes before : List ℕ) → S.left source.old ≡ Some bytes → K.taken sink.old ≡ Some before →
+        (left : List ℕ) × (S.left source.new ≡ Some left) × Ran start bytes before result left (K.taken sink.new) }
+    ensures asked { S.asked source.new ≤ S.asked source.old + 1048577 }
+    ensures read_failed { S.failures source.new ≡ S.failures source.old + read_failures result }
+    ensures write_failed { result ≡ Err ScriptFault.WriteFailed → K.failures sink.old < K.failures sink.new }
+    ensures unfailed { OnOk result (K.failures sink.new ≡ K.failures sink.old) }
+    ensures finished { K.finished sink.new ≡ true }
+{
+    let outcome = run_lines(alloc, collector, source, sink, settings, workers, stock);
+    finish(sink, outcome)
+}
+
+/// Runs the script as [`run_script_with`] does, with collections by the thread that runs it alone: how many helpers the settings have
+/// isn't looked at.
 pub fn run_script_one<P: Payload, S: Source, K: Sink>(
     alloc: Global,
     source: &mut S,
@@ -44,7 +80,7 @@ pub fn run_script_one<P: Payload, S: Source, K: Sink>(
 ) -> Result<(), ScriptFault>
     requires number { (1 ≤ settings.workers) × (settings.workers ≤ 64) }
     requires workers { length workers.items ≡ settings.workers }
-    ensures output { let start : Start = record { workers = settings.workers; limit = settings.max_vertices; blocks = settings.limits.max_blocks; values = workers.items; stock = stock.items } in
+    ensures output { let start : Start = record { workers = settings.workers; helpers = 1; limit = settings.max_vertices; blocks = settings.limits.max_blocks; values = workers.items; stock = stock.items } in
         (bytes before : List ℕ) → S.left source.old ≡ Some bytes → K.taken sink.old ≡ Some before →
         (left : List ℕ) × (S.left source.new ≡ Some left) × Ran start bytes before result left (K.taken sink.new) }
     ensures asked { S.asked source.new ≤ S.asked source.old + 1048577 }
@@ -53,8 +89,11 @@ pub fn run_script_one<P: Payload, S: Source, K: Sink>(
     ensures unfailed { OnOk result (K.failures sink.new ≡ K.failures sink.old) }
     ensures finished { K.finished sink.new ≡ true }
 {
-    let outcome = run_lines(alloc, source, sink, settings, workers, stock);
-    finish(sink, outcome)
+    let settings = Settings {
+        helpers: Helpers::one(),
+        ..settings
+    };
+    run_script_with(alloc, &OneThread, source, sink, settings, workers, stock)
 }
 
 /// What a run in memory wrote, and how it ended.
@@ -64,9 +103,10 @@ pub struct InMemory {
     pub outcome: Result<(), ScriptFault>,
 }
 
-/// Runs a script that lies in memory, as [`run_script_one`] does, and keeps what is written in memory.
-pub fn run_in_memory<P: Payload>(
+/// Runs a script that lies in memory, as [`run_script_with`] does, and keeps what is written in memory.
+pub fn run_in_memory<P: Payload, C: Collector>(
     alloc: Global,
+    collector: &C,
     script: &[u8],
     settings: Settings,
     workers: Vec<Draft<P>>,
@@ -74,16 +114,19 @@ pub fn run_in_memory<P: Payload>(
 ) -> InMemory
     requires number { (1 ≤ settings.workers) × (settings.workers ≤ 64) }
     requires workers { length workers.items ≡ settings.workers }
-    ensures { let start : Start = record { workers = settings.workers; limit = settings.max_vertices; blocks = settings.limits.max_blocks; values = workers.items; stock = stock.items } in
+    ensures { let start : Start = record { workers = settings.workers; helpers = settings.helpers; limit = settings.max_vertices; blocks = settings.limits.max_blocks; values = workers.items; stock = stock.items } in
         (left : List ℕ) × Ran start script.now [] result.outcome left (Some result.written.items) }
 {
     let (asked, failures) = (Blank::new(1), Blank::new(1));
-    run_counted::<P, Brand, Brand>(alloc, script, settings, workers, stock, asked, failures)
+    run_counted::<P, C, Brand, Brand>(
+        alloc, collector, script, settings, workers, stock, asked, failures,
+    )
 }
 
 // The counts of the source and of the sink are those of the ledgers A and F.
-fn run_counted<P: Payload, A: Ledger, F: Ledger>(
+fn run_counted<P: Payload, C: Collector, A: Ledger, F: Ledger>(
     alloc: Global,
+    collector: &C,
     script: &[u8],
     settings: Settings,
     workers: Vec<Draft<P>>,
@@ -95,12 +138,20 @@ fn run_counted<P: Payload, A: Ledger, F: Ledger>(
     requires workers { length workers.items ≡ settings.workers }
     requires asked { (asked.name ≡ A.name) × (asked.parts ≡ A.parts) × (0 < asked.parts) }
     requires failures { (failures.name ≡ F.name) × (failures.parts ≡ F.parts) × (0 < failures.parts) }
-    ensures { let start : Start = record { workers = settings.workers; limit = settings.max_vertices; blocks = settings.limits.max_blocks; values = workers.items; stock = stock.items } in
+    ensures { let start : Start = record { workers = settings.workers; helpers = settings.helpers; limit = settings.max_vertices; blocks = settings.limits.max_blocks; values = workers.items; stock = stock.items } in
         (left : List ℕ) × Ran start script.now [] result.outcome left (Some result.written.items) }
 {
     let mut source = Bytes::new(script, Count::<A>::new(asked));
     let mut sink = Written::new(alloc, Count::<F>::new(failures));
-    let outcome = run_script_one(alloc, &mut source, &mut sink, settings, workers, stock);
+    let outcome = run_script_with(
+        alloc,
+        collector,
+        &mut source,
+        &mut sink,
+        settings,
+        workers,
+        stock,
+    );
     let Written { bytes, .. } = sink;
     InMemory {
         written: bytes,
@@ -123,8 +174,9 @@ fn finish<K: Sink>(sink: &mut K, outcome: Result<(), ScriptFault>) -> Result<(),
 }
 
 // All but that the sink is finished.
-fn run_lines<P: Payload, S: Source, K: Sink>(
+fn run_lines<P: Payload, C: Collector, S: Source, K: Sink>(
     alloc: Global,
+    collector: &C,
     source: &mut S,
     sink: &mut K,
     settings: Settings,
@@ -133,7 +185,7 @@ fn run_lines<P: Payload, S: Source, K: Sink>(
 ) -> Result<(), ScriptFault>
     requires number { (1 ≤ settings.workers) × (settings.workers ≤ 64) }
     requires workers { length workers.items ≡ settings.workers }
-    ensures output { let start : Start = record { workers = settings.workers; limit = settings.max_vertices; blocks = settings.limits.max_blocks; values = workers.items; stock = stock.items } in
+    ensures output { let start : Start = record { workers = settings.workers; helpers = settings.helpers; limit = settings.max_vertices; blocks = settings.limits.max_blocks; values = workers.items; stock = stock.items } in
         (bytes before : List ℕ) → S.left source.old ≡ Some bytes → K.taken sink.old ≡ Some before →
         (left : List ℕ) × (S.left source.new ≡ Some left) × Ran start bytes before result left (K.taken sink.new) }
     ensures asked { S.asked source.new ≤ S.asked source.old + 1048577 }
@@ -141,8 +193,28 @@ fn run_lines<P: Payload, S: Source, K: Sink>(
     ensures write_failed { K.failures sink.new ≡ K.failures sink.old + write_failures result }
 {
     let mut script = Script::new(settings.workers);
-    let front = read_edges(alloc, &mut script, source, sink)?;
-    let Front { edges, first } = front;
+    let Front { edges, first } = read_edges(alloc, &mut script, source, sink)?;
+    let mut run = open_run(alloc, settings, edges, workers, stock)?;
+    match first {
+        Some(first) => run_commands(&mut run, collector, &mut script, source, sink, first),
+        None => Ok(()),
+    }
+}
+
+// Opens the store, beside which the stock is whole.
+fn open_run<P: Payload>(
+    alloc: Global,
+    settings: Settings,
+    edges: Vec<Edge>,
+    workers: Vec<Draft<P>>,
+    stock: Vec<Draft<P>>,
+) -> Result<Run<P>, ScriptFault>
+    requires number { (1 ≤ settings.workers) × (settings.workers ≤ 64) }
+    requires edges { All (JoinsWorkers settings.workers) edges.items }
+    requires workers { length workers.items ≡ settings.workers }
+    ensures { let plan : Plan = record { workers = settings.workers; edges = edges.items; values = workers.items; limit = settings.max_vertices } in
+        OpensRun plan settings.limits.max_blocks stock.items settings.helpers result }
+{
     let store = open_store(
         alloc,
         settings.workers,
@@ -151,17 +223,17 @@ fn run_lines<P: Payload, S: Source, K: Sink>(
         settings.max_vertices,
         settings.limits,
     )?;
-    let Some(first) = first else {
-        return Ok(());
-    };
-    let supply = Supply::new(stock);
-    let mut run = Run { store, supply };
-    run_commands(&mut run, &mut script, source, sink, first)
+    Ok(Run {
+        store,
+        supply: Supply::new(stock),
+        helpers: settings.helpers,
+    })
 }
 
 // Runs the lines from the first on that is no edge line.
-fn run_commands<P: Payload, S: Source, K: Sink>(
+fn run_commands<P: Payload, C: Collector, S: Source, K: Sink>(
     run: &mut Run<P>,
+    collector: &C,
     script: &mut Script,
     source: &mut S,
     sink: &mut K,
@@ -177,7 +249,7 @@ fn run_commands<P: Payload, S: Source, K: Sink>(
 {
     let mut line = first;
     'lines: loop {
-        let Ok(()) = run_line(run, sink, line) else {
+        let Ok(()) = run_line(run, collector, sink, line) else {
             return Err(ScriptFault::WriteFailed);
         };
         let came = script.next(source, sink)?;
@@ -189,14 +261,15 @@ fn run_commands<P: Payload, S: Source, K: Sink>(
 }
 
 // Answers the line, and writes the answer.
-fn run_line<P: Payload, K: Sink>(
+fn run_line<P: Payload, C: Collector, K: Sink>(
     run: &mut Run<P>,
+    collector: &C,
     sink: &mut K,
     line: Line,
 ) -> Result<(), WriteFailed>
     requires { IsCommand line }
     ensures { RunsLine run.old line run.new (K.taken sink.old) (K.failures sink.old) result (K.taken sink.new) (K.failures sink.new) }
 {
-    let answer = run.answer(line);
+    let answer = run.answer(collector, line);
     write_reply(sink, &answer)
 }

@@ -6,60 +6,60 @@ use Rattle.tg_script.proofs.LinesLaws.{keeps_known}
 use Rattle.tg_script.proofs.RanLaws.{IsFresh, scene_with, first_command, ran_edges, ran_edges_fault, ran_store_fault, ran_commands}
 use Rattle.tg_script.proofs.run_script.run_lines.Goals as goal
 
-pub returns-in_err-front-clause-output : goal.returns-in_err-front-clause-output
-returns-in_err-front-clause-output g c = λ bytes before left taken.
-    let start : Start = record { workers = c.args.settings.workers; limit = c.args.settings.max_vertices; blocks = c.args.settings.limits.max_blocks; values = c.args.workers.items; stock = c.args.stock.items } in
+pub returns-in_err-edges-clause-output : goal.returns-in_err-edges-clause-output
+returns-in_err-edges-clause-output g c = λ bytes before left taken.
+    let start : Start = record { workers = c.args.settings.workers; helpers = c.args.settings.helpers; limit = c.args.settings.max_vertices; blocks = c.args.settings.limits.max_blocks; values = c.args.workers.items; stock = c.args.stock.items } in
     let fresh : IsFresh c.new-script.result c.args.settings.workers = record { workers = c.new-script.ensures.workers; room = c.new-script.ensures.room; count = c.new-script.ensures.count; opening = c.new-script.ensures.opening } in
     let p = err_from_is_err_and c.from_residual.result c.from_residual.ensures.1 in
-    let n = c.in_err-front.ensures.bytes bytes left in
+    let n = c.in_err-edges.ensures.bytes bytes left in
     rw (p.1, p.2) (
       n.0,
       n.1,
-      ran_edges_fault (Unit {0}) c.in_err-front.field-0.0 start c.new-script.result c.read_edges.new.script bytes before n.0 (g.K.Sink.taken c.read_edges.new.sink) fresh n.2
-          (keeps_known (g.K.Sink.taken c.args.sink.now) (g.K.Sink.taken c.read_edges.new.sink) before taken c.in_err-front.ensures.taken),
+      ran_edges_fault (Unit {0}) c.in_err-edges.field-0.0 start c.new-script.result c.read_edges.new.script bytes before n.0 (g.K.Sink.taken c.read_edges.new.sink) fresh n.2
+          (keeps_known (g.K.Sink.taken c.args.sink.now) (g.K.Sink.taken c.read_edges.new.sink) before taken c.in_err-edges.ensures.taken),
     )
 
-pub returns-in_err-store-clause-output : goal.returns-in_err-store-clause-output
-returns-in_err-store-clause-output g c = λ bytes before left taken.
-    let start : Start = record { workers = c.args.settings.workers; limit = c.args.settings.max_vertices; blocks = c.args.settings.limits.max_blocks; values = c.args.workers.items; stock = c.args.stock.items } in
-    let plan : Plan = record { workers = c.args.settings.workers; edges = c.in_ok-front.front.edges.items; values = c.args.workers.items; limit = c.args.settings.max_vertices } in
+pub returns-in_err-run-clause-output : goal.returns-in_err-run-clause-output
+returns-in_err-run-clause-output g c = λ bytes before left taken.
+    let start : Start = record { workers = c.args.settings.workers; helpers = c.args.settings.helpers; limit = c.args.settings.max_vertices; blocks = c.args.settings.limits.max_blocks; values = c.args.workers.items; stock = c.args.stock.items } in
+    let plan : Plan = record { workers = c.args.settings.workers; edges = c.in_ok-edges.field-0.edges.items; values = c.args.workers.items; limit = c.args.settings.max_vertices } in
     let fresh : IsFresh c.new-script.result c.args.settings.workers = record { workers = c.new-script.ensures.workers; room = c.new-script.ensures.room; count = c.new-script.ensures.count; opening = c.new-script.ensures.opening } in
-    let p = err_from_is_err_and c.from_residual-in_err-store.result c.from_residual-in_err-store.ensures.1 in
-    let front = c.in_ok-front.front in
-    let n = c.in_ok-front.ensures.bytes bytes left in
+    let p = err_from_is_err_and c.from_residual-in_err-run.result c.from_residual-in_err-run.ensures.1 in
+    let front = c.in_ok-edges.field-0 in
+    let n = c.in_ok-edges.ensures.bytes bytes left in
     rw (p.1, p.2) (
       n.0,
       n.1,
-      ran_store_fault (Unit {0}) plan c.in_err-store.field-0.0 start c.new-script.result c.read_edges.new.script bytes before n.0 front.edges.items front.first (g.K.Sink.taken c.read_edges.new.sink) refl refl
-          c.in_err-store.ensures fresh (first_command front.first c.read_edges.new.script c.in_ok-front.ensures.first) n.2
-          (keeps_known (g.K.Sink.taken c.args.sink.now) (g.K.Sink.taken c.read_edges.new.sink) before taken c.in_ok-front.ensures.taken),
-    )
-
-pub returns-in_default-clause-output : goal.returns-in_default-clause-output
-returns-in_default-clause-output g c = λ bytes before left taken.
-    let start : Start = record { workers = c.args.settings.workers; limit = c.args.settings.max_vertices; blocks = c.args.settings.limits.max_blocks; values = c.args.workers.items; stock = c.args.stock.items } in
-    let fresh : IsFresh c.new-script.result c.args.settings.workers = record { workers = c.new-script.ensures.workers; room = c.new-script.ensures.room; count = c.new-script.ensures.count; opening = c.new-script.ensures.opening } in
-    let read = c.in_ok-front.ensures.bytes bytes left in
-    let reads = rw c.in_default.is at read in
-    let done : Unit {0} = tt in (
-      reads.0,
-      reads.1,
-      ran_edges done start c.new-script.result bytes before c.in_ok-front.front.edges.items reads.0 (g.K.Sink.taken c.read_edges.new.sink) fresh (c.in_ok-store.ensures.0, c.in_ok-store.ensures.1) reads.2
-          (keeps_known (g.K.Sink.taken c.args.sink.now) (g.K.Sink.taken c.read_edges.new.sink) before taken c.in_ok-front.ensures.taken),
+      ran_store_fault (Unit {0}) plan c.in_err-run.field-0.0 start c.new-script.result c.read_edges.new.script bytes before n.0 front.edges.items front.first (g.K.Sink.taken c.read_edges.new.sink) refl refl
+          c.in_err-run.ensures fresh (first_command front.first c.read_edges.new.script c.in_ok-edges.ensures.first) n.2
+          (keeps_known (g.K.Sink.taken c.args.sink.now) (g.K.Sink.taken c.read_edges.new.sink) before taken c.in_ok-edges.ensures.taken),
     )
 
 pub returns-clause-output : goal.returns-clause-output
 returns-clause-output g c = λ bytes before left taken.
-    let start : Start = record { workers = c.args.settings.workers; limit = c.args.settings.max_vertices; blocks = c.args.settings.limits.max_blocks; values = c.args.workers.items; stock = c.args.stock.items } in
+    let start : Start = record { workers = c.args.settings.workers; helpers = c.args.settings.helpers; limit = c.args.settings.max_vertices; blocks = c.args.settings.limits.max_blocks; values = c.args.workers.items; stock = c.args.stock.items } in
     let fresh : IsFresh c.new-script.result c.args.settings.workers = record { workers = c.new-script.ensures.workers; room = c.new-script.ensures.room; count = c.new-script.ensures.count; opening = c.new-script.ensures.opening } in
-    let edges = c.in_ok-front.front.edges.items in
-    let read = c.in_ok-front.ensures.bytes bytes left in
+    let read = c.in_ok-edges.ensures.bytes bytes left in
+    let reads = rw c.in-None.is at read in
+    let done : Unit {0} = tt in (
+      reads.0,
+      reads.1,
+      ran_edges done start c.new-script.result bytes before c.in_ok-edges.field-0.edges.items reads.0 (g.K.Sink.taken c.read_edges.new.sink) fresh (c.in_ok-run.ensures.0, c.in_ok-run.ensures.1) reads.2
+          (keeps_known (g.K.Sink.taken c.args.sink.now) (g.K.Sink.taken c.read_edges.new.sink) before taken c.in_ok-edges.ensures.taken),
+    )
+
+pub returns-in-Some-clause-output : goal.returns-in-Some-clause-output
+returns-in-Some-clause-output g c = λ bytes before left taken.
+    let start : Start = record { workers = c.args.settings.workers; helpers = c.args.settings.helpers; limit = c.args.settings.max_vertices; blocks = c.args.settings.limits.max_blocks; values = c.args.workers.items; stock = c.args.stock.items } in
+    let fresh : IsFresh c.new-script.result c.args.settings.workers = record { workers = c.new-script.ensures.workers; room = c.new-script.ensures.room; count = c.new-script.ensures.count; opening = c.new-script.ensures.opening } in
+    let edges = c.in_ok-edges.field-0.edges.items in
+    let read = c.in_ok-edges.ensures.bytes bytes left in
     let b = rw c.in-Some.is at read in
-    let command = rw c.in-Some.is at c.in_ok-front.ensures.first in
-    let kept = keeps_known (g.K.Sink.taken c.args.sink.now) (g.K.Sink.taken c.read_edges.new.sink) before taken c.in_ok-front.ensures.taken in
-    let told = c.run_commands.ensures.written (scene_with start edges) b.0 before (c.in_ok-store.ensures.2, c.new-supply.ensures) b.1 kept in (
+    let command = rw c.in-Some.is at c.in_ok-edges.ensures.first in
+    let kept = keeps_known (g.K.Sink.taken c.args.sink.now) (g.K.Sink.taken c.read_edges.new.sink) before taken c.in_ok-edges.ensures.taken in
+    let told = c.run_commands.ensures.written (scene_with start edges) b.0 before c.in_ok-run.ensures.2 b.1 kept in (
       told.0,
       told.1,
       ran_commands c.run_commands.result start c.new-script.result c.read_edges.new.script bytes b.0 edges c.in-Some.first before told.0 (g.K.Sink.taken c.run_commands.new.sink)
-          fresh (c.in_ok-store.ensures.0, c.in_ok-store.ensures.1) command.0 b.2 told.2,
+          fresh (c.in_ok-run.ensures.0, c.in_ok-run.ensures.1) command.0 b.2 told.2,
     )

@@ -1,14 +1,10 @@
-use Rattle.tg_script.specs.Script.{Start}
-use Rattle.tg_script.proofs.RanLaws.{ran_finished}
+use Rattle.std.proofs.Common.{ℕ, subst}
+use Rattle.tg_script.specs.Running.{Ran}
 use Rattle.tg_script.proofs.run_script.run_script_one.Goals as goal
 
 pub returns-clause-output : goal.returns-clause-output
 returns-clause-output g c = λ bytes before left taken.
-    let start : Start = record { workers = c.args.settings.workers; limit = c.args.settings.max_vertices; blocks = c.args.settings.limits.max_blocks; values = c.args.workers.items; stock = c.args.stock.items } in
-    let s = g.K.Sink in
-    let ran = c.run_lines-outcome.ensures.output bytes before left taken in (
-      ran.0,
-      ran.1,
-      ran_finished c.run_lines-outcome.result c.finish.result start bytes before ran.0 (s.taken c.run_lines-outcome.new.sink) (s.taken c.finish.new.sink)
-          (s.failures c.run_lines-outcome.new.sink) (s.failures c.finish.new.sink) ran.2 c.finish.ensures.outcome,
-    )
+    let ran = c.run_script_with.ensures.output bytes before left taken in
+    let P : ℕ → Type 0 = λ n. Ran (record { workers = c.args.settings.workers; helpers = n; limit = c.args.settings.max_vertices; blocks = c.args.settings.limits.max_blocks; values = c.args.workers.items; stock = c.args.stock.items })
+    bytes before c.run_script_with.result ran.0 (g.K.Sink.taken c.run_script_with.new.sink) in
+    (ran.0, ran.1, subst P c.one.ensures ran.2)

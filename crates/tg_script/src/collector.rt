@@ -1,0 +1,59 @@
+//! What makes the collections of a script.
+ghost use Rattle.std.specs.Prelude.{◌≡◌};
+ghost use Rattle.tg_script.specs.Answering.{collect_refusal};
+
+use crate::helpers::Helpers;
+use tg_payload::Payload;
+use tg_store::{CollectFault, Kind, Store};
+use tg_text::Refusal;
+
+/// What makes the collections of a script. Nothing here starts threads: what does stands above, and a run is the same over it.
+pub trait Collector {
+    ghost use Rattle.std.specs.Prelude.{◌≡◌, IfErr, IfOk};
+    ghost use Rattle.tg_model.specs.Graph.{ProtectionGraph, IsReachable};
+    ghost use Rattle.tg_script.specs.Script.{MayWant};
+    ghost use Rattle.tg_store.specs.Store.{IsCountOf, StandsFor};
+
+    /// Collects the store with so many helpers, or with fewer. A full collection answers how many vertices can be reached, and
+    /// leaves these alone; of a nursery collection nothing is said of the number.
+    ///
+    /// It may be refused with `Memory`, with `Heap` where a space would need more blocks than it may have, or with `Threads` where
+    /// there was to be more than one helper; the store then stands for the graph that it stood for.
+    fn collect<P: Payload>(
+        &self,
+        store: &mut Store<P>,
+        kind: Kind,
+        helpers: Helpers,
+    ) -> Result<u64, Refusal>
+        ensures reachable { (g : ProtectionGraph) → StandsFor store.old g → IfOk result (λ number. kind ≡ Kind.Full → IsCountOf (IsReachable g) number) }
+        ensures refused { IfErr result (MayWant helpers) }
+        ensures entries { store.new.entries ≡ store.old.entries }
+        ensures opening { store.new.opening ≡ store.old.opening };
+}
+
+/// The thread that runs the script, which collects alone, however many helpers it is asked for.
+#[derive(Clone, Copy, Debug)]
+pub struct OneThread;
+
+impl Collector for OneThread {
+    fn collect<P: Payload>(
+        &self,
+        store: &mut Store<P>,
+        kind: Kind,
+        _helpers: Helpers,
+    ) -> Result<u64, Refusal> {
+        match store.collect(kind) {
+            Ok(kept) => Ok(kept),
+            Err(fault) => Err(collect_refusal(fault)),
+        }
+    }
+}
+
+fn collect_refusal(fault: CollectFault) -> Refusal
+    ensures { result ≡ collect_refusal fault }
+{
+    match fault {
+        CollectFault::OutOfMemory => Refusal::Memory,
+        CollectFault::HeapFull => Refusal::Heap,
+    }
+}
