@@ -1,8 +1,8 @@
 # temporary.sh: what the benchmarks in sh share. A script reads it in with `.`, once `here` names the script's own folder.
 #
-# take_crates PROGRAM CRATE..: puts these crates, and beside them the script's own program (`main.rt.in`, a name that the
-# gate passes over), into a temporary folder, which is gone when the script ends. The program may use each of the crates.
-# From then on `build` names the folder, and `program` the folder of the program in it.
+# take_crates PROGRAM CRATE..: puts these crates and all that they stand on, and beside them the script's own program (`main.rt.in`,
+# a name that the gate passes over), into a temporary folder, which is gone when the script ends. The program may use each
+# of the crates that are named. From then on `build` names the folder, and `program` the folder of the program in it.
 take_crates() {
     name=$1
     shift
@@ -14,8 +14,22 @@ take_crates() {
     cp "$here/main.rt.in" "$program/src/main.rt"
     cp "$top/HANDLES" "$build/"
     echo "$name: $*" > "$build/crates.txt"
-    for library in "$@"; do
+    for library in $(with_those_below "$@"); do
         cp -r "$top/crates/$library" "$build/crates/"
-        grep "^$library:" "$top/crates.txt" >> "$build/crates.txt"
+        grep "^$library[: ]" "$top/crates.txt" >> "$build/crates.txt"
     done
+}
+
+# The crates, and all of the repository that they stand on, by crates.txt.
+with_those_below() {
+    awk -v wanted="$*" '
+        /^#/ { next }
+        { name = $1; sub(/:$/, "", name); sub(/^[^:]*:/, ""); below[name] = $0 }
+        function take(name,    names, count, i) {
+            if (!(name in below) || taken[name]++) return
+            print name
+            count = split(below[name], names, " ")
+            for (i = 1; i <= count; i++) take(names[i])
+        }
+        END { count = split(wanted, all, " "); for (i = 1; i <= count; i++) take(all[i]) }' "$top/crates.txt"
 }

@@ -4,19 +4,21 @@ use std::test::Fail;
 use tg_block::CELLS;
 use tg_model::{MAX_VERTICES, MAX_WORKERS};
 use tg_program::{
-    DEFAULT_BLOCKS, DEFAULT_VERTICES, DEFAULT_WORKERS, MOST_BLOCKS, Options, Stop, options, prepare,
+    DEFAULT_BLOCKS, DEFAULT_HELPERS, DEFAULT_VERTICES, DEFAULT_WORKERS, MOST_BLOCKS, Options, Stop,
+    options, prepare,
 };
-use tg_script::{Limits, MOST_BYTES, MOST_LINE_BYTES, Settings};
+use tg_script::{Helpers, Limits, MOST_BYTES, MOST_HELPERS, MOST_LINE_BYTES, Settings};
 
 const FAULT_END: &str = "\n\nUsage: tgstore [OPTIONS]\n\nFor more information, try '--help'.\n";
 
 #[test]
 fn words_that_are_accepted(rt: HostRuntime) -> Result<(), Fail> {
     let alloc = rt.alloc();
-    let cases: [(&[&str], u64, u64, &str); 4] = [
-        (&["tgstore"], 2, 1_000_000, ""),
+    let cases: [(&[&str], u64, u32, u64, &str); 5] = [
+        (&["tgstore"], 2, 1, 1_000_000, ""),
         (
             &["tgstore", "--workers", "1", "--stock", "c"],
+            1,
             1,
             1_000_000,
             "c",
@@ -24,6 +26,7 @@ fn words_that_are_accepted(rt: HostRuntime) -> Result<(), Fail> {
         (
             &["tgstore", "--vertices=16777216", "--workers=64"],
             64,
+            1,
             16_777_216,
             "",
         ),
@@ -31,15 +34,18 @@ fn words_that_are_accepted(rt: HostRuntime) -> Result<(), Fail> {
             &["tgstore", "--vertices", "1", "--blocks", "65536"],
             2,
             1,
+            1,
             "",
         ),
+        (&["tgstore", "--helpers", "8"], 2, 8, 1_000_000, ""),
     ];
-    for (words, workers, vertices, stock) in cases {
+    for (words, workers, helpers, vertices, stock) in cases {
         let read = match options(alloc, words) {
             Ok(read) => read,
             Err(_) => return Err(Fail::from("words that are not accepted")),
         };
         assert_eq!(rt; read.settings.workers, workers);
+        assert_eq!(rt; read.settings.helpers.number(), helpers);
         assert_eq!(rt; read.settings.max_vertices, vertices);
         assert!(rt; read.stock == stock, "{}", read.stock);
     }
@@ -71,6 +77,14 @@ fn sixty_five_workers(rt: HostRuntime) -> Result<(), Fail> {
         (
             ["tgstore", "--workers", "0"],
             "error: invalid value '0' for '--workers <N>': 0 is not in 1..=64",
+        ),
+        (
+            ["tgstore", "--helpers", "9"],
+            "error: invalid value '9' for '--helpers <N>': 9 is not in 1..=8",
+        ),
+        (
+            ["tgstore", "--helpers", "0"],
+            "error: invalid value '0' for '--helpers <N>': 0 is not in 1..=8",
         ),
         (
             ["tgstore", "--vertices", "16777217"],
@@ -142,9 +156,15 @@ fn help_is_status_0(rt: HostRuntime) -> Result<(), Fail> {
 fn help_is_true(rt: HostRuntime) -> Result<(), Fail> {
     let alloc = rt.alloc();
     let text = text_with(alloc, ["tgstore", "--help"].as_slice(), 0)?;
-    let lines: [(&str, u64, &str); 9] = [
+    let lines: [(&str, u64, &str); 11] = [
         ("How many workers there are, from 1 to ", MAX_WORKERS, ". "),
         ("[default: ", DEFAULT_WORKERS, "]"),
+        (
+            "How many threads a collection may use, from 1 to ",
+            u64::from(MOST_HELPERS),
+            ". ",
+        ),
+        ("[default: ", DEFAULT_HELPERS, "]"),
         (
             "How many vertices may ever be made, from 1 to ",
             MAX_VERTICES,
@@ -176,6 +196,7 @@ fn stop_text(alloc: Global, stock: &str) -> Result<String, Fail> {
     };
     let settings = Settings {
         workers: 2,
+        helpers: Helpers::one(),
         max_vertices: 1,
         limits,
     };

@@ -13,6 +13,8 @@ mod hostile;
 #[cfg(test)]
 mod payloads;
 #[cfg(test)]
+mod rows_by_helpers;
+#[cfg(test)]
 mod scripts;
 #[cfg(test)]
 mod stocks;

@@ -7,29 +7,40 @@ use std::sync::atomic::{AtomicU64, Ordering};
 use std::test::Fail;
 use tg_payload::{CellPayload, LogPayload, MaxPayload, Payload, PayloadBox, SumPayload};
 use tg_script::{
-    InMemory, Limits, ScriptFault, Settings, StockItem, drafts_of, read_stock, run_in_memory,
+    Collector, Helpers, InMemory, Limits, OneThread, ScriptFault, Settings, StockItem, drafts_of,
+    read_stock, run_in_memory,
 };
 
 // Runs the script with these payloads of the workers and in the stock.
-fn run_with<P: Payload>(
+fn run_with<P: Payload, C: Collector>(
     alloc: Global,
-    max_vertices: u64,
-    limits: Limits,
+    collector: &C,
+    settings: Settings,
     workers: Vec<P>,
     stock: Vec<P>,
     script: &[u8],
-) -> Result<InMemory, AllocError> {
+) -> Result<InMemory, AllocError>
+    requires { C.Ready }
+{
     let settings = Settings {
         workers: workers.len() as u64,
-        max_vertices,
-        limits,
+        ..settings
     };
     if settings.workers < 1 || 64 < settings.workers {
         return Err(AllocError);
     }
     let workers = drafts_of(alloc, workers)?;
     let stock = drafts_of(alloc, stock)?;
-    Ok(run_in_memory(alloc, script, settings, workers, stock))
+    Ok(run_in_memory(alloc, collector, script, settings, workers, stock))
+}
+
+/// A script, how many workers there are, who store cells, and the text of the stock; and what is written.
+#[derive(Clone, Copy)]
+pub(crate) struct Row<'a> {
+    pub(crate) workers: u64,
+    pub(crate) stock: &'a [u8],
+    pub(crate) script: &'a [u8],
+    pub(crate) written: &'a [u8],
 }
 
 // Runs the script with so many workers, who store cells, and compares what is written and how the run ends.
@@ -44,6 +55,7 @@ pub(crate) fn runs(
 ) -> Result<(), Fail> {
     let settings = Settings {
         workers,
+        helpers: Helpers::one(),
         max_vertices,
         limits: limits_of(4096)?,
     };
@@ -59,7 +71,7 @@ fn runs_in(
     written: &[u8],
     outcome: Result<(), ScriptFault>,
 ) -> Result<(), Fail> {
-    let ran = ran_in(rt.alloc(), settings, stock, script)?;
+    let ran = ran_in(rt.alloc(), &OneThread, settings, stock, script)?;
     assert_eq!(rt; ran.written.as_slice(), written);
     assert_eq!(rt; ran.outcome, outcome);
     Ok(())
@@ -109,26 +121,42 @@ fn stock_boxes(alloc: Global, stock: &[u8]) -> Result<Vec<PayloadBox>, Fail> {
 }
 
 // Runs the script with these settings and with workers who store cells.
-fn ran_in(
+pub(crate) fn ran_in<C: Collector>(
     alloc: Global,
+    collector: &C,
     settings: Settings,
     stock: &[u8],
     script: &[u8],
-) -> Result<InMemory, Fail> {
+) -> Result<InMemory, Fail>
+    requires { C.Ready }
+{
     let cells = worker_boxes(alloc, settings.workers)?;
     let boxes = stock_boxes(alloc, stock)?;
-    let Settings {
-        max_vertices,
-        limits,
-        ..
-    } = settings;
-    Ok(run_with(alloc, max_vertices, limits, cells, boxes, script)?)
+    Ok(run_with(alloc, collector, settings, cells, boxes, script)?)
+}
+
+// So many workers as the row has, and one helper, with limits that don't matter.
+pub(crate) fn row_settings(row: &Row) -> Result<Settings, Fail> {
+    blocks(row.workers, 4096)
+}
+
+// Runs the row by one thread, and compares what is written and how the run ends.
+fn runs_row(rt: &(impl Abort + AllocGlobal), row: &Row) -> Result<(), Fail> {
+    runs_in(
+        rt,
+        row_settings(row)?,
+        row.stock,
+        row.script,
+        row.written,
+        Ok(()),
+    )
 }
 
 // So many workers, no limit of vertices that matters, and a heap of so many blocks.
 fn blocks(workers: u64, most: u64) -> Result<Settings, Fail> {
     Ok(Settings {
         workers,
+        helpers: Helpers::one(),
         max_vertices: 1_000_000,
         limits: limits_of(most)?,
     })
@@ -221,11 +249,15 @@ fn edge_lines_unite(rt: HostRuntime) -> Result<(), Fail> {
 // Rights that were granted stand after a collection of the whole heap, and those that were not are still denied.
 #[test]
 fn grant_survives_a_full_collection(rt: HostRuntime) -> Result<(), Fail> {
-    let script =
-        b"edge 0 1 tg\n0 create rw\n0 grant 1 2 r\n1 read 2\n1 write 2 7\nfull\n1 write 2 7\n1 list\n";
-    let written = b"ok 2\nok\nok 0\ndenied write 1->2 w\nok 3\ndenied write 1->2 w\nok 2:r\n";
-    runs(&rt, 2, 1_000_000, b"c", script, written, Ok(()))
+    runs_row(&rt, &GRANT_SURVIVES)
 }
+
+pub(crate) const GRANT_SURVIVES: Row = Row {
+    workers: 2,
+    stock: b"c",
+    script: b"edge 0 1 tg\n0 create rw\n0 grant 1 2 r\n1 read 2\n1 write 2 7\nfull\n1 write 2 7\n1 list\n",
+    written: b"ok 2\nok\nok 0\ndenied write 1->2 w\nok 3\ndenied write 1->2 w\nok 2:r\n",
+};
 
 // A new vertex is young, and its maker's row is old by then.
 #[test]
@@ -240,11 +272,15 @@ fn old_row_and_a_young_vertex(rt: HostRuntime) -> Result<(), Fail> {
 // remembered; were it forgotten, the fourth would lose what it names.
 #[test]
 fn old_cell_stays_remembered(rt: HostRuntime) -> Result<(), Fail> {
-    let script =
-        b"0 create tg\nminor\nminor\n0 create r\n0 grant 1 2 r\nminor\n0 remove 2 r\nminor\n0 take 1 2 r\n0 read 2\nfull\n";
-    let written = b"ok 1\nok\nok\nok 2\nok\nok\nok\nok\nok\nok 0\nok 3\n";
-    runs(&rt, 1, 1_000_000, b"c2", script, written, Ok(()))
+    runs_row(&rt, &OLD_CELL_STAYS)
 }
+
+pub(crate) const OLD_CELL_STAYS: Row = Row {
+    workers: 1,
+    stock: b"c2",
+    script: b"0 create tg\nminor\nminor\n0 create r\n0 grant 1 2 r\nminor\n0 remove 2 r\nminor\n0 take 1 2 r\n0 read 2\nfull\n",
+    written: b"ok 1\nok\nok\nok 2\nok\nok\nok\nok\nok\nok 0\nok 3\n",
+};
 
 // A right that was granted and given up again is denied, and its place serves another, with a collection of each kind between.
 #[test]
@@ -258,20 +294,28 @@ fn index_follows_grants_and_collections(rt: HostRuntime) -> Result<(), Fail> {
 // What nobody reaches is collected. Its name is not used again.
 #[test]
 fn removed_vertex_is_collected(rt: HostRuntime) -> Result<(), Fail> {
-    let script = b"0 create rw\n0 remove 1 rw\n0 list\nfull\n0 read 1\n0 create r\n";
-    let written = b"ok 1\nok\nok\nok 1\ndenied read 0->1 r\nok 2\n";
-    runs(&rt, 1, 1_000_000, b"c2", script, written, Ok(()))
+    runs_row(&rt, &REMOVED_IS_COLLECTED)
 }
+
+pub(crate) const REMOVED_IS_COLLECTED: Row = Row {
+    workers: 1,
+    stock: b"c2",
+    script: b"0 create rw\n0 remove 1 rw\n0 list\nfull\n0 read 1\n0 create r\n",
+    written: b"ok 1\nok\nok\nok 1\ndenied read 0->1 r\nok 2\n",
+};
 
 // One edge among ten is given up, and the next takes its place.
 #[test]
 fn ten_edges_and_a_hole(rt: HostRuntime) -> Result<(), Fail> {
-    let script =
-        b"0 create r\n0 create r\n0 create r\n0 create r\n0 create r\n0 create r\n0 create r\n0 create r\n0 create r\n0 create r\n0 remove 4 r\n0 create w\n0 list\nfull\n";
-    let written =
-        b"ok 1\nok 2\nok 3\nok 4\nok 5\nok 6\nok 7\nok 8\nok 9\nok 10\nok\nok 11\nok 1:r 2:r 3:r 5:r 6:r 7:r 8:r 9:r 10:r 11:w\nok 11\n";
-    runs(&rt, 1, 1_000_000, b"c11", script, written, Ok(()))
+    runs_row(&rt, &TEN_EDGES_AND_A_HOLE)
 }
+
+pub(crate) const TEN_EDGES_AND_A_HOLE: Row = Row {
+    workers: 1,
+    stock: b"c11",
+    script: b"0 create r\n0 create r\n0 create r\n0 create r\n0 create r\n0 create r\n0 create r\n0 create r\n0 create r\n0 create r\n0 remove 4 r\n0 create w\n0 list\nfull\n",
+    written: b"ok 1\nok 2\nok 3\nok 4\nok 5\nok 6\nok 7\nok 8\nok 9\nok 10\nok\nok 11\nok 1:r 2:r 3:r 5:r 6:r 7:r 8:r 9:r 10:r 11:w\nok 11\n",
+};
 
 // Adds the lines of 109 creates, of one more, and of 64 removes.
 fn fill_and_remove(alloc: Global, script: &mut String) -> Result<(), Fail> {
@@ -340,7 +384,7 @@ fn minor_frees_young_vertices(rt: HostRuntime) -> Result<(), Fail> {
 }
 
 // Adds so many lines of creates and what is written for them, with names from the first on.
-fn push_creates(
+pub(crate) fn push_creates(
     alloc: Global,
     script: &mut String,
     written: &mut String,
@@ -385,7 +429,7 @@ fn push_old_vertices(alloc: Global, script: &mut String, written: &mut String) -
 }
 
 // Adds these lines and what is written for them.
-fn push_line(
+pub(crate) fn push_line(
     script: &mut String,
     written: &mut String,
     lines: &str,
@@ -454,8 +498,13 @@ fn ran_with_counting(
 ) -> Result<InMemory, Fail> {
     let stock = counting_boxes(alloc, drops)?;
     let workers = worker_boxes(alloc, 1)?;
-    let limits = limits_of(4096)?;
-    Ok(run_with(alloc, 2, limits, workers, stock, script)?)
+    let settings = Settings {
+        workers: 1,
+        helpers: Helpers::one(),
+        max_vertices: 2,
+        limits: limits_of(4096)?,
+    };
+    Ok(run_with(alloc, &OneThread, settings, workers, stock, script)?)
 }
 
 // The second create is refused; what is in the store, and what is left in the stock, is dropped once, at the end.

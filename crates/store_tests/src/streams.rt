@@ -12,7 +12,8 @@ use std::sync::ledger::{Blank, Ledger};
 use std::test::Fail;
 use tg_payload::CellPayload;
 use tg_script::{
-    Count, Limits, OfRead, OfWrite, ScriptFault, Settings, Sink, Source, drafts_of, run_script_one,
+    Count, Helpers, Limits, OfRead, OfWrite, ScriptFault, Settings, Sink, Source, drafts_of,
+    run_script_one,
 };
 
 const SCRIPT: &[u8] = b"0 create rw\n0 list\n";
@@ -136,6 +137,7 @@ fn run_one<S: Source, K: Sink>(
     }
     let settings = Settings {
         workers: cells.len() as u64,
+        helpers: Helpers::one(),
         max_vertices: 1_000_000,
         limits,
     };

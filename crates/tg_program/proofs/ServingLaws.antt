@@ -13,6 +13,7 @@ use Rattle.tg_program.specs.Serving.{script_start_of}
 abbrev pub start_with : Start → List Value → List Value → ScriptStart
 start_with start values stock = record {
   workers = start.settings.workers;
+  helpers = start.settings.helpers;
   limit = start.settings.max_vertices;
   blocks = start.settings.limits.max_blocks;
   values = values;

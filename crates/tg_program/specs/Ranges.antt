@@ -6,5 +6,6 @@ use Rattle.tg_script.specs.declared.run_script.Settings.{Settings}
 -- each number is in its range; fewer vertices than workers are no matter of the ranges
 pub record AreInRange (s : Settings) : Type 0 where
   pub workers : (1 ≤ s.workers) × (s.workers ≤ MAX_WORKERS)
+  pub helpers : (1 ≤ s.helpers) × (s.helpers ≤ 8)
   pub vertices : (1 ≤ s.max_vertices) × (s.max_vertices ≤ MAX_VERTICES)
   pub blocks : (1 ≤ s.limits.max_blocks) × (s.limits.max_blocks ≤ 65536)

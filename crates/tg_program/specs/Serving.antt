@@ -13,6 +13,7 @@ use Rattle.tg_program.specs.declared.stop.Stop.TheVariants as stop
 abbrev pub script_start_of : Start → ScriptStart
 script_start_of start = record {
   workers = start.settings.workers;
+  helpers = start.settings.helpers;
   limit = start.settings.max_vertices;
   blocks = start.settings.limits.max_blocks;
   values = replicate start.settings.workers (value_of Cell);

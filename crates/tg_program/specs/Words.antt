@@ -3,9 +3,11 @@
 use Rattle.std.specs.Prelude.{◌≡◌, ℕ, List, [], Option, Some, codes, unwrap_or}
 use Rattle.std.specs.Option.{option_map_or}
 use Rattle.std.specs.Str.Parse.{digits_value, without_leading_plus}
-use Rattle.clap.specs.Words.{App, Rule, first_of, matches_of, new_app, new_rule, one_of, with_rule}
+use Rattle.clap.specs.Words.{App, Rule, first_of, matches_of, new_app, new_rule, one_of, one_text, with_rule}
 use Rattle.clap.specs.declared.builder.action.ArgAction.TheVariants.{Set}
 use Rattle.clap.specs.declared.builder.value_parser.ValueParser.TheVariants.{Unsigned}
+use Rattle.clap.specs.declared.parser.matches.Found.{Found}
+use Rattle.tg_script.specs.declared.run_script.Settings.{Settings}
 use Rattle.tg_program.specs.declared.settings.Options.{Options}
 
 -- an option with one value
@@ -19,7 +21,8 @@ number_rule name = record (option_rule name) { parser = Some (Unsigned 0 1844674
 -- the options that there are
 abbrev pub command_line : App
 command_line =
-    with_rule (with_rule (with_rule (with_rule (new_app (codes "tgstore")) (number_rule (codes "workers"))) (number_rule (codes "vertices"))) (number_rule (codes "blocks")))
+    with_rule
+    (with_rule (with_rule (with_rule (with_rule (new_app (codes "tgstore")) (number_rule (codes "workers"))) (number_rule (codes "helpers"))) (number_rule (codes "vertices"))) (number_rule (codes "blocks")))
     (option_rule (codes "stock"))
 
 -- the number that a text writes, or this one where there is no text
@@ -37,7 +40,16 @@ text_said name words = unwrap_or (first_of name (matches_of command_line words))
 -- the options are those of the words; no space has more than 1,048,576 blocks
 pub record AreSaid (words : List (List ℕ)) (o : Options) : Type 0 where
   pub workers : o.settings.workers ≡ number_said (codes "workers") 2 words
+  pub helpers : o.settings.helpers ≡ number_said (codes "helpers") 1 words
   pub vertices : o.settings.max_vertices ≡ number_said (codes "vertices") 1000000 words
   pub blocks : o.settings.limits.max_blocks ≡ number_said (codes "blocks") 4096 words
   pub space_blocks : o.settings.limits.space_blocks ≡ 1048576
   pub stock : o.stock.now ≡ text_said (codes "stock") words
+
+-- the numbers are those that were found in words which were taken apart; no space has more than 1,048,576 blocks
+pub record AreFound (found : Found) (s : Settings) : Type 0 where
+  pub workers : s.workers ≡ number_or 2 (one_text found (codes "workers"))
+  pub helpers : s.helpers ≡ number_or 1 (one_text found (codes "helpers"))
+  pub vertices : s.max_vertices ≡ number_or 1000000 (one_text found (codes "vertices"))
+  pub blocks : s.limits.max_blocks ≡ number_or 4096 (one_text found (codes "blocks"))
+  pub space_blocks : s.limits.space_blocks ≡ 1048576

@@ -2,33 +2,32 @@
 //!
 //! Boxes are made here, and the run over them is generic in its payloads, because no contract can speak of boxes that a
 //! function gives to its caller.
-ghost use Rattle.std.specs.Prelude.{◌≡◌, ℕ, List, Some, IfErr, IfOk};
-ghost use Rattle.std.specs.Io.Buffered.{reader_remaining, writer_contents};
+ghost use Rattle.std.specs.Prelude.{◌≡◌, ℕ, List, Some, IfErr};
 ghost use Rattle.tg_program.specs.Faults.{status_of};
 ghost use Rattle.tg_program.specs.Serving.{Served};
 ghost use Rattle.tg_program.specs.Starts.{IsReady};
 
+use crate::serving::{Payloads, serve};
 use crate::start::Start;
 use crate::stop::Stop;
-use crate::streams::{Ended, Payloads, serve_buffered};
 use std::alloc::Global;
-use std::io::{BufReader, BufWriter, Read, Write};
 use tg_payload::{CellPayload, LogPayload, MaxPayload, PayloadBox, SumPayload};
-use tg_script::StockItem;
+use tg_script::{Collector, Sink, Source, StockItem};
 
-/// Runs the reader's script from the start, with new boxes: a cell with 0 for each worker, and those of the stock. Memory may
+/// Runs the source's script from the start, with new boxes: a cell with 0 for each worker, and those of the stock. Memory may
 /// be wanting before it; then nothing is read or written.
-pub(crate) fn serve_with_boxes<R: Read + Drop, W: Write + Drop>(
+pub(crate) fn serve_with_boxes<C: Collector, S: Source, K: Sink>(
     alloc: Global,
-    reader: R,
-    writer: W,
-    start: Start,
-) -> Result<Ended<BufReader<R>, BufWriter<W>>, Stop>
-    requires { IsReady start }
+    collector: &C,
+    source: &mut S,
+    sink: &mut K,
+    start: &Start,
+) -> Result<(), Stop>
+    requires collector { C.Ready }
+    requires ready { IsReady start.now }
     ensures status { IfErr result (λ stop. status_of stop ≡ 1) }
-    ensures ended_status { IfOk result (λ ended. IfErr ended.outcome (λ stop. status_of stop ≡ 1)) }
-    ensures output { IfOk result (λ ended. (bytes before : List ℕ) → R.remaining reader ≡ Some bytes → W.contents writer ≡ Some before →
-        (left : List ℕ) × (reader_remaining R.remaining ended.reader ≡ Some left) × Served start bytes before ended.outcome left (writer_contents W.contents ended.writer)) }
+    ensures output { (bytes before : List ℕ) → S.left source.old ≡ Some bytes → K.taken sink.old ≡ Some before →
+        (left : List ℕ) × (S.left source.new ≡ Some left) × Served start.now bytes before result left (K.taken sink.new) }
 {
     let mut workers: Vec<PayloadBox> = Vec::new(alloc);
     for _ in 0..start.settings.workers {
@@ -45,5 +44,5 @@ pub(crate) fn serve_with_boxes<R: Read + Drop, W: Write + Drop>(
         stock.push(payload)?;
     }
     let payloads = Payloads { workers, stock };
-    serve_buffered(alloc, reader, writer, &start, payloads)
+    serve(alloc, collector, source, sink, start, payloads)
 }

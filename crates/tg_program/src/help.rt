@@ -9,6 +9,10 @@ output.";
 pub const WORKERS: &str =
     "How many workers there are, from 1 to 64. They are named 0, 1, 2, .. [default: 2]";
 
+pub const HELPERS: &str =
+    "How many threads a collection may use, from 1 to 8. They share the work by
+eights of workers, and a small heap is collected faster by one [default: 1]";
+
 pub const VERTICES: &str = "How many vertices may ever be made, from 1 to 16777216. The workers
 are vertices, so it may not be below their number [default: 1000000]";
 
@@ -42,7 +46,8 @@ Replies:
 
   ok                   with what was asked for after it: a name, values, edges as NAME:RIGHTS
   denied ..            the rule, and the rights that were missing on an edge X->Y
-  refused ..           memory, heap, vertices or stock: what there was too little of; worker: there is no such worker
+  refused ..           memory, heap, vertices or stock: what there was too little of; threads: a helper of a collection couldn't be
+                       started; worker: there is no such worker
 
 Exit status:
   0  the whole script was run

@@ -1,8 +1,8 @@
 //! What the program `tgstore` is made of, so that its `main` is one call.
 //!
 //! The words of the command line are read first (`words`), then the stock and the limits are looked at (`start`), and
-//! only then are boxes made (`boxes`) and input read (`streams`). What goes wrong is one line on standard error and a status
-//! (`stop`). [`obey`] does all of it.
+//! only then are buffers (`streams`) and boxes (`boxes`) made and input read (`serving`). Collections by several helpers run on
+//! threads (`on_threads`). What goes wrong is one line on standard error and a status (`stop`). [`obey`] does all of it.
 //!
 //! What a reader has to believe stands in `specs/`: `Words` says what the words ask for, `Ranges` and `Starts` what is refused
 //! before any input is read, `Boxes` what boxes begin with, `Serving` what a run reads and writes, and `Faults` the statuses.
@@ -10,16 +10,21 @@
 
 mod boxes;
 mod help;
+mod on_threads;
 mod program;
+mod serving;
 mod settings;
 mod start;
 mod stop;
 mod streams;
 mod words;
 
+pub use on_threads::OnThreads;
 pub use program::{exit_status, obey};
+pub use serving::{Payloads, serve};
 pub use settings::Options;
 pub use start::{Start, StartFault, prepare};
 pub use stop::Stop;
-pub use streams::{Payloads, serve};
-pub use words::{DEFAULT_BLOCKS, DEFAULT_VERTICES, DEFAULT_WORKERS, MOST_BLOCKS, options};
+pub use words::{
+    DEFAULT_BLOCKS, DEFAULT_HELPERS, DEFAULT_VERTICES, DEFAULT_WORKERS, MOST_BLOCKS, options,
+};

@@ -3,21 +3,29 @@ ghost use Rattle.std.specs.Prelude.{◌≡◌};
 ghost use Rattle.tg_program.specs.Faults.{exit_status};
 ghost use Rattle.tg_program.specs.Ranges.{AreInRange};
 
-use crate::boxes::serve_with_boxes;
+use crate::on_threads::OnThreads;
 use crate::settings::Options;
 use crate::start::{StartFault, prepare};
 use crate::stop::Stop;
-use crate::streams::Ended;
+use crate::streams::{Ended, serve_buffered};
 use crate::words::options;
 use clap::Error;
 use clap::error::ErrorKind;
+use std::io::{Eprint, Print, Read, Write};
 use std::rt::Env;
+use std::sync::Wait;
+use std::thread::Threads;
 use std::{env, io};
 
-/// Does what the words of the command line ask for: runs the script on standard input, or writes the help. What goes wrong
-/// is one line on standard error. The exit status.
-pub fn obey(rt: &HostRuntime) -> u8 {
-    let outcome = obey_words(rt);
+/// Does what the words of the command line ask for: runs the reader's script and writes the replies to the writer, or prints the
+/// help. What goes wrong is one line on standard error. The exit status.
+pub fn obey<R, I, O>(rt: &R, reader: I, writer: O) -> u8
+where
+    R: AllocGlobal + Env + Print + Eprint + Threads + Wait + Sync,
+    I: Read + Drop,
+    O: Write + Drop,
+{
+    let outcome = obey_words(rt, reader, writer);
     if let Err(stop) = &outcome {
         let _ = eprintln!(rt; "tgstore: {stop}");
     }
@@ -35,11 +43,16 @@ pub fn exit_status(outcome: &Result<u8, Stop>) -> u8
 }
 
 // Does what the words ask for, and answers the status.
-fn obey_words(rt: &HostRuntime) -> Result<u8, Stop> {
+fn obey_words<R, I, O>(rt: &R, reader: I, writer: O) -> Result<u8, Stop>
+where
+    R: AllocGlobal + Env + Print + Eprint + Threads + Wait + Sync,
+    I: Read + Drop,
+    O: Write + Drop,
+{
     let words = words_of(rt)?;
     match options(rt.alloc(), words.as_slice()) {
         Ok(options) => {
-            serve_standard_streams(rt, &options)?;
+            serve_streams(rt, reader, writer, &options)?;
             Ok(0)
         }
         Err(error) => tell(rt, &error),
@@ -60,7 +73,7 @@ fn words_of<R: Env + AllocGlobal>(rt: &R) -> Result<Vec<String>, Stop> {
 }
 
 // Writes the help, or what is wrong with the words, and answers the status. A help that couldn't be written is a fault.
-fn tell(rt: &HostRuntime, error: &Error) -> Result<u8, Stop> {
+fn tell<R: Print + Eprint>(rt: &R, error: &Error) -> Result<u8, Stop> {
     if error.kind() == ErrorKind::OutOfMemory {
         return Err(Stop::Start(StartFault::OutOfMemory));
     }
@@ -71,11 +84,22 @@ fn tell(rt: &HostRuntime, error: &Error) -> Result<u8, Stop> {
     Ok(error.exit_code() as u8)
 }
 
-// Runs the script on standard input, and writes the replies to standard output.
-fn serve_standard_streams(rt: &HostRuntime, options: &Options) -> Result<(), Stop>
+// Runs the reader's script, and writes the replies.
+fn serve_streams<R, I, O>(rt: &R, reader: I, writer: O, options: &Options) -> Result<(), Stop>
+where
+    R: AllocGlobal + Threads + Wait + Sync,
+    I: Read + Drop,
+    O: Write + Drop,
     requires { AreInRange options.now.settings }
 {
-    let start = prepare(rt.alloc(), options).map_err(Stop::Start)?;
-    let Ended { outcome, .. } = serve_with_boxes(rt.alloc(), rt.stdin(), rt.stdout(), start)?;
+    let alloc = rt.alloc();
+    let start = prepare(alloc, options).map_err(Stop::Start)?;
+    let Ended { outcome, .. } = serve_buffered(
+        alloc,
+        &OnThreads::new(rt, alloc),
+        reader,
+        writer,
+        &start,
+    )?;
     outcome
 }

@@ -1,8 +1,8 @@
 //! The words of the command line.
-ghost use Rattle.std.specs.Prelude.{◌≡◌, ◌≤◌, IfOk, false, map, codes};
-ghost use Rattle.clap.specs.Words.{app_of, found_of, one_text, rule_of};
+ghost use Rattle.std.specs.Prelude.{◌≡◌, ◌≤◌, [], IfOk, false, map, codes, unwrap_or};
+ghost use Rattle.clap.specs.Words.{app_of, first_value, found_of, one_text, rule_of};
 ghost use Rattle.tg_program.specs.Ranges.{AreInRange};
-ghost use Rattle.tg_program.specs.Words.{AreSaid, command_line, number_or, number_rule, option_rule};
+ghost use Rattle.tg_program.specs.Words.{AreFound, AreSaid, command_line, number_or, number_rule, option_rule};
 
 use crate::help;
 use crate::settings::Options;
@@ -11,10 +11,13 @@ use clap::{Arg, ArgAction, ArgMatches, Command, Error};
 use std::alloc::Global;
 use std::convert::AsStr;
 use tg_model::{MAX_VERTICES, MAX_WORKERS};
-use tg_script::{Limits, Settings};
+use tg_script::{Helpers, Limits, MOST_HELPERS, Settings};
 
 /// How many workers there are where the words don't say it.
 pub const DEFAULT_WORKERS: u64 = 2;
+
+/// How many helpers a collection has where the words don't say it.
+pub const DEFAULT_HELPERS: u64 = 1;
 
 /// How many vertices may ever be made where the words don't say it.
 pub const DEFAULT_VERTICES: u64 = 1_000_000;
@@ -29,7 +32,7 @@ pub const MOST_BLOCKS: u64 = 65_536;
 const MOST_SPACE_BLOCKS: u64 = 1_048_576;
 
 /// Reads the words, the first of which is the program's name: the options that they say, and the defaults of those that
-/// they don't. `Ok` only where each number is in its range: workers from 1 to 64, vertices from 1 to 2^24,
+/// they don't. `Ok` only where each number is in its range: workers from 1 to 64, helpers from 1 to 8, vertices from 1 to 2^24,
 /// blocks from 1 to 65,536. An `Err` is the text for the user, of the help as of a fault, or want of memory.
 pub fn options<'a, S: AsStr>(alloc: Global, words: &'a [S]) -> Result<Options<'a>, Error>
     ensures said { IfOk result (AreSaid (map S.text words.entry.now)) }
@@ -37,36 +40,85 @@ pub fn options<'a, S: AsStr>(alloc: Global, words: &'a [S]) -> Result<Options<'a
 {
     let mut command = command(alloc)?;
     let matches = command.try_get_matches_from_mut(words)?;
-    let settings = Settings {
-        workers: number(
-            alloc,
-            &mut command,
-            &matches,
-            "workers",
-            DEFAULT_WORKERS,
-            MAX_WORKERS,
-        )?,
-        max_vertices: number(
-            alloc,
-            &mut command,
-            &matches,
-            "vertices",
-            DEFAULT_VERTICES,
-            MAX_VERTICES,
-        )?,
-        limits: limits_of(number(
-            alloc,
-            &mut command,
-            &matches,
-            "blocks",
-            DEFAULT_BLOCKS,
-            MOST_BLOCKS,
-        )?),
-    };
+    options_of(alloc, &mut command, &matches)
+}
+
+// The options that were found in the words, and the defaults of the others.
+fn options_of<'a>(
+    alloc: Global,
+    command: &mut Command,
+    matches: &ArgMatches<'a>,
+) -> Result<Options<'a>, Error>
+    ensures found { IfOk result (λ o. AreFound (found_of matches.now) o.settings) }
+    ensures stock { IfOk result (λ o. o.stock.now ≡ unwrap_or (first_value (found_of matches.now) (codes "stock")) []) }
+    ensures in_range { IfOk result (λ o. AreInRange o.settings) }
+{
+    let settings = settings_of(alloc, command, matches)?;
     Ok(Options {
         settings,
         stock: matches.get_str("stock").unwrap_or(""),
     })
+}
+
+// The numbers that were found in the words, and the defaults of the others.
+fn settings_of(
+    alloc: Global,
+    command: &mut Command,
+    matches: &ArgMatches,
+) -> Result<Settings, Error>
+    ensures found { IfOk result (AreFound (found_of matches.now)) }
+    ensures in_range { IfOk result AreInRange }
+{
+    let workers = number(
+        alloc,
+        command,
+        matches,
+        "workers",
+        DEFAULT_WORKERS,
+        MAX_WORKERS,
+    )?;
+    let helpers = number(
+        alloc,
+        command,
+        matches,
+        "helpers",
+        DEFAULT_HELPERS,
+        u64::from(MOST_HELPERS),
+    )?;
+    let max_vertices = number(
+        alloc,
+        command,
+        matches,
+        "vertices",
+        DEFAULT_VERTICES,
+        MAX_VERTICES,
+    )?;
+    let blocks = number(
+        alloc,
+        command,
+        matches,
+        "blocks",
+        DEFAULT_BLOCKS,
+        MOST_BLOCKS,
+    )?;
+    Ok(Settings {
+        workers,
+        helpers: helpers_of(helpers),
+        max_vertices,
+        limits: limits_of(blocks),
+    })
+}
+
+// So many helpers.
+fn helpers_of(number: u64) -> Helpers
+    requires { (1 ≤ number) × (number ≤ 8) }
+    ensures { result ≡ number }
+{
+    // The number is in its range.
+    let Some(helpers) = Helpers::new(number as u32) else {
+        unreachable!()
+    };
+    helpers
 }
 
 // The limits of a heap that may have so many blocks.
@@ -91,6 +143,7 @@ fn command<'a>(alloc: Global) -> Result<Command<'a>, Error>
         .about(help::ABOUT)
         .after_help(help::MANUAL)
         .arg(number_arg(alloc, "workers", help::WORKERS))?
+        .arg(number_arg(alloc, "helpers", help::HELPERS))?
         .arg(number_arg(alloc, "vertices", help::VERTICES))?
         .arg(number_arg(alloc, "blocks", help::BLOCKS))?
         .arg(stock_arg(alloc))?;

@@ -14,6 +14,9 @@ pub trait Collector {
     ghost use Rattle.tg_script.specs.Script.{MayWant};
     ghost use Rattle.tg_store.specs.Store.{IsCountOf, StandsFor};
 
+    /// What a caller has to know of the collector: where it shares a value among threads, that the value's type allows it.
+    ghost Ready: { Type 0 };
+
     /// Collects the store with so many helpers, or with fewer. A full collection answers how many vertices can be reached, and
     /// leaves these alone; of a nursery collection nothing is said of the number.
     ///
@@ -25,6 +28,7 @@ pub trait Collector {
         kind: Kind,
         helpers: Helpers,
     ) -> Result<u64, Refusal>
+        requires { Ready }
         ensures reachable { (g : ProtectionGraph) → StandsFor store.old g → IfOk result (λ number. kind ≡ Kind.Full → IsCountOf (IsReachable g) number) }
         ensures refused { IfErr result (MayWant helpers) }
         ensures entries { store.new.entries ≡ store.old.entries }
@@ -36,6 +40,8 @@ pub trait Collector {
 pub struct OneThread;
 
 impl Collector for OneThread {
+    ghost Ready = { Unit {0} };
+
     fn collect<P: Payload>(
         &self,
         store: &mut Store<P>,

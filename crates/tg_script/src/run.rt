@@ -26,7 +26,8 @@ impl<P: Payload> Run<P> {
 
     /// What a line is answered. No line fails: where memory or room is wanting, that is the answer.
     pub(crate) fn answer<C: Collector>(&mut self, collector: &C, line: Line) -> Answer
-        requires { IsCommand line }
+        requires ready { C.Ready }
+        requires command { IsCommand line }
         ensures { Handles self.old line result self.new }
     {
         match line {
@@ -48,6 +49,7 @@ impl<P: Payload> Run<P> {
     }
 
     fn collect_all<C: Collector>(&mut self, collector: &C) -> Answer
+        requires { C.Ready }
         ensures { Handles self.old Line.Full result self.new }
     {
         match collector.collect(&mut self.store, Kind::Full, self.helpers) {
@@ -58,6 +60,7 @@ impl<P: Payload> Run<P> {
 
     // How many vertices the heap then has isn't told: the graph doesn't say it.
     fn collect_nurseries<C: Collector>(&mut self, collector: &C) -> Answer
+        requires { C.Ready }
         ensures { Handles self.old Line.Minor result self.new }
     {
         match collector.collect(&mut self.store, Kind::Nursery, self.helpers) {

@@ -53,6 +53,7 @@ pub fn run_script_with<P: Payload, C: Collector, S: Source, K: Sink>(
     workers: Vec<Draft<P>>,
     stock: Vec<Draft<P>>,
 ) -> Result<(), ScriptFault>
+    requires ready { C.Ready }
     requires number { (1 ≤ settings.workers) × (settings.workers ≤ 64) }
     requires workers { length workers.items ≡ settings.workers }
     ensures output { let start : Start = record { workers = settings.workers; helpers = settings.helpers; limit = settings.max_vertices; blocks = settings.limits.max_blocks; values = workers.items; stock = stock.items } in
@@ -114,6 +115,7 @@ pub fn run_in_memory<P: Payload, C: Collector>(
     workers: Vec<Draft<P>>,
     stock: Vec<Draft<P>>,
 ) -> InMemory
+    requires ready { C.Ready }
     requires number { (1 ≤ settings.workers) × (settings.workers ≤ 64) }
     requires workers { length workers.items ≡ settings.workers }
     ensures { let start : Start = record { workers = settings.workers; helpers = settings.helpers; limit = settings.max_vertices; blocks = settings.limits.max_blocks; values = workers.items; stock = stock.items } in
@@ -136,6 +138,7 @@ fn run_counted<P: Payload, C: Collector, A: Ledger, F: Ledger>(
     asked: Blank,
     failures: Blank,
 ) -> InMemory
+    requires ready { C.Ready }
     requires number { (1 ≤ settings.workers) × (settings.workers ≤ 64) }
     requires workers { length workers.items ≡ settings.workers }
     requires asked { (asked.name ≡ A.name) × (asked.parts ≡ A.parts) × (0 < asked.parts) }
@@ -185,6 +188,7 @@ fn run_lines<P: Payload, C: Collector, S: Source, K: Sink>(
     workers: Vec<Draft<P>>,
     stock: Vec<Draft<P>>,
 ) -> Result<(), ScriptFault>
+    requires ready { C.Ready }
     requires number { (1 ≤ settings.workers) × (settings.workers ≤ 64) }
     requires workers { length workers.items ≡ settings.workers }
     ensures output { let start : Start = record { workers = settings.workers; helpers = settings.helpers; limit = settings.max_vertices; blocks = settings.limits.max_blocks; values = workers.items; stock = stock.items } in
@@ -242,6 +246,7 @@ fn run_commands<P: Payload, C: Collector, S: Source, K: Sink>(
     sink: &mut K,
     first: Line,
 ) -> Result<(), ScriptFault>
+    requires ready { C.Ready }
     requires command { IsCommand first }
     requires opening { script.old.opening ≡ false }
     ensures written { (t : Scene) (rest before : List ℕ) → Shows run.old t → S.left source.old ≡ Some rest → K.taken sink.old ≡ Some before →
@@ -271,7 +276,8 @@ fn run_line<P: Payload, C: Collector, K: Sink>(
     sink: &mut K,
     line: Line,
 ) -> Result<(), WriteFailed>
-    requires { IsCommand line }
+    requires ready { C.Ready }
+    requires command { IsCommand line }
     ensures { RunsLine run.old line run.new (K.taken sink.old) (K.failures sink.old) result (K.taken sink.new) (K.failures sink.new) }
 {
     let answer = run.answer(collector, line);

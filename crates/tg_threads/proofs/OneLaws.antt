@@ -103,7 +103,7 @@ room_test true r made is room = refl
 room_test false r made is room = absurd (room is)
 
 creates_one : (s : Scene) (x : ℕ) (label : RightSet) (stock : List Value) (workers : ℕ) (en : Entry) (a : Answer) → Tells workers (line.Create x label) (first_of stock) (Some en) a → IsLegalEntry s.graph en → en.reply ≢ reply.VerticesFull →
-    Creates s x label stock a (record { graph = step s.graph en.worker en.deed; stock = behind_first stock })
+    Creates s x label stock a (record s { graph = step s.graph en.worker en.deed; stock = behind_first stock })
 creates_one s x label [] workers en a (inl h) legal room = absurd (not_none en h.1.0)
 creates_one s x label [] workers en a (inr h) legal room = absurd (not_none en h.1.0)
 creates_one s x label (value ∷ rest) workers en a (inr h) legal room = absurd (not_none en h.1.0)
@@ -111,17 +111,17 @@ creates_one s x label (value ∷ rest) workers en a (inl h) legal room =
     let d : Deed = deed.Create label value.law value.state in
     let is : en.reply ≡ answer_of s.graph x d = legal.reply ∙ (λ i. answer_of s.graph (h.1.0 i) (h.1.1 i)) in
     let test = room_test (nat_lt s.graph.made s.graph.limit) en.reply s.graph.made is room in
-    inl (subst (IsSubject s.graph) h.1.0 legal.subject, h.1.2 ∙ ap told.Reply is, λ i. record { graph = step s.graph (h.1.0 i) (h.1.1 i); stock = cond (sym test i) rest s.stock })
+    inl (subst (IsSubject s.graph) h.1.0 legal.subject, h.1.2 ∙ ap told.Reply is, λ i. record s { graph = step s.graph (h.1.0 i) (h.1.1 i); stock = cond (sym test i) rest s.stock })
 
 answers_one : (l : Line) (s : Scene) (workers : ℕ) (en : Entry) (a : Answer) → Tells workers l (box_of s.stock l) (Some en) a → IsLegalEntry s.graph en → en.reply ≢ reply.VerticesFull → IsOfFirst l →
-    Answers s l a (record { graph = step s.graph en.worker en.deed; stock = stock_behind s.stock l })
+    Answers s l a (record s { graph = step s.graph en.worker en.deed; stock = stock_behind s.stock l })
 answers_one (line.Edge edge) s workers en a h legal room first = absurd first
 answers_one (line.Create x label) s workers en a h legal room first = creates_one s x label s.stock workers en a h legal room
 answers_one (line.Plain x command) s workers en a (inl h) legal room first =
     inl (
       subst (IsSubject s.graph) h.1.0 legal.subject,
       h.1.2 ∙ ap told.Reply (legal.reply ∙ (λ i. answer_of s.graph (h.1.0 i) (h.1.1 i))),
-      λ i. record { graph = step s.graph (h.1.0 i) (h.1.1 i); stock = s.stock },
+      λ i. record s { graph = step s.graph (h.1.0 i) (h.1.1 i); stock = s.stock },
     )
 answers_one (line.Plain x command) s workers en a (inr h) legal room first = absurd (not_none en h.1.0)
 answers_one line.Full s workers en a h legal room first = absurd first
@@ -138,7 +138,7 @@ runs_plain (l ∷ lines) s workers made text legal h first entered room = by_ent
       let lawful : IsLegal s.graph (en ∷ more) = subst (IsLegal s.graph) made_is legal in
       let NotFull : Entry → Type 0 = λ e. e.reply ≢ reply.VerticesFull in
       let rooms : All NotFull (en ∷ more) = subst (λ es. All NotFull es) made_is room in
-      let t : Scene = record { graph = step s.graph en.worker en.deed; stock = stock_behind s.stock l } in (
+      let t : Scene = record s { graph = step s.graph en.worker en.deed; stock = stock_behind s.stock l } in (
         a,
         t,
         rest,

@@ -5,5 +5,5 @@ use std::process::ExitCode;
 use tg_program::obey;
 
 fn main(rt: HostRuntime) -> ExitCode {
-    ExitCode::from(obey(&rt))
+    ExitCode::from(obey(&rt, rt.stdin(), rt.stdout()))
 }

@@ -6,5 +6,5 @@ ghosts-serve_counted-A-Ledger g a = record { name = a.asked.name; parts = a.aske
 abbrev pub ghosts-serve_counted-B-Ledger : goal.ghosts-serve_counted-B-Ledger
 ghosts-serve_counted-B-Ledger g a = record { name = a.read_failures.name; parts = a.read_failures.parts }
 
-abbrev pub ghosts-serve_counted-C-Ledger : goal.ghosts-serve_counted-C-Ledger
-ghosts-serve_counted-C-Ledger g a = record { name = a.write_failures.name; parts = a.write_failures.parts }
+abbrev pub ghosts-serve_counted-F-Ledger : goal.ghosts-serve_counted-F-Ledger
+ghosts-serve_counted-F-Ledger g a = record { name = a.write_failures.name; parts = a.write_failures.parts }

@@ -1,13 +1,13 @@
 use Rattle.std.proofs.Common.{◌∙◌, Err, Ok}
 use Rattle.tg_program.proofs.ServingLaws.{ran_from}
-use Rattle.tg_program.proofs.streams.serve.Goals as goal
+use Rattle.tg_program.proofs.serving.serve.Goals as goal
 
 pub returns-in-Ok-clause-output : goal.returns-in-Ok-clause-output
 returns-in-Ok-clause-output g c = λ bytes before left taken.
     let ran = c.in-Ok.ensures.output bytes before left taken in (
       ran.0,
       ran.1,
-      ran_from c.args.start.now c.in_ok-workers.workers.items c.in_ok-stock.stock.items bytes before (Ok c.in-Ok.field-0) ran.0 (g.K.Sink.taken c.run_script_one.new.sink)
+      ran_from c.args.start.now c.in_ok-workers.workers.items c.in_ok-stock.stock.items bytes before (Ok c.in-Ok.field-0) ran.0 (g.K.Sink.taken c.run_script_with.new.sink)
           (c.in_ok-workers.ensures ∙ c.requires.payloads.0) (c.in_ok-stock.ensures ∙ c.requires.payloads.1) ran.2,
     )
 
@@ -16,6 +16,6 @@ returns-in-Err-clause-output g c = λ bytes before left taken.
     let ran = c.in-Err.ensures.output bytes before left taken in (
       ran.0,
       ran.1,
-      ran_from {T = Unit {0}} c.args.start.now c.in_ok-workers.workers.items c.in_ok-stock.stock.items bytes before (Err c.in-Err.fault) ran.0 (g.K.Sink.taken c.run_script_one.new.sink)
+      ran_from {T = Unit {0}} c.args.start.now c.in_ok-workers.workers.items c.in_ok-stock.stock.items bytes before (Err c.in-Err.fault) ran.0 (g.K.Sink.taken c.run_script_with.new.sink)
           (c.in_ok-workers.ensures ∙ c.requires.payloads.0) (c.in_ok-stock.ensures ∙ c.requires.payloads.1) ran.2,
     )

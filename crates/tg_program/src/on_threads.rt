@@ -1,0 +1,57 @@
+//! Collections by helpers on threads.
+ghost use Rattle.std.specs.Prelude.{◌≡◌};
+ghost use Rattle.std.specs.Thread.{IsSync};
+ghost use Rattle.tg_program.specs.Faults.{refusal_of};
+
+use std::alloc::Global;
+use std::sync::Wait;
+use std::thread::Threads;
+use tg_helpers::{HelpersFault, collect_with};
+use tg_payload::Payload;
+use tg_script::{Collector, Helpers, OneThread, Refusal};
+use tg_store::{Kind, Store};
+
+/// What makes a run's collections with helpers on threads. Where there is to be one helper alone, the thread that runs the script
+/// collects, and none is started.
+#[derive(Clone, Copy)]
+pub struct OnThreads<'a, R: Threads + Wait + Sync> {
+    rt: &'a R,
+    alloc: Global,
+}
+
+impl<'a, R: Threads + Wait + Sync> OnThreads<'a, R> {
+    /// Helpers on threads of this runtime, with tables in memory of this allocator.
+    pub fn new(rt: &'a R, alloc: Global) -> OnThreads<'a, R> {
+        OnThreads { rt, alloc }
+    }
+}
+
+impl<R: Threads + Wait + Sync> Collector for OnThreads<'_, R> {
+    ghost Ready = { IsSync R.row };
+
+    fn collect<P: Payload>(
+        &self,
+        store: &mut Store<P>,
+        kind: Kind,
+        helpers: Helpers,
+    ) -> Result<u64, Refusal> {
+        let number = helpers.number();
+        if number == 1 {
+            return OneThread.collect(store, kind, helpers);
+        }
+        match collect_with(self.rt, self.alloc, store, kind, number) {
+            Ok(kept) => Ok(kept),
+            Err(fault) => Err(refusal_of(fault)),
+        }
+    }
+}
+
+fn refusal_of(fault: HelpersFault) -> Refusal
+    ensures { result ≡ refusal_of fault }
+{
+    match fault {
+        HelpersFault::OutOfMemory => Refusal::Memory,
+        HelpersFault::HeapFull => Refusal::Heap,
+        HelpersFault::NoThread => Refusal::Threads,
+    }
+}

@@ -1,0 +1,54 @@
+//! A run with payloads, from a source to a sink.
+ghost use Rattle.std.specs.Prelude.{◌≡◌, ℕ, List, Some, true, IfErr, map};
+ghost use Rattle.tg_program.specs.Faults.{status_of};
+ghost use Rattle.tg_program.specs.Serving.{HasRun, Served};
+ghost use Rattle.tg_program.specs.Starts.{IsReady, HasPayloads};
+
+use crate::start::Start;
+use crate::stop::Stop;
+use std::alloc::Global;
+use tg_payload::Payload;
+use tg_script::{Collector, Sink, Source, drafts_of, run_script_with};
+
+/// The payloads of a run.
+#[derive(Drop)]
+pub struct Payloads<P: Payload> {
+    /// What each worker stores, by rising name.
+    pub workers: Vec<P>,
+    /// What the vertices that are made store, in order.
+    pub stock: Vec<P>,
+}
+
+/// Runs the source's script from the start with these payloads, and puts the replies into the sink, as `run_script_with` does
+/// with the start's settings. Memory may be wanting for drafts of the payloads; then nothing is read or written.
+pub fn serve<P: Payload, C: Collector, S: Source, K: Sink>(
+    alloc: Global,
+    collector: &C,
+    source: &mut S,
+    sink: &mut K,
+    start: &Start,
+    payloads: Payloads<P>,
+) -> Result<(), Stop>
+    requires collector { C.Ready }
+    requires ready { IsReady start.now }
+    requires payloads { HasPayloads start.now (map P.value payloads.workers.items) (map P.value payloads.stock.items) }
+    ensures status { IfErr result (λ stop. status_of stop ≡ 1) }
+    ensures output { (bytes before : List ℕ) → S.left source.old ≡ Some bytes → K.taken sink.old ≡ Some before →
+        (left : List ℕ) × (S.left source.new ≡ Some left) × Served start.now bytes before result left (K.taken sink.new) }
+    ensures finished { HasRun result → K.finished sink.new ≡ true }
+{
+    let workers = drafts_of(alloc, payloads.workers)?;
+    let stock = drafts_of(alloc, payloads.stock)?;
+    match run_script_with(
+        alloc,
+        collector,
+        source,
+        sink,
+        start.settings,
+        workers,
+        stock,
+    ) {
+        Ok(()) => Ok(()),
+        Err(fault) => Err(Stop::Script(fault)),
+    }
+}
