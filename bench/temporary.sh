@@ -16,6 +16,6 @@ take_crates() {
     echo "$name: $*" > "$build/crates.txt"
     for library in "$@"; do
         cp -r "$top/crates/$library" "$build/crates/"
-        grep "^$library[ :]" "$top/crates.txt" >> "$build/crates.txt"
+        grep "^$library:" "$top/crates.txt" >> "$build/crates.txt"
     done
 }
