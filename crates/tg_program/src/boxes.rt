@@ -3,7 +3,7 @@
 //! Boxes are made here, and the run over them is generic in its payloads, because no contract can speak of boxes that a
 //! function gives to its caller.
 ghost use Rattle.std.specs.Prelude.{◌≡◌, ℕ, List, Some, IfErr};
-ghost use Rattle.tg_program.specs.Faults.{exit_status};
+ghost use Rattle.tg_program.specs.Faults.{stop_status};
 ghost use Rattle.tg_program.specs.Serving.{Served};
 ghost use Rattle.tg_program.specs.Starts.{IsReady};
 
@@ -25,7 +25,7 @@ pub(crate) fn serve_with_boxes<C: Collector, S: Source, K: Sink>(
 ) -> Result<(), Stop>
     requires collector { C.Ready }
     requires ready { IsReady start.now }
-    ensures status { IfErr result (λ stop. exit_status stop ≡ 1) }
+    ensures status { IfErr result (λ stop. stop_status stop ≡ 1) }
     ensures output { (bytes before : List ℕ) → S.left source.old ≡ Some bytes → K.taken sink.old ≡ Some before →
         (left : List ℕ) × (S.left source.new ≡ Some left) × Served start.now bytes before result left (K.taken sink.new) }
 {

@@ -1,6 +1,6 @@
 //! A run with payloads, from a source to a sink.
 ghost use Rattle.std.specs.Prelude.{◌≡◌, ℕ, List, Some, true, IfErr, map};
-ghost use Rattle.tg_program.specs.Faults.{exit_status};
+ghost use Rattle.tg_program.specs.Faults.{stop_status};
 ghost use Rattle.tg_program.specs.Serving.{WasBegun, Served};
 ghost use Rattle.tg_program.specs.Starts.{IsReady, HasPayloads};
 
@@ -32,7 +32,7 @@ pub fn serve<P: Payload, C: Collector, S: Source, K: Sink>(
     requires collector { C.Ready }
     requires ready { IsReady start.now }
     requires payloads { HasPayloads start.now (map P.value payloads.workers.items) (map P.value payloads.stock.items) }
-    ensures status { IfErr result (λ stop. exit_status stop ≡ 1) }
+    ensures status { IfErr result (λ stop. stop_status stop ≡ 1) }
     ensures output { (bytes before : List ℕ) → S.left source.old ≡ Some bytes → K.taken sink.old ≡ Some before →
         (left : List ℕ) × (S.left source.new ≡ Some left) × Served start.now bytes before result left (K.taken sink.new) }
     ensures finished { WasBegun result → K.finished sink.new ≡ true }

@@ -1,6 +1,6 @@
 //! Why the program ends before the whole script was run.
 ghost use Rattle.std.specs.Prelude.{◌≡◌};
-ghost use Rattle.tg_program.specs.Faults.{exit_status};
+ghost use Rattle.tg_program.specs.Faults.{stop_status};
 
 use crate::start::StartFault;
 use std::alloc::{AllocError, AllocFailed};
@@ -51,7 +51,7 @@ impl<T: Drop> From<AllocFailed<T>> for Stop {
 impl Stop {
     /// The exit status: 2 where the words of the command line are at fault, else 1.
     pub fn status(self) -> u8
-        ensures { result ≡ exit_status self }
+        ensures { result ≡ stop_status self }
     {
         match self {
             Stop::BadWords | Stop::Start(StartFault::BadStock | StartFault::BadLimits) => 2,
