@@ -1,4 +1,4 @@
-use Rattle.std.proofs.Common.{arith, length, ◌<◌, sym, ◌∙◌, subst, List}
+use Rattle.std.proofs.Common.{arith, length, ◌<◌, sym, subst, List}
 use Rattle.std.specs.List.{range_with_len}
 use Rattle.tg_shared.specs.Sessions.{AreFresh, AreSharedOut, MayClose, SessionState}
 use Rattle.tg_threads.specs.Output.{boxed}
