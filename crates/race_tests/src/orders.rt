@@ -133,10 +133,10 @@ fn written<R: Threads + Wait + Sync>(
 // Races the twelve lines, and looks for an order.
 fn race_twelve(
     rt: &(impl Abort + AllocGlobal + Threads + Wait + Sync),
-    settings: Settings,
     script: &[u8],
 ) -> Result<(), Fail> {
     let alloc = rt.alloc();
+    let settings = settings_of(3, 100)?;
     let text = written(rt, alloc, settings, 5, script)?;
     let replies = lines_of(alloc, text.as_slice())?;
     assert_eq!(rt; replies.len(), 13);
@@ -149,16 +149,21 @@ fn race_twelve(
     Ok(())
 }
 
-#[test]
-fn twelve_lines_of_three_workers(rt: HostRuntime) -> Result<(), Fail> {
-    let settings = settings_of(3, 100)?;
-    let mut script = Vec::new(rt.alloc());
+// The edges and the twelve lines.
+fn script_of_three(alloc: Global) -> Result<Vec<u8>, AllocError> {
+    let mut script = Vec::new(alloc);
     script.extend_from_slice(EDGES)?;
     for line in &LINES {
         script.extend_from_slice(line)?;
     }
+    Ok(script)
+}
+
+#[test]
+fn twelve_lines_of_three_workers(rt: HostRuntime) -> Result<(), Fail> {
+    let script = script_of_three(rt.alloc())?;
     for _ in 0..50u64 {
-        race_twelve(&rt, settings, script.as_slice())?;
+        race_twelve(&rt, script.as_slice())?;
     }
     Ok(())
 }
