@@ -29,6 +29,7 @@ status_of (stop.Start start.BadStock) = 2
 status_of (stop.Start start.BadLimits) = 2
 status_of (stop.Start start.OutOfMemory) = 1
 status_of (stop.Script fault) = 1
+status_of (stop.Race fault) = 1
 
 -- the status that was answered, or that of what ended the program before
 abbrev pub exit_status : Result ℕ Stop → ℕ

@@ -11,12 +11,15 @@ use crate::serving::{Payloads, serve};
 use crate::start::Start;
 use crate::stop::Stop;
 use std::alloc::Global;
+use std::sync::Wait;
+use std::thread::Threads;
 use tg_payload::{CellPayload, LogPayload, MaxPayload, PayloadBox, SumPayload};
 use tg_script::{Collector, Sink, Source, StockItem};
 
 /// Runs the source's script from the start, with new boxes: a cell with 0 for each worker, and those of the stock. Memory may
 /// be wanting before it; then nothing is read or written.
-pub(crate) fn serve_with_boxes<C: Collector, S: Source, K: Sink>(
+pub(crate) fn serve_with_boxes<R: Threads + Wait + Sync, C: Collector, S: Source, K: Sink>(
+    rt: &R,
     alloc: Global,
     collector: &C,
     source: &mut S,
@@ -44,5 +47,5 @@ pub(crate) fn serve_with_boxes<C: Collector, S: Source, K: Sink>(
         stock.push(payload)?;
     }
     let payloads = Payloads { workers, stock };
-    serve(alloc, collector, source, sink, start, payloads)
+    serve(rt, alloc, collector, source, sink, start, payloads)
 }

@@ -5,6 +5,7 @@ ghost use Rattle.tg_program.specs.Faults.{status_of};
 use crate::start::StartFault;
 use std::alloc::{AllocError, AllocFailed};
 use tg_script::ScriptFault;
+use tg_threads::RaceFault;
 use thiserror::Error;
 
 /// Why the program ended before the whole script was run: the line on standard error, after its name.
@@ -22,6 +23,9 @@ pub enum Stop {
     /// The run met this fault.
     #[error("{0}")]
     Script(ScriptFault),
+    /// The race met this fault.
+    #[error("{0}")]
+    Race(RaceFault),
 }
 
 impl From<AllocError> for Stop {
@@ -55,7 +59,10 @@ impl Stop {
     {
         match self {
             Stop::BadWords | Stop::Start(StartFault::BadStock | StartFault::BadLimits) => 2,
-            Stop::HelpUnwritten | Stop::Start(StartFault::OutOfMemory) | Stop::Script(_) => 1,
+            Stop::HelpUnwritten
+            | Stop::Start(StartFault::OutOfMemory)
+            | Stop::Script(_)
+            | Stop::Race(_) => 1,
         }
     }
 }

@@ -11,7 +11,9 @@ use crate::stop::Stop;
 use std::alloc::Global;
 use std::io::{BufRead, BufReader, BufWriter, Read, Write};
 use std::marker::Brand;
+use std::sync::Wait;
 use std::sync::ledger::{Blank, Ledger};
+use std::thread::Threads;
 use tg_script::{Collector, Count, OfRead, OfWrite};
 
 /// How many bytes are read, and how many are written, at once.
@@ -28,7 +30,13 @@ pub(crate) struct Ended<R: Drop, W: Drop> {
 /// Runs the reader's script from the start with new boxes, and writes the replies. Whatever was written is flushed before more is
 /// read than the reader holds, and at the end, after a fault too. Memory may be wanting for the two buffers; then nothing is
 /// read or written.
-pub(crate) fn serve_buffered<C: Collector, R: Read + Drop, W: Write + Drop>(
+pub(crate) fn serve_buffered<
+    T: Threads + Wait + Sync,
+    C: Collector,
+    R: Read + Drop,
+    W: Write + Drop,
+>(
+    rt: &T,
     alloc: Global,
     collector: &C,
     reader: R,
@@ -49,7 +57,8 @@ pub(crate) fn serve_buffered<C: Collector, R: Read + Drop, W: Write + Drop>(
         return Err(Stop::Start(StartFault::OutOfMemory));
     };
     let (asked, read_failures, write_failures) = (Blank::new(1), Blank::new(1), Blank::new(1));
-    Ok(serve_counted::<Brand, Brand, Brand, C, BufReader<R>, BufWriter<W>>(
+    Ok(serve_counted::<Brand, Brand, Brand, T, C, BufReader<R>, BufWriter<W>>(
+        rt,
         alloc,
         collector,
         asked,
@@ -62,7 +71,16 @@ pub(crate) fn serve_buffered<C: Collector, R: Read + Drop, W: Write + Drop>(
 }
 
 // Serves where these ledgers name how often the reader is asked and fails, and how often the writer fails.
-fn serve_counted<A: Ledger, B: Ledger, F: Ledger, C: Collector, R: BufRead + Drop, W: Write + Drop>(
+fn serve_counted<
+    A: Ledger,
+    B: Ledger,
+    F: Ledger,
+    T: Threads + Wait + Sync,
+    C: Collector,
+    R: BufRead + Drop,
+    W: Write + Drop,
+>(
+    rt: &T,
     alloc: Global,
     collector: &C,
     asked: Blank,
@@ -84,7 +102,7 @@ fn serve_counted<A: Ledger, B: Ledger, F: Ledger, C: Collector, R: BufRead + Dro
     let (asked, read_failures) = (Count::<A>::new(asked), Count::<B>::new(read_failures));
     let mut source = OfRead::new(reader, asked, read_failures);
     let mut sink = OfWrite::new(writer, Count::<F>::new(write_failures));
-    let outcome = serve_with_boxes(alloc, collector, &mut source, &mut sink, start);
+    let outcome = serve_with_boxes(rt, alloc, collector, &mut source, &mut sink, start);
     let OfRead { reader, .. } = source;
     let OfWrite { writer, .. } = sink;
     Ended {
