@@ -1,5 +1,5 @@
 -- What the words of the command line say. How they are taken apart is clap's matter: behind the program's name `--NAME` takes
--- the next word, `--NAME=TEXT` takes the text, and no option comes twice.
+-- the next word, `--NAME=TEXT` takes the text, `--race` stands alone, and no option comes twice.
 use Rattle.std.specs.Prelude.{◌≡◌, ℕ, Bool, true, false, List, [], Option, Some, None, codes, unwrap_or}
 use Rattle.std.specs.Option.{option_map_or}
 use Rattle.std.specs.Str.Parse.{digits_value, without_leading_plus}
