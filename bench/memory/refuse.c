@@ -26,8 +26,7 @@ struct told {
     _Atomic long beside;   /* whether it came from another thread than the first */
     _Atomic long held;     /* how many pieces of memory were taken and not given back */
     _Atomic long started;  /* how many threads were started */
-    _Atomic long joined;   /* how many of them were joined */
-    _Atomic long detached; /* and how many were let go, for whom a scope waits by other means */
+    _Atomic long joined;   /* and how many of them were joined */
 };
 
 static struct told *told;
@@ -35,7 +34,6 @@ static long refuse_at;
 
 static int (*real_create)(pthread_t *, const pthread_attr_t *, void *(*)(void *), void *);
 static int (*real_join)(pthread_t, void **);
-static int (*real_detach)(pthread_t);
 
 __attribute__((constructor)) static void begin(void) {
     const char *at = getenv("REFUSE_AT"), *path = getenv("REFUSE_TELL");
@@ -45,7 +43,6 @@ __attribute__((constructor)) static void begin(void) {
     refuse_at = atol(at);
     real_create = dlsym(RTLD_NEXT, "pthread_create");
     real_join = dlsym(RTLD_NEXT, "pthread_join");
-    real_detach = dlsym(RTLD_NEXT, "pthread_detach");
     void *room = mmap(NULL, sizeof *told, PROT_READ | PROT_WRITE, MAP_SHARED, file, 0);
     close(file);
     if (room == MAP_FAILED)
@@ -119,10 +116,4 @@ int pthread_join(pthread_t thread, void **result) {
     if (told)
         atomic_fetch_add(&told->joined, 1);
     return real_join(thread, result);
-}
-
-int pthread_detach(pthread_t thread) {
-    if (told)
-        atomic_fetch_add(&told->detached, 1);
-    return real_detach(thread);
 }

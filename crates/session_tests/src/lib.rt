@@ -1,10 +1,8 @@
-//! Tests of the locked store: two threads, receipts, closing, and memory that is refused.
+//! Tests of the locked store: two threads, receipts, and closing.
 //!
 //! A test is named for what it shows; each file has one topic. Nothing here is called by any crate.
 #![tactic(auto)]
 
-#[cfg(test)]
-mod memory;
 #[cfg(test)]
 mod opened;
 #[cfg(test)]

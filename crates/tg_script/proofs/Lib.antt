@@ -2,6 +2,7 @@ pub mod LinesLaws
 pub mod OpeningLaws
 pub mod RunLaws
 pub mod CommandLaws
+pub mod DueLaws
 pub mod RanLaws
 pub mod WholeLaws
 pub mod CountLaws

@@ -47,6 +47,13 @@ Ran start bytes before (Err fault.HeapFull) left after =
 Ran start bytes before (Err fault.BadLimits) left after = (¬ HasRoom start) × IsUnopened start bytes fault.BadLimits left × (after ≡ Some before)
 Ran start bytes before (Err f) left after = IsWritten start bytes before (Some f) left after
 
+-- What holds of the settings where a run ends with this fault, whatever its source tells of its bytes: with `BadLimits` and
+-- `HeapFull` it ends only where the settings are at fault.
+abbrev pub IsDue : Start → ScriptFault → Type 0
+IsDue start fault.BadLimits = ¬ HasRoom start
+IsDue start fault.HeapFull = start.blocks < start.workers
+IsDue start f = Unit {0}
+
 -- ---- parts of a run
 
 -- the lines behind the first are read so far, and the text is admissible for all of them from the scene

@@ -1,11 +1,11 @@
 //! The run of a whole script.
-ghost use Rattle.std.specs.Prelude.{◌≡◌, ◌+◌, ◌<◌, ◌≤◌, ℕ, List, [], length, Option, Some, Err, true, false, OnOk};
+ghost use Rattle.std.specs.Prelude.{◌≡◌, ◌+◌, ◌<◌, ◌≤◌, ℕ, List, [], length, Option, Some, Err, true, false, IfErr, OnOk};
 ghost use Rattle.std.specs.List.{All};
 ghost use Rattle.tg_model.specs.Opened.{Plan, JoinsWorkers};
-ghost use Rattle.tg_script.specs.Lines.{read_failures, write_failures};
+ghost use Rattle.tg_script.specs.Lines.{IsOfReading, read_failures, write_failures};
 ghost use Rattle.tg_script.specs.Opening.{IsCommand};
 ghost use Rattle.tg_script.specs.Run.{OpensRun, Shows};
-ghost use Rattle.tg_script.specs.Running.{Ran, TellsAll, Finishes, RunsLine};
+ghost use Rattle.tg_script.specs.Running.{IsDue, Ran, TellsAll, Finishes, RunsLine};
 ghost use Rattle.tg_script.specs.Script.{Scene, Start};
 
 use crate::collector::{Collector, OneThread};
@@ -59,6 +59,7 @@ pub fn run_script_with<P: Payload, C: Collector, S: Source, K: Sink>(
     ensures output { let start : Start = record { workers = settings.workers; helpers = settings.helpers; limit = settings.max_vertices; blocks = settings.limits.max_blocks; values = workers.items; stock = stock.items } in
         (bytes before : List ℕ) → S.left source.old ≡ Some bytes → K.taken sink.old ≡ Some before →
         (left : List ℕ) × (S.left source.new ≡ Some left) × Ran start bytes before result left (K.taken sink.new) }
+    ensures due { let start : Start = record { workers = settings.workers; helpers = settings.helpers; limit = settings.max_vertices; blocks = settings.limits.max_blocks; values = workers.items; stock = stock.items } in IfErr result (IsDue start) }
     ensures asked { S.asked source.new ≤ S.asked source.old + 1048577 }
     ensures read_failed { S.failures source.new ≡ S.failures source.old + read_failures result }
     ensures write_failed { result ≡ Err ScriptFault.WriteFailed → K.failures sink.old < K.failures sink.new }
@@ -84,6 +85,7 @@ pub fn run_script_one<P: Payload, S: Source, K: Sink>(
     ensures output { let start : Start = record { workers = settings.workers; helpers = 1; limit = settings.max_vertices; blocks = settings.limits.max_blocks; values = workers.items; stock = stock.items } in
         (bytes before : List ℕ) → S.left source.old ≡ Some bytes → K.taken sink.old ≡ Some before →
         (left : List ℕ) × (S.left source.new ≡ Some left) × Ran start bytes before result left (K.taken sink.new) }
+    ensures due { let start : Start = record { workers = settings.workers; helpers = 1; limit = settings.max_vertices; blocks = settings.limits.max_blocks; values = workers.items; stock = stock.items } in IfErr result (IsDue start) }
     ensures asked { S.asked source.new ≤ S.asked source.old + 1048577 }
     ensures read_failed { S.failures source.new ≡ S.failures source.old + read_failures result }
     ensures write_failed { result ≡ Err ScriptFault.WriteFailed → K.failures sink.old < K.failures sink.new }
@@ -192,6 +194,7 @@ fn run_lines<P: Payload, C: Collector, S: Source, K: Sink>(
     ensures output { let start : Start = record { workers = settings.workers; helpers = settings.helpers; limit = settings.max_vertices; blocks = settings.limits.max_blocks; values = workers.items; stock = stock.items } in
         (bytes before : List ℕ) → S.left source.old ≡ Some bytes → K.taken sink.old ≡ Some before →
         (left : List ℕ) × (S.left source.new ≡ Some left) × Ran start bytes before result left (K.taken sink.new) }
+    ensures due { let start : Start = record { workers = settings.workers; helpers = settings.helpers; limit = settings.max_vertices; blocks = settings.limits.max_blocks; values = workers.items; stock = stock.items } in IfErr result (IsDue start) }
     ensures asked { S.asked source.new ≤ S.asked source.old + 1048577 }
     ensures read_failed { S.failures source.new ≡ S.failures source.old + read_failures result }
     ensures write_failed { K.failures sink.new ≡ K.failures sink.old + write_failures result }
@@ -248,6 +251,7 @@ fn run_commands<P: Payload, C: Collector, S: Source, K: Sink>(
     requires opening { script.old.opening ≡ false }
     ensures written { (t : Scene) (rest before : List ℕ) → Shows run.old t → S.left source.old ≡ Some rest → K.taken sink.old ≡ Some before →
         (left : List ℕ) × (S.left source.new ≡ Some left) × TellsAll script.old rest t first before result left (K.taken sink.new) }
+    ensures fault { IfErr result IsOfReading }
     ensures asked { S.asked source.new ≤ S.asked source.old + script.old.lines.room + 1 }
     ensures read_failed { S.failures source.new ≡ S.failures source.old + read_failures result }
     ensures write_failed { K.failures sink.new ≡ K.failures sink.old + write_failures result }

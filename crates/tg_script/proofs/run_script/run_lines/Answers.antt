@@ -4,6 +4,7 @@ use Rattle.tg_model.specs.Opened.{Plan}
 use Rattle.tg_script.specs.Script.{Start}
 use Rattle.tg_script.proofs.LinesLaws.{keeps_known}
 use Rattle.tg_script.proofs.RanLaws.{IsFresh, scene_with, first_command, ran_edges, ran_edges_fault, ran_store_fault, ran_commands}
+use Rattle.tg_script.proofs.DueLaws.{keeping_due, lines_due, opening_due}
 use Rattle.tg_script.proofs.run_script.run_lines.Goals as goal
 
 pub returns-in_err-edges-clause-output : goal.returns-in_err-edges-clause-output
@@ -63,3 +64,21 @@ returns-in-Some-clause-output g c = λ bytes before left taken.
       ran_commands c.run_commands.result start c.new-script.result c.read_edges.new.script bytes b.0 edges c.in-Some.first before told.0 (g.K.Sink.taken c.run_commands.new.sink)
           fresh (c.in_ok-run.ensures.0, c.in_ok-run.ensures.1) command.0 b.2 told.2,
     )
+
+pub returns-in_err-edges-clause-due : goal.returns-in_err-edges-clause-due
+returns-in_err-edges-clause-due g c =
+    let start : Start = record { workers = c.args.settings.workers; helpers = c.args.settings.helpers; limit = c.args.settings.max_vertices; blocks = c.args.settings.limits.max_blocks; values = c.args.workers.items; stock = c.args.stock.items } in
+    let p = err_from_is_err_and c.from_residual.result c.from_residual.ensures.1 in
+    rw (p.1, p.2) (keeping_due start c.in_err-edges.field-0.0 c.in_err-edges.ensures.fault)
+
+pub returns-in_err-run-clause-due : goal.returns-in_err-run-clause-due
+returns-in_err-run-clause-due g c =
+    let start : Start = record { workers = c.args.settings.workers; helpers = c.args.settings.helpers; limit = c.args.settings.max_vertices; blocks = c.args.settings.limits.max_blocks; values = c.args.workers.items; stock = c.args.stock.items } in
+    let plan : Plan = record { workers = c.args.settings.workers; edges = c.in_ok-edges.field-0.edges.items; values = c.args.workers.items; limit = c.args.settings.max_vertices } in
+    let p = err_from_is_err_and c.from_residual-in_err-run.result c.from_residual-in_err-run.ensures.1 in
+    rw (p.1, p.2) (opening_due plan start c.in_err-run.field-0.0 refl refl c.in_err-run.ensures)
+
+pub returns-in-Some-clause-due : goal.returns-in-Some-clause-due
+returns-in-Some-clause-due g c =
+    let start : Start = record { workers = c.args.settings.workers; helpers = c.args.settings.helpers; limit = c.args.settings.max_vertices; blocks = c.args.settings.limits.max_blocks; values = c.args.workers.items; stock = c.args.stock.items } in
+    lines_due start c.run_commands.result c.run_commands.ensures.fault

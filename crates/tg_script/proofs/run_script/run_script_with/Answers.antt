@@ -1,5 +1,6 @@
 use Rattle.tg_script.specs.Script.{Start}
 use Rattle.tg_script.proofs.RanLaws.{ran_finished}
+use Rattle.tg_script.proofs.DueLaws.{finished_due}
 use Rattle.tg_script.proofs.run_script.run_script_with.Goals as goal
 
 pub returns-clause-output : goal.returns-clause-output
@@ -12,3 +13,10 @@ returns-clause-output g c = λ bytes before left taken.
       ran_finished c.run_lines-outcome.result c.finish.result start bytes before ran.0 (s.taken c.run_lines-outcome.new.sink) (s.taken c.finish.new.sink)
           (s.failures c.run_lines-outcome.new.sink) (s.failures c.finish.new.sink) ran.2 c.finish.ensures.outcome,
     )
+
+pub returns-clause-due : goal.returns-clause-due
+returns-clause-due g c =
+    let start : Start = record { workers = c.args.settings.workers; helpers = c.args.settings.helpers; limit = c.args.settings.max_vertices; blocks = c.args.settings.limits.max_blocks; values = c.args.workers.items; stock = c.args.stock.items } in
+    let s = g.K.Sink in
+    finished_due start c.run_lines-outcome.result c.finish.result (s.taken c.run_lines-outcome.new.sink) (s.taken c.finish.new.sink) (s.failures c.run_lines-outcome.new.sink) (s.failures c.finish.new.sink)
+    c.run_lines-outcome.ensures.due c.finish.ensures.outcome

@@ -1,0 +1,46 @@
+-- A run ends for its limits only where they are at fault.
+use Rattle.std.specs.Prelude.{IfErr}
+use Rattle.std.proofs.Common.{◌≡◌, ℕ, List, Option, Result, Ok, Err, inl, inr, sym, subst, arith}
+use Rattle.tg_model.specs.Opened.{Plan}
+use Rattle.tg_text.specs.declared.fault.ScriptFault.{ScriptFault}
+use Rattle.tg_text.specs.declared.fault.ScriptFault.TheVariants as fault
+use Rattle.tg_script.specs.Script.{Start}
+use Rattle.tg_script.specs.Lines.{IsOfReading, IsOfKeeping}
+use Rattle.tg_script.specs.Opening.{Opens}
+use Rattle.tg_script.specs.Running.{IsDue, Finishes}
+
+reading_due : (start : Start) (f : ScriptFault) → IsOfReading f → IsDue start f
+reading_due start fault.ReadFailed h = tt
+reading_due start fault.InputTooLong h = tt
+reading_due start (fault.LineTooLong n) h = tt
+reading_due start (fault.BadLine n) h = tt
+reading_due start fault.WriteFailed h = tt
+reading_due start fault.OutOfMemory h = tt
+reading_due start fault.HeapFull h = absurd h
+reading_due start fault.BadLimits h = absurd h
+
+pub keeping_due : (start : Start) (f : ScriptFault) → IsOfKeeping f → IsDue start f
+keeping_due start f (inl h) = reading_due start f h
+keeping_due start f (inr e) = subst (IsDue start) (sym e) tt
+
+-- behind the edges
+pub lines_due : {T : Type 0} (start : Start) (r : Result T ScriptFault) → IfErr r IsOfReading → IfErr r (IsDue start)
+lines_due start (Ok done) h = tt
+lines_due start (Err f) h = reading_due start f h
+
+-- where no store is opened
+pub opening_due : (p : Plan) (start : Start) (f : ScriptFault) → p.workers ≡ start.workers → p.limit ≡ start.limit → Opens p start.blocks (Err f) → IsDue start f
+opening_due p start fault.ReadFailed workers limit h = tt
+opening_due p start fault.InputTooLong workers limit h = tt
+opening_due p start (fault.LineTooLong n) workers limit h = tt
+opening_due p start (fault.BadLine n) workers limit h = tt
+opening_due p start fault.WriteFailed workers limit h = tt
+opening_due p start fault.OutOfMemory workers limit h = tt
+opening_due p start fault.HeapFull workers limit h = omega (arith, h.1, workers)
+opening_due p start fault.BadLimits workers limit h = λ room. h (omega (arith, room.0, limit), omega (arith, room.1, limit), omega (arith, room.2, workers, limit))
+
+-- at the end
+pub finished_due : {T : Type 0} (start : Start) (outcome result : Result T ScriptFault) (before after : Option (List ℕ)) (failures failures' : ℕ) →
+    IfErr outcome (IsDue start) → Finishes before failures outcome result after failures' → IfErr result (IsDue start)
+finished_due start outcome result before after failures failures' due (kept, inl h) = subst (λ r. IfErr r (IsDue start)) (sym h.0) due
+finished_due start outcome result before after failures failures' due (kept, inr h) = subst (λ r. IfErr r (IsDue start)) (sym h.1) tt
