@@ -12,7 +12,7 @@ use Rattle.tg_c.specs.declared.refusal.Refusal.TheVariants as refusal
 use Rattle.tg_c.specs.declared.forms.EdgeIn.{EdgeIn}
 use Rattle.tg_c.specs.declared.forms.LimitsIn.{LimitsIn}
 use Rattle.tg_c.specs.declared.forms.ValueIn.{ValueIn}
-use Rattle.tg_c.specs.Calls.{AreMet, IsRefusedFor, IsWant, demands_of}
+use Rattle.tg_c.specs.Calls.{AreMet, IsRefusedFor, IsMemoryOr, demands_of}
 use Rattle.tg_c.specs.Forms.{edge_in, plan_of, value_in}
 use Rattle.tg_c.specs.Statuses.{of_open, status_of}
 use Rattle.tg_c.proofs.PlanLaws.{no_fault, plan_is}
@@ -22,7 +22,7 @@ pub wants : {X : Type 0} (workers : List ValueIn) (edges : List EdgeIn) (limits 
     → AreMet (demands_of workers edges limits) → r ≡ Err why → why ≡ refusal.OutOfMemory → IfErr r (IsRefusedFor workers edges limits)
 wants workers edges limits r why met is want = subst (λ s. IfErr s (IsRefusedFor workers edges limits)) (sym is) (inr (met, want))
 
-pub want_else : (fault why : Refusal) (says : Type 0) → ¬ says → IsWant fault says why → why ≡ refusal.OutOfMemory
+pub want_else : (fault why : Refusal) (says : Type 0) → ¬ says → IsMemoryOr fault says why → why ≡ refusal.OutOfMemory
 want_else fault why says none (inl want) = want
 want_else fault why says none (inr told) = absurd (none told.1)
 

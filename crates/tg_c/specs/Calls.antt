@@ -224,7 +224,7 @@ IsRefusedFor workers edges limits why =
     ⊎ (AreMet (demands_of workers edges limits) × (why ≡ refusal.OutOfMemory))
 
 -- The store of an opening, all of whose demands are met: it has no entry, and stands for the graph of what C asked for.
-pub record IsOpened (s : StoreState) (workers : List ValueIn) (edges : List EdgeIn) (limits : LimitsIn) : Type 0 where
+pub record IsOpenedStore (s : StoreState) (workers : List ValueIn) (edges : List EdgeIn) (limits : LimitsIn) : Type 0 where
   pub met : AreMet (demands_of workers edges limits)
   pub opening : s.opening ≡ plan_of workers edges limits.max_vertices
   pub stands : StandsFor s (start_of (plan_of workers edges limits.max_vertices))
@@ -232,8 +232,8 @@ pub record IsOpened (s : StoreState) (workers : List ValueIn) (edges : List Edge
   pub limits_kept : s.heap.table.limits ≡ limits_of limits.max_blocks limits.max_space_blocks
 
 -- the refusal is want of memory, or else this one, and then what it says holds
-abbrev pub IsWant : Refusal → Type 0 → Refusal → Type 0
-IsWant fault says why = (why ≡ refusal.OutOfMemory) ⊎ ((why ≡ fault) × says)
+abbrev pub IsMemoryOr : Refusal → Type 0 → Refusal → Type 0
+IsMemoryOr fault says why = (why ≡ refusal.OutOfMemory) ⊎ ((why ≡ fault) × says)
 
 -- the status is that of a refusal of which this holds
 abbrev pub IsStatusWhere : (Refusal → Type 0) → ℕ → Type 0
@@ -242,6 +242,6 @@ IsStatusWhere which status = (why : Refusal) × which why × (status ≡ status_
 -- What an opening of C does to the place. Refused, it leaves the place as it was.
 pub record Opens (old new : Place) (workers : List ValueIn) (edges : List EdgeIn) (limits : LimitsIn) (status : ℕ) : Type 0 where
   pub already_open : old.is_open ≡ true → status ≡ status_of refusal.AlreadyOpen
-  pub opened : status ≡ 0 → (new.is_open ≡ true) × IsOpened (state_in new) workers edges limits
+  pub opened : status ≡ 0 → (new.is_open ≡ true) × IsOpenedStore (state_in new) workers edges limits
   pub refused : old.is_open ≡ false → status ≢ 0 → IsStatusWhere (IsRefusedFor workers edges limits) status
   pub kept : status ≢ 0 → new ≡ old

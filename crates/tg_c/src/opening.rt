@@ -1,7 +1,7 @@
 //! What C hands in for an opening: whether it is as asked, and as what the store takes.
 ghost use Rattle.std.specs.Prelude.{◌≡◌, IfOk, IfErr, MatchResult, length, map};
 ghost use Rattle.tg_space.specs.SpaceTable.{limits_of};
-ghost use Rattle.tg_c.specs.Calls.{AreMet, IsFirstUnmet, IsWant, demands_of};
+ghost use Rattle.tg_c.specs.Calls.{AreMet, IsFirstUnmet, IsMemoryOr, demands_of};
 ghost use Rattle.tg_c.specs.Forms.{AreValues, HaveLabels, JoinWorkers, edge_in, value_in};
 
 use crate::forms::{EdgeIn, LimitsIn, ValueIn, label_of};
@@ -77,7 +77,7 @@ fn check_ends(workers: u64, edges: &[EdgeIn]) -> Result<(), Refusal>
 /// A draft for each worker, of what it is to store.
 pub fn drafts_in(alloc: Global, workers: &[ValueIn]) -> Result<Vec<Draft<LawPayload>>, Refusal>
     ensures drafts { IfOk result (λ drafts. AreValues workers.now × (drafts.items ≡ map value_in workers.now)) }
-    ensures refused { IfErr result (IsWant Refusal.BadLaw (¬ AreValues workers.now)) }
+    ensures refused { IfErr result (IsMemoryOr Refusal.BadLaw (¬ AreValues workers.now)) }
 {
     let mut drafts = Vec::new(alloc);
     for worker in workers {
@@ -101,7 +101,7 @@ pub fn values_of(alloc: Global, drafts: &[Draft<LawPayload>]) -> Result<Vec<Valu
 /// The edges, with the labels of their rights.
 pub fn edges_in(alloc: Global, edges: &[EdgeIn]) -> Result<Vec<Edge>, Refusal>
     ensures edges { IfOk result (λ list. HaveLabels edges.now × (list.items ≡ map edge_in edges.now)) }
-    ensures refused { IfErr result (IsWant Refusal.BadRights (¬ HaveLabels edges.now)) }
+    ensures refused { IfErr result (IsMemoryOr Refusal.BadRights (¬ HaveLabels edges.now)) }
 {
     let mut list = Vec::new(alloc);
     for edge in edges {

@@ -10,7 +10,7 @@ use Rattle.tg_word.specs.Word.{place_in}
 use Rattle.tg_space.specs.Rows.{chunks_from, link_at}
 use Rattle.tg_space.specs.Soundness.{IsPointer, IsRootIn}
 use Rattle.tg_space.specs.SpaceList.{SpaceList, IsSpaceList, Holds, cell_at, flat_of, cells_of}
-use Rattle.tg_space.specs.Targets.{from_space, pointers_of, target_in, named_by, cells_met, targets_at, targets_of, root_targets_of}
+use Rattle.tg_space.specs.Targets.{from_space, pointers_of, target_in, named_by, cells_followed, targets_at, targets_of, root_targets_of}
 use Rattle.tg_space.specs.declared.spaces.Kind.{Kind}
 use Rattle.tg_space.specs.declared.spaces.Root.{Root}
 use Rattle.tg_space.specs.declared.spaces.Root.TheVariants.{Row, Remembered}
@@ -86,7 +86,7 @@ module _ (from : ℕ → Bool) (h : SpaceList) where
   pub row_kept : (p : Place) → from p.space ≡ false → root_targets_of from h (Row p) ≡ targets_at from h p ++ chunk_targets from h (length (cells_of h)) (link_at h p)
   row_kept p kept = by_test (from p.space) kept
     where
-      by_test : (b : Bool) → b ≡ false → cond b (flat_of h p ∷ []) (flat_map (targets_at from h) (cells_met from h p)) ≡ targets_at from h p ++ chunk_targets from h (length (cells_of h)) (link_at h p)
+      by_test : (b : Bool) → b ≡ false → cond b (flat_of h p ∷ []) (flat_map (targets_at from h) (cells_followed from h p)) ≡ targets_at from h p ++ chunk_targets from h (length (cells_of h)) (link_at h p)
       by_test true isnt = absurd cc
       by_test false isnt = step p (chunks_from h (length (cells_of h)) (link_at h p)) kept
 

@@ -17,7 +17,7 @@ use Rattle.tg_space.specs.Collection.{AreFewBlocks, copies_in, is_copy_in, new_p
 use Rattle.tg_space.specs.SpaceList.{BlockList}
 use Rattle.tg_space.specs.SpaceTable.{place_in_space}
 use Rattle.tg_evac.specs.declared.win.Win.{Win}
-use Rattle.tg_evac.specs.Claims.{Claimed, StandsIn, IsGiven, AreApart, AreInOrder, AreClaims, IsFull, cells_won, first_new, is_in, won_in, words_won, win_at}
+use Rattle.tg_evac.specs.Claims.{Claimed, StandsIn, IsGiven, AreApart, AreGivenInOrder, AreClaims, HasFilledRoom, cells_won, first_new, is_in, won_in, words_won, win_at}
 use Rattle.tg_evac.specs.Claimers.{AddsWins, HasPlacesOf, walked_of}
 
 -- the place of Old or of Aged with a number
@@ -90,7 +90,7 @@ in_none space (w ∷ won) all =
     rw (is_in_other space w other) (in_none space won (All-tail (λ (v : Win). (place_in v.word).space ≢ space) w won all))
 
 -- one more pair, with the next number
-order_push : (space first : ℕ) (won : List Win) (w : Win) → AreInOrder space first won → w.word ≡ link_to (place_in_space space (first + length won)) → AreInOrder space first (won ++ w ∷ [])
+order_push : (space first : ℕ) (won : List Win) (w : Win) → AreGivenInOrder space first won → w.word ≡ link_to (place_in_space space (first + length won)) → AreGivenInOrder space first (won ++ w ∷ [])
 order_push space first won w order is k low =
     let long = length_push won w in
     ⊎_elim
@@ -271,7 +271,7 @@ pub has_places : (c : Claimed) → AreClaims c → HasPlacesOf c.won (new_place 
 has_places c are = All-weaker (StandsIn c.forward) (λ (w : Win). new_place c.forward w.cell ≡ place_in w.word) (λ w st. ap place_in st.word) c.won are.words.stand
 
 -- where a space has no room for one more, all the room is won
-pub full_at : (c : Claimed) → AreClaims c → (space : ℕ) → space < 2 → c.plan.room ≤ get_or c.next space 0 → IsFull c
+pub full_at : (c : Claimed) → AreClaims c → (space : ℕ) → space < 2 → c.plan.room ≤ get_or c.next space 0 → HasFilledRoom c
 full_at c are space two past = record { all = all; distinct = won_distinct c are }
   where
     all : c.plan.room ≤ 64 * c.plan.kept + length (cells_won c.won)
@@ -396,16 +396,16 @@ module _ (c : Claimed) (are : AreClaims c) (w : Win) (space number : ℕ) (two :
   to_space : (place_in w.word).space ≡ space
   to_space = ap (λ (n : ℕ). (place_in n).space) is ∙ ap (λ (p : Place). p.space) (place_back space number two small)
 
-  in_order_more : (s : ℕ) → s < 2 → AreInOrder s (first_new c.plan.kept s) (won_in s (c.won ++ w ∷ []))
+  in_order_more : (s : ℕ) → s < 2 → AreGivenInOrder s (first_new c.plan.kept s) (won_in s (c.won ++ w ∷ []))
   in_order_more s inside = ⊎_elim
       (λ (here : (place_in w.word).space ≡ s).
       let same : space ≡ s = sym to_space ∙ here in
       let at : number ≡ first_new c.plan.kept space + length (won_in space c.won) = next ∙ sym (are.ends space two) in
       let word : w.word ≡ link_to (place_in_space s (first_new c.plan.kept s + length (won_in s c.won))) =
       is ∙ ap (λ (n : ℕ). link_to (place_in_space space n)) at ∙ ap (λ (t : ℕ). link_to (place_in_space t (first_new c.plan.kept t + length (won_in t c.won)))) same in
-      subst (λ (ws : List Win). AreInOrder s (first_new c.plan.kept s) ws) (sym (in_push s c.won w here)) (order_push s (first_new c.plan.kept s) (won_in s c.won) w (are.in_order s inside) word))
+      subst (λ (ws : List Win). AreGivenInOrder s (first_new c.plan.kept s) ws) (sym (in_push s c.won w here)) (order_push s (first_new c.plan.kept s) (won_in s c.won) w (are.in_order s inside) word))
       (λ (other : (place_in w.word).space ≢ s).
-      subst (λ (ws : List Win). AreInOrder s (first_new c.plan.kept s) ws) (sym (in_other s c.won w other)) (are.in_order s inside))
+      subst (λ (ws : List Win). AreGivenInOrder s (first_new c.plan.kept s) ws) (sym (in_other s c.won w other)) (are.in_order s inside))
       (cases_eq (place_in w.word).space s)
 
   ends_more : (s : ℕ) → s < 2 → first_new c.plan.kept s + length (won_in s (c.won ++ w ∷ [])) ≡ get_or (set c.next space (number + 1)) s 0

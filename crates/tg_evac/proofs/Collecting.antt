@@ -20,7 +20,7 @@ use Rattle.tg_space.specs.declared.spaces.Root.TheVariants.{Remembered}
 use Rattle.tg_space.proofs.Tables.{table_list}
 use Rattle.tg_evac.specs.declared.plan.Plan.{Plan}
 use Rattle.tg_evac.specs.declared.win.Win.{Win}
-use Rattle.tg_evac.specs.Claims.{Claimed, AreClaims, AreInOrder, IsPlanFor, IsTracedFrom, StandsIn, AreTraced, AreWordsOf, cells_won, win_at, won_in}
+use Rattle.tg_evac.specs.Claims.{Claimed, AreClaims, AreGivenInOrder, IsPlanFor, IsTracedFrom, StandsIn, AreTraced, AreWordsOf, cells_won, win_at, won_in}
 use Rattle.tg_evac.specs.Claimers.{copies_to}
 use Rattle.tg_evac.specs.Copies.{HasNewPlace, HoldCells, HoldCopies, IsPlaceIn, copy_of, moved_cell, new_cell}
 use Rattle.tg_evac.proofs.Claiming.{few_blocks, have_places, in_room, cell_held, win_from_cell, word_place, word_links, word_to, word_behind, cells_apart}
@@ -222,7 +222,7 @@ module _ (kind : Kind) (t : SpaceTable) (roots : List Root) (plan : Plan) (is_pl
     old_copies : HoldCopies 0 (kept_blocks kind t.spaces) copy c.won old
     old_copies =
         let ends = claims.ends 0 (lit< tt) in let room = claims.few 0 in
-        copies_in_order 0 (kept_blocks kind t.spaces) (lit< tt) c.won (subst (λ (n : ℕ). AreInOrder 0 (64 * n) (won_in 0 c.won)) kept_is (claims.in_order 0 (lit< tt)))
+        copies_in_order 0 (kept_blocks kind t.spaces) (lit< tt) c.won (subst (λ (n : ℕ). AreGivenInOrder 0 (64 * n) (won_in 0 c.won)) kept_is (claims.in_order 0 (lit< tt)))
         (let same = kept_is in omega arith) copy old old_whole in_old
 
     none_aged : kind ≡ Full → aged ≡ []

@@ -19,7 +19,7 @@ use Rattle.tg_space.specs.declared.spaces.Kind.TheVariants.{Full}
 use Rattle.tg_space.specs.declared.spaces.Root.{Root}
 use Rattle.tg_space.proofs.Flat.{all_cells_whole, length-blocks}
 use Rattle.tg_evac.specs.declared.win.Win.{Win}
-use Rattle.tg_evac.specs.Claims.{AreClaims, AreInOrder, Claimed, IsTracedFrom, StandsIn, is_in, win_at, won_in}
+use Rattle.tg_evac.specs.Claims.{AreClaims, AreGivenInOrder, Claimed, IsTracedFrom, StandsIn, is_in, win_at, won_in}
 use Rattle.tg_evac.specs.Copies.{AreOld, HasCopy, HavePlaces, HoldCells, HoldCopies, IsPlaceIn, copy_of, new_cell}
 use Rattle.tg_evac.proofs.Adopted.{find_place, free_is_not_young}
 use Rattle.tg_evac.proofs.Claiming.{in_none, is_in_one, place_back, stands}
@@ -78,7 +78,7 @@ in_held space won w held here = All-contains (λ (v : Win). (place_in v.word).sp
             by_test true t = rw t (Contains-append_right (v ∷ []) (won_in space vs) x held)
             by_test false t = rw t held
 
-module _ (to kept : ℕ) (two : to < 2) (won : List Win) (order : AreInOrder to (64 * kept) (won_in to won)) (few : 64 * kept + length (won_in to won) ≤ 2 ^ 26) where
+module _ (to kept : ℕ) (two : to < 2) (won : List Win) (order : AreGivenInOrder to (64 * kept) (won_in to won)) (few : 64 * kept + length (won_in to won) ≤ 2 ^ 26) where
   pub place_at : (k : ℕ) → k < length (won_in to won) → place_in (win_at (won_in to won) k).word ≡ place_in_space to (64 * kept + k)
   place_at k low = ap place_in (order k low) ∙ place_back to (64 * kept + k) two (omega arith)
 

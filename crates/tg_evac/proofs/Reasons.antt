@@ -10,7 +10,7 @@ use Rattle.tg_word.specs.declared.Place.{Place}
 use Rattle.tg_word.specs.Word.{place_in}
 use Rattle.tg_space.specs.Closure.{IsTraced}
 use Rattle.tg_space.specs.Collection.{used_cells}
-use Rattle.tg_space.specs.Generations.{AreAged, GoesTo, IsAgedCell, IsNextIn, IsNurseryCell, IsRememberedTarget, IsRowTarget}
+use Rattle.tg_space.specs.Generations.{AreSortedByAge, GoesTo, IsAgedCell, IsNextIn, IsNurseryCell, IsRememberedTarget, IsRowTarget}
 use Rattle.tg_space.specs.Soundness.{IsRootIn}
 use Rattle.tg_space.specs.SpaceList.{SpaceList, IsSpaceList, Holds, cells_of, flat_of}
 use Rattle.tg_space.specs.Targets.{from_space, young_spaces, targets_of, root_targets_of, all_root_targets}
@@ -22,7 +22,7 @@ use Rattle.tg_space.proofs.Adding.{piece}
 use Rattle.tg_space.proofs.Flat.{same_place, flat_inside}
 use Rattle.tg_evac.specs.declared.plan.Plan.{Plan}
 use Rattle.tg_evac.specs.declared.win.Win.{Win}
-use Rattle.tg_evac.specs.Claims.{Claimed, HavePointers, IsFull, StandsIn, IsClaimOf, IsRootClaim, AreTraced, AreWordsOf, cells_won, is_in_old, is_straight, space_for, win_at}
+use Rattle.tg_evac.specs.Claims.{Claimed, HavePointers, HasFilledRoom, StandsIn, IsClaimOf, IsRootClaim, AreTraced, AreWordsOf, cells_won, is_in_old, is_straight, space_for, win_at}
 use Rattle.tg_evac.specs.Claimers.{AddsWins, Walked}
 use Rattle.tg_evac.proofs.Chunks.{used_root, used_targets, targets_from}
 use Rattle.tg_evac.proofs.Counting.{IsUsed, full_few}
@@ -122,7 +122,7 @@ module _ (kind : Kind) (h : SpaceList) (roots : List Root) (won : List Win) (tra
 
 -- where all the room is won, there is no more room than cells that are not free
 pub full_from : (h : SpaceList) → IsSpaceList h → HavePointers h → (roots : List Root) → All (IsRootIn h) roots → (a c : Claimed) → c.plan ≡ a.plan →
-    AreTraced a.plan.kind h roots c.won → IsFull c → a.plan.room ≤ 64 * a.plan.kept + used_cells a.plan.kind h
+    AreTraced a.plan.kind h roots c.won → HasFilledRoom c → a.plan.room ≤ 64 * a.plan.kept + used_cells a.plan.kind h
 full_from h is pointers roots are a c same traced full =
     subst (λ (p : Plan). p.room ≤ 64 * p.kept + used_cells a.plan.kind h) same (full_few a.plan.kind h is c (all_used a.plan.kind h roots c.won traced is pointers are) full)
 
@@ -210,7 +210,7 @@ module _ (h : SpaceList) (roots : List Root) (forward : List ℕ) (won : List Wi
         let st : StandsIn forward (win_at won pair.1.0) = All-contains (StandsIn forward) won (win_at won pair.1.0) words.stand (held_win pair.1.0 pair.1.1) in
         (pair.1.0, pair.1.1, cell, ap (λ (n : ℕ). get_or forward n 0) (sym cell) ∙ st.word)
 
-    pub are_aged : length forward ≡ length (cells_of h) → AreAged h roots forward
+    pub are_aged : length forward ≡ length (cells_of h) → AreSortedByAge h roots forward
     are_aged whole = record { aged = aged; to_aged = to_aged; to_old = to_old }
       where
         inside : (c : ℕ) (p : Place) → Holds h p → flat_of h p ≡ c → c < length forward

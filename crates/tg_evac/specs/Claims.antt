@@ -107,8 +107,8 @@ abbrev pub first_new : ℕ → ℕ → ℕ
 first_new kept space = if space == 0 then 64 * kept else 0
 
 -- the pairs have the places of a space one after the other, from a number on
-abbrev pub AreInOrder : ℕ → ℕ → List Win → Type 0
-AreInOrder space first won = (k : ℕ) → k < length won → (win_at won k).word ≡ link_to (place_in_space space (first + k))
+abbrev pub AreGivenInOrder : ℕ → ℕ → List Win → Type 0
+AreGivenInOrder space first won = (k : ℕ) → k < length won → (win_at won k).word ≡ link_to (place_in_space space (first + k))
 
 pub record AreClaims (c : Claimed) : Type 0 where
   pub words : AreWordsOf c.won c.forward
@@ -120,14 +120,14 @@ pub record AreClaims (c : Claimed) : Type 0 where
   pub few : (space : ℕ) → slice_index c.next space ≤ 2 ^ 26
   pub room : c.plan.room ≤ 2 ^ 26
   -- the pairs of each space stand in order, up to the next number, and are all copies there
-  pub in_order : (space : ℕ) → space < 2 → AreInOrder space (first_new c.plan.kept space) (won_in space c.won)
+  pub in_order : (space : ℕ) → space < 2 → AreGivenInOrder space (first_new c.plan.kept space) (won_in space c.won)
   pub ends : (space : ℕ) → space < 2 → first_new c.plan.kept space + length (won_in space c.won) ≡ slice_index c.next space
   pub copies : (space : ℕ) → space < 2 → copies_in c.forward space ≡ length (won_in space c.won)
   -- where one has new cells, they are within the room
   pub within : (space : ℕ) → space < 2 → slice_index c.next space - first_new c.plan.kept space ≤ c.plan.room - first_new c.plan.kept space
 
 -- as many different cells were won as there is room for
-pub record IsFull (c : Claimed) : Type 0 where
+pub record HasFilledRoom (c : Claimed) : Type 0 where
   pub all : c.plan.room ≤ 64 * c.plan.kept + length (cells_won c.won)
   pub distinct : IsDistinct eqb (cells_won c.won)
 

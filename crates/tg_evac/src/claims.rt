@@ -2,7 +2,7 @@
 ghost use Rattle.std.specs.Prelude.{◌≡◌, ◌≢◌, ℕ, ◌+◌, ◌<◌, ◌≤◌, ◌^◌, ◌*◌, [], length, slice_index, IfErr, IfOk};
 ghost use Rattle.std.specs.List.{Contains};
 ghost use Rattle.tg_word.specs.Word.{place_in};
-ghost use Rattle.tg_evac.specs.Claims.{IsFull, IsWinFor, win_at, won_in};
+ghost use Rattle.tg_evac.specs.Claims.{HasFilledRoom, IsWinFor, win_at, won_in};
 ghost use Rattle.tg_evac.specs.Claimers.{AddsWins, HasPlacesOf, walked_of};
 
 use crate::claimer::Claimer;
@@ -100,7 +100,7 @@ impl Claims {
         requires space { space < 2 }
         ensures added { AddsWins (IsWinFor cell space) (walked_of self.old) (walked_of self.new) }
         ensures held { IfOk result (λ word. Contains self.new.won (record { cell = cell; word = word })) }
-        ensures full { IfErr result (λ fault. fault ≡ CollectFault.HeapFull → IsFull self.new) }
+        ensures full { IfErr result (λ fault. fault ≡ CollectFault.HeapFull → HasFilledRoom self.new) }
     {
         let found = self.word(cell);
         if found != 0 {
@@ -118,7 +118,7 @@ impl Claims {
         requires space { space < 2 }
         ensures added { AddsWins (IsWinFor cell space) (walked_of self.old) (walked_of self.new) }
         ensures held { IfOk result (λ word. Contains self.new.won (record { cell = cell; word = word })) }
-        ensures full { IfErr result (λ fault. fault ≡ CollectFault.HeapFull → IsFull self.new) }
+        ensures full { IfErr result (λ fault. fault ≡ CollectFault.HeapFull → HasFilledRoom self.new) }
     {
         let number = self.next[space as usize];
         if self.plan.room <= number {
@@ -139,7 +139,7 @@ impl Claimer for Claims {
 
     ghost knows = { λ c. HasPlacesOf c.won };
 
-    ghost is_full = { IsFull };
+    ghost is_full = { HasFilledRoom };
 
     #[inline(always)]
     fn len(&self) -> usize {

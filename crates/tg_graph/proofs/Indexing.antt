@@ -18,7 +18,7 @@ use Rattle.tg_payload.specs.Table.{Payloads}
 use Rattle.tg_index.specs.Slots.{Slots, IsEachNameOnce, IsIndexOf, listed_row}
 use Rattle.tg_space.specs.Targets.{first_pointer}
 use Rattle.tg_graph.specs.Heap.{IsGraph}
-use Rattle.tg_graph.specs.Index.{IsRowIndex, row_slots, slot_of}
+use Rattle.tg_graph.specs.Index.{IsRowIndex, row_slots, name_referred}
 use Rattle.tg_graph.specs.Rows.{IsRow, name_in, names_in, references_of, row_words, words_of}
 use Rattle.tg_graph.proofs.Finding.{referring}
 use Rattle.tg_graph.proofs.Indexed.{slot_some}
@@ -29,15 +29,15 @@ use Rattle.tg_graph.proofs.Walks.{IsInRow, rest_ends, rest_goes_on, rest_of, row
 
 -- ---- a walk that lists a row
 
-slots_of_cell : (h : SpaceList) (at : Place) (ps : List Place) → map (slot_of h) (words_of h (at ∷ ps)) ≡ map (slot_of h) (references_of (cell_at h at)) ++ map (slot_of h) (words_of h ps)
+slots_of_cell : (h : SpaceList) (at : Place) (ps : List Place) → map (name_referred h) (words_of h (at ∷ ps)) ≡ map (name_referred h) (references_of (cell_at h at)) ++ map (name_referred h) (words_of h ps)
 slots_of_cell h at ps =
-    ap (map (slot_of h)) (flat_map-append (λ q. references_of (cell_at h q)) (at ∷ []) ps ∙ ap (λ (xs : List ℕ). xs ++ words_of h ps) (append-nil (references_of (cell_at h at))))
-    ∙ map-append (slot_of h) (references_of (cell_at h at)) (words_of h ps)
+    ap (map (name_referred h)) (flat_map-append (λ q. references_of (cell_at h q)) (at ∷ []) ps ∙ ap (λ (xs : List ℕ). xs ++ words_of h ps) (append-nil (references_of (cell_at h at))))
+    ∙ map-append (name_referred h) (references_of (cell_at h at)) (words_of h ps)
 
 -- the names and the cells of a row were listed up to one of its cells
 pub record IsListed (h : SpaceList) (from at : Place) (left : ℕ) (names : List (Option ℕ)) (cells : List Place) : Type 0 where
   pub row : IsInRow h at left
-  pub names_left : map (slot_of h) (row_words h from) ≡ names ++ map (slot_of h) (words_of h (rest_of h at left))
+  pub names_left : map (name_referred h) (row_words h from) ≡ names ++ map (name_referred h) (words_of h (rest_of h at left))
   pub cells_left : row_of h from ≡ cells ++ rest_of h at left
 
 pub list_begins : (h : SpaceList) (from : Place) (left : ℕ) (names : List (Option ℕ)) (cells : List Place) → IsRow h from → left ≡ length (cells_of h) → names ≡ [] → cells ≡ [] → IsListed h from from left names cells
@@ -45,13 +45,13 @@ list_begins h from left names cells row long none_named none_listed =
     rw long (rw none_named (rw none_listed (record { row = row_begins h from row; names_left = refl; cells_left = refl })))
 
 module _ (h : SpaceList) (from at : Place) (left : ℕ) (names more : List (Option ℕ)) (cells next_cells : List Place) (words : List ℕ) (first : ℕ) (are : words ≡ cell_at h at) (is : first ≡ first_pointer (slice_index words 0))
-    (listed : IsListed h from at left names cells) (pushed : more ≡ names ++ map (slot_of h) (take (7 - first) (drop first words))) (one_more : next_cells ≡ cells ++ at ∷ []) where
-  here : map (slot_of h) (row_words h from) ≡ more ++ map (slot_of h) (words_of h (chunks_from h left (link_at h at)))
+    (listed : IsListed h from at left names cells) (pushed : more ≡ names ++ map (name_referred h) (take (7 - first) (drop first words))) (one_more : next_cells ≡ cells ++ at ∷ []) where
+  here : map (name_referred h) (row_words h from) ≡ more ++ map (name_referred h) (words_of h (chunks_from h left (link_at h at)))
   here =
       let qs = chunks_from h left (link_at h at) in
-      let rest = map (slot_of h) (words_of h qs) in
-      listed.names_left ∙ ap (λ es. names ++ es) (slots_of_cell h at qs) ∙ sym (append_assoc names (map (slot_of h) (references_of (cell_at h at))) rest)
-      ∙ ap (λ ws. (names ++ map (slot_of h) ws) ++ rest) (sym (slice_is h at words first are is)) ∙ ap (λ es. es ++ rest) (sym pushed)
+      let rest = map (name_referred h) (words_of h qs) in
+      listed.names_left ∙ ap (λ es. names ++ es) (slots_of_cell h at qs) ∙ sym (append_assoc names (map (name_referred h) (references_of (cell_at h at))) rest)
+      ∙ ap (λ ws. (names ++ map (name_referred h) ws) ++ rest) (sym (slice_is h at words first are is)) ∙ ap (λ es. es ++ rest) (sym pushed)
 
   cells_here : row_of h from ≡ next_cells ++ chunks_from h left (link_at h at)
   cells_here =
@@ -68,26 +68,26 @@ module _ (h : SpaceList) (from at : Place) (left : ℕ) (names more : List (Opti
         subst (λ (q : Place). IsListed h from q (left - 1) more next_cells) place
             (record {
               row = on.1;
-              names_left = here ∙ ap (λ (ps : List Place). more ++ map (slot_of h) (words_of h ps)) rest;
+              names_left = here ∙ ap (λ (ps : List Place). more ++ map (name_referred h) (words_of h ps)) rest;
               cells_left = cells_here ∙ ap (λ (ps : List Place). next_cells ++ ps) rest;
             }),
       )
 
-  pub list_ends : slice_index words 7 ≡ 0 → (more ≡ map (slot_of h) (row_words h from)) × (next_cells ≡ row_of h from)
+  pub list_ends : slice_index words 7 ≡ 0 → (more ≡ map (name_referred h) (row_words h from)) × (next_cells ≡ row_of h from)
   list_ends none =
       let link = ap (λ (ws : List ℕ). slice_index ws 7) are in
       let rest = rest_ends h at left (sym link ∙ none) in (
-        sym (here ∙ ap (λ (ps : List Place). more ++ map (slot_of h) (words_of h ps)) rest ∙ append-nil more),
+        sym (here ∙ ap (λ (ps : List Place). more ++ map (name_referred h) (words_of h ps)) rest ∙ append-nil more),
         sym (cells_here ∙ ap (λ (ps : List Place). next_cells ++ ps) rest ∙ append-nil next_cells),
       )
 
 -- ---- no name stands at two places
 
 -- what a place with a name refers to
-slot_tells : (h : SpaceList) (word name : ℕ) → slot_of h word ≡ Some name → (word ≢ 0) × (name_in h word ≡ name)
+slot_tells : (h : SpaceList) (word name : ℕ) → name_referred h word ≡ Some name → (word ≢ 0) × (name_in h word ≡ name)
 slot_tells h word name e = referring h name word (slot_some h word name e)
 
-among_names : (h : SpaceList) (words : List ℕ) (i name : ℕ) → slot_of h (get_or words i 0) ≡ Some name → Contains (names_in h words) name
+among_names : (h : SpaceList) (words : List ℕ) (i name : ℕ) → name_referred h (get_or words i 0) ≡ Some name → Contains (names_in h words) name
 among_names h words i name e = by_length (cases_lt i (length words))
   where
     told : (get_or words i 0 ≢ 0) × (name_in h (get_or words i 0) ≡ name)
@@ -107,7 +107,7 @@ apart_head x xs apart z has = let low = has.1 in subst (λ y. x ≢ y) has.2 (ap
 apart_tail : (x : ℕ) (xs : List ℕ) → AllPairs (λ a b. a ≢ b) (x ∷ xs) → AllPairs (λ a b. a ≢ b) xs
 apart_tail x xs apart i j d low inside = apart (suc i) (suc j) d (omega arith) (omega arith)
 
-slot_once : (h : SpaceList) (words : List ℕ) → AllPairs (λ a b. a ≢ b) (names_in h words) → (i j name : ℕ) → slot_of h (get_or words i 0) ≡ Some name → slot_of h (get_or words j 0) ≡ Some name → i ≡ j
+slot_once : (h : SpaceList) (words : List ℕ) → AllPairs (λ a b. a ≢ b) (names_in h words) → (i j name : ℕ) → name_referred h (get_or words i 0) ≡ Some name → name_referred h (get_or words j 0) ≡ Some name → i ≡ j
 slot_once h [] apart i j name at_i at_j = absurd ((slot_tells h 0 name at_i).0 refl)
 slot_once h (w ∷ ws) apart zero zero name at_i at_j = refl
 slot_once h (w ∷ ws) apart zero (suc j) name at_i at_j =
@@ -126,25 +126,25 @@ slot_once h (w ∷ ws) apart (suc i) (suc j) name at_i at_j = ap suc (slot_once 
 
 -- ---- the index of the listed names
 
-listed_slot : (h : SpaceList) (words : List ℕ) (n : ℕ) → listed_row (map (slot_of h) words) n ≡ slot_of h (get_or words n 0)
+listed_slot : (h : SpaceList) (words : List ℕ) (n : ℕ) → listed_row (map (name_referred h) words) n ≡ name_referred h (get_or words n 0)
 listed_slot h words n =
     ⊎_elim
-    (λ low. get_or-map (slot_of h) words n 0 None low)
-    (λ high. get_or_past (map (slot_of h) words) n None (let long = length-map words (slot_of h) in omega arith) ∙ sym (ap (slot_of h) (get_or_past words n 0 high)))
+    (λ low. get_or-map (name_referred h) words n 0 None low)
+    (λ high. get_or_past (map (name_referred h) words) n None (let long = length-map words (name_referred h) in omega arith) ∙ sym (ap (name_referred h) (get_or_past words n 0 high)))
     (cases_lt n (length words))
 
 module _ (h : SpaceList) (payloads : Payloads) (graph : IsGraph h payloads) (p : Place) (object : IsKindAt h Object p) where
-  pub names_once : (names : List (Option ℕ)) → names ≡ map (slot_of h) (row_words h p) → IsEachNameOnce (listed_row names)
+  pub names_once : (names : List (Option ℕ)) → names ≡ map (name_referred h) (row_words h p) → IsEachNameOnce (listed_row names)
   names_once names are i j name at_i at_j =
       let words = row_words h p in
-      let slot : (n : ℕ) → listed_row names n ≡ slot_of h (get_or words n 0) = λ n. ap (λ (ns : List (Option ℕ)). listed_row ns n) are ∙ listed_slot h words n in
+      let slot : (n : ℕ) → listed_row names n ≡ name_referred h (get_or words n 0) = λ n. ap (λ (ns : List (Option ℕ)). listed_row ns n) are ∙ listed_slot h words n in
       slot_once h words (AllPairs-from_IsDistinct (λ a b. Decides-eqb a b) (names_in h words) (graph.targets p object)) i j name (sym (slot i) ∙ at_i) (sym (slot j) ∙ at_j)
 
-  pub listed_index : (names : List (Option ℕ)) → names ≡ map (slot_of h) (row_words h p) → (cells : List Place) → cells ≡ row_of h p → (s : Slots) → IsIndexOf s (listed_row names) → s.len ≡ length names → IsRowIndex h p s cells
+  pub listed_index : (names : List (Option ℕ)) → names ≡ map (name_referred h) (row_words h p) → (cells : List Place) → cells ≡ row_of h p → (s : Slots) → IsIndexOf s (listed_row names) → s.len ≡ length names → IsRowIndex h p s cells
   listed_index names are cells row s index len = record {
     names = index_same s (listed_row names) (row_slots h p) (λ n. sym (ap (λ (ns : List (Option ℕ)). listed_row ns n) are ∙ listed_slot h (row_words h p) n)) index;
     cells = row;
-    len = len ∙ ap (λ (ns : List (Option ℕ)). length ns) are ∙ length-map (row_words h p) (slot_of h);
+    len = len ∙ ap (λ (ns : List (Option ℕ)). length ns) are ∙ length-map (row_words h p) (name_referred h);
   }
 
 -- ---- whether a row is long

@@ -12,7 +12,7 @@ use Rattle.tg_block.specs.declared.CellKind.TheVariants.{Object}
 use Rattle.tg_space.specs.SpaceList.{SpaceList, IsSpaceList, Holds, cell_at, cells_of, flat_of}
 use Rattle.tg_space.specs.Closure.{IsInClosure}
 use Rattle.tg_space.specs.Rows.{chunks_from, link_at, row_of}
-use Rattle.tg_space.specs.Targets.{target_in, named_by, targets_of, targets_at, cells_met, root_targets_of, all_root_targets, pointers_of}
+use Rattle.tg_space.specs.Targets.{target_in, named_by, targets_of, targets_at, cells_followed, root_targets_of, all_root_targets, pointers_of}
 use Rattle.tg_space.specs.Soundness.{AreSound, IsKindAt, IsPointer, IsRootIn, NamesCell}
 use Rattle.tg_space.specs.declared.spaces.Root.{Root}
 use Rattle.tg_space.specs.declared.spaces.Root.TheVariants.{Row, Remembered}
@@ -87,7 +87,7 @@ module _ (from : ℕ → Bool) (h : SpaceList) where
 
     module _ (payloads : Payloads) (graph : IsGraph h payloads) where
       -- the cells of a row that are met are held
-      met_held : (p q : Place) → IsKindAt h Object p → Contains (cells_met from h p) q → Holds h q
+      met_held : (p q : Place) → IsKindAt h Object p → Contains (cells_followed from h p) q → Holds h q
       met_held p q object has =
           let row = row_held h p (chunks_from h (length (cells_of h)) (link_at h p)) object (graph.ends p object) in
           let n = prefix_len (λ (r : Place). not (from r.space)) (row_of h p) in
@@ -103,8 +103,8 @@ module _ (from : ℕ → Bool) (h : SpaceList) where
               let one : Contains (flat_of h p ∷ []) number = rw t at has in
               record { place = p; held = object.held; moves = t; at = ⊎_elim (λ e. e) (λ none. absurd (Contains-none number none)) (Contains-cases (flat_of h p) [] number one) }
           by_space (inr f) =
-              let met : Contains (flat_map (targets_at from h) (cells_met from h p)) number = subst (λ (b : Bool). Contains (cond b (flat_of h p ∷ []) (flat_map (targets_at from h) (cells_met from h p))) number) f has in
-              let piece = Contains-from_flat_map (targets_at from h) (cells_met from h p) number met in
+              let met : Contains (flat_map (targets_at from h) (cells_followed from h p)) number = subst (λ (b : Bool). Contains (cond b (flat_of h p ∷ []) (flat_map (targets_at from h) (cells_followed from h p))) number) f has in
+              let piece = Contains-from_flat_map (targets_at from h) (cells_followed from h p) number met in
               from_target piece.0 (met_held p piece.0 object piece.1) number piece.2
 
       -- what the roots reach is in from-space

@@ -31,7 +31,7 @@ use Rattle.tg_graph.specs.Heap.{AreAtHome, content_in}
 use Rattle.tg_graph.specs.Opened.{HasBlocks, IsOpened, TakesOneCell, labels_before, no_labels, with_row}
 use Rattle.tg_graph.specs.Rows.{IsVertexAt}
 use Rattle.tg_graph.specs.Spots.{CanPut, chunk_words, table_put, widened}
-use Rattle.tg_graph.specs.Standing.{StandsFor}
+use Rattle.tg_graph.specs.Standing.{IsContentOf}
 use Rattle.tg_graph.specs.Steps.{ChangesTo}
 use Rattle.tg_graph.specs.declared.rows.Spot.{Spot}
 use Rattle.tg_graph.specs.declared.rows.Spot.TheVariants.{Reference, Empty, Full}
@@ -383,7 +383,7 @@ opened_same t payloads payloads' places workers workers' limits limits' edges ed
 
 -- ---- the heap
 
-pub opened_stands : (p : Plan) → IsPlan p → (t : SpaceTable) (payloads : Payloads) (places : List Place) (limits : BlockLimits) → IsOpened t payloads places p.workers limits (label_in p.edges) p.values → length places ≡ p.workers → StandsFor (content_in t.spaces payloads) (start_of p)
+pub opened_stands : (p : Plan) → IsPlan p → (t : SpaceTable) (payloads : Payloads) (places : List Place) (limits : BlockLimits) → IsOpened t payloads places p.workers limits (label_in p.edges) p.values → length places ≡ p.workers → IsContentOf (content_in t.spaces payloads) (start_of p)
 opened_stands p is t payloads places limits opened long =
     let sound = IsSound-start_of p is in
     let low_from = λ (x : ℕ) (named : IsNamed (content_in t.spaces payloads) x). let low = (opened.content.names x).0 named in let e = long in let below : x < p.workers = omega arith in below in

@@ -19,10 +19,10 @@ use Rattle.tg_model.proofs.ReachLaws.{HasEdge-with_rights, closed_after, IsReach
 use Rattle.tg_model.proofs.PlainLaws.{is_subject, is_worker}
 use Rattle.tg_word.specs.declared.Place.{Place}
 use Rattle.tg_graph.specs.Rows.{name_at, object_named, objects_of}
-use Rattle.tg_graph.specs.Heap.{HeapState, IsUnchanged, content_in, content_of}
+use Rattle.tg_graph.specs.Heap.{HeapState, IsUnchangedHeap, content_in, content_of}
 use Rattle.tg_graph.proofs.Members.{Contains-map, find_gives, option_cases}
 use Rattle.tg_graph.specs.Content.{Content, IsNamed, IsContent, IsSameContent, OnlyNamedHold}
-use Rattle.tg_graph.specs.Standing.{StandsFor, IsReached, Keeps, KeepsReached}
+use Rattle.tg_graph.specs.Standing.{IsContentOf, IsReached, Keeps, KeepsReached}
 use Rattle.tg_space.specs.declared.spaces.Kind.{Kind}
 use Rattle.tg_space.specs.declared.spaces.Kind.TheVariants.{Full, Nursery}
 
@@ -38,7 +38,7 @@ edge_along label other x y same edge = ap is_none_held (sym same) ∙ edge
 
 -- ---- what is decided
 
-module _ (c : Content) (g : ProtectionGraph) (stands : StandsFor c g) where
+module _ (c : Content) (g : ProtectionGraph) (stands : IsContentOf c g) where
   -- a subject has all of its own row, and the rows next to it
   pub StandsFor-near : (x : ℕ) → IsSubject g x → SameNear g.label c.label x
   StandsFor-near x subject = record {
@@ -76,7 +76,7 @@ pub IsSameContent-self : (c : Content) → IsSameContent c c
 IsSameContent-self c = record { names = λ x. (λ is. is, λ is. is); labels = λ x y. refl; values = λ x. refl }
 
 -- a content that is the same stands for the same graph
-pub StandsFor-same : (old new : Content) (g : ProtectionGraph) → StandsFor old g → IsSameContent old new → StandsFor new g
+pub StandsFor-same : (old new : Content) (g : ProtectionGraph) → IsContentOf old g → IsSameContent old new → IsContentOf new g
 StandsFor-same old new g stands same = record {
   made = λ x is. stands.made x ((same.names x).0 is);
   reachable = λ x reachable. (same.names x).1 (stands.reachable x reachable);
@@ -85,38 +85,38 @@ StandsFor-same old new g stands same = record {
   values = λ x is. same.values x ∙ stands.values x ((same.names x).0 is);
 }
 
-module _ (c new : Content) (g : ProtectionGraph) (stands : StandsFor c g) (x : ℕ) (subject : IsSubject g x) where
+module _ (c new : Content) (g : ProtectionGraph) (stands : IsContentOf c g) (x : ℕ) (subject : IsSubject g x) where
   -- where a command is served, the content that it changes stands for the next graph
-  pub StandsFor-served : (command : Command) → denial_of c.label x command ≡ None → IsContent new (IsNamed c) (labels_after c.label x command) (values_after c.value command) → StandsFor new (step g x (Plain command))
+  pub StandsFor-served : (command : Command) → denial_of c.label x command ≡ None → IsContent new (IsNamed c) (labels_after c.label x command) (values_after c.value command) → IsContentOf new (step g x (Plain command))
   StandsFor-served command none is =
       let allowed = permitted c g stands x command subject none in
       let next = step-allowed g x command allowed in
       let reachable_before : (y : ℕ) → IsReachable (effect g x command) y → IsReachable g y =
       λ y reachable. IsReachable-plain g x subject command y (subst (λ k. IsReachable k y) (sym next) reachable) in
-      let after : StandsFor new (effect g x command) = record {
+      let after : IsContentOf new (effect g x command) = record {
         made = λ a named. stands.made a ((is.names a).0 named);
         reachable = λ a reachable. (is.names a).1 (stands.reachable a (reachable_before a reachable));
         closed = λ a b named edge. (is.names b).1 (closed_after g.label (IsNamed c) stands.closed x command (stands.reachable x (begins subject)) allowed a b ((is.names a).0 named) edge);
         labels = λ a b named. is.labels a b ∙ labels_after-same g.label c.label x command a b (stands.labels a b ((is.names a).0 named));
         values = λ a named. is.values a ∙ values_after-same g.value c.value command a (stands.values a ((is.names a).0 named));
       } in
-      subst (StandsFor new) (sym next) after
+      subst (IsContentOf new) (sym next) after
 
   -- where it is denied, the content stays
-  pub StandsFor-denied : (command : Command) (denial : Denial) → denial_of c.label x command ≡ Some denial → IsSameContent c new → StandsFor new (step g x (Plain command))
+  pub StandsFor-denied : (command : Command) (denial : Denial) → denial_of c.label x command ≡ Some denial → IsSameContent c new → IsContentOf new (step g x (Plain command))
   StandsFor-denied command denial denied same =
-      subst (StandsFor new) (sym (step-denied g x command denial (sym (denial_of-stands c g stands x command subject) ∙ denied)))
+      subst (IsContentOf new) (sym (step-denied g x command denial (sym (denial_of-stands c g stands x command subject) ∙ denied)))
       (StandsFor-same c new g stands same)
 
 -- what was not made yet has no name in the content
-pub not_named-made : (c : Content) (g : ProtectionGraph) → StandsFor c g → (IsNamed c g.made → ⊥)
+pub not_named-made : (c : Content) (g : ProtectionGraph) → IsContentOf c g → (IsNamed c g.made → ⊥)
 not_named-made c g stands named = omega (arith, stands.made g.made named)
 
 no_edge-none : (b : Bool) → (b ≡ false → ⊥) → b ≡ true
 no_edge-none true none = refl
 no_edge-none false none = absurd (none refl)
 
-module _ (c new : Content) (g : ProtectionGraph) (stands : StandsFor c g) (x : ℕ) (label : RightSet) where
+module _ (c new : Content) (g : ProtectionGraph) (stands : IsContentOf c g) (x : ℕ) (label : RightSet) where
   -- a new vertex has no edge, in the content and in the graph
   no_row : OnlyNamedHold c → IsSound g → (b : ℕ) → c.label g.made b ≡ g.label g.made b
   no_row only sound b =
@@ -127,11 +127,11 @@ module _ (c new : Content) (g : ProtectionGraph) (stands : StandsFor c g) (x : �
   more a b same = ap (λ s. cond ((a == x) && (b == g.made)) (union s label) s) same
 
   -- the content with a vertex of the next name stands for the graph with it
-  pub StandsFor-created : (law : Law) (state : List ℕ) → OnlyNamedHold c → IsSound g → IsSubject g x → g.made < g.limit → IsContent new (λ y. IsNamed c y ⊎ (y ≡ g.made)) (with_rights c.label x g.made label) (with_value c.value g.made (record { law = law; state = state })) → StandsFor new (step g x (Create label law state))
+  pub StandsFor-created : (law : Law) (state : List ℕ) → OnlyNamedHold c → IsSound g → IsSubject g x → g.made < g.limit → IsContent new (λ y. IsNamed c y ⊎ (y ≡ g.made)) (with_rights c.label x g.made label) (with_value c.value g.made (record { law = law; state = state })) → IsContentOf new (step g x (Create label law state))
   StandsFor-created law state only sound subject room is =
       let value : Value = record { law = law; state = state } in
       let next = step-created g x label law state room in
-      let after : StandsFor new (with_vertex g x label value) = record {
+      let after : IsContentOf new (with_vertex g x label value) = record {
         made = λ a named. ⊎_elim (λ old. omega (arith, stands.made a old)) (λ at. omega (arith, at)) ((is.names a).0 named);
         reachable = λ a reachable.
             (is.names a).1 (⊎_elim (λ k. inl (stands.reachable a k)) (λ at. inr at)
@@ -149,7 +149,7 @@ module _ (c new : Content) (g : ProtectionGraph) (stands : StandsFor c g) (x : �
             (λ at. given_at a at)
             ((is.names a).0 named);
       } in
-      subst (StandsFor new) (sym next) after
+      subst (IsContentOf new) (sym next) after
     where
       given_at : (a : ℕ) → a ≡ g.made → with_value c.value g.made (record { law = law; state = state }) a ≡ with_value g.value g.made (record { law = law; state = state }) a
       given_at a at =
@@ -157,9 +157,9 @@ module _ (c new : Content) (g : ProtectionGraph) (stands : StandsFor c g) (x : �
           cond-true (a == g.made) _ (c.value a) is_it ∙ sym (cond-true (a == g.made) _ (g.value a) is_it)
 
   -- where no more may be made, the content stays
-  pub StandsFor-full : (law : Law) (state : List ℕ) → g.limit ≤ g.made → IsSameContent c new → StandsFor new (step g x (Create label law state))
+  pub StandsFor-full : (law : Law) (state : List ℕ) → g.limit ≤ g.made → IsSameContent c new → IsContentOf new (step g x (Create label law state))
   StandsFor-full law state full same =
-      subst (StandsFor new) (sym (step-not_allowed g x (Create label law state) (λ room. omega (arith, full, room))))
+      subst (IsContentOf new) (sym (step-not_allowed g x (Create label law state) (λ room. omega (arith, full, room))))
       (StandsFor-same c new g stands same)
 
 -- ---- contents of heaps
@@ -176,7 +176,7 @@ module _ (s : HeapState) where
           absurd (not_named (subst (Contains (map (name_at h) (objects_of h))) (eqb-true (name_at h p) x both.1) (Contains-map (name_at h) (objects_of h) p both.0)))
 
 -- a heap that is unchanged has the same content
-pub IsSameContent-unchanged : (old new : HeapState) → IsUnchanged old new → IsSameContent (content_of old) (content_of new)
+pub IsSameContent-unchanged : (old new : HeapState) → IsUnchangedHeap old new → IsSameContent (content_of old) (content_of new)
 IsSameContent-unchanged old new unchanged =
     let same : content_of new ≡ content_of old = λ i. content_in (unchanged.table i).spaces (record { entries = unchanged.entries i; spare = 0 }) in
     record {
@@ -185,13 +185,13 @@ IsSameContent-unchanged old new unchanged =
       values = λ x. ap (λ c. c.value x) same;
     }
 
-pub StandsFor-unchanged : (old new : HeapState) (g : ProtectionGraph) → StandsFor (content_of old) g → IsUnchanged old new → StandsFor (content_of new) g
+pub StandsFor-unchanged : (old new : HeapState) (g : ProtectionGraph) → IsContentOf (content_of old) g → IsUnchangedHeap old new → IsContentOf (content_of new) g
 StandsFor-unchanged old new g stands unchanged =
     StandsFor-same (content_of old) (content_of new) g stands (IsSameContent-unchanged old new unchanged)
 
 -- ---- what is kept
 
-module _ (c : Content) (g : ProtectionGraph) (stands : StandsFor c g) (workers : ℕ) (subjects : g.subjects ≡ range_with_len 0 workers) where
+module _ (c : Content) (g : ProtectionGraph) (stands : IsContentOf c g) (workers : ℕ) (subjects : g.subjects ≡ range_with_len 0 workers) where
   -- walks on the content are walks on the graph
   pub IsReachable-IsReached : (x : ℕ) → IsReached c workers x → IsReachable g x
   IsReachable-IsReached =
@@ -204,9 +204,9 @@ module _ (c : Content) (g : ProtectionGraph) (stands : StandsFor c g) (workers :
       Walk-within (IsReached c workers) (λ x subject. begins ((IsSubject-workers g workers subjects x).0 subject))
       (λ a b reached edge. goes reached (edge_along c.label g.label a b (sym (stands.labels a b (stands.reachable a (IsReachable-IsReached a reached)))) edge))
 
-module _ (old new : Content) (g : ProtectionGraph) (stands : StandsFor old g) where
+module _ (old new : Content) (g : ProtectionGraph) (stands : IsContentOf old g) where
   -- what is kept stands for the same graph, where all that can be reached is kept
-  pub StandsFor-kept : (kept : ℕ → Type 0) → Keeps old new kept → ((x : ℕ) → IsReachable g x → kept x) → StandsFor new g
+  pub StandsFor-kept : (kept : ℕ → Type 0) → Keeps old new kept → ((x : ℕ) → IsReachable g x → kept x) → IsContentOf new g
   StandsFor-kept kept keeps all =
       let before : (x : ℕ) → IsNamed new x → IsNamed old x = λ x named. ((keeps.names x).0 named).0 in
       record {
@@ -218,7 +218,7 @@ module _ (old new : Content) (g : ProtectionGraph) (stands : StandsFor old g) wh
       }
 
   module _ (workers : ℕ) (subjects : g.subjects ≡ range_with_len 0 workers) (keeps : Keeps old new (IsReached old workers)) where
-    pub StandsFor-full_collection : StandsFor new g
+    pub StandsFor-full_collection : IsContentOf new g
     StandsFor-full_collection = StandsFor-kept (IsReached old workers) keeps (IsReached-IsReachable old g stands workers subjects)
 
     -- a full collection keeps exactly the names that can be reached
@@ -229,7 +229,7 @@ module _ (old new : Content) (g : ProtectionGraph) (stands : StandsFor old g) wh
     )
 
 -- what a collection of either kind keeps
-pub StandsFor-collected : (kind : Kind) (old new : Content) (g : ProtectionGraph) (workers : ℕ) → StandsFor old g → g.subjects ≡ range_with_len 0 workers → KeepsReached kind old new workers → StandsFor new g
+pub StandsFor-collected : (kind : Kind) (old new : Content) (g : ProtectionGraph) (workers : ℕ) → IsContentOf old g → g.subjects ≡ range_with_len 0 workers → KeepsReached kind old new workers → IsContentOf new g
 StandsFor-collected Full old new g workers stands subjects keeps = StandsFor-full_collection old new g stands workers subjects keeps
 StandsFor-collected Nursery old new g workers stands subjects keeps =
     StandsFor-kept old new g stands (IsNamed new) keeps.0 (λ x reachable. keeps.1 x (IsReached-IsReachable old g stands workers subjects x reachable))

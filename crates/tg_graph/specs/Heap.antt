@@ -82,7 +82,7 @@ pub record IsWellFormed (s : HeapState) : Type 0 where
   pub remembered : AreRemembered s.table.spaces s.remembered
 
 -- two heaps are the same but for room for more payloads and notes
-pub record IsUnchanged (old new : HeapState) : Type 0 where
+pub record IsUnchangedHeap (old new : HeapState) : Type 0 where
   pub table : new.table ≡ old.table
   pub entries : new.payloads.entries ≡ old.payloads.entries
   pub workers : new.workers ≡ old.workers

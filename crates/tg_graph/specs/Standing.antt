@@ -7,7 +7,7 @@ use Rattle.tg_space.specs.declared.spaces.Kind.TheVariants.{Full, Nursery}
 use Rattle.tg_graph.specs.Content.{Content, IsNamed}
 
 -- The content has all that can be reached, it has what its vertices have edges to, and on the names that it has it is the graph.
-pub record StandsFor (c : Content) (g : ProtectionGraph) : Type 0 where
+pub record IsContentOf (c : Content) (g : ProtectionGraph) : Type 0 where
   pub made : (x : ℕ) → IsNamed c x → x < g.made
   pub reachable : (x : ℕ) → IsReachable g x → IsNamed c x
   pub closed : (x y : ℕ) → IsNamed c x → HasEdge g.label x y → IsNamed c y

@@ -7,10 +7,10 @@ ghost use Rattle.tg_model.specs.Rules.{state_of, with_value, written_at};
 ghost use Rattle.tg_space.specs.SpaceList.{space_of};
 ghost use Rattle.tg_space.specs.SpaceTable.{IsSpaceTable};
 ghost use Rattle.tg_graph.specs.Content.{IsContent, IsNamed};
-ghost use Rattle.tg_graph.specs.Heap.{AreAtHome, IsObject, IsUnchanged, IsWellFormed, KeepsPlaces, content_of, name_of, rights_found};
+ghost use Rattle.tg_graph.specs.Heap.{AreAtHome, IsObject, IsUnchangedHeap, IsWellFormed, KeepsPlaces, content_of, name_of, rights_found};
 ghost use Rattle.tg_graph.specs.Rows.{IsVertexAt};
 ghost use Rattle.tg_graph.specs.Spots.{IsMadeInRow, IsPutInRow, LacksCellsFor};
-ghost use Rattle.tg_graph.specs.Standing.{StandsFor};
+ghost use Rattle.tg_graph.specs.Standing.{IsContentOf};
 
 use crate::cells::Cells;
 use crate::long_rows::LongRows;
@@ -83,7 +83,7 @@ impl<P: Payload> Heap<P> {
         drafts: Vec<Draft<P>>,
     ) -> Result<Heap<P>, HeapRefused<P>>
         requires { drafts.items ≡ opening.now.values }
-        ensures stands { IfOk result (λ heap. StandsFor (content_of heap) (start_of opening.now)) }
+        ensures stands { IfOk result (λ heap. IsContentOf (content_of heap) (start_of opening.now)) }
         ensures workers { IfOk result (λ heap. length heap.workers ≡ opening.now.workers) }
         ensures nurseries { IfOk result (λ heap. AreAtHome heap.workers) }
         ensures limits { IfOk result (λ heap. heap.table.limits ≡ limits) }
@@ -254,7 +254,7 @@ impl<P: Payload> Heap<P> {
         ensures placed { OnOk result (IsMadeInRow self.old.table self.new.table self.old.remembered self.new.remembered (worker + 2) worker name label) }
         ensures kept { OnOk result (KeepsPlaces self.old self.new) }
         ensures handed_back { IfErr result (λ refused. refused.draft ≡ draft) }
-        ensures refused { OnErr result (IsUnchanged self.old self.new) }
+        ensures refused { OnErr result (IsUnchangedHeap self.old self.new) }
         ensures full { IfErr result (λ refused. refused.why ≡ AllocateFault.HeapFull → LacksCellsFor self.old.table (worker + 2) 1 worker name) }
     {
         let from = self.worker_place(worker);

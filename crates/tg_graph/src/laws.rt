@@ -6,31 +6,31 @@ ghost use Rattle.std.specs.List.{range_with_len};
 ghost use Rattle.tg_model.specs.Graph.{ProtectionGraph, IsReachable};
 ghost use Rattle.tg_space.specs.declared.spaces.Kind.{Kind};
 ghost use Rattle.tg_graph.specs.Content.{Content, IsNamed, IsSameContent, OnlyNamedHold};
-ghost use Rattle.tg_graph.specs.Heap.{HeapState, IsUnchanged, content_of};
-ghost use Rattle.tg_graph.specs.Standing.{StandsFor, IsReached, Keeps, KeepsReached};
+ghost use Rattle.tg_graph.specs.Heap.{HeapState, IsUnchangedHeap, content_of};
+ghost use Rattle.tg_graph.specs.Standing.{IsContentOf, IsReached, Keeps, KeepsReached};
 
 /// What a collection keeps stands for the graph that the old content stood for, where all that can be reached is
 /// kept. A full collection keeps what can be reached on the content, from the workers: this is what can be reached on
 /// the graph, so it stands for the graph too, and its names are exactly those that can be reached.
 pub fn what_is_kept_stands_for_the_same_graph()
     ensures kept { (old new : Content) (g : ProtectionGraph) →
-        StandsFor old g → Keeps old new (IsNamed new) → ((x : ℕ) → IsReachable g x → IsNamed new x) →
-        StandsFor new g }
+        IsContentOf old g → Keeps old new (IsNamed new) → ((x : ℕ) → IsReachable g x → IsNamed new x) →
+        IsContentOf new g }
     ensures reached { (old : Content) (g : ProtectionGraph) (workers x : ℕ) →
-        StandsFor old g → g.subjects ≡ range_with_len 0 workers → IsReached old workers x ↔ IsReachable g x }
+        IsContentOf old g → g.subjects ≡ range_with_len 0 workers → IsReached old workers x ↔ IsReachable g x }
     ensures full { (old new : Content) (g : ProtectionGraph) (workers : ℕ) →
-        StandsFor old g → g.subjects ≡ range_with_len 0 workers → Keeps old new (IsReached old workers) →
-        StandsFor new g }
+        IsContentOf old g → g.subjects ≡ range_with_len 0 workers → Keeps old new (IsReached old workers) →
+        IsContentOf new g }
     ensures names { (old new : Content) (g : ProtectionGraph) (workers x : ℕ) →
-        StandsFor old g → g.subjects ≡ range_with_len 0 workers → Keeps old new (IsReached old workers) →
+        IsContentOf old g → g.subjects ≡ range_with_len 0 workers → Keeps old new (IsReached old workers) →
         IsNamed new x ↔ IsReachable g x }
 {}
 
 /// What a collection of either kind keeps stands for the graph that the old content stood for.
 pub fn a_collected_heap_stands_for_the_same_graph()
     ensures { (kind : Kind) (old new : Content) (g : ProtectionGraph) (workers : ℕ) →
-        StandsFor old g → g.subjects ≡ range_with_len 0 workers → KeepsReached kind old new workers →
-        StandsFor new g }
+        IsContentOf old g → g.subjects ≡ range_with_len 0 workers → KeepsReached kind old new workers →
+        IsContentOf new g }
 {}
 
 /// What a heap doesn't have holds no rights.
@@ -40,7 +40,7 @@ pub fn what_a_heap_lacks_holds_no_rights()
 
 /// A heap that is unchanged, but for room for payloads and notes, has the same content, and stands for the same graph.
 pub fn an_unchanged_heap_has_the_same_content()
-    ensures same { (old new : HeapState) → IsUnchanged old new → IsSameContent (content_of old) (content_of new) }
+    ensures same { (old new : HeapState) → IsUnchangedHeap old new → IsSameContent (content_of old) (content_of new) }
     ensures stands { (old new : HeapState) (g : ProtectionGraph) →
-        StandsFor (content_of old) g → IsUnchanged old new → StandsFor (content_of new) g }
+        IsContentOf (content_of old) g → IsUnchangedHeap old new → IsContentOf (content_of new) g }
 {}

@@ -4,7 +4,7 @@ ghost use Rattle.std.specs.Option.{option_or};
 ghost use Rattle.std.specs.List.{All};
 ghost use Rattle.tg_space.specs.SpaceTable.{IsSpaceTable};
 ghost use Rattle.tg_space.specs.Soundness.{AreSound, IsReference};
-ghost use Rattle.tg_graph.specs.Index.{slot_of};
+ghost use Rattle.tg_graph.specs.Index.{name_referred};
 ghost use Rattle.tg_graph.specs.Rows.{IsRow, edges_in, row_words};
 ghost use Rattle.tg_space.specs.Rows.{row_of};
 ghost use Rattle.tg_graph.specs.Spots.{IsSpotFor, cells_for, is_empty, note_for, old_cell_if, refers_to, spot_for_new as new_spot};
@@ -217,7 +217,7 @@ pub(crate) fn places_of(
     requires sound { AreSound spaces.now.spaces [] }
     requires row { IsRow spaces.now.spaces from }
     ensures table { OnOk result (IsSpaceTable spaces.now) }
-    ensures names { IfOk result (λ places. places.0.items ≡ map (slot_of spaces.now.spaces) (row_words spaces.now.spaces from)) }
+    ensures names { IfOk result (λ places. places.0.items ≡ map (name_referred spaces.now.spaces) (row_words spaces.now.spaces from)) }
     ensures cells { IfOk result (λ places. places.1.items ≡ row_of spaces.now.spaces from) }
 {
     let mut names = Vec::new(alloc);
@@ -244,7 +244,7 @@ fn push_names(
     names: &mut Vec<Option<u64>>,
 ) -> Result<(), AllocError>
     requires { All (IsReference spaces.now.spaces) words.now }
-    ensures { OnOk result (names.new.items ≡ names.old.items ++ map (slot_of spaces.now.spaces) words.now) }
+    ensures { OnOk result (names.new.items ≡ names.old.items ++ map (name_referred spaces.now.spaces) words.now) }
 {
     for word in words {
         names.push(name_of_target(spaces, *word))?;
@@ -255,7 +255,7 @@ fn push_names(
 // The name to which a reference refers, if it isn't empty.
 fn name_of_target(spaces: &Spaces, word: u64) -> Option<u64>
     requires { IsReference spaces.now.spaces word }
-    ensures { result ≡ slot_of spaces.now.spaces word }
+    ensures { result ≡ name_referred spaces.now.spaces word }
 {
     if word == 0 {
         return None;

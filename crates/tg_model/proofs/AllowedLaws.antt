@@ -15,7 +15,7 @@ use Rattle.tg_model.specs.declared.reply.Denial.{Denial}
 use Rattle.tg_model.specs.declared.reply.Rule.{Rule}
 use Rattle.tg_model.specs.declared.reply.Rule.TheVariants as rule
 use Rattle.tg_model.specs.Graph.{ProtectionGraph}
-use Rattle.tg_model.specs.Rules.{Holds, Permits, unless_distinct, unless_held, denial_of, denied_or, unless_denied, reply_of, effect, with_vertex, IsAllowed, step, answer_of}
+use Rattle.tg_model.specs.Rules.{HoldsOver, Permits, unless_distinct, unless_held, denial_of, denied_or, unless_denied, reply_of, effect, with_vertex, IsAllowed, step, answer_of}
 
 -- ---- checks, one after another
 
@@ -38,10 +38,10 @@ chosen_none true d h = refl
 chosen_none false d h = let no : ⊥ = cc in absurd no
 
 module _ (label : ℕ → ℕ → RightSet) where
-  pub held : (rule : Rule) (x y : ℕ) (rights : RightSet) → unless_held label rule x y rights ≡ None → Holds label x y rights
+  pub held : (rule : Rule) (x y : ℕ) (rights : RightSet) → unless_held label rule x y rights ≡ None → HoldsOver label x y rights
   held rule x y rights h = chosen_none (holds_all (label x y) rights) _ h
 
-  held_none : (rule : Rule) (x y : ℕ) (rights : RightSet) → Holds label x y rights → unless_held label rule x y rights ≡ None
+  held_none : (rule : Rule) (x y : ℕ) (rights : RightSet) → HoldsOver label x y rights → unless_held label rule x y rights ≡ None
   held_none rule x y rights h = cond-true (holds_all (label x y) rights) _ _ h
 
 three_apart : (x y z : ℕ) → ((x == y) || (y == z) || (x == z)) ≡ false → (x ≢ y) × (y ≢ z) × (x ≢ z)

@@ -12,13 +12,13 @@ use Rattle.tg_model.specs.declared.command.Command.{Command}
 use Rattle.tg_model.specs.declared.command.Command.TheVariants.{Take, Grant, Remove, Read, Write, List as Listing}
 use Rattle.tg_model.specs.declared.command.Deed.{Deed}
 use Rattle.tg_model.specs.declared.command.Deed.TheVariants.{Create, Plain}
-use Rattle.tg_model.specs.Law.{Fits, state_after, last_of}
+use Rattle.tg_model.specs.Law.{Fits, state_after, last_values}
 use Rattle.tg_model.specs.Graph.{ProtectionGraph}
 use Rattle.tg_model.specs.Opened.{Plan, IsPlan, ValueFits, start_of}
 use Rattle.tg_model.specs.Rules.{DeedFits, values_after, written, step}
 use Rattle.tg_model.proofs.AllowedLaws.{plain_cases, create_cases}
 
-length-last_of : (k : ℕ) (xs : List ℕ) → length (last_of k xs) ≤ k
+length-last_of : (k : ℕ) (xs : List ℕ) → length (last_values k xs) ≤ k
 length-last_of k xs = omega (arith, length-drop (length xs - k) xs)
 
 pub Fits-state_after : (law : Law) (state : List ℕ) (v : ℕ) → Fits law state → Fits law (state_after law state v)

@@ -11,7 +11,7 @@ use Rattle.tg_model.specs.declared.command.Deed.{Deed}
 use Rattle.tg_model.specs.declared.command.Deed.TheVariants.{Create, Plain}
 use Rattle.tg_model.specs.Walks.{begins, goes, Walk-within}
 use Rattle.tg_model.specs.Graph.{ProtectionGraph, IsSubject, HasEdge, IsReachable, IsSound, with_rights, without_rights}
-use Rattle.tg_model.specs.Rules.{Holds, Permits, labels_after, values_after, step}
+use Rattle.tg_model.specs.Rules.{HoldsOver, Permits, labels_after, values_after, step}
 use Rattle.tg_model.proofs.AllowedLaws.{plain_cases, create_cases}
 
 -- ---- where edges are after a change of labels
@@ -26,7 +26,7 @@ some_kept false m r some = some
 
 module _ (label : ℕ → ℕ → RightSet) where
   -- who holds all of a set that isn't empty has an edge
-  pub HasEdge-holds : (x y : ℕ) (rights : RightSet) → Holds label x y rights → is_none_held rights ≡ false → HasEdge label x y
+  pub HasEdge-holds : (x y : ℕ) (rights : RightSet) → HoldsOver label x y rights → is_none_held rights ≡ false → HasEdge label x y
   HasEdge-holds x y rights holds some = some_holds_all (label x y) rights holds some
 
   -- an edge is an older one, or it is where rights were added

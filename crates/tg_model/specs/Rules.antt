@@ -23,16 +23,16 @@ use Rattle.tg_model.specs.Graph.{ProtectionGraph, with_rights, without_rights, l
 -- ---- which commands are served
 
 -- x holds all of these rights over y
-abbrev pub Holds : (ℕ → ℕ → RightSet) → ℕ → ℕ → RightSet → Type 0
-Holds label x y rights = IsTrue (holds_all (label x y) rights)
+abbrev pub HoldsOver : (ℕ → ℕ → RightSet) → ℕ → ℕ → RightSet → Type 0
+HoldsOver label x y rights = IsTrue (holds_all (label x y) rights)
 
 -- where a command of x is served
 abbrev pub Permits : (ℕ → ℕ → RightSet) → ℕ → Command → Type 0
-Permits label x (Take y z rights) = (x ≢ y) × (y ≢ z) × (x ≢ z) × Holds label x y (only right.T) × Holds label y z rights
-Permits label x (Grant y z rights) = (x ≢ y) × (y ≢ z) × (x ≢ z) × Holds label x y (only right.G) × Holds label x z rights
-Permits label x (Remove y rights) = (x ≢ y) × Holds label x y rights
-Permits label x (Read y) = (x ≢ y) × Holds label x y (only right.R)
-Permits label x (Write y v) = (x ≢ y) × Holds label x y (only right.W)
+Permits label x (Take y z rights) = (x ≢ y) × (y ≢ z) × (x ≢ z) × HoldsOver label x y (only right.T) × HoldsOver label y z rights
+Permits label x (Grant y z rights) = (x ≢ y) × (y ≢ z) × (x ≢ z) × HoldsOver label x y (only right.G) × HoldsOver label x z rights
+Permits label x (Remove y rights) = (x ≢ y) × HoldsOver label x y rights
+Permits label x (Read y) = (x ≢ y) × HoldsOver label x y (only right.R)
+Permits label x (Write y v) = (x ≢ y) × HoldsOver label x y (only right.W)
 Permits label x Listing = Unit {0}
 
 -- ---- why a command is denied

@@ -1,6 +1,6 @@
 //! The laws of payloads.
 ghost use Rattle.std.specs.Prelude.{◌≡◌, ◌↔◌, ◌++◌, ◌∷◌, [], IsTrue, IfOk};
-ghost use Rattle.tg_model.specs.Law.{Fits, state_after, last_of};
+ghost use Rattle.tg_model.specs.Law.{Fits, state_after, last_values};
 
 use crate::numbers::Numbers;
 use std::alloc::{AllocError, Global};
@@ -54,7 +54,7 @@ impl Law {
 
 // The last `most` of the state and the value.
 fn last_of(alloc: Global, most: u32, state: &[u64], value: u64) -> Result<Numbers, AllocError>
-    ensures { IfOk result (λ next. next ≡ last_of most (state.now ++ value ∷ [])) }
+    ensures { IfOk result (λ next. next ≡ last_values most (state.now ++ value ∷ [])) }
 {
     let mut items = Vec::from_slice(alloc, state)?;
     items.push(value)?;

@@ -9,8 +9,8 @@ use Rattle.tg_word.specs.declared.Place.{Place}
 use Rattle.tg_word.specs.Word.{IsPlace}
 use Rattle.tg_race.specs.declared.record.Record.{Record}
 use Rattle.tg_race.specs.Conditions.{blocks_of, can_claim_block, can_use, uses}
-use Rattle.tg_race.specs.Race.{has, has_room, owns, used_in, with_block, with_seen, with_won}
-use Rattle.tg_race.specs.Words.{lies_in, same_place, space_of}
+use Rattle.tg_race.specs.Race.{has_number, has_room, owns, used_in, with_claimed_block, with_seen, with_won}
+use Rattle.tg_race.specs.Words.{lies_in, same_place, space_of_age}
 use Rattle.tg_race.proofs.Sums.{weigh_push}
 use Rattle.tg_parallel.specs.Parts.{HasClaimedPast, HasPlaceOf, HasPlaces, cells_met}
 use Rattle.tg_parallel.specs.Seats.{AreFilled, AreRising, Finds, OnlyBlocks, OtherStays, own_place, pair_at, pairs_in}
@@ -64,32 +64,32 @@ rising_push xs n rising all i j lt low =
     let r : get_or xs i 0 < n = all i 0 (omega arith) in omega arith)
     (cases_lt j (length xs))
 
-pub has_index : (xs : List ℕ) (i : ℕ) → i < length xs → has (get_or xs i 0) xs ≡ true
+pub has_index : (xs : List ℕ) (i : ℕ) → i < length xs → has_number (get_or xs i 0) xs ≡ true
 has_index xs i low = any_at (λ (y : ℕ). y == get_or xs i 0) xs i 0 low (eq-eqb (get_or xs i 0) (get_or xs i 0) refl)
 
 -- ---- when a block may be claimed, and a place be given away
 
 module _ (aged : Bool) (v : Record) (numbers : List ℕ) (used : ℕ) (filled : AreFilled aged v numbers used) where
   -- a won cell of the space has one of the places that were given away
-  pub won_at : (q : ℕ × Place) → Contains v.won q → q.1.space ≡ space_of aged → (k : ℕ) × (k < used) × (pair_at (pairs_in (space_of aged) v.won) k ≡ q) × (q.1 ≡ own_place aged numbers k)
+  pub won_at : (q : ℕ × Place) → Contains v.won q → q.1.space ≡ space_of_age aged → (k : ℕ) × (k < used) × (pair_at (pairs_in (space_of_age aged) v.won) k ≡ q) × (q.1 ≡ own_place aged numbers k)
   won_at q held s =
-      let there = filter_has (λ (x : ℕ × Place). x.1.space == space_of aged) v.won q held (eq-eqb q.1.space (space_of aged) s) in
+      let there = filter_has (λ (x : ℕ × Place). x.1.space == space_of_age aged) v.won q held (eq-eqb q.1.space (space_of_age aged) s) in
       let ends = filled.ends in
       let low : there.0 < used = (let inside = there.1 in omega arith) in
-      let is : pair_at (pairs_in (space_of aged) v.won) there.0 ≡ q = get_or_default (pairs_in (space_of aged) v.won) there.0 (pair_at [] 0) q there.1 ∙ there.2 in
+      let is : pair_at (pairs_in (space_of_age aged) v.won) there.0 ≡ q = get_or_default (pairs_in (space_of_age aged) v.won) there.0 (pair_at [] 0) q there.1 ∙ there.2 in
       (there.0, low, is, sym (ap (λ (x : ℕ × Place). x.1) is) ∙ filled.order there.0 low)
 
-  block_full : used ≡ 64 * length numbers → (i : ℕ) → i < length numbers → not (has_room (space_of aged) v.won (get_or numbers i 0)) ≡ true
+  block_full : used ≡ 64 * length numbers → (i : ℕ) → i < length numbers → not (has_room (space_of_age aged) v.won (get_or numbers i 0)) ≡ true
   block_full all i low =
-      let many : 64 ≤ used_in (space_of aged) (get_or numbers i 0) v.won = filled.many i 64 low (omega arith) (omega arith) in
-      let none : has_room (space_of aged) v.won (get_or numbers i 0) ≡ false = grind (arith, nat_tests) in
+      let many : 64 ≤ used_in (space_of_age aged) (get_or numbers i 0) v.won = filled.many i 64 low (omega arith) (omega arith) in
+      let none : has_room (space_of_age aged) v.won (get_or numbers i 0) ≡ false = grind (arith, nat_tests) in
       rw none refl
 
   pub may_claim : used ≡ 64 * length numbers → can_claim_block aged v ≡ true
-  may_claim all = subst (λ (l : List ℕ). list_all (λ b. not (has_room (space_of aged) v.won b)) l ≡ true) filled.same
-      (all_of (λ b. not (has_room (space_of aged) v.won b)) numbers (λ b held.
+  may_claim all = subst (λ (l : List ℕ). list_all (λ b. not (has_room (space_of_age aged) v.won b)) l ≡ true) filled.same
+      (all_of (λ b. not (has_room (space_of_age aged) v.won b)) numbers (λ b held.
       let at : get_or numbers held.0 0 ≡ b = get_or_default numbers held.0 0 b held.1 ∙ held.2 in
-      subst (λ (n : ℕ). not (has_room (space_of aged) v.won n) ≡ true) at (block_full all held.0 held.1)))
+      subst (λ (n : ℕ). not (has_room (space_of_age aged) v.won n) ≡ true) at (block_full all held.0 held.1)))
 
   module _ (room : used < 64 * length numbers) where
     unused : uses v (own_place aged numbers used) ≡ false
@@ -113,8 +113,8 @@ module _ (aged : Bool) (v : Record) (numbers : List ℕ) (used : ℕ) (filled : 
     mine = by_space aged filled.same
       where
         by_space : (a : Bool) → numbers ≡ blocks_of a v → owns v (own_place a numbers used) ≡ true
-        by_space true e = subst (λ (l : List ℕ). has (get_or numbers (used / 64) 0) l ≡ true) e (has_index numbers (used / 64) (omega arith))
-        by_space false e = subst (λ (l : List ℕ). has (get_or numbers (used / 64) 0) l ≡ true) e (has_index numbers (used / 64) (omega arith))
+        by_space true e = subst (λ (l : List ℕ). has_number (get_or numbers (used / 64) 0) l ≡ true) e (has_index numbers (used / 64) (omega arith))
+        by_space false e = subst (λ (l : List ℕ). has_number (get_or numbers (used / 64) 0) l ≡ true) e (has_index numbers (used / 64) (omega arith))
 
     pub may_give : can_use v (own_place aged numbers used) ≡ true
     may_give = rw (mine, unused) refl
@@ -137,38 +137,38 @@ filled_same aged v w numbers used won blocks filled = record {
   room = filled.room;
   close = filled.close;
   few = filled.few;
-  ends = ap (λ (l : List (ℕ × Place)). length (pairs_in (space_of aged) l)) won ∙ filled.ends;
-  order = λ k low. ap (λ (l : List (ℕ × Place)). (pair_at (pairs_in (space_of aged) l) k).1) won ∙ filled.order k low;
-  many = λ i n low few le. subst (λ (l : List (ℕ × Place)). n ≤ used_in (space_of aged) (get_or numbers i 0) l) (sym won) (filled.many i n low few le);
+  ends = ap (λ (l : List (ℕ × Place)). length (pairs_in (space_of_age aged) l)) won ∙ filled.ends;
+  order = λ k low. ap (λ (l : List (ℕ × Place)). (pair_at (pairs_in (space_of_age aged) l) k).1) won ∙ filled.order k low;
+  many = λ i n low few le. subst (λ (l : List (ℕ × Place)). n ≤ used_in (space_of_age aged) (get_or numbers i 0) l) (sym won) (filled.many i n low few le);
 }
 
-other_blocks : (aged : Bool) (v : Record) (b : ℕ) → blocks_of (not aged) (with_block aged v b) ≡ blocks_of (not aged) v
+other_blocks : (aged : Bool) (v : Record) (b : ℕ) → blocks_of (not aged) (with_claimed_block aged v b) ≡ blocks_of (not aged) v
 other_blocks true v b = refl
 other_blocks false v b = refl
 
-same_won : (aged : Bool) (v : Record) (b : ℕ) → (with_block aged v b).won ≡ v.won
+same_won : (aged : Bool) (v : Record) (b : ℕ) → (with_claimed_block aged v b).won ≡ v.won
 same_won true v b = refl
 same_won false v b = refl
 
-more_blocks : (aged : Bool) (v : Record) (b : ℕ) → blocks_of aged (with_block aged v b) ≡ blocks_of aged v ++ b ∷ []
+more_blocks : (aged : Bool) (v : Record) (b : ℕ) → blocks_of aged (with_claimed_block aged v b) ≡ blocks_of aged v ++ b ∷ []
 more_blocks true v b = refl
 more_blocks false v b = refl
 
-pub only_block : (aged : Bool) (v : Record) (b : ℕ) → OnlyBlocks v (with_block aged v b)
+pub only_block : (aged : Bool) (v : Record) (b : ℕ) → OnlyBlocks v (with_claimed_block aged v b)
 only_block true v b = record { chunks = refl; won = refl; seen = refl; share = refl }
 only_block false v b = record { chunks = refl; won = refl; seen = refl; share = refl }
 
 pub only_none : (v : Record) → OnlyBlocks v v
 only_none v = record { chunks = refl; won = refl; seen = refl; share = refl }
 
-pub other_grown : (aged : Bool) (v : Record) (b : ℕ) → OtherStays aged v (with_block aged v b)
-other_grown aged v b numbers used filled = filled_same (not aged) v (with_block aged v b) numbers used (same_won aged v b) (other_blocks aged v b) filled
+pub other_grown : (aged : Bool) (v : Record) (b : ℕ) → OtherStays aged v (with_claimed_block aged v b)
+other_grown aged v b numbers used filled = filled_same (not aged) v (with_claimed_block aged v b) numbers used (same_won aged v b) (other_blocks aged v b) filled
 
 module _ (aged : Bool) (v : Record) (numbers : List ℕ) (used n : ℕ) (filled : AreFilled aged v numbers used) (fresh : All (λ b. b < n) (blocks_of aged v)) (full : used ≡ 64 * length numbers) where
   index : (i : ℕ) → i < length numbers → get_or (numbers ++ n ∷ []) i 0 ≡ get_or numbers i 0
   index i low = get_or_append_left numbers (n ∷ []) 0 i low
 
-  pub filled_grown : AreFilled aged (with_block aged v n) (numbers ++ n ∷ []) used
+  pub filled_grown : AreFilled aged (with_claimed_block aged v n) (numbers ++ n ∷ []) used
   filled_grown =
       let won = same_won aged v n in
       let long = length_push numbers n in
@@ -178,13 +178,13 @@ module _ (aged : Bool) (v : Record) (numbers : List ℕ) (used n : ℕ) (filled 
         room = omega arith;
         close = omega arith;
         few = filled.few;
-        ends = ap (λ (l : List (ℕ × Place)). length (pairs_in (space_of aged) l)) won ∙ filled.ends;
+        ends = ap (λ (l : List (ℕ × Place)). length (pairs_in (space_of_age aged) l)) won ∙ filled.ends;
         order = λ k low.
             let at : get_or numbers (k / 64) 0 ≡ get_or (numbers ++ n ∷ []) (k / 64) 0 = sym (index (k / 64) (omega arith)) in
-            ap (λ (l : List (ℕ × Place)). (pair_at (pairs_in (space_of aged) l) k).1) won ∙ filled.order k low ∙ ap (λ (b : ℕ). record { space = space_of aged; block = b; cell = k % 64 }) at;
+            ap (λ (l : List (ℕ × Place)). (pair_at (pairs_in (space_of_age aged) l) k).1) won ∙ filled.order k low ∙ ap (λ (b : ℕ). record { space = space_of_age aged; block = b; cell = k % 64 }) at;
         many = λ i m low few le. ⊎_elim
-            (λ (early : i < length numbers). subst (λ (b : ℕ). m ≤ used_in (space_of aged) b (with_block aged v n).won) (sym (index i early))
-            (subst (λ (l : List (ℕ × Place)). m ≤ used_in (space_of aged) (get_or numbers i 0) l) (sym won) (filled.many i m early few le)))
+            (λ (early : i < length numbers). subst (λ (b : ℕ). m ≤ used_in (space_of_age aged) b (with_claimed_block aged v n).won) (sym (index i early))
+            (subst (λ (l : List (ℕ × Place)). m ≤ used_in (space_of_age aged) (get_or numbers i 0) l) (sym won) (filled.many i m early few le)))
             (λ (late : length numbers ≤ i). omega arith)
             (cases_lt i (length numbers));
       }
@@ -217,15 +217,15 @@ pairs_other s won q other =
     let none : pairs_in s (q ∷ []) ≡ [] = rw t refl in
     filter-append f won (q ∷ []) ∙ ap (λ (l : List (ℕ × Place)). pairs_in s won ++ l) none ∙ append-nil (pairs_in s won)
 
-other_space : (aged : Bool) → space_of aged ≢ space_of (not aged)
+other_space : (aged : Bool) → space_of_age aged ≢ space_of_age (not aged)
 other_space true e = absurd (omega arith)
 other_space false e = absurd (omega arith)
 
 -- a win in the other space
-pub other_won : (aged : Bool) (v : Record) (q : ℕ × Place) → q.1.space ≡ space_of aged → OtherStays aged v (with_won v q)
+pub other_won : (aged : Bool) (v : Record) (q : ℕ × Place) → q.1.space ≡ space_of_age aged → OtherStays aged v (with_won v q)
 other_won aged v q s numbers used filled =
-    let apart : q.1.space ≢ space_of (not aged) = λ e. other_space aged (sym s ∙ e) in
-    let same = pairs_other (space_of (not aged)) v.won q apart in
+    let apart : q.1.space ≢ space_of_age (not aged) = λ e. other_space aged (sym s ∙ e) in
+    let same = pairs_other (space_of_age (not aged)) v.won q apart in
     record {
       same = filled.same;
       rising = filled.rising;
@@ -234,32 +234,32 @@ other_won aged v q s numbers used filled =
       few = filled.few;
       ends = ap length same ∙ filled.ends;
       order = λ k low. ap (λ (l : List (ℕ × Place)). (pair_at l k).1) same ∙ filled.order k low;
-      many = λ i n low few le. (let before = filled.many i n low few le in let more = used_more (space_of (not aged)) (get_or numbers i 0) v.won q in omega arith);
+      many = λ i n low few le. (let before = filled.many i n low few le in let more = used_more (space_of_age (not aged)) (get_or numbers i 0) v.won q in omega arith);
     }
 
 module _ (aged : Bool) (v : Record) (numbers : List ℕ) (used cell : ℕ) (filled : AreFilled aged v numbers used) (room : used < 64 * length numbers) where
   abbrev new_pair : ℕ × Place
   new_pair = (cell, own_place aged numbers used)
 
-  many_more : (i n : ℕ) → i < length numbers → n ≤ 64 → 64 * i + n ≤ used + 1 → n ≤ used_in (space_of aged) (get_or numbers i 0) (v.won ++ new_pair ∷ [])
+  many_more : (i n : ℕ) → i < length numbers → n ≤ 64 → 64 * i + n ≤ used + 1 → n ≤ used_in (space_of_age aged) (get_or numbers i 0) (v.won ++ new_pair ∷ [])
   many_more i n low few le = ⊎_elim
-      (λ (old : 64 * i + n < used + 1). (let before = filled.many i n low few (omega arith) in let more = used_more (space_of aged) (get_or numbers i 0) v.won new_pair in omega arith))
+      (λ (old : 64 * i + n < used + 1). (let before = filled.many i n low few (omega arith) in let more = used_more (space_of_age aged) (get_or numbers i 0) v.won new_pair in omega arith))
       (λ (high : used + 1 ≤ 64 * i + n). ⊎_elim
       (λ (none : n ≡ 0). omega arith)
       (λ (some : n ≢ 0).
       let at : i ≡ used / 64 = omega arith in
       let before = filled.many i (n - 1) low (omega arith) (omega arith) in
       let block : get_or numbers (used / 64) 0 ≡ get_or numbers i 0 = ap (λ (j : ℕ). get_or numbers j 0) (sym at) in
-      let more = used_one_more (space_of aged) (get_or numbers i 0) v.won new_pair refl block in
+      let more = used_one_more (space_of_age aged) (get_or numbers i 0) v.won new_pair refl block in
       omega arith)
       (cases_eq n 0))
       (cases_lt (64 * i + n) (used + 1))
 
-  order_more : (k : ℕ) → k < used + 1 → (pair_at (pairs_in (space_of aged) (v.won ++ new_pair ∷ [])) k).1 ≡ own_place aged numbers k
+  order_more : (k : ℕ) → k < used + 1 → (pair_at (pairs_in (space_of_age aged) (v.won ++ new_pair ∷ [])) k).1 ≡ own_place aged numbers k
   order_more k low =
-      let pairs = pairs_in (space_of aged) v.won in
+      let pairs = pairs_in (space_of_age aged) v.won in
       let ends = filled.ends in
-      ap (λ (l : List (ℕ × Place)). (pair_at l k).1) (pairs_push (space_of aged) v.won new_pair refl) ∙ ⊎_elim
+      ap (λ (l : List (ℕ × Place)). (pair_at l k).1) (pairs_push (space_of_age aged) v.won new_pair refl) ∙ ⊎_elim
       (λ (early : k < used). ap (λ (x : ℕ × Place). x.1) (get_or_append_left pairs (new_pair ∷ []) (pair_at [] 0) k (omega arith)) ∙ filled.order k early)
       (λ (late : used ≤ k).
       let at : k ≡ used = omega arith in
@@ -277,7 +277,7 @@ module _ (aged : Bool) (v : Record) (numbers : List ℕ) (used cell : ℕ) (fill
         room = omega arith;
         close = omega arith;
         few = omega arith;
-        ends = ap length (pairs_push (space_of aged) v.won new_pair refl) ∙ length_push (pairs_in (space_of aged) v.won) new_pair ∙ ap (λ (n : ℕ). n + 1) ends;
+        ends = ap length (pairs_push (space_of_age aged) v.won new_pair refl) ∙ length_push (pairs_in (space_of_age aged) v.won) new_pair ∙ ap (λ (n : ℕ). n + 1) ends;
         order = order_more;
         many = many_more;
       }
@@ -298,19 +298,19 @@ module _ (cell : ℕ) (aged : Bool) (v : Record) where
     won = [];
     one = omega arith;
     is_won = only.won ∙ sym (append-nil v.won);
-    reasons = All-nil (λ (q : ℕ × Place). (q.0 ≡ cell) × (q.1.space ≡ space_of aged) × IsPlace q.1);
+    reasons = All-nil (λ (q : ℕ × Place). (q.0 ≡ cell) × (q.1.space ≡ space_of_age aged) × IsPlace q.1);
     seen = [];
     is_seen = only.seen ∙ sym (append-nil v.seen);
     chunks = only.chunks;
     share = only.share;
   }
 
-  pub finds_won : (p : Place) → p.space ≡ space_of aged → IsPlace p → Finds cell aged v (with_won v (cell, p))
+  pub finds_won : (p : Place) → p.space ≡ space_of_age aged → IsPlace p → Finds cell aged v (with_won v (cell, p))
   finds_won p s inside = record {
     won = (cell, p) ∷ [];
     one = omega arith;
     is_won = refl;
-    reasons = All-push (λ (q : ℕ × Place). (q.0 ≡ cell) × (q.1.space ≡ space_of aged) × IsPlace q.1) [] (cell, p) (All-nil (λ (q : ℕ × Place). (q.0 ≡ cell) × (q.1.space ≡ space_of aged) × IsPlace q.1)) (refl, s, inside);
+    reasons = All-push (λ (q : ℕ × Place). (q.0 ≡ cell) × (q.1.space ≡ space_of_age aged) × IsPlace q.1) [] (cell, p) (All-nil (λ (q : ℕ × Place). (q.0 ≡ cell) × (q.1.space ≡ space_of_age aged) × IsPlace q.1)) (refl, s, inside);
     seen = [];
     is_seen = sym (append-nil v.seen);
     chunks = refl;
@@ -322,7 +322,7 @@ module _ (cell : ℕ) (aged : Bool) (v : Record) where
     won = [];
     one = omega arith;
     is_won = sym (append-nil v.won);
-    reasons = All-nil (λ (q : ℕ × Place). (q.0 ≡ cell) × (q.1.space ≡ space_of aged) × IsPlace q.1);
+    reasons = All-nil (λ (q : ℕ × Place). (q.0 ≡ cell) × (q.1.space ≡ space_of_age aged) × IsPlace q.1);
     seen = (cell, p) ∷ [];
     is_seen = refl;
     chunks = refl;
@@ -350,7 +350,7 @@ module _ (v : Record) (cell : ℕ) (p : Place) where
   seen_met = Contains-append_right (map (λ (q : ℕ × Place). q.0) v.won) (map (λ (q : ℕ × Place). q.0) (v.seen ++ (cell, p) ∷ [])) cell (map_has (λ (q : ℕ × Place). q.0) (v.seen ++ (cell, p) ∷ []) (cell, p) (Contains-push v.seen (cell, p)))
 
   pub won_known : IsPlace p → (to : ℕ → Place) → HasPlaces (with_won v (cell, p)) to → to cell ≡ p
-  won_known inside to has = All-contains (HasPlaceOf to) (v.won ++ (cell, p) ∷ []) (cell, p) has.won (Contains-push v.won (cell, p)) inside
+  won_known inside to has_number = All-contains (HasPlaceOf to) (v.won ++ (cell, p) ∷ []) (cell, p) has_number.won (Contains-push v.won (cell, p)) inside
 
   pub seen_known : IsPlace p → (to : ℕ → Place) → HasPlaces (with_seen v (cell, p)) to → to cell ≡ p
-  seen_known inside to has = All-contains (HasPlaceOf to) (v.seen ++ (cell, p) ∷ []) (cell, p) has.seen (Contains-push v.seen (cell, p)) inside
+  seen_known inside to has_number = All-contains (HasPlaceOf to) (v.seen ++ (cell, p) ∷ []) (cell, p) has_number.seen (Contains-push v.seen (cell, p)) inside

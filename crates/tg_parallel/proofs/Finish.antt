@@ -22,7 +22,7 @@ use Rattle.tg_space.proofs.Tables.{table_list}
 use Rattle.tg_space.proofs.Tracing.{closure_is_won}
 use Rattle.tg_race.specs.declared.record.Counts.{Counts}
 use Rattle.tg_race.specs.declared.record.Record.{Record}
-use Rattle.tg_race.specs.Board.{IsClosed}
+use Rattle.tg_race.specs.Board.{IsClosedTable}
 use Rattle.tg_race.specs.Race.{AreConsecutive, chunks_of, is_chunk, owns}
 use Rattle.tg_race.specs.Weights.{weigh}
 use Rattle.tg_race.specs.Words.{AGED, OLD, IsPair, place_of, has_pair, same_pair, same_place}
@@ -108,7 +108,7 @@ module _ (space start : ℕ) (copy : ℕ → List ℕ) (won : List (ℕ × Place
 
 -- ---- the words of the table
 
-module _ (k : Counts) (words : List ℕ) (done : Record) (closed : IsClosed k words done) where
+module _ (k : Counts) (words : List ℕ) (done : Record) (closed : IsClosedTable k words done) where
   link_some : (p : Place) → link_to p ≢ 0
   link_some p e = word_of-some p (link_is p ∙ e)
 

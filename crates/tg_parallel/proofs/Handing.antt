@@ -16,8 +16,8 @@ use Rattle.tg_space.specs.declared.spaces.Kind.{Kind}
 use Rattle.tg_space.specs.declared.spaces.Root.{Root}
 use Rattle.tg_race.specs.declared.record.Record.{Record}
 use Rattle.tg_race.specs.Conditions.{blocks_of}
-use Rattle.tg_race.specs.Race.{has, owns}
-use Rattle.tg_race.specs.Words.{space_of}
+use Rattle.tg_race.specs.Race.{has_number, owns}
+use Rattle.tg_race.specs.Words.{space_of_age}
 use Rattle.tg_evac.specs.declared.win.Win.{Win}
 use Rattle.tg_evac.specs.Claims.{win_at, won_in}
 use Rattle.tg_evac.specs.Claimers.{copies_to, image_at}
@@ -53,19 +53,19 @@ are_laid_out cells numbers blocks laid hold are same each = record {
 -- ---- the copies of a space
 
 module _ (aged : Bool) (v : Record) (numbers : List ℕ) (used : ℕ) (filled : AreFilled aged v numbers used) where
-  pub owns_at : (q : ℕ × Place) → Contains v.won q → q.1.space ≡ space_of aged → owns v q.1 ≡ true
+  pub owns_at : (q : ℕ × Place) → Contains v.won q → q.1.space ≡ space_of_age aged → owns v q.1 ≡ true
   owns_at q held s =
       let at = won_at aged v numbers used filled q held s in
       let room = filled.room in let low = at.1 in
       subst (λ (p : Place). owns v p ≡ true) (sym at.3) (by_space aged filled.same at.0 (omega arith))
     where
       by_space : (a : Bool) → numbers ≡ blocks_of a v → (k : ℕ) → k < 64 * length numbers → owns v (own_place a numbers k) ≡ true
-      by_space true e k low = subst (λ (l : List ℕ). has (get_or numbers (k / 64) 0) l ≡ true) e (has_index numbers (k / 64) (omega arith))
-      by_space false e k low = subst (λ (l : List ℕ). has (get_or numbers (k / 64) 0) l ≡ true) e (has_index numbers (k / 64) (omega arith))
+      by_space true e k low = subst (λ (l : List ℕ). has_number (get_or numbers (k / 64) 0) l ≡ true) e (has_index numbers (k / 64) (omega arith))
+      by_space false e k low = subst (λ (l : List ℕ). has_number (get_or numbers (k / 64) 0) l ≡ true) e (has_index numbers (k / 64) (omega arith))
 
-  module _ (copy : ℕ → List ℕ) (blocks : Numbered) (cells : List (List ℕ)) (laid : AreLaidOut cells numbers blocks) (is : cells ≡ map (λ (q : ℕ × Place). copy q.0) (pairs_in (space_of aged) v.won)) where
+  module _ (copy : ℕ → List ℕ) (blocks : Numbered) (cells : List (List ℕ)) (laid : AreLaidOut cells numbers blocks) (is : cells ≡ map (λ (q : ℕ × Place). copy q.0) (pairs_in (space_of_age aged) v.won)) where
     abbrev pairs : List (ℕ × Place)
-    pairs = pairs_in (space_of aged) v.won
+    pairs = pairs_in (space_of_age aged) v.won
 
     long : length blocks ≡ length numbers
     long = sym (length-map blocks (λ (b : ℕ × List (List ℕ)). b.0)) ∙ ap length laid.numbered
@@ -81,7 +81,7 @@ module _ (aged : Bool) (v : Record) (numbers : List ℕ) (used : ℕ) (filled : 
         let ends = filled.ends in
         ap (λ (l : List (List ℕ)). get_or l k free_cell) is ∙ get_or-map (λ (q : ℕ × Place). copy q.0) pairs k (pair_at [] 0) free_cell (omega arith)
 
-    copied_at : (i : ℕ) (d : ℕ × List (List ℕ)) → i < length blocks → (q : ℕ × Place) → Contains v.won q → q.1.space ≡ space_of aged → q.1.block ≡ (get_or blocks i d).0 → cell_of (get_or blocks i d).1 q.1.cell ≡ copy q.0
+    copied_at : (i : ℕ) (d : ℕ × List (List ℕ)) → i < length blocks → (q : ℕ × Place) → Contains v.won q → q.1.space ≡ space_of_age aged → q.1.block ≡ (get_or blocks i d).0 → cell_of (get_or blocks i d).1 q.1.cell ≡ copy q.0
     copied_at i d low q held s b =
         let at = won_at aged v numbers used filled q held s in
         let room = filled.room in let under = at.1 in let l = long in
@@ -91,13 +91,13 @@ module _ (aged : Bool) (v : Record) (numbers : List ℕ) (used : ℕ) (filled : 
         let whole : 64 * i + q.1.cell ≡ at.0 = omega arith in
         cell_at i q.1.cell d low (omega arith) ∙ ap (λ (n : ℕ). get_or cells n free_cell) whole ∙ copy_is at.0 under ∙ ap (λ (x : ℕ × Place). copy x.0) at.2
 
-    rest_at : (i : ℕ) (d : ℕ × List (List ℕ)) → i < length blocks → (j : ℕ) → j < 64 → ((q : ℕ × Place) → Contains v.won q → q.1.space ≡ space_of aged → q.1.block ≡ (get_or blocks i d).0 → q.1.cell ≢ j) → cell_of (get_or blocks i d).1 j ≡ free_cell
+    rest_at : (i : ℕ) (d : ℕ × List (List ℕ)) → i < length blocks → (j : ℕ) → j < 64 → ((q : ℕ × Place) → Contains v.won q → q.1.space ≡ space_of_age aged → q.1.block ≡ (get_or blocks i d).0 → q.1.cell ≢ j) → cell_of (get_or blocks i d).1 j ≡ free_cell
     rest_at i d low j inside apart =
         let ends = filled.ends in
         cell_at i j d low inside ∙ ⊎_elim
         (λ (under : 64 * i + j < used).
         let q : ℕ × Place = pair_at pairs (64 * i + j) in
-        let held : Contains v.won q = All-get_or (Contains v.won) pairs (64 * i + j) (pair_at [] 0) (omega arith) (All-filter (λ (x : ℕ × Place). x.1.space == space_of aged) (Contains v.won) v.won (All-contains_itself v.won)) in
+        let held : Contains v.won q = All-get_or (Contains v.won) pairs (64 * i + j) (pair_at [] 0) (omega arith) (All-filter (λ (x : ℕ × Place). x.1.space == space_of_age aged) (Contains v.won) v.won (All-contains_itself v.won)) in
         let is_place = filled.order (64 * i + j) under in
         let block : (64 * i + j) / 64 ≡ i = omega arith in
         let cell : (64 * i + j) % 64 ≡ j = omega arith in
@@ -105,7 +105,7 @@ module _ (aged : Bool) (v : Record) (numbers : List ℕ) (used : ℕ) (filled : 
         (λ (past : used ≤ 64 * i + j). get_or_past cells (64 * i + j) free_cell (let e : length cells ≡ length pairs = ap length is ∙ length-map pairs (λ (q : ℕ × Place). copy q.0) in omega arith))
         (cases_lt (64 * i + j) used)
 
-    pub have_copies : All (HasCopies (space_of aged) copy v.won) blocks
+    pub have_copies : All (HasCopies (space_of_age aged) copy v.won) blocks
     have_copies i d low = record { copied = copied_at i d low; rest = rest_at i d low }
 
 -- ---- the part
@@ -163,9 +163,9 @@ module _ (kind : Kind) (t : SpaceTable) (roots : List Root) (s : Sitting) (same_
     old_numbers = old_laid.numbered ∙ old_filled.same;
     aged_few = subst (λ (l : List ℕ). All (λ b. b < t.limits.space_blocks) l) aged_filled.same aged_few;
     old_few = subst (λ (l : List ℕ). All (λ b. b < t.limits.space_blocks) l) old_filled.same old_few;
-    images = λ _ _ to has. record {
-      in_aged = have_copies true s.done aged_numbers aged_used aged_filled (image_at kind t.spaces to) aged_blocks aged aged_laid (copies_are 1 to aged (copied.copies.in_aged to has));
-      in_old = have_copies false s.done old_numbers old_used old_filled (image_at kind t.spaces to) old_blocks old old_laid (copies_are 0 to old (copied.copies.in_old to has));
+    images = λ _ _ to has_number. record {
+      in_aged = have_copies true s.done aged_numbers aged_used aged_filled (image_at kind t.spaces to) aged_blocks aged aged_laid (copies_are 1 to aged (copied.copies.in_aged to has_number));
+      in_old = have_copies false s.done old_numbers old_used old_filled (image_at kind t.spaces to) old_blocks old old_laid (copies_are 0 to old (copied.copies.in_old to has_number));
     };
   }
 

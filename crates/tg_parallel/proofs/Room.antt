@@ -18,7 +18,7 @@ use Rattle.tg_space.specs.declared.spaces.Root.{Root}
 use Rattle.tg_space.proofs.Tables.{table_list}
 use Rattle.tg_race.specs.declared.record.Counts.{Counts}
 use Rattle.tg_race.specs.declared.record.Record.{Record}
-use Rattle.tg_race.specs.Board.{IsClosed}
+use Rattle.tg_race.specs.Board.{IsClosedTable}
 use Rattle.tg_race.specs.Race.{AreConsecutive}
 use Rattle.tg_race.specs.Words.{place_of, weigh_words}
 use Rattle.tg_race.proofs.Closed.{consecutive}
@@ -66,13 +66,13 @@ two_spaces (q ∷ qs) = by_test (q.1.space == 0) refl (q.1.space == 1) refl (two
     by_test false e true f h = omega arith
     by_test false e false f h = omega arith
 
-copies_won : (k : Counts) (words : List ℕ) (done : Record) → IsClosed k words done → (s : ℕ) → in_space s done.won ≡ copies_in words s
+copies_won : (k : Counts) (words : List ℕ) (done : Record) → IsClosedTable k words done → (s : ℕ) → in_space s done.won ≡ copies_in words s
 copies_won k words done closed s = let all = closed.rule.wins_once.won (λ q. if q.1.space == s then 1 else 0) in omega (arith, count_words s 0 words)
 
 -- ---- a block past the limit
 
 module _ (kind : Kind) (t : SpaceTable) (roots : List Root) (k : Counts) (words : List ℕ) (done : Record)
-    (table : IsSpaceTable t) (sound : AreSound t.spaces roots) (counts : AreCountsOf kind t.spaces roots k) (closed : IsClosed k words done) (earned : AreEarned kind t.spaces roots done) where
+    (table : IsSpaceTable t) (sound : AreSound t.spaces roots) (counts : AreCountsOf kind t.spaces roots k) (closed : IsClosedTable k words done) (earned : AreEarned kind t.spaces roots done) where
   won_used : length done.won ≤ used_cells kind t.spaces
   won_used =
       let list = table_list t table in

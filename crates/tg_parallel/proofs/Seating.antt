@@ -18,7 +18,7 @@ use Rattle.tg_race.specs.declared.record.Record.{Record}
 use Rattle.tg_race.specs.Course.{has_met}
 use Rattle.tg_race.specs.Race.{empty}
 use Rattle.tg_race.specs.Seats.{Board, Seated}
-use Rattle.tg_race.specs.Words.{space_of}
+use Rattle.tg_race.specs.Words.{space_of_age}
 use Rattle.tg_evac.specs.declared.win.Win.{Win}
 use Rattle.tg_evac.specs.Claims.{IsWinFor, is_in, win_at, won_in}
 use Rattle.tg_evac.specs.Claimers.{AddsWins}
@@ -94,7 +94,7 @@ module _ (limit : ℕ) (board : Board) (helper : Seated) (aged old : OwnBlocks) 
 
 -- ---- after a claim
 
-pub which : (space : ℕ) → space < 2 → (a : Bool) × (space ≡ space_of a)
+pub which : (space : ℕ) → space < 2 → (a : Bool) × (space ≡ space_of_age a)
 which space two = ⊎_elim
     (λ (e : space ≡ 0). (false, e))
     (λ (ne : space ≢ 0). (true, (let e : space ≡ 1 = omega arith in e)))
@@ -117,12 +117,12 @@ module _ (cell : ℕ) (aged : Bool) (v w : Record) (finds : Finds cell aged v w)
       (λ (here : Contains (map f v.seen) c). Contains-append_right (map f w.won) (map f w.seen) c (subst (λ (l : List ℕ). Contains l c) (sym two) (Contains-append_left (map f v.seen) (map f finds.seen) c here)))
       (Contains-append_cases (map f v.won) (map f v.seen) c held)
 
-  pub adds_found : (kind : Kind) (limit : ℕ) (board : Board) (space : ℕ) → space ≡ space_of aged → AddsWins (IsWinFor cell space) (walked_at (record { kind = kind; limit = limit; board = board; done = v })) (walked_at (record { kind = kind; limit = limit; board = board; done = w }))
+  pub adds_found : (kind : Kind) (limit : ℕ) (board : Board) (space : ℕ) → space ≡ space_of_age aged → AddsWins (IsWinFor cell space) (walked_at (record { kind = kind; limit = limit; board = board; done = v })) (walked_at (record { kind = kind; limit = limit; board = board; done = w }))
   adds_found kind limit board space right = record {
     added = wins_of finds.won;
     is = ap wins_of finds.is_won ∙ map-append win_of v.won finds.won;
     reasons = All-map (IsWinFor cell space) win_of finds.won
-        (All-weaker (λ (q : ℕ × Place). (q.0 ≡ cell) × (q.1.space ≡ space_of aged) × IsPlace q.1) (λ (q : ℕ × Place). IsWinFor cell space (win_of q))
+        (All-weaker (λ (q : ℕ × Place). (q.0 ≡ cell) × (q.1.space ≡ space_of_age aged) × IsPlace q.1) (λ (q : ℕ × Place). IsWinFor cell space (win_of q))
         (λ q r. record { number = r.0; to = ap (λ (p : Place). p.space) (place_back q.1 r.2) ∙ r.1 ∙ sym right }) finds.won finds.reasons);
     still = still_has;
     same_kind = refl;
@@ -149,21 +149,21 @@ module _ (limit : ℕ) (board : Board) (before after : Seated) (aged old : OwnBl
   module _ (a : Bool) (finds : Finds cell a before.done after.done) where
     differ_now : AllPairs (λ q r. q.0 ≢ r.0) after.done.won
     differ_now = subst (λ (l : List (ℕ × Place)). AllPairs (λ q r. q.0 ≢ r.0) l) (sym finds.is_won)
-        (differ_more cell before.done unmet finds.won finds.one (All-weaker (λ (q : ℕ × Place). (q.0 ≡ cell) × (q.1.space ≡ space_of a) × IsPlace q.1) (λ (q : ℕ × Place). q.0 ≡ cell) (λ q r. r.0) finds.won finds.reasons) seat.differ)
+        (differ_more cell before.done unmet finds.won finds.one (All-weaker (λ (q : ℕ × Place). (q.0 ≡ cell) × (q.1.space ≡ space_of_age a) × IsPlace q.1) (λ (q : ℕ × Place). q.0 ≡ cell) (λ q r. r.0) finds.won finds.reasons) seat.differ)
 
     inside_now : All (λ q. q.0 < board.counts.cells) after.done.won
     inside_now = subst (λ (l : List (ℕ × Place)). All (λ q. q.0 < board.counts.cells) l) (sym finds.is_won)
         (All-append (λ (q : ℕ × Place). q.0 < board.counts.cells) before.done.won finds.won seat.inside
-        (All-weaker (λ (q : ℕ × Place). (q.0 ≡ cell) × (q.1.space ≡ space_of a) × IsPlace q.1) (λ (q : ℕ × Place). q.0 < board.counts.cells) (λ q r. (let e = r.0 in omega arith)) finds.won finds.reasons))
+        (All-weaker (λ (q : ℕ × Place). (q.0 ≡ cell) × (q.1.space ≡ space_of_age a) × IsPlace q.1) (λ (q : ℕ × Place). q.0 < board.counts.cells) (λ q r. (let e = r.0 in omega arith)) finds.won finds.reasons))
 
-    two_of : (b : Bool) → space_of b < 2
+    two_of : (b : Bool) → space_of_age b < 2
     two_of true = omega arith
     two_of false = omega arith
 
     places_now : All (λ q. IsPlace q.1 × (q.1.space < 2)) after.done.won
     places_now = subst (λ (l : List (ℕ × Place)). All (λ q. IsPlace q.1 × (q.1.space < 2)) l) (sym finds.is_won)
         (All-append (λ (q : ℕ × Place). IsPlace q.1 × (q.1.space < 2)) before.done.won finds.won seat.places
-        (All-weaker (λ (q : ℕ × Place). (q.0 ≡ cell) × (q.1.space ≡ space_of a) × IsPlace q.1) (λ (q : ℕ × Place). IsPlace q.1 × (q.1.space < 2)) (λ q r. (r.2, (let e = r.1 in let t = two_of a in omega arith))) finds.won finds.reasons))
+        (All-weaker (λ (q : ℕ × Place). (q.0 ≡ cell) × (q.1.space ≡ space_of_age a) × IsPlace q.1) (λ (q : ℕ × Place). IsPlace q.1 × (q.1.space < 2)) (λ q r. (r.2, (let e = r.1 in let t = two_of a in omega arith))) finds.won finds.reasons))
 
   pub seat_aged : (now : OwnBlocks) → now.aged ≡ aged.aged → Finds cell aged.aged before.done after.done → AreFilled aged.aged after.done now.numbers.items now.used → OtherStays aged.aged before.done after.done → IsSeat limit board after now old
   seat_aged now space finds filled other = record {

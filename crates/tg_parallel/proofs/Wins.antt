@@ -14,7 +14,7 @@ use Rattle.tg_space.specs.declared.spaces.Kind.{Kind}
 use Rattle.tg_space.specs.declared.spaces.Root.{Root}
 use Rattle.tg_race.specs.declared.record.Counts.{Counts}
 use Rattle.tg_race.specs.declared.record.Record.{Record}
-use Rattle.tg_race.specs.Board.{IsClosed}
+use Rattle.tg_race.specs.Board.{IsClosedTable}
 use Rattle.tg_race.specs.Race.{Race}
 use Rattle.tg_race.specs.Words.{has_pair, same_pair, word_of}
 use Rattle.tg_race.proofs.Closed.{cells_differ}
@@ -39,7 +39,7 @@ narrow roots chunks r held = let found = flat_found (roots_of_chunk roots) chunk
 pub traced_all : (kind : Kind) (h : SpaceList) (roots : List Root) (done : Record) → AreEarned kind h roots done → AreTraced kind h roots (wins_of done.won)
 traced_all kind h roots done earned = traced_wider kind h (roots_in roots done.chunks) roots (narrow roots done.chunks) (wins_of done.won) earned
 
-module _ (k : Counts) (words : List ℕ) (done : Record) (closed : IsClosed k words done) where
+module _ (k : Counts) (words : List ℕ) (done : Record) (closed : IsClosedTable k words done) where
   abbrev race : Race
   race = record { next_chunk = closed.next_chunk; next_aged = closed.next_aged; next_old = closed.next_old; words = words; records = done ∷ [] }
 

@@ -5,9 +5,9 @@ use Rattle.tg_evac.specs.declared.fault.CollectFault.TheVariants as collect
 use Rattle.tg_parallel.specs.declared.fault.HelpersFault.{HelpersFault}
 use Rattle.tg_parallel.specs.declared.fault.HelpersFault.TheVariants.{OutOfMemory, HeapFull, NoThread}
 
-abbrev pub of_collect : CollectFault → HelpersFault
-of_collect collect.OutOfMemory = OutOfMemory
-of_collect collect.HeapFull = HeapFull
+abbrev pub helpers_fault_of : CollectFault → HelpersFault
+helpers_fault_of collect.OutOfMemory = OutOfMemory
+helpers_fault_of collect.HeapFull = HeapFull
 
 -- while so many threads are started, there may be no thread, but only where there is one to start, and no want of room
 pub record IsNotStarted (others : ℕ) (fault : HelpersFault) : Type 0 where

@@ -12,7 +12,7 @@ use Rattle.tg_race.specs.declared.record.Record.{Record}
 use Rattle.tg_race.specs.Conditions.{blocks_of}
 use Rattle.tg_race.specs.Race.{is_chunk, used_in}
 use Rattle.tg_race.specs.Seats.{Board, Seated}
-use Rattle.tg_race.specs.Words.{space_of}
+use Rattle.tg_race.specs.Words.{space_of_age}
 use Rattle.tg_evac.specs.Claimers.{AreScanned, Walked}
 use Rattle.tg_parallel.specs.declared.own_blocks.OwnBlocks.{OwnBlocks}
 use Rattle.tg_parallel.specs.Parts.{HasPlaces, Numbered, cells_met, numbers_of, roots_in, wins_of}
@@ -33,7 +33,7 @@ pair_at pairs k = slice_index_or pairs k (0, record { space = 0; block = 0; cell
 
 -- the k-th place of these blocks, one block after the other
 abbrev pub own_place : Bool → List ℕ → ℕ → Place
-own_place aged numbers k = record { space = space_of aged; block = slice_index numbers (k / 64); cell = k % 64 }
+own_place aged numbers k = record { space = space_of_age aged; block = slice_index numbers (k / 64); cell = k % 64 }
 
 -- The numbers are those of the blocks that the record has claimed in the space, in order, and its won cells of that space
 -- have their places one after the other. So each block but the last is full, and a block is claimed only for a cell
@@ -43,10 +43,10 @@ pub record AreFilled (aged : Bool) (v : Record) (numbers : List ℕ) (used : ℕ
   pub room : used ≤ 64 * length numbers
   pub close : 64 * length numbers ≤ used + 64
   pub few : used ≤ 2 ^ 26
-  pub ends : length (pairs_in (space_of aged) v.won) ≡ used
-  pub order : (k : ℕ) → k < used → (pair_at (pairs_in (space_of aged) v.won) k).1 ≡ own_place aged numbers k
+  pub ends : length (pairs_in (space_of_age aged) v.won) ≡ used
+  pub order : (k : ℕ) → k < used → (pair_at (pairs_in (space_of_age aged) v.won) k).1 ≡ own_place aged numbers k
   -- so many cells at least lie in each block
-  pub many : (i n : ℕ) → i < length numbers → n ≤ 64 → 64 * i + n ≤ used → n ≤ used_in (space_of aged) (slice_index numbers i) v.won
+  pub many : (i n : ℕ) → i < length numbers → n ≤ 64 → 64 * i + n ≤ used → n ≤ used_in (space_of_age aged) (slice_index numbers i) v.won
 
 -- the blocks of the other space stay as they are
 abbrev pub OtherStays : Bool → Record → Record → Type 0
@@ -66,7 +66,7 @@ pub record Finds (cell : ℕ) (aged : Bool) (v w : Record) : Type 0 where
   pub won : List (ℕ × Place)
   pub one : length won ≤ 1
   pub is_won : w.won ≡ v.won ++ won
-  pub reasons : All (λ q. (q.0 ≡ cell) × (q.1.space ≡ space_of aged) × IsPlace q.1) won
+  pub reasons : All (λ q. (q.0 ≡ cell) × (q.1.space ≡ space_of_age aged) × IsPlace q.1) won
   pub seen : List (ℕ × Place)
   pub is_seen : w.seen ≡ v.seen ++ seen
   pub chunks : w.chunks ≡ v.chunks

@@ -5,7 +5,7 @@ use Rattle.tg_space.specs.declared.spaces.Kind.{Kind}
 use Rattle.tg_space.specs.declared.spaces.Root.{Root}
 use Rattle.tg_race.specs.declared.record.Counts.{Counts}
 use Rattle.tg_race.specs.declared.record.Record.{Record}
-use Rattle.tg_race.specs.Board.{IsClosed}
+use Rattle.tg_race.specs.Board.{IsClosedTable}
 use Rattle.tg_race.specs.Race.{past}
 use Rattle.tg_parallel.specs.Parts.{AreCountsOf, AreEarned, IsPart, Numbered}
 
@@ -13,7 +13,7 @@ use Rattle.tg_parallel.specs.Parts.{AreCountsOf, AreEarned, IsPart, Numbered}
 -- the blocks are what it asks for
 pub record IsWholePart (kind : Kind) (t : SpaceTable) (roots : List Root) (k : Counts) (words : List ℕ) (done : Record) (aged old : Numbered) : Type 0 where
   pub counts : AreCountsOf kind t.spaces roots k
-  pub closed : IsClosed k words done
+  pub closed : IsClosedTable k words done
   pub last : 0 < past k done
   pub earned : AreEarned kind t.spaces roots done
   pub part : IsPart kind t roots done aged old

@@ -19,9 +19,9 @@ pub enum HelpersFault {
 
 impl From<CollectFault> for HelpersFault {
     ghost use Rattle.std.specs.Prelude.{◌≡◌};
-    ghost use Rattle.tg_parallel.specs.Faults.{of_collect};
+    ghost use Rattle.tg_parallel.specs.Faults.{helpers_fault_of};
 
-    ghost from_gives = { λ fault e. e ≡ of_collect fault };
+    ghost from_gives = { λ fault e. e ≡ helpers_fault_of fault };
 
     fn from(fault: CollectFault) -> Self {
         match fault {

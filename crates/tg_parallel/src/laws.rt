@@ -12,7 +12,7 @@ ghost use Rattle.tg_space.specs.declared.spaces.Root.{Root};
 ghost use Rattle.tg_space.specs.declared.spaces.Root.TheVariants.{Remembered};
 ghost use Rattle.tg_race.specs.declared.record.Counts.{Counts};
 ghost use Rattle.tg_race.specs.declared.record.Record.{Record};
-ghost use Rattle.tg_race.specs.Board.{IsClosed};
+ghost use Rattle.tg_race.specs.Board.{IsClosedTable};
 ghost use Rattle.tg_race.specs.Race.{both};
 ghost use Rattle.tg_evac.specs.Copies.{IsPlaceIn, moved_cell, new_cell};
 ghost use Rattle.tg_parallel.specs.Merged.{AreMerged};
@@ -27,7 +27,7 @@ pub fn parts_become_one()
 
 /// Where the record that stands for all has claimed a block past the limit, a collection by so many helpers may lack room.
 pub fn a_block_past_the_limit_tells_of_want_of_room()
-    ensures { (kind : Kind) (t : SpaceTable) (roots : List Root) (k : Counts) (words : List ℕ) (done : Record) → IsSpaceTable t → AreSound t.spaces roots → AreCountsOf kind t.spaces roots k → IsClosed k words done → AreEarned kind t.spaces roots done → IsPastLimit t done → MayLackRoom t.limits.space_blocks k.helpers (kept_blocks kind t.spaces) (used_cells kind t.spaces) }
+    ensures { (kind : Kind) (t : SpaceTable) (roots : List Root) (k : Counts) (words : List ℕ) (done : Record) → IsSpaceTable t → AreSound t.spaces roots → AreCountsOf kind t.spaces roots k → IsClosedTable k words done → AreEarned kind t.spaces roots done → IsPastLimit t done → MayLackRoom t.limits.space_blocks k.helpers (kept_blocks kind t.spaces) (used_cells kind t.spaces) }
 {}
 
 /// Where one record stands for all helpers, the blocks that they have handed over are within the limit, and as many as the
@@ -38,7 +38,7 @@ pub fn helpers_blocks_are_few()
 
 /// Where one record stands for all helpers and its wins were earned, no more cells are copied than are in use.
 pub fn helpers_copy_cells_in_use()
-    ensures { (kind : Kind) (t : SpaceTable) (roots : List Root) (k : Counts) (words : List ℕ) (done : Record) → IsSpaceTable t → AreSound t.spaces roots → AreCountsOf kind t.spaces roots k → IsClosed k words done → AreEarned kind t.spaces roots done → copies_in words 0 + copies_in words 1 ≤ used_cells kind t.spaces }
+    ensures { (kind : Kind) (t : SpaceTable) (roots : List Root) (k : Counts) (words : List ℕ) (done : Record) → IsSpaceTable t → AreSound t.spaces roots → AreCountsOf kind t.spaces roots k → IsClosedTable k words done → AreEarned kind t.spaces roots done → copies_in words 0 + copies_in words 1 ≤ used_cells kind t.spaces }
 {}
 
 /// Where one record stands for all helpers and has claimed past the last chunk, what they have handed over is a collection,

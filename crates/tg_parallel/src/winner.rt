@@ -6,7 +6,7 @@ ghost use Rattle.tg_word.specs.Word.{IsPlace};
 ghost use Rattle.tg_race.specs.Claims.{claimed, place_found};
 ghost use Rattle.tg_race.specs.Conditions.{blocks_of, can_claim_block, can_claim_roots, can_use};
 ghost use Rattle.tg_race.specs.Course.{has_met};
-ghost use Rattle.tg_race.specs.Race.{with_block, with_chunk, with_seen};
+ghost use Rattle.tg_race.specs.Race.{with_claimed_block, with_chunk, with_seen};
 ghost use Rattle.tg_evac.specs.Claims.{win_at};
 ghost use Rattle.tg_parallel.specs.Parts.{wins_of};
 
@@ -132,7 +132,7 @@ impl Winner {
     pub fn claim_block(&mut self, table: &RaceTable, aged: bool) -> u64
         requires own { self.old.table ≡ table.now.table }
         requires allowed { IsTrue (can_claim_block aged self.old.done) }
-        ensures drawn { self.new ≡ record self.old { done = with_block aged self.old.done result } }
+        ensures drawn { self.new ≡ record self.old { done = with_claimed_block aged self.old.done result } }
         ensures fresh { All (λ b. b < result) (blocks_of aged self.old.done) }
     {
         self.helper.claim_block(table, aged)

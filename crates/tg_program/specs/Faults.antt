@@ -22,16 +22,16 @@ refusal_of helpers.HeapFull = refusal.Heap
 refusal_of helpers.NoThread = refusal.Threads
 
 -- 2 where the words are at fault, else 1
-abbrev pub status_of : Stop → ℕ
-status_of stop.BadWords = 2
-status_of stop.HelpUnwritten = 1
-status_of (stop.Start start.BadStock) = 2
-status_of (stop.Start start.BadLimits) = 2
-status_of (stop.Start start.OutOfMemory) = 1
-status_of (stop.Script fault) = 1
-status_of (stop.Race fault) = 1
+abbrev pub status_of_stop : Stop → ℕ
+status_of_stop stop.BadWords = 2
+status_of_stop stop.HelpUnwritten = 1
+status_of_stop (stop.Start start.BadStock) = 2
+status_of_stop (stop.Start start.BadLimits) = 2
+status_of_stop (stop.Start start.OutOfMemory) = 1
+status_of_stop (stop.Script fault) = 1
+status_of_stop (stop.Race fault) = 1
 
 -- the status that was answered, or that of what ended the program before
 abbrev pub exit_status : Result ℕ Stop → ℕ
 exit_status (Ok status) = status
-exit_status (Err why) = status_of why
+exit_status (Err why) = status_of_stop why

@@ -32,8 +32,8 @@ Served {T} start bytes before (Err (stop.Start OutOfMemory)) left after = (left 
 Served {T} start bytes before (Err why) left after = ⊥
 
 -- the run was begun: memory wasn't wanting before it
-abbrev pub HasRun : {T : Type 0} → Result T Stop → Type 0
-HasRun (Ok done) = Unit {0}
-HasRun (Err (stop.Script fault)) = Unit {0}
-HasRun (Err (stop.Race fault)) = Unit {0}
-HasRun (Err why) = ⊥
+abbrev pub WasBegun : {T : Type 0} → Result T Stop → Type 0
+WasBegun (Ok done) = Unit {0}
+WasBegun (Err (stop.Script fault)) = Unit {0}
+WasBegun (Err (stop.Race fault)) = Unit {0}
+WasBegun (Err why) = ⊥

@@ -16,8 +16,8 @@ abbrev pub IsBadStock : List ℕ → Type 0
 IsBadStock text = (items : List StockItem) → ¬ IsStockText text items
 
 -- there may be a vertex for each worker
-abbrev pub HasRoom : Settings → Type 0
-HasRoom s = s.workers ≤ s.max_vertices
+abbrev pub MayHoldWorkers : Settings → Type 0
+MayHoldWorkers s = s.workers ≤ s.max_vertices
 
 -- the first of the two that holds is the fault; memory is wanting only where the text is that of a stock
 abbrev pub IsStartFault : Settings → List ℕ → StartFault → Type 0

@@ -3,7 +3,7 @@
 //! Boxes are made here, and the run over them is generic in its payloads, because no contract can speak of boxes that a
 //! function gives to its caller.
 ghost use Rattle.std.specs.Prelude.{◌≡◌, ℕ, List, Some, IfErr};
-ghost use Rattle.tg_program.specs.Faults.{status_of};
+ghost use Rattle.tg_program.specs.Faults.{status_of_stop};
 ghost use Rattle.tg_program.specs.Serving.{Served};
 ghost use Rattle.tg_program.specs.Starts.{IsReady};
 
@@ -28,7 +28,7 @@ pub(crate) fn serve_with_boxes<R: Threads + Wait + Sync, C: Collector, S: Source
 ) -> Result<(), Stop>
     requires collector { C.Ready }
     requires ready { IsReady start.now }
-    ensures status { IfErr result (λ stop. status_of stop ≡ 1) }
+    ensures status { IfErr result (λ stop. status_of_stop stop ≡ 1) }
     ensures output { (bytes before : List ℕ) → S.left source.old ≡ Some bytes → K.taken sink.old ≡ Some before →
         (left : List ℕ) × (S.left source.new ≡ Some left) × Served start.now bytes before result left (K.taken sink.new) }
 {

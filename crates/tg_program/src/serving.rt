@@ -1,7 +1,7 @@
 //! A run with payloads, from a source to a sink.
 ghost use Rattle.std.specs.Prelude.{◌≡◌, ℕ, List, Some, true, IfErr, map};
-ghost use Rattle.tg_program.specs.Faults.{status_of};
-ghost use Rattle.tg_program.specs.Serving.{HasRun, Served};
+ghost use Rattle.tg_program.specs.Faults.{status_of_stop};
+ghost use Rattle.tg_program.specs.Serving.{WasBegun, Served};
 ghost use Rattle.tg_program.specs.Starts.{IsReady, HasPayloads};
 
 use crate::start::Start;
@@ -36,10 +36,10 @@ pub fn serve<P: Payload + Send, R: Threads + Wait + Sync, C: Collector, S: Sourc
     requires collector { C.Ready }
     requires ready { IsReady start.now }
     requires payloads { HasPayloads start.now (map P.value payloads.workers.items) (map P.value payloads.stock.items) }
-    ensures status { IfErr result (λ stop. status_of stop ≡ 1) }
+    ensures status { IfErr result (λ stop. status_of_stop stop ≡ 1) }
     ensures output { (bytes before : List ℕ) → S.left source.old ≡ Some bytes → K.taken sink.old ≡ Some before →
         (left : List ℕ) × (S.left source.new ≡ Some left) × Served start.now bytes before result left (K.taken sink.new) }
-    ensures finished { HasRun result → K.finished sink.new ≡ true }
+    ensures finished { WasBegun result → K.finished sink.new ≡ true }
 {
     let workers = drafts_of(alloc, payloads.workers)?;
     let stock = drafts_of(alloc, payloads.stock)?;

@@ -2,7 +2,7 @@
 ghost use Rattle.std.specs.Prelude.{◌≡◌, IfOk, IfErr};
 ghost use Rattle.tg_text.specs.Stock.{IsStockText};
 ghost use Rattle.tg_program.specs.Ranges.{AreInRange};
-ghost use Rattle.tg_program.specs.Starts.{HasRoom, IsReady, IsStartFault};
+ghost use Rattle.tg_program.specs.Starts.{MayHoldWorkers, IsReady, IsStartFault};
 
 use crate::settings::Options;
 use std::alloc::{AllocError, Global};
@@ -62,7 +62,7 @@ impl From<StockFault> for StartFault {
 /// found whatever memory there is.
 pub fn prepare(alloc: Global, options: &Options) -> Result<Start, StartFault>
     requires { AreInRange options.now.settings }
-    ensures settings { IfOk result (λ start. (start.settings ≡ options.now.settings) × HasRoom start.settings) }
+    ensures settings { IfOk result (λ start. (start.settings ≡ options.now.settings) × MayHoldWorkers start.settings) }
     ensures race { IfOk result (λ start. start.race ≡ options.now.race) }
     ensures stock { IfOk result (λ start. IsStockText options.now.stock.now start.stock.items) }
     ensures ready { IfOk result IsReady }

@@ -1,6 +1,6 @@
 //! Why the program ends before the whole script was run.
 ghost use Rattle.std.specs.Prelude.{◌≡◌};
-ghost use Rattle.tg_program.specs.Faults.{status_of};
+ghost use Rattle.tg_program.specs.Faults.{status_of_stop};
 
 use crate::start::StartFault;
 use std::alloc::{AllocError, AllocFailed};
@@ -55,7 +55,7 @@ impl<T: Drop> From<AllocFailed<T>> for Stop {
 impl Stop {
     /// The exit status: 2 where the words of the command line are at fault, else 1.
     pub fn status(self) -> u8
-        ensures { result ≡ status_of self }
+        ensures { result ≡ status_of_stop self }
     {
         match self {
             Stop::BadWords | Stop::Start(StartFault::BadStock | StartFault::BadLimits) => 2,

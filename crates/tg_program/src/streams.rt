@@ -1,7 +1,7 @@
 //! A run between a reader and a writer.
 ghost use Rattle.std.specs.Prelude.{◌≡◌, ◌<◌, ℕ, List, Some, IfErr, IfOk};
 ghost use Rattle.std.specs.Io.Buffered.{reader_remaining, writer_contents};
-ghost use Rattle.tg_program.specs.Faults.{status_of};
+ghost use Rattle.tg_program.specs.Faults.{status_of_stop};
 ghost use Rattle.tg_program.specs.Serving.{Served};
 ghost use Rattle.tg_program.specs.Starts.{IsReady};
 
@@ -45,8 +45,8 @@ pub(crate) fn serve_buffered<
 ) -> Result<Ended<BufReader<R>, BufWriter<W>>, Stop>
     requires collector { C.Ready }
     requires ready { IsReady start.now }
-    ensures status { IfErr result (λ stop. status_of stop ≡ 1) }
-    ensures ended_status { IfOk result (λ ended. IfErr ended.outcome (λ stop. status_of stop ≡ 1)) }
+    ensures status { IfErr result (λ stop. status_of_stop stop ≡ 1) }
+    ensures ended_status { IfOk result (λ ended. IfErr ended.outcome (λ stop. status_of_stop stop ≡ 1)) }
     ensures output { IfOk result (λ ended. (bytes before : List ℕ) → R.remaining reader ≡ Some bytes → W.contents writer ≡ Some before →
         (left : List ℕ) × (reader_remaining R.remaining ended.reader ≡ Some left) × Served start.now bytes before ended.outcome left (writer_contents W.contents ended.writer)) }
 {
@@ -95,7 +95,7 @@ fn serve_counted<
     requires read_failures { (read_failures.name ≡ B.name) × (read_failures.parts ≡ B.parts) × (0 < read_failures.parts) }
     requires write_failures { (write_failures.name ≡ F.name) × (write_failures.parts ≡ F.parts) × (0 < write_failures.parts) }
     requires ready { IsReady start.now }
-    ensures status { IfErr result.outcome (λ stop. status_of stop ≡ 1) }
+    ensures status { IfErr result.outcome (λ stop. status_of_stop stop ≡ 1) }
     ensures output { (bytes before : List ℕ) → R.remaining reader ≡ Some bytes → W.contents writer ≡ Some before →
         (left : List ℕ) × (R.remaining result.reader ≡ Some left) × Served start.now bytes before result.outcome left (W.contents result.writer) }
 {

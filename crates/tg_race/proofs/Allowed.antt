@@ -21,17 +21,17 @@ use Rattle.std.proofs.Common.{inl, inr}
 use Rattle.tg_race.proofs.Drawn.{drawn_under}
 use Rattle.tg_race.proofs.Standing.{won_stands, seen_at, unmet}
 use Rattle.tg_race.specs.Words.{place_at}
-use Rattle.tg_race.specs.Race.{Rule, HasMet, empty, past, with_chunk, with_seen, with_won, with_block, both, less_one}
-use Rattle.tg_race.specs.Board.{Holds, AreSmall, IsClosed, IsKnown, KnowsSkipped, cell_at, does, skipped_of, words_of, drew_chunk, drew_aged, drew_old, looked, tried}
+use Rattle.tg_race.specs.Race.{Rule, HasMet, empty, past, with_chunk, with_seen, with_won, with_claimed_block, both, less_one}
+use Rattle.tg_race.specs.Board.{IsBoardOfRace, AreSmall, IsClosedTable, IsKnown, KnowsSkipped, number_of_cell, does, skipped_of, numbers_of_race, drew_chunk, drew_aged, drew_old, looked, tried}
 use Rattle.tg_race.proofs.Parts.{open_aged, open_old, claims_of, rule_of, parts_of}
 use Rattle.tg_race.proofs.Steps.{claim_keeps, claim_aged_keeps, claim_old_keeps, win_keeps, look_keeps, split_keeps, join_keeps, starts, alone_keeps, few_chunks, few_aged, few_old}
 
 -- the view of a seat, in the race that stands for the table
-in_race : (k : Counts) (s : State ℕ View) (h : Holds k s) (id : ℕ) (u : View) → get_elem? s.views id ≡ some u → get_elem? h.race.records id ≡ some u.done
+in_race : (k : Counts) (s : State ℕ View) (h : IsBoardOfRace k s) (id : ℕ) (u : View) → get_elem? s.views id ≡ some u → get_elem? h.race.records id ≡ some u.done
 in_race k s h id u at = subst (λ (l : List Record). get_elem? l id ≡ some u.done) h.records (at_map (λ (x : View). x.done) s.views id u at)
 
 -- the seat with another record
-with_record : (k : Counts) (s : State ℕ View) (h : Holds k s) (id : ℕ) (u : View) (w : Record) → map (λ (x : View). x.done) (set s.views id (does u w)) ≡ set h.race.records id w
+with_record : (k : Counts) (s : State ℕ View) (h : IsBoardOfRace k s) (id : ℕ) (u : View) (w : Record) → map (λ (x : View). x.done) (set s.views id (does u w)) ≡ set h.race.records id w
 with_record k s h id u w = map-set (λ (x : View). x.done) s.views id (does u w) ∙ ap (λ (l : List Record). set l id w) h.records
 
 at_all : {A : Type 0} (P : A → Type 0) (l : List A) (i : ℕ) (a : A) → All P l → get_elem? l i ≡ some a → P a
@@ -40,14 +40,14 @@ at_all P (x ∷ l) zero a all at = subst P (some-injective x a at) (All-head P x
 at_all P (x ∷ l) (suc i) a all at = at_all P l i a (All-tail P x l all) at
 
 -- a seat that isn't spent knows how many cells have no word
-is_skipped : (k : Counts) (s : State ℕ View) (h : Holds k s) (id : ℕ) (u : View) → 0 < u.done.share → get_elem? s.views id ≡ some u → u.skipped ≡ skipped_of k
+is_skipped : (k : Counts) (s : State ℕ View) (h : IsBoardOfRace k s) (id : ℕ) (u : View) → 0 < u.done.share → get_elem? s.views id ≡ some u → u.skipped ≡ skipped_of k
 is_skipped k s h id u alive at = at_all (KnowsSkipped k) s.views id u h.skipped at alive
 
-still_skipped : (k : Counts) (s : State ℕ View) (h : Holds k s) (id : ℕ) (u : View) (w : Record) → u.skipped ≡ skipped_of k → All (KnowsSkipped k) (set s.views id (does u w))
+still_skipped : (k : Counts) (s : State ℕ View) (h : IsBoardOfRace k s) (id : ℕ) (u : View) (w : Record) → u.skipped ≡ skipped_of k → All (KnowsSkipped k) (set s.views id (does u w))
 still_skipped k s h id u w is = All-set (KnowsSkipped k) s.views id (does u w) (λ _. is) h.skipped
 
 pub draws_chunk : (k : Counts) (slots id : ℕ) (m : Me ℕ View) → past k m.0.done ≡ 0 → 0 < m.0.done.share
-    → Allows (Holds k) slots id m 0 (λ n. (n + 1) % 2 ^ 64) (drew_chunk (step slots 0 1 0 none) m)
+    → Allows (IsBoardOfRace k) slots id m 0 (λ n. (n + 1) % 2 ^ 64) (drew_chunk (step slots 0 1 0 none) m)
 draws_chunk k slots id m none_past alive s h len at fits =
     let r = h.race in
     let n : ℕ = slice_index s.words 0 in
@@ -73,11 +73,11 @@ draws_chunk k slots id m none_past alive s h len at fits =
     )
 
 pub draws_aged : (k : Counts) (slots id : ℕ) (m : Me ℕ View) → open_aged m.0.done ≡ 0 → 0 < m.0.done.share
-    → Allows (Holds k) slots id m 1 (λ n. (n + 1) % 2 ^ 64) (drew_aged (step slots 1 1 0 none) m)
+    → Allows (IsBoardOfRace k) slots id m 1 (λ n. (n + 1) % 2 ^ 64) (drew_aged (step slots 1 1 0 none) m)
 draws_aged k slots id m none_open alive s h len at fits =
     let r = h.race in
     let n : ℕ = slice_index s.words 1 in
-    let w = does m.0 (with_block true m.0.done n) in
+    let w = does m.0 (with_claimed_block true m.0.done n) in
     let is : n ≡ r.next_aged = ap (λ (ws : List ℕ). get_or ws 1 0) h.words in
     let few = few_aged k r (parts_of k r h.rule) in
     let small = h.small in
@@ -88,9 +88,9 @@ draws_aged k slots id m none_open alive s h len at fits =
       record {
         moved = h.moved;
         whole = h.whole;
-        race = record r { next_aged = r.next_aged + 1; records = set r.records id (with_block true m.0.done r.next_aged) };
+        race = record r { next_aged = r.next_aged + 1; records = set r.records id (with_claimed_block true m.0.done r.next_aged) };
         words = ap (λ (x : ℕ). set s.words 1 x) next ∙ ap (λ (ws : List ℕ). set ws 1 (r.next_aged + 1)) h.words;
-        records = ap (λ (x : ℕ). map (λ (u : View). u.done) (set s.views id (does m.0 (with_block true m.0.done x)))) is ∙ with_record k s h id m.0 (with_block true m.0.done r.next_aged);
+        records = ap (λ (x : ℕ). map (λ (u : View). u.done) (set s.views id (does m.0 (with_claimed_block true m.0.done x)))) is ∙ with_record k s h id m.0 (with_claimed_block true m.0.done r.next_aged);
         skipped = still_skipped k s h id m.0 _ (is_skipped k s h id m.0 alive at);
         rule = rule_of _ _ (claim_aged_keeps k r id m.0.done (parts_of k h.race h.rule) (in_race k s h id m.0 at) none_open alive);
         small = small;
@@ -99,11 +99,11 @@ draws_aged k slots id m none_open alive s h len at fits =
     )
 
 pub draws_old : (k : Counts) (slots id : ℕ) (m : Me ℕ View) → open_old m.0.done ≡ 0 → 0 < m.0.done.share
-    → Allows (Holds k) slots id m 2 (λ n. (n + 1) % 2 ^ 64) (drew_old (step slots 2 1 0 none) m)
+    → Allows (IsBoardOfRace k) slots id m 2 (λ n. (n + 1) % 2 ^ 64) (drew_old (step slots 2 1 0 none) m)
 draws_old k slots id m none_open alive s h len at fits =
     let r = h.race in
     let n : ℕ = slice_index s.words 2 in
-    let w = does m.0 (with_block false m.0.done n) in
+    let w = does m.0 (with_claimed_block false m.0.done n) in
     let is : n ≡ r.next_old = ap (λ (ws : List ℕ). get_or ws 2 0) h.words in
     let few = few_old k r (parts_of k r h.rule) in
     let small = h.small in
@@ -114,9 +114,9 @@ draws_old k slots id m none_open alive s h len at fits =
       record {
         moved = h.moved;
         whole = h.whole;
-        race = record r { next_old = r.next_old + 1; records = set r.records id (with_block false m.0.done r.next_old) };
+        race = record r { next_old = r.next_old + 1; records = set r.records id (with_claimed_block false m.0.done r.next_old) };
         words = ap (λ (x : ℕ). set s.words 2 x) next ∙ ap (λ (ws : List ℕ). set ws 2 (r.next_old + 1)) h.words;
-        records = ap (λ (x : ℕ). map (λ (u : View). u.done) (set s.views id (does m.0 (with_block false m.0.done x)))) is ∙ with_record k s h id m.0 (with_block false m.0.done r.next_old);
+        records = ap (λ (x : ℕ). map (λ (u : View). u.done) (set s.views id (does m.0 (with_claimed_block false m.0.done x)))) is ∙ with_record k s h id m.0 (with_claimed_block false m.0.done r.next_old);
         skipped = still_skipped k s h id m.0 _ (is_skipped k s h id m.0 alive at);
         rule = rule_of _ _ (claim_old_keeps k r id m.0.done (parts_of k h.race h.rule) (in_race k s h id m.0 at) none_open alive);
         small = small;
@@ -124,7 +124,7 @@ draws_old k slots id m none_open alive s h len at fits =
       (refl, subst (λ (x : ℕ). All (λ b. b < x) m.0.done.old_blocks) (sym is) (drawn_under k.kept r.next_old (λ u. u.old_blocks) r.records id m.0.done h.rule.blocks_once.1 (in_race k s h id m.0 at))),
     )
 
-module _ (k : Counts) (slots id : ℕ) (m : Me ℕ View) (alive : 0 < m.0.done.share) (s : State ℕ View) (h : Holds k s) (at : get_elem? s.views id ≡ some m.0) where
+module _ (k : Counts) (slots id : ℕ) (m : Me ℕ View) (alive : 0 < m.0.done.share) (s : State ℕ View) (h : IsBoardOfRace k s) (at : get_elem? s.views id ≡ some m.0) where
   -- the cell whose word stands so far behind the counters
   abbrev cell : ℕ → ℕ
   cell d = skipped_of k + d
@@ -148,7 +148,7 @@ module _ (k : Counts) (slots id : ℕ) (m : Me ℕ View) (alive : 0 < m.0.done.s
   word_is : (d : ℕ) → slice_index s.words (d + 3) ≡ get_or h.race.words (cell d) 0
   word_is d =
       ap (λ (ws : List ℕ). get_or ws (d + 3) 0) h.words
-      ∙ (ap (λ (i : ℕ). get_or (words_of h.race h.moved) i 0) (three d)
+      ∙ (ap (λ (i : ℕ). get_or (numbers_of_race h.race h.moved) i 0) (three d)
       ∙ (sym (get_or-append-add (replicate (skipped_of k) 0) h.moved d 0)
       ∙ (ap (λ (n : ℕ). get_or (replicate (skipped_of k) 0 ++ h.moved) (n + d) 0) zeros
       ∙ sym (ap (λ (ws : List ℕ). get_or ws (cell d) 0) h.whole))))
@@ -166,7 +166,7 @@ module _ (k : Counts) (slots id : ℕ) (m : Me ℕ View) (alive : 0 < m.0.done.s
       subst (λ (w : ℕ). w ≢ 0 → IsForward w) (sym (word_is d)) (h.rule.wins_once.forward (cell d) 0 near) some_
 
   -- nothing changes but the record, which has seen a pair
-  sees : (d : ℕ) → cell d < k.cells → slice_index s.words (d + 3) ≢ 0 → Holds k (after (d + 3) (slice_index s.words (d + 3)) (with_seen m.0.done (cell d, place_of (slice_index s.words (d + 3)))))
+  sees : (d : ℕ) → cell d < k.cells → slice_index s.words (d + 3) ≢ 0 → IsBoardOfRace k (after (d + 3) (slice_index s.words (d + 3)) (with_seen m.0.done (cell d, place_of (slice_index s.words (d + 3)))))
   sees d inside some_ = let x : ℕ = slice_index s.words (d + 3) in let w = with_seen m.0.done (cell d, place_of x) in record {
     race = record h.race { records = set h.race.records id w };
     moved = h.moved;
@@ -178,7 +178,7 @@ module _ (k : Counts) (slots id : ℕ) (m : Me ℕ View) (alive : 0 < m.0.done.s
     small = h.small;
   }
 
-  stays : (d : ℕ) → Holds k (after (d + 3) (slice_index s.words (d + 3)) m.0.done)
+  stays : (d : ℕ) → IsBoardOfRace k (after (d + 3) (slice_index s.words (d + 3)) m.0.done)
   stays d = record {
     race = h.race;
     moved = h.moved;
@@ -191,12 +191,12 @@ module _ (k : Counts) (slots id : ℕ) (m : Me ℕ View) (alive : 0 < m.0.done.s
   }
 
   wins : (d : ℕ) (p : Place) → cell d < k.cells → slice_index s.words (d + 3) ≡ 0 → IsPlace p → 0 < claims_of p m.0.done → weigh (place_at p) m.0.done.won ≡ 0
-      → Holds k (after (d + 3) (word_of p) (with_won m.0.done (cell d, p)))
+      → IsBoardOfRace k (after (d + 3) (word_of p) (with_won m.0.done (cell d, p)))
   wins d p inside free in' own fresh = let w = with_won m.0.done (cell d, p) in record {
     race = record h.race { words = set h.race.words (cell d) (word_of p); records = set h.race.records id w };
     moved = set h.moved d (word_of p);
     whole = one_word d (word_of p);
-    words = ap (λ (ws : List ℕ). set ws (d + 3) (word_of p)) h.words ∙ ap (λ (i : ℕ). set (words_of h.race h.moved) i (word_of p)) (three d);
+    words = ap (λ (ws : List ℕ). set ws (d + 3) (word_of p)) h.words ∙ ap (λ (i : ℕ). set (numbers_of_race h.race h.moved) i (word_of p)) (three d);
     records = with_record k s h id m.0 w;
     skipped = still_skipped k s h id m.0 w knows;
     rule = rule_of _ _ (win_keeps k h.race id m.0.done (cell d) p (parts_of k h.race h.rule) (in_race k s h id m.0 at) alive inside (sym (word_is d) ∙ free) in' own fresh);
@@ -205,13 +205,13 @@ module _ (k : Counts) (slots id : ℕ) (m : Me ℕ View) (alive : 0 < m.0.done.s
 
   -- the seat goes on where the word becomes x
   abbrev GoesOn : ℕ → ℕ → (Me ℕ View → Type 0) → Type 0
-  GoesOn i x tells = (w : View) × (a : Act ℕ) × Valid s.homes m.1 a × Holds k (stepped s i x id m.1 w a) × tells (w, carried_after m.1 a)
+  GoesOn i x tells = (w : View) × (a : Act ℕ) × Valid s.homes m.1 a × IsBoardOfRace k (stepped s i x id m.1 w a) × tells (w, carried_after m.1 a)
 
-  back : (d : ℕ) → cell_at m.0 (d + 3) ≡ cell d
+  back : (d : ℕ) → number_of_cell m.0 (d + 3) ≡ cell d
   back d = omega (arith, knows)
 
   -- the word of a cell is that of the place with which the record has met it, and isn't 0 if it has
-  known : (d : ℕ) → IsKnown m.0.done (cell_at m.0 (d + 3)) (slice_index s.words (d + 3))
+  known : (d : ℕ) → IsKnown m.0.done (number_of_cell m.0 (d + 3)) (slice_index s.words (d + 3))
   known d = subst (λ (i : ℕ). IsKnown m.0.done i (slice_index s.words (d + 3))) (sym (back d)) (here, λ none. unmet k h.race h.rule id m.0.done (in_race k s h id m.0 at) (cell d) (sym (word_is d) ∙ none))
     where
       here : (p : Place) → HasMet m.0.done (cell d) p → slice_index s.words (d + 3) ≡ word_of p
@@ -220,7 +220,7 @@ module _ (k : Counts) (slots id : ℕ) (m : Me ℕ View) (alive : 0 < m.0.done.s
 
   looks_free : (d : ℕ) → slice_index s.words (d + 3) ≡ 0 → GoesOn (d + 3) (slice_index s.words (d + 3)) (looked (step slots (d + 3) 0 0 none) m (slice_index s.words (d + 3)))
   looks_free d e = let n : ℕ = slice_index s.words (d + 3) in
-      (does m.0 m.0.done, keeps, tt, stays d, ((λ ne. absurd (ne e)), ap (λ (v : Record). (does m.0 v, m.1)) (sym (cond-true (eqb n 0) m.0.done (with_seen m.0.done (cell_at m.0 (d + 3), place_of n)) (eq-eqb n 0 e))), known d))
+      (does m.0 m.0.done, keeps, tt, stays d, ((λ ne. absurd (ne e)), ap (λ (v : Record). (does m.0 v, m.1)) (sym (cond-true (eqb n 0) m.0.done (with_seen m.0.done (number_of_cell m.0 (d + 3), place_of n)) (eq-eqb n 0 e))), known d))
 
   looks_taken : (d : ℕ) → cell d < k.cells → slice_index s.words (d + 3) ≢ 0 → GoesOn (d + 3) (slice_index s.words (d + 3)) (looked (step slots (d + 3) 0 0 none) m (slice_index s.words (d + 3)))
   looks_taken d inside ne = let n : ℕ = slice_index s.words (d + 3) in (
@@ -230,7 +230,7 @@ module _ (k : Counts) (slots id : ℕ) (m : Me ℕ View) (alive : 0 < m.0.done.s
     sees d inside ne,
     (
       forward_at d inside,
-      ap (λ (v : Record). (does m.0 v, m.1)) (sym (cond-false (eqb n 0) m.0.done (with_seen m.0.done (cell_at m.0 (d + 3), place_of n)) (ne_eqb n 0 ne) ∙ ap (λ (i : ℕ). with_seen m.0.done (i, place_of n)) (back d))),
+      ap (λ (v : Record). (does m.0 v, m.1)) (sym (cond-false (eqb n 0) m.0.done (with_seen m.0.done (number_of_cell m.0 (d + 3), place_of n)) (ne_eqb n 0 ne) ∙ ap (λ (i : ℕ). with_seen m.0.done (i, place_of n)) (back d))),
       known d,
     ),
   )
@@ -244,7 +244,7 @@ module _ (k : Counts) (slots id : ℕ) (m : Me ℕ View) (alive : 0 < m.0.done.s
     wins d p inside e in' own fresh,
     (
       (λ ne. absurd (ne e)),
-      ap (λ (v : Record). (does m.0 v, m.1)) (sym (cond-true (eqb n 0) (with_won m.0.done (cell_at m.0 (d + 3), place_of (word_of p))) (with_seen m.0.done (cell_at m.0 (d + 3), place_of n)) (eq-eqb n 0 e)
+      ap (λ (v : Record). (does m.0 v, m.1)) (sym (cond-true (eqb n 0) (with_won m.0.done (number_of_cell m.0 (d + 3), place_of (word_of p))) (with_seen m.0.done (number_of_cell m.0 (d + 3), place_of n)) (eq-eqb n 0 e)
           ∙ (ap (λ (i : ℕ). with_won m.0.done (i, place_of (word_of p))) (back d) ∙ ap (λ (q : Place). with_won m.0.done (cell d, q)) (place_of-word_of p in')))),
     ),
   )
@@ -257,7 +257,7 @@ module _ (k : Counts) (slots id : ℕ) (m : Me ℕ View) (alive : 0 < m.0.done.s
     sees d inside ne,
     (
       forward_at d inside,
-      ap (λ (v : Record). (does m.0 v, m.1)) (sym (cond-false (eqb n 0) (with_won m.0.done (cell_at m.0 (d + 3), place_of (word_of p))) (with_seen m.0.done (cell_at m.0 (d + 3), place_of n)) (ne_eqb n 0 ne) ∙ ap (λ (i : ℕ). with_seen m.0.done (i, place_of n)) (back d))),
+      ap (λ (v : Record). (does m.0 v, m.1)) (sym (cond-false (eqb n 0) (with_won m.0.done (number_of_cell m.0 (d + 3), place_of (word_of p))) (with_seen m.0.done (number_of_cell m.0 (d + 3), place_of n)) (ne_eqb n 0 ne) ∙ ap (λ (i : ℕ). with_seen m.0.done (i, place_of n)) (back d))),
     ),
   )
 
@@ -267,16 +267,16 @@ word_of_cell c kept skipped word behind is same = omega arith
 
 -- a step at the word so far behind the counters, which is that of the cell so far behind those that are skipped
 pub looks : (k : Counts) (slots id d : ℕ) (m : Me ℕ View) → 0 < m.0.done.share → skipped_of k + d < k.cells
-    → Allows (Holds k) slots id m (d + 3) (λ n. n) (looked (step slots (d + 3) 0 0 none) m)
+    → Allows (IsBoardOfRace k) slots id m (d + 3) (λ n. n) (looked (step slots (d + 3) 0 0 none) m)
 looks k slots id d m alive inside s h len at fits = ⊎_elim (looks_free k slots id m alive s h at d) (looks_taken k slots id m alive s h at d inside) (cases_eq (slice_index s.words (d + 3)) 0)
 
 pub tries : (k : Counts) (slots id d : ℕ) (p : Place) (m : Me ℕ View) → 0 < m.0.done.share → skipped_of k + d < k.cells → IsPlace p → 0 < claims_of p m.0.done → weigh (place_at p) m.0.done.won ≡ 0
-    → Allows (Holds k) slots id m (d + 3) (λ n. either (n == 0) (word_of p) n) (tried (step slots (d + 3) 0 (word_of p) none) m)
+    → Allows (IsBoardOfRace k) slots id m (d + 3) (λ n. either (n == 0) (word_of p) n) (tried (step slots (d + 3) 0 (word_of p) none) m)
 tries k slots id d p m alive inside in' own fresh s h len at fits =
     exchanged (slice_index s.words (d + 3)) 0 (word_of p) (λ x. GoesOn k slots id m alive s h at (d + 3) x (tried (step slots (d + 3) 0 (word_of p) none) m (slice_index s.words (d + 3))))
     (tries_free k slots id m alive s h at d p inside in' own fresh) (tries_taken k slots id m alive s h at d p inside)
 
-pub cuts : (k : Counts) (id : ℕ) (u : View) → 1 < u.done.share → u.done ≡ empty u.done.share → Splits (Holds k) id u (does u (less_one u.done)) (does u (empty 1))
+pub cuts : (k : Counts) (id : ℕ) (u : View) → 1 < u.done.share → u.done ≡ empty u.done.share → Splits (IsBoardOfRace k) id u (does u (less_one u.done)) (does u (empty 1))
 cuts k id u many is s h at =
     let v : Record = u.done in
     let n : ℕ = v.share - 1 in
@@ -295,7 +295,7 @@ cuts k id u many is s h at =
       small = h.small;
     }
 
-pub glues : (k : Counts) (id : ℕ) (u : View) (other : ℕ) (w : View) → 0 < u.done.share → Joins (Holds k) id u other w (does u (both u.done w.done)) (record { skipped = 0; done = empty 0 })
+pub glues : (k : Counts) (id : ℕ) (u : View) (other : ℕ) (w : View) → 0 < u.done.share → Joins (IsBoardOfRace k) id u other w (does u (both u.done w.done)) (record { skipped = 0; done = empty 0 })
 glues k id u other w alive s h at apart at' =
     let one : List View = set s.views id (does u (both u.done w.done)) in
     let spent : View = record { skipped = 0; done = empty 0 } in
@@ -310,7 +310,7 @@ glues k id u other w alive s h at apart at' =
       small = h.small;
     }
 
-pub opens : (k : Counts) (n : ℕ) → AreSmall k → n + skipped_of k ≡ k.cells → Holds k (opening (set (replicate (n + 3) 0) 2 k.kept) [] (record { skipped = skipped_of k; done = empty k.helpers }))
+pub opens : (k : Counts) (n : ℕ) → AreSmall k → n + skipped_of k ≡ k.cells → IsBoardOfRace k (opening (set (replicate (n + 3) 0) 2 k.kept) [] (record { skipped = skipped_of k; done = empty k.helpers }))
 opens k n small all = record {
   race = record { next_chunk = 0; next_aged = 0; next_old = k.kept; words = replicate k.cells 0; records = empty k.helpers ∷ [] };
   moved = replicate n 0;
@@ -327,7 +327,7 @@ found_at [] i a e = absurd (some-ne-none a (sym e))
 found_at (x ∷ xs) zero a e = some-injective x a e
 found_at (x ∷ xs) (suc i) a e = found_at xs i a e
 
-pub closes : (k : Counts) (id : ℕ) (u : View) (ws xs : List ℕ) → Final (Seen (Holds k) id u) ws xs → u.done.share ≡ k.helpers → IsClosed k (replicate (skipped_of k) 0 ++ drop 3 ws) u.done
+pub closes : (k : Counts) (id : ℕ) (u : View) (ws xs : List ℕ) → Final (Seen (IsBoardOfRace k) id u) ws xs → u.done.share ≡ k.helpers → IsClosedTable k (replicate (skipped_of k) 0 ++ drop 3 ws) u.done
 closes k id u ws xs final all =
     let s = final.0 in
     let h = final.1.0 in

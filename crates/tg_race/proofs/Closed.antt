@@ -8,7 +8,7 @@ use Rattle.tg_race.specs.declared.record.Record.{Record}
 use Rattle.tg_race.specs.Weights.{weigh, one_at}
 use Rattle.tg_race.specs.Words.{has_pair, place_at, same_pair, same_place, weigh_words}
 use Rattle.tg_race.specs.Race.{IsDrawn, AreConsecutive}
-use Rattle.tg_race.specs.Board.{IsClosed}
+use Rattle.tg_race.specs.Board.{IsClosedTable}
 use Rattle.tg_race.proofs.Drawn.{drawn_once, drawn_below, drawn_above, weighs_at, number_found}
 use Rattle.tg_race.proofs.Standing.{same_place_self}
 use Rattle.tg_race.proofs.Sums.{any_weighs, count_below, weigh_two, weigh-add, weigh-le, weigh_ones}
@@ -54,7 +54,7 @@ one_of_two false true false apart = omega arith
 one_of_two false false true apart = omega arith
 one_of_two false false false apart = omega arith
 
-module _ (k : Counts) (words : List ℕ) (done : Record) (closed : IsClosed k words done) where
+module _ (k : Counts) (words : List ℕ) (done : Record) (closed : IsClosedTable k words done) where
   pub cells_differ : AllPairs (λ q r. q.0 ≢ r.0) done.won
   cells_differ = differ (λ (q : ℕ × Place). q.0) eqb (λ c. eq-eqb c c refl) done.won (λ c.
       let all = closed.rule.wins_once.won (λ (q : ℕ × Place). if q.0 == c then 1 else 0) in omega (arith, cell_once c 0 words))

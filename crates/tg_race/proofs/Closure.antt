@@ -12,9 +12,9 @@ use Rattle.tg_race.specs.declared.record.Counts.{Counts}
 use Rattle.tg_race.specs.declared.record.Record.{Record}
 use Rattle.tg_race.specs.Weights.{weigh, one_at}
 use Rattle.tg_race.specs.Words.{weigh_words, IsPair}
-use Rattle.tg_race.specs.Race.{Race, has, chunks_of}
-use Rattle.tg_race.specs.Board.{IsClosed}
-use Rattle.tg_race.specs.Course.{Net, Course, counts_of, chunk_has, pair_has, is_target, word_at, has_met, IsEarned, AreEarned, KeepsRule, IsComplete, IsReached, root, next}
+use Rattle.tg_race.specs.Race.{Race, has_number, chunks_of}
+use Rattle.tg_race.specs.Board.{IsClosedTable}
+use Rattle.tg_race.specs.Course.{Net, Course, counts_of, chunk_has, pair_has, is_target, forwarding_word, has_met, IsEarned, HasEarnedWins, KeepsRule, IsCompleteRecord, IsReachedCell, root, next}
 use Rattle.tg_race.proofs.Sums.{any_weighs, weighs_any, one_past, one_here}
 use Rattle.tg_race.proofs.Parts.{Parts, is_past, parts_of}
 use Rattle.tg_race.proofs.Steps.{alone_keeps}
@@ -94,7 +94,7 @@ taken_weighs n i zero (w ∷ ws) is some_ =
 taken_weighs n i (suc c) (w ∷ ws) is some_ = omega (arith, taken_weighs n (suc i) c ws (omega arith) some_)
 
 abbrev AllReached : Net → List (ℕ × Place) → Type 0
-AllReached net l = (x : ℕ) → list_any (λ q. q.0 == x) l ≡ true → IsReached net x
+AllReached net l = (x : ℕ) → list_any (λ q. q.0 == x) l ≡ true → IsReachedCell net x
 
 -- a pair that passes a test, and its cell among those of the list
 any_pair : (f : ℕ × Place → Bool) (l : List (ℕ × Place)) → list_any f l ≡ true → (q : ℕ × Place) × (f q ≡ true) × (list_any (λ p. p.0 == q.0) l ≡ true)
@@ -104,19 +104,19 @@ any_pair f (x ∷ l) h =
     (λ e. let r = any_pair f l e in (r.0, r.1, or_right (x.0 == r.0.0) (list_any (λ p. p.0 == r.0.0) l) r.2))
     (or_cases (f x) (list_any f l) h)
 
-target_reached : (net : Net) (cs : List ℕ) (won : List (ℕ × Place)) (cell : ℕ) → AllReached net won → is_target net cs won cell ≡ true → IsReached net cell
+target_reached : (net : Net) (cs : List ℕ) (won : List (ℕ × Place)) (cell : ℕ) → AllReached net won → is_target net cs won cell ≡ true → IsReachedCell net cell
 target_reached net cs won cell all h =
     ⊎_elim (λ a. let c = any_some (chunk_has net cell) cs a in
-    root cell (within_drop (8 * c.0) net.roots (has cell) (within_take 8 (drop (8 * c.0) net.roots) (has cell) c.1)))
+    root cell (within_drop (8 * c.0) net.roots (has_number cell) (within_take 8 (drop (8 * c.0) net.roots) (has_number cell) c.1)))
     (λ b. let q = any_pair (pair_has net cell) won b in next q.0.0 cell (all q.0.0 q.2) q.1)
     (or_cases (list_any (chunk_has net cell) cs) (list_any (pair_has net cell) won) h)
 
 earned_reached : (net : Net) (cs : List ℕ) (before qs : List (ℕ × Place)) → AllReached net before → IsEarned net cs before qs → AllReached net qs
 earned_reached net cs before [] all h x e = absurd (false≢true e)
 earned_reached net cs before (q ∷ qs) all h x e =
-    let new : IsReached net q.0 = target_reached net cs before q.0 all h.0 in
-    let all' : AllReached net (q ∷ before) = λ y f. ⊎_elim (λ a. subst (IsReached net) (eqb-true q.0 y a) new) (λ b. all y b) (or_cases (q.0 == y) (list_any (λ p. p.0 == y) before) f) in
-    ⊎_elim (λ a. subst (IsReached net) (eqb-true q.0 x a) new) (λ b. earned_reached net cs (q ∷ before) qs all' h.1 x b) (or_cases (q.0 == x) (list_any (λ p. p.0 == x) qs) e)
+    let new : IsReachedCell net q.0 = target_reached net cs before q.0 all h.0 in
+    let all' : AllReached net (q ∷ before) = λ y f. ⊎_elim (λ a. subst (IsReachedCell net) (eqb-true q.0 y a) new) (λ b. all y b) (or_cases (q.0 == y) (list_any (λ p. p.0 == y) before) f) in
+    ⊎_elim (λ a. subst (IsReachedCell net) (eqb-true q.0 x a) new) (λ b. earned_reached net cs (q ∷ before) qs all' h.1 x b) (or_cases (q.0 == x) (list_any (λ p. p.0 == x) qs) e)
 
 -- a chunk past the last is among the list's
 past_some : (k : Counts) (l : List ℕ) → 0 < weigh (is_past k) l → (x : ℕ) × (chunks_of k ≤ x) × (list_any (λ y. y == x) l ≡ true)
@@ -132,25 +132,25 @@ past_some k (x ∷ l) h = go (nat_lt x (chunks_of k)) refl h (past_some k l)
 any_is : (f : ℕ → Bool) (x : ℕ) → f x ≡ true → (l : List ℕ) → list_any (λ y. y == x) l ≡ true → list_any f l ≡ true
 any_is f x h = any_where (λ (y : ℕ). y == x) f (λ y e. subst (λ (z : ℕ). f z ≡ true) (sym (eqb-true y x e)) h)
 
-module _ (net : Net) (r : Race) (v : Record) (rule : Parts (counts_of net) (record r { records = v ∷ [] })) (earned : IsEarned net v.chunks [] v.won) (complete : IsComplete net v) where
-  won_taken : (cell : ℕ) → list_any (λ q. q.0 == cell) v.won ≡ true → word_at r cell ≢ 0
+module _ (net : Net) (r : Race) (v : Record) (rule : Parts (counts_of net) (record r { records = v ∷ [] })) (earned : IsEarned net v.chunks [] v.won) (complete : IsCompleteRecord net v) where
+  won_taken : (cell : ℕ) → list_any (λ q. q.0 == cell) v.won ≡ true → forwarding_word r cell ≢ 0
   won_taken cell h free =
       let a = any_weighs (λ (q : ℕ × Place). q.0 == cell) v.won h in
       let b = rule.won (cell_at cell) in
       omega (arith, free_weighs cell 0 cell r.words (omega arith) free)
 
-  taken_won : (cell : ℕ) → word_at r cell ≢ 0 → list_any (λ q. q.0 == cell) v.won ≡ true
+  taken_won : (cell : ℕ) → forwarding_word r cell ≢ 0 → list_any (λ q. q.0 == cell) v.won ≡ true
   taken_won cell some_ =
       let b = rule.won (cell_at cell) in
       let t = taken_weighs cell 0 cell r.words (omega arith) some_ in
       weighs_any (λ (q : ℕ × Place). q.0 == cell) v.won (omega arith)
 
-  seen_taken : (cell : ℕ) → list_any (λ q. q.0 == cell) v.seen ≡ true → word_at r cell ≢ 0
+  seen_taken : (cell : ℕ) → list_any (λ q. q.0 == cell) v.seen ≡ true → forwarding_word r cell ≢ 0
   seen_taken cell h free =
       let q = any_all (IsPair r.words) (λ (q : ℕ × Place). q.0 == cell) v.seen (rule.each 0 v refl).seen h in
-      word_of-some q.0.1 (sym q.2 ∙ (ap (λ (i : ℕ). word_at r i) (eqb-true q.0.0 cell q.1) ∙ free))
+      word_of-some q.0.1 (sym q.2 ∙ (ap (λ (i : ℕ). forwarding_word r i) (eqb-true q.0.0 cell q.1) ∙ free))
 
-  met_taken : (cell : ℕ) → has_met v cell ≡ true → word_at r cell ≢ 0
+  met_taken : (cell : ℕ) → has_met v cell ≡ true → forwarding_word r cell ≢ 0
   met_taken cell h = ⊎_elim (won_taken cell) (seen_taken cell) (or_cases (list_any (λ q. q.0 == cell) v.won) (list_any (λ q. q.0 == cell) v.seen) h)
 
   -- the record has each chunk of roots
@@ -166,29 +166,29 @@ module _ (net : Net) (r : Race) (v : Record) (rule : Parts (counts_of net) (reco
       let here = one_here c r.next_chunk (omega arith) in
       weighs_any (λ (y : ℕ). y == c) v.chunks (omega arith)
 
-  reached_taken : (cell : ℕ) → IsReached net cell → word_at r cell ≢ 0
+  reached_taken : (cell : ℕ) → IsReachedCell net cell → forwarding_word r cell ≢ 0
   reached_taken cell (root _ h) =
-      let p = in_chunk (has cell) (length net.roots) net.roots (omega arith) h in
+      let p = in_chunk (has_number cell) (length net.roots) net.roots (omega arith) h in
       let mine = any_is (chunk_has net cell) p.0 p.2 v.chunks (has_chunk p.0 p.1) in
       met_taken cell (complete.met cell (or_left (list_any (chunk_has net cell) v.chunks) (list_any (pair_has net cell) v.won) mine))
   reached_taken to (next cell _ from h) =
       let won = taken_won cell (reached_taken cell from) in
-      let mine = any_where (λ (q : ℕ × Place). q.0 == cell) (pair_has net to) (λ q e. subst (λ (i : ℕ). has to (slice_index_or net.targets i []) ≡ true) (sym (eqb-true q.0 cell e)) h) v.won won in
+      let mine = any_where (λ (q : ℕ × Place). q.0 == cell) (pair_has net to) (λ q e. subst (λ (i : ℕ). has_number to (slice_index_or net.targets i []) ≡ true) (sym (eqb-true q.0 cell e)) h) v.won won in
       met_taken to (complete.met to (or_right (list_any (chunk_has net to) v.chunks) (list_any (pair_has net to) v.won) mine))
 
-  taken_reached : (cell : ℕ) → word_at r cell ≢ 0 → IsReached net cell
+  taken_reached : (cell : ℕ) → forwarding_word r cell ≢ 0 → IsReachedCell net cell
   taken_reached cell some_ = earned_reached net v.chunks [] v.won (λ x e. absurd (false≢true e)) earned cell (taken_won cell some_)
 
 -- the cells with a place are the closure of the roots
-pub closure : (c : Course) (id : ℕ) (v : Record) → KeepsRule c → get_elem? c.race.records id ≡ some v → v.share ≡ c.net.helpers → IsComplete c.net v
-    → (cell : ℕ) → (word_at c.race cell ≢ 0) ↔ IsReached c.net cell
+pub closure : (c : Course) (id : ℕ) (v : Record) → KeepsRule c → get_elem? c.race.records id ≡ some v → v.share ≡ c.net.helpers → IsCompleteRecord c.net v
+    → (cell : ℕ) → (forwarding_word c.race cell ≢ 0) ↔ IsReachedCell c.net cell
 closure c id v kept at all complete cell =
     let rule = alone_keeps (counts_of c.net) c.race id v (parts_of (counts_of c.net) c.race kept.rule) at all in
     (taken_reached c.net c.race v rule (kept.wins_earned id v at) complete cell, reached_taken c.net c.race v rule (kept.wins_earned id v at) complete cell)
 
 -- a closed table stands for a course with the one record
-pub closed_course : (net : Net) (words : List ℕ) (done : Record) → IsClosed (counts_of net) words done → AreEarned net done → IsComplete net done
-    → (cell : ℕ) → (slice_index words cell ≢ 0) ↔ IsReached net cell
+pub closed_course : (net : Net) (words : List ℕ) (done : Record) → IsClosedTable (counts_of net) words done → HasEarnedWins net done → IsCompleteRecord net done
+    → (cell : ℕ) → (slice_index words cell ≢ 0) ↔ IsReachedCell net cell
 closed_course net words done closed earned complete cell =
     let r : Race = record { next_chunk = closed.next_chunk; next_aged = closed.next_aged; next_old = closed.next_old; words = words; records = done ∷ [] } in
     let rule = parts_of (counts_of net) r closed.rule in

@@ -12,9 +12,9 @@ use Rattle.tg_race.specs.declared.record.Counts.{Counts}
 use Rattle.tg_race.specs.declared.record.Record.{Record}
 use Rattle.tg_race.specs.declared.event.Event.{Event}
 use Rattle.tg_race.specs.declared.event.Event.TheVariants.{Claim, Look, Win, Lose, Block, Part, Meet}
-use Rattle.tg_race.specs.Race.{Race, empty, past, with_chunk, with_seen, with_won, with_block, both, less_one}
+use Rattle.tg_race.specs.Race.{Race, empty, past, with_chunk, with_seen, with_won, with_claimed_block, both, less_one}
 use Rattle.tg_race.specs.Conditions.{can_use}
-use Rattle.tg_race.specs.Course.{Net, Course, counts_of, chunk_has, pair_has, is_target, record_at, word_at, is_within, can_win, can, can_happen, happens, course_after, starting, IsEarned, AreEarned, KeepsRule}
+use Rattle.tg_race.specs.Course.{Net, Course, counts_of, chunk_has, pair_has, is_target, record_at, forwarding_word, is_within, can_win, can, can_happen, happens, course_after, starting, IsEarned, HasEarnedWins, KeepsRule}
 use Rattle.tg_race.proofs.Parts.{Parts, rule_of, parts_of}
 use Rattle.tg_race.proofs.Needs.{none_past, none_open_aged, none_open_old, usable, parted}
 use Rattle.tg_race.proofs.Steps.{claim_keeps, claim_aged_keeps, claim_old_keeps, win_keeps, look_keeps, split_keeps, join_keeps, starts}
@@ -78,14 +78,14 @@ at_live (v ∷ l) zero h = refl
 at_live (v ∷ l) (suc i) h = at_live l i h
 
 -- what holds of each record's won list, where one record is put in place of another, and where one is added
-earned_set : (net : Net) (l : List Record) (id : ℕ) (w : Record) → AreEarned net w → ((j : ℕ) (u : Record) → get_elem? l j ≡ some u → AreEarned net u)
-    → (j : ℕ) (u : Record) → get_elem? (set l id w) j ≡ some u → AreEarned net u
-earned_set net l id w new old j u at = ⊎_elim (λ t. subst (AreEarned net) t.1 new) (λ t. old j u t.1) (at_set l id j w u at)
+earned_set : (net : Net) (l : List Record) (id : ℕ) (w : Record) → HasEarnedWins net w → ((j : ℕ) (u : Record) → get_elem? l j ≡ some u → HasEarnedWins net u)
+    → (j : ℕ) (u : Record) → get_elem? (set l id w) j ≡ some u → HasEarnedWins net u
+earned_set net l id w new old j u at = ⊎_elim (λ t. subst (HasEarnedWins net) t.1 new) (λ t. old j u t.1) (at_set l id j w u at)
 
 -- what the condition of a win says
 record CanWin (net : Net) (r : Race) (v : Record) (cell : ℕ) (place : Place) : Type 0 where
   pub inside : cell < length net.targets
-  pub free : word_at r cell ≡ 0
+  pub free : forwarding_word r cell ≡ 0
   pub earned : is_target net v.chunks v.won cell ≡ true
   pub range : IsPlace place
   pub mine : can_use v place ≡ true
@@ -99,7 +99,7 @@ win_parts : (net : Net) (r : Race) (v : Record) (cell : ℕ) (place : Place) →
 win_parts net r v cell place h =
     let a = and_parts _ _ h in let b = and_parts _ _ a.0 in let d = and_parts _ _ b.0 in let e = and_parts _ _ d.0 in record {
       inside = ltb-true cell (length net.targets) e.0;
-      free = eqb-true (word_at r cell) 0 e.1;
+      free = eqb-true (forwarding_word r cell) 0 e.1;
       earned = d.1;
       range = within_range net place b.1;
       mine = a.1;
@@ -121,7 +121,7 @@ module _ (c : Course) (helper : ℕ) (kept : KeepsRule c) (alive : 0 < (record_a
   here : get_elem? r.records helper ≡ some v
   here = at_live r.records helper alive
 
-  mine : AreEarned c.net v
+  mine : HasEarnedWins c.net v
   mine = kept.wins_earned helper v here
 
   claims : past k v ≡ 0 → KeepsRule (happens c helper Claim)
@@ -131,18 +131,18 @@ module _ (c : Course) (helper : ℕ) (kept : KeepsRule c) (alive : 0 < (record_a
         (earned_more c.net v.chunks (v.chunks ++ r.next_chunk ∷ []) [] [] (within_left v.chunks (r.next_chunk ∷ [])) (within_nil []) v.won mine) kept.wins_earned;
   }
 
-  sees : (cell : ℕ) → cell < k.cells → word_at r cell ≢ 0 → KeepsRule (record c { race = record r { records = set r.records helper (with_seen v (cell, place_of (word_at r cell))) } })
+  sees : (cell : ℕ) → cell < k.cells → forwarding_word r cell ≢ 0 → KeepsRule (record c { race = record r { records = set r.records helper (with_seen v (cell, place_of (forwarding_word r cell))) } })
   sees cell inside some_ =
       let near : cell < length r.words = omega (arith, whole.size) in
       let forward = whole.forward cell 0 near some_ in record {
-        rule = rule_of _ _ (look_keeps k r helper v cell (place_of (word_at r cell)) whole here alive (sym forward.1));
-        wins_earned = earned_set c.net r.records helper (with_seen v (cell, place_of (word_at r cell))) mine kept.wins_earned;
+        rule = rule_of _ _ (look_keeps k r helper v cell (place_of (forwarding_word r cell)) whole here alive (sym forward.1));
+        wins_earned = earned_set c.net r.records helper (with_seen v (cell, place_of (forwarding_word r cell))) mine kept.wins_earned;
       }
 
-  looks : (cell : ℕ) → cell < k.cells → (b : Bool) → (word_at r cell == 0) ≡ b
-      → KeepsRule (record c { race = if b then r else record r { records = set r.records helper (with_seen v (cell, place_of (word_at r cell))) } })
+  looks : (cell : ℕ) → cell < k.cells → (b : Bool) → (forwarding_word r cell == 0) ≡ b
+      → KeepsRule (record c { race = if b then r else record r { records = set r.records helper (with_seen v (cell, place_of (forwarding_word r cell))) } })
   looks cell inside true e = kept
-  looks cell inside false e = sees cell inside (λ z. eqb-false (word_at r cell) 0 e z)
+  looks cell inside false e = sees cell inside (λ z. eqb-false (forwarding_word r cell) 0 e z)
 
   wins : (cell : ℕ) (place : Place) → can_win c.net r v cell place ≡ true → KeepsRule (happens c helper (Win cell place))
   wins cell place h =
@@ -155,11 +155,11 @@ module _ (c : Course) (helper : ℕ) (kept : KeepsRule c) (alive : 0 < (record_a
   blocks : (aged : Bool) → can c.net r helper v (Block aged) ≡ true → KeepsRule (happens c helper (Block aged))
   blocks true h = let a = and_parts _ _ h in record {
     rule = rule_of _ _ (claim_aged_keeps k r helper v whole here (none_open_aged v a.0) alive);
-    wins_earned = earned_set c.net r.records helper (with_block true v r.next_aged) mine kept.wins_earned;
+    wins_earned = earned_set c.net r.records helper (with_claimed_block true v r.next_aged) mine kept.wins_earned;
   }
   blocks false h = let a = and_parts _ _ h in record {
     rule = rule_of _ _ (claim_old_keeps k r helper v whole here (none_open_old v a.0) alive);
-    wins_earned = earned_set c.net r.records helper (with_block false v r.next_old) mine kept.wins_earned;
+    wins_earned = earned_set c.net r.records helper (with_claimed_block false v r.next_old) mine kept.wins_earned;
   }
 
   parts : can c.net r helper v Part ≡ true → KeepsRule (happens c helper Part)
@@ -171,7 +171,7 @@ module _ (c : Course) (helper : ℕ) (kept : KeepsRule c) (alive : 0 < (record_a
       let less : less_one v ≡ empty n = ap less_one more ∙ ap empty (let e : n + 1 - 1 ≡ n = omega arith in e) in
       let next : KeepsRule (record c { race = record r { records = set r.records helper (empty n) ++ empty 1 ∷ [] } }) = record {
         rule = rule_of _ _ (split_keeps k r helper n whole (here ∙ ap (λ (w : Record). some w) more) (omega arith));
-        wins_earned = λ j u at. ⊎_elim (earned_set c.net r.records helper (empty n) tt kept.wins_earned j u) (λ same. subst (AreEarned c.net) same tt) (at_snoc (set r.records helper (empty n)) (empty 1) u j at);
+        wins_earned = λ j u at. ⊎_elim (earned_set c.net r.records helper (empty n) tt kept.wins_earned j u) (λ same. subst (HasEarnedWins c.net) same tt) (at_snoc (set r.records helper (empty n)) (empty 1) u j at);
       } in
       subst (λ (w : Record). KeepsRule (record c { race = record r { records = set r.records helper w ++ empty 1 ∷ [] } })) (sym less) next
 
@@ -193,10 +193,10 @@ module _ (c : Course) (helper : ℕ) (kept : KeepsRule c) (alive : 0 < (record_a
 
   event_keeps : (e : Event) → can c.net r helper v e ≡ true → KeepsRule (happens c helper e)
   event_keeps Claim h = claims (none_past k v h)
-  event_keeps (Look cell) h = looks cell (ltb-true cell (length c.net.targets) h) (word_at r cell == 0) refl
+  event_keeps (Look cell) h = looks cell (ltb-true cell (length c.net.targets) h) (forwarding_word r cell == 0) refl
   event_keeps (Win cell place) h = wins cell place h
-  event_keeps (Lose cell) h = let a = and_parts (nat_lt cell (length c.net.targets)) (not (word_at r cell == 0)) h in
-      sees cell (ltb-true cell (length c.net.targets) a.0) (eqb-false (word_at r cell) 0 (not-true (word_at r cell == 0) a.1))
+  event_keeps (Lose cell) h = let a = and_parts (nat_lt cell (length c.net.targets)) (not (forwarding_word r cell == 0)) h in
+      sees cell (ltb-true cell (length c.net.targets) a.0) (eqb-false (forwarding_word r cell) 0 (not-true (forwarding_word r cell == 0) a.1))
   event_keeps (Block aged) h = blocks aged h
   event_keeps Part h = parts h
   event_keeps (Meet other) h = meets other h
@@ -209,21 +209,21 @@ keeps c helper e kept h =
 pub start_kept : (net : Net) → KeepsRule (starting net)
 start_kept net = record {
   rule = rule_of _ _ (starts (counts_of net));
-  wins_earned = λ j u at. ⊎_elim (λ (none : get_elem? [] j ≡ some u). absurd (some-ne-none u (sym none))) (λ same. subst (AreEarned net) same tt) (at_snoc [] (empty net.helpers) u j at);
+  wins_earned = λ j u at. ⊎_elim (λ (none : get_elem? [] j ≡ some u). absurd (some-ne-none u (sym none))) (λ same. subst (HasEarnedWins net) same tt) (at_snoc [] (empty net.helpers) u j at);
 }
 
 -- no event changes a place that a cell has
-pub places_stay : (c : Course) (helper : ℕ) (e : Event) → can_happen c helper e ≡ true → (cell : ℕ) → word_at c.race cell ≢ 0 → word_at (happens c helper e).race cell ≡ word_at c.race cell
+pub places_stay : (c : Course) (helper : ℕ) (e : Event) → can_happen c helper e ≡ true → (cell : ℕ) → forwarding_word c.race cell ≢ 0 → forwarding_word (happens c helper e).race cell ≡ forwarding_word c.race cell
 places_stay c helper Claim h cell some_ = refl
-places_stay c helper (Look at) h cell some_ = go (word_at c.race at == 0)
+places_stay c helper (Look at) h cell some_ = go (forwarding_word c.race at == 0)
   where
-    go : (b : Bool) → word_at (if b then c.race else record c.race { records = set c.race.records helper (with_seen (record_at c.race helper) (at, place_of (word_at c.race at))) }) cell ≡ word_at c.race cell
+    go : (b : Bool) → forwarding_word (if b then c.race else record c.race { records = set c.race.records helper (with_seen (record_at c.race helper) (at, place_of (forwarding_word c.race at))) }) cell ≡ forwarding_word c.race cell
     go true = refl
     go false = refl
 places_stay c helper (Win at place) h cell some_ =
     let a = and_parts (nat_lt 0 (record_at c.race helper).share) (can_win c.net c.race (record_at c.race helper) at place) h in
     let free = (win_parts c.net c.race (record_at c.race helper) at place a.1).free in
-    let ne : cell ≢ at = (λ e. some_ (ap (λ (i : ℕ). word_at c.race i) e ∙ free)) in
+    let ne : cell ≢ at = (λ e. some_ (ap (λ (i : ℕ). forwarding_word c.race i) e ∙ free)) in
     get_or-set_other c.race.words at cell (word_of place) 0 ne
 places_stay c helper (Lose at) h cell some_ = refl
 places_stay c helper (Block true) h cell some_ = refl
@@ -242,10 +242,10 @@ next_keeps c helper e kept = go (can_happen c helper e) refl
     go true h = keeps c helper e kept h
     go false h = kept
 
-next_stays : (c : Course) (helper : ℕ) (e : Event) (cell : ℕ) → word_at c.race cell ≢ 0 → word_at (next c helper e).race cell ≡ word_at c.race cell
+next_stays : (c : Course) (helper : ℕ) (e : Event) (cell : ℕ) → forwarding_word c.race cell ≢ 0 → forwarding_word (next c helper e).race cell ≡ forwarding_word c.race cell
 next_stays c helper e cell taken = go (can_happen c helper e) refl
   where
-    go : (b : Bool) → can_happen c helper e ≡ b → word_at (if b then happens c helper e else c).race cell ≡ word_at c.race cell
+    go : (b : Bool) → can_happen c helper e ≡ b → forwarding_word (if b then happens c helper e else c).race cell ≡ forwarding_word c.race cell
     go true h = places_stay c helper e h cell taken
     go false h = refl
 
@@ -254,7 +254,7 @@ pub events_keep : (c : Course) (events : List (ℕ × Event)) → KeepsRule c �
 events_keep c [] kept = kept
 events_keep c (e ∷ es) kept = events_keep (next c e.0 e.1) es (next_keeps c e.0 e.1 kept)
 
-pub events_stay : (c : Course) (events : List (ℕ × Event)) (cell : ℕ) → word_at c.race cell ≢ 0 → word_at (course_after c events).race cell ≡ word_at c.race cell
+pub events_stay : (c : Course) (events : List (ℕ × Event)) (cell : ℕ) → forwarding_word c.race cell ≢ 0 → forwarding_word (course_after c events).race cell ≡ forwarding_word c.race cell
 events_stay c [] cell taken = refl
 events_stay c (e ∷ es) cell taken =
     let one = next_stays c e.0 e.1 cell taken in
@@ -278,11 +278,11 @@ keeps_claim c helper v chunks kept h here is =
     subst (λ (w : Record). KeepsRule (record c { race = record c.race { next_chunk = c.race.next_chunk + 1; records = set c.race.records helper w } })) (sym e) (keeps c helper Claim kept h)
 
 pub keeps_seen : (c : Course) (helper cell : ℕ) (v : Record) (seen : List (ℕ × Place)) → KeepsRule c → can_happen c helper (Lose cell) ≡ true → v ≡ get_or c.race.records helper v
-    → seen ≡ v.seen ++ (cell, place_of (word_at c.race cell)) ∷ []
+    → seen ≡ v.seen ++ (cell, place_of (forwarding_word c.race cell)) ∷ []
     → KeepsRule (record c { race = record c.race { records = set c.race.records helper (record v { seen = seen }) } })
 keeps_seen c helper cell v seen kept h here is =
     let same = same_record c.race.records helper v (is_alive c helper (Lose cell) h) here in
-    let e : record v { seen = seen } ≡ with_seen (record_at c.race helper) (cell, place_of (word_at c.race cell)) = ap (λ (l : List (ℕ × Place)). record v { seen = l }) is ∙ ap (λ (w : Record). with_seen w (cell, place_of (word_at c.race cell))) same in
+    let e : record v { seen = seen } ≡ with_seen (record_at c.race helper) (cell, place_of (forwarding_word c.race cell)) = ap (λ (l : List (ℕ × Place)). record v { seen = l }) is ∙ ap (λ (w : Record). with_seen w (cell, place_of (forwarding_word c.race cell))) same in
     subst (λ (w : Record). KeepsRule (record c { race = record c.race { records = set c.race.records helper w } })) (sym e) (keeps c helper (Lose cell) kept h)
 
 pub keeps_win : (c : Course) (helper cell : ℕ) (place : Place) (v : Record) (won : List (ℕ × Place)) → KeepsRule c → can_happen c helper (Win cell place) ≡ true → v ≡ get_or c.race.records helper v
@@ -302,20 +302,20 @@ pub keeps_aged : (c : Course) (helper : ℕ) (v : Record) (aged : List ℕ) → 
     → KeepsRule (record c { race = record c.race { next_aged = c.race.next_aged + 1; records = set c.race.records helper (record v { aged_blocks = aged }) } })
 keeps_aged c helper v aged kept h here is =
     let same = same_record c.race.records helper v (is_alive c helper (Block true) h) here in
-    let e : record v { aged_blocks = aged } ≡ with_block true (record_at c.race helper) c.race.next_aged = ap (λ (l : List ℕ). record v { aged_blocks = l }) is ∙ ap (λ (w : Record). with_block true w c.race.next_aged) same in
+    let e : record v { aged_blocks = aged } ≡ with_claimed_block true (record_at c.race helper) c.race.next_aged = ap (λ (l : List ℕ). record v { aged_blocks = l }) is ∙ ap (λ (w : Record). with_claimed_block true w c.race.next_aged) same in
     subst (λ (w : Record). KeepsRule (record c { race = record c.race { next_aged = c.race.next_aged + 1; records = set c.race.records helper w } })) (sym e) (keeps c helper (Block true) kept h)
 
 pub keeps_old : (c : Course) (helper : ℕ) (v : Record) (old : List ℕ) → KeepsRule c → can_happen c helper (Block false) ≡ true → v ≡ get_or c.race.records helper v → old ≡ v.old_blocks ++ c.race.next_old ∷ []
     → KeepsRule (record c { race = record c.race { next_old = c.race.next_old + 1; records = set c.race.records helper (record v { old_blocks = old }) } })
 keeps_old c helper v old kept h here is =
     let same = same_record c.race.records helper v (is_alive c helper (Block false) h) here in
-    let e : record v { old_blocks = old } ≡ with_block false (record_at c.race helper) c.race.next_old = ap (λ (l : List ℕ). record v { old_blocks = l }) is ∙ ap (λ (w : Record). with_block false w c.race.next_old) same in
+    let e : record v { old_blocks = old } ≡ with_claimed_block false (record_at c.race helper) c.race.next_old = ap (λ (l : List ℕ). record v { old_blocks = l }) is ∙ ap (λ (w : Record). with_claimed_block false w c.race.next_old) same in
     subst (λ (w : Record). KeepsRule (record c { race = record c.race { next_old = c.race.next_old + 1; records = set c.race.records helper w } })) (sym e) (keeps c helper (Block false) kept h)
 
 pub loses_inside : (c : Course) (helper cell : ℕ) → can_happen c helper (Lose cell) ≡ true → cell < length c.net.targets
 loses_inside c helper cell h =
-    let a = and_parts (nat_lt 0 (record_at c.race helper).share) (nat_lt cell (length c.net.targets) && not (word_at c.race cell == 0)) h in
-    ltb-true cell (length c.net.targets) (and_parts (nat_lt cell (length c.net.targets)) (not (word_at c.race cell == 0)) a.1).0
+    let a = and_parts (nat_lt 0 (record_at c.race helper).share) (nat_lt cell (length c.net.targets) && not (forwarding_word c.race cell == 0)) h in
+    ltb-true cell (length c.net.targets) (and_parts (nat_lt cell (length c.net.targets)) (not (forwarding_word c.race cell == 0)) a.1).0
 
 pub keeps_part : (c : Course) (helper : ℕ) (v : Record) (l : List Record) → KeepsRule c → can_happen c helper Part ≡ true → v ≡ get_or c.race.records helper v
     → l ≡ set c.race.records helper (less_one v) ++ empty 1 ∷ []
@@ -365,7 +365,7 @@ met_course c0 c helper other v w u x same h mine theirs spent is =
     ∙ ap (λ (l : List Record). record c { race = record c.race { records = l } }) (met_records c helper other v w u x h mine theirs spent is)
 
 -- the wins of two records that become one
-pub earned_both : (net : Net) (v w : Record) → AreEarned net v → AreEarned net w → AreEarned net (both v w)
+pub earned_both : (net : Net) (v w : Record) → HasEarnedWins net v → HasEarnedWins net w → HasEarnedWins net (both v w)
 earned_both net v w mine theirs =
     earned_append net (v.chunks ++ w.chunks) [] v.won w.won
     (earned_more net v.chunks (v.chunks ++ w.chunks) [] [] (within_left v.chunks w.chunks) (within_nil []) v.won mine)

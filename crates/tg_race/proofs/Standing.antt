@@ -9,8 +9,8 @@ use Rattle.tg_race.specs.declared.record.Counts.{Counts}
 use Rattle.tg_race.specs.declared.record.Record.{Record}
 use Rattle.tg_race.specs.Weights.{weigh, weigh_below, one_at}
 use Rattle.tg_race.specs.Words.{word_of, place_of, same_place, same_pair, has_pair, weigh_words, IsPair, AGED, OLD}
-use Rattle.tg_race.specs.Race.{Race, Rule, EachRecord, has, with_room}
-use Rattle.tg_race.specs.Board.{IsClosed}
+use Rattle.tg_race.specs.Race.{Race, Rule, EachRecord, has_number, with_room}
+use Rattle.tg_race.specs.Board.{IsClosedTable}
 use Rattle.tg_race.specs.Course.{has_met}
 use mathlib.Core.Option.{some}
 use lib.ListN.{get_elem?}
@@ -136,7 +136,7 @@ unmet k r rule id v at c none = go (has_met v c) refl
     go true e = absurd (met_taken k r rule id v at c e none)
 
 -- the places in a closed table are those of the pairs that were won
-pub closed_pairs : (k : Counts) (words : List ℕ) (done : Record) → IsClosed k words done → (cell : ℕ) (p : Place) → IsPlace p → (slice_index words cell ≡ word_of p) ↔ IsTrue (has_pair cell p done.won)
+pub closed_pairs : (k : Counts) (words : List ℕ) (done : Record) → IsClosedTable k words done → (cell : ℕ) (p : Place) → IsPlace p → (slice_index words cell ≡ word_of p) ↔ IsTrue (has_pair cell p done.won)
 closed_pairs k words done closed cell p inside = (there, back)
   where
     there : slice_index words cell ≡ word_of p → IsTrue (has_pair cell p done.won)
@@ -148,7 +148,7 @@ closed_pairs k words done closed cell p inside = (there, back)
     back won = won_stands k _ closed.rule 0 done refl cell p won
 
 -- the blocks that were claimed in a closed table are few
-pub closed_aged_few : (k : Counts) (words : List ℕ) (done : Record) → IsClosed k words done → (b : ℕ) → IsTrue (has b done.aged_blocks) → 64 * (b + 1) ≤ 64 * k.helpers + length done.won
+pub closed_aged_few : (k : Counts) (words : List ℕ) (done : Record) → IsClosedTable k words done → (b : ℕ) → IsTrue (has_number b done.aged_blocks) → 64 * (b + 1) ≤ 64 * k.helpers + length done.won
 closed_aged_few k words done closed b mine =
     let some_ = any_weighs (λ (x : ℕ). x == b) done.aged_blocks mine in
     let few = aged_few k _ closed.rule in
@@ -156,7 +156,7 @@ closed_aged_few k words done closed b mine =
     let below : b < closed.next_aged = ⊎_elim (λ lt. lt) (λ (le : closed.next_aged ≤ b). absurd (let zero_ = none le in omega arith)) (cases_lt b closed.next_aged) in
     omega arith
 
-pub closed_old_few : (k : Counts) (words : List ℕ) (done : Record) → IsClosed k words done → (b : ℕ) → IsTrue (has b done.old_blocks) → 64 * (b + 1) ≤ 64 * (k.kept + k.helpers) + length done.won
+pub closed_old_few : (k : Counts) (words : List ℕ) (done : Record) → IsClosedTable k words done → (b : ℕ) → IsTrue (has_number b done.old_blocks) → 64 * (b + 1) ≤ 64 * (k.kept + k.helpers) + length done.won
 closed_old_few k words done closed b mine =
     let some_ = any_weighs (λ (x : ℕ). x == b) done.old_blocks mine in
     let few = old_few k _ closed.rule in
@@ -165,7 +165,7 @@ closed_old_few k words done closed b mine =
     omega arith
 
 -- they are full of the copies in their space, but for one a helper
-module _ (k : Counts) (words : List ℕ) (done : Record) (closed : IsClosed k words done) where
+module _ (k : Counts) (words : List ℕ) (done : Record) (closed : IsClosedTable k words done) where
   filled : (space start counter : ℕ) (bs : List ℕ) → ((h : ℕ → ℕ) → weigh_below h start + weigh h bs ≡ weigh_below h counter) → with_room space done.won bs ≤ done.share → 64 * length bs ≤ 64 * k.helpers + in_space space done.won
   filled space start counter bs drawn few_open =
       let once : (b : ℕ) → weigh (one_at b) bs ≤ 1 = λ b. (let all = drawn (one_at b) in omega (arith, one_below b counter)) in

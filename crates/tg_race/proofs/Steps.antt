@@ -14,7 +14,7 @@ use Rattle.tg_race.specs.Words.{word_of, IsForward}
 use Rattle.tg_race.proofs.PlaceWords.{place_of-word_of, word_of-forward, word_of-some}
 use Rattle.tg_race.specs.Weights.{weigh, weigh_below, one_at}
 use Rattle.tg_race.specs.Words.{IsPair, same_place, place_at, lies_in, OLD, AGED}
-use Rattle.tg_race.specs.Race.{Race, Rule, empty, chunks_of, used_in, past, IsDrawn, with_chunk, with_seen, with_won, with_block, both}
+use Rattle.tg_race.specs.Race.{Race, Rule, empty, chunks_of, used_in, past, IsDrawn, with_chunk, with_seen, with_won, with_claimed_block, both}
 use Rattle.tg_race.proofs.Parts.{Parts, parts_of, Fits, is_past, is_open, open_aged, open_old, claims_of}
 use Rattle.tg_race.proofs.Sums.{weigh-append, weigh_push, weigh-set, weigh_one_le, weigh-le, weigh-le_at, weigh_alone, weigh_below_more, one_below, weigh_words-set, weigh_words_le, count_below, weigh-scale, weigh-linear, weigh-add, weigh-zero, no_words, weigh_ones}
 
@@ -227,9 +227,9 @@ still_placed v w aged old won =
     All-weaker (λ q. 0 < claims_of q.1 v) (λ q. 0 < claims_of q.1 w) (λ q h. omega (arith, claims-le q.1 v w (aged (one_at q.1.block)) (old (one_at q.1.block)))) won
 
 pub claim_aged_keeps : (k : Counts) (r : Race) (id : ℕ) (v : Record) → Parts k r → get_elem? r.records id ≡ some v → open_aged v ≡ 0 → 0 < v.share
-    → Parts k (record r { next_aged = r.next_aged + 1; records = set r.records id (with_block true v r.next_aged) })
+    → Parts k (record r { next_aged = r.next_aged + 1; records = set r.records id (with_claimed_block true v r.next_aged) })
 claim_aged_keeps k r id v rule at none has =
-    let w = with_block true v r.next_aged in
+    let w = with_claimed_block true v r.next_aged in
     let fits = rule.each id v at in
     let one = open_at_most_one AGED r.next_aged v.won in
     let p = weigh_push (is_open AGED v.won) v.aged_blocks r.next_aged in record {
@@ -252,9 +252,9 @@ claim_aged_keeps k r id v rule at none has =
     }
 
 pub claim_old_keeps : (k : Counts) (r : Race) (id : ℕ) (v : Record) → Parts k r → get_elem? r.records id ≡ some v → open_old v ≡ 0 → 0 < v.share
-    → Parts k (record r { next_old = r.next_old + 1; records = set r.records id (with_block false v r.next_old) })
+    → Parts k (record r { next_old = r.next_old + 1; records = set r.records id (with_claimed_block false v r.next_old) })
 claim_old_keeps k r id v rule at none has =
-    let w = with_block false v r.next_old in
+    let w = with_claimed_block false v r.next_old in
     let fits = rule.each id v at in
     let one = open_at_most_one OLD r.next_old v.won in
     let p = weigh_push (is_open OLD v.won) v.old_blocks r.next_old in record {

@@ -5,7 +5,7 @@ use Rattle.std.specs.List.{list_any, list_all}
 use Rattle.tg_word.specs.declared.Place.{Place}
 use Rattle.tg_race.specs.declared.record.Counts.{Counts}
 use Rattle.tg_race.specs.declared.record.Record.{Record}
-use Rattle.tg_race.specs.Words.{same_place, space_of}
+use Rattle.tg_race.specs.Words.{same_place, space_of_age}
 use Rattle.tg_race.specs.Race.{is_chunk, has_room, owns}
 
 -- a chunk of roots is claimed only by a record that has none past the last
@@ -18,7 +18,7 @@ blocks_of aged v = if aged then v.aged_blocks else v.old_blocks
 -- a block is claimed only by a record whose blocks of that space are full
 abbrev pub can_claim_block : Bool → Record → Bool
 can_claim_block aged v =
-    list_all (λ b. not (has_room (space_of aged) v.won b)) (blocks_of aged v)
+    list_all (λ b. not (has_room (space_of_age aged) v.won b)) (blocks_of aged v)
 
 -- whether one of the record's won cells has the place
 abbrev pub uses : Record → Place → Bool

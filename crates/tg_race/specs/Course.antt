@@ -8,7 +8,7 @@ use Rattle.tg_race.specs.declared.shape.Shape.{Shape}
 use Rattle.tg_race.specs.declared.event.Event.{Event}
 use Rattle.tg_race.specs.declared.event.Event.TheVariants.{Claim, Look, Win, Lose, Block, Part, Meet}
 use Rattle.tg_race.specs.Words.{word_of, place_of}
-use Rattle.tg_race.specs.Race.{Race, Rule, EachRecord, empty, has, past, with_chunk, with_seen, with_won, with_block, both, less_one}
+use Rattle.tg_race.specs.Race.{Race, Rule, EachRecord, empty, has_number, past, with_chunk, with_seen, with_won, with_claimed_block, both, less_one}
 use Rattle.tg_race.specs.Conditions.{can_claim_roots, can_claim_block, blocks_of, can_use, can_part}
 
 -- the targets of each root and of each cell, Old's first block number, the limit of blocks and the number of helpers
@@ -31,11 +31,11 @@ pub record Course : Type 0 where
 
 -- whether the cell is a target of a root of the chunk
 abbrev pub chunk_has : Net → ℕ → ℕ → Bool
-chunk_has net cell c = list_any (has cell) (take 8 (drop (8 * c) net.roots))
+chunk_has net cell c = list_any (has_number cell) (take 8 (drop (8 * c) net.roots))
 
 -- whether the cell is a target of the cell of the pair
 abbrev pub pair_has : Net → ℕ → ℕ × Place → Bool
-pair_has net cell q = has cell (slice_index_or net.targets q.0 [])
+pair_has net cell q = has_number cell (slice_index_or net.targets q.0 [])
 
 -- whether the cell is a target of a root in one of the chunks, or of one of the won cells
 abbrev pub is_target : Net → List ℕ → List (ℕ × Place) → ℕ → Bool
@@ -46,8 +46,8 @@ is_target net chunks won cell = list_any (chunk_has net cell) chunks || list_any
 abbrev pub record_at : Race → ℕ → Record
 record_at r helper = slice_index_or r.records helper (empty 0)
 
-abbrev pub word_at : Race → ℕ → ℕ
-word_at r cell = slice_index r.words cell
+abbrev pub forwarding_word : Race → ℕ → ℕ
+forwarding_word r cell = slice_index r.words cell
 
 -- whether the place is one of a block that a space may have, and is in range
 abbrev pub is_within : Net → Place → Bool
@@ -57,7 +57,7 @@ is_within net p =
 -- the cell has no place yet, is a target of what the record has claimed or won, and the place is the record's to give
 abbrev pub can_win : Net → Race → Record → ℕ → Place → Bool
 can_win net r v cell place =
-    nat_lt cell (length net.targets) && (word_at r cell == 0) && is_target net v.chunks v.won cell
+    nat_lt cell (length net.targets) && (forwarding_word r cell == 0) && is_target net v.chunks v.won cell
     && is_within net place && can_use v place
 
 -- whether a helper with the record v, which isn't spent, can do this
@@ -65,7 +65,7 @@ abbrev pub can : Net → Race → ℕ → Record → Event → Bool
 can net r helper v Claim = can_claim_roots (counts_of net) v
 can net r helper v (Look cell) = nat_lt cell (length net.targets)
 can net r helper v (Win cell place) = can_win net r v cell place
-can net r helper v (Lose cell) = nat_lt cell (length net.targets) && not (word_at r cell == 0)
+can net r helper v (Lose cell) = nat_lt cell (length net.targets) && not (forwarding_word r cell == 0)
 can net r helper v (Block aged) = can_claim_block aged v && list_all (λ b. nat_lt b net.space_blocks) (blocks_of aged v)
 can net r helper v Part = can_part v
 can net r helper v (Meet other) = not (other == helper) && nat_lt 0 (record_at r other).share
@@ -79,17 +79,17 @@ put r helper v = record r { records = slice_set r.records helper v }
 
 -- the race after a helper with the record v has seen the pair of a cell and its place
 abbrev pub sees : Race → ℕ → Record → ℕ → Race
-sees r helper v cell = put r helper (with_seen v (cell, place_of (word_at r cell)))
+sees r helper v cell = put r helper (with_seen v (cell, place_of (forwarding_word r cell)))
 
 -- the race after an event of a helper with the record v
 abbrev pub after : Race → ℕ → Record → Event → Race
 after r helper v Claim = record r { next_chunk = r.next_chunk + 1; records = slice_set r.records helper (with_chunk v r.next_chunk) }
-after r helper v (Look cell) = if word_at r cell == 0 then r else sees r helper v cell
+after r helper v (Look cell) = if forwarding_word r cell == 0 then r else sees r helper v cell
 after r helper v (Win cell place) = record r { words = slice_set r.words cell (word_of place); records = slice_set r.records helper (with_won v (cell, place)) }
 after r helper v (Lose cell) = sees r helper v cell
 after r helper v (Block aged) =
-    if aged then record r { next_aged = r.next_aged + 1; records = slice_set r.records helper (with_block true v r.next_aged) }
-    else record r { next_old = r.next_old + 1; records = slice_set r.records helper (with_block false v r.next_old) }
+    if aged then record r { next_aged = r.next_aged + 1; records = slice_set r.records helper (with_claimed_block true v r.next_aged) }
+    else record r { next_old = r.next_old + 1; records = slice_set r.records helper (with_claimed_block false v r.next_old) }
 after r helper v Part = record r { records = slice_set r.records helper (less_one v) ++ empty 1 ∷ [] }
 after r helper v (Meet other) = record r { records = slice_set (slice_set r.records helper (both v (record_at r other))) other (empty 0) }
 
@@ -117,27 +117,27 @@ IsEarned net chunks before [] = Unit {0}
 IsEarned net chunks before (q ∷ qs) = (is_target net chunks before q.0 ≡ true) × IsEarned net chunks (q ∷ before) qs
 
 -- the wins of the record were earned
-abbrev pub AreEarned : Net → Record → Type 0
-AreEarned net v = IsEarned net v.chunks [] v.won
+abbrev pub HasEarnedWins : Net → Record → Type 0
+HasEarnedWins net v = IsEarned net v.chunks [] v.won
 
 -- the rule, and each record's wins were earned
 pub record KeepsRule (c : Course) : Type 0 where
   pub rule : Rule (counts_of c.net) c.race
-  pub wins_earned : EachRecord (AreEarned c.net) c.race.records
+  pub wins_earned : EachRecord (HasEarnedWins c.net) c.race.records
 
 -- ---- what a complete record says
 
 -- the closure of the roots: the cells that targets lead to from them
-pub data IsReached (net : Net) : ℕ → Type 0 where
-  root : (cell : ℕ) → list_any (has cell) net.roots ≡ true → IsReached net cell
-  next : (cell to : ℕ) → IsReached net cell → has to (slice_index_or net.targets cell []) ≡ true → IsReached net to
+pub data IsReachedCell (net : Net) : ℕ → Type 0 where
+  root : (cell : ℕ) → list_any (has_number cell) net.roots ≡ true → IsReachedCell net cell
+  next : (cell to : ℕ) → IsReachedCell net cell → has_number to (slice_index_or net.targets cell []) ≡ true → IsReachedCell net to
 
 -- whether the record has won the cell, or seen it with a place
 abbrev pub has_met : Record → ℕ → Bool
 has_met v cell = list_any (λ q. q.0 == cell) v.won || list_any (λ q. q.0 == cell) v.seen
 
 -- a chunk past the last was claimed, and every target of the roots of claimed chunks and of the won cells was won or seen
-pub record IsComplete (net : Net) (v : Record) : Type 0 where
+pub record IsCompleteRecord (net : Net) (v : Record) : Type 0 where
   pub last : 0 < past (counts_of net) v
   pub met : (cell : ℕ) → is_target net v.chunks v.won cell ≡ true → has_met v cell ≡ true
 

@@ -48,14 +48,14 @@ abbrev pub with_room : ℕ → List (ℕ × Place) → List ℕ → ℕ
 with_room space won blocks = weigh (λ b. if has_room space won b then 1 else 0) blocks
 
 -- whether the number stands in the list
-abbrev pub has : ℕ → List ℕ → Bool
-has x = list_any (λ y. y == x)
+abbrev pub has_number : ℕ → List ℕ → Bool
+has_number x = list_any (λ y. y == x)
 
 -- whether the record has claimed the block in which the place lies
 abbrev pub owns : Record → Place → Bool
 owns v p =
-    if p.space == AGED then has p.block v.aged_blocks
-    else if p.space == OLD then has p.block v.old_blocks
+    if p.space == AGED then has_number p.block v.aged_blocks
+    else if p.space == OLD then has_number p.block v.old_blocks
     else false
 
 -- the numbers that the records have drawn are those from `start` on and below the counter, each once
@@ -123,8 +123,8 @@ with_seen v q = record v { seen = v.seen ++ q ∷ [] }
 abbrev pub with_won : Record → ℕ × Place → Record
 with_won v q = record v { won = v.won ++ q ∷ [] }
 
-abbrev pub with_block : Bool → Record → ℕ → Record
-with_block aged v b =
+abbrev pub with_claimed_block : Bool → Record → ℕ → Record
+with_claimed_block aged v b =
     if aged then record v { aged_blocks = v.aged_blocks ++ b ∷ [] }
     else record v { old_blocks = v.old_blocks ++ b ∷ [] }
 

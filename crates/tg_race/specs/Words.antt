@@ -11,8 +11,8 @@ OLD = 0
 abbrev pub AGED : ℕ
 AGED = 1
 
-abbrev pub space_of : Bool → ℕ
-space_of aged = if aged then AGED else OLD
+abbrev pub space_of_age : Bool → ℕ
+space_of_age aged = if aged then AGED else OLD
 
 -- the word of a cell that has a place: a reference with no rights to that place
 unfoldable pub word_of : Place → ℕ

@@ -1,8 +1,8 @@
 //! The events' conditions on a record, as tests.
 ghost use Rattle.std.specs.Prelude.{◌≡◌, nat_lt};
 ghost use Rattle.std.specs.List.{list_all};
-ghost use Rattle.tg_race.specs.Words.{space_of};
-ghost use Rattle.tg_race.specs.Race.{has, owns, used_in};
+ghost use Rattle.tg_race.specs.Words.{space_of_age};
+ghost use Rattle.tg_race.specs.Race.{has_number, owns, used_in};
 ghost use Rattle.tg_race.specs.Conditions.{uses, can_use, is_new, can_part, blocks_of, can_claim_block};
 
 use crate::record::Record;
@@ -11,7 +11,7 @@ use tg_word::Place;
 
 // The number of the space that a collection copies into: Aged is 1 and Old is 0.
 fn space_of(aged: bool) -> u64
-    ensures { result ≡ space_of aged }
+    ensures { result ≡ space_of_age aged }
 {
     if aged { 1 } else { 0 }
 }
@@ -102,7 +102,7 @@ impl Record {
 }
 
 fn has(blocks: &LinkedList<u64>, block: u64) -> bool
-    ensures { result ≡ has block blocks.now }
+    ensures { result ≡ has_number block blocks.now }
 {
     blocks.iter().any(|b| *b == block)
 }

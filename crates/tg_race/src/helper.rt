@@ -2,7 +2,7 @@
 ghost use Rattle.std.specs.Prelude.{◌≡◌, ◌*◌, ◌<◌, ◌≤◌, false, IfSome, IfNone, IsTrue, Some, All};
 ghost use Rattle.tg_word.specs.declared.Place.{Place as PlaceOf};
 ghost use Rattle.tg_word.specs.Word.{IsPlace};
-ghost use Rattle.tg_race.specs.Race.{HasMet, empty, with_chunk, with_seen, with_block, both, less_one};
+ghost use Rattle.tg_race.specs.Race.{HasMet, empty, with_chunk, with_seen, with_claimed_block, both, less_one};
 ghost use Rattle.tg_race.specs.Conditions.{blocks_of, can_claim_roots, can_claim_block, can_use, can_part};
 ghost use Rattle.tg_race.specs.Course.{has_met};
 ghost use Rattle.tg_race.specs.Claims.{claimed, place_found};
@@ -128,7 +128,7 @@ impl Helper {
     pub fn claim_block(&mut self, table: &RaceTable, aged: bool) -> u64
         requires own { self.old.table ≡ table.now.table }
         requires allowed { IsTrue (can_claim_block aged self.old.done) }
-        ensures drawn { self.new ≡ record self.old { done = with_block aged self.old.done result } }
+        ensures drawn { self.new ≡ record self.old { done = with_claimed_block aged self.old.done result } }
         ensures fresh { All (λ b. b < result) (blocks_of aged self.old.done) }
     {
         if aged {

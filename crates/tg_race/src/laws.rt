@@ -8,10 +8,10 @@ ghost use Rattle.tg_race.specs.declared.event.Event.{Event};
 ghost use Rattle.tg_word.specs.declared.Place.{Place};
 ghost use Rattle.tg_word.specs.Word.{IsPlace};
 ghost use Rattle.tg_race.specs.Words.{AGED, OLD, word_of, has_pair};
-ghost use Rattle.tg_race.specs.Board.{IsClosed};
+ghost use Rattle.tg_race.specs.Board.{IsClosedTable};
 ghost use Rattle.tg_race.specs.Weights.{weigh, one_at};
-ghost use Rattle.tg_race.specs.Race.{Race, Rule, EachRecord, IsDrawn, AreConsecutive, both, has};
-ghost use Rattle.tg_race.specs.Course.{Net, Course, counts_of, KeepsRule, AreEarned, IsComplete, IsReached, word_at, can_happen, happens, course_after, starting};
+ghost use Rattle.tg_race.specs.Race.{Race, Rule, EachRecord, IsDrawn, AreConsecutive, both, has_number};
+ghost use Rattle.tg_race.specs.Course.{Net, Course, counts_of, KeepsRule, HasEarnedWins, IsCompleteRecord, IsReachedCell, forwarding_word, can_happen, happens, course_after, starting};
 
 /// After every list of events of any number of helpers the rule holds.
 pub fn the_rule_holds_after_all_events()
@@ -21,13 +21,13 @@ pub fn the_rule_holds_after_all_events()
 
 /// No event changes a place that a cell has.
 pub fn places_never_change()
-    ensures event { (c : Course) (helper : ℕ) (e : Event) → IsTrue (can_happen c helper e) → (cell : ℕ) → word_at c.race cell ≢ 0 → word_at (happens c helper e).race cell ≡ word_at c.race cell }
-    ensures events { (c : Course) (events : List (ℕ × Event)) (cell : ℕ) → word_at c.race cell ≢ 0 → word_at (course_after c events).race cell ≡ word_at c.race cell }
+    ensures event { (c : Course) (helper : ℕ) (e : Event) → IsTrue (can_happen c helper e) → (cell : ℕ) → forwarding_word c.race cell ≢ 0 → forwarding_word (happens c helper e).race cell ≡ forwarding_word c.race cell }
+    ensures events { (c : Course) (events : List (ℕ × Event)) (cell : ℕ) → forwarding_word c.race cell ≢ 0 → forwarding_word (course_after c events).race cell ≡ forwarding_word c.race cell }
 {}
 
 /// Where one record stands for all helpers and is complete, the cells with a place are the closure of the roots.
 pub fn a_complete_race_is_the_closure()
-    ensures { (c : Course) (id : ℕ) (v : Record) → KeepsRule c → get_elem? c.race.records id ≡ some v → v.share ≡ c.net.helpers → IsComplete c.net v → (cell : ℕ) → (word_at c.race cell ≢ 0) ↔ IsReached c.net cell }
+    ensures { (c : Course) (id : ℕ) (v : Record) → KeepsRule c → get_elem? c.race.records id ≡ some v → v.share ≡ c.net.helpers → IsCompleteRecord c.net v → (cell : ℕ) → (forwarding_word c.race cell ≢ 0) ↔ IsReachedCell c.net cell }
 {}
 
 /// What a record has won stands in the table: the cell has the place that was won, which is in range.
@@ -38,27 +38,27 @@ pub fn wins_stand_in_the_table()
 
 /// The places in a closed table are those of the pairs that its one record has won, and no other.
 pub fn a_closed_table_has_the_wins()
-    ensures { (k : Counts) (words : List ℕ) (done : Record) → IsClosed k words done → (cell : ℕ) (p : Place) → IsPlace p → (slice_index words cell ≡ word_of p) ↔ IsTrue (has_pair cell p done.won) }
+    ensures { (k : Counts) (words : List ℕ) (done : Record) → IsClosedTable k words done → (cell : ℕ) (p : Place) → IsPlace p → (slice_index words cell ≡ word_of p) ↔ IsTrue (has_pair cell p done.won) }
 {}
 
 /// No cell of a closed table was won twice, and no place was given twice: an equal place is that of an equal cell.
 pub fn wins_of_a_closed_table_differ()
-    ensures cells { (k : Counts) (words : List ℕ) (done : Record) → IsClosed k words done → AllPairs (λ q r. q.0 ≢ r.0) done.won }
-    ensures places { (k : Counts) (words : List ℕ) (done : Record) → IsClosed k words done → AllPairs (λ q r. q.1 ≢ r.1) done.won }
-    ensures one_cell { (k : Counts) (words : List ℕ) (done : Record) → IsClosed k words done → (cell other : ℕ) (p : Place) → IsTrue (has_pair cell p done.won) → IsTrue (has_pair other p done.won) → cell ≡ other }
+    ensures cells { (k : Counts) (words : List ℕ) (done : Record) → IsClosedTable k words done → AllPairs (λ q r. q.0 ≢ r.0) done.won }
+    ensures places { (k : Counts) (words : List ℕ) (done : Record) → IsClosedTable k words done → AllPairs (λ q r. q.1 ≢ r.1) done.won }
+    ensures one_cell { (k : Counts) (words : List ℕ) (done : Record) → IsClosedTable k words done → (cell other : ℕ) (p : Place) → IsTrue (has_pair cell p done.won) → IsTrue (has_pair other p done.won) → cell ≡ other }
 {}
 
 /// The numbers of chunks, and those of blocks, that were claimed at a closed table differ and have no gap.
 pub fn numbers_of_a_closed_table_have_no_gap()
-    ensures chunks { (k : Counts) (words : List ℕ) (done : Record) → IsClosed k words done → AreConsecutive 0 done.chunks }
-    ensures aged_blocks { (k : Counts) (words : List ℕ) (done : Record) → IsClosed k words done → AreConsecutive 0 done.aged_blocks }
-    ensures old_blocks { (k : Counts) (words : List ℕ) (done : Record) → IsClosed k words done → AreConsecutive k.kept done.old_blocks }
+    ensures chunks { (k : Counts) (words : List ℕ) (done : Record) → IsClosedTable k words done → AreConsecutive 0 done.chunks }
+    ensures aged_blocks { (k : Counts) (words : List ℕ) (done : Record) → IsClosedTable k words done → AreConsecutive 0 done.aged_blocks }
+    ensures old_blocks { (k : Counts) (words : List ℕ) (done : Record) → IsClosedTable k words done → AreConsecutive k.kept done.old_blocks }
 {}
 
 /// Where the record of a closed table is complete and its wins were earned, the cells with a place are the closure of
 /// the roots.
 pub fn a_closed_table_is_the_closure()
-    ensures { (net : Net) (words : List ℕ) (done : Record) → IsClosed (counts_of net) words done → AreEarned net done → IsComplete net done → (cell : ℕ) → (slice_index words cell ≢ 0) ↔ IsReached net cell }
+    ensures { (net : Net) (words : List ℕ) (done : Record) → IsClosedTable (counts_of net) words done → HasEarnedWins net done → IsCompleteRecord net done → (cell : ℕ) → (slice_index words cell ≢ 0) ↔ IsReachedCell net cell }
 {}
 
 /// Where one record stands for all helpers, all others are spent: the race with that record alone is under the rule.
@@ -68,7 +68,7 @@ pub fn one_record_stands_alone()
 
 /// Wins stay earned when two records become one.
 pub fn wins_stay_earned_under_join()
-    ensures { (net : Net) (v w : Record) → AreEarned net v → AreEarned net w → AreEarned net (both v w) }
+    ensures { (net : Net) (v w : Record) → HasEarnedWins net v → HasEarnedWins net w → HasEarnedWins net (both v w) }
 {}
 
 /// Blocks are few: each is full of won cells, but for one a helper and space.
@@ -83,10 +83,10 @@ pub fn blocks_are_few()
 /// The same of each block that was claimed in a closed table; and those of a space are full of cells that were won into it,
 /// but for one a helper.
 pub fn claimed_blocks_are_few()
-    ensures aged_blocks { (k : Counts) (words : List ℕ) (done : Record) → IsClosed k words done → (b : ℕ) → IsTrue (has b done.aged_blocks) → 64 * (b + 1) ≤ 64 * k.helpers + length done.won }
-    ensures old_blocks { (k : Counts) (words : List ℕ) (done : Record) → IsClosed k words done → (b : ℕ) → IsTrue (has b done.old_blocks) → 64 * (b + 1) ≤ 64 * (k.kept + k.helpers) + length done.won }
-    ensures aged_filled { (k : Counts) (words : List ℕ) (done : Record) → IsClosed k words done → 64 * length done.aged_blocks ≤ 64 * k.helpers + weigh (λ q. if q.1.space == AGED then 1 else 0) done.won }
-    ensures old_filled { (k : Counts) (words : List ℕ) (done : Record) → IsClosed k words done → 64 * length done.old_blocks ≤ 64 * k.helpers + weigh (λ q. if q.1.space == OLD then 1 else 0) done.won }
+    ensures aged_blocks { (k : Counts) (words : List ℕ) (done : Record) → IsClosedTable k words done → (b : ℕ) → IsTrue (has_number b done.aged_blocks) → 64 * (b + 1) ≤ 64 * k.helpers + length done.won }
+    ensures old_blocks { (k : Counts) (words : List ℕ) (done : Record) → IsClosedTable k words done → (b : ℕ) → IsTrue (has_number b done.old_blocks) → 64 * (b + 1) ≤ 64 * (k.kept + k.helpers) + length done.won }
+    ensures aged_filled { (k : Counts) (words : List ℕ) (done : Record) → IsClosedTable k words done → 64 * length done.aged_blocks ≤ 64 * k.helpers + weigh (λ q. if q.1.space == AGED then 1 else 0) done.won }
+    ensures old_filled { (k : Counts) (words : List ℕ) (done : Record) → IsClosedTable k words done → 64 * length done.old_blocks ≤ 64 * k.helpers + weigh (λ q. if q.1.space == OLD then 1 else 0) done.won }
 {}
 
 /// What 'drawn' says of one number: it stands once in the records if it is below the counter and not below the start,

@@ -1,5 +1,5 @@
 //! The rule of the table, and what each step on it tells the helper that makes it.
-ghost use Rattle.tg_race.specs.Board.{Holds, does, drew_chunk, drew_aged, drew_old, looked, skipped_of, tried};
+ghost use Rattle.tg_race.specs.Board.{IsBoardOfRace, does, drew_chunk, drew_aged, drew_old, looked, skipped_of, tried};
 ghost use Rattle.tg_race.specs.Race.{empty, both, less_one};
 
 use crate::record::{Counts, Record};
@@ -17,7 +17,7 @@ pub struct View {
 pub struct Forwards;
 
 impl TableRule<u8, View, Counts> for Forwards {
-    ghost holds = { Holds };
+    ghost holds = { IsBoardOfRace };
 
     ghost first = { λ k. record { skipped = skipped_of k; done = empty k.helpers } };
 }

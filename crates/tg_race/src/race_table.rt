@@ -1,7 +1,7 @@
 //! The table of forwarding words.
 ghost use Rattle.std.specs.Prelude.{◌≡◌, ◌+◌, ◌*◌, ◌++◌, ◌^◌, ◌<◌, ◌≤◌, IfOk, replicate};
 ghost use Rattle.tg_race.specs.Race.{empty};
-ghost use Rattle.tg_race.specs.Board.{IsClosed};
+ghost use Rattle.tg_race.specs.Board.{IsClosedTable};
 
 use crate::helper::Helper;
 use crate::plays::{Forwards, View};
@@ -78,7 +78,7 @@ impl RaceTable {
     pub fn close(self, helper: Helper) -> ClosedWords
         requires own { helper.table ≡ self.table }
         requires all { helper.done.share ≡ self.counts.helpers }
-        ensures { IsClosed self.counts (replicate (64 * self.counts.kept) 0 ++ result) helper.done }
+        ensures { IsClosedTable self.counts (replicate (64 * self.counts.kept) 0 ++ result) helper.done }
     {
         let RaceTable { table, counts: _ } = self;
         let Helper { seat } = helper;

@@ -1,7 +1,7 @@
 //! What is raced over.
 ghost use Rattle.std.specs.Prelude.{◌≡◌, [], slice_index_or};
 ghost use Rattle.std.specs.List.{list_any};
-ghost use Rattle.tg_race.specs.Race.{has};
+ghost use Rattle.tg_race.specs.Race.{has_number};
 ghost use Rattle.tg_race.specs.Course.{lists, chunk_has, pair_has, is_target, net_of};
 
 use crate::record::Record;
@@ -26,7 +26,7 @@ pub struct Shape {
 impl Shape {
     // Whether the cell numbered `to` is a target of the cell.
     fn cell_has(&self, cell: u64, to: u64) -> bool
-        ensures { result ≡ has to (slice_index_or (lists self.now.targets.items) cell []) }
+        ensures { result ≡ has_number to (slice_index_or (lists self.now.targets.items) cell []) }
     {
         match self.targets.get(cell as usize) {
             Some(targets) => targets.contains(&to),
@@ -70,7 +70,7 @@ impl Shape {
 }
 
 fn any_has(roots: &[Vec<u64>], cell: u64) -> bool
-    ensures { result ≡ list_any (λ targets. has cell targets.items) roots.now }
+    ensures { result ≡ list_any (λ targets. has_number cell targets.items) roots.now }
 {
     roots.iter().any(|targets| targets.contains(&cell))
 }

@@ -8,13 +8,13 @@ pub record Notes : Type 0 where
   pub places : List Place
   pub spare : ℕ
 
-abbrev pub same_place : Place → Place → Bool
-same_place p q = (p.space == q.space) && (p.block == q.block) && (p.cell == q.cell)
+abbrev pub equal_places : Place → Place → Bool
+equal_places p q = (p.space == q.space) && (p.block == q.block) && (p.cell == q.cell)
 
 -- the places after p is noted: p goes last, where it isn't there yet
 abbrev pub noted : List Place → Place → List Place
-noted places p = if list_any (same_place p) places then places else places ++ p ∷ []
+noted places p = if list_any (equal_places p) places then places else places ++ p ∷ []
 
 -- the place of a key: its space, block and cell
-abbrev pub place_of : ℕ × ℕ × ℕ → Place
-place_of key = record { space = key.0; block = key.1; cell = key.2 }
+abbrev pub place_of_key : ℕ × ℕ × ℕ → Place
+place_of_key key = record { space = key.0; block = key.1; cell = key.2 }

@@ -30,11 +30,11 @@ pub struct Remembered {
 impl Model for Remembered {
     ghost use Rattle.std.specs.Prelude.{map};
     ghost use Rattle.indexmap.specs.IndexSet.{spare};
-    ghost use Rattle.tg_remember.specs.Notes.{Notes, place_of};
+    ghost use Rattle.tg_remember.specs.Notes.{Notes, place_of_key};
 
     ghost Value = { Notes };
 
-    ghost view = { λ a. record { places = map place_of a.keys.keys; spare = spare a.keys } };
+    ghost view = { λ a. record { places = map place_of_key a.keys.keys; spare = spare a.keys } };
 }
 
 impl Remembered {

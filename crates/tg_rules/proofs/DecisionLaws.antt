@@ -10,13 +10,13 @@ use Rattle.tg_model.specs.declared.reply.Reply.TheVariants as reply
 use Rattle.tg_model.specs.Graph.{ProtectionGraph, IsSubject}
 use Rattle.tg_model.specs.Rules.{denial_of, denied_or, reply_of, answer_of}
 use Rattle.tg_graph.specs.Content.{Content}
-use Rattle.tg_graph.specs.Standing.{StandsFor}
+use Rattle.tg_graph.specs.Standing.{IsContentOf}
 use Rattle.tg_graph.proofs.StandingLaws.{answer_of-stands}
 use Rattle.tg_rules.specs.Effect.{IsReplyOn}
 
 -- ---- answers
 
-module _ (c : Content) (g : ProtectionGraph) (stands : StandsFor c g) where
+module _ (c : Content) (g : ProtectionGraph) (stands : IsContentOf c g) where
   pub names_below : All (λ name. name < g.made) c.names
   names_below k d inside = stands.made _ (All-contains_itself c.names k d inside)
 

@@ -2,7 +2,7 @@
 ghost use Rattle.std.specs.Prelude.{◌≡◌, ◌≢◌, ◌<◌, ◌+◌, None, Err, IfOk, OnOk, OnErr, length};
 ghost use Rattle.tg_model.specs.Graph.{with_rights, without_rights};
 ghost use Rattle.tg_model.specs.Rules.{denial_of, state_of, written_at};
-ghost use Rattle.tg_graph.specs.Heap.{content_of, IsUnchanged, KeepsPlaces};
+ghost use Rattle.tg_graph.specs.Heap.{content_of, IsUnchangedHeap, KeepsPlaces};
 ghost use Rattle.tg_graph.specs.Content.{IsContent, IsNamed};
 ghost use Rattle.tg_graph.specs.Spots.{LacksCellsFor};
 ghost use Rattle.tg_rules.specs.Effect.{IsReplyOn, IsContentAfter, OnlyLooks, AddsEdge, LacksCellsToServe};
@@ -71,7 +71,7 @@ pub fn perform<P: Payload>(
     ensures content { OnOk result (IsContentAfter (content_of heap.old) (content_of heap.new) worker command.now) }
     ensures kept { OnOk result (KeepsPlaces heap.old heap.new) }
     ensures looks { OnlyLooks command.now → heap.new ≡ heap.old }
-    ensures refused { OnErr result (IsUnchanged heap.old heap.new) }
+    ensures refused { OnErr result (IsUnchangedHeap heap.old heap.new) }
     ensures full { result ≡ Err PerformFault.HeapFull → AddsEdge command.now × LacksCellsToServe heap.old.table worker command.now }
 {
     match find_parties(heap, worker, command) {
@@ -94,7 +94,7 @@ pub fn perform_between<P: Payload>(
     ensures content { OnOk result (IsContentAfter (content_of heap.old) (content_of heap.new) worker command.now) }
     ensures kept { OnOk result (KeepsPlaces heap.old heap.new) }
     ensures looks { OnlyLooks command.now → heap.new ≡ heap.old }
-    ensures refused { OnErr result (IsUnchanged heap.old heap.new) }
+    ensures refused { OnErr result (IsUnchangedHeap heap.old heap.new) }
     ensures full { result ≡ Err PerformFault.HeapFull → AddsEdge command.now × LacksCellsToServe heap.old.table worker command.now }
 {
     let Parties { from, target } = parties;
@@ -127,7 +127,7 @@ fn add<P: Payload>(
     ensures content { OnOk result (IsContent (content_of heap.new) (IsNamed (content_of heap.old))
         (with_rights (content_of heap.old).label from.name target.name rights) (content_of heap.old).value) }
     ensures kept { OnOk result (KeepsPlaces heap.old heap.new) }
-    ensures refused { OnErr result (IsUnchanged heap.old heap.new) }
+    ensures refused { OnErr result (IsUnchangedHeap heap.old heap.new) }
     ensures full { result ≡ Err PerformFault.HeapFull → LacksCellsFor heap.old.table (worker + 2) 0 from.name target.name }
 {
     heap.add_edge(worker, from.place, target.place, rights)?;
@@ -162,7 +162,7 @@ fn write<P: Payload>(heap: &mut Heap<P>, target: Vertex, number: u64) -> Result<
     ensures content { OnOk result (IsContent (content_of heap.new) (IsNamed (content_of heap.old)) (content_of heap.old).label
         (written_at (content_of heap.old).value target.name number)) }
     ensures kept { OnOk result (KeepsPlaces heap.old heap.new) }
-    ensures refused { OnErr result (IsUnchanged heap.old heap.new) }
+    ensures refused { OnErr result (IsUnchangedHeap heap.old heap.new) }
     ensures room { result ≢ Err PerformFault.HeapFull }
 {
     heap.write(target.place, number)?;

@@ -15,23 +15,23 @@ ghost use Rattle.tg_model.specs.declared.reply.Denial.{Denial};
 ghost use Rattle.tg_model.specs.declared.reply.Reply.{Reply};
 ghost use Rattle.tg_model.specs.declared.reply.Reply.TheVariants.{Denied};
 ghost use Rattle.tg_graph.specs.Content.{Content, IsNamed, IsContent, IsSameContent, OnlyNamedHold};
-ghost use Rattle.tg_graph.specs.Standing.{StandsFor};
+ghost use Rattle.tg_graph.specs.Standing.{IsContentOf};
 ghost use Rattle.tg_rules.specs.Effect.{IsReplyOn, IsContentAfter};
 
 /// The denial of a subject's command is the same on a content as on the graph that it stands for. And the graph's
 /// answer is that denial or else the reply, computed on the content with the graph's number of vertices ever made.
 pub fn decisions_on_a_content_are_its_graphs()
     ensures denial { (c : Content) (g : ProtectionGraph) (x : ℕ) (command : Command) →
-        StandsFor c g → IsSubject g x → denial_of c.label x command ≡ denial_of g.label x command }
+        IsContentOf c g → IsSubject g x → denial_of c.label x command ≡ denial_of g.label x command }
     ensures answer { (c : Content) (g : ProtectionGraph) (x : ℕ) (command : Command) →
-        StandsFor c g → IsSubject g x →
+        IsContentOf c g → IsSubject g x →
         answer_of g x (Plain command)
         ≡ denied_or (denial_of c.label x command) (reply_of c.label c.value g.made x command) }
     ensures served { (c : Content) (g : ProtectionGraph) (x : ℕ) (command : Command) (reply : Reply) →
-        StandsFor c g → IsSubject g x → denial_of c.label x command ≡ None → IsReplyOn c x command reply →
+        IsContentOf c g → IsSubject g x → denial_of c.label x command ≡ None → IsReplyOn c x command reply →
         answer_of g x (Plain command) ≡ reply }
     ensures denied { (c : Content) (g : ProtectionGraph) (x : ℕ) (command : Command) (denial : Denial) →
-        StandsFor c g → IsSubject g x → denial_of c.label x command ≡ Some denial →
+        IsContentOf c g → IsSubject g x → denial_of c.label x command ≡ Some denial →
         answer_of g x (Plain command) ≡ Denied denial }
 {}
 
@@ -40,18 +40,18 @@ pub fn decisions_on_a_content_are_its_graphs()
 /// is one that the content doesn't have.
 pub fn steps_on_a_content_are_its_graphs()
     ensures served { (c new : Content) (g : ProtectionGraph) (x : ℕ) (command : Command) →
-        StandsFor c g → IsSubject g x → denial_of c.label x command ≡ None →
+        IsContentOf c g → IsSubject g x → denial_of c.label x command ≡ None →
         IsContentAfter c new x command →
-        StandsFor new (step g x (Plain command)) }
+        IsContentOf new (step g x (Plain command)) }
     ensures denied { (c new : Content) (g : ProtectionGraph) (x : ℕ) (command : Command) (denial : Denial) →
-        StandsFor c g → IsSubject g x → denial_of c.label x command ≡ Some denial →
-        IsSameContent c new → StandsFor new (step g x (Plain command)) }
+        IsContentOf c g → IsSubject g x → denial_of c.label x command ≡ Some denial →
+        IsSameContent c new → IsContentOf new (step g x (Plain command)) }
     ensures created { (c new : Content) (g : ProtectionGraph) (x : ℕ) (label : RightSet) (law : Law) (state : List ℕ) →
-        StandsFor c g → OnlyNamedHold c → IsSound g → IsSubject g x → g.made < g.limit →
+        IsContentOf c g → OnlyNamedHold c → IsSound g → IsSubject g x → g.made < g.limit →
         IsContent new (λ y. IsNamed c y ⊎ (y ≡ g.made)) (with_rights c.label x g.made label)
         (with_value c.value g.made (record { law = law; state = state })) →
-        StandsFor new (step g x (Create label law state)) }
+        IsContentOf new (step g x (Create label law state)) }
     ensures full { (c new : Content) (g : ProtectionGraph) (x : ℕ) (label : RightSet) (law : Law) (state : List ℕ) →
-        StandsFor c g → g.limit ≤ g.made → IsSameContent c new → StandsFor new (step g x (Create label law state)) }
-    ensures new_name { (c : Content) (g : ProtectionGraph) → StandsFor c g → ¬ IsNamed c g.made }
+        IsContentOf c g → g.limit ≤ g.made → IsSameContent c new → IsContentOf new (step g x (Create label law state)) }
+    ensures new_name { (c : Content) (g : ProtectionGraph) → IsContentOf c g → ¬ IsNamed c g.made }
 {}

@@ -6,7 +6,7 @@ use Rattle.tg_text.specs.declared.fault.ScriptFault.{ScriptFault}
 use Rattle.tg_text.specs.declared.fault.ScriptFault.TheVariants as fault
 use Rattle.tg_script.specs.Script.{Start}
 use Rattle.tg_script.specs.Lines.{IsOfReading, IsOfKeeping}
-use Rattle.tg_script.specs.Opening.{Opens}
+use Rattle.tg_script.specs.Opening.{OpensStore}
 use Rattle.tg_script.specs.Running.{IsDue, Finishes}
 
 reading_due : (start : Start) (f : ScriptFault) → IsOfReading f → IsDue start f
@@ -29,7 +29,7 @@ lines_due start (Ok done) h = tt
 lines_due start (Err f) h = reading_due start f h
 
 -- where no store is opened
-pub opening_due : (p : Plan) (start : Start) (f : ScriptFault) → p.workers ≡ start.workers → p.limit ≡ start.limit → Opens p start.blocks (Err f) → IsDue start f
+pub opening_due : (p : Plan) (start : Start) (f : ScriptFault) → p.workers ≡ start.workers → p.limit ≡ start.limit → OpensStore p start.blocks (Err f) → IsDue start f
 opening_due p start fault.ReadFailed workers limit h = tt
 opening_due p start fault.InputTooLong workers limit h = tt
 opening_due p start (fault.LineTooLong n) workers limit h = tt

@@ -11,7 +11,7 @@ use Rattle.tg_text.specs.Reading.{Ends, Reads, opening_after}
 use Rattle.std.specs.List.{flat_map}
 use Rattle.std.proofs.lemmas.List.Concat.{flat_map-append}
 use Rattle.tg_text.specs.declared.fault.ScriptFault.TheVariants as fault
-use Rattle.tg_text.specs.Sinks.{Keeps, Wrote}
+use Rattle.tg_text.specs.Sinks.{KeepsBytes, Wrote}
 use Rattle.tg_script.specs.Lines.{ReadsFrom, Passes, Behind, IsBehind, line_bytes}
 
 one_more : (text : List ℕ) (byte : ℕ) → IsOneLine text → byte ≢ 10 → IsOneLine (text ++ byte ∷ [])
@@ -73,19 +73,19 @@ pub reads_end : (lines : List Line) (workers room count : ℕ) (opening : Bool) 
 reads_end [] workers room count opening bytes left h = h.1
 reads_end (l ∷ lines) workers room count opening bytes left h = reads_end lines workers (room - (length (line_text l) + 1)) (count + 1) (opening_after opening l) h.0 left h.5
 
-pub keeps_same : (a : Option (List ℕ)) → Keeps a a
+pub keeps_same : (a : Option (List ℕ)) → KeepsBytes a a
 keeps_same None = tt
 keeps_same (Some xs) = refl
 
-pub keeps_then : (a b c : Option (List ℕ)) → Keeps a b → Keeps b c → Keeps a c
+pub keeps_then : (a b c : Option (List ℕ)) → KeepsBytes a b → KeepsBytes b c → KeepsBytes a c
 keeps_then None b c h k = tt
-keeps_then (Some xs) b c h k = let P : Option (List ℕ) → Type 0 = λ x. Keeps x c in subst P h k
+keeps_then (Some xs) b c h k = let P : Option (List ℕ) → Type 0 = λ x. KeepsBytes x c in subst P h k
 
 -- what was known to be taken is so still
-pub keeps_known : (mid after : Option (List ℕ)) (known : List ℕ) → mid ≡ Some known → Keeps mid after → after ≡ Some known
-keeps_known mid after known is keeps = let P : Option (List ℕ) → Type 0 = λ x. Keeps x after in subst P is keeps
+pub keeps_known : (mid after : Option (List ℕ)) (known : List ℕ) → mid ≡ Some known → KeepsBytes mid after → after ≡ Some known
+keeps_known mid after known is keeps = let P : Option (List ℕ) → Type 0 = λ x. KeepsBytes x after in subst P is keeps
 
 -- and what was written is
-pub wrote_keeps : (before mid after : Option (List ℕ)) (bytes : List ℕ) → Wrote before bytes mid → Keeps mid after → Wrote before bytes after
+pub wrote_keeps : (before mid after : Option (List ℕ)) (bytes : List ℕ) → Wrote before bytes mid → KeepsBytes mid after → Wrote before bytes after
 wrote_keeps None mid after bytes w k = tt
 wrote_keeps (Some xs) mid after bytes w k = keeps_known mid after (xs ++ bytes) w k

@@ -8,7 +8,7 @@ use Rattle.tg_text.specs.declared.line.Line.TheVariants as line
 use Rattle.tg_text.specs.declared.answer.Answer.{Answer}
 use Rattle.tg_text.specs.declared.answer.Answer.TheVariants as told
 use Rattle.tg_text.specs.Texts.{answer_text}
-use Rattle.tg_script.specs.Script.{Scene, Creates, Answers, IsOutput, IsAdmissible}
+use Rattle.tg_script.specs.Script.{Scene, AnswersCreate, Answers, IsOutput, IsAdmissible}
 use Rattle.tg_script.proofs.CountLaws.{count_same}
 
 pub is_output : (lines : List Line) (s : Scene) (text : List ℕ) → IsAdmissible s lines 0 text → IsOutput s lines text
@@ -20,7 +20,7 @@ is_output (l ∷ lines) s text (inr h) = absurd (omega (arith, h.4))
 abbrev Agree : Answer → Scene → Answer → Scene → Type 0
 Agree a t b u = (a ≡ b) × (t ≡ u)
 
-creates_same : (s : Scene) (x : ℕ) (label : RightSet) (stock : List Value) (a b : Answer) (t u : Scene) → Creates s x label stock a t → Creates s x label stock b u → Agree a t b u
+creates_same : (s : Scene) (x : ℕ) (label : RightSet) (stock : List Value) (a b : Answer) (t u : Scene) → AnswersCreate s x label stock a t → AnswersCreate s x label stock b u → Agree a t b u
 creates_same s x label [] a b t u h k = (h.0 ∙ sym k.0, h.1 ∙ sym k.1)
 creates_same s x label (value ∷ rest) a b t u (inl h) (inl k) = (h.1 ∙ sym k.1, h.2 ∙ sym k.2)
 creates_same s x label (value ∷ rest) a b t u (inl h) (inr k) = absurd (k.0 h.0)

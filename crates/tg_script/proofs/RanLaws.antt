@@ -9,11 +9,11 @@ use Rattle.tg_text.specs.declared.line.Line.TheVariants as line
 use Rattle.tg_text.specs.declared.fault.ScriptFault.{ScriptFault}
 use Rattle.tg_text.specs.declared.fault.ScriptFault.TheVariants as fault
 use Rattle.tg_script.specs.declared.script.Script.{Script}
-use Rattle.tg_text.specs.Sinks.{Keeps}
+use Rattle.tg_text.specs.Sinks.{KeepsBytes}
 use Rattle.tg_text.specs.Reading.{Reads, ReadsScript}
-use Rattle.tg_script.specs.Script.{Scene, IsAdmissible, IsCut, Start, HasRoom, CanOpen, edges_of, commands_of, scene_of, IsScriptOutput}
+use Rattle.tg_script.specs.Script.{Scene, IsAdmissible, IsCut, Start, HasRoomForWorkers, CanOpen, edges_of, commands_of, scene_of, IsScriptOutput}
 use Rattle.tg_script.specs.Lines.{ReadsFrom, Behind, IsBehind}
-use Rattle.tg_script.specs.Opening.{IsCommand, edge_lines, ReadsFirst, ReadsEdges, Opens}
+use Rattle.tg_script.specs.Opening.{IsCommand, edge_lines, ReadsFirst, ReadsEdges, OpensStore}
 use Rattle.tg_script.specs.Running.{IsWritten, IsUnopened, IsUnkept, IsCutOff, Ran, IsTold, StandsTold, StandsCut, TellsAll, Finishes}
 use Rattle.tg_script.proofs.LinesLaws.{MayStop, reads_stop, reads_end, reads_behind, behind-append, may_stop_writing, keeps_known}
 use Rattle.tg_script.proofs.OpeningLaws.{behind_all}
@@ -106,10 +106,10 @@ unopened start s t bytes rest edges (Some l) f fresh command h stop =
     (lines, fresh_reads s start.workers bytes lines (Some f) rest fresh (behind_all s t bytes rest lines (Some f) rest h (stop t.workers t.lines.room t.count t.opening rest)), inl (ap length (commands_of-front edges l [] command)))
 
 -- whether there is room for the workers is told by the plan
-room_of : (p : Plan) (start : Start) → p.workers ≡ start.workers → p.limit ≡ start.limit → HasLimits p → HasRoom start
+room_of : (p : Plan) (start : Start) → p.workers ≡ start.workers → p.limit ≡ start.limit → HasLimits p → HasRoomForWorkers start
 room_of p start workers limit h = (omega (arith, h.0, limit), omega (arith, h.1, limit), omega (arith, h.2, workers, limit))
 
-pub ran_store_fault : (T : Type 0) (p : Plan) (f : ScriptFault) (start : Start) (s t : Script) (bytes before rest : List ℕ) (edges : List Edge) (first : Option Line) (after : Option (List ℕ)) → p.workers ≡ start.workers → p.limit ≡ start.limit → Opens p start.blocks (Err f) → IsFresh s start.workers → IfSome first IsCommand → ReadsFirst s bytes edges first t rest → after ≡ Some before → Ran {T = T} start bytes before (Err f) rest after
+pub ran_store_fault : (T : Type 0) (p : Plan) (f : ScriptFault) (start : Start) (s t : Script) (bytes before rest : List ℕ) (edges : List Edge) (first : Option Line) (after : Option (List ℕ)) → p.workers ≡ start.workers → p.limit ≡ start.limit → OpensStore p start.blocks (Err f) → IsFresh s start.workers → IfSome first IsCommand → ReadsFirst s bytes edges first t rest → after ≡ Some before → Ran {T = T} start bytes before (Err f) rest after
 ran_store_fault T p fault.ReadFailed start s t bytes before rest edges first after workers limit h fresh command reads same = absurd h
 ran_store_fault T p fault.InputTooLong start s t bytes before rest edges first after workers limit h fresh command reads same = absurd h
 ran_store_fault T p (fault.LineTooLong n) start s t bytes before rest edges first after workers limit h fresh command reads same = absurd h
@@ -187,10 +187,10 @@ ran_commands (Err fault.BadLimits) start s t bytes rest edges l before left afte
 
 -- ---- the sink is finished
 
-written_keeps : (start : Start) (bytes before : List ℕ) (end : Option ScriptFault) (left : List ℕ) (mid after : Option (List ℕ)) → IsWritten start bytes before end left mid → Keeps mid after → IsWritten start bytes before end left after
+written_keeps : (start : Start) (bytes before : List ℕ) (end : Option ScriptFault) (left : List ℕ) (mid after : Option (List ℕ)) → IsWritten start bytes before end left mid → KeepsBytes mid after → IsWritten start bytes before end left after
 written_keeps start bytes before end left mid after h keeps = (h.0, keeps_known mid after (before ++ h.0) h.1 keeps, h.2)
 
-ran_keeps : {T : Type 0} (r : Result T ScriptFault) (start : Start) (bytes before left : List ℕ) (mid after : Option (List ℕ)) → Ran start bytes before r left mid → Keeps mid after → Ran start bytes before r left after
+ran_keeps : {T : Type 0} (r : Result T ScriptFault) (start : Start) (bytes before left : List ℕ) (mid after : Option (List ℕ)) → Ran start bytes before r left mid → KeepsBytes mid after → Ran start bytes before r left after
 ran_keeps (Ok done) start bytes before left mid after h keeps = (h.0, written_keeps start bytes before None left mid after h.1 keeps)
 ran_keeps (Err fault.ReadFailed) start bytes before left mid after h keeps = written_keeps start bytes before (Some fault.ReadFailed) left mid after h keeps
 ran_keeps (Err fault.InputTooLong) start bytes before left mid after h keeps = written_keeps start bytes before (Some fault.InputTooLong) left mid after h keeps
@@ -204,7 +204,7 @@ ran_keeps (Err fault.HeapFull) start bytes before left mid after h keeps = (h.0,
 ran_keeps (Err fault.BadLimits) start bytes before left mid after h keeps = (h.0, h.1, keeps_known mid after before h.2 keeps)
 
 -- the whole text was written, but the sink was not finished
-ran_unfinished : {T : Type 0} (r : Result T ScriptFault) (start : Start) (bytes before left : List ℕ) (mid after : Option (List ℕ)) → IsOk r → Ran start bytes before r left mid → Keeps mid after → Ran {T = T} start bytes before (Err fault.WriteFailed) left after
+ran_unfinished : {T : Type 0} (r : Result T ScriptFault) (start : Start) (bytes before left : List ℕ) (mid after : Option (List ℕ)) → IsOk r → Ran start bytes before r left mid → KeepsBytes mid after → Ran {T = T} start bytes before (Err fault.WriteFailed) left after
 ran_unfinished (Err f) start bytes before left mid after fine h keeps = absurd (false≢true fine)
 ran_unfinished (Ok done) start bytes before left mid after fine (can, h) keeps =
     inl (

@@ -26,7 +26,7 @@ use Rattle.tg_text.specs.declared.answer.Refusal.{Refusal}
 use Rattle.tg_text.specs.declared.answer.Refusal.TheVariants as refusal
 use Rattle.tg_script.specs.declared.run.Run.{Run}
 use Rattle.tg_script.specs.Supply.{values_left}
-use Rattle.tg_script.specs.Script.{Scene, Creates, MayWant}
+use Rattle.tg_script.specs.Script.{Scene, AnswersCreate, MayWant}
 use Rattle.tg_script.specs.Answering.{apply_refusal, create_answer}
 use Rattle.tg_script.specs.Run.{Shows, HandlesBy, Handles}
 
@@ -94,7 +94,7 @@ minor_refused old new why want opening entries supply helpers s shown =
 -- nothing is left of the stock
 pub create_none : {P : Type 0} (old new : Run P) (x : ℕ) (label : RightSet) → values_left old.supply ≡ [] → new.store ≡ old.store → values_left new.supply ≡ values_left old.supply → new.helpers ≡ old.helpers → Handles old (line.Create x label) (told.Refused refusal.Stock) new
 create_none old new x label empty store supply helpers s shown =
-    let P : List Value → Type 0 = λ stock. Creates s x label stock (told.Refused refusal.Stock) s in
+    let P : List Value → Type 0 = λ stock. AnswersCreate s x label stock (told.Refused refusal.Stock) s in
     let same = same_scene old new s (ap (λ (y : StoreState). y.opening) store) (ap (λ (y : StoreState). y.entries) store) supply helpers shown in
     (s, same, inl (subst P (sym empty ∙ shown.1) (refl, refl)))
 
@@ -109,7 +109,7 @@ create_done store helpers new x label value left name answers steps unknown supp
     let answer = answers s.graph shown.0 in
     let room = room_left s.graph.made s.graph.limit name (nat_lt s.graph.made s.graph.limit) answer in
     let t : Scene = record s { graph = step s.graph x (deed.Create label value.law value.state); stock = cond (nat_lt s.graph.made s.graph.limit) left s.stock } in
-    let P : List Value → Type 0 = λ stock. Creates s x label stock (told.Reply (reply.Name name)) t in (
+    let P : List Value → Type 0 = λ stock. AnswersCreate s x label stock (told.Reply (reply.Name name)) t in (
       t,
       (steps s.graph shown.0, supply ∙ sym (ap (λ b. cond b left s.stock) room), same_helpers ∙ shown.2),
       inl (subst P shown.1 (inl (subject, ap told.Reply (sym answer), refl))),
@@ -139,7 +139,7 @@ unchanged_stock made limit new old full =
 -- no vertex was made, and the value was put back
 pub create_refused : (store : StoreState) (helpers : ℕ) {P : Type 0} (new : Run P) (x : ℕ) (label : RightSet) (value : Value) (left : List Value) (why : CreateFault) → ((g : ProtectionGraph) → StandsFor store g → (why ≡ create.NoSuchWorker) ↔ (¬ IsSubject g x)) → ((g : ProtectionGraph) → StandsFor store g → why ≡ create.VerticesFull → IsSubject g x × (g.limit ≤ g.made)) → ((g : ProtectionGraph) → StandsFor store g → why ≡ create.HeapFull → g.made < g.limit) → ((g : ProtectionGraph) → StandsFor store g → StandsFor new.store g) → values_left new.supply ≡ value ∷ left → new.helpers ≡ helpers → HandlesBy store (value ∷ left) helpers (line.Create x label) (create_answer why) new
 create_refused store helpers new x label value left create.NoSuchWorker unknown no_more full same supply same_helpers s shown =
-    let P : List Value → Type 0 = λ stock. Creates s x label stock (told.Refused refusal.Worker) s in
+    let P : List Value → Type 0 = λ stock. AnswersCreate s x label stock (told.Refused refusal.Worker) s in
     (s, (same s.graph shown.0, supply ∙ shown.1, same_helpers ∙ shown.2), inl (subst P shown.1 (inr ((unknown s.graph shown.0).0 refl, refl, refl))))
 create_refused store helpers new x label value left create.VerticesFull unknown no_more full same supply same_helpers s shown =
     let held = no_more s.graph shown.0 refl in
@@ -147,7 +147,7 @@ create_refused store helpers new x label value left create.VerticesFull unknown 
     let graph : step s.graph x d ≡ s.graph = unchanged_graph s.graph.made s.graph.limit _ s.graph held.1 in
     let stock = unchanged_stock s.graph.made s.graph.limit left s.stock held.1 in
     let t : Scene = record s { graph = step s.graph x d; stock = cond (nat_lt s.graph.made s.graph.limit) left s.stock } in
-    let P : List Value → Type 0 = λ stock. Creates s x label stock (told.Reply reply.VerticesFull) t in (
+    let P : List Value → Type 0 = λ stock. AnswersCreate s x label stock (told.Reply reply.VerticesFull) t in (
       t,
       (subst (λ (h : ProtectionGraph). StandsFor new.store h) (sym graph) (same s.graph shown.0), supply ∙ shown.1 ∙ sym stock, same_helpers ∙ shown.2),
       inl (subst P shown.1 (inl (held.0, ap told.Reply (sym (full_answer s.graph.made s.graph.limit held.1)), refl))),

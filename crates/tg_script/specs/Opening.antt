@@ -33,9 +33,9 @@ ReadsEdges s bytes (Err f) t rest = IsOfReading f × (edges : List Edge) × Read
 
 -- The store is opened with the plan, has no entry, and stands for the graph that the plan starts from; or a limit of the plan is
 -- out of its range, or else memory was wanting, or a block for each worker where the heap may have so many.
-abbrev pub Opens : Plan → ℕ → Result StoreState ScriptFault → Type 0
-Opens p blocks (Ok store) = HasLimits p × (p.workers ≤ blocks) × StandsFor store (start_of p) × (store.opening ≡ p) × (store.entries ≡ [])
-Opens p blocks (Err fault.BadLimits) = ¬ HasLimits p
-Opens p blocks (Err fault.OutOfMemory) = HasLimits p
-Opens p blocks (Err fault.HeapFull) = HasLimits p × (blocks < p.workers)
-Opens p blocks (Err f) = ⊥
+abbrev pub OpensStore : Plan → ℕ → Result StoreState ScriptFault → Type 0
+OpensStore p blocks (Ok store) = HasLimits p × (p.workers ≤ blocks) × StandsFor store (start_of p) × (store.opening ≡ p) × (store.entries ≡ [])
+OpensStore p blocks (Err fault.BadLimits) = ¬ HasLimits p
+OpensStore p blocks (Err fault.OutOfMemory) = HasLimits p
+OpensStore p blocks (Err fault.HeapFull) = HasLimits p × (blocks < p.workers)
+OpensStore p blocks (Err f) = ⊥

@@ -7,7 +7,7 @@ use Rattle.tg_text.specs.declared.line.Line.{Line}
 use Rattle.tg_text.specs.declared.answer.Answer.{Answer}
 use Rattle.tg_script.specs.declared.run.Run.{Run}
 use Rattle.tg_text.specs.declared.fault.ScriptFault.{ScriptFault}
-use Rattle.tg_script.specs.Opening.{Opens}
+use Rattle.tg_script.specs.Opening.{OpensStore}
 use Rattle.tg_script.specs.Supply.{values_left}
 use Rattle.tg_script.specs.Script.{Scene, Serves}
 
@@ -32,4 +32,4 @@ HandlesWith old value l a new = HandlesBy old.store (value ∷ values_left old.s
 -- the store was opened, and the run shows the scene that the plan makes beside this stock; or why it wasn't opened
 abbrev pub OpensRun : {P : Type 0} → Plan → ℕ → List Value → ℕ → Result (Run P) ScriptFault → Type 0
 OpensRun p blocks stock helpers (Ok run) = HasLimits p × (p.workers ≤ blocks) × Shows run (record { graph = start_of p; stock = stock; helpers = helpers })
-OpensRun p blocks stock helpers (Err f) = Opens p blocks (Err f)
+OpensRun p blocks stock helpers (Err f) = OpensStore p blocks (Err f)

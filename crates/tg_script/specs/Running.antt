@@ -2,7 +2,7 @@
 use Rattle.std.specs.Prelude.{◌≡◌, ◌≢◌, ◌⊎◌, ℕ, ◌+◌, ◌<◌, ◌≤◌, IsOk, List, [], ◌∷◌, ◌++◌, length, Option, Some, None, Result, Ok, Err}
 use Rattle.tg_text.specs.declared.fault.ScriptFault.{ScriptFault}
 use Rattle.tg_text.specs.declared.fault.ScriptFault.TheVariants as fault
-use Rattle.tg_text.specs.Sinks.{Keeps, Writes}
+use Rattle.tg_text.specs.Sinks.{KeepsBytes, Writes}
 use Rattle.tg_text.specs.declared.line.Line.{Line}
 use Rattle.tg_script.specs.declared.script.Script.{Script}
 use Rattle.tg_text.specs.declared.answer.Answer.{Answer}
@@ -11,7 +11,7 @@ use Rattle.tg_text.specs.Texts.{answer_text}
 use Rattle.tg_script.specs.Run.{Handles}
 use Rattle.tg_script.specs.Lines.{ReadsFrom, IsBehind, IsOfReading}
 use Rattle.tg_text.specs.Reading.{ReadsScript}
-use Rattle.tg_script.specs.Script.{Scene, IsAdmissible, IsCut, Start, HasRoom, CanOpen, IsScriptOutput, commands_of, scene_of}
+use Rattle.tg_script.specs.Script.{Scene, IsAdmissible, IsCut, Start, HasRoomForWorkers, CanOpen, IsScriptOutput, commands_of, scene_of}
 
 -- the text for the script, read up to this fault or to its end, stands behind what was written before
 abbrev pub IsWritten : Start → List ℕ → List ℕ → Option ScriptFault → List ℕ → Option (List ℕ) → Type 0
@@ -41,16 +41,16 @@ abbrev pub Ran : {T : Type 0} → Start → List ℕ → List ℕ → Result T S
 Ran start bytes before (Ok done) left after = CanOpen start × IsWritten start bytes before None left after
 Ran start bytes before (Err fault.WriteFailed) left after = IsWritten start bytes before (Some fault.WriteFailed) left after ⊎ IsCutOff start bytes before left after
 Ran start bytes before (Err fault.OutOfMemory) left after =
-    (IsUnkept start bytes left ⊎ (HasRoom start × IsUnopened start bytes fault.OutOfMemory left)) × (after ≡ Some before)
+    (IsUnkept start bytes left ⊎ (HasRoomForWorkers start × IsUnopened start bytes fault.OutOfMemory left)) × (after ≡ Some before)
 Ran start bytes before (Err fault.HeapFull) left after =
-    HasRoom start × (start.blocks < start.workers) × IsUnopened start bytes fault.HeapFull left × (after ≡ Some before)
-Ran start bytes before (Err fault.BadLimits) left after = (¬ HasRoom start) × IsUnopened start bytes fault.BadLimits left × (after ≡ Some before)
+    HasRoomForWorkers start × (start.blocks < start.workers) × IsUnopened start bytes fault.HeapFull left × (after ≡ Some before)
+Ran start bytes before (Err fault.BadLimits) left after = (¬ HasRoomForWorkers start) × IsUnopened start bytes fault.BadLimits left × (after ≡ Some before)
 Ran start bytes before (Err f) left after = IsWritten start bytes before (Some f) left after
 
 -- What holds of the settings where a run ends with this fault, whatever its source tells of its bytes: with `BadLimits` and
 -- `HeapFull` it ends only where the settings are at fault.
 abbrev pub IsDue : Start → ScriptFault → Type 0
-IsDue start fault.BadLimits = ¬ HasRoom start
+IsDue start fault.BadLimits = ¬ HasRoomForWorkers start
 IsDue start fault.HeapFull = start.blocks < start.workers
 IsDue start f = Unit {0}
 
@@ -88,5 +88,5 @@ RunsLine old l new before failures result after failures' =
 -- The sink was finished: what was taken is the same still. A fault stands; where there was none and it failed, that is the fault.
 abbrev pub Finishes : {T : Type 0} → Option (List ℕ) → ℕ → Result T ScriptFault → Result T ScriptFault → Option (List ℕ) → ℕ → Type 0
 Finishes before failures outcome result after failures' =
-    Keeps before after × (((result ≡ outcome) × (failures ≤ failures') × (IsOk outcome → failures' ≡ failures))
+    KeepsBytes before after × (((result ≡ outcome) × (failures ≤ failures') × (IsOk outcome → failures' ≡ failures))
     ⊎ (IsOk outcome × (result ≡ Err fault.WriteFailed) × (failures' ≡ failures + 1)))

@@ -29,9 +29,9 @@ pub record Scene : Type 0 where
 
 -- The answer to a create line of x and the scene after it, where this stands in the stock. The first value is taken where a
 -- vertex is made.
-abbrev pub Creates : Scene → ℕ → RightSet → List Value → Answer → Scene → Type 0
-Creates s x label [] a t = (a ≡ told.Refused refusal.Stock) × (t ≡ s)
-Creates s x label (value ∷ rest) a t =
+abbrev pub AnswersCreate : Scene → ℕ → RightSet → List Value → Answer → Scene → Type 0
+AnswersCreate s x label [] a t = (a ≡ told.Refused refusal.Stock) × (t ≡ s)
+AnswersCreate s x label (value ∷ rest) a t =
     (IsSubject s.graph x × (a ≡ told.Reply (answer_of s.graph x (deed.Create label value.law value.state)))
     × (t ≡ record s { graph = step s.graph x (deed.Create label value.law value.state); stock = if nat_lt s.graph.made s.graph.limit then rest else s.stock }))
     ⊎ ((¬ IsSubject s.graph x) × (a ≡ told.Refused refusal.Worker) × (t ≡ s))
@@ -41,7 +41,7 @@ Creates s x label (value ∷ rest) a t =
 -- answered by. Edge lines have no answer.
 abbrev pub Answers : Scene → Line → Answer → Scene → Type 0
 Answers s (line.Edge edge) a t = ⊥
-Answers s (line.Create x label) a t = Creates s x label s.stock a t
+Answers s (line.Create x label) a t = AnswersCreate s x label s.stock a t
 Answers s (line.Plain x command) a t =
     (IsSubject s.graph x × (a ≡ told.Reply (answer_of s.graph x (deed.Plain command))) × (t ≡ record s { graph = step s.graph x (deed.Plain command) }))
     ⊎ ((¬ IsSubject s.graph x) × (a ≡ told.Refused refusal.Worker) × (t ≡ s))
@@ -60,18 +60,18 @@ MayWant helpers refusal.Stock = ⊥
 -- What may be answered in place of that, with nothing changed: memory may be wanting for each line that reaches the store, one
 -- of a worker or a collection; room in the heap for a collection, and for a create, a take or a grant that is allowed; threads
 -- for a collection by several helpers.
-abbrev pub MayRefuse : Scene → Line → Refusal → Type 0
-MayRefuse s (line.Create x label) refusal.Memory = IsSubject s.graph x × (s.stock ≢ [])
-MayRefuse s (line.Plain x command) refusal.Memory = IsSubject s.graph x
-MayRefuse s (line.Create x label) refusal.Heap = IsSubject s.graph x × (s.stock ≢ []) × (s.graph.made < s.graph.limit)
-MayRefuse s (line.Plain x command) refusal.Heap = IsSubject s.graph x × IsAllowed s.graph x (deed.Plain command) × AddsEdge command
-MayRefuse s line.Full r = MayWant s.helpers r
-MayRefuse s line.Minor r = MayWant s.helpers r
-MayRefuse s l r = ⊥
+abbrev pub MayAnswerRefused : Scene → Line → Refusal → Type 0
+MayAnswerRefused s (line.Create x label) refusal.Memory = IsSubject s.graph x × (s.stock ≢ [])
+MayAnswerRefused s (line.Plain x command) refusal.Memory = IsSubject s.graph x
+MayAnswerRefused s (line.Create x label) refusal.Heap = IsSubject s.graph x × (s.stock ≢ []) × (s.graph.made < s.graph.limit)
+MayAnswerRefused s (line.Plain x command) refusal.Heap = IsSubject s.graph x × IsAllowed s.graph x (deed.Plain command) × AddsEdge command
+MayAnswerRefused s line.Full r = MayWant s.helpers r
+MayAnswerRefused s line.Minor r = MayWant s.helpers r
+MayAnswerRefused s l r = ⊥
 
 -- the line is answered, or refused for want with the scene as it was
 abbrev pub Serves : Scene → Line → Answer → Scene → Type 0
-Serves s l a t = Answers s l a t ⊎ ((r : Refusal) × MayRefuse s l r × (a ≡ told.Refused r) × (t ≡ s))
+Serves s l a t = Answers s l a t ⊎ ((r : Refusal) × MayAnswerRefused s l r × (a ≡ told.Refused r) × (t ≡ s))
 
 -- ---- the text for many lines
 
@@ -86,7 +86,7 @@ abbrev pub IsAdmissible : Scene → List Line → ℕ → List ℕ → Type 0
 IsAdmissible s [] wants text = (wants ≡ 0) × (text ≡ [])
 IsAdmissible s (l ∷ lines) wants text =
     ((a : Answer) × (t : Scene) × (rest : List ℕ) × Answers s l a t × (text ≡ answer_text a ++ rest) × IsAdmissible t lines wants rest)
-    ⊎ ((r : Refusal) × (fewer : ℕ) × (rest : List ℕ) × MayRefuse s l r × (wants ≡ fewer + 1) × (text ≡ answer_text (told.Refused r) ++ rest)
+    ⊎ ((r : Refusal) × (fewer : ℕ) × (rest : List ℕ) × MayAnswerRefused s l r × (wants ≡ fewer + 1) × (text ≡ answer_text (told.Refused r) ++ rest)
     × IsAdmissible s lines fewer rest)
 
 -- What stands of the text for the lines where writing came to an error: the whole of each reply but the last, and a front of that.
@@ -134,12 +134,12 @@ scene_of start lines = record {
 }
 
 -- the limit leaves room for the workers
-abbrev pub HasRoom : Start → Type 0
-HasRoom start = HasLimits (record { workers = start.workers; edges = []; values = start.values; limit = start.limit })
+abbrev pub HasRoomForWorkers : Start → Type 0
+HasRoomForWorkers start = HasLimits (record { workers = start.workers; edges = []; values = start.values; limit = start.limit })
 
 -- a store can be opened: there is room for the workers, and there may be a block for each
 abbrev pub CanOpen : Start → Type 0
-CanOpen start = HasRoom start × (start.workers ≤ start.blocks)
+CanOpen start = HasRoomForWorkers start × (start.workers ≤ start.blocks)
 
 -- where a line is no edge line the store was opened
 abbrev pub MayAnswer : Start → List Line → Type 0

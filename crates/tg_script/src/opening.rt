@@ -2,9 +2,9 @@
 ghost use Rattle.std.specs.Prelude.{◌≡◌, ◌+◌, ◌<◌, ◌≤◌, ℕ, List, length, Some, true, false, IfOk, IfErr, IfSome};
 ghost use Rattle.std.specs.List.{All};
 ghost use Rattle.tg_model.specs.Opened.{Plan, JoinsWorkers};
-ghost use Rattle.tg_text.specs.Sinks.{Keeps};
+ghost use Rattle.tg_text.specs.Sinks.{KeepsBytes};
 ghost use Rattle.tg_script.specs.Lines.{IsOfKeeping, read_failures, write_failures};
-ghost use Rattle.tg_script.specs.Opening.{ReadsEdges, IsCommand, Opens};
+ghost use Rattle.tg_script.specs.Opening.{ReadsEdges, IsCommand, OpensStore};
 
 use crate::drafts::values_of;
 use crate::script::Script;
@@ -34,7 +34,7 @@ pub(crate) fn read_edges<S: Source, K: Sink>(
     ensures bytes { (bytes : List ℕ) → S.left source.old ≡ Some bytes → (rest : List ℕ) × (S.left source.new ≡ Some rest) × ReadsEdges script.old bytes result script.new rest }
     ensures fault { IfErr result IsOfKeeping }
     ensures failures { S.failures source.new ≡ S.failures source.old + read_failures result }
-    ensures taken { Keeps (K.taken sink.old) (K.taken sink.new) }
+    ensures taken { KeepsBytes (K.taken sink.old) (K.taken sink.new) }
     ensures write_failures { K.failures sink.new ≡ K.failures sink.old + write_failures result }
     ensures asked { S.asked source.new + script.new.lines.room ≤ S.asked source.old + script.old.lines.room + 1 }
     ensures asked_of_line { IfOk result (λ front. IfSome front.first (λ _. S.asked source.new + script.new.lines.room ≡ S.asked source.old + script.old.lines.room)) }
@@ -65,7 +65,7 @@ pub fn open_store<P: Payload>(
     requires workers { (1 ≤ workers) × (workers ≤ 64) }
     requires edges { All (JoinsWorkers workers) edges.items }
     requires drafts { length drafts.items ≡ workers }
-    ensures { let plan : Plan = record { workers = workers; edges = edges.items; values = drafts.items; limit = max_vertices } in Opens plan limits.max_blocks result }
+    ensures { let plan : Plan = record { workers = workers; edges = edges.items; values = drafts.items; limit = max_vertices } in OpensStore plan limits.max_blocks result }
 {
     if max_vertices < 1 || MAX_VERTICES < max_vertices || max_vertices < workers {
         return Err(ScriptFault::BadLimits);

@@ -12,7 +12,7 @@ use Rattle.tg_journal.specs.declared.entry.Entry.{Entry}
 use Rattle.tg_journal.proofs.HistoryLaws.{le-graph_after-made}
 use Rattle.tg_store.specs.Store.{StoreState, Enters, graph_of_store}
 use Rattle.tg_store.proofs.StandLaws.{graph-entered}
-use Rattle.tg_shared.specs.Sessions.{GoesOn, IsBalanced, Start, start_of_store}
+use Rattle.tg_shared.specs.Sessions.{GoesOn, IsBalanced, SharedStart, start_of_store}
 
 -- one entry more, which is counted
 pub balanced_entered : (old new : StoreState) (start sessions total next rest parts worker : ℕ) (deed : Deed) (reply : Reply) → IsBalanced old start sessions total rest parts
@@ -37,7 +37,7 @@ pub opened_made : (s : StoreState) → s.opening.workers ≤ (graph_of_store s).
 opened_made s = le-graph_after-made (start_of s.opening) s.entries
 
 -- the shared store goes on: with an entry more, and with the same entries
-pub goes_on_entered : (start : Start) (old new : StoreState) (worker : ℕ) (deed : Deed) (reply : Reply) → GoesOn start old
+pub goes_on_entered : (start : SharedStart) (old new : StoreState) (worker : ℕ) (deed : Deed) (reply : Reply) → GoesOn start old
     → Enters old new worker deed reply → new.opening ≡ old.opening → new.heap.table.limits ≡ old.heap.table.limits → GoesOn start new
 goes_on_entered start old new worker deed reply on entry opening limits =
     let n = length start.entries in
@@ -51,7 +51,7 @@ goes_on_entered start old new worker deed reply on entry opening limits =
       limits = limits ∙ on.limits;
     }
 
-pub goes_on_same : (start : Start) (old new : StoreState) → GoesOn start old
+pub goes_on_same : (start : SharedStart) (old new : StoreState) → GoesOn start old
     → new.entries ≡ old.entries → new.opening ≡ old.opening → new.heap.table.limits ≡ old.heap.table.limits → GoesOn start new
 goes_on_same start old new on entries opening limits = record {
   opening = opening ∙ on.opening;
@@ -60,15 +60,15 @@ goes_on_same start old new on entries opening limits = record {
 }
 
 -- as long as before at least
-pub grown : (start : Start) (s : StoreState) → GoesOn start s → length start.entries ≤ length s.entries
+pub grown : (start : SharedStart) (s : StoreState) → GoesOn start s → length start.entries ≤ length s.entries
 grown start s on =
     let long = ap (λ (es : List Entry). length es) on.earlier in
     omega (arith, length-take (length start.entries) s.entries)
 
 -- a store that was just shared goes on
-pub goes_on_start : (start : Start) (s : StoreState) → start_of_store s ≡ start → GoesOn start s
+pub goes_on_start : (start : SharedStart) (s : StoreState) → start_of_store s ≡ start → GoesOn start s
 goes_on_start start s is = record {
-  opening = ap (λ (b : Start). b.opening) is;
-  earlier = subst (λ (es : List Entry). take (length es) s.entries ≡ es) (ap (λ (b : Start). b.entries) is) (take-length s.entries);
-  limits = ap (λ (b : Start). b.limits) is;
+  opening = ap (λ (b : SharedStart). b.opening) is;
+  earlier = subst (λ (es : List Entry). take (length es) s.entries ≡ es) (ap (λ (b : SharedStart). b.entries) is) (take-length s.entries);
+  limits = ap (λ (b : SharedStart). b.limits) is;
 }

@@ -2,10 +2,10 @@
 use Rattle.std.proofs.Common.{◌≡◌, ◌↔◌, ◌∙◌, sym, subst, Result, Ok, Err}
 use Rattle.std.specs.Prelude.{IfOk, IfErr, IsErrAnd, MatchResult}
 use Rattle.tg_store.specs.Store.{IsFaithful}
-use Rattle.tg_shared.specs.Sessions.{GoesOn, KeepsReceipts, LockedState, SessionState, Start}
+use Rattle.tg_shared.specs.Sessions.{GoesOn, KeepsReceipts, LockedState, SessionState, SharedStart}
 
 -- a value read under the lock is the one that the call is then made on
-pub found : (start : Start) (v w : LockedState) → v ≡ w → GoesOn start v.store → IsFaithful v.store → GoesOn start w.store × IsFaithful w.store
+pub found : (start : SharedStart) (v w : LockedState) → v ≡ w → GoesOn start v.store → IsFaithful v.store → GoesOn start w.store × IsFaithful w.store
 found start v w same on faithful = subst (λ (b : LockedState). GoesOn start b.store × IsFaithful b.store) same (on, faithful)
 
 -- what an equivalence says of the refusal that is there

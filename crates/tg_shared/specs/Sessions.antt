@@ -25,29 +25,29 @@ pub record LockedState : Type 0 where
   pub sessions : ℕ
 
 -- What a store was when it was shared: its opening, the entries that its journal had, and its limits.
-pub record Start : Type 0 where
+pub record SharedStart : Type 0 where
   pub opening : Plan
   pub entries : List Entry
   pub limits : BlockLimits
 
-abbrev pub start_of_store : StoreState → Start
+abbrev pub start_of_store : StoreState → SharedStart
 start_of_store s = record { opening = s.opening; entries = s.entries; limits = s.heap.table.limits }
 
 -- how many sessions were made then: one for each subject of the opening
-abbrev pub sessions_made : Start → ℕ
+abbrev pub sessions_made : SharedStart → ℕ
 sessions_made start = start.opening.workers
 
 -- ---- what is behind the lock
 
 -- The store is the one that was shared, and has only gone on: opening and limits are as they were, and the journal begins
 -- with the entries that it had.
-pub record GoesOn (start : Start) (s : StoreState) : Type 0 where
+pub record GoesOn (start : SharedStart) (s : StoreState) : Type 0 where
   pub opening : s.opening ≡ start.opening
   pub earlier : take (length start.entries) s.entries ≡ start.entries
   pub limits : s.heap.table.limits ≡ start.limits
 
 -- This holds of some store that may have been behind the lock: of the shared one, gone on, which keeps the store's promise.
-abbrev pub AtSome : Start → (StoreState → Type 0) → Type 0
+abbrev pub AtSome : SharedStart → (StoreState → Type 0) → Type 0
 AtSome start holds = (s : StoreState) × GoesOn start s × IsFaithful s × holds s
 
 -- ---- what a call does
@@ -64,7 +64,7 @@ AddsReceipt old new at deed reply =
 
 -- Exactly one receipt more, of an entry with this deed and this reply. The entry came next in the journal of a store that may
 -- have been behind the lock, and was legal there: the reply is the rules' answer on that store's graph.
-abbrev pub IsAnswered : Start → SessionState → SessionState → Deed → Reply → Type 0
+abbrev pub IsAnswered : SharedStart → SessionState → SessionState → Deed → Reply → Type 0
 IsAnswered start old new deed reply =
     AtSome start (λ s. AddsReceipt old new (length s.entries) deed reply
     × IsLegalEntry (graph_of_store s) (record { worker = old.worker; deed = deed; reply = reply }))

@@ -1,6 +1,6 @@
 //! The time from sharing a store to closing it, as a type.
 ghost use Rattle.std.specs.Prelude.{[]};
-ghost use Rattle.tg_shared.specs.Sessions.{Start};
+ghost use Rattle.tg_shared.specs.Sessions.{SharedStart};
 
 use std::marker::Brand;
 use std::sync::ledger::Ledger;
@@ -9,7 +9,7 @@ use std::sync::ledger::Ledger;
 /// the sessions to the store. A function that shares a store is generic in it, and is called with `Brand`.
 pub trait Round: Ledger {
     /// What the store was when it was shared.
-    ghost start: { Start };
+    ghost start: { SharedStart };
 }
 
 impl Round for Brand {

@@ -47,7 +47,7 @@ pub record IsNextIn (h : SpaceList) (forward : List ℕ) (space c d : ℕ) : Typ
 -- Where a nursery collection puts copies. One of an Aged cell is in Old. One of a nursery cell is in Aged only at the end
 -- of a walk over cells all copied to Aged, which begins with a target of a row; and in Old only at the end of one over
 -- cells all copied to Old, which begins with a target of a remembered cell or with a cell of Aged.
-pub record AreAged (h : SpaceList) (roots : List Root) (forward : List ℕ) : Type 0 where
+pub record AreSortedByAge (h : SpaceList) (roots : List Root) (forward : List ℕ) : Type 0 where
   pub aged : (c : ℕ) → IsAgedCell h c → slice_index forward c ≢ 0 → GoesTo forward 0 c
   pub to_aged : (c : ℕ) → IsNurseryCell h c → GoesTo forward 1 c → Walk (IsRowTarget h roots) (IsNextIn h forward 1) c
   pub to_old : (c : ℕ) → IsNurseryCell h c → GoesTo forward 0 c → Walk (λ x. IsRememberedTarget h roots x ⊎ IsAgedCell h x) (IsNextIn h forward 0) c
@@ -55,7 +55,7 @@ pub record AreAged (h : SpaceList) (roots : List Root) (forward : List ℕ) : Ty
 -- a full collection puts all copies in Old
 abbrev pub AreInGenerations : Kind → SpaceList → List Root → List ℕ → Type 0
 AreInGenerations Full h roots forward = (c : ℕ) → c < length (cells_of h) → slice_index forward c ≢ 0 → GoesTo forward 0 c
-AreInGenerations Nursery h roots forward = AreAged h roots forward
+AreInGenerations Nursery h roots forward = AreSortedByAge h roots forward
 
 -- ---- remembered cells
 

@@ -56,14 +56,14 @@ abbrev pub targets_at : (ℕ → Bool) → SpaceList → Place → List ℕ
 targets_at from h p = named_by from h (pointers_of (cell_at h p))
 
 -- the cells of a row that are met along its links before one that is in from-space
-abbrev pub cells_met : (ℕ → Bool) → SpaceList → Place → List Place
-cells_met from h p = take_while (λ q. not (from q.space)) (row_of h p)
+abbrev pub cells_followed : (ℕ → Bool) → SpaceList → Place → List Place
+cells_followed from h p = take_while (λ q. not (from q.space)) (row_of h p)
 
 -- The targets of a root. A row whose object is in from-space has that one cell; any other has the targets of the cells
 -- that are met. A remembered cell has its own targets.
 abbrev pub root_targets_of : (ℕ → Bool) → SpaceList → Root → List ℕ
 root_targets_of from h (Row place) =
-    if from place.space then flat_of h place ∷ [] else flat_map (targets_at from h) (cells_met from h place)
+    if from place.space then flat_of h place ∷ [] else flat_map (targets_at from h) (cells_followed from h place)
 root_targets_of from h (Remembered place) = targets_at from h place
 
 -- the targets of all roots

@@ -14,7 +14,7 @@ use Rattle.tg_model.specs.declared.reply.Denial.{Denial}
 use Rattle.tg_model.specs.Graph.{ProtectionGraph, IsSubject}
 use Rattle.tg_model.specs.Rules.{Permits, answer_of, denial_of, denied_or, reply_of, effect, step, unless_denied}
 use Rattle.tg_graph.specs.Content.{Content}
-use Rattle.tg_graph.specs.Standing.{StandsFor}
+use Rattle.tg_graph.specs.Standing.{IsContentOf}
 use Rattle.tg_graph.proofs.StandingLaws.{answer_of-stands, denial_of-stands, StandsFor-denied, IsSameContent-self}
 use Rattle.tg_model.proofs.AllowedLaws.{permits-no_denial}
 use Rattle.tg_rules.specs.Effect.{IsReplyOn, OnlyLooks}
@@ -28,7 +28,7 @@ reply_of-done label value n x (Read y) changes = absurd (changes tt)
 reply_of-done label value n x (Write y v) changes = refl
 reply_of-done label value n x Listing changes = absurd (changes tt)
 
-module _ (c : Content) (g : ProtectionGraph) (stands : StandsFor c g) (x : ℕ) (command : Command) (subject : IsSubject g x) (none : denial_of c.label x command ≡ None) where
+module _ (c : Content) (g : ProtectionGraph) (stands : IsContentOf c g) (x : ℕ) (command : Command) (subject : IsSubject g x) (none : denial_of c.label x command ≡ None) where
   -- all names are below the number of vertices ever made
   below_made : All (λ name. name < g.made) c.names
   below_made k d low = stands.made (get_or c.names k d) (k, low, get_or_default c.names k (get_or c.names k d) d low)
@@ -47,11 +47,11 @@ module _ (c : Content) (g : ProtectionGraph) (stands : StandsFor c g) (x : ℕ) 
 
 -- ---- where a command is denied
 
-module _ (c : Content) (g : ProtectionGraph) (stands : StandsFor c g) (x : ℕ) (command : Command) (subject : IsSubject g x) (denial : Denial) (denied : denial_of c.label x command ≡ Some denial) where
+module _ (c : Content) (g : ProtectionGraph) (stands : IsContentOf c g) (x : ℕ) (command : Command) (subject : IsSubject g x) (denial : Denial) (denied : denial_of c.label x command ≡ Some denial) where
   pub reply-denied : Denied denial ≡ answer_of g x (Plain command)
   reply-denied = sym (answer_of-stands c g stands x command subject ∙ ap (λ d. denied_or d (reply_of c.label c.value g.made x command)) denied)
 
-  pub step-denied_stands : StandsFor c (step g x (Plain command))
+  pub step-denied_stands : IsContentOf c (step g x (Plain command))
   step-denied_stands = StandsFor-denied c c g stands x subject command denial denied (IsSameContent-self c)
 
 -- the reply to a command that is served is no denial
@@ -68,7 +68,7 @@ from_denied None reply denial none e = absurd (none e)
 from_denied (Some d) reply denial none e = let same : denial ≡ d = cc e in ap Some (sym same)
 
 -- where a denial is answered, it is that of the content
-pub denial-answered : (c : Content) (g : ProtectionGraph) (x : ℕ) (command : Command) (denial : Denial) → StandsFor c g → IsSubject g x → Denied denial ≡ answer_of g x (Plain command) → denial_of c.label x command ≡ Some denial
+pub denial-answered : (c : Content) (g : ProtectionGraph) (x : ℕ) (command : Command) (denial : Denial) → IsContentOf c g → IsSubject g x → Denied denial ≡ answer_of g x (Plain command) → denial_of c.label x command ≡ Some denial
 denial-answered c g x command denial stands subject e =
     denial_of-stands c g stands x command subject
     ∙ from_denied (denial_of g.label x command) (reply_of g.label g.value g.made x command) denial (not_denied g.label g.value g.made x command denial) e

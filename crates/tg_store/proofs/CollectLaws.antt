@@ -22,7 +22,7 @@ module _ (old new : StoreState) (made : ℕ) (is : IsStore old made) where
   workers_subjects = graph_after-subjects (start_of old.opening) old.entries ∙ ap (range_with_len 0) (sym is.faithful.workers)
 
   -- what is kept stands for the same graph
-  stands_kept : (kind : Kind) → KeepsReached kind (content_of old.heap) (content_of new.heap) (length old.heap.workers) → content_stands.StandsFor (content_of new.heap) (graph_of_store old)
+  stands_kept : (kind : Kind) → KeepsReached kind (content_of old.heap) (content_of new.heap) (length old.heap.workers) → content_stands.IsContentOf (content_of new.heap) (graph_of_store old)
   stands_kept Full keeps = content.StandsFor-full_collection (content_of old.heap) (content_of new.heap) (graph_of_store old) is.faithful.stands (length old.heap.workers) workers_subjects keeps
   stands_kept Nursery (keeps, all) =
       content.StandsFor-kept (content_of old.heap) (content_of new.heap) (graph_of_store old) is.faithful.stands (IsNamed (content_of new.heap)) keeps

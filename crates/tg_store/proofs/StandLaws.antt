@@ -22,11 +22,11 @@ pub StandsFor-unchanged : (old new : StoreState) (g : ProtectionGraph) → Stand
 StandsFor-unchanged old new g stands unchanged = same_graph old new unchanged.opening unchanged.entries ∙ stands
 
 -- where opening and journal are the same, and the heap still stands for the graph
-pub IsFaithful-kept : (old new : StoreState) → IsFaithful old → new.opening ≡ old.opening → new.entries ≡ old.entries → standing.StandsFor (content_of new.heap) (graph_of_store old) → length new.heap.workers ≡ length old.heap.workers → IsFaithful new
+pub IsFaithful-kept : (old new : StoreState) → IsFaithful old → new.opening ≡ old.opening → new.entries ≡ old.entries → standing.IsContentOf (content_of new.heap) (graph_of_store old) → length new.heap.workers ≡ length old.heap.workers → IsFaithful new
 IsFaithful-kept old new faithful opening entries stands workers = record {
   plan = subst IsPlan (sym opening) faithful.plan;
   legal = rw (opening, entries) faithful.legal;
-  stands = subst (standing.StandsFor (content_of new.heap)) (sym (same_graph old new opening entries)) stands;
+  stands = subst (standing.IsContentOf (content_of new.heap)) (sym (same_graph old new opening entries)) stands;
   workers = workers ∙ faithful.workers ∙ sym (ap (λ (p : Plan). p.workers) opening);
 }
 
@@ -55,15 +55,15 @@ module _ (old new : StoreState) (worker : ℕ) (deed : Deed) (reply : Reply) (op
   StandsFor-entered g stands = graph-entered ∙ ap (λ h. step h worker deed) stands
 
   -- and is faithful, where the reply is that graph's and the heap stands for the next
-  pub IsFaithful-entered : IsFaithful old → IsSubject (graph_of_store old) worker → DeedFits deed → reply ≡ answer_of (graph_of_store old) worker deed → standing.StandsFor (content_of new.heap) (step (graph_of_store old) worker deed) → length new.heap.workers ≡ length old.heap.workers → IsFaithful new
+  pub IsFaithful-entered : IsFaithful old → IsSubject (graph_of_store old) worker → DeedFits deed → reply ≡ answer_of (graph_of_store old) worker deed → standing.IsContentOf (content_of new.heap) (step (graph_of_store old) worker deed) → length new.heap.workers ≡ length old.heap.workers → IsFaithful new
   IsFaithful-entered faithful subject fits is stands workers = record {
     plan = subst IsPlan (sym opening) faithful.plan;
     legal = rw (opening, entry) (IsLegal-push (start_of old.opening) old.entries (record { worker = worker; deed = deed; reply = reply }) faithful.legal (record { subject = subject; fits = fits; reply = is }));
-    stands = subst (standing.StandsFor (content_of new.heap)) (sym graph-entered) stands;
+    stands = subst (standing.IsContentOf (content_of new.heap)) (sym graph-entered) stands;
     workers = workers ∙ faithful.workers ∙ sym (ap (λ (p : Plan). p.workers) opening);
   }
 
-  pub IsStore-entered : (made : ℕ) → IsFaithful old → IsSubject (graph_of_store old) worker → DeedFits deed → reply ≡ answer_of (graph_of_store old) worker deed → standing.StandsFor (content_of new.heap) (step (graph_of_store old) worker deed) → length new.heap.workers ≡ length old.heap.workers → made ≡ (step (graph_of_store old) worker deed).made → IsStore new made
+  pub IsStore-entered : (made : ℕ) → IsFaithful old → IsSubject (graph_of_store old) worker → DeedFits deed → reply ≡ answer_of (graph_of_store old) worker deed → standing.IsContentOf (content_of new.heap) (step (graph_of_store old) worker deed) → length new.heap.workers ≡ length old.heap.workers → made ≡ (step (graph_of_store old) worker deed).made → IsStore new made
   IsStore-entered made faithful subject fits is stands workers next = record {
     faithful = IsFaithful-entered faithful subject fits is stands workers;
     is_made = next ∙ ap (λ g. g.made) (sym graph-entered);
@@ -71,7 +71,7 @@ module _ (old new : StoreState) (worker : ℕ) (deed : Deed) (reply : Reply) (op
 
 -- ---- no entry yet
 
-pub IsFaithful-start : (s : StoreState) → IsPlan s.opening → s.entries ≡ [] → standing.StandsFor (content_of s.heap) (start_of s.opening) → length s.heap.workers ≡ s.opening.workers → IsFaithful s
+pub IsFaithful-start : (s : StoreState) → IsPlan s.opening → s.entries ≡ [] → standing.IsContentOf (content_of s.heap) (start_of s.opening) → length s.heap.workers ≡ s.opening.workers → IsFaithful s
 IsFaithful-start s plan none stands workers = record {
   plan = plan;
   legal = rw none tt;

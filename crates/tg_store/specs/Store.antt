@@ -36,7 +36,7 @@ StandsFor s g = graph_of_store s ≡ g
 pub record IsFaithful (s : StoreState) : Type 0 where
   pub plan : IsPlan s.opening
   pub legal : IsLegal (start_of s.opening) s.entries
-  pub stands : standing.StandsFor (content_of s.heap) (graph_of_store s)
+  pub stands : standing.IsContentOf (content_of s.heap) (graph_of_store s)
   pub workers : length s.heap.workers ≡ s.opening.workers
 
 -- the same, and so many vertices were ever made
@@ -60,7 +60,7 @@ pub record OnlyEnters (old new : StoreState) (worker : ℕ) (deed : Deed) (reply
 pub record IsUnchanged (old new : StoreState) : Type 0 where
   pub opening : new.opening ≡ old.opening
   pub entries : new.entries ≡ old.entries
-  pub heap : graph.IsUnchanged old.heap new.heap
+  pub heap : graph.IsUnchangedHeap old.heap new.heap
 
 -- What a collection made stands in the place of what it moved: of a full one it is all that there is; a nursery collection has
 -- written the remembered cells besides.

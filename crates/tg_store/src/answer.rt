@@ -3,8 +3,8 @@ ghost use Rattle.std.specs.Prelude.{◌≡◌, ◌≢◌, ◌↔◌, ◌<◌, �
 ghost use Rattle.tg_model.specs.Graph.{ProtectionGraph, IsSubject};
 ghost use Rattle.tg_model.specs.Rules.{answer_of, denial_of, step};
 ghost use Rattle.tg_model.specs.declared.command.Deed.TheVariants.{Plain};
-ghost use Rattle.tg_graph.specs.Heap.{IsUnchanged, content_of};
-ghost use Rattle.tg_graph.specs.Standing.{StandsFor};
+ghost use Rattle.tg_graph.specs.Heap.{IsUnchangedHeap, content_of};
+ghost use Rattle.tg_graph.specs.Standing.{IsContentOf};
 ghost use Rattle.tg_rules.specs.Effect.{AddsEdge, LacksCellsToServe, OnlyLooks};
 ghost use Rattle.tg_rules.specs.Parties.{AreParties};
 
@@ -33,14 +33,14 @@ pub(crate) fn answer_command<P: Payload>(
 ) -> Result<Replies, ApplyFault>
     requires { worker < length heap.old.workers }
     ensures copy { IfOk result (λ answer. answer.copy ≡ answer.reply) }
-    ensures reply { (g : ProtectionGraph) → StandsFor (content_of heap.old) g → IsSubject g worker →
+    ensures reply { (g : ProtectionGraph) → IsContentOf (content_of heap.old) g → IsSubject g worker →
         IfOk result (λ answer. answer.reply ≡ answer_of g worker (Plain command.now)) }
-    ensures step { (g : ProtectionGraph) → StandsFor (content_of heap.old) g → IsSubject g worker →
-        OnOk result (StandsFor (content_of heap.new) (step g worker (Plain command.now))) }
+    ensures step { (g : ProtectionGraph) → IsContentOf (content_of heap.old) g → IsSubject g worker →
+        OnOk result (IsContentOf (content_of heap.new) (step g worker (Plain command.now))) }
     ensures denied { (denial : Denial) → denial_of (content_of heap.old).label worker command.now ≡ Some denial → heap.new ≡ heap.old }
     ensures workers { heap.new.workers ≡ heap.old.workers }
     ensures limits { heap.new.table.limits ≡ heap.old.table.limits }
-    ensures refused { OnErr result (IsUnchanged heap.old heap.new) }
+    ensures refused { OnErr result (IsUnchangedHeap heap.old heap.new) }
     ensures worker { result ≢ Err ApplyFault.NoSuchWorker }
     ensures full { result ≡ Err ApplyFault.HeapFull → (denial_of (content_of heap.old).label worker command.now ≡ None)
         × AddsEdge command.now × LacksCellsToServe heap.old.table worker command.now }
@@ -81,13 +81,13 @@ fn look<P: Payload>(
     requires served { denial_of (content_of heap.old).label worker command.now ≡ None }
     requires looks { OnlyLooks command.now }
     ensures copy { IfOk result (λ answer. answer.copy ≡ answer.reply) }
-    ensures reply { (g : ProtectionGraph) → StandsFor (content_of heap.old) g → IsSubject g worker →
+    ensures reply { (g : ProtectionGraph) → IsContentOf (content_of heap.old) g → IsSubject g worker →
         IfOk result (λ answer. answer.reply ≡ answer_of g worker (Plain command.now)) }
-    ensures step { (g : ProtectionGraph) → StandsFor (content_of heap.old) g → IsSubject g worker →
-        OnOk result (StandsFor (content_of heap.new) (step g worker (Plain command.now))) }
+    ensures step { (g : ProtectionGraph) → IsContentOf (content_of heap.old) g → IsSubject g worker →
+        OnOk result (IsContentOf (content_of heap.new) (step g worker (Plain command.now))) }
     ensures workers { heap.new.workers ≡ heap.old.workers }
     ensures limits { heap.new.table.limits ≡ heap.old.table.limits }
-    ensures refused { OnErr result (IsUnchanged heap.old heap.new) }
+    ensures refused { OnErr result (IsUnchangedHeap heap.old heap.new) }
     ensures worker { result ≢ Err ApplyFault.NoSuchWorker }
     ensures full { result ≢ Err ApplyFault.HeapFull }
 {
@@ -108,13 +108,13 @@ fn change<P: Payload>(
     requires served { denial_of (content_of heap.old).label worker command.now ≡ None }
     requires changes { ¬ OnlyLooks command.now }
     ensures copy { IfOk result (λ answer. answer.copy ≡ answer.reply) }
-    ensures reply { (g : ProtectionGraph) → StandsFor (content_of heap.old) g → IsSubject g worker →
+    ensures reply { (g : ProtectionGraph) → IsContentOf (content_of heap.old) g → IsSubject g worker →
         IfOk result (λ answer. answer.reply ≡ answer_of g worker (Plain command.now)) }
-    ensures step { (g : ProtectionGraph) → StandsFor (content_of heap.old) g → IsSubject g worker →
-        OnOk result (StandsFor (content_of heap.new) (step g worker (Plain command.now))) }
+    ensures step { (g : ProtectionGraph) → IsContentOf (content_of heap.old) g → IsSubject g worker →
+        OnOk result (IsContentOf (content_of heap.new) (step g worker (Plain command.now))) }
     ensures workers { heap.new.workers ≡ heap.old.workers }
     ensures limits { heap.new.table.limits ≡ heap.old.table.limits }
-    ensures refused { OnErr result (IsUnchanged heap.old heap.new) }
+    ensures refused { OnErr result (IsUnchangedHeap heap.old heap.new) }
     ensures worker { result ≢ Err ApplyFault.NoSuchWorker }
     ensures full { result ≡ Err ApplyFault.HeapFull → AddsEdge command.now × LacksCellsToServe heap.old.table worker command.now }
 {

@@ -1,9 +1,9 @@
 -- Labels and their texts.
 use Rattle.std.proofs.Common.{◌≡◌, ℕ, Bool, true, false, List, [], ◌∷◌, Option, option_and_then, Some, None, IfSome, if◌then◌else◌, refl, sym, ap, ◌∙◌}
 use Rattle.std.proofs.lemmas.Option.{option_and_then_some}
-use Rattle.tg_rights.specs.RightSet.{RightSet, text_of, is_none_held, label_of as some_label}
+use Rattle.tg_rights.specs.RightSet.{RightSet, text_of, is_none_held, label_read as some_label}
 use Rattle.tg_rights.specs.RightText.{strip_letter, finished, read_of, read_of-text_of, text_of-strips}
-use Rattle.tg_text.specs.Words.{label_of}
+use Rattle.tg_text.specs.Words.{label_read}
 
 -- where flags are finished, no letter was left, and they are the set
 finished_some : (r w t g : Bool) (rest : List ℕ) (s : RightSet) → finished r w t g rest ≡ Some s → (rest ≡ []) × (record { r = r; w = w; t = t; g = g } ≡ s)
@@ -27,10 +27,10 @@ labelled_some : (s l : RightSet) (b : Bool) → (if b then None else Some s) ≡
 labelled_some s l true h = let no : ⊥ = cc in absurd no
 labelled_some s l false h = (refl, cc)
 
-pub label_of-text_of : (l : RightSet) → is_none_held l ≡ false → label_of (text_of l) ≡ Some l
+pub label_of-text_of : (l : RightSet) → is_none_held l ≡ false → label_read (text_of l) ≡ Some l
 label_of-text_of l some = ap (option_and_then some_label) (read_of-text_of l) ∙ labelled l some
 
-pub label_text : (word : List ℕ) (l : RightSet) → label_of word ≡ Some l → (word ≡ text_of l) × (is_none_held l ≡ false)
+pub label_text : (word : List ℕ) (l : RightSet) → label_read word ≡ Some l → (word ≡ text_of l) × (is_none_held l ≡ false)
 label_text word l h =
     option_and_then_some some_label (read_of word) l h
     (λ s is some.

@@ -14,8 +14,8 @@ use Rattle.tg_model.specs.declared.command.Command.{Command}
 use Rattle.tg_model.specs.declared.command.Command.TheVariants.{Take, Grant, Remove, Read, Write, List as Listing}
 use Rattle.tg_text.specs.declared.line.Line.{Line}
 use Rattle.tg_text.specs.declared.line.Line.TheVariants.{Edge, Create, Plain, Full, Minor}
-use Rattle.tg_text.specs.Grammar.{words_of, line_text, LineFits, CommandFits, NumberFits, LabelFits, words_of_command}
-use Rattle.tg_text.specs.Words.{pieces, number_of, label_of, one_word, two_words, three_words, four_words, five_words, line_of}
+use Rattle.tg_text.specs.Grammar.{words_of_line, line_text, LineFits, CommandFits, NumberFits, LabelFits, words_of_command}
+use Rattle.tg_text.specs.Words.{pieces, number_of, label_read, one_word, two_words, three_words, four_words, five_words, line_of}
 use Rattle.tg_text.proofs.NumberLaws.{number_of-decimal, number_text}
 use Rattle.tg_text.proofs.LabelLaws.{label_of-text_of, label_text}
 
@@ -24,7 +24,7 @@ use Rattle.tg_text.proofs.LabelLaws.{label_of-text_of, label_text}
 at_number : (f : ℕ → Option Line) (x : ℕ) → x < 2 ^ 64 → option_and_then f (number_of (decimal x)) ≡ f x
 at_number f x small = ap (option_and_then f) (number_of-decimal x small)
 
-at_label : (f : RightSet → Option Line) (l : RightSet) → LabelFits l → option_and_then f (label_of (text_of l)) ≡ f l
+at_label : (f : RightSet → Option Line) (l : RightSet) → LabelFits l → option_and_then f (label_read (text_of l)) ≡ f l
 at_label f l fits = ap (option_and_then f) (label_of-text_of l fits)
 
 chosen_no : (t : Bool) (p q : Option Line) → t ≡ false → cond t p q ≡ q
@@ -52,27 +52,27 @@ no_edge x small =
     differs (decimal x) (codes "edge")
     (λ e. true≢false (sym (low_decimal x small) ∙ ap (list_all (λ c. nat_lt c 58)) e))
 
-pub line_of-words : (line : Line) → LineFits line → line_of (words_of line) ≡ Some line
+pub line_of-words : (line : Line) → LineFits line → line_of (words_of_line line) ≡ Some line
 line_of-words (Edge e) f =
-    at_number (λ x. option_and_then (λ y. option_and_then (λ l. Some (Edge (record { from = x; to = y; label = l }))) (label_of (text_of e.label))) (number_of (decimal e.to))) e.from f.0
-    ∙ at_number (λ y. option_and_then (λ l. Some (Edge (record { from = e.from; to = y; label = l }))) (label_of (text_of e.label))) e.to f.1
+    at_number (λ x. option_and_then (λ y. option_and_then (λ l. Some (Edge (record { from = x; to = y; label = l }))) (label_read (text_of e.label))) (number_of (decimal e.to))) e.from f.0
+    ∙ at_number (λ y. option_and_then (λ l. Some (Edge (record { from = e.from; to = y; label = l }))) (label_read (text_of e.label))) e.to f.1
     ∙ at_label (λ l. Some (Edge (record { from = e.from; to = e.to; label = l }))) e.label f.2
 line_of-words (Create x l) f =
-    at_number (λ x. option_and_then (λ l. Some (Create x l)) (label_of (text_of l))) x f.0 ∙ at_label (λ l. Some (Create x l)) l f.1
+    at_number (λ x. option_and_then (λ l. Some (Create x l)) (label_read (text_of l))) x f.0 ∙ at_label (λ l. Some (Create x l)) l f.1
 line_of-words (Plain x (Take y z l)) f =
-    at_number (λ x. option_and_then (λ y. option_and_then (λ z. option_and_then (λ l. Some (Plain x (Take y z l))) (label_of (text_of l))) (number_of (decimal z))) (number_of (decimal y))) x f.0
-    ∙ at_number (λ y. option_and_then (λ z. option_and_then (λ l. Some (Plain x (Take y z l))) (label_of (text_of l))) (number_of (decimal z))) y f.1.0
-    ∙ at_number (λ z. option_and_then (λ l. Some (Plain x (Take y z l))) (label_of (text_of l))) z f.1.1
+    at_number (λ x. option_and_then (λ y. option_and_then (λ z. option_and_then (λ l. Some (Plain x (Take y z l))) (label_read (text_of l))) (number_of (decimal z))) (number_of (decimal y))) x f.0
+    ∙ at_number (λ y. option_and_then (λ z. option_and_then (λ l. Some (Plain x (Take y z l))) (label_read (text_of l))) (number_of (decimal z))) y f.1.0
+    ∙ at_number (λ z. option_and_then (λ l. Some (Plain x (Take y z l))) (label_read (text_of l))) z f.1.1
     ∙ at_label (λ l. Some (Plain x (Take y z l))) l f.1.2
 line_of-words (Plain x (Grant y z l)) f =
-    at_number (λ x. option_and_then (λ y. option_and_then (λ z. option_and_then (λ l. Some (Plain x (Grant y z l))) (label_of (text_of l))) (number_of (decimal z))) (number_of (decimal y))) x f.0
-    ∙ at_number (λ y. option_and_then (λ z. option_and_then (λ l. Some (Plain x (Grant y z l))) (label_of (text_of l))) (number_of (decimal z))) y f.1.0
-    ∙ at_number (λ z. option_and_then (λ l. Some (Plain x (Grant y z l))) (label_of (text_of l))) z f.1.1
+    at_number (λ x. option_and_then (λ y. option_and_then (λ z. option_and_then (λ l. Some (Plain x (Grant y z l))) (label_read (text_of l))) (number_of (decimal z))) (number_of (decimal y))) x f.0
+    ∙ at_number (λ y. option_and_then (λ z. option_and_then (λ l. Some (Plain x (Grant y z l))) (label_read (text_of l))) (number_of (decimal z))) y f.1.0
+    ∙ at_number (λ z. option_and_then (λ l. Some (Plain x (Grant y z l))) (label_read (text_of l))) z f.1.1
     ∙ at_label (λ l. Some (Plain x (Grant y z l))) l f.1.2
 line_of-words (Plain x (Remove y l)) f =
     chosen_no (bytes_eq (decimal x) (codes "edge")) _ _ (no_edge x f.0)
-    ∙ at_number (λ x. option_and_then (λ y. option_and_then (λ l. Some (Plain x (Remove y l))) (label_of (text_of l))) (number_of (decimal y))) x f.0
-    ∙ at_number (λ y. option_and_then (λ l. Some (Plain x (Remove y l))) (label_of (text_of l))) y f.1.0
+    ∙ at_number (λ x. option_and_then (λ y. option_and_then (λ l. Some (Plain x (Remove y l))) (label_read (text_of l))) (number_of (decimal y))) x f.0
+    ∙ at_number (λ y. option_and_then (λ l. Some (Plain x (Remove y l))) (label_read (text_of l))) y f.1.0
     ∙ at_label (λ l. Some (Plain x (Remove y l))) l f.1.1
 line_of-words (Plain x (Read y)) f =
     at_number (λ x. option_and_then (λ y. Some (Plain x (Read y))) (number_of (decimal y))) x f.0 ∙ at_number (λ y. Some (Plain x (Read y))) y f.1
@@ -89,14 +89,14 @@ line_of-words Minor f = refl
 
 -- the words are those of the line, whose numbers and rights are as the grammar asks
 record IsRead (ws : List (List ℕ)) (line : Line) : Type 0 where
-  words : ws ≡ words_of line
+  words : ws ≡ words_of_line line
   fits : LineFits line
 
 take_number : (f : ℕ → Option Line) (w : List ℕ) (line : Line) → option_and_then f (number_of w) ≡ Some line → (x : ℕ) × (w ≡ decimal x) × (f x ≡ Some line) × NumberFits x
 take_number f w line h = option_and_then_some f (number_of w) line h (λ x is more. let k = number_text w x is in (x, k.0, more, k.1))
 
-take_label : (f : RightSet → Option Line) (w : List ℕ) (line : Line) → option_and_then f (label_of w) ≡ Some line → (l : RightSet) × (w ≡ text_of l) × (f l ≡ Some line) × LabelFits l
-take_label f w line h = option_and_then_some f (label_of w) line h (λ l is more. let k = label_text w l is in (l, k.0, more, k.1))
+take_label : (f : RightSet → Option Line) (w : List ℕ) (line : Line) → option_and_then f (label_read w) ≡ Some line → (l : RightSet) × (w ≡ text_of l) × (f l ≡ Some line) × LabelFits l
+take_label f w line h = option_and_then_some f (label_read w) line h (λ l is more. let k = label_text w l is in (l, k.0, more, k.1))
 
 chosen : (t : Bool) (p q : Option Line) (line : Line) → cond t p q ≡ Some line → ((t ≡ true) × (p ≡ Some line)) ⊎ ((t ≡ false) × (q ≡ Some line))
 chosen true p q line h = inl (refl, h)
@@ -105,10 +105,10 @@ chosen false p q line h = inr (refl, h)
 word : (a b : List ℕ) → bytes_eq a b ≡ true → a ≡ b
 word a b h = (bytes_eq-Decides a b).0 h
 
-is_read : (ws : List (List ℕ)) (k line : Line) → Some k ≡ Some line → LineFits k → ws ≡ words_of k → IsRead ws line
+is_read : (ws : List (List ℕ)) (k line : Line) → Some k ≡ Some line → LineFits k → ws ≡ words_of_line k → IsRead ws line
 is_read ws k line h fits text =
     let e : k ≡ line = cc in
-    record { words = text ∙ ap words_of e; fits = subst LineFits e fits }
+    record { words = text ∙ ap words_of_line e; fits = subst LineFits e fits }
 
 nothing : (line : Line) (P : Type 0) → ◌≡◌ {A = Option Line} None (Some line) → P
 nothing line P h = let no : ⊥ = cc in absurd no
@@ -143,10 +143,10 @@ list5 a b c d e a' b' c' d' e' p q r s t = cc
 
 three_words_text : (a b c : List ℕ) (line : Line) → three_words a b c ≡ Some line → IsRead (a ∷ b ∷ c ∷ []) line
 three_words_text a b c line h =
-    elim (chosen (bytes_eq b (codes "create")) (option_and_then (λ x. option_and_then (λ l. Some (Create x l)) (label_of c)) (number_of a))
+    elim (chosen (bytes_eq b (codes "create")) (option_and_then (λ x. option_and_then (λ l. Some (Create x l)) (label_read c)) (number_of a))
     (cond (bytes_eq b (codes "read")) (option_and_then (λ x. option_and_then (λ y. Some (Plain x (Read y))) (number_of c)) (number_of a)) None) line h) [
       | inl k ↦
-          let p = take_number (λ x. option_and_then (λ l. Some (Create x l)) (label_of c)) a line k.1 in
+          let p = take_number (λ x. option_and_then (λ l. Some (Create x l)) (label_read c)) a line k.1 in
           let q = take_label (λ l. Some (Create p.0 l)) c line p.2 in
           is_read (a ∷ b ∷ c ∷ []) (Create p.0 q.0) line q.2 (p.3, q.3) (list3 a b c (decimal p.0) (codes "create") (text_of q.0) p.1 (word b (codes "create") k.0) q.1)
       | inr k ↦ elim (chosen (bytes_eq b (codes "read")) (option_and_then (λ x. option_and_then (λ y. Some (Plain x (Read y))) (number_of c)) (number_of a)) None line k.1) [
@@ -159,11 +159,11 @@ three_words_text a b c line h =
     ]
 
 -- a line with two numbers and rights, of which f makes the line
-numbers_and_rights : (f : ℕ → ℕ → RightSet → Line) (a c d : List ℕ) (line : Line) → option_and_then (λ x. option_and_then (λ y. option_and_then (λ l. Some (f x y l)) (label_of d)) (number_of c)) (number_of a) ≡ Some line
+numbers_and_rights : (f : ℕ → ℕ → RightSet → Line) (a c d : List ℕ) (line : Line) → option_and_then (λ x. option_and_then (λ y. option_and_then (λ l. Some (f x y l)) (label_read d)) (number_of c)) (number_of a) ≡ Some line
     → (x : ℕ) × (y : ℕ) × (l : RightSet) × (a ≡ decimal x) × (c ≡ decimal y) × (d ≡ text_of l) × (Some (f x y l) ≡ Some line) × NumberFits x × NumberFits y × LabelFits l
 numbers_and_rights f a c d line h =
-    let p = take_number (λ x. option_and_then (λ y. option_and_then (λ l. Some (f x y l)) (label_of d)) (number_of c)) a line h in
-    let q = take_number (λ y. option_and_then (λ l. Some (f p.0 y l)) (label_of d)) c line p.2 in
+    let p = take_number (λ x. option_and_then (λ y. option_and_then (λ l. Some (f x y l)) (label_read d)) (number_of c)) a line h in
+    let q = take_number (λ y. option_and_then (λ l. Some (f p.0 y l)) (label_read d)) c line p.2 in
     let r = take_label (λ l. Some (f p.0 q.0 l)) d line q.2 in
     (p.0, q.0, r.0, p.1, q.1, r.1, r.2, p.3, q.3, r.3)
 
@@ -176,12 +176,12 @@ three_numbers f a c d line h =
     (p.0, q.0, r.0, p.1, q.1, r.1, r.2, p.3, q.3, r.3)
 
 three_numbers_and_rights : (f : ℕ → ℕ → ℕ → RightSet → Line) (a c d e : List ℕ) (line : Line)
-    → option_and_then (λ x. option_and_then (λ y. option_and_then (λ z. option_and_then (λ l. Some (f x y z l)) (label_of e)) (number_of d)) (number_of c)) (number_of a) ≡ Some line
+    → option_and_then (λ x. option_and_then (λ y. option_and_then (λ z. option_and_then (λ l. Some (f x y z l)) (label_read e)) (number_of d)) (number_of c)) (number_of a) ≡ Some line
     → (x : ℕ) × (y : ℕ) × (z : ℕ) × (l : RightSet) × (a ≡ decimal x) × (c ≡ decimal y) × (d ≡ decimal z) × (e ≡ text_of l) × (Some (f x y z l) ≡ Some line) × NumberFits x × NumberFits y × NumberFits z × LabelFits l
 three_numbers_and_rights f a c d e line h =
-    let p = take_number (λ x. option_and_then (λ y. option_and_then (λ z. option_and_then (λ l. Some (f x y z l)) (label_of e)) (number_of d)) (number_of c)) a line h in
-    let q = take_number (λ y. option_and_then (λ z. option_and_then (λ l. Some (f p.0 y z l)) (label_of e)) (number_of d)) c line p.2 in
-    let r = take_number (λ z. option_and_then (λ l. Some (f p.0 q.0 z l)) (label_of e)) d line q.2 in
+    let p = take_number (λ x. option_and_then (λ y. option_and_then (λ z. option_and_then (λ l. Some (f x y z l)) (label_read e)) (number_of d)) (number_of c)) a line h in
+    let q = take_number (λ y. option_and_then (λ z. option_and_then (λ l. Some (f p.0 y z l)) (label_read e)) (number_of d)) c line p.2 in
+    let r = take_number (λ z. option_and_then (λ l. Some (f p.0 q.0 z l)) (label_read e)) d line q.2 in
     let s = take_label (λ l. Some (f p.0 q.0 r.0 l)) e line r.2 in
     (p.0, q.0, r.0, s.0, p.1, q.1, r.1, s.1, s.2, p.3, q.3, r.3, s.3)
 
@@ -278,7 +278,7 @@ visible-words_of_command x (Read y) h f = all_three (decimal x) (codes "read") (
 visible-words_of_command x (Write y v) h f = all_four (decimal x) (codes "write") (decimal y) (decimal v) (visible-decimal x h) refl (visible-decimal y f.0) (visible-decimal v f.1)
 visible-words_of_command x Listing h f = all_one (decimal x) (codes "list" ∷ []) (visible-decimal x h) refl
 
-pub visible-words_of : (l : Line) → LineFits l → list_all visible (words_of l) ≡ true
+pub visible-words_of : (l : Line) → LineFits l → list_all visible (words_of_line l) ≡ true
 visible-words_of (Edge e) f = all_four (codes "edge") (decimal e.from) (decimal e.to) (text_of e.label) refl (visible-decimal e.from f.0) (visible-decimal e.to f.1) (visible-text_of e.label)
 visible-words_of (Create x l) f = all_three (decimal x) (codes "create") (text_of l) (visible-decimal x f.0) refl (visible-text_of l)
 visible-words_of (Plain x c) f = visible-words_of_command x c f.0 f.1
@@ -297,15 +297,15 @@ some_command x (Read y) e = cc
 some_command x (Write y v) e = cc
 some_command x Listing e = cc
 
-some_words : (l : Line) → words_of l ≡ [] → ⊥
+some_words : (l : Line) → words_of_line l ≡ [] → ⊥
 some_words (Edge e) h = cc
 some_words (Create x l) h = cc
 some_words (Plain x c) h = some_command x c h
 some_words Full h = cc
 some_words Minor h = cc
 
-pub pieces-line : (line : Line) → LineFits line → pieces (line_text line) ≡ words_of line
-pieces-line line f = cut (words_of line) (some_words line) (visible-words_of line f)
+pub pieces-line : (line : Line) → LineFits line → pieces (line_text line) ≡ words_of_line line
+pieces-line line f = cut (words_of_line line) (some_words line) (visible-words_of line f)
 
 pub only_line : (bytes : List ℕ) (found : Option Line) (line : Line) → found ≡ line_of (pieces bytes) → LineFits line → bytes ≡ line_text line → found ≡ Some line
 only_line bytes found line e fits text = e ∙ ap (λ x. line_of (pieces x)) text ∙ ap line_of (pieces-line line fits) ∙ line_of-words line fits

@@ -14,7 +14,7 @@ use Rattle.tg_text.specs.declared.line.Line.TheVariants.{Edge, Create, Plain, Fu
 use Rattle.tg_text.specs.declared.fault.ScriptFault.{ScriptFault}
 use Rattle.tg_text.specs.declared.fault.ScriptFault.TheVariants.{ReadFailed, InputTooLong, LineTooLong, BadLine, WriteFailed, OutOfMemory, HeapFull, BadLimits}
 use Rattle.tg_text.specs.Fetching.{IsOneLine}
-use Rattle.tg_text.specs.Grammar.{words_of, words_of_command, line_text, LineFits, CommandFits, NumberFits}
+use Rattle.tg_text.specs.Grammar.{words_of_line, words_of_command, line_text, LineFits, CommandFits, NumberFits}
 use Rattle.tg_text.specs.Reading.{MayStand, opening_after, Ends, IsOfBytes, Reads}
 use Rattle.tg_text.proofs.GrammarLaws.{visible}
 use Rattle.tg_text.proofs.ReadLaws.{visible-words_of, line_text-same}
@@ -74,7 +74,7 @@ short_command x (Read y) h f = ((short_number x h, (short_word (codes "read") (o
 short_command x (Write y v) h f = ((short_number x h, (short_word (codes "write") (omega arith), (short_number y f.0, (short_number v f.1, tt)))), omega arith)
 short_command x Listing h f = ((short_number x h, (short_word (codes "list") (omega arith), tt)), omega arith)
 
-short_words : (l : Line) → LineFits l → AllShort (words_of l) × (length (words_of l) ≤ 5)
+short_words : (l : Line) → LineFits l → AllShort (words_of_line l) × (length (words_of_line l) ≤ 5)
 short_words (Edge e) f = ((short_word (codes "edge") (omega arith), (short_number e.from f.0, (short_number e.to f.1, (short_rights e.label, tt)))), omega arith)
 short_words (Create x l) f = ((short_number x f.0, (short_word (codes "create") (omega arith), (short_rights l, tt))), omega arith)
 short_words (Plain x c) f = short_command x c f.0 f.1
@@ -82,7 +82,7 @@ short_words Full f = ((short_word (codes "full") (omega arith), tt), omega arith
 short_words Minor f = ((short_word (codes "minor") (omega arith), tt), omega arith)
 
 pub length-line_text : (l : Line) → LineFits l → length (line_text l) ≤ 256
-length-line_text l f = let k = short_words l f in omega (arith, length-join (words_of l) k.0, k.1)
+length-line_text l f = let k = short_words l f in omega (arith, length-join (words_of_line l) k.0, k.1)
 
 one_line-visible : (w : List ℕ) → visible w ≡ true → IsOneLine w
 one_line-visible [] h = tt
@@ -102,7 +102,7 @@ one_line-join (w ∷ v ∷ ws) h =
     one_line-append w (32 ∷ join_with_byte 32 (v ∷ ws)) (one_line-visible w k.0) (λ e. omega (arith, e), one_line-join (v ∷ ws) k.1)
 
 pub one_line-line_text : (l : Line) → LineFits l → IsOneLine (line_text l)
-one_line-line_text l f = one_line-join (words_of l) (visible-words_of l f)
+one_line-line_text l f = one_line-join (words_of_line l) (visible-words_of l f)
 
 -- ---- what the first line's length, and whether a line feed ended it, say of the end
 

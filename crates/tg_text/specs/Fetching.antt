@@ -34,14 +34,14 @@ FetchesKnown room (Some bytes) outcome line after = (rest : List ℕ) × (after 
 FetchesKnown room None outcome line after = Unit {0}
 
 -- how many failures of the source an outcome is
-abbrev pub failures_of : Fetched → ℕ
-failures_of fetched.Line = 0
-failures_of fetched.End = 0
-failures_of fetched.Unfinished = 0
-failures_of fetched.LineTooLong = 0
-failures_of fetched.InputTooLong = 0
-failures_of fetched.Failed = 1
-failures_of fetched.WriteFailed = 0
+abbrev pub failures_of_fetch : Fetched → ℕ
+failures_of_fetch fetched.Line = 0
+failures_of_fetch fetched.End = 0
+failures_of_fetch fetched.Unfinished = 0
+failures_of_fetch fetched.LineTooLong = 0
+failures_of_fetch fetched.InputTooLong = 0
+failures_of_fetch fetched.Failed = 1
+failures_of_fetch fetched.WriteFailed = 0
 
 -- how many failures of the sink an outcome is
 abbrev pub write_failures_of : Fetched → ℕ

@@ -17,16 +17,16 @@ words_of_command x (Read y) = decimal x ∷ codes "read" ∷ decimal y ∷ []
 words_of_command x (Write y v) = decimal x ∷ codes "write" ∷ decimal y ∷ decimal v ∷ []
 words_of_command x Listing = decimal x ∷ codes "list" ∷ []
 
-abbrev pub words_of : Line → List (List ℕ)
-words_of (Edge edge) = codes "edge" ∷ decimal edge.from ∷ decimal edge.to ∷ text_of edge.label ∷ []
-words_of (Create x label) = decimal x ∷ codes "create" ∷ text_of label ∷ []
-words_of (Plain x command) = words_of_command x command
-words_of Full = codes "full" ∷ []
-words_of Minor = codes "minor" ∷ []
+abbrev pub words_of_line : Line → List (List ℕ)
+words_of_line (Edge edge) = codes "edge" ∷ decimal edge.from ∷ decimal edge.to ∷ text_of edge.label ∷ []
+words_of_line (Create x label) = decimal x ∷ codes "create" ∷ text_of label ∷ []
+words_of_line (Plain x command) = words_of_command x command
+words_of_line Full = codes "full" ∷ []
+words_of_line Minor = codes "minor" ∷ []
 
 -- the bytes of a line, without its line feed
 abbrev pub line_text : Line → List ℕ
-line_text line = join_with_byte 32 (words_of line)
+line_text line = join_with_byte 32 (words_of_line line)
 
 -- ---- the numbers and rights that a line can have
 

@@ -4,7 +4,7 @@ use Rattle.std.specs.Prelude.{ℕ, ◌+◌, ◌-◌, ◌*◌, ◌^◌, ◌==◌,
 use Rattle.std.specs.Char.{is_ascii_digit}
 use Rattle.std.specs.Str.{bytes_eq}
 use Rattle.std.specs.Str.Parse.{digits_value}
-use Rattle.tg_rights.specs.RightSet.{RightSet, label_of as some_label}
+use Rattle.tg_rights.specs.RightSet.{RightSet, label_read as some_label}
 use Rattle.tg_rights.specs.RightText.{read_of}
 use Rattle.tg_model.specs.declared.command.Command.TheVariants.{Take, Grant, Remove, Read, Write, List as Listing}
 use Rattle.tg_text.specs.declared.line.Line.{Line}
@@ -46,8 +46,8 @@ digits_on number [] = Some number
 digits_on number (b ∷ bs) = option_and_then (λ longer. digits_on longer bs) (with_digit number b)
 
 -- the label that a word is the text of
-abbrev pub label_of : List ℕ → Option RightSet
-label_of word = option_and_then some_label (read_of word)
+abbrev pub label_read : List ℕ → Option RightSet
+label_read word = option_and_then some_label (read_of word)
 
 -- the lines of one word, of two, and so on
 abbrev pub one_word : List ℕ → Option Line
@@ -58,16 +58,16 @@ two_words a b = if bytes_eq b (codes "list") then option_and_then (λ x. Some (P
 
 abbrev pub three_words : List ℕ → List ℕ → List ℕ → Option Line
 three_words a b c =
-    if bytes_eq b (codes "create") then option_and_then (λ x. option_and_then (λ l. Some (Create x l)) (label_of c)) (number_of a)
+    if bytes_eq b (codes "create") then option_and_then (λ x. option_and_then (λ l. Some (Create x l)) (label_read c)) (number_of a)
     else if bytes_eq b (codes "read") then option_and_then (λ x. option_and_then (λ y. Some (Plain x (Read y))) (number_of c)) (number_of a)
     else None
 
 abbrev pub four_words : List ℕ → List ℕ → List ℕ → List ℕ → Option Line
 four_words a b c d =
     if bytes_eq a (codes "edge") then
-    option_and_then (λ x. option_and_then (λ y. option_and_then (λ l. Some (Edge (record { from = x; to = y; label = l }))) (label_of d)) (number_of c)) (number_of b)
+    option_and_then (λ x. option_and_then (λ y. option_and_then (λ l. Some (Edge (record { from = x; to = y; label = l }))) (label_read d)) (number_of c)) (number_of b)
     else if bytes_eq b (codes "remove") then
-    option_and_then (λ x. option_and_then (λ y. option_and_then (λ l. Some (Plain x (Remove y l))) (label_of d)) (number_of c)) (number_of a)
+    option_and_then (λ x. option_and_then (λ y. option_and_then (λ l. Some (Plain x (Remove y l))) (label_read d)) (number_of c)) (number_of a)
     else if bytes_eq b (codes "write") then
     option_and_then (λ x. option_and_then (λ y. option_and_then (λ v. Some (Plain x (Write y v))) (number_of d)) (number_of c)) (number_of a)
     else None
@@ -75,9 +75,9 @@ four_words a b c d =
 abbrev pub five_words : List ℕ → List ℕ → List ℕ → List ℕ → List ℕ → Option Line
 five_words a b c d e =
     if bytes_eq b (codes "take") then
-    option_and_then (λ x. option_and_then (λ y. option_and_then (λ z. option_and_then (λ l. Some (Plain x (Take y z l))) (label_of e)) (number_of d)) (number_of c)) (number_of a)
+    option_and_then (λ x. option_and_then (λ y. option_and_then (λ z. option_and_then (λ l. Some (Plain x (Take y z l))) (label_read e)) (number_of d)) (number_of c)) (number_of a)
     else if bytes_eq b (codes "grant") then
-    option_and_then (λ x. option_and_then (λ y. option_and_then (λ z. option_and_then (λ l. Some (Plain x (Grant y z l))) (label_of e)) (number_of d)) (number_of c)) (number_of a)
+    option_and_then (λ x. option_and_then (λ y. option_and_then (λ z. option_and_then (λ l. Some (Plain x (Grant y z l))) (label_read e)) (number_of d)) (number_of c)) (number_of a)
     else None
 
 abbrev pub line_of : List (List ℕ) → Option Line

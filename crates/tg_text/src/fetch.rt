@@ -3,8 +3,8 @@
 //! The source is asked for one byte at a time, and never for a byte behind the first fault: that is why a fault is
 //! looked for at each byte, and not when a line is whole. Bytes of a line lie in one buffer, which serves all lines.
 ghost use Rattle.std.specs.Prelude.{◌≡◌, ◌+◌, ◌-◌, ◌<◌, ◌≤◌, length};
-ghost use Rattle.tg_text.specs.Fetching.{FetchesKnown, failures_of, write_failures_of};
-ghost use Rattle.tg_text.specs.Sinks.{Keeps};
+ghost use Rattle.tg_text.specs.Fetching.{FetchesKnown, failures_of_fetch, write_failures_of};
+ghost use Rattle.tg_text.specs.Sinks.{KeepsBytes};
 
 use crate::buffer::LineBuffer;
 use crate::exchange::next_byte;
@@ -46,8 +46,8 @@ impl Lines {
         ensures bytes { FetchesKnown self.old.room (S.left source.old) result line.new (S.left source.new) }
         ensures room { result ≡ Fetched.Line → self.new.room + length line.new + 1 ≡ self.old.room }
         ensures shrinks { self.new.room ≤ self.old.room }
-        ensures failures { S.failures source.new ≡ S.failures source.old + failures_of result }
-        ensures taken { Keeps (K.taken sink.old) (K.taken sink.new) }
+        ensures failures { S.failures source.new ≡ S.failures source.old + failures_of_fetch result }
+        ensures taken { KeepsBytes (K.taken sink.old) (K.taken sink.new) }
         ensures write_failures { K.failures sink.new ≡ K.failures sink.old + write_failures_of result }
         ensures asked { S.asked source.new + self.new.room ≤ S.asked source.old + self.old.room + 1 }
         ensures asked_of_line { result ≡ Fetched.Line → S.asked source.new + self.new.room ≡ S.asked source.old + self.old.room }

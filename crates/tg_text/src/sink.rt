@@ -1,7 +1,7 @@
 //! Where the replies to a script go.
 ghost use Rattle.std.specs.Prelude.{◌≡◌, ◌≢◌, ◌+◌, [], List, ℕ, Bool, true, false, Option};
 ghost use Rattle.std.specs.List.{flat_map};
-ghost use Rattle.tg_text.specs.Sinks.{Takes, Keeps, put_failures, finish_failures, Writes};
+ghost use Rattle.tg_text.specs.Sinks.{Takes, KeepsBytes, put_failures, finish_failures, Writes};
 
 /// What a sink answers when bytes are handed to it.
 #[derive(Clone, Copy, PartialEq, Eq, Debug)]
@@ -15,7 +15,7 @@ pub enum Put {
 /// Where bytes go. Contracts see the bytes that were taken, where they are known, how often the sink has failed, a count
 /// with no greatest value, and whether it is finished.
 pub trait Sink {
-    ghost use Rattle.tg_text.specs.Sinks.{Takes, Keeps, put_failures, finish_failures};
+    ghost use Rattle.tg_text.specs.Sinks.{Takes, KeepsBytes, put_failures, finish_failures};
 
     /// The bytes that were taken, where they are known.
     ghost taken: { Self → Option (List ℕ) };
@@ -35,7 +35,7 @@ pub trait Sink {
 
     /// Passes on what was taken but is still kept back. Answers whether that went well.
     fn finish(&mut self) -> bool
-        ensures bytes { Keeps (taken self.old) (taken self.new) }
+        ensures bytes { KeepsBytes (taken self.old) (taken self.new) }
         ensures failures { failures self.new ≡ failures self.old + finish_failures result }
         ensures finished { finished self.new ≡ true };
 }

@@ -33,7 +33,7 @@ pub enum Fetched {
 /// Bytes that come one by one. Contracts see the bytes that are left, where they are known, whether the next answer needs
 /// no waiting, and two counts: how often the source was asked, and how often it failed. The counts have no greatest value.
 pub trait Source {
-    ghost use Rattle.tg_text.specs.Sources.{Tells, failures_of};
+    ghost use Rattle.tg_text.specs.Sources.{TellsNext, failures_of};
 
     /// The bytes that are left, where they are known.
     ghost left: { Self → Option (List ℕ) };
@@ -53,7 +53,7 @@ pub trait Source {
 
     /// The next byte, the end, or that reading came to an error, which takes no byte.
     fn next(&mut self) -> Next
-        ensures bytes { Tells (left self.old) result (left self.new) }
+        ensures bytes { TellsNext (left self.old) result (left self.new) }
         ensures failures { failures self.new ≡ failures self.old + failures_of result }
         ensures asked { asked self.new ≡ asked self.old + 1 };
 }

@@ -1,6 +1,6 @@
 //! std's readers and writers as a source and a sink.
 ghost use Rattle.std.specs.Prelude.{◌≡◌, nat_lt};
-ghost use Rattle.tg_text.specs.Sources.{Tells};
+ghost use Rattle.tg_text.specs.Sources.{TellsNext};
 
 use crate::count::Count;
 use crate::sink::{Put, Sink};
@@ -64,7 +64,7 @@ impl<R: BufRead + Drop, A: Ledger, F: Ledger> Source for OfRead<R, A, F> {
 
 // Takes the first byte that is left, and says how many more the reader holds.
 fn take_byte<R: BufRead>(reader: &mut R) -> (Next, usize)
-    ensures { Tells (R.remaining reader.old) result.0 (R.remaining reader.new) }
+    ensures { TellsNext (R.remaining reader.old) result.0 (R.remaining reader.new) }
 {
     let Ok(bytes) = reader.fill_buf() else {
         return (Next::Failed, 0);

@@ -2,7 +2,7 @@
 ghost use Rattle.std.specs.Prelude.{◌≡◌};
 ghost use Rattle.std.specs.Str.{bytes_eq};
 ghost use Rattle.tg_rights.specs.RightText.{read_of};
-ghost use Rattle.tg_text.specs.Words.{number_of, label_of, no_leading_zero, digits_on, with_digit};
+ghost use Rattle.tg_text.specs.Words.{number_of, label_read, no_leading_zero, digits_on, with_digit};
 
 use tg_rights::{Label, Rights};
 
@@ -58,7 +58,7 @@ fn with_digit(number: u64, byte: u8) -> Option<u64>
 
 // The label whose text the word is.
 pub(crate) fn label_of(word: &[u8]) -> Option<Label>
-    ensures { result ≡ label_of word.now }
+    ensures { result ≡ label_read word.now }
 {
     Label::new(rights_of(word)?)
 }

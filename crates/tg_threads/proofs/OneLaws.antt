@@ -20,7 +20,7 @@ use Rattle.tg_text.specs.declared.line.Line.TheVariants as line
 use Rattle.tg_text.specs.declared.answer.Answer.{Answer}
 use Rattle.tg_text.specs.declared.answer.Answer.TheVariants as told
 use Rattle.tg_text.specs.Texts.{answer_text}
-use Rattle.tg_script.specs.Script.{Scene, Answers, Creates, IsOutput}
+use Rattle.tg_script.specs.Script.{Scene, Answers, AnswersCreate, IsOutput}
 use Rattle.tg_threads.specs.Output.{Tells, AreTold, HasEach, IsOfFirst, IsOfOne, first_of, behind_first, box_of, stock_behind, boxed}
 
 -- ---- the history is that of the lines
@@ -103,7 +103,7 @@ room_test true r made is room = refl
 room_test false r made is room = absurd (room is)
 
 creates_one : (s : Scene) (x : ℕ) (label : RightSet) (stock : List Value) (workers : ℕ) (en : Entry) (a : Answer) → Tells workers (line.Create x label) (first_of stock) (Some en) a → IsLegalEntry s.graph en → en.reply ≢ reply.VerticesFull →
-    Creates s x label stock a (record s { graph = step s.graph en.worker en.deed; stock = behind_first stock })
+    AnswersCreate s x label stock a (record s { graph = step s.graph en.worker en.deed; stock = behind_first stock })
 creates_one s x label [] workers en a (inl h) legal room = absurd (not_none en h.1.0)
 creates_one s x label [] workers en a (inr h) legal room = absurd (not_none en h.1.0)
 creates_one s x label (value ∷ rest) workers en a (inr h) legal room = absurd (not_none en h.1.0)

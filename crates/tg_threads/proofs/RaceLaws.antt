@@ -14,7 +14,7 @@ use Rattle.tg_journal.specs.declared.entry.Entry.{Entry}
 use Rattle.tg_store.specs.Store.{StoreState}
 use Rattle.tg_text.specs.declared.line.Line.{Line}
 use Rattle.tg_text.specs.declared.line.Line.TheVariants as line
-use Rattle.tg_text.specs.Sinks.{Keeps}
+use Rattle.tg_text.specs.Sinks.{KeepsBytes}
 use Rattle.tg_script.specs.Opening.{IsCommand, edge_lines}
 use Rattle.tg_script.specs.Script.{Start, commands_of, edges_of}
 use Rattle.tg_script.proofs.LinesLaws.{keeps_known}
@@ -26,7 +26,7 @@ use Rattle.tg_threads.specs.declared.worker.Finished.{Finished}
 use Rattle.tg_threads.specs.Output.{Boxed, IsRaceOutput, boxed, end_text}
 use Rattle.tg_threads.specs.Tasks.{AllBring, text_of_told}
 use Rattle.tg_threads.specs.Shares.{AreRaced, IsInScriptOrder, all_assigned, is_run_by, lines_of}
-use Rattle.tg_threads.specs.Race.{EndsRace, HasRaced, IsWhole, TellsRace, plan_of}
+use Rattle.tg_threads.specs.Race.{EndsRace, HasRaced, IsWhole, TellsRace, plan_of_script}
 use Rattle.tg_threads.proofs.WeaveLaws.{bring_as_many, each_told}
 
 -- as many fresh sessions as workers
@@ -82,7 +82,7 @@ brought_in_order {L = L} workers lines all lent ts same many h =
 -- ---- the whole
 
 -- what the lines came to, with a legal history, is an output
-raced_output : (start : Start) (lines : List Line) (s : StoreState) (ts : List Told) → s.opening ≡ plan_of start lines → AreRaced start.workers (boxed start.stock (commands_of lines)) s.entries ts → IsLegal (start_of s.opening) s.entries →
+raced_output : (start : Start) (lines : List Line) (s : StoreState) (ts : List Told) → s.opening ≡ plan_of_script start lines → AreRaced start.workers (boxed start.stock (commands_of lines)) s.entries ts → IsLegal (start_of s.opening) s.entries →
     IsRaceOutput start lines (text_of_told s.entries ts ++ end_text (length s.entries))
 raced_output start lines s ts opening raced legal = record {
   entries = s.entries;
@@ -99,7 +99,7 @@ raced_same n workers stock lent lines entries ts same is h =
     let P : ℕ → List Line → Type 0 = λ k ls. AreRaced k (boxed stock ls) entries ts in
     subst (P workers) is (subst (λ k. P k lent) same h)
 
-pub race_told : {T : Type 0} (r : Result T RaceFault) (start : Start) (bytes before left : List ℕ) (lines : List Line) (s : StoreState) (ts : List Told) (after : Option (List ℕ)) → IsWhole start bytes lines left → s.opening ≡ plan_of start lines →
+pub race_told : {T : Type 0} (r : Result T RaceFault) (start : Start) (bytes before left : List ℕ) (lines : List Line) (s : StoreState) (ts : List Told) (after : Option (List ℕ)) → IsWhole start bytes lines left → s.opening ≡ plan_of_script start lines →
     AreRaced start.workers (boxed start.stock (commands_of lines)) s.entries ts → TellsRace s ts before r after → HasRaced start bytes before r left after
 race_told (Ok done) start bytes before left lines s ts after whole opening raced h =
     (lines, text_of_told s.entries ts ++ end_text (length s.entries), whole, raced_output start lines s ts opening raced h.0, h.1)
@@ -113,7 +113,7 @@ race_told (Err fault.WriteFailed) start bytes before left lines s ts after whole
 
 -- ---- the end
 
-race_keeps : {T : Type 0} (r : Result T RaceFault) (start : Start) (bytes before left : List ℕ) (mid after : Option (List ℕ)) → HasRaced start bytes before r left mid → Keeps mid after → HasRaced start bytes before r left after
+race_keeps : {T : Type 0} (r : Result T RaceFault) (start : Start) (bytes before left : List ℕ) (mid after : Option (List ℕ)) → HasRaced start bytes before r left mid → KeepsBytes mid after → HasRaced start bytes before r left after
 race_keeps (Ok done) start bytes before left mid after h keeps = (h.0, h.1, h.2, h.3, keeps_known mid after (before ++ h.1) h.4 keeps)
 race_keeps (Err (fault.Script f)) start bytes before left mid after h keeps = (h.0, keeps_known mid after before h.1 keeps)
 race_keeps (Err fault.OutOfMemory) start bytes before left mid after h keeps = (h.0, h.1, keeps_known mid after before h.2 keeps)

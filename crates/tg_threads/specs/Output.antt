@@ -80,13 +80,13 @@ IsOfStore refusal.Threads = ⊥
 IsOfStore refusal.Stock = ⊥
 
 -- x asked for the deed: its entry has both, and the answer is the entry's reply; or else the store refused
-abbrev pub IsAnswered : ℕ → Deed → Option Entry → Answer → Type 0
-IsAnswered x d (Some e) a = (e.worker ≡ x) × (e.deed ≡ d) × (a ≡ told.Reply e.reply)
-IsAnswered x d None a = (r : Refusal) × IsOfStore r × (a ≡ told.Refused r)
+abbrev pub EntersOrRefuses : ℕ → Deed → Option Entry → Answer → Type 0
+EntersOrRefuses x d (Some e) a = (e.worker ≡ x) × (e.deed ≡ d) × (a ≡ told.Reply e.reply)
+EntersOrRefuses x d None a = (r : Refusal) × IsOfStore r × (a ≡ told.Refused r)
 
 -- x asked for a vertex, with this box or with none
 abbrev pub IsMade : ℕ → RightSet → Option Value → Option Entry → Answer → Type 0
-IsMade x label (Some value) e a = IsAnswered x (deed.Create label value.law value.state) e a
+IsMade x label (Some value) e a = EntersOrRefuses x (deed.Create label value.law value.state) e a
 IsMade x label None e a = IsRefused refusal.Stock e a
 
 -- a collection has no entry
@@ -97,7 +97,7 @@ IsCollected collected e a = (e ≡ None) × ((a ≡ collected) ⊎ ((r : Refusal
 abbrev pub Tells : ℕ → Line → Option Value → Option Entry → Answer → Type 0
 Tells workers (line.Edge edge) box e a = ⊥
 Tells workers (line.Create x label) box e a = ((x < workers) × IsMade x label box e a) ⊎ ((workers ≤ x) × IsRefused refusal.Worker e a)
-Tells workers (line.Plain x command) box e a = ((x < workers) × IsAnswered x (deed.Plain command) e a) ⊎ ((workers ≤ x) × IsRefused refusal.Worker e a)
+Tells workers (line.Plain x command) box e a = ((x < workers) × EntersOrRefuses x (deed.Plain command) e a) ⊎ ((workers ≤ x) × IsRefused refusal.Worker e a)
 Tells workers line.Full box e a = (n : ℕ) × IsCollected (told.Collected (Some n)) e a
 Tells workers line.Minor box e a = IsCollected (told.Collected None) e a
 

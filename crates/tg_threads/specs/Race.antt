@@ -9,8 +9,8 @@ use Rattle.tg_text.specs.declared.line.Line.{Line}
 use Rattle.tg_text.specs.declared.fault.ScriptFault.{ScriptFault}
 use Rattle.tg_text.specs.declared.fault.ScriptFault.TheVariants as script
 use Rattle.tg_text.specs.Reading.{ReadsScript}
-use Rattle.tg_text.specs.Sinks.{Keeps}
-use Rattle.tg_script.specs.Script.{Start, CanOpen, HasRoom, commands_of, edges_of}
+use Rattle.tg_text.specs.Sinks.{KeepsBytes}
+use Rattle.tg_script.specs.Script.{Start, CanOpen, HasRoomForWorkers, commands_of, edges_of}
 use Rattle.tg_store.specs.Store.{StoreState}
 use Rattle.tg_threads.specs.declared.fault.RaceFault.{RaceFault}
 use Rattle.tg_threads.specs.declared.fault.RaceFault.TheVariants as fault
@@ -24,8 +24,8 @@ use Rattle.tg_threads.specs.Tasks.{text_of_told}
 -- ---- the script and its store
 
 -- the opening that a script asks for
-abbrev pub plan_of : Start → List Line → Plan
-plan_of start lines = record { workers = start.workers; edges = edges_of lines; values = start.values; limit = start.limit }
+abbrev pub plan_of_script : Start → List Line → Plan
+plan_of_script start lines = record { workers = start.workers; edges = edges_of lines; values = start.values; limit = start.limit }
 
 -- the bytes are a whole script of these lines, and its store can be opened
 abbrev pub IsWhole : Start → List ℕ → List Line → List ℕ → Type 0
@@ -33,9 +33,9 @@ IsWhole start bytes lines left = ReadsScript start.workers bytes lines None left
 
 -- why a store isn't opened: a limit is out of its range, or else memory was wanting, or a block for each worker
 abbrev pub IsOpenFault : Start → ScriptFault → Type 0
-IsOpenFault start script.BadLimits = ¬ HasRoom start
-IsOpenFault start script.OutOfMemory = HasRoom start
-IsOpenFault start script.HeapFull = HasRoom start × (start.blocks < start.workers)
+IsOpenFault start script.BadLimits = ¬ HasRoomForWorkers start
+IsOpenFault start script.OutOfMemory = HasRoomForWorkers start
+IsOpenFault start script.HeapFull = HasRoomForWorkers start × (start.blocks < start.workers)
 IsOpenFault start f = ⊥
 
 -- the bytes are lines up to this fault; or they are a whole script, and this fault came of opening its store
@@ -57,9 +57,9 @@ abbrev pub of_threads : ThreadsFault → RaceFault
 of_threads threads.OutOfMemory = fault.OutOfMemory
 of_threads threads.NoThread = fault.NoThread
 
-abbrev pub of_audit : AuditFault → RaceFault
-of_audit audit.OutOfMemory = fault.OutOfMemory
-of_audit (audit.BadEntry at) = fault.AuditFailed
+abbrev pub race_fault_of_audit : AuditFault → RaceFault
+race_fault_of_audit audit.OutOfMemory = fault.OutOfMemory
+race_fault_of_audit (audit.BadEntry at) = fault.AuditFailed
 
 -- ---- the whole
 
@@ -79,7 +79,7 @@ HasRaced start bytes before (Err f) left after = (lines : List Line) × IsWhole 
 -- the whole script was read, and a store of its opening has no entry yet
 abbrev pub OpensRace : {P : Type 0} → Start → List ℕ → Result (Opened P) RaceFault → List ℕ → Type 0
 OpensRace start bytes (Ok opened) left =
-    (lines : List Line) × IsWhole start bytes lines left × (opened.lines.items ≡ commands_of lines) × (opened.store.opening ≡ plan_of start lines)
+    (lines : List Line) × IsWhole start bytes lines left × (opened.lines.items ≡ commands_of lines) × (opened.store.opening ≡ plan_of_script start lines)
 OpensRace start bytes (Err (fault.Script f)) left = IsNotRun start bytes f left
 OpensRace start bytes (Err f) left = ⊥
 
@@ -94,4 +94,4 @@ TellsRace s ts before (Err f) after = after ≡ Some before
 
 -- The sink was finished: what was taken is the same still. A fault stands; where there was none and it failed, that is the fault.
 abbrev pub EndsRace : {T : Type 0} → Option (List ℕ) → Result T RaceFault → Result T RaceFault → Option (List ℕ) → Type 0
-EndsRace before outcome result after = Keeps before after × ((result ≡ outcome) ⊎ (IsOk outcome × (result ≡ Err fault.WriteFailed)))
+EndsRace before outcome result after = KeepsBytes before after × ((result ≡ outcome) ⊎ (IsOk outcome × (result ≡ Err fault.WriteFailed)))

@@ -79,9 +79,9 @@ impl From<ThreadsFault> for RaceFault {
 
 impl From<AuditFault> for RaceFault {
     ghost use Rattle.std.specs.Prelude.{◌≡◌};
-    ghost use Rattle.tg_threads.specs.Race.{of_audit};
+    ghost use Rattle.tg_threads.specs.Race.{race_fault_of_audit};
 
-    ghost from_gives = { λ fault e. e ≡ of_audit fault };
+    ghost from_gives = { λ fault e. e ≡ race_fault_of_audit fault };
 
     fn from(fault: AuditFault) -> RaceFault {
         match fault {

@@ -1,7 +1,7 @@
 //! A whole script, whose workers run their lines side by side.
 ghost use Rattle.std.specs.Prelude.{◌≡◌, ◌+◌, ◌≤◌, ℕ, List, [], Some, true, IfErr, IfOk, length};
 ghost use Rattle.std.specs.List.{All, range_with_len};
-ghost use Rattle.tg_text.specs.Sinks.{Keeps};
+ghost use Rattle.tg_text.specs.Sinks.{KeepsBytes};
 ghost use Rattle.tg_script.specs.Opening.{IsCommand};
 ghost use Rattle.tg_script.specs.Script.{Start};
 ghost use Rattle.tg_shared.specs.Sessions.{AreFresh, AreSharedOut, MayClose, start_of_store};
@@ -120,7 +120,7 @@ fn open_race<P: Payload, S: Source, K: Sink>(
     ensures commands { IfOk result (λ opened. All IsCommand opened.lines.items) }
     ensures output { let start : Start = record { workers = settings.workers; helpers = settings.helpers; limit = settings.max_vertices; blocks = settings.limits.max_blocks; values = workers.items; stock = [] } in
         (bytes : List ℕ) → S.left source.old ≡ Some bytes → (left : List ℕ) × (S.left source.new ≡ Some left) × OpensRace start bytes result left }
-    ensures taken { Keeps (K.taken sink.old) (K.taken sink.new) }
+    ensures taken { KeepsBytes (K.taken sink.old) (K.taken sink.new) }
     ensures asked { S.asked source.new ≤ S.asked source.old + 1048577 }
 {
     let whole = read_script(alloc, source, sink, settings.workers)?;

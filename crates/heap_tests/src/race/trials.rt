@@ -1,6 +1,6 @@
 //! Helpers on threads, each of which claims a block of Aged and tries its places on cells at random.
 ghost use Rattle.std.specs.Prelude.{◌≡◌, ◌<◌, ◌≤◌, ◌-◌, ◌^◌, ℕ, IfOk, IsTrue, false};
-ghost use Rattle.tg_race.specs.Race.{empty, has};
+ghost use Rattle.tg_race.specs.Race.{empty, has_number};
 ghost use Rattle.tg_race.specs.Conditions.{uses};
 
 use std::alloc::{AllocError, Global};
@@ -29,7 +29,7 @@ fn try_cell(helper: &mut Helper, table: &RaceTable, cell: u64, block: u64, used:
     requires inside { cell < table.now.counts.cells }
     requires moved { table.now.counts.kept ≡ 0 }
     requires range { (block < 2 ^ 20) × (used < 64) }
-    requires owned { IsTrue (has block helper.old.done.aged_blocks) }
+    requires owned { IsTrue (has_number block helper.old.done.aged_blocks) }
     requires free { (n : ℕ) → used ≤ n → uses helper.old.done (record { space = 1; block = block; cell = n }) ≡ false }
     ensures seat { (helper.new.table ≡ helper.old.table) × (helper.new.done.share ≡ helper.old.done.share) }
     ensures owned { helper.new.done.aged_blocks ≡ helper.old.done.aged_blocks }

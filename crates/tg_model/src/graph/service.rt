@@ -15,7 +15,7 @@ use tg_rights::Label;
 impl Graph {
     ghost use Rattle.tg_model.specs.Graph.{IsSubject, with_rights, without_rights, listing_of};
     ghost use Rattle.tg_model.specs.Plain.{graph_of, IsEnd};
-    ghost use Rattle.tg_model.specs.Rules.{DeedFits, Holds, denial_of, step, answer_of, effect, reply_of, state_of};
+    ghost use Rattle.tg_model.specs.Rules.{DeedFits, HoldsOver, denial_of, step, answer_of, effect, reply_of, state_of};
 
     /// Takes a deed of a worker. The answer is that of the rules, and the graph becomes the next one; where a fault is
     /// answered it is as it was. `NoSuchWorker` is answered exactly where no worker has the name, and looked for
@@ -102,7 +102,7 @@ impl Graph {
     // Gives one vertex, which an edge begins or ends at, rights over another, which someone holds already.
     fn add(&mut self, from: u64, to: u64, label: Label) -> Result<Reply, AllocError>
         requires end { IsEnd (graph_of self.old).label from }
-        requires held { (x : ℕ) × Holds (graph_of self.old).label x to label }
+        requires held { (x : ℕ) × HoldsOver (graph_of self.old).label x to label }
         ensures done { IfOk result (λ reply. reply ≡ Reply.Done) }
         ensures ok { OnOk result (graph_of self.new ≡ record (graph_of self.old) { label = with_rights (graph_of self.old).label from to label }) }
         ensures err { OnErr result (self.new ≡ self.old) }

@@ -1,7 +1,7 @@
 use Rattle.std.proofs.Common.{◌≡◌, ◌∙◌, ◌+◌, ◌<◌, Some, cond, map, nat_eq, ap, refl, sym, subst, arith}
 use Rattle.std.specs.BinaryHeap.{heap_items}
 use Rattle.std.specs.declared.cmp.Reverse.{Reverse}
-use Rattle.tg_index.specs.Slots.{Slots, number_of}
+use Rattle.tg_index.specs.Slots.{Slots, place_number}
 use Rattle.tg_index.proofs.SlotLemmas.{named_next}
 use Rattle.tg_index.proofs.RowIndex.name_next.Goals as goal
 
@@ -14,4 +14,4 @@ returns-clause-set c =
     let updates = rw c.unwrap.ensures at c.insert.ensures.updates in
     named_next s _ row later is s.next c.args.name refl (ap (λ n. n + 1) next) (ap (λ (v : Slots). v.len) view) c.requires.inside
     (ap (λ (v : Slots). v.holes) view) absent puts
-    (λ q. updates.0 q ∙ ap (λ (v : Slots). cond (nat_eq c.args.name q) (Some v.next) (number_of v q)) view)
+    (λ q. updates.0 q ∙ ap (λ (v : Slots). cond (nat_eq c.args.name q) (Some v.next) (place_number v q)) view)

@@ -1,6 +1,6 @@
 use Rattle.std.proofs.Common.{◌≡◌, ℕ, ◌+◌, ◌*◌, ◌++◌, ◌<◌, ◌≤◌, ◌∙◌, List, ap, replicate, subst, sym}
 use Rattle.tg_space.specs.Forwarding.{ForwardingWords}
-use Rattle.tg_race.specs.Board.{IsClosed}
+use Rattle.tg_race.specs.Board.{IsClosedTable}
 use Rattle.tg_space.specs.Collection.{AreFewBlocks, IsCollection, copies_in, used_cells}
 use Rattle.tg_space.specs.SpaceTable.{kept_blocks}
 use Rattle.tg_race.specs.Race.{past}
@@ -24,7 +24,7 @@ whole c =
     let v = c.args.helped.helper.done in let p = c.in-Ok.part in
     record {
       counts = c.requires.counts;
-      closed = subst (λ (ws : List ℕ). IsClosed c.args.table.counts ws v) (sym (words_are c.args.table.counts.kept c.args.plan.kept (c.requires.counts.kept ∙ sym c.requires.plan.kept) c.close.result c.of_closed-forward.result c.of_closed-forward.ensures)) c.close.ensures;
+      closed = subst (λ (ws : List ℕ). IsClosedTable c.args.table.counts ws v) (sym (words_are c.args.table.counts.kept c.args.plan.kept (c.requires.counts.kept ∙ sym c.requires.plan.kept) c.close.result c.of_closed-forward.result c.of_closed-forward.ensures)) c.close.ensures;
       last = ok_at (λ (_ : Part). 0 < past c.args.table.counts v) c.args.helped.part p c.in-Ok.is c.requires.helped.last;
       earned = c.requires.helped.earned;
       part = ok_at (λ (q : Part). IsPart c.args.plan.kind c.args.spaces.now c.args.roots.now v q.aged.items q.old.items) c.args.helped.part p c.in-Ok.is c.requires.helped.whole;

@@ -1,7 +1,7 @@
 use Rattle.std.proofs.Common.{◌≡◌, ◌+◌, ℕ, List, Some, true}
 use Rattle.std.specs.List.{All}
 use Rattle.tg_model.specs.Opened.{JoinsWorkers}
-use Rattle.tg_text.specs.Sinks.{Keeps}
+use Rattle.tg_text.specs.Sinks.{KeepsBytes}
 use Rattle.tg_script.specs.Lines.{Behind}
 use Rattle.tg_script.specs.Opening.{edge_lines}
 use Rattle.tg_script.proofs.opening.read_edges.Given as goal
@@ -15,7 +15,7 @@ invariant-loop-edges g l =
       workers : l.script.workers ≡ l.fn.script.workers;
       opening : l.script.opening ≡ true;
       bytes : (bytes : List ℕ) → s.left l.fn.source ≡ Some bytes → (rest : List ℕ) × (s.left l.source ≡ Some rest) × Behind l.fn.script bytes (edge_lines l.edges.items) l.script rest;
-      taken : Keeps (k.taken l.fn.sink) (k.taken l.sink);
+      taken : KeepsBytes (k.taken l.fn.sink) (k.taken l.sink);
       written : k.failures l.sink ≡ k.failures l.fn.sink;
       failures : s.failures l.source ≡ s.failures l.fn.source;
       asked : s.asked l.source + l.script.lines.room ≡ s.asked l.fn.source + l.fn.script.lines.room;

@@ -1,7 +1,7 @@
 use Rattle.std.proofs.Common.{◌≡◌, ◌+◌, ◌++◌, ℕ, List, Some, false}
 use Rattle.std.specs.List.{All}
 use Rattle.tg_text.specs.declared.line.Line.{Line}
-use Rattle.tg_text.specs.Sinks.{Keeps}
+use Rattle.tg_text.specs.Sinks.{KeepsBytes}
 use Rattle.tg_script.specs.Lines.{Behind}
 use Rattle.tg_script.specs.Opening.{IsCommand}
 use Rattle.tg_script.proofs.whole.read_commands.Given as goal
@@ -16,7 +16,7 @@ invariant-loop-line g l =
       bytes : (bytes : List ℕ) → s.left l.fn.source ≡ Some bytes →
           (rest : List ℕ) × (more : List Line) × (s.left l.source ≡ Some rest) × (l.lines.items ≡ l.fn.lines.items ++ more) × Behind l.fn.script bytes more l.script rest;
       read_failed : s.failures l.source ≡ s.failures l.fn.source;
-      taken : Keeps (k.taken l.fn.sink) (k.taken l.sink);
+      taken : KeepsBytes (k.taken l.fn.sink) (k.taken l.sink);
       write_failed : k.failures l.sink ≡ k.failures l.fn.sink;
       asked : s.asked l.source + l.script.lines.room ≡ s.asked l.fn.source + l.fn.script.lines.room;
     }

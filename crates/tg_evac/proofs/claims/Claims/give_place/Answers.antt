@@ -7,7 +7,7 @@ use Rattle.tg_word.specs.declared.Place.{Place}
 use Rattle.tg_word.specs.Word.{link_to, place_in}
 use Rattle.tg_space.specs.SpaceTable.{place_in_space}
 use Rattle.tg_evac.specs.declared.win.Win.{Win}
-use Rattle.tg_evac.specs.Claims.{Claimed, IsFull, IsWinFor}
+use Rattle.tg_evac.specs.Claims.{Claimed, HasFilledRoom, IsWinFor}
 use Rattle.tg_evac.specs.Claimers.{AddsWins, walked_of}
 use Rattle.tg_evac.proofs.Claiming.{claims_more, adds_one, full_at, place_back, won_behind}
 use Rattle.tg_evac.proofs.claims.Claims.give_place.Goals as goal
@@ -54,8 +54,8 @@ pub returns-then-self-number-clause-full : goal.returns-then-self-number-clause-
 returns-then-self-number-clause-full c _ =
     let inside = c.self.inside in
     let v : Claimed = record { plan = inside.plan; forward = inside.forward.words; won = inside.won.items; next = inside.next } in
-    let full : IsFull v = full_at v c.self.invariant.0 c.args.space c.requires.space c.if-self-number.true in
-    subst (λ (x : Claimed). IsFull x) c.self.view_is full
+    let full : HasFilledRoom v = full_at v c.self.invariant.0 c.args.space c.requires.space c.if-self-number.true in
+    subst (λ (x : Claimed). HasFilledRoom x) c.self.view_is full
 
 pub returns-clause-held : goal.returns-clause-held
 returns-clause-held c =

@@ -1,6 +1,6 @@
 use Rattle.std.proofs.Common.{◌≡◌, ◌<◌, false, ap, sym, subst, ◌∙◌, arith}
 use Rattle.tg_race.specs.Course.{has_met}
-use Rattle.tg_race.specs.Words.{space_of}
+use Rattle.tg_race.specs.Words.{space_of_age}
 use Rattle.tg_evac.specs.Claims.{IsWinFor}
 use Rattle.tg_evac.specs.Claimers.{AddsWins}
 use Rattle.tg_parallel.specs.Parts.{HasPlaces}
@@ -25,7 +25,7 @@ invariant_of-self-else-space-eq-AGED c =
 pub returns-then-space-eq-AGED-clause-added : goal.returns-then-space-eq-AGED-clause-added
 returns-then-space-eq-AGED-clause-added c =
     let s = c.self.inside in let w = c.place_of.new.winner.done in
-    let right : c.args.space ≡ space_of s.aged.aged = c.if-space-eq-AGED.true ∙ ap space_of (sym c.self.invariant.is_aged) in
+    let right : c.args.space ≡ space_of_age s.aged.aged = c.if-space-eq-AGED.true ∙ ap space_of_age (sym c.self.invariant.is_aged) in
     subst (λ (x : Sitting). AddsWins (IsWinFor c.args.cell c.args.space) (walked_at x) (walked_at (record { kind = s.kind; limit = s.limit; board = s.table.now; done = w }))) c.self.view_is
     (adds_found c.args.cell s.aged.aged s.winner.done w c.place_of.ensures.finds s.kind s.limit s.table.now c.args.space right)
 
@@ -38,7 +38,7 @@ pub returns-else-space-eq-AGED-clause-added : goal.returns-else-space-eq-AGED-cl
 returns-else-space-eq-AGED-clause-added c =
     let s = c.self.inside in let w = c.place_of-else-space-eq-AGED.new.winner.done in
     let none : c.args.space ≡ 0 = (let two = c.requires.space in omega (arith, c.if-space-eq-AGED.false)) in
-    let right : c.args.space ≡ space_of s.old.aged = none ∙ ap space_of (sym c.self.invariant.is_old) in
+    let right : c.args.space ≡ space_of_age s.old.aged = none ∙ ap space_of_age (sym c.self.invariant.is_old) in
     subst (λ (x : Sitting). AddsWins (IsWinFor c.args.cell c.args.space) (walked_at x) (walked_at (record { kind = s.kind; limit = s.limit; board = s.table.now; done = w }))) c.self.view_is
     (adds_found c.args.cell s.old.aged s.winner.done w c.place_of-else-space-eq-AGED.ensures.finds s.kind s.limit s.table.now c.args.space right)
 

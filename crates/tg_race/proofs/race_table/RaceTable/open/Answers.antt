@@ -4,7 +4,7 @@ use Rattle.atomic_table.specs.Table.{opening, Me}
 use Rattle.tg_race.specs.declared.plays.View.{View}
 use Rattle.tg_race.specs.Race.{empty}
 use Rattle.tg_race.specs.declared.record.Counts.{Counts}
-use Rattle.tg_race.specs.Board.{Holds, AreSmall}
+use Rattle.tg_race.specs.Board.{IsBoardOfRace, AreSmall}
 use Rattle.tg_race.proofs.Allowed.{opens}
 use Rattle.tg_race.proofs.race_table.RaceTable.open.Goals as goal
 
@@ -15,7 +15,7 @@ of_words-requires c =
     let n : ℕ = c.args.cells - 64 * c.args.kept in
     let zeros : c.in_ok-words.words.items ≡ replicate (n + 3) 0 = first_of (search rules, grind (arith, common_steps)) in
     let is : c.as_slice.result.now ≡ set (replicate (n + 3) 0) 2 c.args.kept = c.as_slice.ensures.value ∙ ap (λ (ws : List ℕ). set ws 2 c.args.kept) zeros in
-    subst (λ (ws : List ℕ). Holds k (opening ws [] (record { skipped = 64 * c.args.kept; done = empty k.helpers }))) (sym is) (opens k n small (omega arith))
+    subst (λ (ws : List ℕ). IsBoardOfRace k (opening ws [] (record { skipped = 64 * c.args.kept; done = empty k.helpers }))) (sym is) (opens k n small (omega arith))
 
 pub invariant_of-result-2 : goal.invariant_of-result-2
 invariant_of-result-2 c =

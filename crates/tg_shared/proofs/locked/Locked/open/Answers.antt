@@ -7,7 +7,7 @@ use Rattle.tg_model.specs.Opened.{Plan, start_of}
 use Rattle.tg_journal.specs.declared.entry.Entry.{Entry}
 use Rattle.tg_store.specs.Store.{graph_of_store}
 use Rattle.tg_journal.proofs.HistoryLaws.{graph_after-subjects}
-use Rattle.tg_shared.specs.Sessions.{SessionState, Start, AreFresh}
+use Rattle.tg_shared.specs.Sessions.{SessionState, SharedStart, AreFresh}
 use Rattle.tg_shared.proofs.Balances.{goes_on_start, opened_made}
 use Rattle.tg_shared.proofs.locked.Locked.open.Goals as goal
 
@@ -19,7 +19,7 @@ invariant_of-locked g c =
     let left : c.sessions_of.new.rest.parts + c.workers-workers.result ≡ c.open-book.result.1.parts = c.in-Ok.ensures.rest.0 in
     let made : c.args.store.opening.workers ≤ (graph_of_store c.args.store).made = opened_made c.args.store in
     let entries : c.journal.result.now.entries ≡ c.args.store.entries = c.journal.ensures.entries in
-    let shared : length c.args.store.entries ≡ length g.L.Round.start.entries = ap (λ (s : Start). length s.entries) c.requires.start in
+    let shared : length c.args.store.entries ≡ length g.L.Round.start.entries = ap (λ (s : SharedStart). length s.entries) c.requires.start in
     let start : c.len-start.result ≡ length g.L.Round.start.entries = c.len-start.ensures ∙ (ap (λ (es : List Entry). length es) entries ∙ shared) in (
       record {
         counted = shared ∙ (let e : length g.L.Round.start.entries ≡ length g.L.Round.start.entries + c.open-book.result.0.total = omega arith in e);
@@ -30,7 +30,7 @@ invariant_of-locked g c =
       start,
       c.in-Ok.ensures.rest.1,
       goes_on_start g.L.Round.start c.args.store c.requires.start,
-      workers ∙ ap (λ (s : Start). s.opening.workers) c.requires.start,
+      workers ∙ ap (λ (s : SharedStart). s.opening.workers) c.requires.start,
     )
 
 pub returns-clause-sessions : goal.returns-clause-sessions
