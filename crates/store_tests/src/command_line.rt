@@ -52,6 +52,28 @@ fn words_that_are_accepted(rt: HostRuntime) -> Result<(), Fail> {
     Ok(())
 }
 
+// Whether the words ask for a race.
+fn asks_for_a_race(alloc: Global, words: &[&str]) -> Result<bool, Fail> {
+    match options(alloc, words) {
+        Ok(read) => Ok(read.race),
+        Err(_) => Err(Fail::from("words that are not accepted")),
+    }
+}
+
+#[test]
+fn race_where_the_words_say_it(rt: HostRuntime) -> Result<(), Fail> {
+    let cases: [(&[&str], bool); 4] = [
+        (&["tgstore"], false),
+        (&["tgstore", "--race"], true),
+        (&["tgstore", "--race", "--workers", "8"], true),
+        (&["tgstore", "--stock=--race"], false),
+    ];
+    for (words, wanted) in cases {
+        assert_eq!(rt; asks_for_a_race(rt.alloc(), words)?, wanted);
+    }
+    Ok(())
+}
+
 // The text that is written instead of a run, with this status.
 fn text_with(alloc: Global, words: &[&str], status: i32) -> Result<String, Fail> {
     match options(alloc, words) {
@@ -106,7 +128,11 @@ fn sixty_five_workers(rt: HostRuntime) -> Result<(), Fail> {
 #[test]
 fn words_that_name_no_option(rt: HostRuntime) -> Result<(), Fail> {
     let alloc = rt.alloc();
-    let cases: [(&[&str], &str); 5] = [
+    let cases: [(&[&str], &str); 6] = [
+        (
+            &["tgstore", "--race=yes"],
+            "error: unexpected value 'yes' for '--race' found",
+        ),
         (
             &["tgstore", "--threads", "5"],
             "error: unexpected argument '--threads' found",
@@ -143,6 +169,7 @@ fn help_is_status_0(rt: HostRuntime) -> Result<(), Fail> {
         "Usage: tgstore [OPTIONS]\n",
         "  --workers <N>   How many workers there are, from 1 to 64. They are named 0, 1, 2, .. [default: 2]\n",
         "  X create RIGHTS      X makes an object, with the next box of the stock, and has RIGHTS over it\n",
+        "  --race          Runs each worker's lines on a thread of their own.",
         "  printf '0 create rw\\n0 list\\n' | tgstore --workers 1 --stock c\n",
     ];
     for line in lines {
@@ -200,7 +227,12 @@ fn stop_text(alloc: Global, stock: &str) -> Result<String, Fail> {
         max_vertices: 1,
         limits,
     };
-    let Err(fault) = prepare(alloc, &Options { settings, stock }) else {
+    let options = Options {
+        settings,
+        race: false,
+        stock,
+    };
+    let Err(fault) = prepare(alloc, &options) else {
         return Err(Fail::from("it is prepared"));
     };
     let stop = Stop::Start(fault);

@@ -22,15 +22,16 @@ refusal_of helpers.HeapFull = refusal.Heap
 refusal_of helpers.NoThread = refusal.Threads
 
 -- 2 where the words are at fault, else 1
-abbrev pub stop_status : Stop → ℕ
-stop_status stop.BadWords = 2
-stop_status stop.HelpUnwritten = 1
-stop_status (stop.Start start.BadStock) = 2
-stop_status (stop.Start start.BadLimits) = 2
-stop_status (stop.Start start.OutOfMemory) = 1
-stop_status (stop.Script fault) = 1
+abbrev pub status_of_stop : Stop → ℕ
+status_of_stop stop.BadWords = 2
+status_of_stop stop.HelpUnwritten = 1
+status_of_stop (stop.Start start.BadStock) = 2
+status_of_stop (stop.Start start.BadLimits) = 2
+status_of_stop (stop.Start start.OutOfMemory) = 1
+status_of_stop (stop.Script fault) = 1
+status_of_stop (stop.Race fault) = 1
 
 -- the status that was answered, or that of what ended the program before
 abbrev pub exit_status : Result ℕ Stop → ℕ
 exit_status (Ok status) = status
-exit_status (Err why) = stop_status why
+exit_status (Err why) = status_of_stop why

@@ -1,8 +1,9 @@
 -- What a run reads and writes.
-use Rattle.std.specs.Prelude.{◌≡◌, ℕ, List, map, replicate, Option, Some, Result, Ok, Err}
+use Rattle.std.specs.Prelude.{◌≡◌, ◌⊎◌, ℕ, true, false, List, map, replicate, Option, Some, Result, Ok, Err}
 use Rattle.tg_text.specs.declared.stock.StockItem.TheVariants.{Cell}
 use Rattle.tg_script.specs.Script.{Start as ScriptStart}
 use Rattle.tg_script.specs.Running.{Ran}
+use Rattle.tg_threads.specs.Race.{HasRaced}
 use Rattle.tg_program.specs.Boxes.{value_of}
 use Rattle.tg_program.specs.declared.start.Start.{Start}
 use Rattle.tg_program.specs.declared.start.StartFault.TheVariants.{OutOfMemory}
@@ -20,11 +21,13 @@ script_start_of start = record {
   stock = map value_of start.stock.items;
 }
 
--- The script of these bytes was run, and this is left of them and stands in the writer; or there was no memory for drafts, and
--- nothing was read or written.
+-- The script of these bytes was run, line by line or as a race, as the start says, and this is left of them and stands in the writer;
+-- or there was no memory for drafts, and nothing was read or written.
 abbrev pub Served : {T : Type 0} → Start → List ℕ → List ℕ → Result T Stop → List ℕ → Option (List ℕ) → Type 0
-Served {T} start bytes before (Ok done) left after = Ran (script_start_of start) bytes before (Ok done) left after
-Served {T} start bytes before (Err (stop.Script fault)) left after = Ran {T = T} (script_start_of start) bytes before (Err fault) left after
+Served {T} start bytes before (Ok done) left after =
+    ((start.race ≡ false) × Ran (script_start_of start) bytes before (Ok done) left after) ⊎ ((start.race ≡ true) × HasRaced (script_start_of start) bytes before (Ok done) left after)
+Served {T} start bytes before (Err (stop.Script fault)) left after = (start.race ≡ false) × Ran {T = T} (script_start_of start) bytes before (Err fault) left after
+Served {T} start bytes before (Err (stop.Race fault)) left after = (start.race ≡ true) × HasRaced {T = T} (script_start_of start) bytes before (Err fault) left after
 Served {T} start bytes before (Err (stop.Start OutOfMemory)) left after = (left ≡ bytes) × (after ≡ Some before)
 Served {T} start bytes before (Err why) left after = ⊥
 
@@ -32,4 +35,5 @@ Served {T} start bytes before (Err why) left after = ⊥
 abbrev pub WasBegun : {T : Type 0} → Result T Stop → Type 0
 WasBegun (Ok done) = Unit {0}
 WasBegun (Err (stop.Script fault)) = Unit {0}
+WasBegun (Err (stop.Race fault)) = Unit {0}
 WasBegun (Err why) = ⊥

@@ -1,10 +1,10 @@
 -- What the words of the command line say. How they are taken apart is clap's matter: behind the program's name `--NAME` takes
--- the next word, `--NAME=TEXT` takes the text, and no option comes twice.
-use Rattle.std.specs.Prelude.{◌≡◌, ℕ, List, [], Option, Some, codes, unwrap_or}
+-- the next word, `--NAME=TEXT` takes the text, `--race` stands alone, and no option comes twice.
+use Rattle.std.specs.Prelude.{◌≡◌, ℕ, Bool, true, false, List, [], Option, Some, None, codes, unwrap_or}
 use Rattle.std.specs.Option.{option_map_or}
 use Rattle.std.specs.Str.Parse.{digits_value, without_leading_plus}
 use Rattle.clap.specs.Words.{App, Rule, first_of, matches_of, new_app, new_rule, one_of, one_text, with_rule}
-use Rattle.clap.specs.declared.builder.action.ArgAction.TheVariants.{Set}
+use Rattle.clap.specs.declared.builder.action.ArgAction.TheVariants.{Set, SetTrue}
 use Rattle.clap.specs.declared.builder.value_parser.ValueParser.TheVariants.{Unsigned}
 use Rattle.clap.specs.declared.parser.matches.Found.{Found}
 use Rattle.tg_script.specs.declared.run_script.Settings.{Settings}
@@ -18,12 +18,18 @@ option_rule name = record (new_rule name) { long = Some name; action = Some Set;
 abbrev pub number_rule : List ℕ → Rule
 number_rule name = record (option_rule name) { parser = Some (Unsigned 0 18446744073709551615) }
 
+-- an option with no value
+abbrev pub flag_rule : List ℕ → Rule
+flag_rule name = record (new_rule name) { long = Some name; action = Some SetTrue }
+
 -- the options that there are
 abbrev pub command_line : App
 command_line =
     with_rule
+    (with_rule
     (with_rule (with_rule (with_rule (with_rule (new_app (codes "tgstore")) (number_rule (codes "workers"))) (number_rule (codes "helpers"))) (number_rule (codes "vertices"))) (number_rule (codes "blocks")))
-    (option_rule (codes "stock"))
+    (option_rule (codes "stock")))
+    (flag_rule (codes "race"))
 
 -- the number that a text writes, or this one where there is no text
 abbrev pub number_or : ℕ → Option (List ℕ) → ℕ
@@ -37,6 +43,12 @@ number_said name default words = number_or default (one_of name (matches_of comm
 abbrev pub text_said : List ℕ → List (List ℕ) → List ℕ
 text_said name words = unwrap_or (first_of name (matches_of command_line words)) []
 
+-- an option with no value stands in the words, whose text is then `true`, or doesn't
+pub record IsFlag (text : Option (List ℕ)) (stands : Bool) : Type 0 where
+  pub set : text ≡ Some (codes "true") → stands ≡ true
+  pub unset : text ≡ Some (codes "false") → stands ≡ false
+  pub absent : text ≡ None → stands ≡ false
+
 -- the options are those of the words; no space has more than 1,048,576 blocks
 pub record AreSaid (words : List (List ℕ)) (o : Options) : Type 0 where
   pub workers : o.settings.workers ≡ number_said (codes "workers") 2 words
@@ -44,6 +56,7 @@ pub record AreSaid (words : List (List ℕ)) (o : Options) : Type 0 where
   pub vertices : o.settings.max_vertices ≡ number_said (codes "vertices") 1000000 words
   pub blocks : o.settings.limits.max_blocks ≡ number_said (codes "blocks") 4096 words
   pub space_blocks : o.settings.limits.space_blocks ≡ 1048576
+  pub race : IsFlag (one_of (codes "race") (matches_of command_line words)) o.race
   pub stock : o.stock.now ≡ text_said (codes "stock") words
 
 -- the numbers are those that were found in words which were taken apart; no space has more than 1,048,576 blocks

@@ -3,7 +3,7 @@
 //! Boxes are made here, and the run over them is generic in its payloads, because no contract can speak of boxes that a
 //! function gives to its caller.
 ghost use Rattle.std.specs.Prelude.{◌≡◌, ℕ, List, Some, IfErr};
-ghost use Rattle.tg_program.specs.Faults.{stop_status};
+ghost use Rattle.tg_program.specs.Faults.{status_of_stop};
 ghost use Rattle.tg_program.specs.Serving.{Served};
 ghost use Rattle.tg_program.specs.Starts.{IsReady};
 
@@ -11,12 +11,15 @@ use crate::serving::{Payloads, serve};
 use crate::start::Start;
 use crate::stop::Stop;
 use std::alloc::Global;
+use std::sync::Wait;
+use std::thread::Threads;
 use tg_payload::{CellPayload, LogPayload, MaxPayload, PayloadBox, SumPayload};
 use tg_script::{Collector, Sink, Source, StockItem};
 
 /// Runs the source's script from the start, with new boxes: a cell with 0 for each worker, and those of the stock. Memory may
 /// be wanting before it; then nothing is read or written.
-pub(crate) fn serve_with_boxes<C: Collector, S: Source, K: Sink>(
+pub(crate) fn serve_with_boxes<R: Threads + Wait + Sync, C: Collector, S: Source, K: Sink>(
+    rt: &R,
     alloc: Global,
     collector: &C,
     source: &mut S,
@@ -25,7 +28,7 @@ pub(crate) fn serve_with_boxes<C: Collector, S: Source, K: Sink>(
 ) -> Result<(), Stop>
     requires collector { C.Ready }
     requires ready { IsReady start.now }
-    ensures status { IfErr result (λ stop. stop_status stop ≡ 1) }
+    ensures status { IfErr result (λ stop. status_of_stop stop ≡ 1) }
     ensures output { (bytes before : List ℕ) → S.left source.old ≡ Some bytes → K.taken sink.old ≡ Some before →
         (left : List ℕ) × (S.left source.new ≡ Some left) × Served start.now bytes before result left (K.taken sink.new) }
 {
@@ -44,5 +47,5 @@ pub(crate) fn serve_with_boxes<C: Collector, S: Source, K: Sink>(
         stock.push(payload)?;
     }
     let payloads = Payloads { workers, stock };
-    serve(alloc, collector, source, sink, start, payloads)
+    serve(rt, alloc, collector, source, sink, start, payloads)
 }

@@ -95,6 +95,7 @@ where
     let alloc = rt.alloc();
     let start = prepare(alloc, options).map_err(Stop::Start)?;
     let Ended { outcome, .. } = serve_buffered(
+        rt,
         alloc,
         &OnThreads::new(rt, alloc),
         reader,

@@ -1,14 +1,17 @@
 //! A run with payloads, from a source to a sink.
 ghost use Rattle.std.specs.Prelude.{◌≡◌, ℕ, List, Some, true, IfErr, map};
-ghost use Rattle.tg_program.specs.Faults.{stop_status};
+ghost use Rattle.tg_program.specs.Faults.{status_of_stop};
 ghost use Rattle.tg_program.specs.Serving.{WasBegun, Served};
 ghost use Rattle.tg_program.specs.Starts.{IsReady, HasPayloads};
 
 use crate::start::Start;
 use crate::stop::Stop;
 use std::alloc::Global;
+use std::sync::Wait;
+use std::thread::Threads;
 use tg_payload::Payload;
 use tg_script::{Collector, Sink, Source, drafts_of, run_script_with};
+use tg_threads::{NoGate, run_race};
 
 /// The payloads of a run.
 #[derive(Drop)]
@@ -20,8 +23,9 @@ pub struct Payloads<P: Payload> {
 }
 
 /// Runs the source's script from the start with these payloads, and puts the replies into the sink, as `run_script_with` does
-/// with the start's settings. Memory may be wanting for drafts of the payloads; then nothing is read or written.
-pub fn serve<P: Payload, C: Collector, S: Source, K: Sink>(
+/// with the start's settings, or, where the start says so, as `run_race` does. Memory may be wanting for drafts of the payloads; then nothing is read or written.
+pub fn serve<P: Payload + Send, R: Threads + Wait + Sync, C: Collector, S: Source, K: Sink>(
+    rt: &R,
     alloc: Global,
     collector: &C,
     source: &mut S,
@@ -32,13 +36,28 @@ pub fn serve<P: Payload, C: Collector, S: Source, K: Sink>(
     requires collector { C.Ready }
     requires ready { IsReady start.now }
     requires payloads { HasPayloads start.now (map P.value payloads.workers.items) (map P.value payloads.stock.items) }
-    ensures status { IfErr result (λ stop. stop_status stop ≡ 1) }
+    ensures status { IfErr result (λ stop. status_of_stop stop ≡ 1) }
     ensures output { (bytes before : List ℕ) → S.left source.old ≡ Some bytes → K.taken sink.old ≡ Some before →
         (left : List ℕ) × (S.left source.new ≡ Some left) × Served start.now bytes before result left (K.taken sink.new) }
     ensures finished { WasBegun result → K.finished sink.new ≡ true }
 {
     let workers = drafts_of(alloc, payloads.workers)?;
     let stock = drafts_of(alloc, payloads.stock)?;
+    if start.race {
+        return match run_race(
+            rt,
+            alloc,
+            source,
+            sink,
+            &NoGate,
+            start.settings,
+            workers,
+            stock,
+        ) {
+            Ok(()) => Ok(()),
+            Err(fault) => Err(Stop::Race(fault)),
+        };
+    }
     match run_script_with(
         alloc,
         collector,

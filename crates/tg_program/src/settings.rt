@@ -6,6 +6,8 @@ use tg_script::Settings;
 #[derive(Clone, Copy, Debug, Drop)]
 pub struct Options<'a> {
     pub settings: Settings,
+    /// Whether each worker's lines are run on a thread of their own.
+    pub race: bool,
     /// The text of the stock, as it was written.
     pub stock: &'a str,
 }

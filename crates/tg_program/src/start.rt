@@ -13,6 +13,8 @@ use thiserror::Error;
 #[derive(Debug, Drop)]
 pub struct Start {
     pub settings: Settings,
+    /// Whether each worker's lines are run on a thread of their own.
+    pub race: bool,
     /// The kinds of the boxes for the vertices that are made, in order.
     pub stock: Vec<StockItem>,
 }
@@ -61,6 +63,7 @@ impl From<StockFault> for StartFault {
 pub fn prepare(alloc: Global, options: &Options) -> Result<Start, StartFault>
     requires { AreInRange options.now.settings }
     ensures settings { IfOk result (λ start. (start.settings ≡ options.now.settings) × MayHoldWorkers start.settings) }
+    ensures race { IfOk result (λ start. start.race ≡ options.now.race) }
     ensures stock { IfOk result (λ start. IsStockText options.now.stock.now start.stock.items) }
     ensures ready { IfOk result IsReady }
     ensures refused { IfErr result (IsStartFault options.now.settings options.now.stock.now) }
@@ -70,5 +73,9 @@ pub fn prepare(alloc: Global, options: &Options) -> Result<Start, StartFault>
     if settings.max_vertices < settings.workers {
         return Err(StartFault::BadLimits);
     }
-    Ok(Start { settings, stock })
+    Ok(Start {
+        settings,
+        race: options.race,
+        stock,
+    })
 }

@@ -1,10 +1,11 @@
 //! Why the program ends before the whole script was run.
 ghost use Rattle.std.specs.Prelude.{◌≡◌};
-ghost use Rattle.tg_program.specs.Faults.{stop_status};
+ghost use Rattle.tg_program.specs.Faults.{status_of_stop};
 
 use crate::start::StartFault;
 use std::alloc::{AllocError, AllocFailed};
 use tg_script::ScriptFault;
+use tg_threads::RaceFault;
 use thiserror::Error;
 
 /// Why the program ended before the whole script was run: the line on standard error, after its name.
@@ -22,6 +23,9 @@ pub enum Stop {
     /// The run met this fault.
     #[error("{0}")]
     Script(ScriptFault),
+    /// The race met this fault.
+    #[error("{0}")]
+    Race(RaceFault),
 }
 
 impl From<AllocError> for Stop {
@@ -51,11 +55,14 @@ impl<T: Drop> From<AllocFailed<T>> for Stop {
 impl Stop {
     /// The exit status: 2 where the words of the command line are at fault, else 1.
     pub fn status(self) -> u8
-        ensures { result ≡ stop_status self }
+        ensures { result ≡ status_of_stop self }
     {
         match self {
             Stop::BadWords | Stop::Start(StartFault::BadStock | StartFault::BadLimits) => 2,
-            Stop::HelpUnwritten | Stop::Start(StartFault::OutOfMemory) | Stop::Script(_) => 1,
+            Stop::HelpUnwritten
+            | Stop::Start(StartFault::OutOfMemory)
+            | Stop::Script(_)
+            | Stop::Race(_) => 1,
         }
     }
 }

@@ -1,7 +1,7 @@
 //! A run between a reader and a writer.
 ghost use Rattle.std.specs.Prelude.{◌≡◌, ◌<◌, ℕ, List, Some, IfErr, IfOk};
 ghost use Rattle.std.specs.Io.Buffered.{reader_remaining, writer_contents};
-ghost use Rattle.tg_program.specs.Faults.{stop_status};
+ghost use Rattle.tg_program.specs.Faults.{status_of_stop};
 ghost use Rattle.tg_program.specs.Serving.{Served};
 ghost use Rattle.tg_program.specs.Starts.{IsReady};
 
@@ -11,7 +11,9 @@ use crate::stop::Stop;
 use std::alloc::Global;
 use std::io::{BufRead, BufReader, BufWriter, Read, Write};
 use std::marker::Brand;
+use std::sync::Wait;
 use std::sync::ledger::{Blank, Ledger};
+use std::thread::Threads;
 use tg_script::{Collector, Count, OfRead, OfWrite};
 
 /// How many bytes are read, and how many are written, at once.
@@ -28,7 +30,13 @@ pub(crate) struct Ended<R: Drop, W: Drop> {
 /// Runs the reader's script from the start with new boxes, and writes the replies. Whatever was written is flushed before more is
 /// read than the reader holds, and at the end, after a fault too. Memory may be wanting for the two buffers; then nothing is
 /// read or written.
-pub(crate) fn serve_buffered<C: Collector, R: Read + Drop, W: Write + Drop>(
+pub(crate) fn serve_buffered<
+    T: Threads + Wait + Sync,
+    C: Collector,
+    R: Read + Drop,
+    W: Write + Drop,
+>(
+    rt: &T,
     alloc: Global,
     collector: &C,
     reader: R,
@@ -37,8 +45,8 @@ pub(crate) fn serve_buffered<C: Collector, R: Read + Drop, W: Write + Drop>(
 ) -> Result<Ended<BufReader<R>, BufWriter<W>>, Stop>
     requires collector { C.Ready }
     requires ready { IsReady start.now }
-    ensures status { IfErr result (λ stop. stop_status stop ≡ 1) }
-    ensures ended_status { IfOk result (λ ended. IfErr ended.outcome (λ stop. stop_status stop ≡ 1)) }
+    ensures status { IfErr result (λ stop. status_of_stop stop ≡ 1) }
+    ensures ended_status { IfOk result (λ ended. IfErr ended.outcome (λ stop. status_of_stop stop ≡ 1)) }
     ensures output { IfOk result (λ ended. (bytes before : List ℕ) → R.remaining reader ≡ Some bytes → W.contents writer ≡ Some before →
         (left : List ℕ) × (reader_remaining R.remaining ended.reader ≡ Some left) × Served start.now bytes before ended.outcome left (writer_contents W.contents ended.writer)) }
 {
@@ -49,7 +57,8 @@ pub(crate) fn serve_buffered<C: Collector, R: Read + Drop, W: Write + Drop>(
         return Err(Stop::Start(StartFault::OutOfMemory));
     };
     let (asked, read_failures, write_failures) = (Blank::new(1), Blank::new(1), Blank::new(1));
-    Ok(serve_counted::<Brand, Brand, Brand, C, BufReader<R>, BufWriter<W>>(
+    Ok(serve_counted::<Brand, Brand, Brand, T, C, BufReader<R>, BufWriter<W>>(
+        rt,
         alloc,
         collector,
         asked,
@@ -62,7 +71,16 @@ pub(crate) fn serve_buffered<C: Collector, R: Read + Drop, W: Write + Drop>(
 }
 
 // Serves where these ledgers name how often the reader is asked and fails, and how often the writer fails.
-fn serve_counted<A: Ledger, B: Ledger, F: Ledger, C: Collector, R: BufRead + Drop, W: Write + Drop>(
+fn serve_counted<
+    A: Ledger,
+    B: Ledger,
+    F: Ledger,
+    T: Threads + Wait + Sync,
+    C: Collector,
+    R: BufRead + Drop,
+    W: Write + Drop,
+>(
+    rt: &T,
     alloc: Global,
     collector: &C,
     asked: Blank,
@@ -77,14 +95,14 @@ fn serve_counted<A: Ledger, B: Ledger, F: Ledger, C: Collector, R: BufRead + Dro
     requires read_failures { (read_failures.name ≡ B.name) × (read_failures.parts ≡ B.parts) × (0 < read_failures.parts) }
     requires write_failures { (write_failures.name ≡ F.name) × (write_failures.parts ≡ F.parts) × (0 < write_failures.parts) }
     requires ready { IsReady start.now }
-    ensures status { IfErr result.outcome (λ stop. stop_status stop ≡ 1) }
+    ensures status { IfErr result.outcome (λ stop. status_of_stop stop ≡ 1) }
     ensures output { (bytes before : List ℕ) → R.remaining reader ≡ Some bytes → W.contents writer ≡ Some before →
         (left : List ℕ) × (R.remaining result.reader ≡ Some left) × Served start.now bytes before result.outcome left (W.contents result.writer) }
 {
     let (asked, read_failures) = (Count::<A>::new(asked), Count::<B>::new(read_failures));
     let mut source = OfRead::new(reader, asked, read_failures);
     let mut sink = OfWrite::new(writer, Count::<F>::new(write_failures));
-    let outcome = serve_with_boxes(alloc, collector, &mut source, &mut sink, start);
+    let outcome = serve_with_boxes(rt, alloc, collector, &mut source, &mut sink, start);
     let OfRead { reader, .. } = source;
     let OfWrite { writer, .. } = sink;
     Ended {

@@ -2,7 +2,7 @@
 ghost use Rattle.std.specs.Prelude.{◌≡◌, ◌≤◌, [], IfOk, false, map, codes, unwrap_or};
 ghost use Rattle.clap.specs.Words.{app_of, first_value, found_of, one_text, rule_of};
 ghost use Rattle.tg_program.specs.Ranges.{AreInRange};
-ghost use Rattle.tg_program.specs.Words.{AreFound, AreSaid, command_line, number_or, number_rule, option_rule};
+ghost use Rattle.tg_program.specs.Words.{AreFound, AreSaid, IsFlag, command_line, flag_rule, number_or, number_rule, option_rule};
 
 use crate::help;
 use crate::settings::Options;
@@ -50,12 +50,14 @@ fn options_of<'a>(
     matches: &ArgMatches<'a>,
 ) -> Result<Options<'a>, Error>
     ensures found { IfOk result (λ o. AreFound (found_of matches.now) o.settings) }
+    ensures race { IfOk result (λ o. IsFlag (one_text (found_of matches.now) (codes "race")) o.race) }
     ensures stock { IfOk result (λ o. o.stock.now ≡ unwrap_or (first_value (found_of matches.now) (codes "stock")) []) }
     ensures in_range { IfOk result (λ o. AreInRange o.settings) }
 {
     let settings = settings_of(alloc, command, matches)?;
     Ok(Options {
         settings,
+        race: matches.get_flag("race"),
         stock: matches.get_str("stock").unwrap_or(""),
     })
 }
@@ -146,7 +148,8 @@ fn command<'a>(alloc: Global) -> Result<Command<'a>, Error>
         .arg(number_arg(alloc, "helpers", help::HELPERS))?
         .arg(number_arg(alloc, "vertices", help::VERTICES))?
         .arg(number_arg(alloc, "blocks", help::BLOCKS))?
-        .arg(stock_arg(alloc))?;
+        .arg(stock_arg(alloc))?
+        .arg(race_arg(alloc))?;
     Ok(command)
 }
 
@@ -173,6 +176,17 @@ fn stock_arg<'a>(alloc: Global) -> Arg<'a>
         .value_name("TEXT")
         .help(help::STOCK)
         .action(ArgAction::Set)
+}
+
+// The option of a race, which has no value.
+fn race_arg<'a>(alloc: Global) -> Arg<'a>
+    ensures rule { rule_of result ≡ flag_rule (codes "race") }
+    ensures local { result.global ≡ false }
+{
+    Arg::new(alloc, "race")
+        .long("race")
+        .help(help::RACE)
+        .action(ArgAction::SetTrue)
 }
 
 // The number of an option, from 1 to `most`, or the default where the words don't have the option.

@@ -11,4 +11,5 @@ returns c =
     let helpers = c.in_ok-arg-2.ensures.shape c.number_arg-2.ensures.local ∙ ap₂ with_rule workers c.number_arg-2.ensures.rule in
     let vertices = c.in_ok-arg-3.ensures.shape c.number_arg-3.ensures.local ∙ ap₂ with_rule helpers c.number_arg-3.ensures.rule in
     let blocks = c.in_ok-arg-4.ensures.shape c.number_arg-4.ensures.local ∙ ap₂ with_rule vertices c.number_arg-4.ensures.rule in
-    c.in_ok-command.ensures.shape c.stock_arg.ensures.local ∙ ap₂ with_rule blocks c.stock_arg.ensures.rule
+    let stock = c.in_ok-arg-5.ensures.shape c.stock_arg.ensures.local ∙ ap₂ with_rule blocks c.stock_arg.ensures.rule in
+    c.in_ok-command.ensures.shape c.race_arg.ensures.local ∙ ap₂ with_rule stock c.race_arg.ensures.rule
