@@ -4,7 +4,7 @@ use Rattle.std.specs.Prelude.{ℕ, ◌+◌, ◌-◌, ◌*◌, ◌^◌, ◌==◌,
 use Rattle.std.specs.Char.{is_ascii_digit}
 use Rattle.std.specs.Str.{bytes_eq}
 use Rattle.std.specs.Str.Parse.{digits_value}
-use Rattle.tg_rights.specs.RightSet.{RightSet, label_read as some_label}
+use Rattle.tg_rights.specs.RightSet.{RightSet, label_of as some_label}
 use Rattle.tg_rights.specs.RightText.{read_of}
 use Rattle.tg_model.specs.declared.command.Command.TheVariants.{Take, Grant, Remove, Read, Write, List as Listing}
 use Rattle.tg_text.specs.declared.line.Line.{Line}
