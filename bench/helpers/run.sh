@@ -2,15 +2,16 @@
 # run.sh: how long full collections of live heaps take by one thread, by one seated helper, by 2 and by 4 helpers, beside a bare copier
 # in C (copier.c) that is alone, or claims its cells by a compare-and-exchange with 1, 2 and 4 threads. Heaps of 35,008 and of
 # 1,000,000 cells: rows of 64 workers, a tree, and one whose cells are shuffled. It proves, builds and runs the program and proofs
-# beside it (`*.in`), with the crates that it needs, in a temporary folder. The two take turns; a number is the best of three
+# beside it (`main.rt.in`, FUNCTION.FILE.antt.in), with the crates that it needs, in a temporary folder. The two take turns; a number is the best of three
 # medians. It wants cc and awk. Where ghc is found, GHC's own collector with one thread and with two stands below (GcBench.hs).
 set -eu
 here=$(cd "$(dirname "$0")" && pwd)
 . "$here/../temporary.sh"
 take_crates helpers tg_rights tg_model tg_word tg_block tg_space tg_remember tg_evac tg_race tg_parallel
-mkdir -p "$program/proofs/are_sound"
-for name in Answers Invariants; do
-    cp "$here/$name.antt.in" "$program/proofs/are_sound/$name.antt"
+for proof in "$here"/*.antt.in; do
+    it=$(basename "$proof" .antt.in)
+    mkdir -p "$program/proofs/${it%.*}"
+    cp "$proof" "$program/proofs/${it%.*}/${it#*.}.antt"
 done
 cc -O2 -pthread -o "$build/copier" "$here/copier.c"
 (cd "$program" && rt run) > "$build/built" 2>&1 || { cat "$build/built"; exit 1; }
