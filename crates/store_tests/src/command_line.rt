@@ -14,11 +14,10 @@ const FAULT_END: &str = "\n\nUsage: tgstore [OPTIONS]\n\nFor more information, t
 #[test]
 fn words_that_are_accepted(rt: HostRuntime) -> Result<(), Fail> {
     let alloc = rt.alloc();
-    let cases: [(&[&str], u64, u32, u64, &str); 5] = [
-        (&["tgstore"], 2, 1, 1_000_000, ""),
+    let cases: [(&[&str], u64, u64, &str); 5] = [
+        (&["tgstore"], 2, 1_000_000, ""),
         (
             &["tgstore", "--workers", "1", "--stock", "c"],
-            1,
             1,
             1_000_000,
             "c",
@@ -26,7 +25,6 @@ fn words_that_are_accepted(rt: HostRuntime) -> Result<(), Fail> {
         (
             &["tgstore", "--vertices=16777216", "--workers=64"],
             64,
-            1,
             16_777_216,
             "",
         ),
@@ -34,42 +32,18 @@ fn words_that_are_accepted(rt: HostRuntime) -> Result<(), Fail> {
             &["tgstore", "--vertices", "1", "--blocks", "65536"],
             2,
             1,
-            1,
             "",
         ),
-        (&["tgstore", "--helpers", "8"], 2, 8, 1_000_000, ""),
+        (&["tgstore", "--helpers", "8", "--race"], 2, 1_000_000, ""),
     ];
-    for (words, workers, helpers, vertices, stock) in cases {
+    for (words, workers, vertices, stock) in cases {
         let read = match options(alloc, words) {
             Ok(read) => read,
             Err(_) => return Err(Fail::from("words that are not accepted")),
         };
         assert_eq!(rt; read.settings.workers, workers);
-        assert_eq!(rt; read.settings.helpers.number(), helpers);
         assert_eq!(rt; read.settings.max_vertices, vertices);
         assert!(rt; read.stock == stock, "{}", read.stock);
-    }
-    Ok(())
-}
-
-// Whether the words ask for a race.
-fn asks_for_a_race(alloc: Global, words: &[&str]) -> Result<bool, Fail> {
-    match options(alloc, words) {
-        Ok(read) => Ok(read.race),
-        Err(_) => Err(Fail::from("words that are not accepted")),
-    }
-}
-
-#[test]
-fn race_where_the_words_say_it(rt: HostRuntime) -> Result<(), Fail> {
-    let cases: [(&[&str], bool); 4] = [
-        (&["tgstore"], false),
-        (&["tgstore", "--race"], true),
-        (&["tgstore", "--race", "--workers", "8"], true),
-        (&["tgstore", "--stock=--race"], false),
-    ];
-    for (words, wanted) in cases {
-        assert_eq!(rt; asks_for_a_race(rt.alloc(), words)?, wanted);
     }
     Ok(())
 }
