@@ -81,6 +81,15 @@ impl Block {
         Block { cells }
     }
 
+    /// The cells, in a list that has room for as many.
+    #[inline]
+    pub fn into_cells(self) -> Vec<[u64; WORDS]>
+        ensures cells { result.items ≡ self }
+        ensures whole { IsBlock result.items }
+    {
+        self.cells
+    }
+
     /// A word of a cell.
     #[inline]
     pub fn word(&self, cell: usize, i: usize) -> u64

@@ -16,6 +16,7 @@ use crate::notes::notes_of;
 use crate::plan::Plan;
 use crate::roots::claim_roots;
 use std::alloc::Global;
+use tg_block::Block;
 use tg_remember::Remembered;
 use tg_space::{Adoption, Forwarding, Kind, Root, Spaces};
 
@@ -39,6 +40,9 @@ pub struct Copied {
 /// nurseries to Aged, but those that are first met from a remembered cell or from a copy in Old go straight to Old. So no
 /// more cells are copied than there are cells of from-space that aren't free.
 ///
+/// The spare blocks are filled first, whatever their cells hold, so that a collection that is handed those which the last one
+/// emptied takes few from the allocator; those that aren't needed are given back.
+///
 /// The refusals change nothing: `OutOfMemory` where memory was refused, and `HeapFull` where Aged or Old would need more
 /// than `space_blocks` blocks, so that at least as many cells of from-space aren't free as there is room for in Old.
 pub fn collect_one(
@@ -46,6 +50,7 @@ pub fn collect_one(
     spaces: &Spaces,
     roots: &[Root],
     kind: Kind,
+    spare: Vec<Block>,
 ) -> Result<Copied, CollectFault>
     requires { AreSound spaces.now.spaces roots.now }
     ensures collected { IfOk result (λ copied. IsCollection kind spaces.now.spaces roots.now copied.forward.words copied.adoption.aged copied.adoption.old copied.remembered.places) }
@@ -54,8 +59,8 @@ pub fn collect_one(
     ensures full { IfErr result (λ fault. fault ≡ CollectFault.HeapFull → MayLackRoom spaces.now.limits.space_blocks 1 (kept_blocks kind spaces.now.spaces) (used_cells kind spaces.now.spaces)) }
 {
     match kind {
-        Kind::Full => collect_kind(alloc, spaces, roots, Kind::Full),
-        Kind::Nursery => collect_kind(alloc, spaces, roots, Kind::Nursery),
+        Kind::Full => collect_kind(alloc, spaces, roots, Kind::Full, spare),
+        Kind::Nursery => collect_kind(alloc, spaces, roots, Kind::Nursery, spare),
     }
 }
 
@@ -67,6 +72,7 @@ fn collect_kind(
     spaces: &Spaces,
     roots: &[Root],
     kind: Kind,
+    spare: Vec<Block>,
 ) -> Result<Copied, CollectFault>
     requires { AreSound spaces.now.spaces roots.now }
     ensures collected { IfOk result (λ copied. IsCollection kind spaces.now.spaces roots.now copied.forward.words copied.adoption.aged copied.adoption.old copied.remembered.places) }
@@ -77,7 +83,7 @@ fn collect_kind(
     let cells = spaces.cells();
     let plan = Plan::of(kind, spaces);
     let mut claims = Claims::new(alloc, cells, plan)?;
-    let copies = trace(alloc, &mut claims, spaces, kind, roots)?;
+    let copies = trace(alloc, &mut claims, spaces, kind, roots, spare)?;
     let Claims { forward, .. } = claims;
     let forward = forward.into_forwarding();
     let adoption = copies.finish()?;
@@ -105,6 +111,7 @@ fn trace(
     spaces: &Spaces,
     kind: Kind,
     roots: &[Root],
+    spare: Vec<Block>,
 ) -> Result<Copies, CollectFault>
     requires table { IsSpaceTable spaces.now }
     requires pointers { HavePointers spaces.now.spaces }
@@ -119,7 +126,7 @@ fn trace(
     ensures old { IfOk result (λ copies. (to : ℕ → PlaceOf) → HasPlacesOf claims.new.won to → copies.old ≡ copies_to 0 claims.old.plan.kind spaces.now.spaces to claims.new.won) }
     ensures full { IfErr result (λ fault. fault ≡ CollectFault.HeapFull → claims.old.plan.room ≤ 64 * claims.old.plan.kept + used_cells claims.old.plan.kind spaces.now.spaces) }
 {
-    let mut copies = Copies::new(alloc)?;
+    let mut copies = Copies::new(alloc, spare)?;
     claim_roots(claims, spaces, kind, roots)?;
     scan(claims, spaces, kind, &mut copies)?;
     Ok(copies)

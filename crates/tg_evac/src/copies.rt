@@ -13,7 +13,7 @@ use crate::images::image;
 use crate::new_blocks::NewBlocks;
 use crate::plan::is_in_old;
 use std::alloc::{AllocError, Global};
-use tg_block::WORDS;
+use tg_block::{Block, WORDS};
 use tg_space::{Adoption, Kind, Spaces};
 use tg_word::place_of;
 
@@ -26,11 +26,13 @@ pub struct Copies {
     pub aged: NewBlocks,
     /// Their copies in Old.
     pub old: NewBlocks,
+    /// Blocks whose cells are of no more use: they are filled before new ones are taken.
+    pub spare: Vec<Block>,
 }
 
 impl Copies {
-    /// No cell was scanned. It is refused only where memory was.
-    pub fn new(alloc: Global) -> Result<Copies, AllocError>
+    /// No cell was scanned, and copies go to these spare blocks first. It is refused only where memory was.
+    pub fn new(alloc: Global, spare: Vec<Block>) -> Result<Copies, AllocError>
         ensures scanned { IfOk result (λ copies. copies.scanned ≡ 0) }
         ensures aged { IfOk result (λ copies. copies.aged ≡ []) }
         ensures old { IfOk result (λ copies. copies.old ≡ []) }
@@ -39,10 +41,11 @@ impl Copies {
             scanned: 0,
             aged: NewBlocks::new(alloc)?,
             old: NewBlocks::new(alloc)?,
+            spare,
         })
     }
 
-    /// The blocks of both spaces. It is refused only where memory was.
+    /// The blocks of both spaces; spare ones that are left are given back. It is refused only where memory was.
     pub fn finish(self) -> Result<Adoption, AllocError>
         requires aged { length self.aged ≤ 2 ^ 26 }
         requires old { length self.old ≤ 2 ^ 26 }
@@ -67,9 +70,9 @@ impl Copies {
         ensures scanned { self.exit.now.scanned ≡ self.entry.now.scanned }
     {
         if is_in_old {
-            return self.old.push(words);
+            return self.old.push(&mut self.spare, words);
         }
-        self.aged.push(words)
+        self.aged.push(&mut self.spare, words)
     }
 }
 

@@ -13,7 +13,7 @@ use tg_space::Space;
 
 /// The blocks that a collection makes in a space. Contracts see the list of their cells.
 ///
-/// A block takes its 4 KiB when its first cell comes, and none of them is zeroed first.
+/// A block takes its 4 KiB when its first cell comes, or has those of a spare block, and none of them is zeroed first.
 #[derive(Drop)]
 pub struct NewBlocks {
     alloc: Global,
@@ -47,14 +47,19 @@ impl NewBlocks {
         })
     }
 
-    /// Puts a cell behind the others. It is refused only where memory was.
+    /// Puts a cell behind the others. A block that it opens is one of the spare ones, as long as there are any. It is refused
+    /// only where memory was.
     #[inline(always)]
-    pub fn push(&mut self, words: [u64; WORDS]) -> Result<(), AllocError>
+    pub fn push(
+        &mut self,
+        spare: &mut Vec<Block>,
+        words: [u64; WORDS],
+    ) -> Result<(), AllocError>
         requires { length self.old < 2 ^ 26 }
         ensures { OnOk result (self.new ≡ self.old ++ words ∷ []) }
     {
         if self.last.len() == CELLS {
-            close(self.alloc, &mut self.full, &mut self.last)?;
+            close(self.alloc, spare, &mut self.full, &mut self.last)?;
         }
         self.last.push_reserved(words);
         Ok(())
@@ -77,7 +82,12 @@ impl NewBlocks {
 
 // Makes the cells of an open block a full one behind the others, and opens the next.
 #[inline(never)]
-fn close(alloc: Global, full: &mut Space, last: &mut Vec<[u64; WORDS]>) -> Result<(), AllocError>
+fn close(
+    alloc: Global,
+    spare: &mut Vec<Block>,
+    full: &mut Space,
+    last: &mut Vec<[u64; WORDS]>,
+) -> Result<(), AllocError>
     requires whole { IsBlock last.old.items }
     requires space { IsSpace full.old }
     requires room { length full.old < 2 ^ 20 }
@@ -88,8 +98,29 @@ fn close(alloc: Global, full: &mut Space, last: &mut Vec<[u64; WORDS]>) -> Resul
     ensures fits { IsOpenBlock last.new.items }
     ensures cells { 64 ≤ vec_capacity last.new }
 {
-    let cells = mem::replace(last, Vec::with_capacity(alloc, CELLS)?);
+    let cells = mem::replace(last, open_cells(alloc, spare)?);
     full.push(Block::of(cells))
+}
+
+// No cell, with room for those of a block: the room of a spare block, where there is one.
+fn open_cells(alloc: Global, spare: &mut Vec<Block>) -> Result<Vec<[u64; WORDS]>, AllocError>
+    ensures empty { IfOk result (λ cells. cells.items ≡ []) }
+    ensures room { IfOk result (λ cells. 64 ≤ vec_capacity cells) }
+{
+    match spare.pop() {
+        Some(block) => Ok(emptied(block)),
+        None => Vec::with_capacity(alloc, CELLS),
+    }
+}
+
+// The room of a block, without its cells.
+fn emptied(block: Block) -> Vec<[u64; WORDS]>
+    ensures empty { result.items ≡ [] }
+    ensures room { 64 ≤ vec_capacity result }
+{
+    let mut cells = block.into_cells();
+    cells.clear();
+    cells
 }
 
 // These cells, and as many free ones as a block has room for behind them.

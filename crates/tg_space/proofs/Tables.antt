@@ -7,7 +7,8 @@ use Rattle.std.proofs.lemmas.Bool.{cases_eq, cases_lt}
 use Rattle.tg_word.specs.declared.Place.{Place}
 use Rattle.tg_block.specs.Cells.{IsBlock, free_cell, free_block, cell_of}
 use Rattle.tg_space.specs.SpaceList.{SpaceList, BlockList, IsSpace, IsSpaceList, Holds, space_of, block_of, cell_at, blocks_before, block_count, with_cell_at, with_word_at, with_block, flat_of, cells_of}
-use Rattle.tg_space.specs.declared.spaces.Kind.TheVariants.{Nursery}
+use Rattle.tg_space.specs.declared.spaces.Kind.TheVariants.{Full, Nursery}
+use Rattle.tg_space.specs.declared.limits.Limits.{Limits}
 use Rattle.tg_space.specs.SpaceTable.{SpaceTable, adopted, with_adopted, IsSpaceTable, IsPrefixCount, IsHandedOut, used_of, number_in_space, with_spaces}
 use Rattle.tg_space.proofs.Flat.{before_more, before_few, blocks_all, flat_inside, length-cells_of}
 use Rattle.tg_space.proofs.Writing.{other_cell}
@@ -209,11 +210,11 @@ table_grown t space is low whole =
 pub adopted_long : (h : SpaceList) (aged old : BlockList) → 2 ≤ length h → length (adopted Nursery h aged old) ≡ length h
 adopted_long h aged old enough = let rest : length (replicate {A = BlockList} (length h - 2) []) ≡ length h - 2 = length-replicate (length h - 2) [] in omega arith
 
--- a nursery collection's new blocks are put in place
-pub table_adopted : (t : SpaceTable) (aged old : BlockList) → IsSpaceTable t → IsSpace (space_of t.spaces 0 ++ old) → IsSpace aged → IsSpaceTable (with_adopted t Nursery aged old)
-table_adopted t aged old table grown_is is_aged = record {
-  enough = let enough = table.enough in omega (arith, long);
-  few = let few = table.few in omega (arith, long);
+-- a nursery collection's new blocks are put in place, whatever the spaces were
+put_in_place : (t : SpaceTable) (aged old : BlockList) → 3 ≤ length t.spaces → length t.spaces ≤ 66 → IsSpace (space_of t.spaces 0 ++ old) → IsSpace aged → IsSpaceTable (with_adopted t Nursery aged old)
+put_in_place t aged old enough few grown_is is_aged = record {
+  enough = omega (arith, long);
+  few = omega (arith, long);
   blocks = All-cons IsSpace (space_of t.spaces 0 ++ old) (aged ∷ replicate (length t.spaces - 2) []) grown_is (All-cons IsSpace aged (replicate (length t.spaces - 2) []) is_aged (All-replicate IsSpace (length t.spaces - 2) [] (omega arith, All-nil IsBlock)));
   counted = length-replicate (length t.spaces) 0 ∙ sym long;
   within = λ space low. rw (unused space) (omega arith);
@@ -221,7 +222,7 @@ table_adopted t aged old table grown_is is_aged = record {
 }
   where
     long : length (adopted Nursery t.spaces aged old) ≡ length t.spaces
-    long = let enough = table.enough in adopted_long t.spaces aged old (omega arith)
+    long = adopted_long t.spaces aged old (omega arith)
 
     unused : (space : ℕ) → used_of (with_adopted t Nursery aged old) space ≡ 0
     unused space = ⊎_elim (λ (low : space < length t.spaces). get_or-replicate (length t.spaces) space 0 0 low) (λ (past : length t.spaces ≤ space). get_or_past (replicate (length t.spaces) 0) space 0 (rw (length-replicate {A = ℕ} (length t.spaces) 0) past)) (cases_lt space (length t.spaces))
@@ -241,3 +242,31 @@ table_adopted t aged old table grown_is is_aged = record {
             let at : space_of (adopted Nursery t.spaces aged old) p.space ≡ [] = ap (space_of (adopted Nursery t.spaces aged old)) is ∙ none k in
             let low : p.block < 0 = subst (λ (blocks : BlockList). p.block < length blocks) at holds.block in
             omega arith
+
+-- and so they are of a table
+pub table_adopted : (t : SpaceTable) (aged old : BlockList) → IsSpaceTable t → IsSpace (space_of t.spaces 0 ++ old) → IsSpace aged → IsSpaceTable (with_adopted t Nursery aged old)
+table_adopted t aged old table = put_in_place t aged old table.enough table.few
+
+-- Old alone has blocks, of so many spaces
+old_alone : (limits : Limits) (old : BlockList) (n : ℕ) → IsSpace old → 3 ≤ n → n ≤ 66 →
+    IsSpaceTable (record { spaces = old ∷ [] ∷ replicate (n - 2) []; used = replicate n 0; limits = limits })
+old_alone limits old n is_old some few =
+    let none : SpaceList = replicate (n - 2) [] in
+    let rest : length none ≡ n - 2 = length-replicate (n - 2) [] in
+    let before : SpaceList = [] ∷ [] ∷ none in
+    let long : length before ≡ n = omega (arith, rest) in
+    subst (λ (k : ℕ). IsSpaceTable (record { spaces = old ∷ [] ∷ replicate (k - 2) []; used = replicate k 0; limits = limits })) long
+    (put_in_place (record { spaces = before; used = []; limits = limits }) [] old (omega (arith, long)) (omega (arith, long)) is_old (omega arith, All-nil IsBlock))
+
+-- a full collection's blocks are put in place
+pub table_kept : (t : SpaceTable) (old : BlockList) → IsSpaceTable t → IsSpace old → IsSpaceTable (with_adopted t Full [] old)
+table_kept t old table is_old =
+    let n : ℕ = length t.spaces in
+    let enough = table.enough in
+    let one_more : suc (n - 2) ≡ n - 1 = omega arith in
+    subst (λ (k : ℕ). IsSpaceTable (record { spaces = old ∷ replicate k []; used = replicate n 0; limits = t.limits })) one_more
+    (old_alone t.limits old n is_old enough table.few)
+
+-- and leaves as many spaces
+pub kept_long : (h : SpaceList) (old : BlockList) → 2 ≤ length h → length (adopted Full h [] old) ≡ length h
+kept_long h old enough = let rest : length (replicate {A = BlockList} (length h - 1) []) ≡ length h - 1 = length-replicate (length h - 1) [] in omega arith

@@ -10,7 +10,8 @@ use crate::limits::Limits;
 use crate::space::Space;
 use std::alloc::{AllocError, Global};
 use std::marker::Model;
-use tg_block::{CHUNK_TAG, OBJECT_TAG, WORDS};
+use std::mem;
+use tg_block::{Block, CHUNK_TAG, OBJECT_TAG, WORDS};
 use tg_word::{Place, number_of, place_of};
 
 /// Which cells a collection moves, and where to.
@@ -72,6 +73,8 @@ pub struct Spaces {
     // How many blocks stand before each space, and at last how many there are.
     starts: Vec<u64>,
     limits: Limits,
+    // Blocks that the last collection emptied, for the next one to fill.
+    spare: Vec<Block>,
 }
 
 impl Model for Spaces {
@@ -103,6 +106,7 @@ impl Spaces {
             used,
             starts,
             limits,
+            spare: Vec::new(alloc),
         })
     }
 
@@ -345,6 +349,8 @@ impl Spaces {
     /// After a nursery collection the new blocks of Old stand behind those that it has, for which there has to be room;
     /// Aged is its new blocks, and the nurseries have none. That is refused only where memory was; then nothing is
     /// changed.
+    ///
+    /// The blocks that Old had before a full collection, and Aged before one of the nurseries, are spare then.
     pub fn adopt(&mut self, kind: Kind, adoption: Adoption) -> Result<(), AllocError>
         requires { kind ≡ Kind.Nursery → kept_blocks kind self.old.spaces + length adoption.old ≤ 2 ^ 20 }
         ensures adopted { OnOk result (self.new ≡ with_adopted self.old kind adoption.aged adoption.old) }
@@ -360,6 +366,14 @@ impl Spaces {
         Ok(())
     }
 
+    /// The spare blocks, for a collection to fill. They hold whatever they held, and count for no limit. None is left; takes no
+    /// memory.
+    pub fn take_spare(&mut self) -> Vec<Block>
+        ensures { self.new ≡ self.old }
+    {
+        mem::replace(&mut self.spare, Vec::new(self.alloc))
+    }
+
     // Old is followed by these blocks, Aged is the other ones, and every nursery has none.
     #[tactic(auto, using(crate::proofs::Tables::table_adopted))]
     fn keep_old_and(&mut self, aged: Space, old: Space) -> Result<(), AllocError>
@@ -368,9 +382,10 @@ impl Spaces {
         ensures refused { OnErr result (self.new ≡ self.old) }
         ensures table { OnOk result (IsSpaceTable self.new) }
     {
-        put_behind(self.alloc, &mut self.spaces, aged, old)?;
+        let emptied = put_behind(self.alloc, &mut self.spaces, aged, old)?;
         self.used.fill(0);
         count_blocks(&self.spaces, &mut self.starts);
+        self.spare = emptied;
         Ok(())
     }
 
@@ -379,10 +394,10 @@ impl Spaces {
         ensures adopted { self.new ≡ with_adopted self.old Kind.Full [] old }
         ensures table { IsSpaceTable self.new }
     {
-        empty_all(self.alloc, &mut self.spaces);
-        self.spaces[0] = old;
+        let emptied = put_alone(self.alloc, &mut self.spaces, old);
         self.used.fill(0);
         count_blocks(&self.spaces, &mut self.starts);
+        self.spare = emptied;
     }
 }
 
@@ -397,13 +412,13 @@ fn empty_spaces(alloc: Global, count: usize) -> Result<Vec<Space>, AllocError>
     Ok(spaces)
 }
 
-// Old is followed by these blocks, Aged is the other ones, and every nursery has none.
+// Old is followed by these blocks, Aged is the other ones, and every nursery has none. The answer is the blocks that Aged had.
 fn put_behind(
     alloc: Global,
     spaces: &mut [Space],
     aged: Space,
     old: Space,
-) -> Result<(), AllocError>
+) -> Result<Vec<Block>, AllocError>
     requires enough { 2 ≤ length spaces.old }
     requires room { length (space_of spaces.old 0) + length old ≤ 2 ^ 20 }
     ensures adopted { OnOk result (spaces.new ≡ adopted Kind.Nursery spaces.old aged old) }
@@ -412,9 +427,31 @@ fn put_behind(
     ensures refused { OnErr result (spaces.new ≡ spaces.old) }
 {
     spaces[0].append(old)?;
-    empty_all(alloc, &mut spaces[1..]);
+    let emptied = take_all(alloc, &mut spaces[1..]);
     spaces[1] = aged;
-    Ok(())
+    Ok(emptied)
+}
+
+// Old is these blocks, and every other space has none. The answer is the blocks that Old had.
+fn put_alone(alloc: Global, spaces: &mut [Space], old: Space) -> Vec<Block>
+    requires { 2 ≤ length spaces.old }
+    ensures adopted { spaces.new ≡ adopted Kind.Full spaces.old [] old }
+    ensures whole { IsSpace old }
+{
+    let _ = old.len();
+    let emptied = take_all(alloc, spaces);
+    spaces[0] = old;
+    emptied
+}
+
+// Takes every block out of these spaces. The answer is the blocks of the first.
+fn take_all(alloc: Global, spaces: &mut [Space]) -> Vec<Block>
+    requires { 0 < length spaces.old }
+    ensures { spaces.new ≡ replicate (length spaces.old) [] }
+{
+    let emptied = mem::replace(&mut spaces[0], Space::new(alloc));
+    empty_all(alloc, spaces);
+    emptied.into_blocks()
 }
 
 // Takes every block out of these spaces.

@@ -246,7 +246,8 @@ impl<P: Payload> Store<P> {
         ensures limits { self.new.heap.table.limits ≡ self.old.heap.table.limits }
     {
         let roots = self.heap.roots(self.alloc, kind)?;
-        let copied = collect_one(self.alloc, self.heap.spaces(), &roots, kind)?;
+        let spare = self.heap.take_spare();
+        let copied = collect_one(self.alloc, self.heap.spaces(), &roots, kind, spare)?;
         Ok(self.settle(kind, copied)?)
     }
 
