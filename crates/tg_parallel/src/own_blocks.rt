@@ -42,6 +42,7 @@ impl OwnBlocks {
     /// cell that needs it.
     ///
     /// It is refused with `OutOfMemory`, or with `HeapFull` where the block is past the limit.
+    #[inline(always)]
     pub fn place_of(
         &mut self,
         winner: &mut Winner,
@@ -70,6 +71,7 @@ impl OwnBlocks {
     }
 
     // Claims a block, where all are full.
+    #[inline(always)]
     fn make_room(&mut self, winner: &mut Winner, table: &RaceTable) -> Result<(), AllocError>
         requires own { winner.old.table ≡ table.now.table }
         requires filled { AreFilled self.now.aged winner.old.done self.now.numbers.items self.now.used }
@@ -83,15 +85,30 @@ impl OwnBlocks {
         if self.used < CELLS as u64 * self.numbers.len() as u64 {
             return Ok(());
         }
+        self.open_block(winner, table)
+    }
+
+    // Claims a block. All are full.
+    #[inline(never)]
+    fn open_block(&mut self, winner: &mut Winner, table: &RaceTable) -> Result<(), AllocError>
+        requires own { winner.old.table ≡ table.now.table }
+        requires filled { AreFilled self.now.aged winner.old.done self.now.numbers.items self.now.used }
+        requires all { 64 * length self.now.numbers.items ≤ self.now.used }
+        ensures space { self.exit.now.aged ≡ self.entry.now.aged }
+        ensures seat { winner.new.table ≡ winner.old.table }
+        ensures blocks { OnlyBlocks winner.old.done winner.new.done }
+        ensures filled { AreFilled self.entry.now.aged winner.new.done self.exit.now.numbers.items self.exit.now.used }
+        ensures other { OtherStays self.entry.now.aged winner.old.done winner.new.done }
+        ensures room { OnOk result (self.exit.now.used < 64 * length self.exit.now.numbers.items) }
+    {
         self.numbers.reserve(1)?;
         let number = winner.claim_block(table, self.aged);
-        let Ok(()) = self.numbers.push(number) else {
-            unreachable!()
-        };
+        self.numbers.push_reserved(number);
         Ok(())
     }
 
     // The next place of these blocks, where its block is within the limit.
+    #[inline(always)]
     fn next_place(&self, limit: u64) -> Result<Place, CollectFault>
         requires { self.now.used < 64 * length self.now.numbers.items }
         ensures place { IfOk result (λ place. place ≡ own_place self.now.aged self.now.numbers.items self.now.used) }
@@ -110,6 +127,7 @@ impl OwnBlocks {
     }
 
     // Gives a cell the next place of these blocks, unless it has one, and answers the place that it has.
+    #[inline(always)]
     fn give(
         &mut self,
         winner: &mut Winner,

@@ -121,11 +121,29 @@ impl<'a> Seat<'a> {
     {
         match self.winner.look(self.table, cell) {
             Some(place) => Ok(word_to(place)),
-            None => Ok(word_to(self.give_place(cell, space)?)),
+            None => self.give_word(cell, space),
         }
     }
 
+    // Gives a cell that has no place the next one of a space, unless another helper does so first, and answers its word. It stands
+    // apart, so that the walk over cells that have places stays short.
+    #[inline(never)]
+    fn give_word(&mut self, cell: u64, space: u64) -> Result<u64, CollectFault>
+        requires inside { cell < self.now.board.counts.cells }
+        requires moved { 64 * self.now.board.counts.kept ≤ cell }
+        requires space { space < 2 }
+        requires unmet { has_met self.now.done cell ≡ false }
+        ensures added { AddsWins (IsWinFor cell space) (walked_at self.entry.now) (walked_at self.exit.now) }
+        ensures grows { KnowsMore (HasPlaces self.entry.now.done) (HasPlaces self.exit.now.done) }
+        ensures met { OnOk result (Contains (cells_met self.exit.now.done) cell) }
+        ensures known { IfOk result (λ word. (to : ℕ → PlaceOf) → HasPlaces self.exit.now.done to → to cell ≡ place_in word) }
+        ensures full { IfErr result (λ fault. fault ≡ CollectFault.HeapFull → HasClaimedPast self.exit.now.limit self.exit.now.done) }
+    {
+        Ok(word_to(self.give_place(cell, space)?))
+    }
+
     // Gives a cell that has no place the next one of a space, unless another helper does so first.
+    #[inline(always)]
     fn give_place(&mut self, cell: u64, space: u64) -> Result<Place, CollectFault>
         requires inside { cell < self.now.board.counts.cells }
         requires moved { 64 * self.now.board.counts.kept ≤ cell }

@@ -98,7 +98,7 @@ impl Winner {
     }
 
     /// Gives a cell this place, if it has none. It is refused only where memory for the list was; then nothing is changed.
-    #[inline]
+    #[inline(always)]
     pub fn claim_cell(
         &mut self,
         table: &RaceTable,
@@ -117,13 +117,10 @@ impl Winner {
         self.won.reserve(1)?;
         let claim = self.helper.claim_cell(table, cell, place);
         if let Claim::Won = claim {
-            let Ok(()) = self.won.push(Win {
+            self.won.push_reserved(Win {
                 cell,
                 word: word_to(place),
-            })
-            else {
-                unreachable!()
-            };
+            });
         }
         Ok(claim)
     }

@@ -39,6 +39,34 @@ pub fn work<G: Gate>(
     ensures copied { IfOk result (λ copies. HasCopied kind spaces.now.spaces roots.now seat.exit.now.done.chunks seat.exit.now copies.scanned copies.aged copies.old) }
     ensures full { IfErr result (λ fault. fault ≡ CollectFault.HeapFull → HasClaimedPast seat.exit.now.limit seat.exit.now.done) }
 {
+    match kind {
+        Kind::Full => work_kind(alloc, seat, number, spaces, roots, Kind::Full, gate),
+        Kind::Nursery => work_kind(alloc, seat, number, spaces, roots, Kind::Nursery, gate),
+    }
+}
+
+// The work of a kind. It is compiled for each, so that a full collection asks of no cell which kind this is.
+#[inline(always)]
+fn work_kind<G: Gate>(
+    alloc: Global,
+    seat: &mut Seat,
+    number: u32,
+    spaces: &Spaces,
+    roots: &[Root],
+    kind: Kind,
+    gate: &G,
+) -> Result<Copies, CollectFault>
+    requires pointers { HavePointers spaces.now.spaces }
+    requires roots { All (IsRootIn spaces.now.spaces) roots.now }
+    requires kind { seat.now.kind ≡ kind }
+    requires counts { AreCountsOf kind spaces.now.spaces roots.now seat.now.board.counts }
+    requires fresh { seat.now.done ≡ empty 1 }
+    ensures same { IsSameSeat seat.entry.now seat.exit.now }
+    ensures earned { AreEarned kind spaces.now.spaces roots.now seat.exit.now.done }
+    ensures last { OnOk result (0 < past seat.exit.now.board.counts seat.exit.now.done) }
+    ensures copied { IfOk result (λ copies. HasCopied kind spaces.now.spaces roots.now seat.exit.now.done.chunks seat.exit.now copies.scanned copies.aged copies.old) }
+    ensures full { IfErr result (λ fault. fault ≡ CollectFault.HeapFull → HasClaimedPast seat.exit.now.limit seat.exit.now.done) }
+{
     let mut copies = Copies::new(alloc)?;
     let chunks = (roots.len() as u64).div_ceil(CHUNK);
     gate.pass(number);
@@ -52,6 +80,7 @@ pub fn work<G: Gate>(
 }
 
 // Copies what the roots of a chunk lead to, which was just claimed.
+#[inline(always)]
 fn copy_chunk(
     seat: &mut Seat,
     spaces: &Spaces,

@@ -80,6 +80,7 @@ impl Helper {
 
     /// The place that a cell has got, if it has one. The helper has then seen it. A cell that the helper has won or seen
     /// before has one, and it is the same.
+    #[inline(always)]
     pub fn look(&mut self, table: &RaceTable, cell: u64) -> Option<Place>
         requires own { self.old.table ≡ table.now.table }
         requires inside { cell < table.now.counts.cells }
@@ -104,6 +105,7 @@ impl Helper {
     /// Gives a cell this place, if it has none. The place is unused, in a block that the helper has claimed.
     ///
     /// Whether the cell was won or lost is decided by one exchange: a place that a cell has never changes.
+    #[inline(always)]
     pub fn claim_cell(&mut self, table: &RaceTable, cell: u64, place: Place) -> Claim
         requires own { self.old.table ≡ table.now.table }
         requires inside { cell < table.now.counts.cells }

@@ -8,6 +8,7 @@ use tg_word::{Place, Slot, pack, place_of};
 
 // The word that a cell with this place has.
 #[tactic(auto, unfolding(crate::specs::Words::word_of))]
+#[inline(always)]
 pub(crate) fn word_to(place: Place) -> u64
     requires { IsPlace place }
     ensures { result ≡ word_of place }
@@ -20,6 +21,7 @@ pub(crate) fn word_to(place: Place) -> u64
 
 // The place in the word of a cell that has one.
 #[tactic(auto, unfolding(crate::specs::Words::place_of))]
+#[inline(always)]
 pub(crate) fn place_in(word: u64) -> Place
     ensures { result ≡ place_in_word word }
 {

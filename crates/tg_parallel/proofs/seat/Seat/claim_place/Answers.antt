@@ -46,12 +46,5 @@ known_before c to has =
     let done = ap (λ (x : Seated). x.done) c.in-None.ensures.none in
     subst (λ (x : Sitting). HasPlaces x.done to) c.self.view_is (subst (λ (x : Record). HasPlaces x to) done has)
 
-pub returns-in_err-give_place-in-None-clause-grows : goal.returns-in_err-give_place-in-None-clause-grows
-returns-in_err-give_place-in-None-clause-grows c to has = known_before (goal.at.returns-in_err-give_place-in-None-clause-grows c).In-None to (c.give_place.ensures.grows to has)
-
-pub returns-in_ok-give_place-in-None-clause-grows : goal.returns-in_ok-give_place-in-None-clause-grows
-returns-in_ok-give_place-in-None-clause-grows c to has = known_before (goal.at.returns-in_ok-give_place-in-None-clause-grows c).In-None to (c.give_place.ensures.grows to has)
-
-pub returns-in_ok-give_place-in-None-clause-known : goal.returns-in_ok-give_place-in-None-clause-known
-returns-in_ok-give_place-in-None-clause-known c to has =
-    c.in_ok-give_place-in-None.ensures.known to has ∙ sym (ap place_in c.word_to-in-None.ensures ∙ place_back c.in_ok-give_place-in-None.field-0 c.in_ok-give_place-in-None.ensures.place)
+pub returns-in-None-clause-grows : goal.returns-in-None-clause-grows
+returns-in-None-clause-grows c to has = known_before (goal.at.returns-in-None-clause-grows c).In-None to (c.give_word.ensures.grows to has)

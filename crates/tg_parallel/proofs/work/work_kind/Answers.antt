@@ -4,7 +4,7 @@ use Rattle.tg_race.specs.Seats.{Board}
 use Rattle.tg_parallel.specs.Parts.{AreCountsOf}
 use Rattle.tg_parallel.specs.Seats.{Sitting}
 use Rattle.tg_parallel.proofs.Working.{chunks_past, copied_all, copied_drawn, copied_none, count, drawn_first, drawn_next, earned_drawn, earned_none, may_claim_next, past_last, rises, same_both, same_drawn}
-use Rattle.tg_parallel.proofs.work.work.Goals as goal
+use Rattle.tg_parallel.proofs.work.work_kind.Goals as goal
 
 pub loop-chunk-init : goal.loop-chunk-init
 loop-chunk-init g c =
