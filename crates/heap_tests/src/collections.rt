@@ -192,7 +192,7 @@ fn collect_random(rt: &impl Abort, alloc: Global, seed: &mut u64, kind: Kind) ->
     let heap = random_heap(alloc, seed, kind)?;
     let spaces = heap_of(alloc, &heap.cells)?;
     assert!(rt; are_sound(&spaces, &heap.roots));
-    let copied = collect_one(alloc, &spaces, &heap.roots, kind)?;
+    let copied = collect_one(alloc, &spaces, &heap.roots, kind, Vec::new(alloc))?;
     check_copied(rt, &heap, &spaces, kind, &copied);
     Ok(())
 }

@@ -56,6 +56,16 @@ pub fn collect_with<P: Payload, R: Threads + Wait + Sync>(
     ensures limits { store.new.heap.table.limits ≡ store.old.heap.table.limits }
 {
     let roots = store.roots(kind)?;
-    let copied = collect_many(rt, alloc, store.spaces(), &roots, kind, helpers, &NoGate)?;
+    let spare = store.take_spare();
+    let copied = collect_many(
+        rt,
+        alloc,
+        store.spaces(),
+        &roots,
+        kind,
+        helpers,
+        &NoGate,
+        spare,
+    )?;
     Ok(store.settle(kind, copied)?)
 }

@@ -27,7 +27,7 @@ use std::alloc::{AllocError, Global};
 use std::sync::Wait;
 use std::thread;
 use std::thread::{Promise, PromisedHandle, Scope, Threads, join_promised};
-use tg_block::CELLS;
+use tg_block::{Block, CELLS};
 use tg_evac::{CollectFault, Copied, Plan, notes_of};
 use tg_race::{Helper, RaceTable};
 use tg_space::{Forwarding, Kind, Root, Spaces};
@@ -35,13 +35,14 @@ use tg_space::{Forwarding, Kind, Root, Spaces};
 /// Copies what the roots reach into new blocks, by one helper at a table of its own, on the calling thread.
 ///
 /// What it leaves is a collection as that of `tg_evac::collect_one`, and it is refused as that is, but that each space may
-/// have one block more than its copies need.
+/// have one block more than its copies need. The spare blocks are filled first; those that aren't needed are given back.
 #[tactic(auto, using(tg_evac::proofs::Behind::kept_within))]
 pub fn collect_seated(
     alloc: Global,
     spaces: &Spaces,
     roots: &[Root],
     kind: Kind,
+    spare: Vec<Block>,
 ) -> Result<Copied, CollectFault>
     requires { AreSound spaces.now.spaces roots.now }
     ensures collected { IfOk result (λ copied. IsCollection kind spaces.now.spaces roots.now copied.forward.words copied.adoption.aged copied.adoption.old copied.remembered.places) }
@@ -52,7 +53,9 @@ pub fn collect_seated(
     let cells = spaces.cells();
     let plan = Plan::of(kind, spaces);
     let (table, helper) = RaceTable::open(alloc, cells, roots.len() as u64, plan.kept, 1)?;
-    let helped = help(alloc, &table, helper, 0, spaces, roots, kind, &NoGate);
+    let helped = help(
+        alloc, &table, helper, 0, spaces, roots, kind, &NoGate, spare,
+    );
     finish(alloc, table, spaces, roots, plan, helped)
 }
 
@@ -63,7 +66,7 @@ pub fn collect_seated(
 /// its copies need as there are helpers. `HeapFull` is answered only where the cells in use that would be moved may not fit
 /// into the blocks that a space may have, if each helper leaves one open; `NoThread` where a thread couldn't be started, and
 /// never of one helper alone. Where several helpers fail, the fault is that of the least number. Those that were started
-/// end before the answer.
+/// end before the answer. Each helper has a like share of the spare blocks, and fills them first.
 #[tactic(auto, using(tg_evac::proofs::Behind::kept_within))]
 pub fn collect_many<R: Threads + Wait + Sync, G: Gate>(
     rt: &R,
@@ -73,6 +76,7 @@ pub fn collect_many<R: Threads + Wait + Sync, G: Gate>(
     kind: Kind,
     helpers: u32,
     gate: &G,
+    spare: Vec<Block>,
 ) -> Result<Copied, HelpersFault>
     requires sound { AreSound spaces.now.spaces roots.now }
     requires some { 1 ≤ helpers }
@@ -87,7 +91,7 @@ pub fn collect_many<R: Threads + Wait + Sync, G: Gate>(
     let plan = Plan::of(kind, spaces);
     let (table, helper) = RaceTable::open(alloc, cells, roots.len() as u64, plan.kept, helpers)?;
     let helped = work_all(
-        rt, alloc, &table, helper, helpers, spaces, roots, kind, gate,
+        rt, alloc, &table, helper, helpers, spaces, roots, kind, gate, spare,
     )?;
     Ok(finish(alloc, table, spaces, roots, plan, helped)?)
 }
@@ -119,6 +123,7 @@ fn work_all<R: Threads + Wait + Sync, G: Gate>(
     roots: &[Root],
     kind: Kind,
     gate: &G,
+    spare: Vec<Block>,
 ) -> Result<Helped, HelpersFault>
     requires sound { AreSound spaces.now.spaces roots.now }
     requires counts { AreCountsOf kind spaces.now.spaces roots.now table.now.counts }
@@ -131,7 +136,7 @@ fn work_all<R: Threads + Wait + Sync, G: Gate>(
 {
     let others = split_all(alloc, table, &mut helper, helpers)?;
     let (mine, theirs) = work_in_scope(
-        rt, alloc, table, helper, others, spaces, roots, kind, gate,
+        rt, alloc, table, helper, others, spaces, roots, kind, gate, spare,
     )?;
     Ok(all_joined(table, mine, theirs))
 }
@@ -147,6 +152,7 @@ fn work_in_scope<R: Threads + Wait, G: Gate>(
     roots: &[Root],
     kind: Kind,
     gate: &G,
+    mut spare: Vec<Block>,
 ) -> Result<(Helped, Vec<Helped>), HelpersFault>
     requires sound { AreSound spaces.now.spaces roots.now }
     requires counts { AreCountsOf kind spaces.now.spaces roots.now table.now.counts }
@@ -168,21 +174,22 @@ fn work_in_scope<R: Threads + Wait, G: Gate>(
                 roots,
                 kind,
             };
-            let children = start_all(alloc, scope, promise, others, gate)?;
-            let mine = help(alloc, table, helper, 0, spaces, roots, kind, gate);
+            let children = start_all(alloc, scope, promise, others, gate, &mut spare)?;
+            let mine = help(alloc, table, helper, 0, spaces, roots, kind, gate, spare);
             let theirs = join_promised(rt, children)?;
             Ok((mine, theirs))
         },
     )
 }
 
-// Starts a thread of the scope for each helper.
+// Starts a thread of the scope for each helper, with its share of the spare blocks. One share is left.
 fn start_all<'s, E, G: Gate>(
     alloc: Global,
     scope: &Scope<'s, E>,
     promise: Helps<'s>,
     others: Vec<Helper>,
     gate: &'s G,
+    spare: &mut Vec<Block>,
 ) -> Result<Vec<PromisedHandle<Helped, Helps<'s>>>, HelpersFault>
     requires sound { AreSound promise.spaces.now.spaces promise.roots.now }
     requires counts { AreCountsOf promise.kind promise.spaces.now.spaces promise.roots.now promise.table.now.counts }
@@ -192,10 +199,12 @@ fn start_all<'s, E, G: Gate>(
     ensures refused { IfErr result (IsNotStarted (length others.items)) }
 {
     let mut children = Vec::with_capacity(alloc, others.len())?;
+    let share = spare.len() / (others.len() + 1);
     let mut number: u32 = 0;
     for other in others {
         number = number.wrapping_add(1);
-        let child = start(alloc, scope, promise, other, number, gate)?;
+        let blocks = take_last(spare, share)?;
+        let child = start(alloc, scope, promise, other, number, gate, blocks)?;
         children.push(child)?;
     }
     Ok(children)
@@ -209,6 +218,7 @@ fn start<'s, E, G: Gate>(
     other: Helper,
     number: u32,
     gate: &'s G,
+    blocks: Vec<Block>,
 ) -> Result<PromisedHandle<Helped, Helps<'s>>, HelpersFault>
     requires sound { AreSound promise.spaces.now.spaces promise.roots.now }
     requires counts { AreCountsOf promise.kind promise.spaces.now.spaces promise.roots.now promise.table.now.counts }
@@ -227,11 +237,17 @@ fn start<'s, E, G: Gate>(
         move || -> Helped
             requires { AreSound spaces.now.spaces roots.now × AreCountsOf kind spaces.now.spaces roots.now table.now.counts × (other.table ≡ table.now.table) × (other.done ≡ empty 1) }
             ensures { IsHelped kind spaces.entry.now roots.entry.now table.entry.now 1 result }
-        { help(alloc, table, other, number, spaces, roots, kind, gate) },
+        { help(alloc, table, other, number, spaces, roots, kind, gate, blocks) },
     ) else {
         return Err(HelpersFault::NoThread);
     };
     Ok(child)
+}
+
+// Takes as many blocks from the end as there are, at most.
+fn take_last(blocks: &mut Vec<Block>, most: usize) -> Result<Vec<Block>, AllocError>
+{
+    blocks.split_off(blocks.len() - most.min(blocks.len()))
 }
 
 // Makes as many helpers of share 1 as `helper` can spare.

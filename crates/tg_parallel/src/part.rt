@@ -104,7 +104,7 @@ fn next_block(alloc: Global, blocks: &mut IntoIter<Block>) -> Result<Block, Allo
 
 /// Claims roots until there are none left, wins the cells that they lead to and that no other helper has won, and copies
 /// each to its place: one of several that collect together, as the collectors of Halstead's Multilisp do. No call of it
-/// waits, but that of the gate may.
+/// waits, but that of the gate may. Copies go to the spare blocks first.
 ///
 /// The record of the helper tells what it has won and seen, and its part has the copies of what it has won. A helper that
 /// is refused memory, or room, says so and leaves what it has claimed claimed: the collection is then refused.
@@ -117,6 +117,7 @@ pub fn help<G: Gate>(
     roots: &[Root],
     kind: Kind,
     gate: &G,
+    spare: Vec<Block>,
 ) -> Helped
     requires sound { AreSound spaces.now.spaces roots.now }
     requires counts { AreCountsOf kind spaces.now.spaces roots.now table.now.counts }
@@ -126,7 +127,9 @@ pub fn help<G: Gate>(
 {
     let limit = spaces.limits().space_blocks();
     let mut seat = Seat::new(alloc, table, helper, kind, limit);
-    let worked = work(alloc, &mut seat, number, spaces, roots, kind, gate);
+    let worked = work(
+        alloc, &mut seat, number, spaces, roots, kind, gate, spare,
+    );
     let (helper, aged, old) = seat.into_parts();
     match worked {
         Ok(copies) => Helped {

@@ -9,6 +9,7 @@ ghost use Rattle.tg_parallel.specs.Seats.{HasCopied, HasDrawn, IsSameSeat};
 use crate::gate::Gate;
 use crate::seat::Seat;
 use std::alloc::Global;
+use tg_block::Block;
 use tg_evac::{CollectFault, Copies, claim_roots, scan};
 use tg_space::{Kind, Root, Spaces};
 
@@ -16,7 +17,7 @@ use tg_space::{Kind, Root, Spaces};
 const CHUNK: u64 = 8;
 
 /// Claims chunks of roots until there are none left, and copies all that they lead to and that no other helper has won.
-/// The gate is passed before each claim of a chunk.
+/// The gate is passed before each claim of a chunk. Copies go to the spare blocks first.
 ///
 /// It is refused as a claim of a cell is, or with `OutOfMemory` where memory for a copy was refused.
 pub fn work<G: Gate>(
@@ -27,6 +28,7 @@ pub fn work<G: Gate>(
     roots: &[Root],
     kind: Kind,
     gate: &G,
+    spare: Vec<Block>,
 ) -> Result<Copies, CollectFault>
     requires pointers { HavePointers spaces.now.spaces }
     requires roots { All (IsRootIn spaces.now.spaces) roots.now }
@@ -40,8 +42,12 @@ pub fn work<G: Gate>(
     ensures full { IfErr result (λ fault. fault ≡ CollectFault.HeapFull → HasClaimedPast seat.exit.now.limit seat.exit.now.done) }
 {
     match kind {
-        Kind::Full => work_kind(alloc, seat, number, spaces, roots, Kind::Full, gate),
-        Kind::Nursery => work_kind(alloc, seat, number, spaces, roots, Kind::Nursery, gate),
+        Kind::Full => work_kind(
+            alloc, seat, number, spaces, roots, Kind::Full, gate, spare,
+        ),
+        Kind::Nursery => work_kind(
+            alloc, seat, number, spaces, roots, Kind::Nursery, gate, spare,
+        ),
     }
 }
 
@@ -55,6 +61,7 @@ fn work_kind<G: Gate>(
     roots: &[Root],
     kind: Kind,
     gate: &G,
+    spare: Vec<Block>,
 ) -> Result<Copies, CollectFault>
     requires pointers { HavePointers spaces.now.spaces }
     requires roots { All (IsRootIn spaces.now.spaces) roots.now }
@@ -67,7 +74,7 @@ fn work_kind<G: Gate>(
     ensures copied { IfOk result (λ copies. HasCopied kind spaces.now.spaces roots.now seat.exit.now.done.chunks seat.exit.now copies.scanned copies.aged copies.old) }
     ensures full { IfErr result (λ fault. fault ≡ CollectFault.HeapFull → HasClaimedPast seat.exit.now.limit seat.exit.now.done) }
 {
-    let mut copies = Copies::new(alloc)?;
+    let mut copies = Copies::new(alloc, spare)?;
     let chunks = (roots.len() as u64).div_ceil(CHUNK);
     gate.pass(number);
     let mut chunk = seat.claim_chunk();

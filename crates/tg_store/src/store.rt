@@ -8,6 +8,7 @@ use crate::census::Census;
 use crate::fault::{ApplyFault, CreateFault, CreateRefused, OpenFault, OpenRefused};
 use std::alloc::{AllocError, Global};
 use std::marker::Model;
+use tg_block::Block;
 use tg_evac::{CollectFault, Copied, collect_one};
 use tg_graph::{Heap, HeapRefused};
 use tg_journal::{Entry, Journal};
@@ -259,6 +260,14 @@ impl<P: Payload> Store<P> {
         ensures sound { AreSound self.now.heap.table.spaces (roots_of kind self.now.heap) }
     {
         self.heap.roots(self.alloc, kind)
+    }
+
+    /// The blocks that the last collection emptied, for one by a collector outside of this crate to fill. None is left. Takes no
+    /// memory.
+    pub fn take_spare(&mut self) -> Vec<Block>
+        ensures { self.new ≡ self.old }
+    {
+        self.heap.take_spare()
     }
 
     /// The cells that a collection goes over. Takes no memory.
