@@ -1,5 +1,6 @@
 //! Where the bytes of a line are gathered.
-ghost use Rattle.std.specs.Prelude.{◌≡◌, ◌+◌, ◌<◌, ◌≤◌, [], ◌∷◌, ◌++◌, length, take};
+ghost use Rattle.std.specs.Prelude.{◌≡◌, ◌+◌, ◌<◌, ◌≤◌, [], ◌∷◌, ◌++◌, length, take, IfSome};
+ghost use Rattle.tg_text.specs.Fetching.{EndsLineAt};
 
 use std::marker::Model;
 
@@ -52,6 +53,15 @@ impl LineBuffer {
         self.len = 0;
     }
 
+    /// The bytes are these, at most 256.
+    pub fn set(&mut self, bytes: &[u8])
+        requires { length bytes.now ≤ 256 }
+        ensures { self.new ≡ bytes.now }
+    {
+        self.room[..bytes.len()].copy_from_slice(bytes);
+        self.len = bytes.len();
+    }
+
     /// Puts a byte behind the others, of which there are fewer than 256.
     pub fn push(&mut self, byte: u8)
         requires { length self.old < 256 }
@@ -60,4 +70,19 @@ impl LineBuffer {
         self.room[self.len] = byte;
         self.len += 1;
     }
+}
+
+/// Where the line feed of the first line stands, if that line is whole and has at most so many bytes.
+pub(crate) fn line_end(bytes: &[u8], most: usize) -> Option<usize>
+    ensures { IfSome result (λ at. (at ≤ most) × (at < length bytes.now) × EndsLineAt bytes.now at) }
+{
+    for (at, byte) in bytes.iter().enumerate() {
+        if most < at {
+            return None;
+        }
+        if *byte == b'\n' {
+            return Some(at);
+        }
+    }
+    None
 }

@@ -1,9 +1,10 @@
 //! The lines of a source, byte by byte.
 //!
-//! The source is asked for one byte at a time, and never for a byte behind the first fault: that is why a fault is
-//! looked for at each byte, and not when a line is whole. Bytes of a line lie in one buffer, which serves all lines.
-ghost use Rattle.std.specs.Prelude.{◌≡◌, ◌+◌, ◌-◌, ◌<◌, ◌≤◌, length};
-ghost use Rattle.tg_text.specs.Fetching.{FetchesKnown, failures_of_fetch, write_failures_of};
+//! A line that the source holds whole is taken at once. For any other the source is asked for one byte at a time, and never for
+//! a byte behind the first fault: that is why a fault is then looked for at each byte, and not when a line is whole. Bytes of a
+//! line lie in one buffer, which serves all lines.
+ghost use Rattle.std.specs.Prelude.{◌≡◌, ◌+◌, ◌-◌, ◌<◌, ◌≤◌, true, false, length};
+ghost use Rattle.tg_text.specs.Fetching.{FetchesKnown, TakesLineAtOnce, failures_of_fetch, write_failures_of};
 ghost use Rattle.tg_text.specs.Sinks.{KeepsBytes};
 
 use crate::buffer::LineBuffer;
@@ -38,6 +39,48 @@ impl Lines {
     /// once for each byte of the line and for what ended it, and not again. What was put into the sink is finished before the
     /// source is asked for what it doesn't hold. Takes no memory.
     pub fn next_line<S: Source, K: Sink>(
+        &mut self,
+        source: &mut S,
+        sink: &mut K,
+        line: &mut LineBuffer,
+    ) -> Fetched
+        ensures bytes { FetchesKnown self.old.room (S.left source.old) result line.new (S.left source.new) }
+        ensures room { result ≡ Fetched.Line → self.new.room + length line.new + 1 ≡ self.old.room }
+        ensures shrinks { self.new.room ≤ self.old.room }
+        ensures failures { S.failures source.new ≡ S.failures source.old + failures_of_fetch result }
+        ensures taken { KeepsBytes (K.taken sink.old) (K.taken sink.new) }
+        ensures write_failures { K.failures sink.new ≡ K.failures sink.old + write_failures_of result }
+        ensures asked { S.asked source.new + self.new.room ≤ S.asked source.old + self.old.room + 1 }
+        ensures asked_of_line { result ≡ Fetched.Line → S.asked source.new + self.new.room ≡ S.asked source.old + self.old.room }
+    {
+        if self.take_held(source, line) {
+            return Fetched::Line;
+        }
+        self.next_line_by_bytes(source, sink, line)
+    }
+
+    // Reads the next line into the buffer where the source holds all of it, and answers whether it did; else nothing is read.
+    fn take_held<S: Source>(&mut self, source: &mut S, line: &mut LineBuffer) -> bool
+        ensures bytes { TakesLineAtOnce (S.left source.old) result line.new (S.left source.new) }
+        ensures few { result ≡ true → length line.new ≤ 256 }
+        ensures room { result ≡ true → self.new.room + length line.new + 1 ≡ self.old.room }
+        ensures kept { result ≡ false → self.new.room ≡ self.old.room }
+        ensures failures { S.failures source.new ≡ S.failures source.old }
+        ensures asked { S.asked source.new + self.new.room ≡ S.asked source.old + self.old.room }
+    {
+        if self.room == 0 || !source.is_ready() {
+            return false;
+        }
+        let most = MOST_LINE_BYTES.min(self.room as usize - 1);
+        if !source.take_line(line, most) {
+            return false;
+        }
+        self.room -= line.len() as u32 + 1;
+        true
+    }
+
+    // Reads the next line as `next_line` does, asking for each byte by itself.
+    fn next_line_by_bytes<S: Source, K: Sink>(
         &mut self,
         source: &mut S,
         sink: &mut K,

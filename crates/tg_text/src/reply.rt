@@ -15,6 +15,16 @@ use tg_rights::{Label, Rights};
 pub fn write_reply<K: Sink>(sink: &mut K, answer: &Answer) -> Result<(), WriteFailed>
     ensures { Writes (K.taken sink.old) (K.failures sink.old) (answer_text answer.now) result (K.taken sink.new) (K.failures sink.new) }
 {
+    match answer {
+        Answer::Reply(Reply::Done) => put_all(sink, b"ok\n"),
+        _ => write_in_parts(sink, answer),
+    }
+}
+
+// The text, and then its line feed.
+fn write_in_parts<K: Sink>(sink: &mut K, answer: &Answer) -> Result<(), WriteFailed>
+    ensures { Writes (K.taken sink.old) (K.failures sink.old) (answer_text answer.now) result (K.taken sink.new) (K.failures sink.new) }
+{
     write_told(sink, answer)?;
     end_line(sink)
 }

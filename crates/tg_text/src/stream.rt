@@ -1,7 +1,9 @@
 //! std's readers and writers as a source and a sink.
-ghost use Rattle.std.specs.Prelude.{◌≡◌, nat_lt};
+ghost use Rattle.std.specs.Prelude.{◌≡◌, ◌≤◌, [], None, is_some, length, nat_lt};
+ghost use Rattle.tg_text.specs.Fetching.{TakesLineAtOnce};
 ghost use Rattle.tg_text.specs.Sources.{TellsNext};
 
+use crate::buffer::{LineBuffer, line_end};
 use crate::count::Count;
 use crate::sink::{Put, Sink};
 use crate::source::{Next, Source};
@@ -60,6 +62,37 @@ impl<R: BufRead + Drop, A: Ledger, F: Ledger> Source for OfRead<R, A, F> {
         }
         next
     }
+
+    fn take_line(&mut self, line: &mut LineBuffer, most: usize) -> bool {
+        line.clear();
+        if self.held == 0 {
+            return false;
+        }
+        let Some(held) = take_held(&mut self.reader, line, most) else {
+            return false;
+        };
+        self.held = held;
+        self.asked.tick_times(line.len() + 1);
+        true
+    }
+}
+
+// Takes the next line and its line feed, where the reader holds all of it, and says how many more bytes it then holds.
+fn take_held<R: BufRead>(reader: &mut R, line: &mut LineBuffer, most: usize) -> Option<usize>
+    requires few { most ≤ 256 }
+    requires clear { line.old ≡ [] }
+    ensures bytes { TakesLineAtOnce (R.remaining reader.old) (is_some result) line.new (R.remaining reader.new) }
+    ensures few { length line.new ≤ most }
+    ensures none { result ≡ None → line.new ≡ [] }
+{
+    let Ok(bytes) = reader.fill_buf() else {
+        return None;
+    };
+    let at = line_end(bytes, most)?;
+    line.set(&bytes[..at]);
+    let held = bytes.len() - at - 1;
+    reader.consume(at + 1);
+    Some(held)
 }
 
 // Takes the first byte that is left, and says how many more the reader holds.

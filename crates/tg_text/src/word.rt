@@ -6,11 +6,20 @@ ghost use Rattle.tg_text.specs.Words.{number_of, label_read, no_leading_zero, di
 
 use tg_rights::{Label, Rights};
 
-// Whether the word is this text.
+// Whether the word is this text. The text is short, and is known where this is compiled.
+#[inline(always)]
 pub(crate) fn is_word(word: &[u8], text: &[u8]) -> bool
     ensures { result ≡ bytes_eq word.now text.now }
 {
-    word == text
+    if word.len() != text.len() {
+        return false;
+    }
+    for (at, byte) in text.iter().enumerate() {
+        if word[at] != *byte {
+            return false;
+        }
+    }
+    true
 }
 
 // The number whose text the word is: digits without a leading zero, at most 2^64 - 1.
