@@ -103,6 +103,16 @@ impl<P: Payload> Cells<P> {
         self.payloads.read(cell[KEY])
     }
 
+    /// What an object stores, where it stands.
+    pub(crate) fn payload(&self, at: Place) -> &P
+        requires graph { IsGraph self.now.spaces.spaces self.now.payloads }
+        requires at { IsKindAt self.now.spaces.spaces Object at }
+        ensures { (content_in self.now.spaces.spaces self.now.payloads).value (name_at self.now.spaces.spaces at) ≡ Some (P.value result.now) }
+    {
+        let cell = self.spaces.cell(at);
+        self.payloads.payload(cell[KEY])
+    }
+
     /// Writes a number to what an object stores. Where it is refused, nothing is changed.
     pub(crate) fn write(&mut self, at: Place, number: u64) -> Result<(), AllocError>
         requires graph { IsGraph self.old.spaces.spaces self.old.payloads }
