@@ -45,7 +45,7 @@ BEGIN {
     types["u8"] = "uint8_t"; types["u32"] = "uint32_t"; types["u64"] = "uint64_t"; types["bool"] = "bool"
     types["EdgeIn"] = "tg_edge"; types["ValueIn"] = "tg_value"; types["LimitsIn"] = "tg_limits"
     types["DenialOut"] = "tg_denial"; types["EdgeOut"] = "tg_target"; types["CensusOut"] = "tg_counts"
-    types["Place"] = "tg_store"; types["Handle"] = "twin_Handle"
+    types["StorePlace"] = "tg_store"; types["Handle"] = "twin_Handle"
     same("sizeof(void *)", 8)
     same("sizeof(bool)", 1)
     same("sizeof(size_t)", 8)
@@ -66,7 +66,7 @@ repr && /^pub struct / {
 struct && /^}/ {
     printf "} twin_%s;\n", struct
     # the header has no name for a handle: it is looked at in its place
-    if (struct == "Place") same("offsetof(twin_Place, handle.at)", "offsetof(tg_store, handle.at)")
+    if (struct == "StorePlace") same("offsetof(twin_StorePlace, handle.at)", "offsetof(tg_store, handle.at)")
     if (struct == "Handle") fields = 0
     else same("sizeof(twin_" struct ")", "sizeof(" types[struct] ")")
     for (i = 1; i <= fields; i++) {

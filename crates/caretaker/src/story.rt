@@ -11,9 +11,9 @@ use crate::stop::Stop;
 use crate::tell::tell_reply;
 use std::alloc::Global;
 use tg_journal::{AuditFault, Entry, audit};
-use tg_model::{Command, Edge, Opening, Reply, Value};
-use tg_payload::{Draft, Payload};
-use tg_rights::{Label, Rights};
+use tg_model::{Command, Edge, Opening, Reply};
+use tg_payload::{Draft, Payload, values_of};
+use tg_rights::Label;
 use tg_store::{Kind, Limits, Store};
 
 // The workers. They are named 0, 1, 2, .., and so are vertices from then on.
@@ -82,10 +82,7 @@ fn drafts_of<P: Payload>(alloc: Global, caretaker: P, visitor: P) -> Result<Vec<
 
 // Workers who store what is in the drafts, and an edge from the caretaker to the visitor.
 fn opening_of<P: Payload>(alloc: Global, drafts: &[Draft<P>]) -> Result<Opening, Stop> {
-    let mut values = Vec::new(alloc);
-    for draft in drafts {
-        values.push(draft.value().copy(alloc)?)?;
-    }
+    let values = values_of(alloc, drafts)?;
     let mut edges = Vec::new(alloc);
     edges.push(Edge {
         from: CARETAKER,
@@ -230,8 +227,5 @@ fn give_up(target: u64, letters: &str) -> Result<Command, Stop> {
 
 // The label of these letters.
 fn label(letters: &str) -> Result<Label, Stop> {
-    match Rights::read_text(letters.as_bytes()) {
-        Some(rights) => Label::new(rights).ok_or(Stop::BadLabel),
-        None => Err(Stop::BadLabel),
-    }
+    Label::read_text(letters.as_bytes()).ok_or(Stop::BadLabel)
 }

@@ -22,7 +22,7 @@ use std::process::ExitCode;
 use std::sync::Wait;
 use std::thread::Threads;
 use stop::Stop;
-use tell::print_told;
+use tell::print_ending;
 
 fn main(rt: HostRuntime) -> ExitCode {
     match run_and_print(&rt, rt.alloc()) {
@@ -35,6 +35,6 @@ fn main(rt: HostRuntime) -> ExitCode {
 }
 
 fn run_and_print<R: Threads + Wait + Sync + Print>(rt: &R, alloc: Global) -> Result<(), Stop> {
-    let (told, entries) = run_story(rt, alloc)?;
-    print_told(rt, &told, entries)
+    let (ending, entries) = run_story(rt, alloc)?;
+    print_ending(rt, &ending, entries)
 }

@@ -3,8 +3,8 @@
 use crate::stop::Stop;
 use std::alloc::Global;
 use tg_model::{Edge, Opening};
-use tg_payload::{CellPayload, Draft};
-use tg_rights::{Label, Rights};
+use tg_payload::{CellPayload, Draft, values_of};
+use tg_rights::Label;
 use tg_store::{Limits, Store};
 
 // The subjects are the deputy, the client and the deputy's hand, which has no right but those that are granted to it.
@@ -24,8 +24,7 @@ const MOST_BLOCKS_OF_A_SPACE: u64 = 4;
 
 /// A label with the rights of these letters.
 pub fn label(letters: &str) -> Result<Label, Stop> {
-    let rights = Rights::read_text(letters.as_bytes()).ok_or(Stop::BadLabel)?;
-    Label::new(rights).ok_or(Stop::BadLabel)
+    Label::read_text(letters.as_bytes()).ok_or(Stop::BadLabel)
 }
 
 /// A draft of a cell with 0, which is what everything in the story stores.
@@ -55,10 +54,7 @@ fn edges(alloc: Global) -> Result<Vec<Edge>, Stop> {
 
 /// The opening: three subjects that store cells, and one edge.
 pub fn opening(alloc: Global) -> Result<Opening, Stop> {
-    let mut values = Vec::new(alloc);
-    for draft in &cells(alloc)? {
-        values.push(draft.value().copy(alloc)?)?;
-    }
+    let values = values_of(alloc, &cells(alloc)?)?;
     Ok(Opening::new(SUBJECTS, edges(alloc)?, values, MOST_VERTICES)?)
 }
 

@@ -5,7 +5,7 @@ ghost use Rattle.tg_shared.specs.Sessions.{start_of_store};
 use crate::errands::{Errands, hand_on, make, read_and_collect, run_errands};
 use crate::opening::{open_store, opening};
 use crate::stop::Stop;
-use crate::tell::Told;
+use crate::tell::Ending;
 use std::alloc::Global;
 use std::marker::Brand;
 use std::sync::Wait;
@@ -18,7 +18,7 @@ use tg_store::Store;
 
 /// Opens a store, tells the story in it on two threads, and audits its journal from an opening of its own. Answers how
 /// many entries there are, too.
-pub fn run_story<R: Threads + Wait + Sync>(rt: &R, alloc: Global) -> Result<(Told, u64), Stop> {
+pub fn run_story<R: Threads + Wait + Sync>(rt: &R, alloc: Global) -> Result<(Ending, u64), Stop> {
     let store = open_store(alloc)?;
     let parts = store.opening().max_vertices() + 1;
     share::<Brand, R>(rt, alloc, Blank::new(parts), store)
@@ -30,7 +30,7 @@ fn share<L: Round + Send + Sync, R: Threads + Wait + Sync>(
     alloc: Global,
     blank: Blank,
     store: Store<CellPayload>,
-) -> Result<(Told, u64), Stop>
+) -> Result<(Ending, u64), Stop>
     requires name { blank.name ≡ L.name }
     requires parts { (blank.parts ≡ L.parts) × (blank.parts ≡ store.opening.limit + 1) }
     requires start { start_of_store store ≡ L.start }
@@ -46,7 +46,7 @@ fn tell_and_close<L: Round + Send + Sync, R: Threads + Wait + Sync>(
     rt: &R,
     alloc: Global,
     shared: Shared<L, CellPayload>,
-) -> Result<(Told, u64), Stop> {
+) -> Result<(Ending, u64), Stop> {
     let Shared {
         store,
         mut sessions,
@@ -80,7 +80,7 @@ fn tell<L: Round + Send + Sync, R: Threads + Wait + Sync>(
     alloc: Global,
     store: &SharedStore<L, CellPayload>,
     sessions: &mut [Session<L>],
-) -> Result<Told, Stop> {
+) -> Result<Ending, Stop> {
     match sessions {
         [deputy, client, hand] => tell_of_three(rt, alloc, store, deputy, client, hand),
         _ => Err(Stop::NoSession),
@@ -95,13 +95,13 @@ fn tell_of_three<L: Round + Send + Sync, R: Threads + Wait + Sync>(
     deputy: &mut Session<L>,
     client: &mut Session<L>,
     hand: &mut Session<L>,
-) -> Result<Told, Stop> {
+) -> Result<Ending, Stop> {
     let ledger = make(rt, alloc, store, deputy)?;
     let paper = make(rt, alloc, store, client)?;
     let _granted = hand_on(rt, store, client, paper)?;
     let (errands, read) = work(rt, store, deputy, client, hand, ledger, paper);
     read?;
-    Ok(Told {
+    Ok(Ending {
         ledger,
         paper,
         errands: errands?,

@@ -5,7 +5,7 @@ use crate::stop::Stop;
 
 /// What became of the story.
 #[derive(Clone, Copy, PartialEq, Eq, Debug)]
-pub struct Told {
+pub struct Ending {
     /// The names of the ledger and of the paper.
     pub ledger: u64,
     pub paper: u64,
@@ -13,12 +13,12 @@ pub struct Told {
 }
 
 /// Prints it, with the number of entries of the journal, which passed its audit.
-pub fn print_told<R: Print>(rt: &R, told: &Told, entries: u64) -> Result<(), Stop> {
-    let Told {
+pub fn print_ending<R: Print>(rt: &R, ending: &Ending, entries: u64) -> Result<(), Stop> {
+    let Ending {
         ledger,
         paper,
         errands,
-    } = told;
+    } = ending;
     println!(rt; "the deputy makes a ledger, whose name is {ledger}")?;
     println!(rt; "the client makes a paper, whose name is {paper}")?;
     print_errands(rt, errands)?;

@@ -7,9 +7,8 @@ use std::thread::Threads;
 use tg_helpers::{HelpersFault, collect_with};
 use tg_journal::{AuditFault, audit};
 use tg_model::{Command, Edge, Opening};
-use tg_payload::{Draft, DraftRefused, LogPayload, Payload};
+use tg_payload::{Draft, DraftRefused, LogPayload, Payload, values_of};
 use tg_rights::Label;
-use tg_script::values_of;
 use tg_store::{
     ApplyFault, Census, CreateFault, CreateRefused, Kind, Limits, OpenFault, OpenRefused, Store,
 };

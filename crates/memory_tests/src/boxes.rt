@@ -5,11 +5,9 @@ ghost use Rattle.tg_model.specs.declared.law.Law.TheVariants.{Sum};
 use std::alloc::{AllocError, Global};
 use std::test::Fail;
 use tg_model::{Command, Law, Opening};
-use tg_payload::{CellPayload, Draft, Payload, PayloadBox};
+use tg_payload::{CellPayload, Draft, Payload, PayloadBox, values_of};
 use tg_rights::{Label, Right, Rights};
-use tg_script::{
-    Helpers, InMemory, Limits, OneThread, Settings, drafts_of, run_in_memory, values_of,
-};
+use tg_script::{Helpers, InMemory, Limits, OneThread, Settings, drafts_of, run_in_memory};
 use tg_store::{ApplyFault, Store};
 
 // A sum whose first write is refused.

@@ -11,11 +11,15 @@ mod counting_payload;
 #[cfg(test)]
 mod hostile;
 #[cfg(test)]
+mod lent;
+#[cfg(test)]
 mod payloads;
 #[cfg(test)]
 mod rows_by_helpers;
 #[cfg(test)]
 mod scripts;
+#[cfg(test)]
+mod shown;
 #[cfg(test)]
 mod stocks;
 #[cfg(test)]

@@ -10,7 +10,7 @@
 //! ```
 //!
 //! The first word of a cell, its tag, says what the cell is; a cell that is none of the three is bad. What its
-//! references mean is no matter of this crate.
+//! references mean is no matter of this crate. The constants below are the only place where this layout stands in code.
 //!
 //! The cells of a block are one allocation of 4 KiB, zeroed where it stands. A block is moved by its pointer, so
 //! its cells never move, and a list of blocks grows without copying them.
@@ -35,6 +35,21 @@ pub const OBJECT_TAG: u64 = 1;
 
 /// The first word of a chunk.
 pub const CHUNK_TAG: u64 = 2;
+
+/// The word of an object that is its name.
+pub const NAME: usize = 1;
+
+/// The word of an object that is the key of its payload.
+pub const KEY: usize = 2;
+
+/// The first word of an object that may name another cell: from here on stand its references and its link.
+pub const OBJECT_POINTERS: usize = 4;
+
+/// The first word of a chunk that may name another cell.
+pub const CHUNK_POINTERS: usize = 1;
+
+/// The word of an object or a chunk that links to the next chunk.
+pub const LINK: usize = 7;
 
 /// What a cell is.
 #[derive(Clone, Copy, PartialEq, Eq, Debug)]

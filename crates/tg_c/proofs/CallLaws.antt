@@ -9,19 +9,19 @@ use Rattle.tg_model.specs.declared.reply.Denial.{Denial}
 use Rattle.tg_model.specs.declared.reply.Reply.{Reply}
 use Rattle.tg_model.specs.declared.reply.Reply.TheVariants.{Denied, Done, Values}
 use Rattle.tg_store.specs.Store.{StoreState}
-use Rattle.tg_c.specs.declared.place.Place.{Place}
-use Rattle.tg_c.specs.declared.refusal.Refusal.{Refusal}
-use Rattle.tg_c.specs.declared.refusal.Refusal.TheVariants.{NotOpen}
+use Rattle.tg_c.specs.declared.place.StorePlace.{StorePlace}
+use Rattle.tg_c.specs.declared.refusal.CallRefusal.{CallRefusal}
+use Rattle.tg_c.specs.declared.refusal.CallRefusal.TheVariants.{NotOpen}
 use Rattle.tg_c.specs.Calls.{IsCall, IsDoneOrDenied, IsReadOrDenied, IsReplyTo, state_in}
 use Rattle.tg_c.specs.Statuses.{refused_as}
 
 -- a closed place: the call was refused
-pub not_open : {T E : Type 0} (name : E → Refusal) (holds : StoreState → StoreState → Result T E → Type 0) (old new : Place) (result : Result T Refusal)
+pub not_open : {T E : Type 0} (name : E → CallRefusal) (holds : StoreState → StoreState → Result T E → Type 0) (old new : StorePlace) (result : Result T CallRefusal)
     → old.is_open ≡ false → new.is_open ≡ false → result ≡ Err NotOpen → IsCall name holds old new (λ told. result ≡ told)
 not_open name holds old new result was is told = record { not_open = λ _. (told, is); served = λ is_open. absurd (cc (was, is_open)) }
 
 -- an open place: the store, which was and is in it, gave this answer
-pub served : {T E : Type 0} (name : E → Refusal) (holds : StoreState → StoreState → Result T E → Type 0) (old new : Place) (result : Result T Refusal)
+pub served : {T E : Type 0} (name : E → CallRefusal) (holds : StoreState → StoreState → Result T E → Type 0) (old new : StorePlace) (result : Result T CallRefusal)
     (before after : StoreState) (answer : Result T E)
     → old.is_open ≡ true → new.is_open ≡ true → state_in old ≡ before → state_in new ≡ after → result ≡ refused_as name answer
     → holds before after answer → IsCall name holds old new (λ told. result ≡ told)
@@ -36,8 +36,8 @@ served name holds old new result before after answer was is first last told held
 }
 
 -- what the call answered is what C is told
-pub hears : {T E : Type 0} (name : E → Refusal) (holds : StoreState → StoreState → Result T E → Type 0) (old new : Place) (result : Result T Refusal)
-    (tells : Result T Refusal → Type 0) → IsCall name holds old new (λ told. result ≡ told) → tells result → IsCall name holds old new tells
+pub hears : {T E : Type 0} (name : E → CallRefusal) (holds : StoreState → StoreState → Result T E → Type 0) (old new : StorePlace) (result : Result T CallRefusal)
+    (tells : Result T CallRefusal → Type 0) → IsCall name holds old new (λ told. result ≡ told) → tells result → IsCall name holds old new tells
 hears name holds old new result tells call told = record {
   not_open = λ closed. (subst tells (call.not_open closed).0 told, (call.not_open closed).1);
   served = λ is_open. record {
@@ -67,8 +67,8 @@ or_else other None = other
 or_else other (Some x) = x
 
 -- the same, where what was asked for is what is asked about
-pub hears_at : {X T E : Type 0} (name : E → Refusal) (holds : X → StoreState → StoreState → Result T E → Type 0) (o : Option X) (made asked : X)
-    (old new : Place) (result : Result T Refusal) (tells : Result T Refusal → Type 0) → o ≡ Some made → o ≡ Some asked
+pub hears_at : {X T E : Type 0} (name : E → CallRefusal) (holds : X → StoreState → StoreState → Result T E → Type 0) (o : Option X) (made asked : X)
+    (old new : StorePlace) (result : Result T CallRefusal) (tells : Result T CallRefusal → Type 0) → o ≡ Some made → o ≡ Some asked
     → IsCall name (holds made) old new (λ told. result ≡ told) → tells result → IsCall name (holds asked) old new tells
 unfolding or_else
 hears_at name holds o made asked old new result tells first second call told =

@@ -7,8 +7,8 @@ use Rattle.tg_model.specs.Opened.{IsFaultOf, Plan}
 use Rattle.tg_store.specs.Faults.{IsFirstDifference}
 use Rattle.tg_store.specs.declared.fault.OpenFault.{OpenFault}
 use Rattle.tg_store.specs.declared.fault.OpenFault.TheVariants as opened
-use Rattle.tg_c.specs.declared.refusal.Refusal.{Refusal}
-use Rattle.tg_c.specs.declared.refusal.Refusal.TheVariants as refusal
+use Rattle.tg_c.specs.declared.refusal.CallRefusal.{CallRefusal}
+use Rattle.tg_c.specs.declared.refusal.CallRefusal.TheVariants as refusal
 use Rattle.tg_c.specs.declared.forms.EdgeIn.{EdgeIn}
 use Rattle.tg_c.specs.declared.forms.LimitsIn.{LimitsIn}
 use Rattle.tg_c.specs.declared.forms.ValueIn.{ValueIn}
@@ -18,15 +18,15 @@ use Rattle.tg_c.specs.Statuses.{of_open, status_of}
 use Rattle.tg_c.proofs.PlanLaws.{no_fault, plan_is}
 
 -- all demands are met, and this is want of memory
-pub wants : {X : Type 0} (workers : List ValueIn) (edges : List EdgeIn) (limits : LimitsIn) (r : Result X Refusal) (why : Refusal)
+pub wants : {X : Type 0} (workers : List ValueIn) (edges : List EdgeIn) (limits : LimitsIn) (r : Result X CallRefusal) (why : CallRefusal)
     → AreMet (demands_of workers edges limits) → r ≡ Err why → why ≡ refusal.OutOfMemory → IfErr r (IsRefusedFor workers edges limits)
 wants workers edges limits r why met is want = subst (λ s. IfErr s (IsRefusedFor workers edges limits)) (sym is) (inr (met, want))
 
-pub want_else : (fault why : Refusal) (says : Type 0) → ¬ says → IsMemoryOr fault says why → why ≡ refusal.OutOfMemory
+pub want_else : (fault why : CallRefusal) (says : Type 0) → ¬ says → IsMemoryOr fault says why → why ≡ refusal.OutOfMemory
 want_else fault why says none (inl want) = want
 want_else fault why says none (inr told) = absurd (none told.1)
 
-pub not_done : (why : Refusal) → ¬ (status_of why ≡ 0)
+pub not_done : (why : CallRefusal) → ¬ (status_of why ≡ 0)
 not_done refusal.NotOpen is = omega (arith, is)
 not_done refusal.AlreadyOpen is = omega (arith, is)
 not_done refusal.OutOfMemory is = omega (arith, is)

@@ -33,9 +33,9 @@ use Rattle.tg_store.specs.declared.fault.ApplyFault.{ApplyFault}
 use Rattle.tg_store.specs.declared.fault.ApplyFault.TheVariants as apply
 use Rattle.tg_store.specs.declared.fault.CreateFault.{CreateFault}
 use Rattle.tg_store.specs.declared.fault.CreateFault.TheVariants as create
-use Rattle.tg_c.specs.declared.place.Place.{Place}
-use Rattle.tg_c.specs.declared.refusal.Refusal.{Refusal}
-use Rattle.tg_c.specs.declared.refusal.Refusal.TheVariants as refusal
+use Rattle.tg_c.specs.declared.place.StorePlace.{StorePlace}
+use Rattle.tg_c.specs.declared.refusal.CallRefusal.{CallRefusal}
+use Rattle.tg_c.specs.declared.refusal.CallRefusal.TheVariants as refusal
 use Rattle.tg_c.specs.declared.forms.EdgeIn.{EdgeIn}
 use Rattle.tg_c.specs.declared.forms.LimitsIn.{LimitsIn}
 use Rattle.tg_c.specs.declared.forms.ValueIn.{ValueIn}
@@ -43,27 +43,27 @@ use Rattle.tg_c.specs.Forms.{AreValues, HaveLabels, JoinWorkers, plan_of}
 use Rattle.tg_c.specs.Statuses.{of_apply, of_audit, of_collect, of_create, refused_as, status_of}
 
 -- what the store in an open place holds
-abbrev pub state_in : Place → StoreState
+abbrev pub state_in : StorePlace → StoreState
 state_in place = place.handle.session.store
 
 -- ---- a call on a place
 
 -- On an open place the store has an answer of which `holds`, and this is told; the place stays open.
-pub record IsServed {T E : Type 0} (name : E → Refusal) (holds : StoreState → StoreState → Result T E → Type 0)
-    (old new : Place) (tells : Result T Refusal → Type 0) : Type 0 where
+pub record IsServed {T E : Type 0} (name : E → CallRefusal) (holds : StoreState → StoreState → Result T E → Type 0)
+    (old new : StorePlace) (tells : Result T CallRefusal → Type 0) : Type 0 where
   pub answer : Result T E
   pub told : tells (refused_as name answer)
   pub stays_open : new.is_open ≡ true
   pub holds_of : holds (state_in old) (state_in new) answer
 
 -- the same, and on a closed place the call is refused as that, and the place stays closed
-pub record IsCall {T E : Type 0} (name : E → Refusal) (holds : StoreState → StoreState → Result T E → Type 0)
-    (old new : Place) (tells : Result T Refusal → Type 0) : Type 0 where
+pub record IsCall {T E : Type 0} (name : E → CallRefusal) (holds : StoreState → StoreState → Result T E → Type 0)
+    (old new : StorePlace) (tells : Result T CallRefusal → Type 0) : Type 0 where
   pub not_open : old.is_open ≡ false → tells (Err refusal.NotOpen) × (new.is_open ≡ false)
   pub served : old.is_open ≡ true → IsServed name holds old new tells
 
 -- the call is refused for what it asks for, before the store is looked at
-abbrev pub Refuses : {T : Type 0} → Place → Place → (Result T Refusal → Type 0) → Refusal → Type 0
+abbrev pub Refuses : {T : Type 0} → StorePlace → StorePlace → (Result T CallRefusal → Type 0) → CallRefusal → Type 0
 Refuses old new tells why = (new ≡ old) × tells (Err why)
 
 -- ---- commands
@@ -81,7 +81,7 @@ pub record Applies (worker : ℕ) (asked : Command) (old new : StoreState) (answ
   pub opening : new.opening ≡ old.opening
   pub limits : new.heap.table.limits ≡ old.heap.table.limits
 
-abbrev pub Asks : Place → Place → ℕ → Command → (Result Reply Refusal → Type 0) → Type 0
+abbrev pub Asks : StorePlace → StorePlace → ℕ → Command → (Result Reply CallRefusal → Type 0) → Type 0
 Asks old new worker asked = IsCall of_apply (Applies worker asked) old new
 
 -- which replies a command can have
@@ -138,7 +138,7 @@ pub record Creates (worker : ℕ) (label : RightSet) (value : Value) (old new : 
   pub opening : new.opening ≡ old.opening
   pub limits : new.heap.table.limits ≡ old.heap.table.limits
 
-abbrev pub Makes : Place → Place → ℕ → RightSet → Value → (Result ℕ Refusal → Type 0) → Type 0
+abbrev pub Makes : StorePlace → StorePlace → ℕ → RightSet → Value → (Result ℕ CallRefusal → Type 0) → Type 0
 Makes old new worker label value = IsCall of_create (Creates worker label value) old new
 
 -- ---- collections
@@ -159,22 +159,22 @@ pub record Collects (kind : Kind) (old new : StoreState) (answer : Result ℕ Co
   pub opening : new.opening ≡ old.opening
   pub limits : new.heap.table.limits ≡ old.heap.table.limits
 
-abbrev pub Sweeps : Place → Place → Kind → (Result ℕ Refusal → Type 0) → Type 0
+abbrev pub Sweeps : StorePlace → StorePlace → Kind → (Result ℕ CallRefusal → Type 0) → Type 0
 Sweeps old new kind = IsCall of_collect (Collects kind) old new
 
 -- ---- calls that only look
 
 -- the store is the same, and the call is always served
-abbrev pub Looks : {T : Type 0} → (StoreState → T) → StoreState → StoreState → Result T Refusal → Type 0
+abbrev pub Looks : {T : Type 0} → (StoreState → T) → StoreState → StoreState → Result T CallRefusal → Type 0
 Looks what old new answer = (new ≡ old) × (answer ≡ Ok (what old))
 
 abbrev pub census_of : StoreState → Census
 census_of s = record { vertices = length (content_of s.heap).names; payloads = count s.heap.payloads; blocks = block_count s.heap.table.spaces }
 
-abbrev pub Counts : Place → Place → (Result Census Refusal → Type 0) → Type 0
+abbrev pub Counts : StorePlace → StorePlace → (Result Census CallRefusal → Type 0) → Type 0
 Counts old new = IsCall (λ why. why) (Looks census_of) old new
 
-abbrev pub CountsEntries : Place → Place → (Result ℕ Refusal → Type 0) → Type 0
+abbrev pub CountsEntries : StorePlace → StorePlace → (Result ℕ CallRefusal → Type 0) → Type 0
 CountsEntries old new = IsCall (λ why. why) (Looks (λ s. length s.entries)) old new
 
 -- an audit of the store's own journal can be refused for want of memory alone
@@ -183,7 +183,7 @@ pub record IsAudited (old new : StoreState) (answer : Result ℕ AuditFault) : T
   pub count : IfOk answer (λ n. n ≡ length old.entries)
   pub fault : IfErr answer (λ why. why ≡ audit.OutOfMemory)
 
-abbrev pub Audits : Place → Place → (Result ℕ Refusal → Type 0) → Type 0
+abbrev pub Audits : StorePlace → StorePlace → (Result ℕ CallRefusal → Type 0) → Type 0
 Audits old new = IsCall of_audit IsAudited old new
 
 -- ---- the opening
@@ -191,9 +191,9 @@ Audits old new = IsCall of_audit IsAudited old new
 -- something that an opening asks for, and what is told where it doesn't hold
 pub record Demand : Type 1 where
   pub holds : Type 0
-  pub told : Refusal
+  pub told : CallRefusal
 
-abbrev pub demand : Type 0 → Refusal → Demand
+abbrev pub demand : Type 0 → CallRefusal → Demand
 demand holds told = record { holds = holds; told = told }
 
 -- what an opening asks for, in the order in which it is looked at
@@ -213,12 +213,12 @@ AreMet [] = Unit {0}
 AreMet (d ∷ ds) = d.holds × AreMet ds
 
 -- this is told of the first that doesn't hold
-abbrev pub IsFirstUnmet : List Demand → Refusal → Type 0
+abbrev pub IsFirstUnmet : List Demand → CallRefusal → Type 0
 IsFirstUnmet [] why = ⊥
 IsFirstUnmet (d ∷ ds) why = ((¬ d.holds) × (why ≡ d.told)) ⊎ (d.holds × IsFirstUnmet ds why)
 
 -- why an opening is refused: by the first demand that isn't met; or all are met, and memory was wanting
-abbrev pub IsRefusedFor : List ValueIn → List EdgeIn → LimitsIn → Refusal → Type 0
+abbrev pub IsRefusedFor : List ValueIn → List EdgeIn → LimitsIn → CallRefusal → Type 0
 IsRefusedFor workers edges limits why =
     IsFirstUnmet (demands_of workers edges limits) why
     ⊎ (AreMet (demands_of workers edges limits) × (why ≡ refusal.OutOfMemory))
@@ -232,15 +232,15 @@ pub record IsOpenedStore (s : StoreState) (workers : List ValueIn) (edges : List
   pub limits_kept : s.heap.table.limits ≡ limits_of limits.max_blocks limits.max_space_blocks
 
 -- the refusal is want of memory, or else this one, and then what it says holds
-abbrev pub IsMemoryOr : Refusal → Type 0 → Refusal → Type 0
+abbrev pub IsMemoryOr : CallRefusal → Type 0 → CallRefusal → Type 0
 IsMemoryOr fault says why = (why ≡ refusal.OutOfMemory) ⊎ ((why ≡ fault) × says)
 
 -- the status is that of a refusal of which this holds
-abbrev pub IsStatusWhere : (Refusal → Type 0) → ℕ → Type 0
-IsStatusWhere which status = (why : Refusal) × which why × (status ≡ status_of why)
+abbrev pub IsStatusWhere : (CallRefusal → Type 0) → ℕ → Type 0
+IsStatusWhere which status = (why : CallRefusal) × which why × (status ≡ status_of why)
 
 -- What an opening of C does to the place. Refused, it leaves the place as it was.
-pub record Opens (old new : Place) (workers : List ValueIn) (edges : List EdgeIn) (limits : LimitsIn) (status : ℕ) : Type 0 where
+pub record Opens (old new : StorePlace) (workers : List ValueIn) (edges : List EdgeIn) (limits : LimitsIn) (status : ℕ) : Type 0 where
   pub already_open : old.is_open ≡ true → status ≡ status_of refusal.AlreadyOpen
   pub opened : status ≡ 0 → (new.is_open ≡ true) × IsOpenedStore (state_in new) workers edges limits
   pub refused : old.is_open ≡ false → status ≢ 0 → IsStatusWhere (IsRefusedFor workers edges limits) status

@@ -15,8 +15,8 @@ use Rattle.tg_evac.specs.declared.fault.CollectFault.{CollectFault}
 use Rattle.tg_evac.specs.declared.fault.CollectFault.TheVariants as collect
 use Rattle.tg_journal.specs.declared.replay.AuditFault.{AuditFault}
 use Rattle.tg_journal.specs.declared.replay.AuditFault.TheVariants as audit
-use Rattle.tg_c.specs.declared.refusal.Refusal.{Refusal}
-use Rattle.tg_c.specs.declared.refusal.Refusal.TheVariants as refusal
+use Rattle.tg_c.specs.declared.refusal.CallRefusal.{CallRefusal}
+use Rattle.tg_c.specs.declared.refusal.CallRefusal.TheVariants as refusal
 use Rattle.tg_c.specs.declared.forms.CensusOut.{CensusOut}
 use Rattle.tg_c.specs.declared.forms.DenialOut.{DenialOut}
 use Rattle.tg_c.specs.declared.forms.EdgeOut.{EdgeOut}
@@ -25,7 +25,7 @@ use Rattle.tg_c.specs.Forms.{census_out, denial_out, edges_shown_in, shown_in}
 -- ---- the numbers
 
 -- The status of each refusal. Each family has a range of 16 numbers, so that later refusals find room in theirs.
-abbrev pub status_of : Refusal → ℕ
+abbrev pub status_of : CallRefusal → ℕ
 status_of refusal.NotOpen = 16
 status_of refusal.AlreadyOpen = 17
 status_of refusal.OutOfMemory = 32
@@ -43,45 +43,45 @@ status_of refusal.BadEntry = 96
 
 -- ---- how the store's refusals are told
 
-abbrev pub of_opening : OpeningFault → Refusal
+abbrev pub of_opening : OpeningFault → CallRefusal
 of_opening opening.BadWorkers = refusal.BadWorkers
 of_opening opening.BadLimits = refusal.BadLimits
 of_opening (opening.BadEdge at) = refusal.BadEdge
 of_opening (opening.BadValues at) = refusal.BadValues
 
-abbrev pub of_open : OpenFault → Refusal
+abbrev pub of_open : OpenFault → CallRefusal
 of_open (opened.PayloadMismatch at) = refusal.BadValues
 of_open opened.OutOfMemory = refusal.OutOfMemory
 of_open opened.HeapFull = refusal.HeapFull
 
-abbrev pub of_apply : ApplyFault → Refusal
+abbrev pub of_apply : ApplyFault → CallRefusal
 of_apply apply.NoSuchWorker = refusal.NoSuchWorker
 of_apply apply.OutOfMemory = refusal.OutOfMemory
 of_apply apply.HeapFull = refusal.HeapFull
 
-abbrev pub of_create : CreateFault → Refusal
+abbrev pub of_create : CreateFault → CallRefusal
 of_create create.NoSuchWorker = refusal.NoSuchWorker
 of_create create.VerticesFull = refusal.VerticesFull
 of_create create.OutOfMemory = refusal.OutOfMemory
 of_create create.HeapFull = refusal.HeapFull
 
-abbrev pub of_collect : CollectFault → Refusal
+abbrev pub of_collect : CollectFault → CallRefusal
 of_collect collect.OutOfMemory = refusal.OutOfMemory
 of_collect collect.HeapFull = refusal.HeapFull
 
-abbrev pub of_audit : AuditFault → Refusal
+abbrev pub of_audit : AuditFault → CallRefusal
 of_audit audit.OutOfMemory = refusal.OutOfMemory
 of_audit (audit.BadEntry at) = refusal.BadEntry
 
 -- the answer, with its refusal as C knows it
-abbrev pub refused_as : {T E : Type 0} → (E → Refusal) → Result T E → Result T Refusal
+abbrev pub refused_as : {T E : Type 0} → (E → CallRefusal) → Result T E → Result T CallRefusal
 refused_as name (Ok value) = Ok value
 refused_as name (Err why) = Err (name why)
 
 -- ---- what each answer is told as
 
 -- of a command that is answered by no more than that it was done, or denied
-abbrev pub TellsDone : ℕ → DenialOut → DenialOut → Result Reply Refusal → Type 0
+abbrev pub TellsDone : ℕ → DenialOut → DenialOut → Result Reply CallRefusal → Type 0
 TellsDone status old new (Ok Done) = (status ≡ 0) × (new ≡ old)
 TellsDone status old new (Ok (Denied denial)) = (status ≡ 1) × (new ≡ denial_out denial)
 TellsDone status old new (Ok (Name name)) = ⊥
@@ -96,7 +96,7 @@ pub record ReadOut : Type 0 where
   pub numbers : List ℕ
   pub denial : DenialOut
 
-abbrev pub TellsRead : ℕ → ReadOut → ReadOut → Result Reply Refusal → Type 0
+abbrev pub TellsRead : ℕ → ReadOut → ReadOut → Result Reply CallRefusal → Type 0
 TellsRead status old new (Ok (Values values)) = (status ≡ 0)
     × (new ≡ record { count = length values; numbers = shown_in values old.numbers; denial = old.denial })
 TellsRead status old new (Ok (Denied denial)) = (status ≡ 1)
@@ -112,7 +112,7 @@ pub record ListOut : Type 0 where
   pub count : ℕ
   pub edges : List EdgeOut
 
-abbrev pub TellsList : ℕ → ListOut → ListOut → Result Reply Refusal → Type 0
+abbrev pub TellsList : ℕ → ListOut → ListOut → Result Reply CallRefusal → Type 0
 TellsList status old new (Ok (Edges edges)) = (status ≡ 0) × (new ≡ record { count = length edges; edges = edges_shown_in edges old.edges })
 TellsList status old new (Ok Done) = ⊥
 TellsList status old new (Ok (Denied denial)) = ⊥
@@ -122,10 +122,10 @@ TellsList status old new (Ok VerticesFull) = ⊥
 TellsList status old new (Err why) = (status ≡ status_of why) × (new ≡ old)
 
 -- of a create, a collection, a count and an audit
-abbrev pub TellsNumber : ℕ → ℕ → ℕ → Result ℕ Refusal → Type 0
+abbrev pub TellsNumber : ℕ → ℕ → ℕ → Result ℕ CallRefusal → Type 0
 TellsNumber status old new (Ok number) = (status ≡ 0) × (new ≡ number)
 TellsNumber status old new (Err why) = (status ≡ status_of why) × (new ≡ old)
 
-abbrev pub TellsCensus : ℕ → CensusOut → CensusOut → Result Census Refusal → Type 0
+abbrev pub TellsCensus : ℕ → CensusOut → CensusOut → Result Census CallRefusal → Type 0
 TellsCensus status old new (Ok census) = (status ≡ 0) × (new ≡ census_out census)
 TellsCensus status old new (Err why) = (status ≡ status_of why) × (new ≡ old)

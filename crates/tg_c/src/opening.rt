@@ -6,9 +6,9 @@ ghost use Rattle.tg_c.specs.Forms.{AreValues, HaveLabels, JoinWorkers, edge_in, 
 
 use crate::forms::{EdgeIn, LimitsIn, ValueIn, label_of};
 use crate::payload::LawPayload;
-use crate::refusal::Refusal;
+use crate::refusal::CallRefusal;
 use std::alloc::Global;
-use tg_model::{Edge, MAX_VERTICES, MAX_WORKERS, Value};
+use tg_model::{Edge, MAX_VERTICES, MAX_WORKERS};
 use tg_payload::Draft;
 use tg_store::Limits;
 
@@ -19,7 +19,7 @@ pub fn check_opening(
     workers: &[ValueIn],
     edges: &[EdgeIn],
     limits: &LimitsIn,
-) -> Result<Limits, Refusal>
+) -> Result<Limits, CallRefusal>
     ensures met { IfOk result (λ blocks. AreMet (demands_of workers.now edges.now limits.now)
         × (blocks ≡ limits_of limits.now.max_blocks limits.now.max_space_blocks)) }
     ensures refused { IfErr result (IsFirstUnmet (demands_of workers.now edges.now limits.now)) }
@@ -28,23 +28,23 @@ pub fn check_opening(
     check_values(alloc, workers)?;
     check_rights(edges)?;
     if count < 1 || MAX_WORKERS < count {
-        return Err(Refusal::BadWorkers);
+        return Err(CallRefusal::BadWorkers);
     }
     let max_vertices = limits.max_vertices;
     if max_vertices < 1 || MAX_VERTICES < max_vertices || max_vertices < count {
-        return Err(Refusal::BadLimits);
+        return Err(CallRefusal::BadLimits);
     }
     check_ends(count, edges)?;
     let blocks = Limits::new(limits.max_blocks, limits.max_space_blocks)?;
     if limits.max_blocks < count {
-        return Err(Refusal::HeapFull);
+        return Err(CallRefusal::HeapFull);
     }
     Ok(blocks)
 }
 
 // Whether each worker's value is one that a law has.
-fn check_values(alloc: Global, workers: &[ValueIn]) -> Result<(), Refusal>
-    ensures { MatchResult result (λ _. AreValues workers.now) (λ why. (¬ AreValues workers.now) × (why ≡ Refusal.BadLaw)) }
+fn check_values(alloc: Global, workers: &[ValueIn]) -> Result<(), CallRefusal>
+    ensures { MatchResult result (λ _. AreValues workers.now) (λ why. (¬ AreValues workers.now) × (why ≡ CallRefusal.BadLaw)) }
 {
     for worker in workers {
         worker.payload(alloc)?;
@@ -53,8 +53,8 @@ fn check_values(alloc: Global, workers: &[ValueIn]) -> Result<(), Refusal>
 }
 
 // Whether the bits of each edge are rights.
-fn check_rights(edges: &[EdgeIn]) -> Result<(), Refusal>
-    ensures { MatchResult result (λ _. HaveLabels edges.now) (λ why. (¬ HaveLabels edges.now) × (why ≡ Refusal.BadRights)) }
+fn check_rights(edges: &[EdgeIn]) -> Result<(), CallRefusal>
+    ensures { MatchResult result (λ _. HaveLabels edges.now) (λ why. (¬ HaveLabels edges.now) × (why ≡ CallRefusal.BadRights)) }
 {
     for edge in edges {
         label_of(edge.rights)?;
@@ -63,21 +63,21 @@ fn check_rights(edges: &[EdgeIn]) -> Result<(), Refusal>
 }
 
 // Whether each edge joins two different workers, of which there are so many.
-fn check_ends(workers: u64, edges: &[EdgeIn]) -> Result<(), Refusal>
-    ensures { MatchResult result (λ _. JoinWorkers workers edges.now) (λ why. (¬ JoinWorkers workers edges.now) × (why ≡ Refusal.BadEdge)) }
+fn check_ends(workers: u64, edges: &[EdgeIn]) -> Result<(), CallRefusal>
+    ensures { MatchResult result (λ _. JoinWorkers workers edges.now) (λ why. (¬ JoinWorkers workers edges.now) × (why ≡ CallRefusal.BadEdge)) }
 {
     for edge in edges {
         if edge.from == edge.to || workers <= edge.from || workers <= edge.to {
-            return Err(Refusal::BadEdge);
+            return Err(CallRefusal::BadEdge);
         }
     }
     Ok(())
 }
 
 /// A draft for each worker, of what it is to store.
-pub fn drafts_in(alloc: Global, workers: &[ValueIn]) -> Result<Vec<Draft<LawPayload>>, Refusal>
+pub fn drafts_in(alloc: Global, workers: &[ValueIn]) -> Result<Vec<Draft<LawPayload>>, CallRefusal>
     ensures drafts { IfOk result (λ drafts. AreValues workers.now × (drafts.items ≡ map value_in workers.now)) }
-    ensures refused { IfErr result (IsMemoryOr Refusal.BadLaw (¬ AreValues workers.now)) }
+    ensures refused { IfErr result (IsMemoryOr CallRefusal.BadLaw (¬ AreValues workers.now)) }
 {
     let mut drafts = Vec::new(alloc);
     for worker in workers {
@@ -86,22 +86,10 @@ pub fn drafts_in(alloc: Global, workers: &[ValueIn]) -> Result<Vec<Draft<LawPayl
     Ok(drafts)
 }
 
-/// Copies of the drafts' values.
-pub fn values_of(alloc: Global, drafts: &[Draft<LawPayload>]) -> Result<Vec<Value>, Refusal>
-    ensures values { IfOk result (λ values. values.items ≡ drafts.now) }
-    ensures refused { IfErr result (λ why. why ≡ Refusal.OutOfMemory) }
-{
-    let mut values = Vec::new(alloc);
-    for draft in drafts {
-        values.push(draft.value().copy(alloc)?)?;
-    }
-    Ok(values)
-}
-
 /// The edges, with the labels of their rights.
-pub fn edges_in(alloc: Global, edges: &[EdgeIn]) -> Result<Vec<Edge>, Refusal>
+pub fn edges_in(alloc: Global, edges: &[EdgeIn]) -> Result<Vec<Edge>, CallRefusal>
     ensures edges { IfOk result (λ list. HaveLabels edges.now × (list.items ≡ map edge_in edges.now)) }
-    ensures refused { IfErr result (IsMemoryOr Refusal.BadRights (¬ HaveLabels edges.now)) }
+    ensures refused { IfErr result (IsMemoryOr CallRefusal.BadRights (¬ HaveLabels edges.now)) }
 {
     let mut list = Vec::new(alloc);
     for edge in edges {

@@ -5,7 +5,7 @@ ghost use Rattle.tg_c.specs.Forms.{edges_shown_in, shown_in};
 ghost use Rattle.tg_c.specs.Statuses.{TellsCensus, TellsDone, TellsList, TellsNumber, TellsRead};
 
 use crate::forms::{CensusOut, DenialOut, EdgeOut, census_out, denial_out, edge_out};
-use crate::refusal::Refusal;
+use crate::refusal::CallRefusal;
 use tg_model::Reply;
 use tg_rights::Label;
 use tg_store::Census;
@@ -17,7 +17,7 @@ pub const DONE: u32 = 0;
 pub const DENIED: u32 = 1;
 
 /// Tells that a command was done, or why it was denied.
-pub fn tell_done(answer: Result<Reply, Refusal>, denial: &mut DenialOut) -> u32
+pub fn tell_done(answer: Result<Reply, CallRefusal>, denial: &mut DenialOut) -> u32
     requires { IfOk answer IsDoneOrDenied }
     ensures { TellsDone result denial.old denial.new answer }
 {
@@ -34,7 +34,7 @@ pub fn tell_done(answer: Result<Reply, Refusal>, denial: &mut DenialOut) -> u32
 
 /// Tells the numbers that were read, as many as there is room for, and how many there are; or why the read was denied.
 pub fn tell_read(
-    answer: Result<Reply, Refusal>,
+    answer: Result<Reply, CallRefusal>,
     numbers: &mut [u64],
     count: &mut u64,
     denial: &mut DenialOut,
@@ -59,7 +59,7 @@ pub fn tell_read(
 }
 
 /// Tells the edges that were listed, as many as there is room for, and how many there are.
-pub fn tell_list(answer: Result<Reply, Refusal>, edges: &mut [EdgeOut], count: &mut u64) -> u32
+pub fn tell_list(answer: Result<Reply, CallRefusal>, edges: &mut [EdgeOut], count: &mut u64) -> u32
     requires { IfOk answer IsListed }
     ensures { TellsList result (record { count = count.old; edges = edges.old }) (record { count = count.new; edges = edges.new }) answer }
 {
@@ -75,7 +75,7 @@ pub fn tell_list(answer: Result<Reply, Refusal>, edges: &mut [EdgeOut], count: &
 }
 
 /// Tells a number.
-pub fn tell_number(answer: Result<u64, Refusal>, out: &mut u64) -> u32
+pub fn tell_number(answer: Result<u64, CallRefusal>, out: &mut u64) -> u32
     ensures { TellsNumber result out.old out.new answer }
 {
     match answer {
@@ -88,7 +88,7 @@ pub fn tell_number(answer: Result<u64, Refusal>, out: &mut u64) -> u32
 }
 
 /// Tells what the heap has.
-pub fn tell_census(answer: Result<Census, Refusal>, out: &mut CensusOut) -> u32
+pub fn tell_census(answer: Result<Census, CallRefusal>, out: &mut CensusOut) -> u32
     ensures { TellsCensus result out.old out.new answer }
 {
     match answer {

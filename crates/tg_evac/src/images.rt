@@ -12,14 +12,9 @@ ghost use Rattle.tg_evac.specs.Claimers.{AddsWins, KnowsMore};
 use crate::claimer::Claimer;
 use crate::fault::CollectFault;
 use crate::plan::space_for;
-use tg_block::{CHUNK_TAG, OBJECT_TAG, WORDS};
+use tg_block::{CHUNK_POINTERS, CHUNK_TAG, OBJECT_POINTERS, OBJECT_TAG, WORDS};
 use tg_space::{Kind, Spaces};
 use tg_word::{place_of, with_place};
-
-// The first word of an object, and of a chunk, that may name a cell. A loop from a known word on is laid out word by word.
-const OBJECT_POINTERS: usize = 4;
-
-const CHUNK_POINTERS: usize = 1;
 
 /// The copy of a cell with these words. What they name is claimed, to go straight to Old or not.
 #[inline(always)]
@@ -40,6 +35,7 @@ pub fn image<C: Claimer>(
     ensures image { IfOk result (λ image. (to : ℕ → PlaceOf) → C.knows claimer.new to → image ≡ image_of (from_space (C.walked claimer.old).kind) spaces.now.spaces to words.now) }
     ensures full { IfErr result (λ fault. fault ≡ CollectFault.HeapFull → C.is_full claimer.new) }
 {
+    // A loop from a known word on is laid out word by word.
     match words[0] {
         OBJECT_TAG => image_from(claimer, spaces, kind, words, OBJECT_POINTERS, straight),
         CHUNK_TAG => image_from(claimer, spaces, kind, words, CHUNK_POINTERS, straight),

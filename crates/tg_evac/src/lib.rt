@@ -59,7 +59,7 @@ pub use copies::{Copies, scan};
 pub use fault::CollectFault;
 pub use new_blocks::NewBlocks;
 pub use notes::notes_of;
-pub use plan::{AGED, OLD, Plan};
+pub use plan::Plan;
 pub use roots::claim_roots;
 pub use tg_space::Root;
 pub use win::Win;

@@ -9,12 +9,11 @@ ghost use Rattle.tg_space.specs.declared.spaces.Root.TheVariants.{Remembered as 
 ghost use Rattle.tg_evac.specs.Claims.{HavePointers};
 ghost use Rattle.tg_evac.specs.Copies.{HavePlaces, IsPlaceIn, moved_cell, new_cell};
 
-use crate::plan::OLD;
 use std::alloc::{AllocError, Global};
 use tg_block::{CELLS, WORDS};
 use tg_remember::Remembered;
 use tg_space::{Forwarding, Kind, Root, Space, Spaces, first_pointer};
-use tg_word::{Place, place_of};
+use tg_word::{OLD, Place, place_of};
 
 /// The remembered cells that will name young ones, and those of these blocks of Old that do, which stand behind as many
 /// others. A full collection leaves none.

@@ -5,13 +5,7 @@ ghost use Rattle.tg_evac.specs.Claims.{IsPlanFor, is_straight as straight_from, 
 
 use tg_block::CELLS;
 use tg_space::{Kind, Root, Spaces};
-use tg_word::Place;
-
-/// The number of Old among the spaces.
-pub const OLD: u64 = 0;
-
-/// The number of Aged among the spaces.
-pub const AGED: u64 = 1;
+use tg_word::{AGED, OLD, Place};
 
 /// Which cells a collection moves, and what room it has for them.
 #[derive(Clone, Copy)]

@@ -13,12 +13,9 @@ use crate::claimer::Claimer;
 use crate::fault::CollectFault;
 use crate::images::image;
 use crate::plan::{is_straight, space_for};
-use tg_block::WORDS;
+use tg_block::{LINK, WORDS};
 use tg_space::{Kind, Root, Spaces};
 use tg_word::{Place, place_of};
-
-// The word of an object or a chunk that links to the next chunk.
-const LINK: usize = WORDS - 1;
 
 /// Claims the targets of all roots.
 ///

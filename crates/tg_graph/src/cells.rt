@@ -22,19 +22,16 @@ ghost use Rattle.tg_graph.specs.Steps.{ChangesTo, KeepsRows};
 
 use crate::heap::{Found, VertexRefused};
 use crate::references::{narrow, put};
-use crate::rows::{NAME, Spot, edges_of, find_spot};
+use crate::rows::{Spot, edges_of, find_spot};
 use std::alloc::{AllocError, Global};
-use tg_block::OBJECT_TAG;
+use tg_block::{KEY, NAME, OBJECT_TAG};
 use tg_model::{EdgeList, Numbers};
 use tg_nursery::{AllocateFault, reserve};
 use tg_payload::{Draft, Payload, PayloadTable};
 use tg_remember::Remembered;
 use tg_rights::Rights;
 use tg_space::{Kind, Spaces};
-use tg_word::{Place, place_of, rights_of};
-
-/// The word of an object that is the key of its payload.
-pub(crate) const KEY: usize = 2;
+use tg_word::{Place, nursery_of, place_of, rights_of};
 
 /// The cells of all spaces, what the objects among them store, and which cells of Old are remembered.
 #[derive(Drop)]
@@ -101,6 +98,16 @@ impl<P: Payload> Cells<P> {
     {
         let cell = self.spaces.cell(at);
         self.payloads.read(cell[KEY])
+    }
+
+    /// What an object stores, where it stands.
+    pub(crate) fn payload(&self, at: Place) -> &P
+        requires graph { IsGraph self.now.spaces.spaces self.now.payloads }
+        requires at { IsKindAt self.now.spaces.spaces Object at }
+        ensures { (content_in self.now.spaces.spaces self.now.payloads).value (name_at self.now.spaces.spaces at) ≡ Some (P.value result.now) }
+    {
+        let cell = self.spaces.cell(at);
+        self.payloads.payload(cell[KEY])
     }
 
     /// Writes a number to what an object stores. Where it is refused, nothing is changed.
@@ -293,7 +300,7 @@ impl<P: Payload> Cells<P> {
             Ok(key) => key,
             Err(_) => unreachable!(),
         };
-        let place = self.spaces.hand_out(worker + 2);
+        let place = self.spaces.hand_out(nursery_of(worker));
         self.spaces
             .write_cell(place, [OBJECT_TAG, name, key, 0, 0, 0, 0, 0]);
         place

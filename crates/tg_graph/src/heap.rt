@@ -175,6 +175,14 @@ impl<P: Payload> Heap<P> {
         self.cells.state(at)
     }
 
+    /// What the vertex at a place stores, where it stands. Takes no memory.
+    pub fn payload(&self, at: Place) -> &P
+        requires { IsObject self.now at }
+        ensures { (content_of self.now).value (name_of self.now at) ≡ Some (P.value result.now) }
+    {
+        self.cells.payload(at)
+    }
+
     /// Writes a number to the vertex at a place. It writes to no cell. Where it is refused, for want of memory alone,
     /// nothing is changed.
     pub fn write(&mut self, at: Place, number: u64) -> Result<(), AllocError>

@@ -26,7 +26,7 @@ use tg_payload::{Draft, Payload, PayloadTable};
 use tg_remember::Remembered;
 use tg_rights::Rights;
 use tg_space::{Limits, Spaces};
-use tg_word::Place;
+use tg_word::{Place, nursery_of};
 
 // What an opening fills, with room for all of it.
 #[derive(Drop)]
@@ -137,7 +137,7 @@ fn add_blocks(spaces: &mut Spaces, workers: u64) -> Result<(), AllocateFault>
     ensures full { result ≢ Err AllocateFault.HeapFull }
 {
     for worker in 0..workers {
-        spaces.add_block(worker + 2)?;
+        spaces.add_block(nursery_of(worker))?;
     }
     Ok(())
 }

@@ -6,11 +6,11 @@ ghost use Rattle.tg_space.specs.SpaceList.{cell_at};
 ghost use Rattle.tg_nursery.specs.Allocation.{HasLeft};
 ghost use Rattle.tg_graph.specs.Spots.{CanPut, CanWrite, chunk_put, narrowed, table_put, widened, word_put};
 
-use crate::rows::{LINK, Spot};
-use tg_block::CHUNK_TAG;
+use crate::rows::Spot;
+use tg_block::{CHUNK_TAG, LINK};
 use tg_rights::Rights;
 use tg_space::Spaces;
-use tg_word::{Place, Slot, pack, place_of, rights_of};
+use tg_word::{Place, Slot, nursery_of, pack, place_of, rights_of};
 
 /// Puts rights over the object at a place where they go in a row: the reference gets them too, or else the empty place
 /// gets a reference with them, or else a new chunk from the nursery of a worker, which has a cell left for it.
@@ -64,7 +64,7 @@ fn extend(spaces: &mut Spaces, worker: u64, last: Place, word: u64)
     requires left { HasLeft spaces.old (worker + 2) 1 }
     ensures { spaces.new ≡ chunk_put spaces.old (worker + 2) last word }
 {
-    let chunk = spaces.hand_out(worker + 2);
+    let chunk = spaces.hand_out(nursery_of(worker));
     spaces.write_cell(chunk, [CHUNK_TAG, word, 0, 0, 0, 0, 0, 0]);
     spaces.write(last, LINK, reference_to(chunk, Rights::empty()));
 }

@@ -10,15 +10,10 @@ ghost use Rattle.tg_space.specs.Rows.{row_of};
 ghost use Rattle.tg_graph.specs.Spots.{IsSpotFor, cells_for, is_empty, note_for, old_cell_if, refers_to, spot_for_new as new_spot};
 
 use std::alloc::{AllocError, Global};
+use tg_block::{LINK, NAME};
 use tg_rights::Label;
 use tg_space::{Kind, Spaces, first_pointer};
 use tg_word::{Place, place_of, rights_of};
-
-/// The word of an object or a chunk that links to the next chunk.
-pub(crate) const LINK: usize = 7;
-
-/// The word of an object that is its name.
-pub(crate) const NAME: usize = 1;
 
 /// How many cells of a row may be walked along; a longer row gets an index.
 pub(crate) const SHORT: usize = 4;

@@ -19,9 +19,10 @@ ghost use Rattle.tg_space.specs.SpaceList.{space_of};
 ghost use Rattle.tg_space.specs.SpaceTable.{IsFull, IsSpaceTable, place_in_space, used_of, with_one_used};
 ghost use Rattle.tg_nursery.specs.Allocation.{Allocates, HasFewerLeft, HasLeft, IsUsedUp, room_made, room_made_for};
 
+use tg_block::CELLS;
 pub use tg_space::AllocateFault;
 use tg_space::Spaces;
-use tg_word::Place;
+use tg_word::{Place, nursery_of};
 
 /// Allocates a cell in a worker's nursery.
 ///
@@ -37,7 +38,7 @@ pub fn allocate(spaces: &mut Spaces, worker: u64) -> Result<Place, AllocateFault
     ensures refused { OnErr result (spaces.new ≡ spaces.old) }
     ensures full { (result ≡ Err AllocateFault.HeapFull) ↔ (IsUsedUp spaces.old (worker + 2) × IsFull spaces.old (worker + 2)) }
 {
-    let space = worker + 2;
+    let space = nursery_of(worker);
     make_room(spaces, space)?;
     Ok(spaces.hand_out(space))
 }
@@ -58,8 +59,8 @@ pub fn reserve(spaces: &mut Spaces, worker: u64, cells: u64) -> Result<(), Alloc
     ensures refused { OnErr result (spaces.new ≡ spaces.old) }
     ensures full { (result ≡ Err AllocateFault.HeapFull) ↔ (HasFewerLeft spaces.old (worker + 2) cells × IsFull spaces.old (worker + 2)) }
 {
-    let nursery = worker + 2;
-    if spaces.used(nursery) + cells <= 64 * spaces.len(nursery) {
+    let nursery = nursery_of(worker);
+    if spaces.used(nursery) + cells <= CELLS as u64 * spaces.len(nursery) {
         return Ok(());
     }
     spaces.add_block(nursery)
@@ -74,7 +75,7 @@ fn make_room(spaces: &mut Spaces, space: u64) -> Result<(), AllocateFault>
     ensures refused { OnErr result (spaces.new ≡ spaces.old) }
     ensures full { (result ≡ Err AllocateFault.HeapFull) ↔ (IsUsedUp spaces.old space × IsFull spaces.old space) }
 {
-    if spaces.used(space) < 64 * spaces.len(space) {
+    if spaces.used(space) < CELLS as u64 * spaces.len(space) {
         return Ok(());
     }
     spaces.add_block(space)

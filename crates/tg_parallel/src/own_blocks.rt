@@ -9,9 +9,9 @@ ghost use Rattle.tg_parallel.specs.Seats.{AreFilled, Finds, OnlyBlocks, OtherSta
 use crate::winner::Winner;
 use std::alloc::{AllocError, Global};
 use tg_block::CELLS;
-use tg_evac::{AGED, CollectFault, OLD};
+use tg_evac::CollectFault;
 use tg_race::{Claim, RaceTable};
-use tg_word::Place;
+use tg_word::{AGED, OLD, Place};
 
 /// The blocks that a helper has claimed in a space, and how many places of them were given away.
 #[derive(Drop)]

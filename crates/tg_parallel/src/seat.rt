@@ -15,10 +15,10 @@ use crate::own_blocks::OwnBlocks;
 use crate::winner::Winner;
 use std::alloc::Global;
 use std::marker::Model;
-use tg_evac::{AGED, Claimer, CollectFault, Win};
+use tg_evac::{Claimer, CollectFault, Win};
 use tg_race::{Helper, RaceTable};
 use tg_space::Kind;
-use tg_word::Place;
+use tg_word::{AGED, Place};
 
 /// A helper with its own blocks, at the table that it shares with other helpers.
 #[derive(Drop)]

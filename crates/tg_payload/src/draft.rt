@@ -1,10 +1,11 @@
 //! Payloads with a copy of their value.
 ghost use Rattle.std.specs.Prelude.{◌≡◌, IfOk, IfErr};
+ghost use Rattle.std.specs.List.{All};
 ghost use Rattle.tg_model.specs.Opened.{ValueFits};
 
 use crate::Payload;
 use crate::payload::copy_state;
-use std::alloc::Global;
+use std::alloc::{AllocError, Global};
 use std::marker::Model;
 use tg_model::Value;
 
@@ -63,4 +64,16 @@ impl<P: Payload> Draft<P> {
     {
         self.payload
     }
+}
+
+/// Copies of the drafts' values, in order, which fit their laws: what an opening takes. Fails only when out of memory.
+pub fn values_of<P: Payload>(alloc: Global, drafts: &[Draft<P>]) -> Result<Vec<Value>, AllocError>
+    ensures values { IfOk result (λ values. values.items ≡ drafts.now) }
+    ensures fit { IfOk result (λ values. All ValueFits values.items) }
+{
+    let mut values = Vec::new(alloc);
+    for draft in drafts {
+        values.push(draft.value().copy(alloc)?)?;
+    }
+    Ok(values)
 }

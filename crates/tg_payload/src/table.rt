@@ -97,6 +97,17 @@ impl<P: Payload> PayloadTable<P> {
         }
     }
 
+    /// The payload under the key, where it stands. Takes no memory.
+    pub fn payload(&self, key: u64) -> &P
+        requires { IsSome (entry self.now key) }
+        ensures { entry self.now key ≡ Some (P.value result.now) }
+    {
+        match self.payloads.get(key as usize) {
+            Some(payload) => payload,
+            None => unreachable!(),
+        }
+    }
+
     /// The law under the key. Takes no memory.
     pub fn law(&self, key: u64) -> Law
         requires { IsSome (entry self.now key) }

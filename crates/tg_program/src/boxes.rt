@@ -7,7 +7,7 @@ ghost use Rattle.tg_program.specs.Faults.{status_of_stop};
 ghost use Rattle.tg_program.specs.Serving.{Served};
 ghost use Rattle.tg_program.specs.Starts.{IsReady};
 
-use crate::serving::{Payloads, serve};
+use crate::serving::{RunPayloads, serve};
 use crate::start::Start;
 use crate::stop::Stop;
 use std::alloc::Global;
@@ -46,6 +46,6 @@ pub(crate) fn serve_with_boxes<R: Threads + Wait + Sync, C: Collector, S: Source
         };
         stock.push(payload)?;
     }
-    let payloads = Payloads { workers, stock };
+    let payloads = RunPayloads { workers, stock };
     serve(rt, alloc, collector, source, sink, start, payloads)
 }

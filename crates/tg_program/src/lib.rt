@@ -21,7 +21,7 @@ mod words;
 
 pub use on_threads::OnThreads;
 pub use program::{exit_status, obey};
-pub use serving::{Payloads, serve};
+pub use serving::{RunPayloads, serve};
 pub use settings::Options;
 pub use start::{Start, StartFault, prepare};
 pub use stop::Stop;

@@ -15,7 +15,7 @@ use tg_threads::{NoGate, run_race};
 
 /// The payloads of a run.
 #[derive(Drop)]
-pub struct Payloads<P: Payload> {
+pub struct RunPayloads<P: Payload> {
     /// What each worker stores, by rising name.
     pub workers: Vec<P>,
     /// What the vertices that are made store, in order.
@@ -31,7 +31,7 @@ pub fn serve<P: Payload + Send, R: Threads + Wait + Sync, C: Collector, S: Sourc
     source: &mut S,
     sink: &mut K,
     start: &Start,
-    payloads: Payloads<P>,
+    payloads: RunPayloads<P>,
 ) -> Result<(), Stop>
     requires collector { C.Ready }
     requires ready { IsReady start.now }

@@ -1,7 +1,7 @@
 -- How a refusal of the heap is told.
 use Rattle.std.proofs.Common.{◌≡◌, ℕ, refl, subst, ◌∙◌}
-use Rattle.tg_space.specs.declared.spaces.AllocateFault.{AllocateFault}
-use Rattle.tg_space.specs.declared.spaces.AllocateFault.TheVariants as allocate
+use Rattle.tg_space.specs.declared.allocate_fault.AllocateFault.{AllocateFault}
+use Rattle.tg_space.specs.declared.allocate_fault.AllocateFault.TheVariants as allocate
 use Rattle.tg_graph.specs.Heap.{HeapState, name_of}
 use Rattle.tg_graph.specs.Spots.{LacksCellsFor}
 use Rattle.tg_rules.specs.declared.effect.PerformFault.TheVariants as perform

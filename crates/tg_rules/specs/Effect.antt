@@ -5,8 +5,8 @@ use Rattle.tg_model.specs.declared.command.Command.{Command}
 use Rattle.tg_model.specs.declared.command.Command.TheVariants.{Take, Grant, Remove, Read, Write, List as Listing}
 use Rattle.tg_model.specs.declared.reply.Reply.{Reply}
 use Rattle.tg_model.specs.Rules.{labels_after, values_after, reply_of}
-use Rattle.tg_space.specs.declared.spaces.AllocateFault.{AllocateFault}
-use Rattle.tg_space.specs.declared.spaces.AllocateFault.TheVariants as allocate
+use Rattle.tg_space.specs.declared.allocate_fault.AllocateFault.{AllocateFault}
+use Rattle.tg_space.specs.declared.allocate_fault.AllocateFault.TheVariants as allocate
 use Rattle.tg_space.specs.SpaceTable.{SpaceTable}
 use Rattle.tg_graph.specs.Content.{Content, IsNamed, IsContent}
 use Rattle.tg_graph.specs.Spots.{LacksCellsFor}

@@ -1,5 +1,5 @@
 //! What a command does that is served.
-ghost use Rattle.std.specs.Prelude.{◌≡◌, ◌≢◌, ◌<◌, ◌+◌, None, Err, IfOk, OnOk, OnErr, length};
+ghost use Rattle.std.specs.Prelude.{◌≡◌, ◌≢◌, ◌<◌, ◌+◌, ◌↔◌, None, Some, Err, IfOk, IfSome, IsSome, OnOk, OnErr, length};
 ghost use Rattle.tg_model.specs.Graph.{with_rights, without_rights};
 ghost use Rattle.tg_model.specs.Rules.{denial_of, state_of, written_at};
 ghost use Rattle.tg_graph.specs.Heap.{content_of, IsUnchangedHeap, KeepsPlaces};
@@ -109,6 +109,20 @@ pub fn perform_between<P: Payload>(
         Command::Read { .. } => read(heap, target),
         Command::Write { value, .. } => write(heap, target, value),
         Command::List => list(heap, from),
+    }
+}
+
+/// What the vertex with a name stores, where a worker may read it: `Some` exactly where a read command of the worker is to
+/// be served. Takes no memory.
+pub fn readable<P: Payload>(heap: &Heap<P>, worker: u64, name: u64) -> Option<&P>
+    requires { worker < length heap.now.workers }
+    ensures allowed { IsSome result ↔ (denial_of (content_of heap.now).label worker (Command.Read name) ≡ None) }
+    ensures stored { IfSome result (λ payload. (content_of heap.now).value name ≡ Some (P.value payload.now)) }
+{
+    let read = Command::Read { target: name };
+    match find_parties(heap, worker, &read) {
+        Ok(parties) => Some(heap.payload(parties.target.place)),
+        Err(_) => None,
     }
 }
 

@@ -7,6 +7,8 @@
 //! A store does both with one look-up for each edge: [`find_parties`] makes the checks and answers the vertices that it met,
 //! and [`perform_between`] performs the command between these.
 //!
+//! [`readable`] lends what a vertex stores to a worker that may read it.
+//!
 //! All go along edges from the worker's own vertex, and never look for a name in any other way:
 //!
 //! ```text
@@ -31,5 +33,5 @@ pub mod laws;
 mod vertex;
 
 pub use decision::{Verdict, decide, find_parties};
-pub use effect::{PerformFault, perform, perform_between};
+pub use effect::{PerformFault, perform, perform_between, readable};
 pub use vertex::Parties;

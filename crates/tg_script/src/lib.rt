@@ -26,7 +26,7 @@ mod supply;
 mod whole;
 
 pub use collector::{Collector, OneThread};
-pub use drafts::{drafts_of, values_of};
+pub use drafts::drafts_of;
 pub use helpers::{Helpers, MOST_HELPERS};
 pub use opening::open_store;
 pub use run_script::{InMemory, Settings, run_in_memory, run_script_one, run_script_with};

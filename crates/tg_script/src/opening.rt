@@ -6,11 +6,10 @@ ghost use Rattle.tg_text.specs.Sinks.{KeepsBytes};
 ghost use Rattle.tg_script.specs.Lines.{IsOfKeeping, read_failures, write_failures};
 ghost use Rattle.tg_script.specs.Opening.{ReadsEdges, IsCommand, OpensStore};
 
-use crate::drafts::values_of;
 use crate::script::Script;
 use std::alloc::Global;
 use tg_model::{Edge, MAX_VERTICES, Opening};
-use tg_payload::{Draft, Payload};
+use tg_payload::{Draft, Payload, values_of};
 use tg_store::{Limits, OpenFault, Store};
 use tg_text::{Line, ScriptFault, Sink, Source};
 

@@ -31,11 +31,15 @@
 //! tracing: what was traced from the roots, and is complete, is exactly the closure.
 #![tactic(auto)]
 
+pub use adoption::Adoption;
+pub use allocate_fault::AllocateFault;
 pub use forwarding::{Forwarding, ForwardingTable};
 pub use limits::Limits;
 pub use space::Space;
-pub use spaces::{Adoption, AllocateFault, Kind, Root, Spaces, first_pointer};
+pub use spaces::{Kind, Root, Spaces, first_pointer};
 
+mod adoption;
+mod allocate_fault;
 mod forwarding;
 mod images;
 pub mod laws;

@@ -6,13 +6,15 @@ ghost use Rattle.tg_space.specs.SpaceList.{Holds, IsSpace, IsSpaceList, block_co
 ghost use Rattle.tg_space.specs.Targets.{first_pointer as first_pointer_of, from_space};
 ghost use Rattle.tg_space.specs.SpaceTable.{adopted, BlockLimits, IsFull, IsHandedOut, IsNursery, IsPrefixCount, IsSpaceTable, kept_blocks, no_blocks, place_in_space, used_of, with_adopted, with_one_used, with_spaces};
 
+use crate::adoption::Adoption;
+use crate::allocate_fault::AllocateFault;
 use crate::limits::Limits;
 use crate::space::Space;
 use std::alloc::{AllocError, Global};
 use std::marker::Model;
 use std::mem;
-use tg_block::{Block, CHUNK_TAG, OBJECT_TAG, WORDS};
-use tg_word::{Place, number_of, place_of};
+use tg_block::{Block, CELLS, CHUNK_POINTERS, CHUNK_TAG, OBJECT_POINTERS, OBJECT_TAG, WORDS};
+use tg_word::{OLD, Place, number_of, place_of};
 
 /// Which cells a collection moves, and where to.
 #[derive(Clone, Copy, PartialEq, Eq, Debug)]
@@ -31,7 +33,7 @@ impl Kind {
     {
         match self {
             Kind::Full => true,
-            Kind::Nursery => space != 0,
+            Kind::Nursery => space != OLD,
         }
     }
 }
@@ -43,24 +45,6 @@ pub enum Root {
     Row(Place),
     /// The cell of Old at a place, which may name a younger one.
     Remembered(Place),
-}
-
-/// Why a space got no block.
-#[derive(Clone, Copy, PartialEq, Eq, Debug)]
-pub enum AllocateFault {
-    /// Memory for a growth was refused.
-    OutOfMemory,
-    /// All spaces together have as many blocks as they may, or this one has.
-    HeapFull,
-}
-
-/// The blocks that a collection made, in order.
-#[derive(Drop)]
-pub struct Adoption {
-    /// The new blocks of Aged.
-    pub aged: Space,
-    /// The new blocks of Old.
-    pub old: Space,
 }
 
 /// All spaces of a heap: Old, Aged and the nurseries.
@@ -229,7 +213,7 @@ impl Spaces {
         ensures few { result ≤ 66 * 2 ^ 26 }
         ensures table { IsSpaceTable self.now }
     {
-        64 * self.blocks()
+        CELLS as u64 * self.blocks()
     }
 
     /// The number of a cell: the cells of Old come first, then those of Aged and of the nurseries, each space block
@@ -240,7 +224,7 @@ impl Spaces {
         ensures flat { result ≡ flat_of self.now.spaces place }
         ensures inside { result < length (cells_of self.now.spaces) }
     {
-        64 * (self.starts[place.space as usize] + place.block) + place.cell
+        CELLS as u64 * (self.starts[place.space as usize] + place.block) + place.cell
     }
 
     /// The number of the cell that a word names.
@@ -251,7 +235,7 @@ impl Spaces {
         ensures inside { result < length (cells_of self.now.spaces) }
     {
         let space = place_of(word).space;
-        64 * self.starts[space as usize] + number_of(word)
+        CELLS as u64 * self.starts[space as usize] + number_of(word)
     }
 
     /// The place of the cell with a number.
@@ -261,7 +245,7 @@ impl Spaces {
         ensures held { Holds self.now.spaces result }
         ensures flat { flat_of self.now.spaces result ≡ number }
     {
-        let block = number / 64;
+        let block = number / CELLS as u64;
         let mut space: usize = 0;
         while self.starts[space + 1] <= block {
             space += 1;
@@ -269,7 +253,7 @@ impl Spaces {
         Place {
             space: space as u64,
             block: block - self.starts[space],
-            cell: number % 64,
+            cell: number % CELLS as u64,
         }
     }
 
@@ -309,8 +293,8 @@ impl Spaces {
         self.used[space as usize] = used + 1;
         Place {
             space,
-            block: used / 64,
-            cell: used % 64,
+            block: used / CELLS as u64,
+            cell: used % CELLS as u64,
         }
     }
 
@@ -485,8 +469,8 @@ pub fn first_pointer(tag: u64) -> usize
     ensures inside { result ≤ 8 }
 {
     match tag {
-        OBJECT_TAG => 4,
-        CHUNK_TAG => 1,
+        OBJECT_TAG => OBJECT_POINTERS,
+        CHUNK_TAG => CHUNK_POINTERS,
         _ => WORDS,
     }
 }

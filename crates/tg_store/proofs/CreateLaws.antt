@@ -14,8 +14,8 @@ use Rattle.tg_journal.proofs.HistoryLaws.{IsSound-opened}
 use Rattle.tg_graph.specs.Content.{Content, IsContent, IsNamed}
 use Rattle.tg_graph.specs.Heap.{content_of}
 use Rattle.tg_graph.proofs.StandingLaws as content
-use Rattle.tg_space.specs.declared.spaces.AllocateFault.{AllocateFault}
-use Rattle.tg_space.specs.declared.spaces.AllocateFault.TheVariants as allocate
+use Rattle.tg_space.specs.declared.allocate_fault.AllocateFault.{AllocateFault}
+use Rattle.tg_space.specs.declared.allocate_fault.AllocateFault.TheVariants as allocate
 use Rattle.tg_store.specs.declared.fault.CreateFault.TheVariants.{NoSuchWorker, HeapFull}
 use Rattle.tg_store.specs.Faults.{create_fault_of}
 use Rattle.tg_store.specs.Store.{StoreState, StandsFor, Enters, IsStore, graph_of_store}

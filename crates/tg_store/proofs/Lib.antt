@@ -3,4 +3,5 @@ pub mod BlockLaws
 mod CollectLaws
 mod CreateLaws
 mod DifferenceLaws
+mod ReadLaws
 pub mod StandLaws

@@ -1,8 +1,8 @@
 -- How refusals of the heap are told to the store's callers, and which drafts aren't those of an opening.
 use Rattle.std.specs.Prelude.{◌≡◌, ◌≢◌, ℕ, List, take, slice_get}
 use Rattle.tg_model.specs.declared.value.Value.{Value}
-use Rattle.tg_space.specs.declared.spaces.AllocateFault.{AllocateFault}
-use Rattle.tg_space.specs.declared.spaces.AllocateFault.TheVariants as allocate
+use Rattle.tg_space.specs.declared.allocate_fault.AllocateFault.{AllocateFault}
+use Rattle.tg_space.specs.declared.allocate_fault.AllocateFault.TheVariants as allocate
 use Rattle.tg_rules.specs.declared.effect.PerformFault.{PerformFault}
 use Rattle.tg_rules.specs.declared.effect.PerformFault.TheVariants as perform
 use Rattle.tg_store.specs.declared.fault.OpenFault.{OpenFault}

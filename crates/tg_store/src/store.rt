@@ -1,5 +1,5 @@
 //! The store and its calls.
-ghost use Rattle.std.specs.Prelude.{◌≡◌, ◌≢◌, ◌↔◌, ◌⊎◌, ◌≤◌, ◌<◌, ◌+◌, ℕ, [], Err, Ok, Some, IfOk, IfErr, IsErrAnd, OnOk, OnErr, MatchOption, length};
+ghost use Rattle.std.specs.Prelude.{◌≡◌, ◌≢◌, ◌↔◌, ◌⊎◌, ◌≤◌, ◌<◌, ◌+◌, ℕ, [], Err, Ok, Some, IfOk, IfErr, IfSome, IsSome, IsErrAnd, OnOk, OnErr, MatchOption, length};
 ghost use Rattle.tg_model.specs.Rules.{step};
 ghost use Rattle.tg_store.specs.Faults.{IsFirstDifference};
 
@@ -15,6 +15,7 @@ use tg_journal::{Entry, Journal};
 use tg_model::{Command, Deed, Opening, Reply, Value};
 use tg_payload::{Draft, Payload};
 use tg_rights::Label;
+use tg_rules::readable;
 use tg_space::{Kind, Limits, Root, Spaces};
 
 /// An object store with access control, over payloads that its callers hand in. Contracts see it as a `StoreState`,
@@ -214,6 +215,20 @@ impl<P: Payload> Store<P> {
         });
         self.made += 1;
         Ok(name)
+    }
+
+    /// What the vertex with a name stores, where a worker may read it: `Some` exactly where a read command of the worker would
+    /// be served, so `None` too where no worker has the name. It lends the payload itself, whose value is that of the graph
+    /// that the store stands for. It changes nothing and makes no entry: no journal tells of what is read this way. Takes no
+    /// memory.
+    pub fn payload(&self, worker: u64, name: u64) -> Option<&P>
+        ensures allowed { (g : ProtectionGraph) → StandsFor self.now g → IsSome result ↔ (IsSubject g worker × IsAllowed g worker (Deed.Plain (Command.Read name))) }
+        ensures stored { (g : ProtectionGraph) → StandsFor self.now g → IfSome result (λ payload. g.value name ≡ Some (P.value payload.now)) }
+    {
+        if worker >= self.heap.workers() {
+            return None;
+        }
+        readable(&self.heap, worker, name)
     }
 
     /// Collects the heap with one thread, and answers how many vertices it then has. The journal stays as it is, and so

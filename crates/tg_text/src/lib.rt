@@ -2,7 +2,8 @@
 //!
 //! A script is bytes. They come from a [`Source`]; [`Lines`] fetches them line by line into a [`LineBuffer`], and
 //! [`read_line`] says which line of the grammar some bytes are. [`write_reply`] puts an answer's text, one line, into a
-//! [`Sink`]. [`read_stock`] reads the boxes that a text names. Nothing here knows a store or answers a line.
+//! [`Sink`], and [`AsText`] shows the same text where a `Display` is wanted. [`read_stock`] reads the boxes that a text names.
+//! Nothing here knows a store or answers a line.
 //!
 //! What a reader has to believe stands in `specs/`, each part without the others: `Grammar` says how a line is spelled,
 //! `Reading` what the lines of some bytes are and which fault comes first in them, `Texts` how an answer is spelled, and
@@ -25,6 +26,7 @@ mod line;
 mod memory;
 mod read;
 mod reply;
+mod shown;
 mod sink;
 mod source;
 mod stock;
@@ -41,6 +43,7 @@ pub use line::Line;
 pub use memory::{Bytes, Written};
 pub use read::read_line;
 pub use reply::{write_reply, write_reply_of};
+pub use shown::AsText;
 pub use sink::{Put, Sink, WriteFailed, put_all, put_texts};
 pub use source::{Fetched, Next, Source};
 pub use stock::{MOST_BOXES, StockFault, StockItem, read_stock};

@@ -54,7 +54,8 @@ fn write_told<K: Sink>(sink: &mut K, answer: &Answer) -> Result<(), WriteFailed>
     }
 }
 
-fn write_answer<K: Sink>(sink: &mut K, reply: &Reply) -> Result<(), WriteFailed>
+/// Writes a reply's text without its line feed, or a front of it where the sink fails.
+pub(crate) fn write_answer<K: Sink>(sink: &mut K, reply: &Reply) -> Result<(), WriteFailed>
     ensures { Writes (K.taken sink.old) (K.failures sink.old) (reply_text reply.now) result (K.taken sink.new) (K.failures sink.new) }
 {
     match reply {
@@ -127,7 +128,8 @@ fn write_edge<K: Sink>(sink: &mut K, edge: (u64, Label)) -> Result<(), WriteFail
     )
 }
 
-fn write_denial<K: Sink>(sink: &mut K, denial: &Denial) -> Result<(), WriteFailed>
+/// Writes a denial's text without a line feed, or a front of it where the sink fails.
+pub(crate) fn write_denial<K: Sink>(sink: &mut K, denial: &Denial) -> Result<(), WriteFailed>
     ensures { Writes (K.taken sink.old) (K.failures sink.old) (denial_text denial.now) result (K.taken sink.new) (K.failures sink.new) }
 {
     put_texts(sink, &[b"denied ", rule_bytes(denial.rule), b" "])?;

@@ -17,7 +17,7 @@ const EXAMPLE: &str = "Example:
 
 /// What the words ask for.
 #[derive(Clone, Copy, Debug, Drop)]
-pub struct Options<'a> {
+pub struct DotOptions<'a> {
     /// How many workers there are, from 1 to 64.
     pub workers: u64,
     /// How many vertices may ever be made, from 1 to 2^24.
@@ -27,7 +27,7 @@ pub struct Options<'a> {
 }
 
 /// Reads the words, the first of which is the program's name. An `Err` is the text for the user, of the help as of a fault.
-pub fn read_words<'a, S: AsStr>(alloc: Global, words: &'a [S]) -> Result<Options<'a>, Error> {
+pub fn read_words<'a, S: AsStr>(alloc: Global, words: &'a [S]) -> Result<DotOptions<'a>, Error> {
     let mut command = Command::new(alloc, "tgdot")
         .bin_name("tgdot")?
         .about(ABOUT)
@@ -54,7 +54,7 @@ pub fn read_words<'a, S: AsStr>(alloc: Global, words: &'a [S]) -> Result<Options
     let workers = number(matches.get_str("workers"), 2, MAX_WORKERS);
     let max_vertices = number(matches.get_str("vertices"), 1_000_000, MAX_VERTICES);
     match (workers, max_vertices) {
-        (Some(workers), Some(max_vertices)) => Ok(Options {
+        (Some(workers), Some(max_vertices)) => Ok(DotOptions {
             workers,
             max_vertices,
             stock: matches.get_str("stock").unwrap_or(""),

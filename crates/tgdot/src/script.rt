@@ -1,6 +1,6 @@
 //! A script, run on the plain graph.
 
-use crate::options::Options;
+use crate::options::DotOptions;
 use crate::stop::Stop;
 use std::alloc::Global;
 use std::io::Input;
@@ -9,7 +9,7 @@ use tg_rights::Label;
 use tg_text::{Line, StockItem, read_line, read_stock};
 
 /// Runs the script on standard input. The graph that it leaves.
-pub fn run_script<R: Input>(rt: &R, alloc: Global, options: Options) -> Result<Graph, Stop> {
+pub fn run_script<R: Input>(rt: &R, alloc: Global, options: DotOptions) -> Result<Graph, Stop> {
     let stock = read_stock(alloc, options.stock.as_bytes())?;
     let lines = read_lines(rt, alloc, options.workers)?;
     let mut graph = open_graph(alloc, options, lines.as_slice())?;
@@ -56,7 +56,7 @@ fn line_of(text: &str) -> Option<Line> {
 }
 
 // The graph of the edge lines, in which each worker stores a cell with 0.
-fn open_graph(alloc: Global, options: Options, lines: &[Line]) -> Result<Graph, Stop> {
+fn open_graph(alloc: Global, options: DotOptions, lines: &[Line]) -> Result<Graph, Stop> {
     let mut edges: Vec<Edge> = Vec::new(alloc);
     for line in lines {
         if let Line::Edge(edge) = line {

@@ -1,7 +1,7 @@
 use Rattle.std.proofs.Common.{◌∙◌, ◌≤◌, ap, arith}
 use Rattle.std.proofs.lemmas.Result.{err_from_is_err_and}
 use Rattle.tg_c.specs.Forms.{AreValues}
-use Rattle.tg_c.specs.declared.refusal.Refusal.TheVariants as refusal
+use Rattle.tg_c.specs.declared.refusal.CallRefusal.TheVariants as refusal
 use Rattle.tg_c.proofs.OpenLaws.{no_plan_fault, store_wants, want_else, wants}
 use Rattle.tg_c.proofs.calls.open.Goals as goal
 

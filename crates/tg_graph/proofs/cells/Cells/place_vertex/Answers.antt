@@ -1,7 +1,8 @@
-use Rattle.std.proofs.Common.{◌∙◌, ◌+◌, ap, arith, subst}
+use Rattle.std.proofs.Common.{◌∙◌, ◌<◌, ap, arith, length, subst, sym}
 use Rattle.tg_word.specs.declared.Place.{Place}
 use Rattle.tg_space.specs.SpaceList.{with_cell_at}
 use Rattle.tg_space.specs.SpaceTable.{SpaceTable, IsHandedOut, with_spaces}
+use Rattle.tg_nursery.specs.Allocation.{HasLeft}
 use Rattle.tg_graph.specs.Steps.{vertex_words}
 use Rattle.tg_graph.proofs.Growing.{VertexStep, vertex_step}
 use Rattle.tg_graph.proofs.cells.Cells.place_vertex.Given.{Over}
@@ -14,8 +15,10 @@ step g c =
     let q = c.hand_out-place.result in
     let words = vertex_words c.args.name c.in-Ok.key in
     let handed = c.hand_out-place.ensures in
-    vertex_step t c.write_cell.new.self c.args.self.now.payloads c.insert.new.self (c.args.worker + 2) q c.args.name c.in-Ok.key c.args.draft
-    c.requires.table c.requires.graph (omega arith, c.requires.nursery) c.requires.left handed.held (ap (λ (r : Place). r.space) handed.place) handed.free
+    let space = c.nursery_of.result in
+    let is = c.nursery_of.ensures in
+    vertex_step t c.write_cell.new.self c.args.self.now.payloads c.insert.new.self space q c.args.name c.in-Ok.key c.args.draft
+    c.requires.table c.requires.graph (omega (arith, is), subst (λ s. s < length t.spaces) (sym is) c.requires.nursery) (subst (λ s. HasLeft t s 1) (sym is) c.requires.left) handed.held (ap (λ (r : Place). r.space) handed.place) handed.free
     (subst (λ (x : SpaceTable). IsHandedOut x q) handed.counted handed.handed_out) c.requires.fresh c.in-Ok.ensures.fresh c.in-Ok.ensures.inserted
     (c.write_cell.ensures ∙ ap (λ (x : SpaceTable). with_spaces x (with_cell_at x.spaces q words)) handed.counted)
 

@@ -1,0 +1,42 @@
+-- Who may read on the heap may read on the graph, and reads the same.
+use Rattle.std.proofs.Common.{◌≡◌, ◌∙◌, ◌↔◌, ◌<◌, ◌≤◌, Some, IfSome, IsSome, length, refl, ap, subst, arith}
+use Rattle.tg_model.specs.declared.command.Command.TheVariants.{Read}
+use Rattle.tg_model.specs.Graph.{ProtectionGraph, IsSubject}
+use Rattle.tg_model.specs.Rules.{Permits}
+use Rattle.tg_graph.specs.Heap.{content_of}
+use Rattle.tg_store.specs.Store.{StoreState, StandsFor, graph_of_store}
+use Rattle.tg_store.proofs.ReadLaws.{read-lent, read-permitted}
+use Rattle.tg_store.proofs.StandLaws.{subject_here, no_subject}
+use Rattle.tg_store.proofs.store.Store.payload.Goals as goal
+
+pub returns-then-worker-workers-clause-allowed : goal.returns-then-worker-workers-clause-allowed
+returns-then-worker-workers-clause-allowed g c =
+    let store : StoreState = record { opening = c.self.inside.opening; entries = c.self.inside.journal.entries; heap = c.self.inside.heap } in
+    let high : length store.heap.workers ≤ c.args.worker = omega arith in
+    λ graph stands.
+    let here : StandsFor store graph = ap graph_of_store c.self.view_is ∙ stands in
+    (λ some. let f : ⊥ = cc some in absurd f, λ is. absurd (no_subject store c.self.invariant.faithful graph c.args.worker here high is.0))
+
+pub returns-clause-allowed : goal.returns-clause-allowed
+returns-clause-allowed g c =
+    let store : StoreState = record { opening = c.self.inside.opening; entries = c.self.inside.journal.entries; heap = c.self.inside.heap } in
+    let graph : ProtectionGraph = graph_of_store store in
+    let below : c.args.worker < length store.heap.workers = omega arith in
+    let subject : IsSubject graph c.args.worker = subject_here store c.self.invariant.faithful graph c.args.worker refl below in
+    let served = read-permitted (content_of store.heap) graph c.self.invariant.faithful.stands c.args.worker c.args.name subject in
+    λ other stands.
+    let here : StandsFor store other = ap graph_of_store c.self.view_is ∙ stands in
+    subst (λ (h : ProtectionGraph). IsSome c.readable.result ↔ (IsSubject h c.args.worker × Permits h.label c.args.worker (Read c.args.name))) here
+    (λ some. (subject, served.0 (c.readable.ensures.allowed.0 some)), λ is. c.readable.ensures.allowed.1 (served.1 is.1))
+
+pub returns-clause-stored : goal.returns-clause-stored
+returns-clause-stored g c =
+    let store : StoreState = record { opening = c.self.inside.opening; entries = c.self.inside.journal.entries; heap = c.self.inside.heap } in
+    let graph : ProtectionGraph = graph_of_store store in
+    let below : c.args.worker < length store.heap.workers = omega arith in
+    let subject : IsSubject graph c.args.worker = subject_here store c.self.invariant.faithful graph c.args.worker refl below in
+    λ other stands.
+    let here : StandsFor store other = ap graph_of_store c.self.view_is ∙ stands in
+    subst (λ (h : ProtectionGraph). IfSome c.readable.result (λ payload. h.value c.args.name ≡ Some (g.P.Payload.value payload.now))) here
+    (read-lent (content_of store.heap) graph c.self.invariant.faithful.stands c.args.worker c.args.name subject c.readable.result
+    (λ payload. g.P.Payload.value payload.now) c.readable.ensures.allowed.0 c.readable.ensures.stored)
