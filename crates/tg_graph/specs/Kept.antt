@@ -1,5 +1,5 @@
 -- What a collection keeps of a heap, and what is written and dropped once nothing more can be refused.
-use Rattle.std.specs.Prelude.{◌≡◌, ◌≢◌, ◌↔◌, ℕ, ◌<◌, ◌≤◌, ◌⊎◌, if◌then◌else◌, Bool, true, List, [], None, IsSome, length, slice_index}
+use Rattle.std.specs.Prelude.{◌≡◌, ◌≢◌, ◌↔◌, ℕ, ◌<◌, ◌≤◌, ◌⊎◌, if◌then◌else◌, Bool, true, List, [], None, IsSome, AllPairs, length, map, slice_index}
 use Rattle.std.specs.List.{Contains}
 use Rattle.tg_word.specs.declared.Place.{Place}
 use Rattle.tg_block.specs.declared.CellKind.TheVariants.{Object}
@@ -11,6 +11,7 @@ use Rattle.tg_space.specs.Collection.{new_place}
 use Rattle.tg_space.specs.declared.spaces.Kind.{Kind}
 use Rattle.tg_space.specs.declared.spaces.Kind.TheVariants.{Full, Nursery}
 use Rattle.tg_payload.specs.Table.{Payloads, entry}
+use Rattle.tg_graph.specs.declared.settle.Prepared.{Prepared}
 use Rattle.tg_graph.specs.declared.settle.Rewritten.{Rewritten}
 use Rattle.tg_space.specs.Generations.{AreNeeded}
 use Rattle.tg_graph.specs.Rows.{IsVertexAt, key_at}
@@ -87,6 +88,14 @@ Drops payloads left dead =
     (key : ℕ) → (dead key × (entry left key ≡ None)) ⊎ ((dead key → ⊥) × (entry left key ≡ entry payloads key))
 
 -- ---- the heap
+
+-- What a nursery collection leaves of a heap was made ready: the keys whose payloads go, each once, the words that the
+-- remembered cells are to have, and where the workers are then.
+pub record IsPrepared (s : HeapState) (forward : List ℕ) (prepared : Prepared) : Type 0 where
+  pub keys : (key : ℕ) → Contains prepared.dead.items key ↔ IsDeadKey Nursery s.table.spaces forward key
+  pub each_once : AllPairs (λ a b. a ≢ b) prepared.dead.items
+  pub cells : prepared.cells.items ≡ map (rewritten_at s.table.spaces forward) s.remembered
+  pub workers : prepared.workers.items ≡ map (moved_place young_spaces s.table.spaces (new_place forward)) s.workers
 
 -- each vertex in Old is where it was
 abbrev pub VerticesOfOldStay : SpaceList → SpaceList → Type 0

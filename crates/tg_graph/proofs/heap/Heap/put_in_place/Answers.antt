@@ -1,0 +1,79 @@
+-- The heap that a nursery collection leaves.
+use Rattle.std.proofs.Common.{◌≡◌, ℕ, List, IsSome, refl, sym, subst, ◌∙◌}
+use Rattle.std.specs.List.{All, Contains}
+use Rattle.tg_space.specs.SpaceTable.{IsSpaceTable}
+use Rattle.tg_space.specs.declared.spaces.Kind.TheVariants.{Nursery}
+use Rattle.tg_payload.specs.Table.{entry}
+use Rattle.tg_graph.specs.declared.settle.Rewritten.{Rewritten}
+use Rattle.tg_graph.specs.Heap.{HeapState}
+use Rattle.tg_graph.specs.Kept.{AreWritten, Drops, IsPrepared}
+use Rattle.tg_graph.proofs.KeptBlocks.{nursery_written}
+use Rattle.tg_graph.proofs.KeptHeap.{IsLeft}
+use Rattle.tg_graph.proofs.KeptSettled.{cells_there, nursery_left, payloads_there}
+use Rattle.tg_graph.proofs.heap.Heap.put_in_place.Given.{Over}
+use Rattle.tg_graph.proofs.heap.Heap.put_in_place.Goals.{After-drop-prepared-3}
+use Rattle.tg_graph.specs.Index.{AreFollowed}
+use Rattle.tg_space.proofs.Tables.{table_list}
+use Rattle.tg_graph.proofs.Finding.{row_is}
+use Rattle.tg_graph.proofs.heap.Heap.put_in_place.Goals as goal
+
+pub follow-requires-clause-ends : goal.follow-requires-clause-ends
+follow-requires-clause-ends g c =
+    let inside = c.self.inside in
+    let s : HeapState = record { table = inside.cells.spaces; payloads = inside.cells.payloads; workers = inside.workers.items; remembered = inside.cells.remembered.places } in
+    let table : IsSpaceTable s.table = subst (λ (heap : HeapState). IsSpaceTable heap.table) (sym c.self.view_is) c.requires.table in
+    λ p object. row_is inside.cells.spaces.spaces inside.cells.payloads (table_list inside.cells.spaces table) c.self.invariant.0.graph p object
+
+pub write_cells-requires : goal.write_cells-requires
+write_cells-requires g c =
+    let inside = c.self.inside in
+    let s : HeapState = record { table = inside.cells.spaces; payloads = inside.cells.payloads; workers = inside.workers.items; remembered = inside.cells.remembered.places } in
+    let table : IsSpaceTable s.table = subst (λ (heap : HeapState). IsSpaceTable heap.table) (sym c.self.view_is) c.requires.table in
+    let prepared : IsPrepared s c.args.forward.now.words c.args.prepared = subst (λ (heap : HeapState). IsPrepared heap c.args.forward.now.words c.args.prepared) (sym c.self.view_is) c.requires.prepared in
+    cells_there s c.args.self.now c.self.view_is c.self.invariant.0 table c.args.forward.now.words c.args.adoption.aged c.args.adoption.old c.args.noted.places
+    c.adopt.new.self c.deref.result.now c.in-Ok.ensures.adopted (c.deref.ensures.value ∙ prepared.cells)
+
+pub drop_payloads-requires-clause-there : goal.drop_payloads-requires-clause-there
+drop_payloads-requires-clause-there g c =
+    let inside = c.self.inside in
+    let s : HeapState = record { table = inside.cells.spaces; payloads = inside.cells.payloads; workers = inside.workers.items; remembered = inside.cells.remembered.places } in
+    let table : IsSpaceTable s.table = subst (λ (heap : HeapState). IsSpaceTable heap.table) (sym c.self.view_is) c.requires.table in
+    let prepared : IsPrepared s c.args.forward.now.words c.args.prepared = subst (λ (heap : HeapState). IsPrepared heap c.args.forward.now.words c.args.prepared) (sym c.self.view_is) c.requires.prepared in
+    subst (λ (keys : List ℕ). All (λ key. IsSome (entry inside.cells.payloads key)) keys) (sym c.deref-2.ensures.value)
+    (payloads_there s c.args.self.now c.self.view_is c.self.invariant.0 table c.args.forward.now.words c.args.adoption.aged c.args.adoption.old c.args.noted.places
+    c.args.prepared.dead.items prepared.keys)
+
+-- the heap as its parts are at the end
+abbrev now : (g : Over) → After-drop-prepared-3 g → HeapState
+now g c =
+    record { table = c.write_cells.new.spaces; payloads = c.drop_payloads.new.payloads; workers = c.args.prepared.workers.items; remembered = c.args.noted.places }
+
+left : (g : Over) (c : After-drop-prepared-3 g) → IsLeft Nursery c.args.forward.now.words c.args.self.now (now g c)
+left g c =
+    let inside = c.self.inside in
+    let forward = c.args.forward.now.words in
+    let s : HeapState = record { table = inside.cells.spaces; payloads = inside.cells.payloads; workers = inside.workers.items; remembered = inside.cells.remembered.places } in
+    let table : IsSpaceTable s.table = subst (λ (heap : HeapState). IsSpaceTable heap.table) (sym c.self.view_is) c.requires.table in
+    let prepared : IsPrepared s forward c.args.prepared = subst (λ (heap : HeapState). IsPrepared heap forward c.args.prepared) (sym c.self.view_is) c.requires.prepared in
+    nursery_left s c.args.self.now c.self.view_is c.self.invariant.0 table forward c.args.adoption.aged c.args.adoption.old c.args.noted.places c.requires.collection (now g c)
+    c.adopt.new.self c.args.prepared.cells.items c.args.prepared.dead.items c.in-Ok.ensures.adopted prepared.cells
+    (subst (λ (cells : List Rewritten). AreWritten c.adopt.new.self c.write_cells.new.spaces cells) c.deref.ensures.value c.write_cells.ensures.written)
+    c.write_cells.ensures.table
+    prepared.keys
+    (subst (λ (keys : List ℕ). Drops s.payloads c.drop_payloads.new.payloads (Contains keys)) c.deref-2.ensures.value c.drop_payloads.ensures)
+    prepared.workers
+    refl
+
+pub invariant_of-self-2 : goal.invariant_of-self-2
+invariant_of-self-2 g c = ((left g c).well_formed, (left g c).indexed c.follow.new.self.entries (subst (λ (heap : HeapState). AreFollowed Nursery heap.table.spaces c.args.forward.now.words c.follow.new.self.entries) c.self.view_is c.follow.ensures))
+
+pub returns-clause-settled : goal.returns-clause-settled
+returns-clause-settled g c = (left g c).settled
+
+pub returns-clause-written : goal.returns-clause-written
+returns-clause-written g c =
+    let inside = c.self.inside in
+    let s : HeapState = record { table = inside.cells.spaces; payloads = inside.cells.payloads; workers = inside.workers.items; remembered = inside.cells.remembered.places } in
+    let prepared : IsPrepared s c.args.forward.now.words c.args.prepared = subst (λ (heap : HeapState). IsPrepared heap c.args.forward.now.words c.args.prepared) (sym c.self.view_is) c.requires.prepared in
+    nursery_written s c.args.self.now c.args.forward.now.words c.args.adoption.aged c.args.adoption.old c.write_cells.new.spaces c.adopt.new.self c.args.prepared.cells.items c.self.view_is c.in-Ok.ensures.adopted prepared.cells
+    (subst (λ (cells : List Rewritten). AreWritten c.adopt.new.self c.write_cells.new.spaces cells) c.deref.ensures.value c.write_cells.ensures.written)
