@@ -35,8 +35,8 @@ abbrev pub made_of : List Entry → List Told → List Entry
 made_of entries ts = flat_map (λ t. option_to_list (entry_at entries t)) ts
 
 -- with this journal, what the line came to is what may be told of it
-abbrev pub Fits : ℕ → List Entry → Boxed → Told → Type 0
-Fits workers entries b t = Tells workers b.line b.value (entry_at entries t) (told_answer entries t) × IsThere entries t
+abbrev pub Fits : ℕ → ℕ → List Entry → Boxed → Told → Type 0
+Fits helpers workers entries b t = Tells helpers workers b.line b.value (entry_at entries t) (told_answer entries t) × IsThere entries t
 
 -- ---- one worker's lines
 
@@ -44,52 +44,52 @@ none_is_some : {X : Type 0} (x : X) → None ≡ Some x → ⊥
 none_is_some x h = cc
 
 -- an entry that a line made is of the worker whose thread ran the line
-made_by : (workers : ℕ) (l : Line) (box : Option Value) (e : Entry) (a : Answer) → Tells workers l box (Some e) a → runner_of workers l ≡ Some e.worker
-made_by workers (line.Edge edge) box e a h = absurd h
-made_by workers (line.Create x label) (Some value) e a (inl h) = ap (λ b. cond b (Some x) None) (lt-ltb x workers h.0) ∙ ap (λ y. Some y) (sym h.1.0)
-made_by workers (line.Create x label) None e a (inl h) = absurd (none_is_some e (sym h.1.0))
-made_by workers (line.Create x label) box e a (inr h) = absurd (none_is_some e (sym h.1.0))
-made_by workers (line.Plain x command) box e a (inl h) = ap (λ b. cond b (Some x) None) (lt-ltb x workers h.0) ∙ ap (λ y. Some y) (sym h.1.0)
-made_by workers (line.Plain x command) box e a (inr h) = absurd (none_is_some e (sym h.1.0))
-made_by workers line.Full box e a h = absurd (none_is_some e (sym h.1.0))
-made_by workers line.Minor box e a h = absurd (none_is_some e (sym h.0))
+made_by : (helpers workers : ℕ) (l : Line) (box : Option Value) (e : Entry) (a : Answer) → Tells helpers workers l box (Some e) a → runner_of workers l ≡ Some e.worker
+made_by helpers workers (line.Edge edge) box e a h = absurd h
+made_by helpers workers (line.Create x label) (Some value) e a (inl h) = ap (λ b. cond b (Some x) None) (lt-ltb x workers h.0) ∙ ap (λ y. Some y) (sym h.1.0)
+made_by helpers workers (line.Create x label) None e a (inl h) = absurd (none_is_some e (sym h.1.0))
+made_by helpers workers (line.Create x label) box e a (inr h) = absurd (none_is_some e (sym h.1.0))
+made_by helpers workers (line.Plain x command) box e a (inl h) = ap (λ b. cond b (Some x) None) (lt-ltb x workers h.0) ∙ ap (λ y. Some y) (sym h.1.0)
+made_by helpers workers (line.Plain x command) box e a (inr h) = absurd (none_is_some e (sym h.1.0))
+made_by helpers workers line.Full box e a h = absurd (none_is_some e (sym h.1.0))
+made_by helpers workers line.Minor box e a h = absurd (none_is_some e (sym h.0))
 
 -- what the line came to, its entry, and the receipts behind its own
-one_fits : (workers x : ℕ) (entries : List Entry) (b : Boxed) (t : Told) (more rs : List Receipt) → RunsOne workers b t more → All (Stands entries x) (more ++ rs) →
-    Fits workers entries b t × (option_to_list (entry_at entries t) ≡ map (λ r. r.entry) more) × All (Stands entries x) rs
-one_fits workers x entries b (came.Entered at) more rs h stands =
+one_fits : (helpers workers x : ℕ) (entries : List Entry) (b : Boxed) (t : Told) (more rs : List Receipt) → RunsOne helpers workers b t more → All (Stands entries x) (more ++ rs) →
+    Fits helpers workers entries b t × (option_to_list (entry_at entries t) ≡ map (λ r. r.entry) more) × All (Stands entries x) rs
+one_fits helpers workers x entries b (came.Entered at) more rs h stands =
     let both : All (Stands entries x) (record { at = at; entry = h.0 } ∷ rs) = subst (λ m. All (Stands entries x) (m ++ rs)) h.1 stands in
     let here : slice_get entries at ≡ Some h.0 = (All-head (Stands entries x) (record { at = at; entry = h.0 }) rs both).0 in (
-      (subst (λ o. Tells workers b.line b.value o (entry_answer o)) (sym here) h.2, slice_get_within entries at h.0 here),
+      (subst (λ o. Tells helpers workers b.line b.value o (entry_answer o)) (sym here) h.2, slice_get_within entries at h.0 here),
       ap option_to_list here ∙ ap (map (λ (r : Receipt). r.entry)) (sym h.1),
       All-tail (Stands entries x) (record { at = at; entry = h.0 }) rs both,
     )
-one_fits workers x entries b (came.Collected kept) more rs h stands =
+one_fits helpers workers x entries b (came.Collected kept) more rs h stands =
     ((h.1, tt), ap (map (λ (r : Receipt). r.entry)) (sym h.0), subst (λ m. All (Stands entries x) (m ++ rs)) h.0 stands)
-one_fits workers x entries b (came.Refused r) more rs h stands =
+one_fits helpers workers x entries b (came.Refused r) more rs h stands =
     ((h.1, tt), ap (map (λ (r : Receipt). r.entry)) (sym h.0), subst (λ m. All (Stands entries x) (m ++ rs)) h.0 stands)
 
-pub all_fit : (workers x : ℕ) (entries : List Entry) (bs : List Boxed) (ts : List Told) (rs : List Receipt) → Runs workers bs ts rs → All (Stands entries x) rs →
-    AllZip (Fits workers entries) bs ts × (made_of entries ts ≡ map (λ r. r.entry) rs)
-all_fit workers x entries [] ts rs h stands =
-    (subst (AllZip (Fits workers entries) []) (sym h.0) tt, ap (made_of entries) h.0 ∙ ap (map (λ (r : Receipt). r.entry)) (sym h.1))
-all_fit workers x entries (b ∷ bs) ts rs h stands =
-    let one = one_fits workers x entries b h.0 h.2 h.3 h.6 (subst (All (Stands entries x)) h.5 stands) in
-    let rest = all_fit workers x entries bs h.1 h.3 h.7 one.2 in (
-      subst (AllZip (Fits workers entries) (b ∷ bs)) (sym h.4) (one.0, rest.0),
+pub all_fit : (helpers workers x : ℕ) (entries : List Entry) (bs : List Boxed) (ts : List Told) (rs : List Receipt) → Runs helpers workers bs ts rs → All (Stands entries x) rs →
+    AllZip (Fits helpers workers entries) bs ts × (made_of entries ts ≡ map (λ r. r.entry) rs)
+all_fit helpers workers x entries [] ts rs h stands =
+    (subst (AllZip (Fits helpers workers entries) []) (sym h.0) tt, ap (made_of entries) h.0 ∙ ap (map (λ (r : Receipt). r.entry)) (sym h.1))
+all_fit helpers workers x entries (b ∷ bs) ts rs h stands =
+    let one = one_fits helpers workers x entries b h.0 h.2 h.3 h.6 (subst (All (Stands entries x)) h.5 stands) in
+    let rest = all_fit helpers workers x entries bs h.1 h.3 h.7 one.2 in (
+      subst (AllZip (Fits helpers workers entries) (b ∷ bs)) (sym h.4) (one.0, rest.0),
       ap (made_of entries) h.4 ∙ (λ i. one.1 i ++ rest.1 i) ∙ sym (map-append (λ (r : Receipt). r.entry) h.2 h.3) ∙ ap (map (λ (r : Receipt). r.entry)) (sym h.5),
     )
 
 -- ---- all lines
 
 -- a line that no thread runs may be refused
-refused_fits : (workers : ℕ) (entries : List Entry) (b : Boxed) → IsCommand b.line → runner_of workers b.line ≡ None → Fits workers entries b (came.Refused refusal.Worker)
-refused_fits workers entries b command by = (refused b.line command by, tt) where
+refused_fits : (helpers workers : ℕ) (entries : List Entry) (b : Boxed) → IsCommand b.line → runner_of workers b.line ≡ None → Fits helpers workers entries b (came.Refused refusal.Worker)
+refused_fits helpers workers entries b command by = (refused b.line command by, tt) where
   past : (t : Bool) (x : ℕ) → nat_lt x workers ≡ t → cond t (Some x) None ≡ None → workers ≤ x
   past true x is none = absurd (none_is_some x (sym none))
   past false x is none = ltb-false x workers is
 
-  refused : (l : Line) → IsCommand l → runner_of workers l ≡ None → Tells workers l b.value None (answer.Refused refusal.Worker)
+  refused : (l : Line) → IsCommand l → runner_of workers l ≡ None → Tells helpers workers l b.value None (answer.Refused refusal.Worker)
   refused (line.Edge edge) command by = absurd (false≢true command.0)
   refused (line.Create x label) command by = inr (past (nat_lt x workers) x refl by, (refl, refl))
   refused (line.Plain x c) command by = inr (past (nat_lt x workers) x refl by, (refl, refl))
@@ -97,8 +97,8 @@ refused_fits workers entries b command by = (refused b.line command by, tt) wher
   refused line.Minor command by = absurd (none_is_some 0 (sym by))
 
 -- the lines of all workers, one by one
-abbrev Own : ℕ → List Entry → List Boxed → List Told → Type 0
-Own workers entries bs ts = (x : ℕ) → x < workers → AllZip (Fits workers entries) (lines_of workers x bs) (told_of workers x (map (λ b. b.line) bs) ts)
+abbrev Own : ℕ → ℕ → List Entry → List Boxed → List Told → Type 0
+Own helpers workers entries bs ts = (x : ℕ) → x < workers → AllZip (Fits helpers workers entries) (lines_of workers x bs) (told_of workers x (map (λ b. b.line) bs) ts)
 
 tail_fits : (R : Boxed → Told → Type 0) (c : Bool) (b : Boxed) (t : Told) (bs : List Boxed) (ps : List (Line × Told)) → AllZip R (cond c (b ∷ bs) bs) (map (λ (q : Line × Told). q.1) (cond c ((b.line, t) ∷ ps) ps)) → AllZip R bs (map (λ (q : Line × Told). q.1) ps)
 tail_fits R true b t bs ps h = h.1
@@ -109,37 +109,37 @@ head_fits R true b t bs ps is h = h.0
 head_fits R false b t bs ps is h = absurd (false≢true is)
 
 -- what came of the lines of all workers and of nobody's fits each line
-pub woven : (workers : ℕ) (entries : List Entry) (bs : List Boxed) (ts : List Told) → 0 < workers → All IsCommand (map (λ b. b.line) bs) →
-    AllZip (λ l t. runner_of workers l ≡ None → t ≡ came.Refused refusal.Worker) (map (λ b. b.line) bs) ts → Own workers entries bs ts → AllZip (Fits workers entries) bs ts
-woven workers entries [] [] low commands nobodys own = tt
-woven workers entries [] (t ∷ ts) low commands nobodys own = absurd nobodys
-woven workers entries (b ∷ bs) [] low commands nobodys own = absurd nobodys
-woven workers entries (b ∷ bs) (t ∷ ts) low commands nobodys own =
-    (by_runner (runner_of workers b.line) refl, woven workers entries bs ts low (All-tail IsCommand b.line (map (λ (c : Boxed). c.line) bs) commands) nobodys.1 rest) where
-      rest : Own workers entries bs ts
-      rest x below = tail_fits (Fits workers entries) (is_run_by workers x b.line) b t (lines_of workers x bs) (filter (λ (q : Line × Told). is_run_by workers x q.0) (zip (map (λ (c : Boxed). c.line) bs) ts)) (own x below)
+pub woven : (helpers workers : ℕ) (entries : List Entry) (bs : List Boxed) (ts : List Told) → 0 < workers → All IsCommand (map (λ b. b.line) bs) →
+    AllZip (λ l t. runner_of workers l ≡ None → t ≡ came.Refused refusal.Worker) (map (λ b. b.line) bs) ts → Own helpers workers entries bs ts → AllZip (Fits helpers workers entries) bs ts
+woven helpers workers entries [] [] low commands nobodys own = tt
+woven helpers workers entries [] (t ∷ ts) low commands nobodys own = absurd nobodys
+woven helpers workers entries (b ∷ bs) [] low commands nobodys own = absurd nobodys
+woven helpers workers entries (b ∷ bs) (t ∷ ts) low commands nobodys own =
+    (by_runner (runner_of workers b.line) refl, woven helpers workers entries bs ts low (All-tail IsCommand b.line (map (λ (c : Boxed). c.line) bs) commands) nobodys.1 rest) where
+      rest : Own helpers workers entries bs ts
+      rest x below = tail_fits (Fits helpers workers entries) (is_run_by workers x b.line) b t (lines_of workers x bs) (filter (λ (q : Line × Told). is_run_by workers x q.0) (zip (map (λ (c : Boxed). c.line) bs) ts)) (own x below)
 
-      by_runner : (o : Option ℕ) → runner_of workers b.line ≡ o → Fits workers entries b t
+      by_runner : (o : Option ℕ) → runner_of workers b.line ≡ o → Fits helpers workers entries b t
       by_runner None by =
-          subst (Fits workers entries b) (sym (nobodys.0 by)) (refused_fits workers entries b (All-head IsCommand b.line (map (λ (c : Boxed). c.line) bs) commands) by)
+          subst (Fits helpers workers entries b) (sym (nobodys.0 by)) (refused_fits helpers workers entries b (All-head IsCommand b.line (map (λ (c : Boxed). c.line) bs) commands) by)
       by_runner (Some y) by =
-          head_fits (Fits workers entries) (is_run_by workers y b.line) b t (lines_of workers y bs) (filter (λ (q : Line × Told). is_run_by workers y q.0) (zip (map (λ (c : Boxed). c.line) bs) ts))
+          head_fits (Fits helpers workers entries) (is_run_by workers y b.line) b t (lines_of workers y bs) (filter (λ (q : Line × Told). is_run_by workers y q.0) (zip (map (λ (c : Boxed). c.line) bs) ts))
           (run_same workers y y b.line by refl) (own y (runner_below workers y b.line low by))
 
 -- the lines and their entries are told, in order
-pub fit_told : (workers : ℕ) (entries : List Entry) (bs : List Boxed) (ts : List Told) → AllZip (Fits workers entries) bs ts → AreTold workers bs (made_of entries ts) (text_of_told entries ts)
-fit_told workers entries [] [] h = (refl, refl)
-fit_told workers entries [] (t ∷ ts) h = absurd h
-fit_told workers entries (b ∷ bs) [] h = absurd h
-fit_told workers entries (b ∷ bs) (t ∷ ts) h =
-    (entry_at entries t, told_answer entries t, made_of entries ts, text_of_told entries ts, h.0.0, refl, refl, fit_told workers entries bs ts h.1)
+pub fit_told : (helpers workers : ℕ) (entries : List Entry) (bs : List Boxed) (ts : List Told) → AllZip (Fits helpers workers entries) bs ts → AreTold helpers workers bs (made_of entries ts) (text_of_told entries ts)
+fit_told helpers workers entries [] [] h = (refl, refl)
+fit_told helpers workers entries [] (t ∷ ts) h = absurd h
+fit_told helpers workers entries (b ∷ bs) [] h = absurd h
+fit_told helpers workers entries (b ∷ bs) (t ∷ ts) h =
+    (entry_at entries t, told_answer entries t, made_of entries ts, text_of_told entries ts, h.0.0, refl, refl, fit_told helpers workers entries bs ts h.1)
 
 -- each entry is where it is told to be
-pub fit_there : (workers : ℕ) (entries : List Entry) (bs : List Boxed) (ts : List Told) → AllZip (Fits workers entries) bs ts → All (IsThere entries) ts
-fit_there workers entries [] [] h = All-nil (IsThere entries)
-fit_there workers entries [] (t ∷ ts) h = absurd h
-fit_there workers entries (b ∷ bs) [] h = absurd h
-fit_there workers entries (b ∷ bs) (t ∷ ts) h = All-cons (IsThere entries) t ts h.0.1 (fit_there workers entries bs ts h.1)
+pub fit_there : (helpers workers : ℕ) (entries : List Entry) (bs : List Boxed) (ts : List Told) → AllZip (Fits helpers workers entries) bs ts → All (IsThere entries) ts
+fit_there helpers workers entries [] [] h = All-nil (IsThere entries)
+fit_there helpers workers entries [] (t ∷ ts) h = absurd h
+fit_there helpers workers entries (b ∷ bs) [] h = absurd h
+fit_there helpers workers entries (b ∷ bs) (t ∷ ts) h = All-cons (IsThere entries) t ts h.0.1 (fit_there helpers workers entries bs ts h.1)
 
 -- ---- the entries of one worker
 
@@ -163,16 +163,16 @@ run_of : (workers x y : ℕ) (l : Line) → runner_of workers l ≡ Some y → i
 run_of workers x y l by = ap (λ o. option_map_or (λ z. z == x) o false) by
 
 -- the entries of a worker are those of the lines that its thread ran
-pub own_made : (workers : ℕ) (entries : List Entry) (x : ℕ) (bs : List Boxed) (ts : List Told) → AllZip (Fits workers entries) bs ts →
+pub own_made : (helpers workers : ℕ) (entries : List Entry) (x : ℕ) (bs : List Boxed) (ts : List Told) → AllZip (Fits helpers workers entries) bs ts →
     filter (λ e. e.worker == x) (made_of entries ts) ≡ made_of entries (told_of workers x (map (λ b. b.line) bs) ts)
-own_made workers entries x [] [] h = refl
-own_made workers entries x [] (t ∷ ts) h = absurd h
-own_made workers entries x (b ∷ bs) [] h = absurd h
-own_made workers entries x (b ∷ bs) (t ∷ ts) h =
+own_made helpers workers entries x [] [] h = refl
+own_made helpers workers entries x [] (t ∷ ts) h = absurd h
+own_made helpers workers entries x (b ∷ bs) [] h = absurd h
+own_made helpers workers entries x (b ∷ bs) (t ∷ ts) h =
     entry_step entries (made_of entries ts) x (entry_at entries t) (is_run_by workers x b.line) b.line t
     (filter (λ (q : Line × Told). is_run_by workers x q.0) (zip (map (λ (c : Boxed). c.line) bs) ts)) refl
-    (λ e is. run_of workers x e.worker b.line (made_by workers b.line b.value e (told_answer entries t) (subst (λ o. Tells workers b.line b.value o (told_answer entries t)) is h.0.0)))
-    (own_made workers entries x bs ts h.1)
+    (λ e is. run_of workers x e.worker b.line (made_by helpers workers b.line b.value e (told_answer entries t) (subst (λ o. Tells helpers workers b.line b.value o (told_answer entries t)) is h.0.0)))
+    (own_made helpers workers entries x bs ts h.1)
 
 -- no worker's thread ran a line of a worker that there isn't
 pub told_past : (workers x : ℕ) (lines : List Line) (ts : List Told) → 0 < workers → workers ≤ x → told_of workers x lines ts ≡ []

@@ -58,21 +58,21 @@ commands_behind (e ∷ edges) lines h = commands_behind edges lines h
 
 -- ---- what the threads brought back
 
-pub all_brought : {L : Type 0} (n workers : ℕ) (bs : List Boxed) (given : List (ℕ × List Boxed)) (all : List (Finished L)) → n ≡ workers → given ≡ all_assigned n bs → AllBring given all → AllBring (all_assigned workers bs) all
-all_brought {L = L} n workers bs given all same is h =
-    let P : List (ℕ × List Boxed) → Type 0 = λ g. AllBring g all in
+pub all_brought : {L : Type 0} (helpers n workers : ℕ) (bs : List Boxed) (given : List (ℕ × List Boxed)) (all : List (Finished L)) → n ≡ workers → given ≡ all_assigned n bs → AllBring helpers given all → AllBring helpers (all_assigned workers bs) all
+all_brought {L = L} helpers n workers bs given all same is h =
+    let P : List (ℕ × List Boxed) → Type 0 = λ g. AllBring helpers g all in
     subst P (is ∙ ap (λ (k : ℕ). all_assigned k bs) same) h
 
 -- one from each worker
-pub brought_by_each : {L : Type 0} (workers : ℕ) (bs : List Boxed) (all : List (Finished L)) → AllBring (all_assigned workers bs) all → length all ≡ workers
-brought_by_each workers bs all h = bring_as_many (all_assigned workers bs) all h ∙ length-map-range_with_len (λ x. (x, lines_of workers x bs)) 0 workers
+pub brought_by_each : {L : Type 0} (helpers workers : ℕ) (bs : List Boxed) (all : List (Finished L)) → AllBring helpers (all_assigned workers bs) all → length all ≡ workers
+brought_by_each helpers workers bs all h = bring_as_many helpers (all_assigned workers bs) all h ∙ length-map-range_with_len (λ x. (x, lines_of workers x bs)) 0 workers
 
 -- as many as each worker has lines
-pub brought_whole : {L : Type 0} (workers : ℕ) (stock : List Value) (lines : List Line) (all lent : List (Finished L)) → lent ≡ all → AllBring (all_assigned workers (boxed stock lines)) all →
+pub brought_whole : {L : Type 0} (helpers workers : ℕ) (stock : List Value) (lines : List Line) (all lent : List (Finished L)) → lent ≡ all → AllBring helpers (all_assigned workers (boxed stock lines)) all →
     map (λ f. length f.told.items) lent ≡ map (λ x. length (filter (is_run_by (length lent) x) lines)) (range_with_len 0 (length lent))
-brought_whole {L = L} workers stock lines all lent same h =
+brought_whole {L = L} helpers workers stock lines all lent same h =
     let P : List (Finished L) → ℕ → Type 0 = λ fs n. map (λ f. length f.told.items) fs ≡ map (λ x. length (filter (is_run_by n x) lines)) (range_with_len 0 n) in
-    subst (λ fs. P fs (length fs)) (sym same) (subst (P all) (sym (brought_by_each workers (boxed stock lines) all h)) (each_told workers stock lines all h))
+    subst (λ fs. P fs (length fs)) (sym same) (subst (P all) (sym (brought_by_each helpers workers (boxed stock lines) all h)) (each_told helpers workers stock lines all h))
 
 pub brought_in_order : {L : Type 0} (workers : ℕ) (lines : List Line) (all lent : List (Finished L)) (ts : List Told) → lent ≡ all → length all ≡ workers → IsInScriptOrder (length lent) lines (map (λ f. f.told.items) lent) ts → IsInScriptOrder workers lines (map (λ f. f.told.items) all) ts
 brought_in_order {L = L} workers lines all lent ts same many h =
@@ -82,7 +82,7 @@ brought_in_order {L = L} workers lines all lent ts same many h =
 -- ---- the whole
 
 -- what the lines came to, with a legal history, is an output
-raced_output : (start : Start) (lines : List Line) (s : StoreState) (ts : List Told) → s.opening ≡ plan_of_script start lines → AreRaced start.workers (boxed start.stock (commands_of lines)) s.entries ts → IsLegal (start_of s.opening) s.entries →
+raced_output : (start : Start) (lines : List Line) (s : StoreState) (ts : List Told) → s.opening ≡ plan_of_script start lines → AreRaced start.helpers start.workers (boxed start.stock (commands_of lines)) s.entries ts → IsLegal (start_of s.opening) s.entries →
     IsRaceOutput start lines (text_of_told s.entries ts ++ end_text (length s.entries))
 raced_output start lines s ts opening raced legal = record {
   entries = s.entries;
@@ -94,13 +94,13 @@ raced_output start lines s ts opening raced legal = record {
   text_is = refl;
 }
 
-pub raced_same : (n workers : ℕ) (stock : List Value) (lent lines : List Line) (entries : List Entry) (ts : List Told) → n ≡ workers → lent ≡ lines → AreRaced n (boxed stock lent) entries ts → AreRaced workers (boxed stock lines) entries ts
-raced_same n workers stock lent lines entries ts same is h =
-    let P : ℕ → List Line → Type 0 = λ k ls. AreRaced k (boxed stock ls) entries ts in
+pub raced_same : (helpers n workers : ℕ) (stock : List Value) (lent lines : List Line) (entries : List Entry) (ts : List Told) → n ≡ workers → lent ≡ lines → AreRaced helpers n (boxed stock lent) entries ts → AreRaced helpers workers (boxed stock lines) entries ts
+raced_same helpers n workers stock lent lines entries ts same is h =
+    let P : ℕ → List Line → Type 0 = λ k ls. AreRaced helpers k (boxed stock ls) entries ts in
     subst (P workers) is (subst (λ k. P k lent) same h)
 
 pub race_told : {T : Type 0} (r : Result T RaceFault) (start : Start) (bytes before left : List ℕ) (lines : List Line) (s : StoreState) (ts : List Told) (after : Option (List ℕ)) → IsWhole start bytes lines left → s.opening ≡ plan_of_script start lines →
-    AreRaced start.workers (boxed start.stock (commands_of lines)) s.entries ts → TellsRace s ts before r after → HasRaced start bytes before r left after
+    AreRaced start.helpers start.workers (boxed start.stock (commands_of lines)) s.entries ts → TellsRace s ts before r after → HasRaced start bytes before r left after
 race_told (Ok done) start bytes before left lines s ts after whole opening raced h =
     (lines, text_of_told s.entries ts ++ end_text (length s.entries), whole, raced_output start lines s ts opening raced h.0, h.1)
 race_told (Err (fault.Script f)) start bytes before left lines s ts after whole opening raced h = absurd h

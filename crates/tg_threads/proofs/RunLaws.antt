@@ -35,53 +35,53 @@ named x workers y h = named_test (nat_lt x workers) x workers y refl h
 none_more : (old new : SessionState) → KeepsReceipts old new → (new.worker ≡ old.worker) × (new.receipts ≡ old.receipts ++ [])
 none_more old new keeps = (keeps.0, keeps.1 ∙ sym (append-nil old.receipts))
 
-pub asked_runs : (workers x : ℕ) (command : Command) (box : Option Value) (t : Told) (old new : SessionState) → IsRunBy workers old.worker (record { line = line.Plain x command; value = box }) → HasAsked (deed.Plain command) t old new → HasRun workers (record { line = line.Plain x command; value = box }) t old new
-asked_runs workers x command box (came.Entered at) old new by h =
+pub asked_runs : (helpers workers x : ℕ) (command : Command) (box : Option Value) (t : Told) (old new : SessionState) → IsRunBy workers old.worker (record { line = line.Plain x command; value = box }) → HasAsked (deed.Plain command) t old new → HasRun helpers workers (record { line = line.Plain x command; value = box }) t old new
+asked_runs helpers workers x command box (came.Entered at) old new by h =
     let n = named x workers old.worker by in
     let e : Entry = record { worker = old.worker; deed = deed.Plain command; reply = h.0 } in
     (receipt_of at e ∷ [], h.1.0, h.1.1, (e, refl, inl (n.0, (sym n.1, refl, refl))))
-asked_runs workers x command box (came.Collected kept) old new by h = absurd h
-asked_runs workers x command box (came.Refused r) old new by h =
+asked_runs helpers workers x command box (came.Collected kept) old new by h = absurd h
+asked_runs helpers workers x command box (came.Refused r) old new by h =
     let n = named x workers old.worker by in
     let k = none_more old new h.1 in
     ([], k.0, k.1, (refl, inl (n.0, (r, h.0, refl))))
 
-pub made_runs : (workers x : ℕ) (label : RightSet) (box : Option Value) (t : Told) (old new : SessionState) → IsRunBy workers old.worker (record { line = line.Create x label; value = box }) → HasMade label box t old new → HasRun workers (record { line = line.Create x label; value = box }) t old new
-made_runs workers x label (Some value) (came.Entered at) old new by h =
+pub made_runs : (helpers workers x : ℕ) (label : RightSet) (box : Option Value) (t : Told) (old new : SessionState) → IsRunBy workers old.worker (record { line = line.Create x label; value = box }) → HasMade label box t old new → HasRun helpers workers (record { line = line.Create x label; value = box }) t old new
+made_runs helpers workers x label (Some value) (came.Entered at) old new by h =
     let n = named x workers old.worker by in
     let e : Entry = record { worker = old.worker; deed = deed.Create label value.law value.state; reply = h.0 } in
     (receipt_of at e ∷ [], h.1.0, h.1.1, (e, refl, inl (n.0, (sym n.1, refl, refl))))
-made_runs workers x label (Some value) (came.Collected kept) old new by h = absurd h
-made_runs workers x label (Some value) (came.Refused r) old new by h =
+made_runs helpers workers x label (Some value) (came.Collected kept) old new by h = absurd h
+made_runs helpers workers x label (Some value) (came.Refused r) old new by h =
     let n = named x workers old.worker by in
     let k = none_more old new h.1 in
     ([], k.0, k.1, (refl, inl (n.0, (r, h.0, refl))))
-made_runs workers x label None t old new by h =
+made_runs helpers workers x label None t old new by h =
     let n = named x workers old.worker by in
     let k = none_more old new h.1 in
-    let P : Told → Type 0 = λ a. RunsOne workers (record { line = line.Create x label; value = None }) a [] in
+    let P : Told → Type 0 = λ a. RunsOne helpers workers (record { line = line.Create x label; value = None }) a [] in
     ([], k.0, k.1, subst P (sym h.0) (refl, inl (n.0, (refl, refl))))
 
-pub full_runs : (workers : ℕ) (box : Option Value) (t : Told) (s : SessionState) → HasCollected kind.Full t → HasRun workers (record { line = line.Full; value = box }) t s s
-full_runs workers box (came.Entered at) s h = absurd h
-full_runs workers box (came.Collected kept) s h = ([], refl, sym (append-nil s.receipts), (refl, (h.0, (refl, inl (ap answer.Collected h.1)))))
-full_runs workers box (came.Refused r) s h = ([], refl, sym (append-nil s.receipts), (refl, (0, (refl, inr (r, h, refl)))))
+pub full_runs : (helpers workers : ℕ) (box : Option Value) (t : Told) (s : SessionState) → HasCollected helpers kind.Full t → HasRun helpers workers (record { line = line.Full; value = box }) t s s
+full_runs helpers workers box (came.Entered at) s h = absurd h
+full_runs helpers workers box (came.Collected kept) s h = ([], refl, sym (append-nil s.receipts), (refl, (h.0, (refl, inl (ap answer.Collected h.1)))))
+full_runs helpers workers box (came.Refused r) s h = ([], refl, sym (append-nil s.receipts), (refl, (0, (refl, inr (r, h, refl)))))
 
-pub minor_runs : (workers : ℕ) (box : Option Value) (t : Told) (s : SessionState) → HasCollected kind.Nursery t → HasRun workers (record { line = line.Minor; value = box }) t s s
-minor_runs workers box (came.Entered at) s h = absurd h
-minor_runs workers box (came.Collected kept) s h = ([], refl, sym (append-nil s.receipts), (refl, (refl, inl (ap answer.Collected h))))
-minor_runs workers box (came.Refused r) s h = ([], refl, sym (append-nil s.receipts), (refl, (refl, inr (r, h, refl))))
+pub minor_runs : (helpers workers : ℕ) (box : Option Value) (t : Told) (s : SessionState) → HasCollected helpers kind.Nursery t → HasRun helpers workers (record { line = line.Minor; value = box }) t s s
+minor_runs helpers workers box (came.Entered at) s h = absurd h
+minor_runs helpers workers box (came.Collected kept) s h = ([], refl, sym (append-nil s.receipts), (refl, (refl, inl (ap answer.Collected h))))
+minor_runs helpers workers box (came.Refused r) s h = ([], refl, sym (append-nil s.receipts), (refl, (refl, inr (r, h, refl))))
 
 -- ---- many lines
 
-pub runs_none : (workers : ℕ) → Runs workers [] [] []
-runs_none workers = (refl, refl)
+pub runs_none : (helpers workers : ℕ) → Runs helpers workers [] [] []
+runs_none helpers workers = (refl, refl)
 
 -- one line more
-pub runs_more : (workers : ℕ) (bs : List Boxed) (ts : List Told) (rs : List Receipt) (b : Boxed) (t : Told) (more : List Receipt) → Runs workers bs ts rs → RunsOne workers b t more → Runs workers (bs ++ b ∷ []) (ts ++ t ∷ []) (rs ++ more)
-runs_more workers [] ts rs b t more h one = (t, [], more, [], ap (λ x. x ++ t ∷ []) h.0, ap (λ x. x ++ more) h.1 ∙ sym (append-nil more), one, (refl, refl))
-runs_more workers (b' ∷ bs) ts rs b t more h one =
-    (h.0, h.1 ++ t ∷ [], h.2, h.3 ++ more, ap (λ x. x ++ t ∷ []) h.4, ap (λ x. x ++ more) h.5 ∙ append_assoc h.2 h.3 more, h.6, runs_more workers bs h.1 h.3 b t more h.7 one)
+pub runs_more : (helpers workers : ℕ) (bs : List Boxed) (ts : List Told) (rs : List Receipt) (b : Boxed) (t : Told) (more : List Receipt) → Runs helpers workers bs ts rs → RunsOne helpers workers b t more → Runs helpers workers (bs ++ b ∷ []) (ts ++ t ∷ []) (rs ++ more)
+runs_more helpers workers [] ts rs b t more h one = (t, [], more, [], ap (λ x. x ++ t ∷ []) h.0, ap (λ x. x ++ more) h.1 ∙ sym (append-nil more), one, (refl, refl))
+runs_more helpers workers (b' ∷ bs) ts rs b t more h one =
+    (h.0, h.1 ++ t ∷ [], h.2, h.3 ++ more, ap (λ x. x ++ t ∷ []) h.4, ap (λ x. x ++ more) h.5 ∙ append_assoc h.2 h.3 more, h.6, runs_more helpers workers bs h.1 h.3 b t more h.7 one)
 
 pub map_push : {X Y : Type 0} (f : X → Y) (xs : List X) (x : X) → map f (xs ++ x ∷ []) ≡ map f xs ++ f x ∷ []
 map_push f [] x = refl
@@ -95,9 +95,15 @@ mapped_in f P (y ∷ xs) x ys all = mapped_in f P xs x ys (All-tail P (f y) (map
 pub mapped_at : {X Y : Type 0} (f : X → Y) (P : Y → Type 0) (xs : List X) (x : X) (ys all : List X) → (xs ++ x ∷ []) ++ ys ≡ all → All P (map f all) → P (f x)
 mapped_at f P xs x ys all is h = mapped_in f P xs x ys (subst (λ l. All P (map f l)) (sym is) h)
 
+pub all_next : {X : Type 0} (P : X → Type 0) (xs : List X) (x : X) (ys all : List X) → (xs ++ x ∷ []) ++ ys ≡ all → All P all → P x
+all_next {X = X} P xs x ys all is h = go xs (subst (All P) (sym is) h) where
+  go : (xs : List X) → All P ((xs ++ x ∷ []) ++ ys) → P x
+  go [] all = All-head P x ys all
+  go (y ∷ xs) all = go xs (All-tail P y ((xs ++ x ∷ []) ++ ys) all)
+
 -- a session ran one line more
-pub run_more : (workers x : ℕ) (bs : List Boxed) (ts : List Told) (old new : SessionState) (b : Boxed) (t : Told) → old.worker ≡ x → Runs workers bs ts old.receipts → x < workers → IsRunBy workers x b →
-    (old.worker < workers → IsRunBy workers old.worker b → HasRun workers b t old new) → (new.worker ≡ x) × Runs workers (bs ++ b ∷ []) (ts ++ t ∷ []) new.receipts
-run_more workers x bs ts old new b t same runs low by step =
+pub run_more : (helpers workers x : ℕ) (bs : List Boxed) (ts : List Told) (old new : SessionState) (b : Boxed) (t : Told) → old.worker ≡ x → Runs helpers workers bs ts old.receipts → x < workers → IsRunBy workers x b →
+    (old.worker < workers → IsRunBy workers old.worker b → HasRun helpers workers b t old new) → (new.worker ≡ x) × Runs helpers workers (bs ++ b ∷ []) (ts ++ t ∷ []) new.receipts
+run_more helpers workers x bs ts old new b t same runs low by step =
     let h = step (subst (λ n. n < workers) (sym same) low) (subst (λ n. IsRunBy workers n b) (sym same) by) in
-    (h.1 ∙ same, subst (λ r. Runs workers (bs ++ b ∷ []) (ts ++ t ∷ []) r) (sym h.2) (runs_more workers bs ts old.receipts b t h.0 runs h.3))
+    (h.1 ∙ same, subst (λ r. Runs helpers workers (bs ++ b ∷ []) (ts ++ t ∷ []) r) (sym h.2) (runs_more helpers workers bs ts old.receipts b t h.0 runs h.3))

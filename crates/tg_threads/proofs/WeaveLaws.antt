@@ -27,41 +27,41 @@ use Rattle.tg_threads.proofs.FitLaws.{Fits, made_of, all_fit, woven, fit_told, f
 
 -- ---- what each thread brought
 
-pub bring_as_many : {L : Type 0} (given : List (ℕ × List Boxed)) (all : List (Finished L)) → AllBring given all → length all ≡ length given
-bring_as_many {L = L} [] all h = ap (λ (fs : List (Finished L)). length fs) h
-bring_as_many {L = L} (a ∷ given) all h = ap (λ (fs : List (Finished L)). length fs) h.2 ∙ ap suc (bring_as_many given h.1 h.4)
+pub bring_as_many : {L : Type 0} (helpers : ℕ) (given : List (ℕ × List Boxed)) (all : List (Finished L)) → AllBring helpers given all → length all ≡ length given
+bring_as_many {L = L} helpers [] all h = ap (λ (fs : List (Finished L)). length fs) h
+bring_as_many {L = L} helpers (a ∷ given) all h = ap (λ (fs : List (Finished L)). length fs) h.2 ∙ ap suc (bring_as_many helpers given h.1 h.4)
 
-brings_at : {L : Type 0} (given : List (ℕ × List Boxed)) (all : List (Finished L)) (k : ℕ) (a : ℕ × List Boxed) → AllBring given all → slice_get given k ≡ Some a →
-    (f : Finished L) × (slice_get all k ≡ Some f) × Brings a.0 a.1 f.session f.told.items
-brings_at [] all k a h at = absurd cc
-brings_at {L = L} (b ∷ given) all zero a h at =
+brings_at : {L : Type 0} (helpers : ℕ) (given : List (ℕ × List Boxed)) (all : List (Finished L)) (k : ℕ) (a : ℕ × List Boxed) → AllBring helpers given all → slice_get given k ≡ Some a →
+    (f : Finished L) × (slice_get all k ≡ Some f) × Brings helpers a.0 a.1 f.session f.told.items
+brings_at helpers [] all k a h at = absurd cc
+brings_at {L = L} helpers (b ∷ given) all zero a h at =
     let same : b ≡ a = cc in
-    (h.0, ap (λ (fs : List (Finished L)). slice_get fs 0) h.2, subst (λ (c : ℕ × List Boxed). Brings c.0 c.1 h.0.session h.0.told.items) same h.3)
-brings_at {L = L} (b ∷ given) all (suc k) a h at =
-    let more = brings_at given h.1 k a h.4 at in
+    (h.0, ap (λ (fs : List (Finished L)). slice_get fs 0) h.2, subst (λ (c : ℕ × List Boxed). Brings helpers c.0 c.1 h.0.session h.0.told.items) same h.3)
+brings_at {L = L} helpers (b ∷ given) all (suc k) a h at =
+    let more = brings_at helpers given h.1 k a h.4 at in
     (more.0, ap (λ (fs : List (Finished L)). slice_get fs (suc k)) h.2 ∙ more.1, more.2)
 
 -- worker x's thread ran its lines
-record IsBrought {L : Type 0} (workers : ℕ) (bs : List Boxed) (all : List (Finished L)) (x : ℕ) (f : Finished L) : Type 0 where
+record IsBrought {L : Type 0} (helpers workers : ℕ) (bs : List Boxed) (all : List (Finished L)) (x : ℕ) (f : Finished L) : Type 0 where
   at : slice_get all x ≡ Some f
   worker : f.session.worker ≡ x
-  runs : Runs workers (lines_of workers x bs) f.told.items f.session.receipts
+  runs : Runs helpers workers (lines_of workers x bs) f.told.items f.session.receipts
 
-brought : {L : Type 0} (workers : ℕ) (bs : List Boxed) (all : List (Finished L)) → AllBring (all_assigned workers bs) all → (x : ℕ) → x < workers → (f : Finished L) × IsBrought workers bs all x f
-brought workers bs all h x low =
+brought : {L : Type 0} (helpers workers : ℕ) (bs : List Boxed) (all : List (Finished L)) → AllBring helpers (all_assigned workers bs) all → (x : ℕ) → x < workers → (f : Finished L) × IsBrought helpers workers bs all x f
+brought helpers workers bs all h x low =
     let as_given : ℕ → ℕ × List Boxed = λ y. (y, lines_of workers y bs) in
     let long : length (all_assigned workers bs) ≡ workers = length-map-range_with_len as_given 0 workers in
     let at : slice_get (all_assigned workers bs) x ≡ Some (as_given x) =
     slice_get-get_or (all_assigned workers bs) x (0, []) (omega (arith, low, long)) ∙ ap (λ a. Some a) (get_or-map-range_with_len as_given 0 workers x x (0, []) low (omega arith)) in
-    let b = brings_at (all_assigned workers bs) all x (as_given x) h at in
+    let b = brings_at helpers (all_assigned workers bs) all x (as_given x) h at in
     let ran = b.2 workers low (own_lines workers x bs) in
     (b.0, record { at = b.1; worker = ran.0; runs = ran.1 })
 
 -- ---- as many as there were lines
 
-runs_long : (workers : ℕ) (bs : List Boxed) (ts : List Told) (rs : List Receipt) → Runs workers bs ts rs → length ts ≡ length bs
-runs_long workers [] ts rs h = ap (λ (us : List Told). length us) h.0
-runs_long workers (b ∷ bs) ts rs h = ap (λ (us : List Told). length us) h.4 ∙ ap suc (runs_long workers bs h.1 h.3 h.7)
+runs_long : (helpers workers : ℕ) (bs : List Boxed) (ts : List Told) (rs : List Receipt) → Runs helpers workers bs ts rs → length ts ≡ length bs
+runs_long helpers workers [] ts rs h = ap (λ (us : List Told). length us) h.0
+runs_long helpers workers (b ∷ bs) ts rs h = ap (λ (us : List Told). length us) h.4 ∙ ap suc (runs_long helpers workers bs h.1 h.3 h.7)
 
 pub lines_boxed : (stock : List Value) (lines : List Line) → map (λ b. b.line) (boxed stock lines) ≡ lines
 lines_boxed stock [] = refl
@@ -79,16 +79,16 @@ map_at : {X Y : Type 0} (f : X → Y) (xs : List X) (k : ℕ) (x : X) (d : Y) �
 map_at f xs k x d at = get_or_from_slice_get (map f xs) k (f x) d (slice_get-map f xs k ∙ ap (option_map f) at)
 
 -- each thread brought as many as it was given lines
-pub each_told : {L : Type 0} (workers : ℕ) (stock : List Value) (lines : List Line) (all : List (Finished L)) → AllBring (all_assigned workers (boxed stock lines)) all →
+pub each_told : {L : Type 0} (helpers workers : ℕ) (stock : List Value) (lines : List Line) (all : List (Finished L)) → AllBring helpers (all_assigned workers (boxed stock lines)) all →
     map (λ f. length f.told.items) all ≡ map (λ x. length (filter (is_run_by workers x) lines)) (range_with_len 0 workers)
-each_told {L = L} workers stock lines all h =
+each_told {L = L} helpers workers stock lines all h =
     let long_of : Finished L → ℕ = λ f. length f.told.items in
     let bs = boxed stock lines in
     fill_by_all (λ x. count_of workers x lines) (map long_of all) workers 0
-    (length-map all long_of ∙ bring_as_many (all_assigned workers bs) all h ∙ length-map-range_with_len (λ x. (x, lines_of workers x bs)) 0 workers)
+    (length-map all long_of ∙ bring_as_many helpers (all_assigned workers bs) all h ∙ length-map-range_with_len (λ x. (x, lines_of workers x bs)) 0 workers)
     (λ x low.
-    let b = brought workers bs all h x low in
-    map_at long_of all x b.0 0 b.1.at ∙ runs_long workers (lines_of workers x bs) b.0.told.items b.0.session.receipts b.1.runs
+    let b = brought helpers workers bs all h x low in
+    map_at long_of all x b.0 0 b.1.at ∙ runs_long helpers workers (lines_of workers x bs) b.0.told.items b.0.session.receipts b.1.runs
     ∙ lines_long workers x bs ∙ ap (count_of workers x) (lines_boxed stock lines))
 
 -- ---- with the journal
@@ -101,18 +101,18 @@ unfolding MatchesSince
 standing entries start s matches = matches.0.standing
 
 -- what was told of worker x's lines fits them, and tells of its entries
-record IsOwn (workers : ℕ) (entries : List Entry) (bs : List Boxed) (x : ℕ) (ts : List Told) : Type 0 where
-  fits : AllZip (Fits workers entries) (lines_of workers x bs) ts
+record IsOwn (helpers workers : ℕ) (entries : List Entry) (bs : List Boxed) (x : ℕ) (ts : List Told) : Type 0 where
+  fits : AllZip (Fits helpers workers entries) (lines_of workers x bs) ts
   made : made_of entries ts ≡ filter (λ e. e.worker == x) entries
 
-own_of : {L : Type 0} (workers start x : ℕ) (entries : List Entry) (bs : List Boxed) (all : List (Finished L)) (f : Finished L) → IsBrought workers bs all x f →
+own_of : {L : Type 0} (helpers workers start x : ℕ) (entries : List Entry) (bs : List Boxed) (all : List (Finished L)) (f : Finished L) → IsBrought helpers workers bs all x f →
     All (MatchesSince entries start) (map (λ f. f.session) all) → All (λ s. map (λ r. r.entry) s.receipts ≡ filter (λ e. e.worker == s.worker) entries) (map (λ f. f.session) all) →
-    IsOwn workers entries bs x f.told.items
-own_of {L = L} workers start x entries bs all f b matching own =
+    IsOwn helpers workers entries bs x f.told.items
+own_of {L = L} helpers workers start x entries bs all f b matching own =
     let session : Finished L → SessionState = λ g. g.session in
     let at : slice_get (map session all) x ≡ Some f.session = slice_get-map session all x ∙ ap (option_map session) b.at in
     let stands = standing entries start f.session (All_at (MatchesSince entries start) (map session all) x f.session matching at) in
-    let fit = all_fit workers f.session.worker entries (lines_of workers x bs) f.told.items f.session.receipts b.runs stands in
+    let fit = all_fit helpers workers f.session.worker entries (lines_of workers x bs) f.told.items f.session.receipts b.runs stands in
     record {
       fits = fit.0;
       made = fit.1 ∙ All_at (λ s. map (λ (r : Receipt). r.entry) s.receipts ≡ filter (λ e. e.worker == s.worker) entries) (map session all) x f.session own at
@@ -139,57 +139,57 @@ none_of x (e ∷ entries) sessions each others = ⊎_elim
     ∙ none_of x entries sessions (All-tail (λ e. count_by (λ s. s.worker == e.worker) sessions ≡ 1) e entries each) others)
     (cases_eq e.worker x)
 
-others_past : {L : Type 0} (workers x : ℕ) (bs : List Boxed) (all : List (Finished L)) → AllBring (all_assigned workers bs) all → workers ≤ x → All (λ s. s.worker ≢ x) (map (λ f. f.session) all)
-others_past {L = L} workers x bs all h past = λ k d low.
+others_past : {L : Type 0} (helpers workers x : ℕ) (bs : List Boxed) (all : List (Finished L)) → AllBring helpers (all_assigned workers bs) all → workers ≤ x → All (λ s. s.worker ≢ x) (map (λ f. f.session) all)
+others_past {L = L} helpers workers x bs all h past = λ k d low.
     let session : Finished L → SessionState = λ g. g.session in
-    let long : length all ≡ workers = bring_as_many (all_assigned workers bs) all h ∙ length-map-range_with_len (λ x. (x, lines_of workers x bs)) 0 workers in
+    let long : length all ≡ workers = bring_as_many helpers (all_assigned workers bs) all h ∙ length-map-range_with_len (λ x. (x, lines_of workers x bs)) 0 workers in
     let many : length (map session all) ≡ length all = length-map all session in
     let below : k < workers = omega (arith, low, many, long) in
-    let b = brought workers bs all h k below in
+    let b = brought helpers workers bs all h k below in
     let is : (get_or (map session all) k d).worker ≡ k = ap (λ (s : SessionState). s.worker) (map_at session all k b.0 d b.1.at) ∙ b.1.worker in
     λ same. absurd (omega (arith, is, same, below, past))
 
 -- ---- the race
 
-own_race : {L : Type 0} (workers start : ℕ) (stock : List Value) (lines : List Line) (all : List (Finished L)) (ts : List Told) (entries : List Entry) →
-    AllBring (all_assigned workers (boxed stock lines)) all → IsInScriptOrder workers lines (map (λ f. f.told.items) all) ts →
-    MayClose entries start (map (λ f. f.session) all) → AreSharedOut entries (map (λ f. f.session) all) → (x : ℕ) → x < workers → IsOwn workers entries (boxed stock lines) x (told_of workers x lines ts)
-own_race {L = L} workers start stock lines all ts entries bring order closes shared x below =
+own_race : {L : Type 0} (helpers workers start : ℕ) (stock : List Value) (lines : List Line) (all : List (Finished L)) (ts : List Told) (entries : List Entry) →
+    AllBring helpers (all_assigned workers (boxed stock lines)) all → IsInScriptOrder workers lines (map (λ f. f.told.items) all) ts →
+    MayClose entries start (map (λ f. f.session) all) → AreSharedOut entries (map (λ f. f.session) all) → (x : ℕ) → x < workers → IsOwn helpers workers entries (boxed stock lines) x (told_of workers x lines ts)
+own_race {L = L} helpers workers start stock lines all ts entries bring order closes shared x below =
     let told : Finished L → List Told = λ f. f.told.items in
-    let b = brought workers (boxed stock lines) all bring x below in
+    let b = brought helpers workers (boxed stock lines) all bring x below in
     let is : b.0.told.items ≡ told_of workers x lines ts =
     sym (map_at told all x b.0 [] b.1.at) ∙ ap (λ l. get_or l x []) order.own ∙ get_or-map-range_with_len (λ y. told_of workers y lines ts) 0 workers x x [] below (omega arith) in
-    subst (IsOwn workers entries (boxed stock lines) x) is (own_of workers start x entries (boxed stock lines) all b.0 b.1 closes.matching shared.own)
+    subst (IsOwn helpers workers entries (boxed stock lines) x) is (own_of helpers workers start x entries (boxed stock lines) all b.0 b.1 closes.matching shared.own)
 
-each_race : {L : Type 0} (workers : ℕ) (stock : List Value) (lines : List Line) (all : List (Finished L)) (ts : List Told) (entries : List Entry) → 0 < workers →
-    AllBring (all_assigned workers (boxed stock lines)) all → AreSharedOut entries (map (λ f. f.session) all) → AllZip (Fits workers entries) (boxed stock lines) ts →
-    ((x : ℕ) → x < workers → IsOwn workers entries (boxed stock lines) x (told_of workers x lines ts)) → HasEach entries (made_of entries ts)
-each_race {L = L} workers stock lines all ts entries low bring shared fits own = λ x.
+each_race : {L : Type 0} (helpers workers : ℕ) (stock : List Value) (lines : List Line) (all : List (Finished L)) (ts : List Told) (entries : List Entry) → 0 < workers →
+    AllBring helpers (all_assigned workers (boxed stock lines)) all → AreSharedOut entries (map (λ f. f.session) all) → AllZip (Fits helpers workers entries) (boxed stock lines) ts →
+    ((x : ℕ) → x < workers → IsOwn helpers workers entries (boxed stock lines) x (told_of workers x lines ts)) → HasEach entries (made_of entries ts)
+each_race {L = L} helpers workers stock lines all ts entries low bring shared fits own = λ x.
     let bs = boxed stock lines in
     let told_same : told_of workers x lines ts ≡ told_of workers x (map (λ (b : Boxed). b.line) bs) ts = ap (λ ls. told_of workers x ls ts) (sym (lines_boxed stock lines)) in
-    let made = own_made workers entries x bs ts fits in
+    let made = own_made helpers workers entries x bs ts fits in
     ⊎_elim
     (λ (below : x < workers). sym (own x below).made ∙ ap (made_of entries) told_same ∙ sym made)
     (λ (past : workers ≤ x).
-    none_of x entries (map (λ (f : Finished L). f.session) all) shared.each_of_one (others_past workers x bs all bring past)
+    none_of x entries (map (λ (f : Finished L). f.session) all) shared.each_of_one (others_past helpers workers x bs all bring past)
     ∙ sym (made ∙ ap (made_of entries) (sym told_same ∙ told_past workers x lines ts low past)))
     (cases_lt x workers)
 
 -- What the lines came to in script order is what may be told of a race, where the store was closed with the sessions that the
 -- threads brought back.
-pub raced : {L : Type 0} (workers start : ℕ) (stock : List Value) (lines : List Line) (all : List (Finished L)) (ts : List Told) (entries : List Entry) → 0 < workers → All IsCommand lines →
-    AllBring (all_assigned workers (boxed stock lines)) all → IsInScriptOrder workers lines (map (λ f. f.told.items) all) ts →
-    MayClose entries start (map (λ f. f.session) all) → AreSharedOut entries (map (λ f. f.session) all) → AreRaced workers (boxed stock lines) entries ts
-raced {L = L} workers start stock lines all ts entries low commands bring order closes shared =
+pub raced : {L : Type 0} (helpers workers start : ℕ) (stock : List Value) (lines : List Line) (all : List (Finished L)) (ts : List Told) (entries : List Entry) → 0 < workers → All IsCommand lines →
+    AllBring helpers (all_assigned workers (boxed stock lines)) all → IsInScriptOrder workers lines (map (λ f. f.told.items) all) ts →
+    MayClose entries start (map (λ f. f.session) all) → AreSharedOut entries (map (λ f. f.session) all) → AreRaced helpers workers (boxed stock lines) entries ts
+raced {L = L} helpers workers start stock lines all ts entries low commands bring order closes shared =
     let bs = boxed stock lines in
     let same : lines ≡ map (λ (b : Boxed). b.line) bs = sym (lines_boxed stock lines) in
-    let own = own_race workers start stock lines all ts entries bring order closes shared in
-    let fits = woven workers entries bs ts low (subst (All IsCommand) same commands)
+    let own = own_race helpers workers start stock lines all ts entries bring order closes shared in
+    let fits = woven helpers workers entries bs ts low (subst (All IsCommand) same commands)
     (subst (λ ls. AllZip (λ l t. runner_of workers l ≡ None → t ≡ came.Refused refusal.Worker) ls ts) same order.nobodys)
-    (λ x below. subst (λ ls. AllZip (Fits workers entries) (lines_of workers x bs) (told_of workers x ls ts)) same (own x below).fits) in
+    (λ x below. subst (λ ls. AllZip (Fits helpers workers entries) (lines_of workers x bs) (told_of workers x ls ts)) same (own x below).fits) in
     record {
       made = made_of entries ts;
-      told = fit_told workers entries bs ts fits;
-      each = each_race workers stock lines all ts entries low bring shared fits own;
-      there = fit_there workers entries bs ts fits;
+      told = fit_told helpers workers entries bs ts fits;
+      each = each_race helpers workers stock lines all ts entries low bring shared fits own;
+      there = fit_there helpers workers entries bs ts fits;
     }

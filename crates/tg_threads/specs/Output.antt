@@ -17,7 +17,7 @@ use Rattle.tg_text.specs.declared.answer.Answer.TheVariants as told
 use Rattle.tg_text.specs.declared.answer.Refusal.{Refusal}
 use Rattle.tg_text.specs.declared.answer.Refusal.TheVariants as refusal
 use Rattle.tg_text.specs.Texts.{answer_text}
-use Rattle.tg_script.specs.Script.{Start, commands_of, scene_of}
+use Rattle.tg_script.specs.Script.{MayWant, Start, commands_of, scene_of}
 
 -- ---- which box a line has
 
@@ -61,15 +61,6 @@ boxed stock (l ∷ lines) = record { line = l; value = box_of stock l } ∷ boxe
 abbrev pub IsRefused : Refusal → Option Entry → Answer → Type 0
 IsRefused r e a = (e ≡ None) × (a ≡ told.Refused r)
 
--- memory or room was wanting
-abbrev pub IsWant : Refusal → Type 0
-IsWant refusal.Memory = Unit {0}
-IsWant refusal.Heap = Unit {0}
-IsWant refusal.Worker = ⊥
-IsWant refusal.Vertices = ⊥
-IsWant refusal.Threads = ⊥
-IsWant refusal.Stock = ⊥
-
 -- a refusal of the store, to a command
 abbrev pub IsOfStore : Refusal → Type 0
 IsOfStore refusal.Memory = Unit {0}
@@ -89,26 +80,27 @@ abbrev pub IsMade : ℕ → RightSet → Option Value → Option Entry → Answe
 IsMade x label (Some value) e a = EntersOrRefuses x (deed.Create label value.law value.state) e a
 IsMade x label None e a = IsRefused refusal.Stock e a
 
--- a collection has no entry
-abbrev pub IsCollected : Answer → Option Entry → Answer → Type 0
-IsCollected collected e a = (e ≡ None) × ((a ≡ collected) ⊎ ((r : Refusal) × IsWant r × (a ≡ told.Refused r)))
+-- a collection, by so many helpers, has no entry
+abbrev pub IsCollected : ℕ → Answer → Option Entry → Answer → Type 0
+IsCollected helpers collected e a = (e ≡ None) × ((a ≡ collected) ⊎ ((r : Refusal) × MayWant helpers r × (a ≡ told.Refused r)))
 
--- What is told of a line, where there are so many workers. A line that names none of them is refused.
-abbrev pub Tells : ℕ → Line → Option Value → Option Entry → Answer → Type 0
-Tells workers (line.Edge edge) box e a = ⊥
-Tells workers (line.Create x label) box e a = ((x < workers) × IsMade x label box e a) ⊎ ((workers ≤ x) × IsRefused refusal.Worker e a)
-Tells workers (line.Plain x command) box e a = ((x < workers) × EntersOrRefuses x (deed.Plain command) e a) ⊎ ((workers ≤ x) × IsRefused refusal.Worker e a)
-Tells workers line.Full box e a = (n : ℕ) × IsCollected (told.Collected (Some n)) e a
-Tells workers line.Minor box e a = IsCollected (told.Collected None) e a
+-- What is told of a line, where a collection has so many helpers, and there are so many workers. A line that names none of them is
+-- refused.
+abbrev pub Tells : ℕ → ℕ → Line → Option Value → Option Entry → Answer → Type 0
+Tells helpers workers (line.Edge edge) box e a = ⊥
+Tells helpers workers (line.Create x label) box e a = ((x < workers) × IsMade x label box e a) ⊎ ((workers ≤ x) × IsRefused refusal.Worker e a)
+Tells helpers workers (line.Plain x command) box e a = ((x < workers) × EntersOrRefuses x (deed.Plain command) e a) ⊎ ((workers ≤ x) × IsRefused refusal.Worker e a)
+Tells helpers workers line.Full box e a = (n : ℕ) × IsCollected helpers (told.Collected (Some n)) e a
+Tells helpers workers line.Minor box e a = IsCollected helpers (told.Collected None) e a
 
 -- ---- what is written for all of them
 
 -- these are the entries that the lines made, in script order, and this is the text
-abbrev pub AreTold : ℕ → List Boxed → List Entry → List ℕ → Type 0
-AreTold workers [] made text = (made ≡ []) × (text ≡ [])
-AreTold workers (b ∷ bs) made text =
-    (e : Option Entry) × (a : Answer) × (more : List Entry) × (rest : List ℕ) × Tells workers b.line b.value e a
-    × (made ≡ option_to_list e ++ more) × (text ≡ answer_text a ++ rest) × AreTold workers bs more rest
+abbrev pub AreTold : ℕ → ℕ → List Boxed → List Entry → List ℕ → Type 0
+AreTold helpers workers [] made text = (made ≡ []) × (text ≡ [])
+AreTold helpers workers (b ∷ bs) made text =
+    (e : Option Entry) × (a : Answer) × (more : List Entry) × (rest : List ℕ) × Tells helpers workers b.line b.value e a
+    × (made ≡ option_to_list e ++ more) × (text ≡ answer_text a ++ rest) × AreTold helpers workers bs more rest
 
 -- the history has exactly these entries, and those of each worker in this order; entries of different workers may stand in any
 abbrev pub HasEach : List Entry → List Entry → Type 0
@@ -127,7 +119,7 @@ pub record IsRaceOutput (start : Start) (lines : List Line) (text : List ℕ) : 
   pub made : List Entry
   pub replies : List ℕ
   pub legal : IsLegal (scene_of start lines).graph entries
-  pub told : AreTold start.workers (boxed start.stock (commands_of lines)) made replies
+  pub told : AreTold start.helpers start.workers (boxed start.stock (commands_of lines)) made replies
   pub each : HasEach entries made
   pub text_is : text ≡ replies ++ end_text (length entries)
 

@@ -36,10 +36,10 @@ pub record IsInScriptOrder (workers : ℕ) (lines : List Line) (brought : List (
   pub own : brought ≡ map (λ x. told_of workers x lines ts) (range_with_len 0 workers)
   pub nobodys : AllZip (λ l t. runner_of workers l ≡ None → t ≡ came.Refused refusal.Worker) lines ts
 
--- The lines came to this, with these entries in the journal: each entry is where it is told to be, the lines made these of
--- them in script order, and the journal has no others.
-pub record AreRaced (workers : ℕ) (bs : List Boxed) (entries : List Entry) (ts : List Told) : Type 0 where
+-- The lines came to this, where a collection has so many helpers, with these entries in the journal: each entry is where it is
+-- told to be, the lines made these of them in script order, and the journal has no others.
+pub record AreRaced (helpers workers : ℕ) (bs : List Boxed) (entries : List Entry) (ts : List Told) : Type 0 where
   pub made : List Entry
-  pub told : AreTold workers bs made (text_of_told entries ts)
+  pub told : AreTold helpers workers bs made (text_of_told entries ts)
   pub each : HasEach entries made
   pub there : All (IsThere entries) ts

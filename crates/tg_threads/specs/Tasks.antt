@@ -25,7 +25,8 @@ use Rattle.tg_threads.specs.declared.threads.Work.{Work}
 use Rattle.tg_threads.specs.declared.worker.Finished.{Finished}
 use Rattle.tg_threads.specs.declared.task.Told.{Told}
 use Rattle.tg_threads.specs.declared.task.Told.TheVariants as came
-use Rattle.tg_threads.specs.Output.{Boxed, Tells, IsOfStore, IsWant}
+use Rattle.tg_script.specs.Script.{MayWant}
+use Rattle.tg_threads.specs.Output.{Boxed, Tells, IsOfStore}
 
 -- ---- who runs a line
 
@@ -44,10 +45,10 @@ boxed_of t = record { line = t.line; value = t.draft }
 -- ---- what a line comes to
 
 -- the receipt that its session got of it, and what is told of it then
-abbrev pub RunsOne : ℕ → Boxed → Told → List Receipt → Type 0
-RunsOne workers b (came.Entered at) more = (e : Entry) × (more ≡ receipt_of at e ∷ []) × Tells workers b.line b.value (Some e) (answer.Reply e.reply)
-RunsOne workers b (came.Collected kept) more = (more ≡ []) × Tells workers b.line b.value None (answer.Collected kept)
-RunsOne workers b (came.Refused r) more = (more ≡ []) × Tells workers b.line b.value None (answer.Refused r)
+abbrev pub RunsOne : ℕ → ℕ → Boxed → Told → List Receipt → Type 0
+RunsOne helpers workers b (came.Entered at) more = (e : Entry) × (more ≡ receipt_of at e ∷ []) × Tells helpers workers b.line b.value (Some e) (answer.Reply e.reply)
+RunsOne helpers workers b (came.Collected kept) more = (more ≡ []) × Tells helpers workers b.line b.value None (answer.Collected kept)
+RunsOne helpers workers b (came.Refused r) more = (more ≡ []) × Tells helpers workers b.line b.value None (answer.Refused r)
 
 -- a session asked for the deed: exactly one receipt more, with it and the reply, or a refusal of the store
 abbrev pub HasAsked : Deed → Told → SessionState → SessionState → Type 0
@@ -60,30 +61,30 @@ abbrev pub HasMade : RightSet → Option Value → Told → SessionState → Ses
 HasMade label (Some value) t old new = HasAsked (deed.Create label value.law value.state) t old new
 HasMade label None t old new = (t ≡ came.Refused refusal.Stock) × KeepsReceipts old new
 
--- the heap was collected, or memory or room was wanting
-abbrev pub HasCollected : Kind → Told → Type 0
-HasCollected k (came.Entered at) = ⊥
-HasCollected kind.Full (came.Collected kept) = (n : ℕ) × (kept ≡ Some n)
-HasCollected kind.Nursery (came.Collected kept) = kept ≡ None
-HasCollected k (came.Refused r) = IsWant r
+-- the heap was collected by so many helpers, or memory, room or threads were wanting
+abbrev pub HasCollected : ℕ → Kind → Told → Type 0
+HasCollected helpers k (came.Entered at) = ⊥
+HasCollected helpers kind.Full (came.Collected kept) = (n : ℕ) × (kept ≡ Some n)
+HasCollected helpers kind.Nursery (came.Collected kept) = kept ≡ None
+HasCollected helpers k (came.Refused r) = MayWant helpers r
 
 -- a session ran the line
-abbrev pub HasRun : ℕ → Boxed → Told → SessionState → SessionState → Type 0
-HasRun workers b t old new = (more : List Receipt) × (new.worker ≡ old.worker) × (new.receipts ≡ old.receipts ++ more) × RunsOne workers b t more
+abbrev pub HasRun : ℕ → ℕ → Boxed → Told → SessionState → SessionState → Type 0
+HasRun helpers workers b t old new = (more : List Receipt) × (new.worker ≡ old.worker) × (new.receipts ≡ old.receipts ++ more) × RunsOne helpers workers b t more
 
 -- these lines were run one after the other, came to this, and these are the receipts
-abbrev pub Runs : ℕ → List Boxed → List Told → List Receipt → Type 0
-Runs workers [] ts rs = (ts ≡ []) × (rs ≡ [])
-Runs workers (b ∷ bs) ts rs =
-    (t : Told) × (ts' : List Told) × (more : List Receipt) × (rs' : List Receipt) × (ts ≡ t ∷ ts') × (rs ≡ more ++ rs') × RunsOne workers b t more × Runs workers bs ts' rs'
+abbrev pub Runs : ℕ → ℕ → List Boxed → List Told → List Receipt → Type 0
+Runs helpers workers [] ts rs = (ts ≡ []) × (rs ≡ [])
+Runs helpers workers (b ∷ bs) ts rs =
+    (t : Told) × (ts' : List Told) × (more : List Receipt) × (rs' : List Receipt) × (ts ≡ t ∷ ts') × (rs ≡ more ++ rs') × RunsOne helpers workers b t more × Runs helpers workers bs ts' rs'
 
 abbrev pub IsRunBy : ℕ → ℕ → Boxed → Type 0
 IsRunBy workers x b = runner_of workers b.line ≡ Some x
 
 -- the worker's session ran its lines, all that its thread was given, and they came to this
-abbrev pub Brings : ℕ → List Boxed → SessionState → List Told → Type 0
-Brings x bs session ts =
-    (workers : ℕ) → x < workers → All (IsRunBy workers x) bs → (session.worker ≡ x) × Runs workers bs ts session.receipts
+abbrev pub Brings : ℕ → ℕ → List Boxed → SessionState → List Told → Type 0
+Brings helpers x bs session ts =
+    (workers : ℕ) → x < workers → All (IsRunBy workers x) bs → (session.worker ≡ x) × Runs helpers workers bs ts session.receipts
 
 -- the worker, and the lines that its thread is given
 abbrev pub assigned_of : {L P : Type 0} → Work L P → ℕ × List Boxed
@@ -94,9 +95,9 @@ abbrev pub promised_by : {T P : Type 0} → PromisedHandle T (Assigned P) → �
 promised_by h = (h.promise.worker, map boxed_of h.promise.tasks.value.items)
 
 -- each of them ran its lines
-abbrev pub AllBring : {L : Type 0} → List (ℕ × List Boxed) → List (Finished L) → Type 0
-AllBring [] all = all ≡ []
-AllBring {L = L} (a ∷ given) all = (f : Finished L) × (more : List (Finished L)) × (all ≡ f ∷ more) × Brings a.0 a.1 f.session f.told.items × AllBring {L = L} given more
+abbrev pub AllBring : {L : Type 0} → ℕ → List (ℕ × List Boxed) → List (Finished L) → Type 0
+AllBring helpers [] all = all ≡ []
+AllBring {L = L} helpers (a ∷ given) all = (f : Finished L) × (more : List (Finished L)) × (all ≡ f ∷ more) × Brings helpers a.0 a.1 f.session f.told.items × AllBring {L = L} helpers given more
 
 -- ---- what it is with the journal at hand
 

@@ -10,6 +10,6 @@ ghost use Rattle.tg_threads.specs.Output.{AreTold, HasEach, IsOfOne, boxed};
 /// of the plain run, which answers one line after the other.
 pub fn one_worker_is_the_plain_run()
     ensures { (start : Start) (lines : List Line) (entries made : List Entry) (replies : List ℕ) →
-        IsLegal (scene_of start lines).graph entries → AreTold start.workers (boxed start.stock (commands_of lines)) made replies →
+        IsLegal (scene_of start lines).graph entries → AreTold start.helpers start.workers (boxed start.stock (commands_of lines)) made replies →
         HasEach entries made → IsOfOne (commands_of lines) made → IsOutput (scene_of start lines) (commands_of lines) replies }
 {}

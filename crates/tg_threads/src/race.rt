@@ -23,7 +23,7 @@ use std::sync::ledger::Blank;
 use std::thread::Threads;
 use tg_journal::audit;
 use tg_payload::{Draft, Payload};
-use tg_script::{Settings, open_store, read_script};
+use tg_script::{Helpers, Settings, open_store, read_script};
 use tg_shared::{Round, Session, Shared, SharedStore, close};
 use tg_store::Store;
 use tg_text::{Line, Sink, Source};
@@ -32,7 +32,8 @@ use tg_text::{Line, Sink, Source};
 /// i-th create line has the i-th of them, and where no vertex is made it is dropped.
 ///
 /// The whole script is read first; with a fault in it no line is run. Then each worker has a thread with its session, which runs the
-/// worker's lines in script order and passes the gate before each; the collections are worker 0's. Once all have ended the store is
+/// worker's lines in script order and passes the gate before each; the collections are worker 0's, each by as many helpers as the
+/// settings say. Once all have ended the store is
 /// closed and audited, and only then anything is written: the reply to each line in script order, and the line with the number of
 /// entries. In what order lines of different workers are run is open, and who waits for whom.
 ///
@@ -93,9 +94,10 @@ fn race<P: Payload + Send, S: Source, K: Sink, G: Gate + Sync, R: Threads + Wait
         (left : List ℕ) × (S.left source.new ≡ Some left) × HasRaced start bytes before result left (K.taken sink.new) }
     ensures asked { S.asked source.new ≤ S.asked source.old + 1048577 }
 {
+    let helpers = settings.helpers;
     let opened = open_race(alloc, source, sink, settings, workers)?;
     let Opened { store, lines } = opened;
-    let raced = run_lines(rt, alloc, gate, store, stock, lines.as_slice())?;
+    let raced = run_lines(rt, alloc, gate, helpers, store, stock, lines.as_slice())?;
     raced.tell(alloc, sink)
 }
 
@@ -167,17 +169,18 @@ fn run_lines<P: Payload + Send, G: Gate + Sync, R: Threads + Wait + Sync>(
     rt: &R,
     alloc: Global,
     gate: &G,
+    helpers: Helpers,
     store: Store<P>,
     stock: Vec<Draft<P>>,
     lines: &[Line],
 ) -> Result<Raced<P>, RaceFault>
     requires new { (1 ≤ store.opening.workers) × (store.entries ≡ []) }
     requires commands { All IsCommand lines.now }
-    ensures raced { IfOk result (λ raced. (raced.store.opening ≡ store.opening) × AreRaced store.opening.workers (boxed stock.items lines.now) raced.store.entries raced.told.items) }
+    ensures raced { IfOk result (λ raced. (raced.store.opening ≡ store.opening) × AreRaced helpers store.opening.workers (boxed stock.items lines.now) raced.store.entries raced.told.items) }
     ensures fault { IfErr result IsBeforeWriting }
 {
     let blank = Blank::new(store.opening().max_vertices() + 1);
-    share::<Brand, P, G, R>(rt, alloc, gate, blank, store, stock, lines)
+    share::<Brand, P, G, R>(rt, alloc, gate, helpers, blank, store, stock, lines)
 }
 
 // Shares the store, runs the lines, and closes.
@@ -185,6 +188,7 @@ fn share<L: Round + Send + Sync, P: Payload + Send, G: Gate + Sync, R: Threads +
     rt: &R,
     alloc: Global,
     gate: &G,
+    helpers: Helpers,
     blank: Blank,
     store: Store<P>,
     stock: Vec<Draft<P>>,
@@ -195,11 +199,11 @@ fn share<L: Round + Send + Sync, P: Payload + Send, G: Gate + Sync, R: Threads +
     requires start { start_of_store store ≡ L.start }
     requires new { (1 ≤ store.opening.workers) × (store.entries ≡ []) }
     requires commands { All IsCommand lines.now }
-    ensures raced { IfOk result (λ raced. (raced.store.opening ≡ store.opening) × AreRaced store.opening.workers (boxed stock.items lines.now) raced.store.entries raced.told.items) }
+    ensures raced { IfOk result (λ raced. (raced.store.opening ≡ store.opening) × AreRaced helpers store.opening.workers (boxed stock.items lines.now) raced.store.entries raced.told.items) }
     ensures fault { IfErr result IsBeforeWriting }
 {
     match SharedStore::<L, P>::new(alloc, blank, store) {
-        Ok(shared) => run_shared(rt, alloc, gate, shared, stock, lines),
+        Ok(shared) => run_shared(rt, alloc, gate, helpers, shared, stock, lines),
         Err(_) => Err(RaceFault::OutOfMemory),
     }
 }
@@ -209,6 +213,7 @@ fn run_shared<L: Round + Send + Sync, P: Payload + Send, G: Gate + Sync, R: Thre
     rt: &R,
     alloc: Global,
     gate: &G,
+    helpers: Helpers,
     shared: Shared<L, P>,
     stock: Vec<Draft<P>>,
     lines: &[Line],
@@ -216,12 +221,12 @@ fn run_shared<L: Round + Send + Sync, P: Payload + Send, G: Gate + Sync, R: Thre
     requires new { (1 ≤ L.start.opening.workers) × (L.start.entries ≡ []) }
     requires fresh { AreFresh (range_with_len 0 L.start.opening.workers) shared.sessions.items }
     requires commands { All IsCommand lines.now }
-    ensures raced { IfOk result (λ raced. (raced.store.opening ≡ L.start.opening) × AreRaced L.start.opening.workers (boxed stock.items lines.now) raced.store.entries raced.told.items) }
+    ensures raced { IfOk result (λ raced. (raced.store.opening ≡ L.start.opening) × AreRaced helpers L.start.opening.workers (boxed stock.items lines.now) raced.store.entries raced.told.items) }
     ensures fault { IfErr result IsBeforeWriting }
 {
     let Shared { store, sessions } = shared;
     let works = share_out(alloc, sessions, stock, lines)?;
-    let finished = run_threads(rt, alloc, &store, gate, works)?;
+    let finished = run_threads(rt, alloc, &store, gate, helpers, works)?;
     let told = in_script_order(alloc, lines, finished.as_slice())?;
     let sessions = sessions_of(alloc, finished)?;
     let store = closed(store, sessions)?;

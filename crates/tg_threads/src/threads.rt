@@ -1,5 +1,5 @@
 //! The threads of the workers.
-ghost use Rattle.std.specs.Prelude.{◌≡◌, [], IfOk, map};
+ghost use Rattle.std.specs.Prelude.{◌≡◌, ℕ, [], IfOk, map};
 ghost use Rattle.std.specs.List.{All};
 ghost use Rattle.tg_threads.specs.Tasks.{AllBring, Brings, assigned_of, boxed_of, promised_by};
 
@@ -10,8 +10,9 @@ use std::alloc::{AllocError, AllocFailed, Global};
 use std::snapshot::Snapshot;
 use std::sync::Wait;
 use std::thread;
-use std::thread::{Promise, PromisedHandle, Threads};
+use std::thread::{Promise, PromisedHandle, Scope, Threads};
 use tg_payload::Payload;
+use tg_script::Helpers;
 use tg_shared::{Round, Session, SharedStore};
 use thiserror::Error;
 
@@ -46,9 +47,10 @@ impl<T: Drop> From<AllocFailed<T>> for ThreadsFault {
     }
 }
 
-/// What a worker's thread has to bring back: its session, which has run these lines.
+/// What a worker's thread has to bring back: its session, which has run these lines, with so many helpers of a collection.
 #[derive(Drop)]
 pub(crate) struct Assigned<P: Payload> {
+    helpers: Helpers,
     worker: u64,
     tasks: Snapshot<Vec<Task<P>>>,
 }
@@ -57,12 +59,12 @@ impl<L: Round, P: Payload> Promise<Result<Finished<L>, AllocError>> for Assigned
     ghost use Rattle.std.specs.Prelude.{IfOk, map};
     ghost use Rattle.tg_threads.specs.Tasks.{Brings, boxed_of};
 
-    ghost kept_by = { λ p r. IfOk r (λ finished. Brings p.worker (map boxed_of p.tasks.value.items) finished.session finished.told.items) };
+    ghost kept_by = { λ p r. IfOk r (λ finished. Brings p.helpers p.worker (map boxed_of p.tasks.value.items) finished.session finished.told.items) };
 }
 
 /// Gives each worker a thread that runs its lines, and waits for all of them. What they bring back stands in the order of the
 /// workers: each session has run its lines one after the other, and each line has come to a receipt, to a refusal or to a
-/// collection. Where a thread can't be started, those that were started run to their end. The sessions have no receipts yet.
+/// collection, which has so many helpers. Where a thread can't be started, those that were started run to their end. The sessions have no receipts yet.
 pub fn run_threads<
     L: Round + Send + Sync,
     P: Payload + Send,
@@ -73,48 +75,100 @@ pub fn run_threads<
     alloc: Global,
     store: &SharedStore<L, P>,
     gate: &G,
+    helpers: Helpers,
     works: Vec<Work<L, P>>,
 ) -> Result<Vec<Finished<L>>, ThreadsFault>
     requires { All (λ w. w.session.receipts ≡ []) works.items }
-    ensures { IfOk result (λ all. AllBring (map assigned_of works.items) all.items) }
+    ensures { IfOk result (λ all. AllBring helpers (map assigned_of works.items) all.items) }
 {
     thread::scope(
         thread::scope_env(),
         rt,
         |scope| -> Result<Vec<Finished<L>>, ThreadsFault>
             requires { All (λ w. w.session.receipts ≡ []) works.items }
-            ensures { IfOk result (λ all. AllBring (map assigned_of works.items) all.items) }
+            ensures { IfOk result (λ all. AllBring helpers (map assigned_of works.items) all.items) }
         {
-            let mut handles = Vec::with_capacity(alloc, works.len())?;
-            for work in works {
-                let Work { session, tasks } = work;
-                let assigned = Assigned {
-                    worker: session.worker(),
-                    tasks: Snapshot::of(&tasks),
-                };
-                let Ok(handle) = scope.spawn_with(
-                    assigned,
-                    move || -> Result<Finished<L>, AllocError>
-                        requires { session.receipts ≡ [] }
-                        ensures { IfOk result (λ finished. Brings session.worker (map boxed_of tasks.items) finished.session finished.told.items) }
-                    { run_tasks(rt, alloc, store, gate, session, tasks) },
-                ) else {
-                    return Err(ThreadsFault::NoThread);
-                };
-                handles.push(handle)?;
-            }
+            let handles = start_all(rt, alloc, scope, store, gate, helpers, works)?;
             join_all(rt, alloc, handles)
         },
     )
 }
 
-// Waits for the threads, and gives what they brought back, in order.
+// Starts a thread for each worker.
+fn start_all<
+    's,
+    E,
+    L: Round + Send + Sync,
+    P: Payload + Send,
+    G: Gate + Sync,
+    R: Threads + Wait + Sync,
+>(
+    rt: &'s R,
+    alloc: Global,
+    scope: &Scope<'s, E>,
+    store: &'s SharedStore<L, P>,
+    gate: &'s G,
+    helpers: Helpers,
+    works: Vec<Work<L, P>>,
+) -> Result<Vec<PromisedHandle<Result<Finished<L>, AllocError>, Assigned<P>>>, ThreadsFault>
+    requires fresh { All (λ w. w.session.receipts ≡ []) works.items }
+    ensures promises { IfOk result (λ handles. map promised_by handles.items ≡ map assigned_of works.items) }
+    ensures helpers { IfOk result (λ handles. All (λ h. h.promise.helpers ≡ helpers) handles.items) }
+{
+    let mut handles = Vec::with_capacity(alloc, works.len())?;
+    for work in works {
+        let handle = start(rt, alloc, scope, store, gate, helpers, work)?;
+        handles.push(handle)?;
+    }
+    Ok(handles)
+}
+
+// Starts a thread that runs the worker's lines.
+fn start<
+    's,
+    E,
+    L: Round + Send + Sync,
+    P: Payload + Send,
+    G: Gate + Sync,
+    R: Threads + Wait + Sync,
+>(
+    rt: &'s R,
+    alloc: Global,
+    scope: &Scope<'s, E>,
+    store: &'s SharedStore<L, P>,
+    gate: &'s G,
+    helpers: Helpers,
+    work: Work<L, P>,
+) -> Result<PromisedHandle<Result<Finished<L>, AllocError>, Assigned<P>>, ThreadsFault>
+    requires fresh { work.session.receipts ≡ [] }
+    ensures promise { IfOk result (λ handle. promised_by handle ≡ assigned_of work) }
+    ensures helpers { IfOk result (λ handle. handle.promise.helpers ≡ helpers) }
+{
+    let Work { session, tasks } = work;
+    let assigned = Assigned {
+        helpers,
+        worker: session.worker(),
+        tasks: Snapshot::of(&tasks),
+    };
+    let Ok(handle) = scope.spawn_with(
+        assigned,
+        move || -> Result<Finished<L>, AllocError>
+            requires { session.receipts ≡ [] }
+            ensures { IfOk result (λ finished. Brings helpers session.worker (map boxed_of tasks.items) finished.session finished.told.items) }
+        { run_tasks(rt, alloc, store, gate, helpers, session, tasks) },
+    ) else {
+        return Err(ThreadsFault::NoThread);
+    };
+    Ok(handle)
+}
+
+// Waits for the threads, and gives what they brought back, in order. Their collections have all as many helpers.
 fn join_all<L: Round, P: Payload, R: Threads>(
     rt: &R,
     alloc: Global,
     handles: Vec<PromisedHandle<Result<Finished<L>, AllocError>, Assigned<P>>>,
 ) -> Result<Vec<Finished<L>>, ThreadsFault>
-    ensures { IfOk result (λ all. AllBring (map promised_by handles.items) all.items) }
+    ensures { (helpers : ℕ) → All (λ h. h.promise.helpers ≡ helpers) handles.items → IfOk result (λ all. AllBring helpers (map promised_by handles.items) all.items) }
 {
     let mut all = Vec::new(alloc);
     for handle in handles {

@@ -1,6 +1,7 @@
 //! The run of one worker's lines.
-ghost use Rattle.std.specs.Prelude.{◌≡◌, ◌<◌, ◌++◌, ◌∷◌, [], ℕ, length, map, List, IfOk};
+ghost use Rattle.std.specs.Prelude.{◌≡◌, ◌<◌, ◌++◌, ◌∷◌, [], ℕ, length, map, List, IfErr, IfOk};
 ghost use Rattle.tg_model.specs.declared.command.Deed.TheVariants as Deed;
+ghost use Rattle.tg_script.specs.Script.{MayWant};
 ghost use Rattle.tg_shared.specs.declared.receipt.Receipt.{Receipt as ReceiptOf};
 ghost use Rattle.tg_threads.specs.Output.{IsOfStore};
 ghost use Rattle.tg_threads.specs.Tasks.{Brings, HasAsked, HasCollected, HasMade, HasRun, IsRunBy, boxed_of};
@@ -9,10 +10,12 @@ use crate::gate::Gate;
 use crate::task::{Task, Told};
 use std::alloc::{AllocError, Global};
 use std::sync::Wait;
+use std::thread::Threads;
 use tg_model::Command;
 use tg_payload::{Draft, Payload};
 use tg_rights::Label;
-use tg_shared::{Round, Session, SharedStore};
+use tg_script::Helpers;
+use tg_shared::{HelpersFault, Round, Session, SharedStore};
 use tg_store::{ApplyFault, CollectFault, CreateFault, Kind};
 use tg_text::{Line, Refusal};
 
@@ -23,43 +26,45 @@ pub struct Finished<L: Round> {
     pub told: Vec<Told>,
 }
 
-/// Runs the lines, one after the other, and passes the gate before each. Answers only want of memory otherwise, before any
-/// line is run.
-pub(crate) fn run_tasks<L: Round, P: Payload, G: Gate, R: Wait>(
+/// Runs the lines, one after the other, and passes the gate before each. A collection has so many helpers. Answers only want of
+/// memory otherwise, before any line is run.
+pub(crate) fn run_tasks<L: Round, P: Payload, G: Gate, R: Threads + Wait + Sync>(
     rt: &R,
     alloc: Global,
     store: &SharedStore<L, P>,
     gate: &G,
+    helpers: Helpers,
     mut session: Session<L>,
     tasks: Vec<Task<P>>,
 ) -> Result<Finished<L>, AllocError>
     requires fresh { session.receipts ≡ [] }
-    ensures { IfOk result (λ finished. Brings session.worker (map boxed_of tasks.items) finished.session finished.told.items) }
+    ensures { IfOk result (λ finished. Brings helpers session.worker (map boxed_of tasks.items) finished.session finished.told.items) }
 {
     let mut told = Vec::with_capacity(alloc, tasks.len())?;
     for task in tasks {
         gate.pass(session.worker());
-        told.push(run_task(rt, store, &mut session, task))?;
+        told.push(run_task(rt, store, helpers, &mut session, task))?;
     }
     Ok(Finished { session, told })
 }
 
 // Runs one line.
-fn run_task<L: Round, P: Payload, R: Wait>(
+fn run_task<L: Round, P: Payload, R: Threads + Wait + Sync>(
     rt: &R,
     store: &SharedStore<L, P>,
+    helpers: Helpers,
     session: &mut Session<L>,
     task: Task<P>,
 ) -> Told
     ensures { (workers : ℕ) → session.old.worker < workers → IsRunBy workers session.old.worker (boxed_of task) →
-        HasRun workers (boxed_of task) result session.old session.new }
+        HasRun helpers workers (boxed_of task) result session.old session.new }
 {
     let Task { line, draft } = task;
     match line {
         Line::Plain { command, .. } => apply(rt, store, session, command),
         Line::Create { label, .. } => create(rt, store, session, label, draft),
-        Line::Full => collect(rt, store, session, Kind::Full),
-        Line::Minor => collect(rt, store, session, Kind::Nursery),
+        Line::Full => collect(rt, store, helpers, session, Kind::Full),
+        Line::Minor => collect(rt, store, helpers, session, Kind::Nursery),
         // No thread runs an edge line.
         Line::Edge(_) => Told::Refused(Refusal::Worker),
     }
@@ -104,19 +109,45 @@ fn create<L: Round, P: Payload, R: Wait>(
 }
 
 // How many vertices the heap then has is told of a full collection alone.
-fn collect<L: Round, P: Payload, R: Wait>(
+fn collect<L: Round, P: Payload, R: Threads + Wait + Sync>(
     rt: &R,
     store: &SharedStore<L, P>,
+    helpers: Helpers,
     session: &Session<L>,
     kind: Kind,
 ) -> Told
-    ensures { HasCollected kind result }
+    ensures { HasCollected helpers kind result }
 {
-    match (session.collect(rt, store, kind), kind) {
+    match (collect_by(rt, store, helpers, session, kind), kind) {
         (Ok(kept), Kind::Full) => Told::Collected(Some(kept)),
         (Ok(_), Kind::Nursery) => Told::Collected(None),
-        (Err(CollectFault::OutOfMemory), _) => Told::Refused(Refusal::Memory),
-        (Err(CollectFault::HeapFull), _) => Told::Refused(Refusal::Heap),
+        (Err(refusal), _) => Told::Refused(refusal),
+    }
+}
+
+// One helper is the session's thread, which collects alone.
+fn collect_by<L: Round, P: Payload, R: Threads + Wait + Sync>(
+    rt: &R,
+    store: &SharedStore<L, P>,
+    helpers: Helpers,
+    session: &Session<L>,
+    kind: Kind,
+) -> Result<u64, Refusal>
+    ensures { IfErr result (MayWant helpers) }
+{
+    let number = helpers.number();
+    if number == 1 {
+        return match session.collect(rt, store, kind) {
+            Ok(kept) => Ok(kept),
+            Err(CollectFault::OutOfMemory) => Err(Refusal::Memory),
+            Err(CollectFault::HeapFull) => Err(Refusal::Heap),
+        };
+    }
+    match session.collect_with(rt, store, kind, number) {
+        Ok(kept) => Ok(kept),
+        Err(HelpersFault::OutOfMemory) => Err(Refusal::Memory),
+        Err(HelpersFault::HeapFull) => Err(Refusal::Heap),
+        Err(HelpersFault::NoThread) => Err(Refusal::Threads),
     }
 }
 

@@ -3,4 +3,4 @@ use Rattle.tg_threads.proofs.OneLaws.{plain_run}
 use Rattle.tg_threads.proofs.laws.one_worker_is_the_plain_run.Goals as goal
 
 pub returns : goal.returns
-returns c = λ start lines entries made replies legal told each one. plain_run (commands_of lines) (scene_of start lines) start.workers entries made replies legal told each one
+returns c = λ start lines entries made replies legal told each one. plain_run (commands_of lines) (scene_of start lines) start.helpers start.workers entries made replies legal told each one

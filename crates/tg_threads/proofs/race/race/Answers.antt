@@ -14,7 +14,7 @@ returns-clause-output g c = λ bytes before known taken.
     let store = c.in_ok-raced.raced.store in
     let ts = c.in_ok-raced.raced.told.items in
     let came = c.in_ok-raced.ensures.raced in
-    let same = raced_same c.in_ok-opened.opened.store.opening.workers start.workers start.stock c.as_slice.result.now (commands_of lines) store.entries ts
+    let same = raced_same start.helpers c.in_ok-opened.opened.store.opening.workers start.workers start.stock c.as_slice.result.now (commands_of lines) store.entries ts
     c.in_ok-opened.ensures.new.0 (c.as_slice.ensures.value ∙ whole.2) came.1 in (
       opens.0,
       opens.1,

@@ -21,8 +21,8 @@ in_script_order-requires-clause-workers g c =
     let sessions = c.args.shared.sessions.items in
     let bs = boxed c.args.stock.items c.args.lines.now in
     let all = c.in_ok-finished.finished.items in
-    let bring = all_brought (length sessions) workers bs _ all (fresh_length workers sessions c.requires.fresh) c.in_ok-works.ensures.lines c.in_ok-finished.ensures in
-    subst (λ fs. 0 < length fs) (sym c.as_slice.ensures.value) (omega (arith, brought_by_each workers bs all bring, c.requires.new.0))
+    let bring = all_brought c.args.helpers (length sessions) workers bs _ all (fresh_length workers sessions c.requires.fresh) c.in_ok-works.ensures.lines c.in_ok-finished.ensures in
+    subst (λ fs. 0 < length fs) (sym c.as_slice.ensures.value) (omega (arith, brought_by_each c.args.helpers workers bs all bring, c.requires.new.0))
 
 pub in_script_order-requires-clause-whole : goal.in_script_order-requires-clause-whole
 in_script_order-requires-clause-whole g c =
@@ -30,8 +30,8 @@ in_script_order-requires-clause-whole g c =
     let sessions = c.args.shared.sessions.items in
     let bs = boxed c.args.stock.items c.args.lines.now in
     let all = c.in_ok-finished.finished.items in
-    let bring = all_brought (length sessions) workers bs _ all (fresh_length workers sessions c.requires.fresh) c.in_ok-works.ensures.lines c.in_ok-finished.ensures in
-    brought_whole workers c.args.stock.items c.args.lines.now all c.as_slice.result.now c.as_slice.ensures.value bring
+    let bring = all_brought c.args.helpers (length sessions) workers bs _ all (fresh_length workers sessions c.requires.fresh) c.in_ok-works.ensures.lines c.in_ok-finished.ensures in
+    brought_whole c.args.helpers workers c.args.stock.items c.args.lines.now all c.as_slice.result.now c.as_slice.ensures.value bring
 
 pub returns-clause-raced : goal.returns-clause-raced
 returns-clause-raced g c =
@@ -43,11 +43,11 @@ returns-clause-raced g c =
     let all = c.in_ok-finished.finished.items in
     let ts = c.in_ok-told.told.items in
     let entries = c.in_ok-store.store.entries in
-    let bring = all_brought (length sessions) workers bs _ all (fresh_length workers sessions c.requires.fresh) c.in_ok-works.ensures.lines c.in_ok-finished.ensures in
-    let order = brought_in_order workers lines all c.as_slice.result.now ts c.as_slice.ensures.value (brought_by_each workers bs all bring) c.in_ok-told.ensures in
+    let bring = all_brought c.args.helpers (length sessions) workers bs _ all (fresh_length workers sessions c.requires.fresh) c.in_ok-works.ensures.lines c.in_ok-finished.ensures in
+    let order = brought_in_order workers lines all c.as_slice.result.now ts c.as_slice.ensures.value (brought_by_each c.args.helpers workers bs all bring) c.in_ok-told.ensures in
     let closes : List SessionState → Type 0 = λ ss. MayClose entries 0 ss in
     let shared : List SessionState → Type 0 = λ ss. AreSharedOut entries ss in (
       c.in_ok-store.ensures.opening,
-      raced workers 0 stock lines all ts entries (omega (arith, c.requires.new.0)) c.requires.commands bring order
+      raced c.args.helpers workers 0 stock lines all ts entries (omega (arith, c.requires.new.0)) c.requires.commands bring order
           (subst closes c.in_ok-sessions.ensures c.in_ok-store.ensures.matching) (subst shared c.in_ok-sessions.ensures c.in_ok-store.ensures.shared_out),
     )

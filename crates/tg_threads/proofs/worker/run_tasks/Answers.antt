@@ -21,9 +21,9 @@ loop-task-preserved g c =
       runs = λ workers low all.
           let i = c.loop-task.invariant.runs workers low all in
           let by = mapped_at boxed_of (IsRunBy workers x) c.loop-task.yielded c.in-Some.task c.next.new.self.rest.items c.args.tasks.items left all in
-          let more = run_more workers x (map boxed_of c.loop-task.yielded) c.loop-task.told.items c.loop-task.session c.run_task.new.session (boxed_of c.in-Some.task) c.run_task.result i.0 i.1 low by (c.run_task.ensures workers) in
-          let P : List Boxed → Type 0 = λ bs. Runs workers bs (c.loop-task.told.items ++ c.run_task.result ∷ []) c.run_task.new.session.receipts in
-          let Q : List Told → Type 0 = λ ts. Runs workers (map boxed_of (c.loop-task.yielded ++ c.in-Some.task ∷ [])) ts c.run_task.new.session.receipts in
+          let more = run_more c.args.helpers workers x (map boxed_of c.loop-task.yielded) c.loop-task.told.items c.loop-task.session c.run_task.new.session (boxed_of c.in-Some.task) c.run_task.result i.0 i.1 low by (c.run_task.ensures workers) in
+          let P : List Boxed → Type 0 = λ bs. Runs c.args.helpers workers bs (c.loop-task.told.items ++ c.run_task.result ∷ []) c.run_task.new.session.receipts in
+          let Q : List Told → Type 0 = λ ts. Runs c.args.helpers workers (map boxed_of (c.loop-task.yielded ++ c.in-Some.task ∷ [])) ts c.run_task.new.session.receipts in
           (more.0, subst Q (sym c.in_ok-push.ensures.items) (subst P (sym (map_push boxed_of c.loop-task.yielded c.in-Some.task)) more.1));
     }
 
@@ -32,4 +32,4 @@ returns g c =
     let all : c.loop-task.yielded ≡ c.args.tasks.items = grind (arith, common_steps, append-nil, c.loop-task.invariant.left, c.in-None.ensures) in
     λ workers low by.
     let i = c.loop-task.invariant.runs workers low by in
-    (i.0, subst (λ ts. Runs workers (map boxed_of ts) c.loop-task.told.items c.loop-task.session.receipts) all i.1)
+    (i.0, subst (λ ts. Runs c.args.helpers workers (map boxed_of ts) c.loop-task.told.items c.loop-task.session.receipts) all i.1)

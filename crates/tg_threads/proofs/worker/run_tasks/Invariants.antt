@@ -7,5 +7,5 @@ abbrev pub invariant-loop-task : goal.invariant-loop-task
 invariant-loop-task g l = record {
   left : l.yielded ++ l.task-iterator.rest.items ≡ l.fn.tasks.items;
   runs : (workers : ℕ) → l.fn.session.worker < workers → All (IsRunBy workers l.fn.session.worker) (map boxed_of l.fn.tasks.items) →
-      (l.session.worker ≡ l.fn.session.worker) × Runs workers (map boxed_of l.yielded) l.told.items l.session.receipts;
+      (l.session.worker ≡ l.fn.session.worker) × Runs l.fn.helpers workers (map boxed_of l.yielded) l.told.items l.session.receipts;
 }
