@@ -1,5 +1,5 @@
 -- The targets of a row, chunk by chunk, and that the cells among them are used ones of from-space.
-use Rattle.std.proofs.Common.{◌≡◌, ◌≢◌, ℕ, zero, suc, ◌<◌, ◌+◌, ◌-◌, ◌⊎◌, ◌==◌, ◌++◌, Bool, true, false, not, cond, List, [], ◌∷◌, length, refl, sym, ap, subst, arith, ◌∙◌, inl, inr, ⊎_elim}
+use Rattle.std.proofs.Common.{◌≡◌, ◌≢◌, ℕ, zero, suc, ◌<◌, ◌+◌, ◌-◌, ◌⊎◌, ◌==◌, ◌++◌, Bool, true, false, not, cond, List, [], ◌∷◌, length, get_or, refl, sym, ap, subst, arith, ◌∙◌, inl, inr, ⊎_elim}
 use Rattle.std.specs.List.{All, Contains, flat_map, take_while}
 use Rattle.std.proofs.lemmas.List.{append-nil, append_assoc}
 use Rattle.std.proofs.lemmas.List.Elements.{All-nil, All-cons, All-append, All-weaker, All-head, All-tail, All-contains_itself, Contains-append_left, Contains-append_right}
@@ -15,7 +15,7 @@ use Rattle.tg_space.specs.declared.spaces.Kind.{Kind}
 use Rattle.tg_space.specs.declared.spaces.Root.{Root}
 use Rattle.tg_space.specs.declared.spaces.Root.TheVariants.{Row, Remembered}
 use Rattle.tg_space.proofs.Flat.{get_or-flat_of}
-use Rattle.tg_space.proofs.Pointing.{used_object}
+use Rattle.tg_space.proofs.Pointing.{used_chunk, used_object}
 use Rattle.tg_evac.specs.Claims.{HavePointers, chunk_targets}
 use Rattle.tg_evac.proofs.Counting.{IsUsed}
 
@@ -161,16 +161,20 @@ module _ (kind : Kind) (h : SpaceList) (is : IsSpaceList h) (pointers : HavePoin
           (All-append (IsUsed kind h) (targets_at (from_space kind) h (place_in link)) (chunk_targets (from_space kind) h most (link_at h (place_in link)))
           (used_targets (place_in link) names.held) later)
 
-  pub used_root : (root : Root) → IsRootIn h root → All (IsUsed kind h) (root_targets_of (from_space kind) h root)
-  used_root (Row p) object = ⊎_elim
+  used_row : (p : Place) → Holds h p → 0 < get_or (cell_at h p) 0 0 → All (IsUsed kind h) (root_targets_of (from_space kind) h (Row p))
+  used_row p held some = ⊎_elim
       (λ (moved : from_space kind p.space ≡ true).
-      let used : IsUsed kind h (flat_of h p) = record { place = p; held = object.held; moved = moved; at = refl; used = used_object (cell_at h p) object.is } in
+      let used : IsUsed kind h (flat_of h p) = record { place = p; held = held; moved = moved; at = refl; used = some } in
       rw (row_moved (from_space kind) h p moved) (All-cons (IsUsed kind h) (flat_of h p) [] used (All-nil (IsUsed kind h))))
       (λ (kept : from_space kind p.space ≡ false).
       rw (row_kept (from_space kind) h p kept)
       (All-append (IsUsed kind h) (targets_at (from_space kind) h p) (chunk_targets (from_space kind) h (length (cells_of h)) (link_at h p))
-      (used_targets p object.held) (used_chunks (length (cells_of h)) (link_at h p) (pointers.links p object.held))))
+      (used_targets p held) (used_chunks (length (cells_of h)) (link_at h p) (pointers.links p held))))
       (tells (from_space kind p.space))
+
+  pub used_root : (root : Root) → IsRootIn h root → All (IsUsed kind h) (root_targets_of (from_space kind) h root)
+  used_root (Row p) (inl object) = used_row p object.held (used_object (cell_at h p) object.is)
+  used_root (Row p) (inr chunk) = used_row p chunk.held (used_chunk (cell_at h p) chunk.is)
   used_root (Remembered p) old = used_targets p old.held
 
 -- the targets of a cell, by its place and by its number

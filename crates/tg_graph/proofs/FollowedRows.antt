@@ -23,7 +23,7 @@ use Rattle.tg_space.specs.Targets.{from_space}
 use Rattle.tg_space.specs.Rows.{chunks_from, link_at}
 use Rattle.tg_space.specs.declared.spaces.Kind.{Kind}
 use Rattle.tg_space.specs.declared.spaces.Kind.TheVariants.{Full, Nursery}
-use Rattle.tg_graph.specs.Index.{AreAged, AreFollowed, AreIndexed, IsAged, IsFollowed, IsFollowedTo, IsIndexed, IsOldPlace, IsOldRow}
+use Rattle.tg_graph.specs.Index.{AreAged, AreFollowed, AreIndexed, IsAged, IsFollowed, IsFollowedTo, IsIndexed, IsOldPlace, IsOldRow, IsQuiet, known_notes}
 use Rattle.tg_graph.specs.Kept.{moved_place}
 use Rattle.tg_graph.specs.Rows.{IsRow}
 use Rattle.tg_graph.specs.declared.index.IndexedRow.{IndexedRow}
@@ -50,13 +50,13 @@ module _ (es : Entries) (i : ℕ) (inside : i < length es) (p : Entry) where
 -- ---- the loop
 
 -- The indexes before a place were followed, and the others not yet.
-pub record AreFollowedTo (kind : Kind) (h : SpaceList) (forward : List ℕ) (es : Entries) (at : ℕ) : Type 0 where
-  pub done : (j : ℕ) (d : Entry) → j < at → j < length es → IsFollowed kind h forward (get_or es j d).0 (get_or es j d).1
-  pub todo : (j : ℕ) (d : Entry) → at ≤ j → j < length es → IsIndexed h (get_or es j d).0 (get_or es j d).1
+pub record AreFollowedTo (kind : Kind) (h : SpaceList) (forward : List ℕ) (notes : List Place) (es : Entries) (at : ℕ) : Type 0 where
+  pub done : (j : ℕ) (d : Entry) → j < at → j < length es → IsFollowed kind h forward notes (get_or es j d).0 (get_or es j d).1
+  pub todo : (j : ℕ) (d : Entry) → at ≤ j → j < length es → IsIndexed h (known_notes kind notes) (get_or es j d).0 (get_or es j d).1
 
 -- a row that lies in Old whole is followed as it is by a nursery collection
-old_followed : (h : SpaceList) (forward : List ℕ) (name : ℕ) (row : IndexedRow) → IsIndexed h name row → IsAged row → IsOldRow row → IsFollowed Nursery h forward name row
-old_followed h forward name row was aged old = record {
+old_followed : (h : SpaceList) (forward : List ℕ) (notes : List Place) (name : ℕ) (row : IndexedRow) → IsIndexed h notes name row → IsAged row → IsOldRow row → IsFollowed Nursery h forward notes name row
+old_followed h forward notes name row was aged old = record {
   row = row;
   was = was;
   to = record {
@@ -64,6 +64,7 @@ old_followed h forward name row was aged old = record {
     cells = sym (map_same (moved_place (from_space Nursery) h (new_place forward)) row.cells.items stays);
     copied = λ p first moves. let here : from_space Nursery p.space ≡ false = in_old p first in let no : true ≡ false = sym moves ∙ here in absurd cc;
   };
+  quiet = was.quiet;
 }
   where
     all_old : All IsOldPlace row.cells.items
@@ -78,32 +79,32 @@ old_followed h forward name row was aged old = record {
         subst IsOldPlace (slice_get_is row.cells.items 0 p first) (all_old 0 p low)
 
 -- the first rows needn't be looked at
-pub follow_begins : (kind : Kind) (h : SpaceList) (forward : List ℕ) (es : Entries) (first : ℕ) → AreIndexed h es → AreAged es first → (kind ≡ Full → first ≡ 0) → IsDistinct nat_eq (keys_of es) → AreFollowedTo kind h forward es first
-follow_begins kind h forward es first indexed aged full unique = record {
-  done = λ j d low inside. first_done kind full j d low inside;
+pub follow_begins : (kind : Kind) (h : SpaceList) (forward : List ℕ) (notes : List Place) (es : Entries) (first : ℕ) → AreIndexed h (known_notes kind notes) es → AreAged es first → (kind ≡ Full → first ≡ 0) → IsDistinct nat_eq (keys_of es) → AreFollowedTo kind h forward notes es first
+follow_begins kind h forward notes es first indexed aged full unique = record {
+  done = λ j d low inside. first_done kind index_of full j d low inside;
   todo = λ j d high inside. index_of j d inside;
 }
   where
-    index_of : (j : ℕ) (d : Entry) → j < length es → IsIndexed h (get_or es j d).0 (get_or es j d).1
+    index_of : (j : ℕ) (d : Entry) → j < length es → IsIndexed h (known_notes kind notes) (get_or es j d).0 (get_or es j d).1
     index_of j d inside = indexed (get_or es j d).0 (get_or es j d).1 (lookup-from_Contains nat_eq_equiv (get_or es j d).0 (get_or es j d).1 es unique (Contains-get_or es j d inside))
 
-    first_done : (k : Kind) → (k ≡ Full → first ≡ 0) → (j : ℕ) (d : Entry) → j < first → j < length es → IsFollowed k h forward (get_or es j d).0 (get_or es j d).1
-    first_done Full none j d low inside = let zero_rows = none refl in absurd (omega (arith, zero_rows))
-    first_done Nursery none j d low inside = old_followed h forward (get_or es j d).0 (get_or es j d).1 (index_of j d inside) (aged.each j d inside) (old_row_at es first aged j d low)
+    first_done : (k : Kind) → ((j : ℕ) (d : Entry) → j < length es → IsIndexed h (known_notes k notes) (get_or es j d).0 (get_or es j d).1) → (k ≡ Full → first ≡ 0) → (j : ℕ) (d : Entry) → j < first → j < length es → IsFollowed k h forward notes (get_or es j d).0 (get_or es j d).1
+    first_done Full indexes none j d low inside = let zero_rows = none refl in absurd (omega (arith, zero_rows))
+    first_done Nursery indexes none j d low inside = old_followed h forward notes (get_or es j d).0 (get_or es j d).1 (indexes j d inside) (aged.each j d inside) (old_row_at es first aged j d low)
 
-pub follow_ends : (kind : Kind) (h : SpaceList) (forward : List ℕ) (es : Entries) (at : ℕ) → AreFollowedTo kind h forward es at → length es ≤ at → AreFollowed kind h forward es
-follow_ends kind h forward es at followed all name row found =
+pub follow_ends : (kind : Kind) (h : SpaceList) (forward : List ℕ) (notes : List Place) (es : Entries) (at : ℕ) → AreFollowedTo kind h forward notes es at → length es ≤ at → AreFollowed kind h forward notes es
+follow_ends kind h forward notes es at followed all name row found =
     let has = Contains-from_lookup (λ x y same. (Decides-eqb x y).0 same) name row es found in
     let low = has.1 in
-    subst (λ (e : Entry). IsFollowed kind h forward e.0 e.1) has.2 (followed.done has.0 (name, row) (omega arith) low)
+    subst (λ (e : Entry). IsFollowed kind h forward notes e.0 e.1) has.2 (followed.done has.0 (name, row) (omega arith) low)
 
-module _ (kind : Kind) (h : SpaceList) (forward : List ℕ) (es later : Entries) (at : ℕ) (inside : at < length es) (followed : AreFollowedTo kind h forward es at) (row next : IndexedRow)
+module _ (kind : Kind) (h : SpaceList) (forward : List ℕ) (notes : List Place) (es later : Entries) (at : ℕ) (inside : at < length es) (followed : AreFollowedTo kind h forward notes es at) (row next : IndexedRow)
     (found : slice_get (values_of es) at ≡ Some row) (written : later ≡ set_value_at es at next) where
   abbrev here : Entry
   here = get_or es at (0, row)
 
-  was : IsIndexed h here.0 row
-  was = subst (IsIndexed h here.0) (value_of es at row (0, row) found) (followed.todo at (0, row) (omega arith) inside)
+  was : IsIndexed h (known_notes kind notes) here.0 row
+  was = subst (IsIndexed h (known_notes kind notes) here.0) (value_of es at row (0, row) found) (followed.todo at (0, row) (omega arith) inside)
 
   pub later_long : length later ≡ length es
   later_long = ap (λ (l : Entries). length l) written ∙ length-set_value_at es at next
@@ -112,21 +113,21 @@ module _ (kind : Kind) (h : SpaceList) (forward : List ℕ) (es later : Entries)
   other j d ne = ap (λ (l : Entries). get_or l j d) written ∙ value_other es at j next d ne
 
   -- one more was followed
-  pub one_followed : IsFollowedTo kind h forward row next → AreFollowedTo kind h forward later (at + 1)
-  one_followed to = record {
+  pub one_followed : IsFollowedTo kind h forward row next → IsQuiet notes next → AreFollowedTo kind h forward notes later (at + 1)
+  one_followed to quiet = record {
     done = λ j d low in_later. by_place j d low in_later (cases_eq j at);
     todo = λ j d high in_later.
-        subst (λ (e : Entry). IsIndexed h e.0 e.1) (sym (other j d (λ e. omega arith))) (followed.todo j d (omega arith) (omega (arith, later_long)));
+        subst (λ (e : Entry). IsIndexed h (known_notes kind notes) e.0 e.1) (sym (other j d (λ e. omega arith))) (followed.todo j d (omega arith) (omega (arith, later_long)));
   }
     where
-      by_place : (j : ℕ) (d : Entry) → j < at + 1 → j < length later → (j ≡ at) ⊎ (j ≢ at) → IsFollowed kind h forward (get_or later j d).0 (get_or later j d).1
+      by_place : (j : ℕ) (d : Entry) → j < at + 1 → j < length later → (j ≡ at) ⊎ (j ≢ at) → IsFollowed kind h forward notes (get_or later j d).0 (get_or later j d).1
       by_place j d low in_later (inl same) =
           let now : get_or later j d ≡ (here.0, next) =
           ap (λ (l : Entries). get_or l j d) written ∙ ap (λ k. get_or (set_value_at es at next) k d) same ∙ value_here es at next d inside
           ∙ ap (λ (e : Entry). (e.0, next)) (get_or_default es at d (0, row) inside) in
-          subst (λ (e : Entry). IsFollowed kind h forward e.0 e.1) (sym now) (record { row = row; was = was; to = to })
+          subst (λ (e : Entry). IsFollowed kind h forward notes e.0 e.1) (sym now) (record { row = row; was = was; to = to; quiet = quiet })
       by_place j d low in_later (inr ne) =
-          subst (λ (e : Entry). IsFollowed kind h forward e.0 e.1) (sym (other j d ne)) (followed.done j d (omega arith) (omega (arith, later_long)))
+          subst (λ (e : Entry). IsFollowed kind h forward notes e.0 e.1) (sym (other j d ne)) (followed.done j d (omega arith) (omega (arith, later_long)))
 
   -- what was taken out
   pub taken : (o : Option Entry) (rest : Entries) → o ≡ slice_get later at → IfSome o (λ p. rest ≡ swap_remove later at p) → (rest ≡ swap_remove later at (get_or later at (0, row))) × (length rest + 1 ≡ length later)
@@ -137,17 +138,17 @@ module _ (kind : Kind) (h : SpaceList) (forward : List ℕ) (es later : Entries)
       (out, omega (arith, later_long, long))
 
   -- one goes
-  pub one_gone : (p : Entry) (rest : Entries) → rest ≡ swap_remove later at p → AreFollowedTo kind h forward rest at
-  one_gone p rest gone = subst (λ (l : Entries). AreFollowedTo kind h forward l at) (sym gone) (record {
+  pub one_gone : (p : Entry) (rest : Entries) → rest ≡ swap_remove later at p → AreFollowedTo kind h forward notes rest at
+  one_gone p rest gone = subst (λ (l : Entries). AreFollowedTo kind h forward notes l at) (sym gone) (record {
     done = λ j d low in_rest.
-        subst (λ (e : Entry). IsFollowed kind h forward e.0 e.1) (sym (removed_before later at (omega (arith, later_long)) p j d low ∙ other j d (λ e. omega arith)))
+        subst (λ (e : Entry). IsFollowed kind h forward notes e.0 e.1) (sym (removed_before later at (omega (arith, later_long)) p j d low ∙ other j d (λ e. omega arith)))
         (followed.done j d low (let short = removed_long later at (omega (arith, later_long)) p in omega (arith, later_long)));
     todo = λ j d high in_rest.
         todo_rest j d high (let short = removed_long later at (omega (arith, later_long)) p in omega (arith, short));
   })
     where
       -- the entry that goes counts as the last one, where it was the last
-      todo_rest : (j : ℕ) (d : Entry) → at ≤ j → j < length later - 1 → IsIndexed h (get_or (swap_remove later at p) j d).0 (get_or (swap_remove later at p) j d).1
+      todo_rest : (j : ℕ) (d : Entry) → at ≤ j → j < length later - 1 → IsIndexed h (known_notes kind notes) (get_or (swap_remove later at p) j d).0 (get_or (swap_remove later at p) j d).1
       todo_rest j d high low = by_place (cases_eq j at)
         where
           last : Entry
@@ -156,13 +157,13 @@ module _ (kind : Kind) (h : SpaceList) (forward : List ℕ) (es later : Entries)
           read : get_or (swap_remove later at p) j d ≡ get_or (set later at last) j d
           read = get_or-take (length later - 1) (set later at last) j d low
 
-          by_place : (j ≡ at) ⊎ (j ≢ at) → IsIndexed h (get_or (swap_remove later at p) j d).0 (get_or (swap_remove later at p) j d).1
+          by_place : (j ≡ at) ⊎ (j ≢ at) → IsIndexed h (known_notes kind notes) (get_or (swap_remove later at p) j d).0 (get_or (swap_remove later at p) j d).1
           by_place (inl same) =
               let set_here : get_or (set later at last) j d ≡ last = ap (λ k. get_or (set later at last) k d) same ∙ get_or-set_same later at last d (omega (arith, later_long)) in
               let last_is : last ≡ get_or es (length later - 1) p = other (length later - 1) p (λ e. omega (arith, later_long)) in
-              subst (λ (e : Entry). IsIndexed h e.0 e.1) (sym (read ∙ set_here ∙ last_is)) (followed.todo (length later - 1) p (omega (arith, later_long)) (omega (arith, later_long)))
+              subst (λ (e : Entry). IsIndexed h (known_notes kind notes) e.0 e.1) (sym (read ∙ set_here ∙ last_is)) (followed.todo (length later - 1) p (omega (arith, later_long)) (omega (arith, later_long)))
           by_place (inr ne) =
-              subst (λ (e : Entry). IsIndexed h e.0 e.1) (sym (read ∙ get_or-set_other later at j last d ne ∙ other j d ne)) (followed.todo j d high (omega (arith, later_long)))
+              subst (λ (e : Entry). IsIndexed h (known_notes kind notes) e.0 e.1) (sym (read ∙ get_or-set_other later at j last d ne ∙ other j d ne)) (followed.todo j d high (omega (arith, later_long)))
 
 -- ---- ages, while rows are followed
 
@@ -228,14 +229,14 @@ pub swapped_long : (later swapped : Entries) (a b : ℕ) → swapped ≡ swap la
 swapped_long later swapped a b is = ap (λ (l : Entries). length l) is ∙ length-swap later a b
 
 -- two of those that were followed change places
-pub followed_swapped : (kind : Kind) (h : SpaceList) (forward : List ℕ) (later swapped : Entries) (old at : ℕ) → at < length later → old ≤ at → AreFollowedTo kind h forward later (at + 1) → swapped ≡ swap later at old → AreFollowedTo kind h forward swapped (at + 1)
-followed_swapped kind h forward later swapped old at inside low followed is = subst (λ (l : Entries). AreFollowedTo kind h forward l (at + 1)) (sym is) (record {
+pub followed_swapped : (kind : Kind) (h : SpaceList) (forward : List ℕ) (notes : List Place) (later swapped : Entries) (old at : ℕ) → at < length later → old ≤ at → AreFollowedTo kind h forward notes later (at + 1) → swapped ≡ swap later at old → AreFollowedTo kind h forward notes swapped (at + 1)
+followed_swapped kind h forward notes later swapped old at inside low followed is = subst (λ (l : Entries). AreFollowedTo kind h forward notes l (at + 1)) (sym is) (record {
   done = λ j d before in_list.
-      subst (λ (e : Entry). IsFollowed kind h forward e.0 e.1) (sym (read j d))
+      subst (λ (e : Entry). IsFollowed kind h forward notes e.0 e.1) (sym (read j d))
       (followed.done (exchange at old j) d (exchange-within at old (at + 1) j (omega arith) (omega arith) before) (exchange-within at old (length later) j inside (omega arith) (omega (arith, long))));
   todo = λ j d behind in_list.
       let place : exchange at old j ≡ j = grind (arith, nat_tests) in
-      subst (λ (e : Entry). IsIndexed h e.0 e.1) (sym (read j d ∙ ap (λ k. get_or later k d) place)) (followed.todo j d behind (omega (arith, long)));
+      subst (λ (e : Entry). IsIndexed h (known_notes kind notes) e.0 e.1) (sym (read j d ∙ ap (λ k. get_or later k d) place)) (followed.todo j d behind (omega (arith, long)));
 })
   where
     long : length (swap later at old) ≡ length later
@@ -246,10 +247,10 @@ followed_swapped kind h forward later swapped old at inside low followed is = su
 
 -- ---- what is asked of the row at a place
 
-module _ (kind : Kind) (h : SpaceList) (forward : List ℕ) (es : Entries) (old at : ℕ) (inside : at < length es) (followed : AreFollowedTo kind h forward es at) (aged : AreAged es old) (rows : (p : Place) → IsKindAt h Object p → IsRow h p)
+module _ (kind : Kind) (h : SpaceList) (forward : List ℕ) (notes : List Place) (es : Entries) (old at : ℕ) (inside : at < length es) (followed : AreFollowedTo kind h forward notes es at) (aged : AreAged es old) (rows : (p : Place) → IsKindAt h Object p → IsRow h p)
     (row : IndexedRow) (found : slice_get (values_of es) at ≡ Some row) where
-  index_here : IsIndexed h (get_or es at (0, row)).0 row
-  index_here = subst (IsIndexed h (get_or es at (0, row)).0) (value_of es at row (0, row) found) (followed.todo at (0, row) (omega arith) inside)
+  index_here : IsIndexed h (known_notes kind notes) (get_or es at (0, row)).0 row
+  index_here = subst (IsIndexed h (known_notes kind notes) (get_or es at (0, row)).0) (value_of es at row (0, row) found) (followed.todo at (0, row) (omega arith) inside)
 
   pub cells_held : All (Holds h) row.cells.items
   cells_held =
@@ -263,3 +264,6 @@ module _ (kind : Kind) (h : SpaceList) (forward : List ℕ) (es : Entries) (old 
 
   pub aged_here : IsAged row
   aged_here = subst IsAged (value_of es at row (0, row) found) (aged.each at (0, row) inside)
+
+  pub quiet_here : IsQuiet (known_notes kind notes) row
+  quiet_here = index_here.quiet

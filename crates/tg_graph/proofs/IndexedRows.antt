@@ -8,54 +8,56 @@ use Rattle.tg_space.specs.SpaceList.{SpaceList}
 use Rattle.tg_space.specs.Soundness.{IsKindAt}
 use Rattle.tg_payload.specs.Table.{Payloads}
 use Rattle.tg_graph.specs.Heap.{IsGraph}
-use Rattle.tg_graph.specs.Index.{AreIndexed, IsIndexed, IsRowIndex, KeepsOtherIndexes}
+use Rattle.tg_graph.specs.Index.{AreIndexed, IsIndexed, IsQuiet, IsRowIndex, KeepsOtherIndexes}
 use Rattle.tg_graph.specs.Rows.{IsVertexAt, name_at}
 use Rattle.tg_graph.specs.declared.index.IndexedRow.{IndexedRow}
+use Rattle.tg_graph.proofs.Quiet.{KeepsOthersQuiet}
 
 abbrev Entries : Type 0
 Entries = List (ℕ × IndexedRow)
 
 -- the index under the name of an object is that of its row
-pub index_at : (h : SpaceList) (payloads : Payloads) → IsGraph h payloads → (rows : Entries) → AreIndexed h rows → (from : Place) → IsKindAt h Object from → (own : ℕ) → own ≡ name_at h from → (row : IndexedRow) →
-    lookup (nat_eq own) rows ≡ Some row → IsRowIndex h from row.names row.cells.items
-index_at h payloads graph rows indexed from object own named row found =
+pub index_at : (h : SpaceList) (payloads : Payloads) → IsGraph h payloads → (remembered : List Place) (rows : Entries) → AreIndexed h remembered rows → (from : Place) → IsKindAt h Object from → (own : ℕ) → own ≡ name_at h from → (row : IndexedRow) →
+    lookup (nat_eq own) rows ≡ Some row → IsRowIndex h from row.names row.cells.items × IsQuiet remembered row
+index_at h payloads graph remembered rows indexed from object own named row found =
     let is = indexed own row found in
-    subst (λ (p : Place). IsRowIndex h p row.names row.cells.items) (graph.names is.place from is.vertex.object object (is.vertex.named ∙ named)) is.index
+    (subst (λ (p : Place). IsRowIndex h p row.names row.cells.items) (graph.names is.place from is.vertex.object object (is.vertex.named ∙ named)) is.index, is.quiet)
 
 module _ (h after : SpaceList) (vertices : (x : ℕ) (p : Place) → IsVertexAt h x p → IsVertexAt after x p) (from : Place) (object : IsKindAt h Object from) (others : KeepsOtherIndexes h after from)
-    (rows : Entries) (indexed : AreIndexed h rows) (own : ℕ) (named : own ≡ name_at h from) where
+    (before now : List Place) (quieter : KeepsOthersQuiet h before now from) (rows : Entries) (indexed : AreIndexed h before rows) (own : ℕ) (named : own ≡ name_at h from) where
   -- an index under another name stays
-  other_stays : (name : ℕ) (row : IndexedRow) → name ≢ own → lookup (nat_eq name) rows ≡ Some row → IsIndexed after name row
+  other_stays : (name : ℕ) (row : IndexedRow) → name ≢ own → lookup (nat_eq name) rows ≡ Some row → IsIndexed after now name row
   other_stays name row other found =
       let is = indexed name row found in
       record {
         place = is.place;
         vertex = vertices name is.place is.vertex;
         index = others is.place row.names row.cells.items (λ same. other (sym is.vertex.named ∙ ap (name_at h) same ∙ sym named)) is.vertex.object is.index;
+        quiet = quieter is.place row (λ same. other (sym is.vertex.named ∙ ap (name_at h) same ∙ sym named)) is.vertex.object is.index.cells is.quiet;
       }
 
   -- the row that was changed has no index
-  pub indexes_kept : (later : Entries) → later ≡ rows → lookup (nat_eq own) rows ≡ None → AreIndexed after later
+  pub indexes_kept : (later : Entries) → later ≡ rows → lookup (nat_eq own) rows ≡ None → AreIndexed after now later
   indexes_kept later same none name row found =
       let here = subst (λ (es : Entries). lookup (nat_eq name) es ≡ Some row) same found in
       other_stays name row (λ at. let gone : ◌≡◌ {A = Option IndexedRow} None (Some row) = sym none ∙ subst (λ n. lookup (nat_eq n) rows ≡ Some row) at here in let no : ⊥ = cc in no) here
 
   -- it has this one now
-  pub indexes_written : (later : Entries) (new : IndexedRow) → ((q : ℕ) → lookup (nat_eq q) later ≡ cond (nat_eq own q) (Some new) (lookup (nat_eq q) rows)) → IsRowIndex after from new.names new.cells.items → AreIndexed after later
-  indexes_written later new written index name row found = by_name (nat_eq own name) refl
+  pub indexes_written : (later : Entries) (new : IndexedRow) → ((q : ℕ) → lookup (nat_eq q) later ≡ cond (nat_eq own q) (Some new) (lookup (nat_eq q) rows)) → IsRowIndex after from new.names new.cells.items → IsQuiet now new → AreIndexed after now later
+  indexes_written later new written index quiet name row found = by_name (nat_eq own name) refl
     where
-      by_name : (b : Bool) → nat_eq own name ≡ b → IsIndexed after name row
+      by_name : (b : Bool) → nat_eq own name ≡ b → IsIndexed after now name row
       by_name true same =
           let name_is : own ≡ name = (Decides-eqb own name).0 same in
           let one : Some new ≡ Some row = ap (λ (b : Bool). cond b (Some new) (lookup (nat_eq name) rows)) (sym same) ∙ sym (written name) ∙ found in
           let row_is : new ≡ row = cc in
-          subst (λ n. IsIndexed after n row) name_is
-          (subst (IsIndexed after own) row_is (record { place = from; vertex = vertices own from (record { object = object; named = sym named }); index = index }))
+          subst (λ n. IsIndexed after now n row) name_is
+          (subst (IsIndexed after now own) row_is (record { place = from; vertex = vertices own from (record { object = object; named = sym named }); index = index; quiet = quiet }))
       by_name false other =
           let ne : name ≢ own = λ e. let yes : nat_eq own name ≡ true = (Decides-eqb own name).1 (sym e) in let no : false ≡ true = sym other ∙ yes in absurd cc in
           other_stays name row ne (ap (λ (b : Bool). cond b (Some new) (lookup (nat_eq name) rows)) (sym other) ∙ sym (written name) ∙ found)
 
 -- no row has an index
-pub no_indexes : (h : SpaceList) (rows : Entries) → rows ≡ [] → AreIndexed h rows
-no_indexes h rows none name row found =
+pub no_indexes : (h : SpaceList) (remembered : List Place) (rows : Entries) → rows ≡ [] → AreIndexed h remembered rows
+no_indexes h remembered rows none name row found =
     let nothing : ◌≡◌ {A = Option IndexedRow} None (Some row) = subst (λ (es : Entries). lookup (nat_eq name) es ≡ Some row) none found in absurd cc

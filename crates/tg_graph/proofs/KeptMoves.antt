@@ -14,7 +14,7 @@ use Rattle.tg_block.specs.declared.CellKind.{CellKind}
 use Rattle.tg_space.specs.SpaceList.{SpaceList, BlockList, IsSpaceList, Holds, cell_at, cells_of, flat_of}
 use Rattle.tg_space.specs.SpaceTable.{adopted}
 use Rattle.tg_space.specs.Targets.{from_space, first_pointer, moved_word, root_targets_of, all_root_targets, targets_of, pointers_of, image_of}
-use Rattle.tg_space.specs.Soundness.{HasLayout, HasLayoutOf, IsOldCell, IsRootIn, NamesCell}
+use Rattle.tg_space.specs.Soundness.{HasLayout, HasLayoutOf, IsOldCell, NamesCell}
 use Rattle.tg_space.specs.Closure.{IsInClosure}
 use Rattle.tg_space.specs.Generations.{AreNeeded, AreRemembered, NamesYoung}
 use Rattle.tg_space.specs.Collection.{IsCollection, IsMadeInOld, IsNewPlace, new_place}
@@ -29,7 +29,7 @@ use Rattle.tg_graph.proofs.Members.{Contains-flat_map, Contains-here, Contains-m
 use Rattle.tg_graph.proofs.Places.{cell_long, layout_at}
 use Rattle.tg_graph.proofs.Layouts.{KindCases, is_free, is_object, is_chunk, is_bad, kind_cases, object_tagged, chunk_tagged, free_zero}
 use Rattle.tg_graph.proofs.KeptCells.{Moves, held_in_range}
-use Rattle.tg_graph.proofs.KeptTargets.{IsInFrom, next_target, reached_in_from, target_held, target_of_word}
+use Rattle.tg_graph.proofs.KeptTargets.{IsWholeRoot, IsInFrom, next_target, reached_in_from, target_held, target_of_word}
 use Rattle.tg_graph.proofs.KeptAdopted.{adopted_cases, new_apart, stays_cell, stays_held, young_moves}
 
 -- ---- words
@@ -86,7 +86,7 @@ found_below words word (suc n) = by_last (cases_eq (get_or words n 0) word) (fou
 -- The remembered cells among the roots stay where they are, and each cell that stays and names one of from-space is
 -- among them.
 pub record AreRooted (from : ℕ → Bool) (h : SpaceList) (roots : List Root) : Type 0 where
-  pub held : All (IsRootIn h) roots
+  pub held : All (IsWholeRoot h) roots
   pub stay : (p : Place) → Contains roots (Remembered p) → IsOldCell h p × (from p.space ≡ false)
   pub all : (p : Place) → Holds h p → from p.space ≡ false → (word : ℕ) → Contains (pointers_of (cell_at h p)) word → from (place_in word).space ≡ true → Contains roots (Remembered p)
 

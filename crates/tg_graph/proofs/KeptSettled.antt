@@ -42,9 +42,9 @@ module _ (s seen : HeapState) (same : s ≡ seen) (is : IsWellFormed s) (table :
 
   -- a full collection
   pub full_left : IsCollection Full seen.table.spaces (roots_of Full seen) forward aged old notes → (now : HeapState) → now.table ≡ with_adopted s.table Full aged old → IsSpaceTable now.table →
-      Drops s.payloads now.payloads (IsDeadKey Full h forward) → now.workers ≡ map (moved_place (from_space Full) h (new_place forward)) s.workers → now.remembered ≡ notes → IsLeft Full forward seen now
+      Drops s.payloads now.payloads (IsDeadKey Full h forward) → now.workers ≡ map (moved_place (from_space Full) h (new_place forward)) s.workers → now.remembered ≡ notes → IsLeft Full forward notes seen now
   full_left collected now adopted_as table_now drops workers remembered =
-      subst (λ (before : HeapState). IsLeft Full forward before now) same
+      subst (λ (before : HeapState). IsLeft Full forward notes before now) same
       (left_by Full s now is table forward aged old notes (collected_here Full collected)
       (record {
         after = after_adopted s is forward aged old now.table table_now (ap (λ (t : SpaceTable). t.spaces) adopted_as);
@@ -73,10 +73,10 @@ module _ (s seen : HeapState) (same : s ≡ seen) (is : IsWellFormed s) (table :
 
   -- a nursery collection
   pub nursery_left : IsCollection Nursery seen.table.spaces (roots_of Nursery seen) forward aged old notes → (now : HeapState) (t : SpaceTable) (cells : List Rewritten) (keys : List ℕ) → t ≡ with_adopted s.table Nursery aged old → cells ≡ map (rewritten_at h forward) s.remembered → AreWritten t now.table cells → IsSpaceTable now.table →
-      ((key : ℕ) → Contains keys key ↔ IsDeadKey Nursery h forward key) → Drops s.payloads now.payloads (Contains keys) → now.workers ≡ map (moved_place (from_space Nursery) h (new_place forward)) s.workers → now.remembered ≡ notes → IsLeft Nursery forward seen now
+      ((key : ℕ) → Contains keys key ↔ IsDeadKey Nursery h forward key) → Drops s.payloads now.payloads (Contains keys) → now.workers ≡ map (moved_place (from_space Nursery) h (new_place forward)) s.workers → now.remembered ≡ notes → IsLeft Nursery forward notes seen now
   nursery_left collected now t cells keys adopted_as are written table_now dead drops workers remembered =
       let all_written : AreWritten (with_adopted s.table Nursery aged old) now.table (map (rewritten_at h forward) s.remembered) = subst (λ (cs : List Rewritten). AreWritten (with_adopted s.table Nursery aged old) now.table cs) are (subst (λ (u : SpaceTable). AreWritten u now.table cells) adopted_as written) in
-      subst (λ (before : HeapState). IsLeft Nursery forward before now) same
+      subst (λ (before : HeapState). IsLeft Nursery forward notes before now) same
       (left_by Nursery s now is table forward aged old notes (collected_here Nursery collected)
       (record {
         after = after_written s is forward aged old now.table table_now all_written;

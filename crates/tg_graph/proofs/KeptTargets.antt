@@ -13,7 +13,7 @@ use Rattle.tg_space.specs.SpaceList.{SpaceList, IsSpaceList, Holds, cell_at, cel
 use Rattle.tg_space.specs.Closure.{IsInClosure}
 use Rattle.tg_space.specs.Rows.{chunks_from, link_at, row_of}
 use Rattle.tg_space.specs.Targets.{target_in, named_by, targets_of, targets_at, cells_followed, root_targets_of, all_root_targets, pointers_of}
-use Rattle.tg_space.specs.Soundness.{AreSound, IsKindAt, IsPointer, IsRootIn, NamesCell}
+use Rattle.tg_space.specs.Soundness.{AreSound, IsKindAt, IsOldCell, IsPointer, IsRootIn, NamesCell}
 use Rattle.tg_space.specs.declared.spaces.Root.{Root}
 use Rattle.tg_space.specs.declared.spaces.Root.TheVariants.{Row, Remembered}
 use Rattle.tg_space.proofs.Flat.{get_or-flat_of}
@@ -23,6 +23,15 @@ use Rattle.tg_graph.specs.Heap.{IsGraph}
 use Rattle.tg_graph.proofs.Members.{Contains-cases, Contains-here, Contains-none, Contains-flat_map, Contains-from_flat_map}
 use Rattle.tg_graph.proofs.Places.{cell_long, layout_at}
 use Rattle.tg_graph.proofs.Chains.{row_held}
+
+-- a root stands for the whole row of an object, or for a remembered cell of Old
+abbrev pub IsWholeRoot : SpaceList → Root → Type 0
+IsWholeRoot h (Row p) = IsKindAt h Object p
+IsWholeRoot h (Remembered p) = IsOldCell h p
+
+pub whole_is_root : (h : SpaceList) (root : Root) → IsWholeRoot h root → IsRootIn h root
+whole_is_root h (Row p) object = inl object
+whole_is_root h (Remembered p) old = old
 
 module _ (from : ℕ → Bool) (h : SpaceList) where
   -- one of these words names the cell of from-space with a number
@@ -94,7 +103,7 @@ module _ (from : ℕ → Bool) (h : SpaceList) where
           let in_row : Contains (take n (row_of h p) ++ drop n (row_of h p)) q = Contains-append_left (take n (row_of h p)) (drop n (row_of h p)) q has in
           All-contains (Holds h) (row_of h p) q row (subst (λ (ps : List Place). Contains ps q) (take-append-drop n (row_of h p)) in_row)
 
-      root_in_from : (root : Root) → IsRootIn h root → (number : ℕ) → Contains (root_targets_of from h root) number → IsInFrom number
+      root_in_from : (root : Root) → IsWholeRoot h root → (number : ℕ) → Contains (root_targets_of from h root) number → IsInFrom number
       root_in_from (Remembered p) old number has = from_target p old.held number has
       root_in_from (Row p) object number has = by_space (cases_Bool (from p.space))
         where
@@ -108,13 +117,13 @@ module _ (from : ℕ → Bool) (h : SpaceList) where
               from_target piece.0 (met_held p piece.0 object piece.1) number piece.2
 
       -- what the roots reach is in from-space
-      pub reached_in_from : (roots : List Root) → All (IsRootIn h) roots → (number : ℕ) → IsInClosure (all_root_targets from h roots) (targets_of from h) number → IsInFrom number
+      pub reached_in_from : (roots : List Root) → All (IsWholeRoot h) roots → (number : ℕ) → IsInClosure (all_root_targets from h roots) (targets_of from h) number → IsInFrom number
       reached_in_from roots are = Walk-within IsInFrom first next
         where
           first : (number : ℕ) → Contains (all_root_targets from h roots) number → IsInFrom number
           first number has =
               let piece = Contains-from_flat_map (root_targets_of from h) roots number has in
-              root_in_from piece.0 (All-contains (IsRootIn h) roots piece.0 are piece.1) number piece.2
+              root_in_from piece.0 (All-contains (IsWholeRoot h) roots piece.0 are piece.1) number piece.2
 
           next : (number target : ℕ) → IsInFrom number → Contains (targets_of from h number) target → IsInFrom target
           next number target is has =

@@ -55,7 +55,7 @@ named_before words long i word low high names =
     (Contains-set (pointers_of words) (i - first_pointer (get_or words 0 0)) word names.0 (subst (λ (ws : List ℕ). Contains ws names.0) (pointers_set words long i word low high) names.1))
 
 -- a reference that names a young cell
-word_names : (words : List ℕ) → length words ≡ 8 → (i : ℕ) → first_pointer (get_or words 0 0) ≤ i → i < 8 → (place_in (get_or words i 0)).space ≢ 0 → NamesYoung words
+pub word_names : (words : List ℕ) → length words ≡ 8 → (i : ℕ) → first_pointer (get_or words 0 0) ≤ i → i < 8 → (place_in (get_or words i 0)).space ≢ 0 → NamesYoung words
 word_names words long i low high young =
     let first = first_pointer (get_or words 0 0) in
     let inside : i - first < length (pointers_of words) = omega (arith, length-drop first words) in

@@ -1,14 +1,16 @@
 -- What contracts see of a `Heap`, when it is well formed, and its content.
-use Rattle.std.specs.Prelude.{◌≡◌, ◌↔◌, ℕ, ◌+◌, ◌==◌, ◌++◌, List, [], Option, Some, None, IsSome, length, map, slice_get}
+use Rattle.std.specs.Prelude.{◌≡◌, ◌↔◌, ℕ, ◌+◌, ◌==◌, ◌++◌, List, [], ◌∷◌, Option, Some, None, IsSome, length, map, slice_get}
 use Rattle.std.specs.List.{IsDistinct}
 use Rattle.tg_rights.specs.RightSet.{RightSet, no_rights}
 use Rattle.tg_model.specs.declared.value.Value.{Value}
 use Rattle.tg_word.specs.declared.Place.{Place}
 use Rattle.tg_block.specs.declared.CellKind.TheVariants.{Object}
-use Rattle.tg_space.specs.SpaceList.{SpaceList, cells_of}
+use Rattle.tg_space.specs.SpaceList.{SpaceList, BlockList, cells_of}
 use Rattle.tg_space.specs.SpaceTable.{SpaceTable, IsFull}
 use Rattle.tg_nursery.specs.Allocation.{HasFewerLeft}
-use Rattle.tg_space.specs.Soundness.{AreSound, IsKindAt}
+use Rattle.tg_space.specs.Soundness.{AreSound, IsKindAt, IsRootIn}
+use Rattle.tg_space.specs.Collection.{IsCollection}
+use Rattle.tg_space.specs.Targets.{root_targets_of, young_spaces}
 use Rattle.tg_space.specs.declared.spaces.Root.{Root}
 use Rattle.tg_space.specs.declared.spaces.Root.TheVariants.{Row, Remembered}
 use Rattle.tg_space.specs.declared.spaces.Kind.{Kind}
@@ -72,6 +74,25 @@ pub record IsGraph (h : SpaceList) (payloads : Payloads) : Type 0 where
 abbrev pub roots_of : Kind → HeapState → List Root
 roots_of Full s = map (λ p. Row p) s.workers
 roots_of Nursery s = map (λ p. Row p) s.workers ++ map (λ p. Remembered p) s.remembered
+
+-- what is a collection from the second roots is one from the first
+abbrev pub CollectsAs : Kind → SpaceList → List Root → List Root → Type 0
+CollectsAs kind h roots starts =
+    (forward : List ℕ) (aged old : BlockList) (notes : List Place) → IsCollection kind h starts forward aged old notes → IsCollection kind h roots forward aged old notes
+
+-- a root in the place of the row of the object at a place: a cell of that row, from which a walk meets the same young targets
+pub record IsShorter (h : SpaceList) (p : Place) (root : Root) : Type 0 where
+  pub cell : Place
+  pub is : root ≡ Row cell
+  pub sound : IsRootIn h root
+  pub targets : root_targets_of young_spaces h root ≡ root_targets_of young_spaces h (Row p)
+
+-- one by one, the roots are in the place of the rows of the objects at these places
+abbrev pub AreShorter : SpaceList → List Place → List Root → Type 0
+AreShorter h [] [] = Unit {0}
+AreShorter h [] (root ∷ roots) = ⊥
+AreShorter h (p ∷ ps) [] = ⊥
+AreShorter h (p ∷ ps) (root ∷ roots) = IsShorter h p root × AreShorter h ps roots
 
 -- The cells are those of a graph; each worker is the vertex with its number, and has a nursery; and each cell of Old that
 -- names a young one is remembered.

@@ -83,6 +83,14 @@ abbrev pub with_note : List Place → Option Place → List Place
 with_note places None = places
 with_note places (Some cell) = noted places cell
 
+-- the cell, if there is one, is noted once rights are put in the row of the object at a place
+pub record IsNoteIn (h : SpaceList) (from : Place) (note : Option Place) : Type 0 where
+  pub name : ℕ
+  pub spot : Spot
+  pub young : Bool
+  pub found : IsSpotFor h name from spot
+  pub is : note ≡ note_for spot young
+
 -- a chunk with one reference
 abbrev pub chunk_words : ℕ → List ℕ
 chunk_words word = chunk_tag ∷ word ∷ 0 ∷ 0 ∷ 0 ∷ 0 ∷ 0 ∷ 0 ∷ []

@@ -67,7 +67,7 @@ impl<P: Payload> Model for Heap<P> {
 
     ghost view = { λ a. record { table = a.cells.spaces; payloads = a.cells.payloads; workers = a.workers.items; remembered = a.cells.remembered.places } };
 
-    ghost invariant = { λ a. IsWellFormed (record { table = a.cells.spaces; payloads = a.cells.payloads; workers = a.workers.items; remembered = a.cells.remembered.places }) × AreIndexed a.cells.spaces.spaces a.rows.entries };
+    ghost invariant = { λ a. IsWellFormed (record { table = a.cells.spaces; payloads = a.cells.payloads; workers = a.workers.items; remembered = a.cells.remembered.places }) × AreIndexed a.cells.spaces.spaces a.cells.remembered.places a.rows.entries };
 }
 
 impl<P: Payload> Heap<P> {

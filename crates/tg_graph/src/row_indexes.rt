@@ -1,7 +1,8 @@
 //! The graph in the cells, where some rows have an index: each call goes by the index of the row, if it has one, and else
 //! walks.
-ghost use Rattle.std.specs.Prelude.{◌≡◌, ◌+◌, ◌<◌, ◌≤◌, ◌⊎◌, ℕ, None, false, length, nat_eq, Err, IfErr, IfOk, IfSome, OnErr, OnOk};
+ghost use Rattle.std.specs.Prelude.{◌≡◌, ◌+◌, ◌<◌, ◌≤◌, ◌⊎◌, ℕ, List, None, false, length, nat_eq, Err, IfErr, IfOk, IfSome, OnErr, OnOk};
 ghost use Rattle.tg_rights.specs.RightSet.{is_none_held};
+ghost use Rattle.tg_word.specs.declared.Place.{Place as PlaceOf};
 ghost use Rattle.tg_model.specs.Graph.{with_rights, without_rights};
 ghost use Rattle.tg_model.specs.Rules.{with_value};
 ghost use Rattle.tg_block.specs.declared.CellKind.TheVariants.{Object};
@@ -10,7 +11,7 @@ ghost use Rattle.tg_space.specs.Soundness.{IsKindAt};
 ghost use Rattle.tg_space.specs.Generations.{AreRemembered};
 ghost use Rattle.tg_graph.specs.Content.{IsNamed};
 ghost use Rattle.tg_graph.specs.Heap.{IsGraph, content_in, rights_found};
-ghost use Rattle.tg_graph.specs.Index.{AreIndexed, HasIndexAt, IsAged, IsRowIndex};
+ghost use Rattle.tg_graph.specs.Index.{AreIndexed, HasIndexAt, IsAged, IsQuiet, IsRowIndex};
 ghost use Rattle.std.specs.Map.{lookup};
 ghost use Rattle.tg_graph.specs.Rows.{IsVertexAt, name_at};
 ghost use Rattle.tg_graph.specs.Spots.{IsMadeInRow, IsPutInRow, LacksCellsFor};
@@ -35,12 +36,14 @@ impl<P: Payload> Cells<P> {
         requires from { IsKindAt self.now.spaces.spaces Object from }
         ensures index { IfOk result (λ row. IsRowIndex self.now.spaces.spaces from row.names row.cells.items) }
         ensures aged { IfOk result IsAged }
+        ensures quiet { (places : List PlaceOf) → IfOk result (IsQuiet places) }
     {
         let (names, cells) = places_of(self.alloc, &self.spaces, from)?;
         Ok(IndexedRow {
             names: RowIndex::of_row(self.alloc, &names)?,
             cells,
             old_cells: 0,
+            quiet_cells: 0,
         })
     }
 
@@ -53,8 +56,8 @@ impl<P: Payload> Cells<P> {
     ) -> Result<Option<usize>, AllocError>
         requires graph { IsGraph self.now.spaces.spaces self.now.payloads }
         requires from { IsKindAt self.now.spaces.spaces Object from }
-        requires indexed { AreIndexed self.now.spaces.spaces rows.old.entries }
-        ensures indexed { AreIndexed self.now.spaces.spaces rows.new.entries }
+        requires indexed { AreIndexed self.now.spaces.spaces self.now.remembered.places rows.old.entries }
+        ensures indexed { AreIndexed self.now.spaces.spaces self.now.remembered.places rows.new.entries }
         ensures there { IfOk result (λ place. IfSome place (λ at. (rows.new.old_rows ≤ at) × HasIndexAt rows.new.entries (name_at self.now.spaces.spaces from) at)) }
         ensures none { IfOk result (λ place. place ≡ None → lookup (nat_eq (name_at self.now.spaces.spaces from)) rows.new.entries ≡ None) }
     {
@@ -73,7 +76,7 @@ impl<P: Payload> Cells<P> {
     pub(crate) fn find_edge_in(&self, rows: &LongRows, from: Place, name: u64) -> Option<Found>
         requires graph { IsGraph self.now.spaces.spaces self.now.payloads }
         requires from { IsKindAt self.now.spaces.spaces Object from }
-        requires indexed { AreIndexed self.now.spaces.spaces rows.now.entries }
+        requires indexed { AreIndexed self.now.spaces.spaces self.now.remembered.places rows.now.entries }
         ensures rights { rights_found result ≡ (content_in self.now.spaces.spaces self.now.payloads).label (name_at self.now.spaces.spaces from) name }
         ensures some { IfSome result (λ found. is_none_held found.rights ≡ false) }
         ensures place { IfSome result (λ found. IsVertexAt self.now.spaces.spaces name found.place) }
@@ -99,7 +102,7 @@ impl<P: Payload> Cells<P> {
         requires from { IsKindAt self.old.spaces.spaces Object from }
         requires to { IsKindAt self.old.spaces.spaces Object to }
         requires some { is_none_held rights ≡ false }
-        requires indexed { AreIndexed self.old.spaces.spaces rows.old.entries }
+        requires indexed { AreIndexed self.old.spaces.spaces self.old.remembered.places rows.old.entries }
         ensures added { let content = content_in self.old.spaces.spaces self.old.payloads in
             OnOk result (ChangesTo self.old.spaces self.new.spaces self.old.payloads (IsNamed content)
             (with_rights content.label (name_at self.old.spaces.spaces from) (name_at self.old.spaces.spaces to) rights) content.value) }
@@ -110,8 +113,9 @@ impl<P: Payload> Cells<P> {
         ensures placed { OnOk result (IsPutInRow self.old.spaces self.new.spaces self.old.remembered.places self.new.remembered.places (worker + 2) from to rights) }
         ensures remembered { AreRemembered self.old.spaces.spaces self.old.remembered.places → AreRemembered self.new.spaces.spaces self.new.remembered.places }
         ensures places { OnErr result (self.new.remembered.places ≡ self.old.remembered.places) }
-        ensures indexed { AreIndexed self.new.spaces.spaces rows.new.entries }
+        ensures indexed { AreIndexed self.new.spaces.spaces self.new.remembered.places rows.new.entries }
     {
+        let _ = self.spaces.blocks();
         let Ok(place) = self.young_place(rows, from) else {
             return Err(AllocateFault::OutOfMemory);
         };
@@ -135,7 +139,7 @@ impl<P: Payload> Cells<P> {
     )
         requires graph { IsGraph self.old.spaces.spaces self.old.payloads }
         requires from { IsKindAt self.old.spaces.spaces Object from }
-        requires indexed { AreIndexed self.old.spaces.spaces rows.old.entries }
+        requires indexed { AreIndexed self.old.spaces.spaces self.old.remembered.places rows.old.entries }
         ensures dropped { let content = content_in self.old.spaces.spaces self.old.payloads in
             ChangesTo self.old.spaces self.new.spaces self.old.payloads (IsNamed content)
             (without_rights content.label (name_at self.old.spaces.spaces from) name rights) content.value }
@@ -144,7 +148,7 @@ impl<P: Payload> Cells<P> {
         ensures places { self.new.remembered.places ≡ self.old.remembered.places }
         ensures used { self.new.spaces.used ≡ self.old.spaces.used }
         ensures blocks { (space : ℕ) → length (space_of self.new.spaces.spaces space) ≡ length (space_of self.old.spaces.spaces space) }
-        ensures indexed { AreIndexed self.new.spaces.spaces rows.new.entries }
+        ensures indexed { AreIndexed self.new.spaces.spaces self.new.remembered.places rows.new.entries }
     {
         let Some(at) = rows.place(self.name_of(from)) else {
             return self.drop_rights(from, name, rights);
@@ -172,7 +176,7 @@ impl<P: Payload> Cells<P> {
         requires from { IsKindAt self.old.spaces.spaces Object from }
         requires some { is_none_held rights ≡ false }
         requires fresh { ¬ IsNamed (content_in self.old.spaces.spaces self.old.payloads) name }
-        requires indexed { AreIndexed self.old.spaces.spaces rows.old.entries }
+        requires indexed { AreIndexed self.old.spaces.spaces self.old.remembered.places rows.old.entries }
         ensures made { let content = content_in self.old.spaces.spaces self.old.payloads in
             OnOk result (ChangesTo self.old.spaces self.new.spaces self.new.payloads (λ x. IsNamed content x ⊎ (x ≡ name))
             (with_rights content.label (name_at self.old.spaces.spaces from) name rights) (with_value content.value name draft)) }
@@ -185,8 +189,9 @@ impl<P: Payload> Cells<P> {
             (name_at self.old.spaces.spaces from) name rights) }
         ensures full { IfErr result (λ refused. refused.why ≡ AllocateFault.HeapFull →
             LacksCellsFor self.old.spaces (worker + 2) 1 (name_at self.old.spaces.spaces from) name) }
-        ensures indexed { AreIndexed self.new.spaces.spaces rows.new.entries }
+        ensures indexed { AreIndexed self.new.spaces.spaces self.new.remembered.places rows.new.entries }
     {
+        let _ = self.spaces.blocks();
         let Ok(place) = self.young_place(rows, from) else {
             let why = AllocateFault::OutOfMemory;
             return Err(VertexRefused { draft, why });

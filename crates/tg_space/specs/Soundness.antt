@@ -53,9 +53,9 @@ pub record IsOldCell (h : SpaceList) (p : Place) : Type 0 where
   pub held : Holds h p
   pub space : p.space ≡ 0
 
--- a root stands for the row of an object, or for a remembered cell of Old
+-- a root stands for a row, from its object or from a later cell on, or for a remembered cell of Old
 abbrev pub IsRootIn : SpaceList → Root → Type 0
-IsRootIn h (Row place) = IsKindAt h Object place
+IsRootIn h (Row place) = IsKindAt h Object place ⊎ IsKindAt h Chunk place
 IsRootIn h (Remembered place) = IsOldCell h place
 
 pub record AreSound (h : SpaceList) (roots : List Root) : Type 0 where

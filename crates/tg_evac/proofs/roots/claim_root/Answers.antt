@@ -1,8 +1,15 @@
-use Rattle.std.proofs.Common.{OnOk, subst, sym}
+use Rattle.std.proofs.Common.{OnOk, ⊎_elim, subst, sym}
 use Rattle.std.specs.List.{All, Contains}
 use Rattle.tg_space.specs.Targets.{from_space, root_targets_of}
+use Rattle.tg_space.specs.Soundness.{IsRootIn}
 use Rattle.tg_space.specs.declared.spaces.Root.{Root}
+use Rattle.tg_space.specs.declared.spaces.Root.TheVariants.{Row}
 use Rattle.tg_evac.proofs.roots.claim_root.Goals as goal
+
+pub claim_row-requires-clause-held : goal.claim_row-requires-clause-held
+claim_row-requires-clause-held g c =
+    let row : IsRootIn c.args.spaces.now.spaces (Row c.in-Row.object) = subst (IsRootIn c.args.spaces.now.spaces) c.in-Row.is c.requires.root in
+    ⊎_elim (λ object. object.held) (λ chunk. chunk.held) row
 
 pub returns-in-Row-clause-met : goal.returns-in-Row-clause-met
 returns-in-Row-clause-met g c =

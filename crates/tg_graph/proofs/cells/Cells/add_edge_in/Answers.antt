@@ -1,4 +1,4 @@
-use Rattle.std.proofs.Common.{◌≡◌, ◌≤◌, ◌<◌, ℕ, Option, false, true, inl, length, refl, sym, subst}
+use Rattle.std.proofs.Common.{◌≡◌, ◌≤◌, ◌<◌, ◌+◌, ℕ, Option, false, true, inl, length, refl, sym, subst}
 use Rattle.std.specs.Prelude.{IfSome}
 use Rattle.std.proofs.lemmas.Cmp.{nat_eq_equiv}
 use Rattle.std.proofs.lemmas.Option.{slice_get_within}
@@ -6,11 +6,13 @@ use Rattle.indexmap.proofs.CallerLemmas.{updates-with_value_at}
 use Rattle.indexmap.specs.Layout.{set_value_at}
 use Rattle.tg_word.specs.declared.Place.{Place}
 use Rattle.tg_space.specs.SpaceTable.{SpaceTable}
+use Rattle.tg_space.proofs.Tables.{table_list}
 use Rattle.tg_graph.specs.Index.{AreIndexed, HasIndexAt, Indexes, IsAged}
 use Rattle.tg_graph.specs.Rows.{IsVertexAt, name_at}
 use Rattle.tg_graph.proofs.Ages.{aged_at, none_of, row_there, same_row, written_aged}
 use Rattle.tg_graph.proofs.Heaps.{either_way}
 use Rattle.tg_graph.proofs.IndexedRows.{index_at, indexes_kept, indexes_written}
+use Rattle.tg_graph.proofs.Quiet.{KeepsOthersQuiet, others_quiet_put, others_quiet_same}
 use Rattle.tg_graph.proofs.cells.Cells.add_edge_in.Goals as goal
 
 pub returns-in_default-place-clause-indexed : goal.returns-in_default-place-clause-indexed
@@ -19,8 +21,11 @@ returns-in_default-place-clause-indexed g c =
     let new = c.add_edge.new.self.spaces in
     let vertices : (x : ℕ) (p : Place) → IsVertexAt t.spaces x p → IsVertexAt new.spaces x p =
     either_way c.add_edge.result c.add_edge.ensures.added c.add_edge.ensures.refused (λ changed. changed.vertices) (λ same x p at. subst (λ (s : SpaceTable). IsVertexAt s.spaces x p) (sym same) at) in
+    let before = c.args.self.now.remembered.places in
+    let quieter : KeepsOthersQuiet t.spaces before c.add_edge.new.self.remembered.places c.args.from =
+    either_way c.add_edge.result c.add_edge.ensures.placed c.add_edge.ensures.places (λ placed. others_quiet_put t c.add_edge.new.self.spaces before c.add_edge.new.self.remembered.places (c.args.worker + 2) (table_list t c.blocks-2.ensures.table) c.args.self.now.payloads c.requires.graph c.args.from c.requires.from placed) (λ same. others_quiet_same t.spaces before c.add_edge.new.self.remembered.places c.args.from same) in
     let none = c.in-Ok.ensures.none (none_of c.in-Ok.place c.in_default-place.not-Some) in
-    indexes_kept t.spaces new.spaces vertices c.args.from c.requires.from c.add_edge.ensures.others c.young_place.new.rows.entries c.young_place.ensures.indexed (name_at t.spaces c.args.from) refl c.young_place.new.rows.entries refl none
+    indexes_kept t.spaces new.spaces vertices c.args.from c.requires.from c.add_edge.ensures.others before c.add_edge.new.self.remembered.places quieter c.young_place.new.rows.entries c.young_place.ensures.indexed (name_at t.spaces c.args.from) refl c.young_place.new.rows.entries refl none
 
 pub add_edge_indexed-requires-clause-index : goal.add_edge_indexed-requires-clause-index
 add_edge_indexed-requires-clause-index g c =
@@ -28,9 +33,9 @@ add_edge_indexed-requires-clause-index g c =
     let there : (c.young_place.new.rows.old_rows ≤ c.in-Some.at) × HasIndexAt c.young_place.new.rows.entries own c.in-Some.at =
     subst (λ (o : Option ℕ). IfSome o (λ at. (c.young_place.new.rows.old_rows ≤ at) × HasIndexAt c.young_place.new.rows.entries own at)) c.in-Some.is c.in-Ok.ensures.there in
     let was : HasIndexAt c.rows.inside.indexes.entries own c.in-Some.at = subst (λ (s : Indexes). HasIndexAt s.entries own c.in-Some.at) (sym c.rows.view_is) there.1 in
-    let indexed : AreIndexed c.args.self.now.spaces.spaces c.rows.inside.indexes.entries = subst (λ (s : Indexes). AreIndexed c.args.self.now.spaces.spaces s.entries) (sym c.rows.view_is) c.young_place.ensures.indexed in
-    index_at c.args.self.now.spaces.spaces c.args.self.now.payloads c.requires.graph c.rows.inside.indexes.entries indexed c.args.from c.requires.from own refl c.in-Some-get_index_mut.row.now
-    (row_there c.rows.inside.indexes.entries own c.in-Some.at was c.in-Some-get_index_mut.row.now c.in-Some-get_index_mut.ensures.value)
+    let indexed : AreIndexed c.args.self.now.spaces.spaces c.args.self.now.remembered.places c.rows.inside.indexes.entries = subst (λ (s : Indexes). AreIndexed c.args.self.now.spaces.spaces c.args.self.now.remembered.places s.entries) (sym c.rows.view_is) c.young_place.ensures.indexed in
+    (index_at c.args.self.now.spaces.spaces c.args.self.now.payloads c.requires.graph c.args.self.now.remembered.places c.rows.inside.indexes.entries indexed c.args.from c.requires.from own refl c.in-Some-get_index_mut.row.now
+    (row_there c.rows.inside.indexes.entries own c.in-Some.at was c.in-Some-get_index_mut.row.now c.in-Some-get_index_mut.ensures.value)).0
 
 pub unreachable-requires : goal.unreachable-requires
 unreachable-requires g c =
@@ -59,11 +64,16 @@ returns-clause-indexed g c =
     let there : (c.young_place.new.rows.old_rows ≤ c.in-Some.at) × HasIndexAt c.young_place.new.rows.entries own c.in-Some.at =
     subst (λ (o : Option ℕ). IfSome o (λ at. (c.young_place.new.rows.old_rows ≤ at) × HasIndexAt c.young_place.new.rows.entries own at)) c.in-Some.is c.in-Ok.ensures.there in
     let was : HasIndexAt c.rows.inside.indexes.entries own c.in-Some.at = subst (λ (s : Indexes). HasIndexAt s.entries own c.in-Some.at) (sym c.rows.view_is) there.1 in
-    let indexed : AreIndexed c.args.self.now.spaces.spaces c.rows.inside.indexes.entries = subst (λ (s : Indexes). AreIndexed c.args.self.now.spaces.spaces s.entries) (sym c.rows.view_is) c.young_place.ensures.indexed in
+    let indexed : AreIndexed c.args.self.now.spaces.spaces c.args.self.now.remembered.places c.rows.inside.indexes.entries = subst (λ (s : Indexes). AreIndexed c.args.self.now.spaces.spaces c.args.self.now.remembered.places s.entries) (sym c.rows.view_is) c.young_place.ensures.indexed in
     let t = c.args.self.now.spaces in
     let new = c.add_edge_indexed.new.self.spaces in
     let vertices : (x : ℕ) (p : Place) → IsVertexAt t.spaces x p → IsVertexAt new.spaces x p =
     either_way c.add_edge_indexed.result c.add_edge_indexed.ensures.added c.add_edge_indexed.ensures.refused (λ changed. changed.vertices) (λ same x p at. subst (λ (s : SpaceTable). IsVertexAt s.spaces x p) (sym same) at) in
+    let before = c.args.self.now.remembered.places in
+    let quieter : KeepsOthersQuiet t.spaces before c.add_edge_indexed.new.self.remembered.places c.args.from =
+    either_way c.add_edge_indexed.result c.add_edge_indexed.ensures.placed c.add_edge_indexed.ensures.places (λ placed. others_quiet_put t c.add_edge_indexed.new.self.spaces before c.add_edge_indexed.new.self.remembered.places (c.args.worker + 2) (table_list t c.blocks-2.ensures.table) c.args.self.now.payloads c.requires.graph c.args.from c.requires.from placed) (λ same. others_quiet_same t.spaces before c.add_edge_indexed.new.self.remembered.places c.args.from same) in
+    let was_quiet = (index_at t.spaces c.args.self.now.payloads c.requires.graph before c.rows.inside.indexes.entries indexed c.args.from c.requires.from own refl c.in-Some-get_index_mut.row.now
+    (row_there c.rows.inside.indexes.entries own c.in-Some.at was c.in-Some-get_index_mut.row.now c.in-Some-get_index_mut.ensures.value)).1 in
     let written = updates-with_value_at c.rows.inside.indexes c.in-Some.at c.add_edge_indexed.new.row nat_eq_equiv c.get_index_mut.ensures.unique own was.row was.here in
-    indexes_written t.spaces new.spaces vertices c.args.from c.requires.from c.add_edge_indexed.ensures.others c.rows.inside.indexes.entries indexed own refl
-    (set_value_at c.rows.inside.indexes.entries c.in-Some.at c.add_edge_indexed.new.row) c.add_edge_indexed.new.row written.0 c.add_edge_indexed.ensures.index
+    indexes_written t.spaces new.spaces vertices c.args.from c.requires.from c.add_edge_indexed.ensures.others before c.add_edge_indexed.new.self.remembered.places quieter c.rows.inside.indexes.entries indexed own refl
+    (set_value_at c.rows.inside.indexes.entries c.in-Some.at c.add_edge_indexed.new.row) c.add_edge_indexed.new.row written.0 c.add_edge_indexed.ensures.index (c.add_edge_indexed.ensures.quiet was_quiet)

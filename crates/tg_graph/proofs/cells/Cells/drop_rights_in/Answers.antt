@@ -1,26 +1,29 @@
-use Rattle.std.proofs.Common.{◌≡◌, ◌<◌, false, true, length, refl, sym, subst}
+use Rattle.std.proofs.Common.{◌≡◌, ◌<◌, List, false, true, length, refl, sym, subst}
 use Rattle.std.proofs.lemmas.Cmp.{nat_eq_equiv}
 use Rattle.std.proofs.lemmas.Option.{slice_get_within}
 use Rattle.indexmap.proofs.CallerLemmas.{updates-with_value_at}
 use Rattle.indexmap.specs.Layout.{set_value_at}
-use Rattle.tg_graph.specs.Index.{AreIndexed, HasIndexAt, Indexes, IsAged, IsOldRow}
+use Rattle.tg_word.specs.declared.Place.{Place}
+use Rattle.tg_graph.specs.Index.{AreIndexed, HasIndexAt, Indexes, IsAged, IsOldRow, IsQuiet}
 use Rattle.tg_graph.proofs.Ages.{aged_at, old_or_behind, row_there, same_aged, same_row, written_aged}
 use Rattle.tg_graph.proofs.IndexedRows.{index_at, indexes_kept, indexes_written}
+use Rattle.tg_graph.proofs.Quiet.{others_quiet_same, quiet_same}
 use Rattle.tg_graph.proofs.cells.Cells.drop_rights_in.Goals as goal
 
 pub returns-in_default-clause-indexed : goal.returns-in_default-clause-indexed
 returns-in_default-clause-indexed g c =
     let none = c.in_default.ensures.none refl in
-    indexes_kept c.args.self.now.spaces.spaces c.drop_rights.new.self.spaces.spaces c.drop_rights.ensures.dropped.vertices c.args.from c.requires.from c.drop_rights.ensures.others c.args.rows.now.entries c.requires.indexed c.name_of.result c.name_of.ensures
+    let before = c.args.self.now.remembered.places in
+    indexes_kept c.args.self.now.spaces.spaces c.drop_rights.new.self.spaces.spaces c.drop_rights.ensures.dropped.vertices c.args.from c.requires.from c.drop_rights.ensures.others before c.drop_rights.new.self.remembered.places (others_quiet_same c.args.self.now.spaces.spaces before c.drop_rights.new.self.remembered.places c.args.from c.drop_rights.ensures.places) c.args.rows.now.entries c.requires.indexed c.name_of.result c.name_of.ensures
     c.args.rows.now.entries refl none
 
 pub drop_indexed-requires-clause-index : goal.drop_indexed-requires-clause-index
 drop_indexed-requires-clause-index g c =
     let own = c.name_of.result in
     let was : HasIndexAt c.rows.inside.indexes.entries own c.in-Some.at = subst (λ (s : Indexes). HasIndexAt s.entries own c.in-Some.at) (sym c.rows.view_is) c.in-Some.ensures.there in
-    let indexed : AreIndexed c.args.self.now.spaces.spaces c.rows.inside.indexes.entries = subst (λ (s : Indexes). AreIndexed c.args.self.now.spaces.spaces s.entries) (sym c.rows.view_is) c.requires.indexed in
-    index_at c.args.self.now.spaces.spaces c.args.self.now.payloads c.requires.graph c.rows.inside.indexes.entries indexed c.args.from c.requires.from own c.name_of.ensures c.in-Some-get_index_mut.row.now
-    (row_there c.rows.inside.indexes.entries own c.in-Some.at was c.in-Some-get_index_mut.row.now c.in-Some-get_index_mut.ensures.value)
+    let indexed : AreIndexed c.args.self.now.spaces.spaces c.args.self.now.remembered.places c.rows.inside.indexes.entries = subst (λ (s : Indexes). AreIndexed c.args.self.now.spaces.spaces c.args.self.now.remembered.places s.entries) (sym c.rows.view_is) c.requires.indexed in
+    (index_at c.args.self.now.spaces.spaces c.args.self.now.payloads c.requires.graph c.args.self.now.remembered.places c.rows.inside.indexes.entries indexed c.args.from c.requires.from own c.name_of.ensures c.in-Some-get_index_mut.row.now
+    (row_there c.rows.inside.indexes.entries own c.in-Some.at was c.in-Some-get_index_mut.row.now c.in-Some-get_index_mut.ensures.value)).0
 
 pub unreachable-requires : goal.unreachable-requires
 unreachable-requires g c =
@@ -46,7 +49,13 @@ pub returns-clause-indexed : goal.returns-clause-indexed
 returns-clause-indexed g c =
     let own = c.name_of.result in
     let was : HasIndexAt c.rows.inside.indexes.entries own c.in-Some.at = subst (λ (s : Indexes). HasIndexAt s.entries own c.in-Some.at) (sym c.rows.view_is) c.in-Some.ensures.there in
-    let indexed : AreIndexed c.args.self.now.spaces.spaces c.rows.inside.indexes.entries = subst (λ (s : Indexes). AreIndexed c.args.self.now.spaces.spaces s.entries) (sym c.rows.view_is) c.requires.indexed in
+    let indexed : AreIndexed c.args.self.now.spaces.spaces c.args.self.now.remembered.places c.rows.inside.indexes.entries = subst (λ (s : Indexes). AreIndexed c.args.self.now.spaces.spaces c.args.self.now.remembered.places s.entries) (sym c.rows.view_is) c.requires.indexed in
+    let before = c.args.self.now.remembered.places in
+    let now = c.drop_indexed.new.self.remembered.places in
+    let row = c.in-Some-get_index_mut.row.now in
+    let was_quiet = (index_at c.args.self.now.spaces.spaces c.args.self.now.payloads c.requires.graph before c.rows.inside.indexes.entries indexed c.args.from c.requires.from own c.name_of.ensures row
+    (row_there c.rows.inside.indexes.entries own c.in-Some.at was row c.in-Some-get_index_mut.ensures.value)).1 in
+    let quiet : IsQuiet now c.drop_indexed.new.row = subst (λ (ps : List Place). IsQuiet ps c.drop_indexed.new.row) (sym c.drop_indexed.ensures.places) (quiet_same before row c.drop_indexed.new.row c.drop_indexed.ensures.cells c.drop_indexed.ensures.quiet was_quiet) in
     let written = updates-with_value_at c.rows.inside.indexes c.in-Some.at c.drop_indexed.new.row nat_eq_equiv c.get_index_mut.ensures.unique own was.row was.here in
-    indexes_written c.args.self.now.spaces.spaces c.drop_indexed.new.self.spaces.spaces c.drop_indexed.ensures.dropped.vertices c.args.from c.requires.from c.drop_indexed.ensures.others c.rows.inside.indexes.entries indexed own c.name_of.ensures
-    (set_value_at c.rows.inside.indexes.entries c.in-Some.at c.drop_indexed.new.row) c.drop_indexed.new.row written.0 c.drop_indexed.ensures.index
+    indexes_written c.args.self.now.spaces.spaces c.drop_indexed.new.self.spaces.spaces c.drop_indexed.ensures.dropped.vertices c.args.from c.requires.from c.drop_indexed.ensures.others before now (others_quiet_same c.args.self.now.spaces.spaces before now c.args.from c.drop_indexed.ensures.places) c.rows.inside.indexes.entries indexed own c.name_of.ensures
+    (set_value_at c.rows.inside.indexes.entries c.in-Some.at c.drop_indexed.new.row) c.drop_indexed.new.row written.0 c.drop_indexed.ensures.index quiet

@@ -10,7 +10,7 @@ use Rattle.tg_space.specs.Collection.{new_place}
 use Rattle.tg_space.specs.declared.spaces.Kind.TheVariants.{Full}
 use Rattle.tg_graph.specs.Heap.{HeapState}
 use Rattle.tg_graph.specs.Kept.{moved_place}
-use Rattle.tg_graph.proofs.KeptHeap.{IsLeft, workers_of}
+use Rattle.tg_graph.proofs.KeptHeap.{IsLeft, indexed_beside_none, workers_of}
 use Rattle.tg_graph.proofs.KeptReached.{worker_objects}
 use Rattle.tg_graph.proofs.KeptSettled.{full_left, items_mapped}
 use Rattle.tg_graph.proofs.heap.Heap.keep_copied.Given.{Over}
@@ -33,7 +33,7 @@ abbrev now : (g : Over) → After-drop-self-inside-4 g → HeapState
 now g c =
     record { table = c.adopt.new.self; payloads = c.drop_uncopied.new.payloads; workers = (with_items c.self.inside.workers c.follow.new.places).items; remembered = c.args.remembered.places }
 
-left : (g : Over) (c : After-drop-self-inside-4 g) → IsLeft Full c.args.forward.now.words c.args.self.now (now g c)
+left : (g : Over) (c : After-drop-self-inside-4 g) → IsLeft Full c.args.forward.now.words c.args.remembered.places c.args.self.now (now g c)
 left g c =
     let inside = c.self.inside in
     let forward = c.args.forward.now.words in
@@ -52,8 +52,13 @@ follow-requires-2-clause-ends g c =
     let inside = c.self.inside in
     λ p object. row_is inside.cells.spaces.spaces inside.cells.payloads (table_list inside.cells.spaces c.drop_uncopied.ensures.table) c.self.invariant.0.graph p object
 
+pub follow-requires-2-clause-indexed : goal.follow-requires-2-clause-indexed
+follow-requires-2-clause-indexed g c =
+    let inside = c.self.inside in
+    indexed_beside_none inside.cells.spaces.spaces inside.cells.remembered.places inside.rows.entries c.self.invariant.1
+
 pub invariant_of-self : goal.invariant_of-self
-invariant_of-self g c = ((left g c).well_formed, (left g c).indexed c.follow-2.new.self.entries (subst (λ (heap : HeapState). AreFollowed Full heap.table.spaces c.args.forward.now.words c.follow-2.new.self.entries) c.self.view_is c.follow-2.ensures))
+invariant_of-self g c = ((left g c).well_formed, (left g c).indexed c.follow-2.new.self.entries (subst (λ (heap : HeapState). AreFollowed Full heap.table.spaces c.args.forward.now.words c.args.remembered.places c.follow-2.new.self.entries) c.self.view_is c.follow-2.ensures))
 
 pub returns-clause-blocks : goal.returns-clause-blocks
 returns-clause-blocks g c =

@@ -5,10 +5,11 @@ use Rattle.tg_space.specs.SpaceTable.{IsSpaceTable}
 use Rattle.tg_space.specs.declared.spaces.Kind.TheVariants.{Nursery}
 use Rattle.tg_payload.specs.Table.{entry}
 use Rattle.tg_graph.specs.declared.settle.Rewritten.{Rewritten}
-use Rattle.tg_graph.specs.Heap.{HeapState}
+use Rattle.tg_space.specs.Collection.{IsCollection}
+use Rattle.tg_graph.specs.Heap.{HeapState, roots_of}
 use Rattle.tg_graph.specs.Kept.{AreWritten, Drops, IsPrepared}
 use Rattle.tg_graph.proofs.KeptBlocks.{nursery_written}
-use Rattle.tg_graph.proofs.KeptHeap.{IsLeft}
+use Rattle.tg_graph.proofs.KeptHeap.{IsLeft, indexed_beside}
 use Rattle.tg_graph.proofs.KeptSettled.{cells_there, nursery_left, payloads_there}
 use Rattle.tg_graph.proofs.heap.Heap.put_in_place.Given.{Over}
 use Rattle.tg_graph.proofs.heap.Heap.put_in_place.Goals.{After-drop-prepared-3}
@@ -23,6 +24,14 @@ follow-requires-clause-ends g c =
     let s : HeapState = record { table = inside.cells.spaces; payloads = inside.cells.payloads; workers = inside.workers.items; remembered = inside.cells.remembered.places } in
     let table : IsSpaceTable s.table = subst (λ (heap : HeapState). IsSpaceTable heap.table) (sym c.self.view_is) c.requires.table in
     λ p object. row_is inside.cells.spaces.spaces inside.cells.payloads (table_list inside.cells.spaces table) c.self.invariant.0.graph p object
+
+pub follow-requires-clause-indexed : goal.follow-requires-clause-indexed
+follow-requires-clause-indexed g c =
+    let inside = c.self.inside in
+    let s : HeapState = record { table = inside.cells.spaces; payloads = inside.cells.payloads; workers = inside.workers.items; remembered = inside.cells.remembered.places } in
+    let collected : IsCollection Nursery s.table.spaces (roots_of Nursery s) c.args.forward.now.words c.args.adoption.aged c.args.adoption.old c.args.noted.places =
+    subst (λ (heap : HeapState). IsCollection Nursery heap.table.spaces (roots_of Nursery heap) c.args.forward.now.words c.args.adoption.aged c.args.adoption.old c.args.noted.places) (sym c.self.view_is) c.requires.collection in
+    indexed_beside s c.self.invariant.0 c.args.forward.now.words c.args.adoption.aged c.args.adoption.old c.args.noted.places collected inside.rows.entries c.self.invariant.1
 
 pub write_cells-requires : goal.write_cells-requires
 write_cells-requires g c =
@@ -48,7 +57,7 @@ abbrev now : (g : Over) → After-drop-prepared-3 g → HeapState
 now g c =
     record { table = c.write_cells.new.spaces; payloads = c.drop_payloads.new.payloads; workers = c.args.prepared.workers.items; remembered = c.args.noted.places }
 
-left : (g : Over) (c : After-drop-prepared-3 g) → IsLeft Nursery c.args.forward.now.words c.args.self.now (now g c)
+left : (g : Over) (c : After-drop-prepared-3 g) → IsLeft Nursery c.args.forward.now.words c.args.noted.places c.args.self.now (now g c)
 left g c =
     let inside = c.self.inside in
     let forward = c.args.forward.now.words in
@@ -65,7 +74,7 @@ left g c =
     refl
 
 pub invariant_of-self-2 : goal.invariant_of-self-2
-invariant_of-self-2 g c = ((left g c).well_formed, (left g c).indexed c.follow.new.self.entries (subst (λ (heap : HeapState). AreFollowed Nursery heap.table.spaces c.args.forward.now.words c.follow.new.self.entries) c.self.view_is c.follow.ensures))
+invariant_of-self-2 g c = ((left g c).well_formed, (left g c).indexed c.follow.new.self.entries (subst (λ (heap : HeapState). AreFollowed Nursery heap.table.spaces c.args.forward.now.words c.args.noted.places c.follow.new.self.entries) c.self.view_is c.follow.ensures))
 
 pub returns-clause-settled : goal.returns-clause-settled
 returns-clause-settled g c = (left g c).settled

@@ -1,23 +1,37 @@
-use Rattle.std.proofs.Common.{subst}
+use Rattle.std.proofs.Common.{◌≡◌, ◌∙◌, List, map, ap, subst, sym}
+use Rattle.std.specs.Prelude.{IfOk}
+use Rattle.std.proofs.lemmas.Result.{IfOk-weaker}
+use Rattle.tg_word.specs.declared.Place.{Place}
+use Rattle.tg_space.specs.Collection.{IsCollection}
 use Rattle.tg_space.specs.Soundness.{AreSound}
-use Rattle.tg_graph.specs.Heap.{HeapState, roots_of}
+use Rattle.tg_space.specs.declared.spaces.Kind.{Kind}
+use Rattle.tg_space.specs.declared.spaces.Kind.TheVariants.{Full}
+use Rattle.tg_space.specs.declared.spaces.Root.{Root}
+use Rattle.tg_space.specs.declared.spaces.Root.TheVariants.{Row}
+use Rattle.tg_graph.specs.Heap.{CollectsAs, HeapState, roots_of}
 use Rattle.tg_graph.proofs.KeptHeap.{roots_sound}
 use Rattle.tg_graph.proofs.heap.Heap.roots.Goals as goal
 
-pub returns-in_err-roots-clause-sound : goal.returns-in_err-roots-clause-sound
-returns-in_err-roots-clause-sound g c =
-    let inside = c.self.inside in
-    let s : HeapState = record { table = inside.cells.spaces; payloads = inside.cells.payloads; workers = inside.workers.items; remembered = inside.cells.remembered.places } in
-    subst (λ (heap : HeapState). AreSound heap.table.spaces (roots_of c.args.kind heap)) c.self.view_is (roots_sound s c.self.invariant.0 c.args.kind)
+pub returns-in-Full-clause-roots : goal.returns-in-Full-clause-roots
+returns-in-Full-clause-roots g c =
+    let now = c.args.self.now in
+    let rows = map (λ (p : Place). Row p) in
+    let same : rows c.deref.result.now ≡ roots_of c.args.kind now = ap rows (c.deref.ensures.value ∙ ap (λ (heap : HeapState). heap.workers) c.self.view_is) ∙ ap (λ (kind : Kind). roots_of kind now) (sym c.in-Full.is) in
+    IfOk-weaker c.rows.result (λ roots. roots.items ≡ rows c.deref.result.now) (λ roots. CollectsAs c.args.kind now.table.spaces (roots_of c.args.kind now) roots.items)
+    (λ roots is forward aged old notes collected. subst (λ (rs : List Root). IsCollection c.args.kind now.table.spaces rs forward aged old notes) (is ∙ same) collected) c.rows.ensures
 
-pub returns-in_err-add_remembered-in-Nursery-clause-sound : goal.returns-in_err-add_remembered-in-Nursery-clause-sound
-returns-in_err-add_remembered-in-Nursery-clause-sound g c =
+pub returns-in-Full-clause-sound : goal.returns-in-Full-clause-sound
+returns-in-Full-clause-sound g c =
     let inside = c.self.inside in
     let s : HeapState = record { table = inside.cells.spaces; payloads = inside.cells.payloads; workers = inside.workers.items; remembered = inside.cells.remembered.places } in
-    subst (λ (heap : HeapState). AreSound heap.table.spaces (roots_of c.args.kind heap)) c.self.view_is (roots_sound s c.self.invariant.0 c.args.kind)
+    let now = c.args.self.now in
+    let rows = map (λ (p : Place). Row p) in
+    let sound : AreSound now.table.spaces (rows now.workers) = subst (λ (heap : HeapState). AreSound heap.table.spaces (rows heap.workers)) c.self.view_is (roots_sound s c.self.invariant.0 Full) in
+    let same : rows c.deref.result.now ≡ rows now.workers = ap rows (c.deref.ensures.value ∙ ap (λ (heap : HeapState). heap.workers) c.self.view_is) in
+    IfOk-weaker c.rows.result (λ roots. roots.items ≡ rows c.deref.result.now) (λ roots. AreSound now.table.spaces roots.items)
+    (λ roots is. subst (λ (rs : List Root). AreSound now.table.spaces rs) (sym (is ∙ same)) sound) c.rows.ensures
 
-pub returns-clause-sound : goal.returns-clause-sound
-returns-clause-sound g c =
-    let inside = c.self.inside in
-    let s : HeapState = record { table = inside.cells.spaces; payloads = inside.cells.payloads; workers = inside.workers.items; remembered = inside.cells.remembered.places } in
-    subst (λ (heap : HeapState). AreSound heap.table.spaces (roots_of c.args.kind heap)) c.self.view_is (roots_sound s c.self.invariant.0 c.args.kind)
+pub returns-in-Nursery-clause-roots : goal.returns-in-Nursery-clause-roots
+returns-in-Nursery-clause-roots g c =
+    let now = c.args.self.now in
+    subst (λ (kind : Kind). IfOk c.nursery_roots.result (λ roots. CollectsAs kind now.table.spaces (roots_of kind now) roots.items)) (sym c.in-Nursery.is) c.nursery_roots.ensures.roots

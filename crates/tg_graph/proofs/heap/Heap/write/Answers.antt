@@ -19,7 +19,8 @@ invariant_of-self g c =
       either_way c.write.result c.write.ensures.written c.write.ensures.refused
           (λ to. well_formed_after s new.spaces new.payloads new.remembered.places (IsNamed content) content.label (written_at content.value (name_of s c.args.at) c.args.number) to (subst (λ (x : SpaceTable). AreRemembered x.spaces new.remembered.places) (sym c.write.ensures.spaces) (subst (λ (ps : List Place). AreRemembered s.table.spaces ps) (sym c.write.ensures.places) c.self.invariant.0.remembered)) c.self.invariant.0)
           (λ same. well_formed_same s new.spaces new.payloads new.remembered.places c.self.invariant.0 c.write.ensures.spaces same c.write.ensures.places),
-      subst (λ (x : SpaceTable). AreIndexed x.spaces c.self.inside.rows.entries) (sym c.write.ensures.spaces) c.self.invariant.1,
+      subst (λ (x : SpaceTable). AreIndexed x.spaces new.remembered.places c.self.inside.rows.entries) (sym c.write.ensures.spaces)
+          (subst (λ (ps : List Place). AreIndexed s.table.spaces ps c.self.inside.rows.entries) (sym c.write.ensures.places) c.self.invariant.1),
     )
 
 pub returns-clause-written : goal.returns-clause-written

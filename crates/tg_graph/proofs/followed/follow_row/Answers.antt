@@ -1,0 +1,18 @@
+use Rattle.std.proofs.Common.{◌≡◌, ◌∙◌, List, map, subst}
+use Rattle.tg_word.specs.declared.Place.{Place}
+use Rattle.tg_space.specs.Collection.{new_place}
+use Rattle.tg_space.specs.Targets.{from_space}
+use Rattle.tg_graph.specs.Kept.{moved_place}
+use Rattle.tg_graph.proofs.KeptSettled.{items_mapped}
+use Rattle.tg_graph.proofs.Quiet.{quiet_moved}
+use Rattle.tg_graph.proofs.followed.follow_row.Goals as goal
+
+pub count_quiet-row-requires-clause-quiet : goal.count_quiet-row-requires-clause-quiet
+count_quiet-row-requires-clause-quiet c =
+    let h = c.args.spaces.now.spaces in
+    let to = new_place c.args.forward.now.words in
+    let f = moved_place (from_space c.args.kind) h to in
+    let row = c.args.row.now in
+    let moved : c.follow_cells-row.new.cells ≡ map f row.cells.items = subst (λ (ps : List Place). c.follow_cells-row.new.cells ≡ map f ps) c.deref_mut.ensures.value c.follow_cells-row.ensures.moved in
+    (quiet_moved c.args.kind h to c.args.noted.now.places row c.known_quiet-known.result c.known_quiet-known.ensures.full c.known_quiet-known.ensures.nursery c.requires.quiet c.deref.result.now
+    (c.deref.ensures.value ∙ items_mapped row.cells f c.follow_cells-row.new.cells moved)).1
