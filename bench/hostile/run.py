@@ -1,10 +1,11 @@
 #!/usr/bin/env python3
-"""run.py [PROGRAM] [--only WORD]
+"""run.py [PROGRAM] [--only WORD] [-- WORD ..]
 
 Runs the store on scripts of 1 MiB that are made to be slow, one after the other, and prints for each how many lines it has, how
 many bytes are written for it and the processor time of the whole program. No script has a `list`, whose replies may come to
 gigabytes; but for the one that says so none has a collection. Exit status 1 where a script took over a second, or ended otherwise
-than it is to. PROGRAM is crates/tgstore/out/tgstore unless it is given; with --only those cases alone whose name has the word."""
+than it is to. PROGRAM is crates/tgstore/out/tgstore unless it is given; with --only those cases alone whose name has the word. The words behind --
+are handed to the program too, as --race."""
 import collections
 import itertools
 import os
@@ -259,14 +260,14 @@ def run(program, words, script, written):
     return used.ru_utime + used.ru_stime, os.waitstatus_to_exitcode(status)
 
 
-def measure(case, program, folder):
+def measure(case, program, more, folder):
     """Runs a case, prints its row, and answers whether it is as it is to be."""
     made = case()
     text, lines = script_of(made)
     script, written = os.path.join(folder, "script"), os.path.join(folder, "written")
     with open(script, "wb") as file:
         file.write(text)
-    seconds, status = run(program, made.words.split(), script, written)
+    seconds, status = run(program, made.words.split() + more, script, written)
     good = seconds <= MOST_SECONDS and status == made.status
     name = case.__name__.replace("_", " ")
     print(f"{name:34} {lines:8} {len(text):9} {os.path.getsize(written):9} {seconds:8.3f} {status:7} {'' if good else ' NO'}", flush=True)
@@ -276,6 +277,10 @@ def measure(case, program, folder):
 def main():
     words = sys.argv[1:]
     only = ""
+    more = []
+    if "--" in words:
+        at = words.index("--")
+        words, more = words[:at], words[at + 1:]
     if "--only" in words:
         at = words.index("--only")
         only = words[at + 1]
@@ -285,7 +290,7 @@ def main():
         sys.exit(f"{program} isn't there: build it by `rt run` in crates/tgstore, or name a program")
     print(f"{'script':34} {'lines':>8} {'bytes':>9} {'written':>9} {'seconds':>8} {'status':>7}")
     with tempfile.TemporaryDirectory() as folder:
-        ran = [measure(case, program, folder) for case in CASES if only in case.__name__]
+        ran = [measure(case, program, more, folder) for case in CASES if only in case.__name__]
     print(f"{len(ran)} scripts, the slowest {max(seconds for _, seconds in ran):.3f} s")
     sys.exit(0 if all(good for good, _ in ran) else 1)
 

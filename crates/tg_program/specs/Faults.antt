@@ -6,6 +6,8 @@ use Rattle.tg_text.specs.declared.answer.Refusal.{Refusal}
 use Rattle.tg_text.specs.declared.answer.Refusal.TheVariants as refusal
 use Rattle.tg_text.specs.declared.stock.StockFault.{StockFault}
 use Rattle.tg_text.specs.declared.stock.StockFault.TheVariants as stock
+use Rattle.tg_script.specs.Lines.{read_failures, write_failures}
+use Rattle.tg_threads.specs.Race.{race_read_failures, race_write_failures}
 use Rattle.tg_program.specs.declared.start.StartFault.{StartFault}
 use Rattle.tg_program.specs.declared.start.StartFault.TheVariants as start
 use Rattle.tg_program.specs.declared.stop.Stop.{Stop}
@@ -20,6 +22,18 @@ abbrev pub refusal_of : HelpersFault → Refusal
 refusal_of helpers.OutOfMemory = refusal.Memory
 refusal_of helpers.HeapFull = refusal.Heap
 refusal_of helpers.NoThread = refusal.Threads
+
+-- how many failures of the source the end of a run is
+abbrev pub stop_read_failures : {T : Type 0} → Result T Stop → ℕ
+stop_read_failures (Err (stop.Script fault)) = read_failures {T = Unit {0}} (Err fault)
+stop_read_failures (Err (stop.Race fault)) = race_read_failures {T = Unit {0}} (Err fault)
+stop_read_failures r = 0
+
+-- how many failures of the sink it is, where finishing it is left out
+abbrev pub stop_write_failures : {T : Type 0} → Result T Stop → ℕ
+stop_write_failures (Err (stop.Script fault)) = write_failures {T = Unit {0}} (Err fault)
+stop_write_failures (Err (stop.Race fault)) = race_write_failures {T = Unit {0}} (Err fault)
+stop_write_failures r = 0
 
 -- 2 where the words are at fault, else 1
 abbrev pub status_of_stop : Stop → ℕ

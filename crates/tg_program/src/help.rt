@@ -23,9 +23,11 @@ pub const STOCK: &str = "The boxes that creates take, first to last, as letters:
 value that was written, s the sum of all, m the greatest, l the last four;
 a number after a letter stands for so many boxes of it [default: none]";
 
-pub const RACE: &str = "Runs each worker's lines on a thread of their own. In what order those of
-different workers are run is then open. The replies are written when all have
-ended, in the script's order, and behind them 'entries N audit ok'";
+pub const RACE: &str =
+    "Runs each worker's lines on a thread of their own. Collections are worker 0's,
+with as many threads as --helpers says. In what order lines of different
+workers are run is then open. The replies are written when all have ended, in
+the script's order, and behind them 'entries N audit ok'";
 
 pub const MANUAL: &str = "Script:
   One command a line, of at most 256 bytes, with one space between words; at most 1 MiB in all. X, Y and Z are names

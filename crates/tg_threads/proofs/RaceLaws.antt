@@ -1,7 +1,7 @@
 -- What comes of a whole race, from what its parts did.
 use mathlib.Core.Bool.{false≢true}
-use Rattle.std.proofs.Common.{◌≡◌, inl, inr, ℕ, List, [], ◌∷◌, ◌++◌, Option, Result, Ok, Err, refl, sym, ap, ◌∙◌, subst, append-nil, length}
-use Rattle.std.specs.Prelude.{IsOk, map}
+use Rattle.std.proofs.Common.{◌≡◌, ◌+◌, ◌≤◌, arith, inl, inr, ℕ, List, [], ◌∷◌, ◌++◌, Option, Result, Ok, Err, refl, sym, ap, ◌∙◌, subst, append-nil, length}
+use Rattle.std.specs.Prelude.{IsOk, OnOk, map}
 use Rattle.std.specs.List.{All, filter, range_with_len}
 use Rattle.std.proofs.lemmas.List.{length-map}
 use Rattle.std.proofs.lemmas.List.Elements.{All-head}
@@ -26,7 +26,7 @@ use Rattle.tg_threads.specs.declared.worker.Finished.{Finished}
 use Rattle.tg_threads.specs.Output.{Boxed, IsRaceOutput, boxed, end_text}
 use Rattle.tg_threads.specs.Tasks.{AllBring, text_of_told}
 use Rattle.tg_threads.specs.Shares.{AreRaced, IsInScriptOrder, all_assigned, is_run_by, lines_of}
-use Rattle.tg_threads.specs.Race.{EndsRace, HasRaced, IsWhole, TellsRace, plan_of_script}
+use Rattle.tg_threads.specs.Race.{EndsRace, HasRaced, IsWhole, TellsRace, plan_of_script, race_read_failures, race_write_failures}
 use Rattle.tg_threads.proofs.WeaveLaws.{bring_as_many, each_told}
 
 -- as many fresh sessions as workers
@@ -128,8 +128,26 @@ race_unfinished (Err f) start bytes before left after fine h = absurd (false≢t
 race_unfinished (Ok done) start bytes before left after fine h =
     (h.0, h.1, [], h.2, subst (λ text. IsRaceOutput start h.0 text) (sym (append-nil h.1)) h.3, h.4)
 
-pub race_ended : {T : Type 0} (outcome r : Result T RaceFault) (start : Start) (bytes before left : List ℕ) (mid after : Option (List ℕ)) → HasRaced start bytes before outcome left mid → EndsRace mid outcome r after → HasRaced start bytes before r left after
-race_ended outcome r start bytes before left mid after h (keeps, inl same) =
-    subst (λ x. HasRaced start bytes before x left after) (sym same) (race_keeps outcome start bytes before left mid after h keeps)
-race_ended outcome r start bytes before left mid after h (keeps, inr failed) =
+pub race_ended : {T : Type 0} (outcome r : Result T RaceFault) (start : Start) (bytes before left : List ℕ) (mid after : Option (List ℕ)) (f g : ℕ) → HasRaced start bytes before outcome left mid → EndsRace mid f outcome r after g → HasRaced start bytes before r left after
+race_ended outcome r start bytes before left mid after f g h (keeps, inl same) =
+    subst (λ x. HasRaced start bytes before x left after) (sym same.0) (race_keeps outcome start bytes before left mid after h keeps)
+race_ended outcome r start bytes before left mid after f g h (keeps, inr failed) =
     subst (λ x. HasRaced start bytes before x left after) (sym failed.1) (race_unfinished outcome start bytes before left after failed.0 (race_keeps outcome start bytes before left mid after h keeps))
+
+-- ---- how often the source and the sink failed
+
+-- finishing the sink is no failure of the source
+pub ended_read : {T : Type 0} (outcome r : Result T RaceFault) (mid after : Option (List ℕ)) (f g : ℕ) → EndsRace mid f outcome r after g → race_read_failures r ≡ race_read_failures outcome
+ended_read outcome r mid after f g (keeps, inl same) = ap race_read_failures same.0
+ended_read (Err why) r mid after f g (keeps, inr failed) = absurd (false≢true failed.0)
+ended_read (Ok done) r mid after f g (keeps, inr failed) = ap race_read_failures failed.1
+
+pub ended_write : {T : Type 0} (outcome r : Result T RaceFault) (mid after : Option (List ℕ)) (e f g : ℕ) → EndsRace mid f outcome r after g → f ≡ e + race_write_failures outcome → e + race_write_failures r ≤ g
+ended_write outcome r mid after e f g (keeps, inl same) had = omega (arith, ap race_write_failures same.0, same.1, had)
+ended_write outcome r mid after e f g (keeps, inr failed) had = omega (arith, ap race_write_failures failed.1, failed.2, had)
+
+pub ended_unfailed : {T : Type 0} (outcome r : Result T RaceFault) (mid after : Option (List ℕ)) (e f g : ℕ) → EndsRace mid f outcome r after g → f ≡ e + race_write_failures outcome → OnOk r (g ≡ e)
+ended_unfailed outcome (Err why) mid after e f g ended had = tt
+ended_unfailed (Err why) (Ok done) mid after e f g (keeps, inl same) had = absurd cc
+ended_unfailed (Ok other) (Ok done) mid after e f g (keeps, inl same) had = omega (arith, same.2 refl, had)
+ended_unfailed outcome (Ok done) mid after e f g (keeps, inr failed) had = absurd cc

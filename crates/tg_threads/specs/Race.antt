@@ -1,5 +1,5 @@
 -- What comes of a whole script whose workers run their lines side by side.
-use Rattle.std.specs.Prelude.{◌≡◌, ◌⊎◌, ℕ, ◌<◌, List, ◌++◌, length, Option, Some, None, Result, Ok, Err, IsOk}
+use Rattle.std.specs.Prelude.{◌≡◌, ◌⊎◌, ℕ, ◌+◌, ◌<◌, ◌≤◌, List, ◌++◌, length, Option, Some, None, Result, Ok, Err, IsOk}
 use Rattle.tg_model.specs.Opened.{Plan, start_of}
 use Rattle.tg_journal.specs.declared.entry.Entry.{Entry}
 use Rattle.tg_journal.specs.History.{IsLegal}
@@ -61,6 +61,19 @@ abbrev pub race_fault_of_audit : AuditFault → RaceFault
 race_fault_of_audit audit.OutOfMemory = fault.OutOfMemory
 race_fault_of_audit (audit.BadEntry at) = fault.AuditFailed
 
+-- ---- how often the source and the sink failed
+
+-- how many failures of the source an outcome of a race is
+abbrev pub race_read_failures : {T : Type 0} → Result T RaceFault → ℕ
+race_read_failures (Err (fault.Script script.ReadFailed)) = 1
+race_read_failures r = 0
+
+-- how many failures of the sink it is, where finishing it is left out
+abbrev pub race_write_failures : {T : Type 0} → Result T RaceFault → ℕ
+race_write_failures (Err fault.WriteFailed) = 1
+race_write_failures (Err (fault.Script script.WriteFailed)) = 1
+race_write_failures r = 0
+
 -- ---- the whole
 
 -- What stands in the sink after a race over these bytes, where `before` stood in it, and what is left of them: a text that may be
@@ -93,5 +106,7 @@ TellsRace s ts before (Err (fault.Script f)) after = ⊥
 TellsRace s ts before (Err f) after = after ≡ Some before
 
 -- The sink was finished: what was taken is the same still. A fault stands; where there was none and it failed, that is the fault.
-abbrev pub EndsRace : {T : Type 0} → Option (List ℕ) → Result T RaceFault → Result T RaceFault → Option (List ℕ) → Type 0
-EndsRace before outcome result after = KeepsBytes before after × ((result ≡ outcome) ⊎ (IsOk outcome × (result ≡ Err fault.WriteFailed)))
+abbrev pub EndsRace : {T : Type 0} → Option (List ℕ) → ℕ → Result T RaceFault → Result T RaceFault → Option (List ℕ) → ℕ → Type 0
+EndsRace before failures outcome result after failures' =
+    KeepsBytes before after × (((result ≡ outcome) × (failures ≤ failures') × (IsOk outcome → failures' ≡ failures))
+    ⊎ (IsOk outcome × (result ≡ Err fault.WriteFailed) × (failures' ≡ failures + 1)))

@@ -1,12 +1,12 @@
 //! A whole script, whose workers run their lines side by side.
-ghost use Rattle.std.specs.Prelude.{◌≡◌, ◌+◌, ◌≤◌, ℕ, List, [], Some, true, IfErr, IfOk, length};
+ghost use Rattle.std.specs.Prelude.{◌≡◌, ◌+◌, ◌≤◌, ℕ, List, [], Some, true, IfErr, IfOk, OnOk, length};
 ghost use Rattle.std.specs.List.{All, range_with_len};
 ghost use Rattle.tg_text.specs.Sinks.{KeepsBytes};
 ghost use Rattle.tg_script.specs.Opening.{IsCommand};
 ghost use Rattle.tg_script.specs.Script.{Start};
 ghost use Rattle.tg_shared.specs.Sessions.{AreFresh, AreSharedOut, MayClose, start_of_store};
 ghost use Rattle.tg_threads.specs.Output.{boxed};
-ghost use Rattle.tg_threads.specs.Race.{EndsRace, HasRaced, IsBeforeWriting, OpensRace};
+ghost use Rattle.tg_threads.specs.Race.{EndsRace, HasRaced, IsBeforeWriting, OpensRace, race_read_failures, race_write_failures};
 ghost use Rattle.tg_threads.specs.Shares.{AreRaced};
 
 use crate::fault::RaceFault;
@@ -56,6 +56,9 @@ pub fn run_race<P: Payload + Send, S: Source, K: Sink, G: Gate + Sync, R: Thread
         (bytes before : List ℕ) → S.left source.old ≡ Some bytes → K.taken sink.old ≡ Some before →
         (left : List ℕ) × (S.left source.new ≡ Some left) × HasRaced start bytes before result left (K.taken sink.new) }
     ensures asked { S.asked source.new ≤ S.asked source.old + 1048577 }
+    ensures read_failed { S.failures source.new ≡ S.failures source.old + race_read_failures result }
+    ensures write_failed { K.failures sink.old + race_write_failures result ≤ K.failures sink.new }
+    ensures unfailed { OnOk result (K.failures sink.new ≡ K.failures sink.old) }
     ensures finished { K.finished sink.new ≡ true }
 {
     let outcome = race(rt, alloc, source, sink, gate, settings, workers, stock);
@@ -64,7 +67,7 @@ pub fn run_race<P: Payload + Send, S: Source, K: Sink, G: Gate + Sync, R: Thread
 
 // Finishes the sink. A fault that came before stands.
 fn finish<K: Sink>(sink: &mut K, outcome: Result<(), RaceFault>) -> Result<(), RaceFault>
-    ensures outcome { EndsRace (K.taken sink.old) outcome result (K.taken sink.new) }
+    ensures outcome { EndsRace (K.taken sink.old) (K.failures sink.old) outcome result (K.taken sink.new) (K.failures sink.new) }
     ensures finished { K.finished sink.new ≡ true }
 {
     if sink.finish() {
@@ -93,6 +96,8 @@ fn race<P: Payload + Send, S: Source, K: Sink, G: Gate + Sync, R: Threads + Wait
         (bytes before : List ℕ) → S.left source.old ≡ Some bytes → K.taken sink.old ≡ Some before →
         (left : List ℕ) × (S.left source.new ≡ Some left) × HasRaced start bytes before result left (K.taken sink.new) }
     ensures asked { S.asked source.new ≤ S.asked source.old + 1048577 }
+    ensures read_failed { S.failures source.new ≡ S.failures source.old + race_read_failures result }
+    ensures write_failed { K.failures sink.new ≡ K.failures sink.old + race_write_failures result }
 {
     let helpers = settings.helpers;
     let opened = open_race(alloc, source, sink, settings, workers)?;
@@ -124,6 +129,8 @@ fn open_race<P: Payload, S: Source, K: Sink>(
         (bytes : List ℕ) → S.left source.old ≡ Some bytes → (left : List ℕ) × (S.left source.new ≡ Some left) × OpensRace start bytes result left }
     ensures taken { KeepsBytes (K.taken sink.old) (K.taken sink.new) }
     ensures asked { S.asked source.new ≤ S.asked source.old + 1048577 }
+    ensures read_failed { S.failures source.new ≡ S.failures source.old + race_read_failures result }
+    ensures write_failed { K.failures sink.new ≡ K.failures sink.old + race_write_failures result }
 {
     let whole = read_script(alloc, source, sink, settings.workers)?;
     let store = open_store(
@@ -148,15 +155,17 @@ struct Raced<P: Payload> {
 }
 
 impl<P: Payload> Raced<P> {
-    ghost use Rattle.std.specs.Prelude.{◌≡◌, List, ℕ, Some};
+    ghost use Rattle.std.specs.Prelude.{◌≡◌, ◌+◌, List, ℕ, Some};
     ghost use Rattle.std.specs.List.{All};
-    ghost use Rattle.tg_threads.specs.Race.{TellsRace};
+    ghost use Rattle.tg_threads.specs.Race.{TellsRace, race_read_failures, race_write_failures};
     ghost use Rattle.tg_threads.specs.Tasks.{IsThere};
 
     // Audits the journal, and writes the replies.
     fn tell<K: Sink>(&self, alloc: Global, sink: &mut K) -> Result<(), RaceFault>
         requires { All (IsThere self.now.store.entries) self.now.told.items }
-        ensures { (before : List ℕ) → K.taken sink.old ≡ Some before → TellsRace self.now.store self.now.told.items before result (K.taken sink.new) }
+        ensures read { race_read_failures result ≡ 0 }
+        ensures write_failed { K.failures sink.new ≡ K.failures sink.old + race_write_failures result }
+        ensures told { (before : List ℕ) → K.taken sink.old ≡ Some before → TellsRace self.now.store self.now.told.items before result (K.taken sink.new) }
     {
         let journal = self.store.journal();
         audit(alloc, self.store.opening(), journal.entries())?;

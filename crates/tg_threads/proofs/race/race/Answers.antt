@@ -19,5 +19,5 @@ returns-clause-output g c = λ bytes before known taken.
       opens.0,
       opens.1,
       race_told c.tell.result start bytes before opens.0 lines store ts (s.taken c.tell.new.sink) whole.1 (came.0 ∙ whole.3) same
-          (c.tell.ensures before (keeps_known (s.taken c.args.sink.now) (s.taken c.open_race.new.sink) before taken c.in_ok-opened.ensures.taken)),
+          (c.tell.ensures.told before (keeps_known (s.taken c.args.sink.now) (s.taken c.open_race.new.sink) before taken c.in_ok-opened.ensures.taken)),
     )

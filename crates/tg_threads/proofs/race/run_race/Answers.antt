@@ -1,5 +1,6 @@
+use Rattle.std.proofs.Common.{◌+◌, ap, sym, ◌∙◌}
 use Rattle.tg_script.specs.Script.{Start}
-use Rattle.tg_threads.proofs.RaceLaws.{race_ended}
+use Rattle.tg_threads.proofs.RaceLaws.{race_ended, ended_read, ended_write, ended_unfailed}
 use Rattle.tg_threads.proofs.race.run_race.Goals as goal
 
 pub returns-clause-output : goal.returns-clause-output
@@ -9,5 +10,24 @@ returns-clause-output g c = λ bytes before known taken.
     let had = c.race-outcome.ensures.output bytes before known taken in (
       had.0,
       had.1,
-      race_ended c.race-outcome.result c.finish.result start bytes before had.0 (s.taken c.race-outcome.new.sink) (s.taken c.finish.new.sink) had.2 c.finish.ensures.outcome,
+      race_ended c.race-outcome.result c.finish.result start bytes before had.0 (s.taken c.race-outcome.new.sink) (s.taken c.finish.new.sink)
+          (s.failures c.race-outcome.new.sink) (s.failures c.finish.new.sink) had.2 c.finish.ensures.outcome,
     )
+
+pub returns-clause-read_failed : goal.returns-clause-read_failed
+returns-clause-read_failed g c =
+    let s = g.K.Sink in
+    let same = ended_read c.race-outcome.result c.finish.result (s.taken c.race-outcome.new.sink) (s.taken c.finish.new.sink) (s.failures c.race-outcome.new.sink) (s.failures c.finish.new.sink) c.finish.ensures.outcome in
+    c.race-outcome.ensures.read_failed ∙ ap (λ n. g.S.Source.failures c.args.source.now + n) (sym same)
+
+pub returns-clause-write_failed : goal.returns-clause-write_failed
+returns-clause-write_failed g c =
+    let s = g.K.Sink in
+    ended_write c.race-outcome.result c.finish.result (s.taken c.race-outcome.new.sink) (s.taken c.finish.new.sink) (s.failures c.args.sink.now) (s.failures c.race-outcome.new.sink) (s.failures c.finish.new.sink)
+    c.finish.ensures.outcome c.race-outcome.ensures.write_failed
+
+pub returns-clause-unfailed : goal.returns-clause-unfailed
+returns-clause-unfailed g c =
+    let s = g.K.Sink in
+    ended_unfailed c.race-outcome.result c.finish.result (s.taken c.race-outcome.new.sink) (s.taken c.finish.new.sink) (s.failures c.args.sink.now) (s.failures c.race-outcome.new.sink) (s.failures c.finish.new.sink)
+    c.finish.ensures.outcome c.race-outcome.ensures.write_failed
