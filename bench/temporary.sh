@@ -2,7 +2,8 @@
 #
 # take_crates PROGRAM CRATE..: puts these crates and all that they stand on, and beside them the script's own program (`main.rt.in`,
 # a name that the gate passes over), into a temporary folder, which is gone when the script ends. The program may use each
-# of the crates that are named. From then on `build` names the folder, and `program` the folder of the program in it.
+# of the crates that are named. From then on `build` names the folder, and `program` the folder of the program in it. What is
+# proved of a crate comes along with its times, so that it isn't proved again.
 take_crates() {
     name=$1
     shift
@@ -15,7 +16,7 @@ take_crates() {
     cp "$top/HANDLES" "$build/"
     echo "$name: $*" > "$build/crates.txt"
     for library in $(with_those_below "$@"); do
-        cp -r "$top/crates/$library" "$build/crates/"
+        cp -a "$top/crates/$library" "$build/crates/"
         grep "^$library[: ]" "$top/crates.txt" >> "$build/crates.txt"
     done
 }
