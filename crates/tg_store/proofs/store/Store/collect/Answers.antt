@@ -16,3 +16,6 @@ returns-clause-blocks g c =
     let old_moved = subst (λ (state : StoreState). copies_in made.forward.words 0 + copies_in made.forward.words 1 ≤ used_cells kind state.heap.table.spaces) c.self.view_is moved in
     let adopted = c.in_ok-settle.ensures.adopted in
     few_left 0 c.args.self.now.heap.table c.settle.new.self.heap.table made.forward.words made.adoption.aged made.adoption.old kind old_few old_moved adopted.full c.args.self.now.heap adopted.nursery
+
+pub settle-requires : goal.settle-requires
+settle-requires g c = ?
