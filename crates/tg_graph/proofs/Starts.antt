@@ -1,33 +1,28 @@
 -- The roots of a nursery collection: rows from a later cell on, in the place of whole ones.
-use Rattle.std.proofs.Common.{◌≡◌, ◌≢◌, ◌↔◌, ℕ, zero, suc, ◌+◌, ◌-◌, ◌<◌, ◌≤◌, ◌⊎◌, inl, inr, ◌++◌, ◌==◌, not, Bool, true, false, cond, List, [], ◌∷◌, Option, Some, None, length, get_or, map, take, refl, sym, ap, subst, arith, ◌∙◌, ⊎_elim}
-use Rattle.std.specs.Prelude.{slice_get}
+use Rattle.std.proofs.Common.{◌≡◌, ◌≢◌, ◌↔◌, ℕ, zero, suc, ◌+◌, ◌<◌, ◌≤◌, ◌⊎◌, inl, inr, ◌++◌, ◌==◌, not, Bool, true, false, cond, List, [], ◌∷◌, length, get_or, map, take, refl, sym, ap, subst, arith, ◌∙◌, ⊎_elim}
 use Rattle.std.specs.List.{All, Contains, flat_map, take_while}
 use Rattle.std.proofs.lemmas.Bool.{cases_eq}
-use Rattle.std.proofs.lemmas.Bool.Decides.{eqb_tells}
 use Rattle.std.proofs.lemmas.Grind.{flat_map-append}
 use Rattle.std.proofs.lemmas.List.{take_more}
-use Rattle.std.proofs.lemmas.List.Elements.{All-nil, All-cons, All-append, All-map, All-head, All-tail, Contains-append_cases, Contains-append_left, Contains-append_right}
+use Rattle.std.proofs.lemmas.List.Elements.{All-nil, All-cons, All-append, All-map, Contains-append_cases, Contains-append_left, Contains-append_right}
 use Rattle.std.proofs.lemmas.List.Sums.{take_while-cons}
-use Rattle.std.proofs.lemmas.Option.{none-some, slice_get-get_or, slice_get_within}
+use Rattle.std.proofs.lemmas.Option.{slice_get_within}
 use Rattle.tg_model.specs.Walks.{Walk-map}
 use Rattle.tg_word.specs.declared.Place.{Place}
 use Rattle.tg_word.specs.Word.{place_in}
 use Rattle.tg_block.specs.declared.CellKind.TheVariants.{Object, Chunk}
 use Rattle.tg_space.specs.SpaceList.{SpaceList, IsSpaceList, BlockList, Holds, cell_at, cells_of, flat_of}
-use Rattle.tg_space.specs.Soundness.{AreSound, IsKindAt, IsOldCell, IsRootIn}
+use Rattle.tg_space.specs.Soundness.{AreSound, IsKindAt, IsRootIn}
 use Rattle.tg_space.specs.Closure.{IsInClosure}
 use Rattle.tg_space.specs.Collection.{IsCollection, IsMadeInOld}
-use Rattle.tg_space.specs.Generations.{AreRemembered, AreSortedByAge, IsAgedCell, IsNextIn, IsRememberedTarget, IsRowTarget, NamesYoung}
+use Rattle.tg_space.specs.Generations.{IsRowTarget, NamesYoung}
 use Rattle.tg_space.specs.Rows.{chunks_from, link_at, row_of}
-use Rattle.tg_space.specs.Targets.{all_root_targets, cells_followed, first_pointer, from_space, named_by, pointers_of, root_targets_of, target_in, targets_at, targets_of, young_spaces}
-use Rattle.tg_space.specs.declared.spaces.Kind.{Kind}
-use Rattle.tg_space.specs.declared.spaces.Kind.TheVariants.{Full, Nursery}
+use Rattle.tg_space.specs.Targets.{all_root_targets, cells_followed, first_pointer, named_by, pointers_of, root_targets_of, target_in, targets_at, targets_of, young_spaces}
+use Rattle.tg_space.specs.declared.spaces.Kind.TheVariants.{Nursery}
 use Rattle.tg_space.specs.declared.spaces.Root.{Root}
 use Rattle.tg_space.specs.declared.spaces.Root.TheVariants.{Row, Remembered}
-use Rattle.tg_payload.specs.Table.{Payloads}
-use Rattle.tg_index.specs.Slots.{Slots}
-use Rattle.tg_graph.specs.Heap.{AreShorter, CollectAlike, HeapState, IsGraph, IsShorter, IsWellFormed, roots_of}
-use Rattle.tg_graph.specs.Index.{AreIndexed, IsIndexed, IsOldPlace, IsQuiet, IsQuietCell, IsRowIndex, IsStart}
+use Rattle.tg_graph.specs.Heap.{AreShorter, CollectAlike, HeapState, IsShorter, IsWellFormed, roots_of}
+use Rattle.tg_graph.specs.Index.{IsIndexed, IsQuietCell, IsStart}
 use Rattle.tg_graph.specs.Rows.{IsChain, IsVertexAt}
 use Rattle.tg_graph.specs.declared.index.IndexedRow.{IndexedRow}
 use Rattle.tg_graph.proofs.Ages.{slice_get_is}
@@ -311,8 +306,7 @@ module _ (s : HeapState) (formed : IsWellFormed s) (starts : List Root) (are : A
         let row = Contains-from_map (λ (p : Place). Row p) s.workers (Row target.0) whole in
         let found = shorter_in spaces s.workers starts are row.0 row.1 in
         let same : root_targets_of young_spaces spaces (Row target.0) ≡ root_targets_of young_spaces spaces found.0 = ap (root_targets_of young_spaces spaces) (sym row.2) ∙ sym found.2.targets in
-        let is : found.0 ≡ Row found.2.cell = found.2.is in
-        (
+        let is : found.0 ≡ Row found.2.cell = found.2.is in (
           found.2.cell,
           Contains-append_left starts cells (Row found.2.cell) (subst (Contains starts) is found.1),
           subst (λ (ts : List ℕ). Contains ts c) (same ∙ ap (root_targets_of young_spaces spaces) is) target.2,
