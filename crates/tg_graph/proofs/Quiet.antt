@@ -1,18 +1,17 @@
 -- Cells of rows that lie in Old and aren't remembered.
-use Rattle.std.proofs.Common.{◌≡◌, ◌≢◌, ℕ, zero, suc, ◌+◌, ◌-◌, ◌*◌, ◌/◌, ◌<◌, ◌≤◌, ◌⊎◌, inl, inr, ◌++◌, ◌&&◌, not, Bool, true, false, cond, List, [], ◌∷◌, Option, Some, None, length, get_or, map, take, min, refl, sym, ap, subst, arith, ◌∙◌, ⊎_elim, Vec, Global}
-use Rattle.std.specs.Prelude.{IfSome, slice_get}
+use Rattle.std.proofs.Common.{◌≡◌, ◌≢◌, ℕ, ◌+◌, ◌-◌, ◌*◌, ◌/◌, ◌<◌, ◌≤◌, ◌⊎◌, inl, inr, ◌++◌, ◌&&◌, not, Bool, true, false, List, [], ◌∷◌, Option, Some, None, length, get_or, map, take, refl, sym, ap, subst, arith, ◌∙◌, ⊎_elim, Vec, Global}
+use Rattle.std.specs.Prelude.{IfSome}
 use Rattle.std.specs.List.{All, Contains}
 use Rattle.std.proofs.lemmas.Bool.{cases_Bool}
-use Rattle.std.proofs.lemmas.List.{get_or-map, get_or-take, get_or_default, length-append, length-map, length-take, length-take-le}
-use Rattle.std.proofs.lemmas.List.Elements.{All-contains, All-nil, Contains-get_or}
+use Rattle.std.proofs.lemmas.List.{get_or-map, get_or-take, get_or_default, length-append, length-map, length-take-le}
+use Rattle.std.proofs.lemmas.List.Elements.{All-nil, Contains-get_or}
 use Rattle.std.proofs.Math.Seq.{take-append-le}
-use Rattle.std.proofs.lemmas.Option.{none-some, slice_get-get_or, slice_get_within}
+use Rattle.std.proofs.lemmas.Option.{none-some, slice_get-get_or}
 use Rattle.tg_rights.specs.RightSet.{RightSet}
 use Rattle.tg_word.specs.declared.Place.{Place}
 use Rattle.tg_block.specs.declared.CellKind.TheVariants.{Object}
-use Rattle.tg_remember.specs.Notes.{noted}
 use Rattle.tg_remember.proofs.NoteLemmas.{Contains-noted}
-use Rattle.tg_space.specs.SpaceList.{SpaceList, IsSpaceList, Holds, cells_of}
+use Rattle.tg_space.specs.SpaceList.{SpaceList, IsSpaceList, cells_of}
 use Rattle.tg_space.specs.SpaceTable.{SpaceTable}
 use Rattle.tg_space.specs.Soundness.{AreSound, IsKindAt}
 use Rattle.tg_space.specs.Targets.{from_space, young_spaces}
@@ -25,11 +24,11 @@ use Rattle.tg_graph.specs.Heap.{IsGraph}
 use Rattle.tg_graph.specs.Index.{IsOldPlace, IsPlaceOf, IsQuiet, IsQuietCell, IsRowIndex, known_notes, row_slots}
 use Rattle.tg_graph.specs.Kept.{moved_place}
 use Rattle.tg_graph.specs.Rows.{IsRow, name_at}
-use Rattle.tg_graph.specs.Spots.{IsMadeInRow, IsNoteIn, IsPutInRow, IsSpotFor, last_of, note_for, old_cell_if, with_note}
+use Rattle.tg_graph.specs.Spots.{IsMadeInRow, IsNoteIn, IsPutInRow, IsSpotFor, note_for, old_cell_if, with_note}
 use Rattle.tg_graph.specs.declared.index.IndexedRow.{IndexedRow}
 use Rattle.tg_graph.specs.declared.rows.Spot.{Spot}
 use Rattle.tg_graph.specs.declared.rows.Spot.TheVariants.{Reference, Empty, Full}
-use Rattle.tg_graph.proofs.Ages.{first_below, slice_get_is}
+use Rattle.tg_graph.proofs.Ages.{first_below}
 use Rattle.tg_graph.proofs.Chains.{row_apart}
 use Rattle.tg_graph.proofs.Finding.{empty_found, last_ends}
 use Rattle.tg_graph.proofs.Indexed.{empty_none, empty_nth, last_is, places_long}

@@ -1,33 +1,28 @@
 -- The roots of a nursery collection: rows from a later cell on, in the place of whole ones.
-use Rattle.std.proofs.Common.{◌≡◌, ◌≢◌, ◌↔◌, ℕ, zero, suc, ◌+◌, ◌-◌, ◌<◌, ◌≤◌, ◌⊎◌, inl, inr, ◌++◌, ◌==◌, not, Bool, true, false, cond, List, [], ◌∷◌, Option, Some, None, length, get_or, map, take, refl, sym, ap, subst, arith, ◌∙◌, ⊎_elim}
-use Rattle.std.specs.Prelude.{slice_get}
+use Rattle.std.proofs.Common.{◌≡◌, ◌≢◌, ◌↔◌, ℕ, zero, suc, ◌+◌, ◌<◌, ◌≤◌, ◌⊎◌, inl, inr, ◌++◌, ◌==◌, not, Bool, true, false, cond, List, [], ◌∷◌, length, get_or, map, take, refl, sym, ap, subst, arith, ◌∙◌, ⊎_elim}
 use Rattle.std.specs.List.{All, Contains, flat_map, take_while}
 use Rattle.std.proofs.lemmas.Bool.{cases_eq}
-use Rattle.std.proofs.lemmas.Bool.Decides.{eqb_tells}
 use Rattle.std.proofs.lemmas.Grind.{flat_map-append}
 use Rattle.std.proofs.lemmas.List.{take_more}
-use Rattle.std.proofs.lemmas.List.Elements.{All-nil, All-cons, All-append, All-map, All-head, All-tail, Contains-append_cases, Contains-append_left, Contains-append_right}
+use Rattle.std.proofs.lemmas.List.Elements.{All-nil, All-cons, All-append, All-map, Contains-append_cases, Contains-append_left, Contains-append_right}
 use Rattle.std.proofs.lemmas.List.Sums.{take_while-cons}
-use Rattle.std.proofs.lemmas.Option.{none-some, slice_get-get_or, slice_get_within}
+use Rattle.std.proofs.lemmas.Option.{slice_get_within}
 use Rattle.tg_model.specs.Walks.{Walk-map}
 use Rattle.tg_word.specs.declared.Place.{Place}
 use Rattle.tg_word.specs.Word.{place_in}
 use Rattle.tg_block.specs.declared.CellKind.TheVariants.{Object, Chunk}
 use Rattle.tg_space.specs.SpaceList.{SpaceList, IsSpaceList, BlockList, Holds, cell_at, cells_of, flat_of}
-use Rattle.tg_space.specs.Soundness.{AreSound, IsKindAt, IsOldCell, IsRootIn}
+use Rattle.tg_space.specs.Soundness.{AreSound, IsKindAt, IsRootIn}
 use Rattle.tg_space.specs.Closure.{IsInClosure}
 use Rattle.tg_space.specs.Collection.{IsCollection, IsMadeInOld}
-use Rattle.tg_space.specs.Generations.{AreRemembered, AreSortedByAge, IsAgedCell, IsNextIn, IsRememberedTarget, IsRowTarget, NamesYoung}
+use Rattle.tg_space.specs.Generations.{IsRowTarget, NamesYoung}
 use Rattle.tg_space.specs.Rows.{chunks_from, link_at, row_of}
-use Rattle.tg_space.specs.Targets.{all_root_targets, cells_followed, first_pointer, from_space, named_by, pointers_of, root_targets_of, target_in, targets_at, targets_of, young_spaces}
-use Rattle.tg_space.specs.declared.spaces.Kind.{Kind}
-use Rattle.tg_space.specs.declared.spaces.Kind.TheVariants.{Full, Nursery}
+use Rattle.tg_space.specs.Targets.{all_root_targets, cells_followed, first_pointer, named_by, pointers_of, root_targets_of, target_in, targets_at, targets_of, young_spaces}
+use Rattle.tg_space.specs.declared.spaces.Kind.TheVariants.{Nursery}
 use Rattle.tg_space.specs.declared.spaces.Root.{Root}
 use Rattle.tg_space.specs.declared.spaces.Root.TheVariants.{Row, Remembered}
-use Rattle.tg_payload.specs.Table.{Payloads}
-use Rattle.tg_index.specs.Slots.{Slots}
-use Rattle.tg_graph.specs.Heap.{AreShorter, CollectsAs, HeapState, IsGraph, IsShorter, IsWellFormed, roots_of}
-use Rattle.tg_graph.specs.Index.{AreIndexed, IsIndexed, IsOldPlace, IsQuiet, IsQuietCell, IsRowIndex, IsStart}
+use Rattle.tg_graph.specs.Heap.{AreShorter, CollectAlike, HeapState, IsShorter, IsWellFormed, roots_of}
+use Rattle.tg_graph.specs.Index.{IsIndexed, IsQuietCell, IsStart}
 use Rattle.tg_graph.specs.Rows.{IsChain, IsVertexAt}
 use Rattle.tg_graph.specs.declared.index.IndexedRow.{IndexedRow}
 use Rattle.tg_graph.proofs.Ages.{slice_get_is}
@@ -212,6 +207,50 @@ shorter_of h (p ∷ ps) (r ∷ rs) are root has =
     (λ later. let found = shorter_of h ps rs are.1 root later in (found.0, Contains-more p ps found.0 found.1, found.2))
     (Contains-cases r rs root has)
 
+shorter_in : (h : SpaceList) (ps : List Place) (roots : List Root) → AreShorter h ps roots → (p : Place) → Contains ps p → (root : Root) × Contains roots root × IsShorter h p root
+shorter_in h [] [] are p has = absurd (Contains-none p has)
+shorter_in h [] (r ∷ rs) are p has = absurd are
+shorter_in h (q ∷ qs) [] are p has = absurd are
+shorter_in h (q ∷ qs) (r ∷ rs) are p has =
+    ⊎_elim
+    (λ same. (r, Contains-here r rs, subst (λ (x : Place). IsShorter h x r) same are.0))
+    (λ later. let found = shorter_in h qs rs are.1 p later in (found.0, Contains-more r rs found.0 found.1, found.2))
+    (Contains-cases q qs p has)
+
+-- ---- roots whose targets are the same
+
+-- Each row and each remembered cell among the roots has one among the others with the same targets.
+record HaveTargetsIn (h : SpaceList) (roots others : List Root) : Type 0 where
+  rows : (c : ℕ) → IsRowTarget h roots c → IsRowTarget h others c
+  cells : (p : Place) → Contains roots (Remembered p) → Contains others (Remembered p)
+
+-- what is a collection from some roots is one from others with the same targets
+collected_from : (h : SpaceList) (roots others : List Root) → all_root_targets young_spaces h roots ≡ all_root_targets young_spaces h others → HaveTargetsIn h roots others → HaveTargetsIn h others roots →
+    (forward : List ℕ) (aged old : BlockList) (notes : List Place) → IsCollection Nursery h roots forward aged old notes → IsCollection Nursery h others forward aged old notes
+collected_from h roots others same to back forward aged old notes is = record {
+  whole = is.whole;
+  reached = λ c low. subst (λ (ts : List ℕ). (get_or forward c 0 ≢ 0) ↔ IsInClosure ts (targets_of young_spaces h) c) same (is.reached c low);
+  words = is.words;
+  placed = is.placed;
+  copied = is.copied;
+  apart = is.apart;
+  rest = is.rest;
+  generations = record {
+    aged = is.generations.aged;
+    to_aged = λ c nursery goes. Walk-map to.rows (λ b d edge. edge) c (is.generations.to_aged c nursery goes);
+    to_old = λ c nursery goes. Walk-map (λ x. ⊎_elim (λ target. inl (target.0, to.cells target.0 target.1, target.2)) (λ aged_cell. inr aged_cell)) (λ b d edge. edge) c (is.generations.to_old c nursery goes);
+  };
+  noted = λ p. (
+    λ has. let given = (is.noted p).0 has in (given.0, made roots others to p given.0 given.1, given.2),
+    λ given. (is.noted p).1 (given.0, made others roots back p given.0 given.1, given.2),
+  );
+  none_aged = is.none_aged;
+  few = is.few;
+}
+  where
+    made : (some more : List Root) → HaveTargetsIn h some more → (p : Place) (words : List ℕ) → IsMadeInOld Nursery h some forward aged old p words → IsMadeInOld Nursery h more forward aged old p words
+    made some more among p words = ⊎_elim (λ new. inl new) (λ cell. inr (among.cells p cell.0, cell.1))
+
 -- ---- a collection from them
 
 module _ (s : HeapState) (formed : IsWellFormed s) (starts : List Root) (are : AreShorter s.table.spaces s.workers starts) where
@@ -250,45 +289,33 @@ module _ (s : HeapState) (formed : IsWellFormed s) (starts : List Root) (are : A
       let no : Remembered p ≡ Row found.2.cell = found.2.is in
       absurd cc
 
-  row_target : (c : ℕ) → IsRowTarget spaces (starts ++ cells) c → IsRowTarget spaces (roots_of Nursery s) c
-  row_target c (q, has, among) =
-      let start : Contains starts (Row q) = ⊎_elim (λ here. here) (λ cell. absurd (no_cell q cell)) (Contains-append_cases starts cells (Row q) has) in
-      let found = shorter_of spaces s.workers starts are (Row q) start in
-      (found.0, Contains-append_left wholes cells (Row found.0) (Contains-map (λ (p : Place). Row p) s.workers found.0 found.1), subst (λ (ts : List ℕ). Contains ts c) found.2.targets among)
-
-  cell_root : (p : Place) → Contains (starts ++ cells) (Remembered p) ↔ Contains (roots_of Nursery s) (Remembered p)
-  cell_root p = (
-    λ has. ⊎_elim (λ start. absurd (no_start p start)) (λ cell. Contains-append_right wholes cells (Remembered p) cell) (Contains-append_cases starts cells (Remembered p) has),
-    λ has. Contains-append_right starts cells (Remembered p) (Contains-map (λ (q : Place). Remembered q) s.remembered p ((remembered_root s formed p).0 has)),
-  )
-
-  cell_target : (c : ℕ) → IsRememberedTarget spaces (starts ++ cells) c → IsRememberedTarget spaces (roots_of Nursery s) c
-  cell_target c (p, has, among) = (p, (cell_root p).0 has, among)
-
-  made : (forward : List ℕ) (aged old : BlockList) (p : Place) (words : List ℕ) → IsMadeInOld Nursery spaces (starts ++ cells) forward aged old p words ↔ IsMadeInOld Nursery spaces (roots_of Nursery s) forward aged old p words
-  made forward aged old p words = (
-    ⊎_elim (λ new. inl new) (λ cell. inr ((cell_root p).0 cell.0, cell.1)),
-    ⊎_elim (λ new. inl new) (λ cell. inr ((cell_root p).1 cell.0, cell.1)),
-  )
-
-  pub starts_collect : CollectsAs Nursery spaces (roots_of Nursery s) (starts ++ cells)
-  starts_collect forward aged old notes is = record {
-    whole = is.whole;
-    reached = λ c low. subst (λ (ts : List ℕ). (get_or forward c 0 ≢ 0) ↔ IsInClosure ts (targets_of young_spaces spaces) c) all_same (is.reached c low);
-    words = is.words;
-    placed = is.placed;
-    copied = is.copied;
-    apart = is.apart;
-    rest = is.rest;
-    generations = record {
-      aged = is.generations.aged;
-      to_aged = λ c nursery goes. Walk-map row_target (λ b d edge. edge) c (is.generations.to_aged c nursery goes);
-      to_old = λ c nursery goes. Walk-map (λ x. ⊎_elim (λ target. inl (cell_target x target)) (λ aged_cell. inr aged_cell)) (λ b d edge. edge) c (is.generations.to_old c nursery goes);
-    };
-    noted = λ p. (
-      λ has. let given = (is.noted p).0 has in (given.0, (made forward aged old p given.0).0 given.1, given.2),
-      λ given. (is.noted p).1 (given.0, (made forward aged old p given.0).1 given.1, given.2),
-    );
-    none_aged = is.none_aged;
-    few = is.few;
+  start_targets : HaveTargetsIn spaces (starts ++ cells) (roots_of Nursery s)
+  start_targets = record {
+    rows = λ c target.
+        let start : Contains starts (Row target.0) = ⊎_elim (λ here. here) (λ cell. absurd (no_cell target.0 cell)) (Contains-append_cases starts cells (Row target.0) target.1) in
+        let found = shorter_of spaces s.workers starts are (Row target.0) start in
+        (found.0, Contains-append_left wholes cells (Row found.0) (Contains-map (λ (p : Place). Row p) s.workers found.0 found.1), subst (λ (ts : List ℕ). Contains ts c) found.2.targets target.2);
+    cells = λ p has.
+        ⊎_elim (λ start. absurd (no_start p start)) (λ cell. Contains-append_right wholes cells (Remembered p) cell) (Contains-append_cases starts cells (Remembered p) has);
   }
+
+  whole_targets : HaveTargetsIn spaces (roots_of Nursery s) (starts ++ cells)
+  whole_targets = record {
+    rows = λ c target.
+        let whole : Contains wholes (Row target.0) = ⊎_elim (λ here. here) (λ cell. absurd (no_cell target.0 cell)) (Contains-append_cases wholes cells (Row target.0) target.1) in
+        let row = Contains-from_map (λ (p : Place). Row p) s.workers (Row target.0) whole in
+        let found = shorter_in spaces s.workers starts are row.0 row.1 in
+        let same : root_targets_of young_spaces spaces (Row target.0) ≡ root_targets_of young_spaces spaces found.0 = ap (root_targets_of young_spaces spaces) (sym row.2) ∙ sym found.2.targets in
+        let is : found.0 ≡ Row found.2.cell = found.2.is in (
+          found.2.cell,
+          Contains-append_left starts cells (Row found.2.cell) (subst (Contains starts) is found.1),
+          subst (λ (ts : List ℕ). Contains ts c) (same ∙ ap (root_targets_of young_spaces spaces) is) target.2,
+        );
+    cells = λ p has. Contains-append_right starts cells (Remembered p) (Contains-map (λ (q : Place). Remembered q) s.remembered p ((remembered_root s formed p).0 has));
+  }
+
+  pub starts_collect : CollectAlike Nursery spaces (roots_of Nursery s) (starts ++ cells)
+  starts_collect forward aged old notes = (
+    collected_from spaces (roots_of Nursery s) (starts ++ cells) (sym all_same) whole_targets start_targets forward aged old notes,
+    collected_from spaces (starts ++ cells) (roots_of Nursery s) all_same start_targets whole_targets forward aged old notes,
+  )

@@ -75,10 +75,10 @@ abbrev pub roots_of : Kind → HeapState → List Root
 roots_of Full s = map (λ p. Row p) s.workers
 roots_of Nursery s = map (λ p. Row p) s.workers ++ map (λ p. Remembered p) s.remembered
 
--- what is a collection from the second roots is one from the first
-abbrev pub CollectsAs : Kind → SpaceList → List Root → List Root → Type 0
-CollectsAs kind h roots starts =
-    (forward : List ℕ) (aged old : BlockList) (notes : List Place) → IsCollection kind h starts forward aged old notes → IsCollection kind h roots forward aged old notes
+-- the collections from these roots are those from the others
+abbrev pub CollectAlike : Kind → SpaceList → List Root → List Root → Type 0
+CollectAlike kind h roots others =
+    (forward : List ℕ) (aged old : BlockList) (notes : List Place) → IsCollection kind h roots forward aged old notes ↔ IsCollection kind h others forward aged old notes
 
 -- a root in the place of the row of the object at a place: a cell of that row, from which a walk meets the same young targets
 pub record IsShorter (h : SpaceList) (p : Place) (root : Root) : Type 0 where

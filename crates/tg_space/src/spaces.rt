@@ -41,7 +41,7 @@ impl Kind {
 /// What a collection starts from.
 #[derive(Clone, Copy, PartialEq, Eq, Debug)]
 pub enum Root {
-    /// The row whose object is at a place.
+    /// A row from the cell at a place on, which is its object or one of its chunks.
     Row(Place),
     /// The cell of Old at a place, which may name a younger one.
     Remembered(Place),

@@ -53,7 +53,7 @@ impl<P: Payload> Store<P> {
     ghost use Rattle.tg_space.specs.SpaceTable.{kept_blocks};
     ghost use Rattle.tg_payload.specs.Table.{count};
     ghost use Rattle.tg_graph.specs.Content.{IsNamed};
-    ghost use Rattle.tg_graph.specs.Heap.{CollectsAs, content_of, roots_of};
+    ghost use Rattle.tg_graph.specs.Heap.{CollectAlike, content_of, roots_of};
     ghost use Rattle.tg_graph.specs.Spots.{IsMadeInRow, LacksCellsFor};
     ghost use Rattle.tg_graph.specs.Kept.{VerticesOfOldStay};
     ghost use Rattle.tg_rules.specs.Effect.{AddsEdge, LacksCellsToServe};
@@ -268,11 +268,11 @@ impl<P: Payload> Store<P> {
     }
 
     /// What a collection of this kind starts from: the rows of the workers, by rising name; for a nursery collection the
-    /// remembered cells too, and a row from the first cell on that may name a young one. What is a collection from it is one from
-    /// the whole rows. This, [`spaces`](Store::spaces) and [`settle`](Store::settle) are for collectors outside of this
+    /// remembered cells too, and a row from the first cell on that may name a young one. The collections from it
+    /// are those from the whole rows. This, [`spaces`](Store::spaces) and [`settle`](Store::settle) are for collectors outside of this
     /// crate. Fails only when out of memory.
     pub fn roots(&self, kind: Kind) -> Result<Vec<Root>, AllocError>
-        ensures roots { IfOk result (λ roots. CollectsAs kind self.now.heap.table.spaces (roots_of kind self.now.heap) roots.items) }
+        ensures roots { IfOk result (λ roots. CollectAlike kind self.now.heap.table.spaces (roots_of kind self.now.heap) roots.items) }
         ensures sound { IfOk result (λ roots. AreSound self.now.heap.table.spaces roots.items) }
     {
         self.heap.roots(self.alloc, kind)

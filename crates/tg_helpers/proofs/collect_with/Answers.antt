@@ -1,7 +1,8 @@
--- How few blocks are left.
-use Rattle.std.proofs.Common.{◌≤◌, ◌+◌, subst}
+-- How few blocks are left, and what is settled.
+use Rattle.std.proofs.Common.{◌≤◌, ◌+◌, List, subst}
 use Rattle.tg_space.specs.SpaceTable.{SpaceTable, kept_blocks}
-use Rattle.tg_space.specs.Collection.{AreFewBlocks, copies_in, used_cells}
+use Rattle.tg_space.specs.Collection.{AreFewBlocks, IsCollection, copies_in, used_cells}
+use Rattle.tg_space.specs.declared.spaces.Root.{Root}
 use Rattle.tg_store.proofs.BlockLaws.{few_left}
 use Rattle.tg_helpers.proofs.collect_with.Goals as goal
 
@@ -13,3 +14,14 @@ returns-clause-blocks g c =
     let moved = subst (λ (t : SpaceTable). copies_in made.forward.words 0 + copies_in made.forward.words 1 ≤ used_cells kind t.spaces) c.spaces.ensures c.in_ok-copied.ensures.moved in
     let adopted = c.in_ok-settle.ensures.adopted in
     few_left c.args.helpers c.args.store.now.heap.table c.settle.new.self.heap.table made.forward.words made.adoption.aged made.adoption.old kind few moved adopted.full c.args.store.now.heap adopted.nursery
+
+pub settle-requires : goal.settle-requires
+settle-requires g c =
+    let kind = c.args.kind in
+    let made = c.in_ok-copied.copied in
+    let heap = c.args.store.now.heap in
+    let over_heap : IsCollection kind heap.table.spaces c.deref.result.now made.forward.words made.adoption.aged made.adoption.old made.remembered.places =
+    subst (λ (t : SpaceTable). IsCollection kind t.spaces c.deref.result.now made.forward.words made.adoption.aged made.adoption.old made.remembered.places) c.spaces.ensures c.in_ok-copied.ensures.collected in
+    let collected : IsCollection kind heap.table.spaces c.in_ok-roots.roots.items made.forward.words made.adoption.aged made.adoption.old made.remembered.places =
+    subst (λ (roots : List Root). IsCollection kind heap.table.spaces roots made.forward.words made.adoption.aged made.adoption.old made.remembered.places) c.deref.ensures.value over_heap in
+    (c.in_ok-roots.ensures.roots made.forward.words made.adoption.aged made.adoption.old made.remembered.places).1 collected

@@ -1,4 +1,4 @@
-use Rattle.std.proofs.Common.{◌≡◌, ◌∙◌, ◌-◌, ◌/◌, ◌+◌, ◌*◌, ◌^◌, ◌≤◌, ℕ, Option, Some, None, arith, ap, length, min, sym, subst}
+use Rattle.std.proofs.Common.{◌≡◌, ◌∙◌, ◌-◌, ◌/◌, ◌+◌, ◌*◌, ◌^◌, ◌≤◌, Some, arith, ap, sym, subst}
 use Rattle.std.proofs.lemmas.Option.{none-some}
 use Rattle.tg_space.proofs.Tables.{table_list}
 use Rattle.tg_index.specs.Slots.{IsFirstVacant}

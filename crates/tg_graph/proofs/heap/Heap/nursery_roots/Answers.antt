@@ -3,7 +3,7 @@ use Rattle.tg_space.specs.Soundness.{AreSound}
 use Rattle.tg_space.specs.declared.spaces.Kind.TheVariants.{Nursery}
 use Rattle.tg_space.specs.declared.spaces.Root.{Root}
 use Rattle.tg_space.specs.declared.spaces.Root.TheVariants.{Remembered}
-use Rattle.tg_graph.specs.Heap.{AreShorter, CollectsAs, HeapState, roots_of}
+use Rattle.tg_graph.specs.Heap.{AreShorter, CollectAlike, HeapState, roots_of}
 use Rattle.tg_graph.proofs.Starts.{starts_collect, starts_sound}
 use Rattle.tg_graph.proofs.heap.Heap.nursery_roots.Goals as goal
 
@@ -13,8 +13,8 @@ returns-clause-roots g c =
     let s : HeapState = record { table = inside.cells.spaces; payloads = inside.cells.payloads; workers = inside.workers.items; remembered = inside.cells.remembered.places } in
     let rows = c.in_ok-roots.roots.items in
     let are : AreShorter s.table.spaces s.workers rows = subst (λ (heap : HeapState). AreShorter heap.table.spaces heap.workers rows) (sym c.self.view_is) c.in_ok-roots.ensures in
-    subst (λ (roots : List Root). CollectsAs Nursery c.args.self.now.table.spaces (roots_of Nursery c.args.self.now) roots) (sym c.in_ok-add_remembered.ensures)
-    (subst (λ (heap : HeapState). CollectsAs Nursery heap.table.spaces (roots_of Nursery heap) (rows ++ map (λ p. Remembered p) s.remembered)) c.self.view_is (starts_collect s c.self.invariant.0 rows are))
+    subst (λ (roots : List Root). CollectAlike Nursery c.args.self.now.table.spaces (roots_of Nursery c.args.self.now) roots) (sym c.in_ok-add_remembered.ensures)
+    (subst (λ (heap : HeapState). CollectAlike Nursery heap.table.spaces (roots_of Nursery heap) (rows ++ map (λ p. Remembered p) s.remembered)) c.self.view_is (starts_collect s c.self.invariant.0 rows are))
 
 pub returns-clause-sound : goal.returns-clause-sound
 returns-clause-sound g c =

@@ -1,5 +1,5 @@
 -- The heap that a nursery collection leaves.
-use Rattle.std.proofs.Common.{◌≡◌, ℕ, List, IsSome, refl, sym, subst, ◌∙◌}
+use Rattle.std.proofs.Common.{ℕ, List, IsSome, refl, sym, subst, ◌∙◌}
 use Rattle.std.specs.List.{All, Contains}
 use Rattle.tg_space.specs.SpaceTable.{IsSpaceTable}
 use Rattle.tg_space.specs.declared.spaces.Kind.TheVariants.{Nursery}

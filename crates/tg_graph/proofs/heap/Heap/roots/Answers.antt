@@ -8,7 +8,7 @@ use Rattle.tg_space.specs.declared.spaces.Kind.{Kind}
 use Rattle.tg_space.specs.declared.spaces.Kind.TheVariants.{Full}
 use Rattle.tg_space.specs.declared.spaces.Root.{Root}
 use Rattle.tg_space.specs.declared.spaces.Root.TheVariants.{Row}
-use Rattle.tg_graph.specs.Heap.{CollectsAs, HeapState, roots_of}
+use Rattle.tg_graph.specs.Heap.{CollectAlike, HeapState, roots_of}
 use Rattle.tg_graph.proofs.KeptHeap.{roots_sound}
 use Rattle.tg_graph.proofs.heap.Heap.roots.Goals as goal
 
@@ -17,8 +17,11 @@ returns-in-Full-clause-roots g c =
     let now = c.args.self.now in
     let rows = map (λ (p : Place). Row p) in
     let same : rows c.deref.result.now ≡ roots_of c.args.kind now = ap rows (c.deref.ensures.value ∙ ap (λ (heap : HeapState). heap.workers) c.self.view_is) ∙ ap (λ (kind : Kind). roots_of kind now) (sym c.in-Full.is) in
-    IfOk-weaker c.rows.result (λ roots. roots.items ≡ rows c.deref.result.now) (λ roots. CollectsAs c.args.kind now.table.spaces (roots_of c.args.kind now) roots.items)
-    (λ roots is forward aged old notes collected. subst (λ (rs : List Root). IsCollection c.args.kind now.table.spaces rs forward aged old notes) (is ∙ same) collected) c.rows.ensures
+    IfOk-weaker c.rows.result (λ roots. roots.items ≡ rows c.deref.result.now) (λ roots. CollectAlike c.args.kind now.table.spaces (roots_of c.args.kind now) roots.items)
+    (λ roots is forward aged old notes. (
+      subst (λ (rs : List Root). IsCollection c.args.kind now.table.spaces rs forward aged old notes) (sym (is ∙ same)),
+      subst (λ (rs : List Root). IsCollection c.args.kind now.table.spaces rs forward aged old notes) (is ∙ same),
+    )) c.rows.ensures
 
 pub returns-in-Full-clause-sound : goal.returns-in-Full-clause-sound
 returns-in-Full-clause-sound g c =
@@ -34,4 +37,4 @@ returns-in-Full-clause-sound g c =
 pub returns-in-Nursery-clause-roots : goal.returns-in-Nursery-clause-roots
 returns-in-Nursery-clause-roots g c =
     let now = c.args.self.now in
-    subst (λ (kind : Kind). IfOk c.nursery_roots.result (λ roots. CollectsAs kind now.table.spaces (roots_of kind now) roots.items)) (sym c.in-Nursery.is) c.nursery_roots.ensures.roots
+    subst (λ (kind : Kind). IfOk c.nursery_roots.result (λ roots. CollectAlike kind now.table.spaces (roots_of kind now) roots.items)) (sym c.in-Nursery.is) c.nursery_roots.ensures.roots

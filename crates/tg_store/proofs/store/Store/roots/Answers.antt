@@ -1,0 +1,9 @@
+use Rattle.std.proofs.Common.{subst}
+use Rattle.std.specs.Prelude.{IfOk}
+use Rattle.tg_graph.specs.Heap.{CollectAlike, roots_of}
+use Rattle.tg_store.specs.Store.{StoreState}
+use Rattle.tg_store.proofs.store.Store.roots.Goals as goal
+
+pub returns-clause-roots : goal.returns-clause-roots
+returns-clause-roots g c =
+    subst (λ (state : StoreState). IfOk c.roots.result (λ roots. CollectAlike c.args.kind state.heap.table.spaces (roots_of c.args.kind state.heap) roots.items)) c.self.view_is c.roots.ensures.roots
