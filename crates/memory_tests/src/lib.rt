@@ -14,6 +14,8 @@ mod boxes;
 #[cfg(test)]
 mod collections;
 #[cfg(test)]
+mod races;
+#[cfg(test)]
 mod sessions;
 #[cfg(test)]
 mod stores;
