@@ -11,7 +11,7 @@ use tg_payload::{Draft, Payload};
 pub fn drafts_of<P: Payload>(alloc: Global, payloads: Vec<P>) -> Result<Vec<Draft<P>>, AllocError>
     ensures { IfOk result (λ drafts. drafts.items ≡ map P.value payloads.items) }
 {
-    let mut drafts = Vec::new(alloc);
+    let mut drafts = Vec::with_capacity(alloc, payloads.len())?;
     for payload in payloads {
         let Ok(draft) = Draft::new(alloc, payload) else {
             return Err(AllocError);
@@ -26,7 +26,7 @@ pub fn values_of<P: Payload>(alloc: Global, drafts: &[Draft<P>]) -> Result<Vec<V
     ensures values { IfOk result (λ values. values.items ≡ drafts.now) }
     ensures fit { IfOk result (λ values. All ValueFits values.items) }
 {
-    let mut values = Vec::new(alloc);
+    let mut values = Vec::with_capacity(alloc, drafts.len())?;
     for draft in drafts {
         values.push(draft.value().copy(alloc)?)?;
     }
