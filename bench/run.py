@@ -60,6 +60,11 @@ def holes():
     return ["--workers", "1", "--stock", "c50000"], lines
 
 
+def minors():
+    """A row of 20,000 vertices, and then 100,000 nursery collections, with nothing made between them."""
+    return ["--workers", "1", "--stock", "c20000"], ["0 create r"] * 20_000 + ["minor"] * 100_000
+
+
 SCRIPTS = {
     "lists": lists,
     "creates": creates,
@@ -67,6 +72,7 @@ SCRIPTS = {
     "takes": takes,
     "holes": holes,
     "collections": collections,
+    "minors": minors,
 }
 
 

@@ -46,9 +46,7 @@ impl Law {
             Law::Max => first.max(value),
             Law::Log(most) => return last_of(alloc, most, state, value),
         };
-        let mut items = Vec::new(alloc);
-        items.push(next)?;
-        Ok(Numbers::from_vec(items))
+        Ok(Numbers::one(next))
     }
 }
 

@@ -1,44 +1,76 @@
 //! Lists of numbers.
-ghost use Rattle.std.specs.Prelude.{◌≡◌, ◌↔◌, IsTrue, IfOk};
+ghost use Rattle.std.specs.Prelude.{◌≡◌, ◌↔◌, [], ◌∷◌, IsTrue, IfOk};
 
 use std::alloc::{AllocError, Global};
 use std::marker::Model;
+use std::slice;
 
-/// A list of numbers, as a payload's state. Contracts see it as the list.
+/// A list of numbers, as a payload's state. Contracts see it as the list. A single number takes no memory of its own.
 #[derive(Debug, Drop)]
 pub struct Numbers {
-    items: Vec<u64>,
+    items: Items,
+}
+
+// A single number stands in place.
+#[derive(Debug, Drop)]
+enum Items {
+    One(u64),
+    Many(Vec<u64>),
 }
 
 impl Model for Numbers {
     ghost use Rattle.std.specs.Prelude.{List, ℕ};
+    ghost use Rattle.tg_model.specs.Items.{numbers_in};
 
     ghost Value = { List ℕ };
 
-    ghost view = { λ a. a.items.items };
+    ghost view = { λ a. numbers_in a.items };
 }
 
 impl Numbers {
-    /// The numbers of the vector, in its order.
+    /// This number alone. Takes no memory.
+    pub fn one(number: u64) -> Numbers
+        ensures { result ≡ number ∷ [] }
+    {
+        Numbers {
+            items: Items::One(number),
+        }
+    }
+
+    /// The numbers of the vector, in its order. Takes no memory.
     pub fn from_vec(items: Vec<u64>) -> Numbers
         ensures { result ≡ items.items }
     {
-        Numbers { items }
+        Numbers {
+            items: Items::Many(items),
+        }
+    }
+
+    /// The numbers of the slice, in its order. Answers only want of memory otherwise; a single number takes none.
+    pub fn from_slice(alloc: Global, numbers: &[u64]) -> Result<Numbers, AllocError>
+        ensures { IfOk result (λ copy. copy ≡ numbers.now) }
+    {
+        match numbers {
+            [number] => Ok(Numbers::one(*number)),
+            _ => Ok(Numbers::from_vec(Vec::from_slice(alloc, numbers)?)),
+        }
     }
 
     /// The numbers, in order.
     pub fn as_slice(&self) -> &[u64]
         ensures { result.now ≡ self.now }
     {
-        self.items.as_slice()
+        match &self.items {
+            Items::One(number) => slice::from_ref(number),
+            Items::Many(items) => items.as_slice(),
+        }
     }
 
     /// The same numbers in memory of their own. Answers only want of memory otherwise.
     pub fn copy(&self, alloc: Global) -> Result<Numbers, AllocError>
         ensures { IfOk result (λ copy. copy ≡ self.now) }
     {
-        let items = Vec::from_slice(alloc, self.as_slice())?;
-        Ok(Numbers::from_vec(items))
+        Numbers::from_slice(alloc, self.as_slice())
     }
 
     /// Whether two lists have the same numbers in the same order.

@@ -61,6 +61,9 @@ impl Payload for Box<dyn Payload + Send> {
 pub(crate) fn copy_state<P: Payload>(alloc: Global, payload: &P) -> Result<Numbers, AllocError>
     ensures { IfOk result (λ state. state ≡ (P.value payload.now).state) }
 {
+    if payload.len() == 1 {
+        return Ok(Numbers::one(payload.at(0)));
+    }
     let mut items = Vec::with_capacity(alloc, payload.len())?;
     for i in 0..payload.len() {
         items.push(payload.at(i))?;

@@ -8,7 +8,7 @@ use tg_payload::{Draft, Payload};
 pub fn drafts_of<P: Payload>(alloc: Global, payloads: Vec<P>) -> Result<Vec<Draft<P>>, AllocError>
     ensures { IfOk result (λ drafts. drafts.items ≡ map P.value payloads.items) }
 {
-    let mut drafts = Vec::new(alloc);
+    let mut drafts = Vec::with_capacity(alloc, payloads.len())?;
     for payload in payloads {
         let Ok(draft) = Draft::new(alloc, payload) else {
             return Err(AllocError);

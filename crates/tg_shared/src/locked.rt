@@ -1,5 +1,5 @@
 //! The value behind the lock, and what each call does to it.
-ghost use Rattle.std.specs.Prelude.{◌≡◌, ◌≢◌, ◌↔◌, ◌<◌, ◌≤◌, ◌+◌, ℕ, [], Err, Some, IfOk, IfErr, IsErrAnd, OnOk, OnErr, length, map};
+ghost use Rattle.std.specs.Prelude.{◌≡◌, ◌≢◌, ◌↔◌, ◌⊎◌, ◌<◌, ◌≤◌, ◌+◌, ℕ, [], Err, Some, IfOk, IfErr, IsErrAnd, OnOk, OnErr, length, map};
 ghost use Rattle.std.specs.List.{range_with_len};
 ghost use Rattle.tg_shared.specs.Sessions.{AreFresh};
 
@@ -147,6 +147,8 @@ impl<L: Round, P: Payload> Locked<L, P> {
             (session.old.worker + 2) session.old.worker name label) }
         ensures no_such_worker { (g : ProtectionGraph) → StandsFor self.old.store g → IsErrAnd result (λ refused. refused.why ≡ CreateFault.NoSuchWorker) ↔ (¬ IsSubject g session.old.worker) }
         ensures no_more { (g : ProtectionGraph) → StandsFor self.old.store g → IfErr result (λ refused. refused.why ≡ CreateFault.VerticesFull → IsSubject g session.old.worker × (g.limit ≤ g.made)) }
+        ensures exhausted { (g : ProtectionGraph) → StandsFor self.old.store g → IsSubject g session.old.worker → g.limit ≤ g.made →
+            IsErrAnd result (λ refused. (refused.why ≡ CreateFault.VerticesFull) ⊎ (refused.why ≡ CreateFault.OutOfMemory)) }
         ensures no_more_entry { IfErr result (λ refused. refused.why ≡ CreateFault.VerticesFull →
             Records self.old.store self.new.store session.old session.new (Deed.Create label draft.law draft.state) Reply.VerticesFull × (self.new.store.heap ≡ self.old.store.heap)) }
         ensures full { (g : ProtectionGraph) → StandsFor self.old.store g → IfErr result (λ refused. refused.why ≡ CreateFault.HeapFull →

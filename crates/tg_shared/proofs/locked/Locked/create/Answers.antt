@@ -1,4 +1,4 @@
-use Rattle.std.proofs.Common.{◌≡◌, ◌↔◌, ◌∙◌, ℕ, ap, rules, subst}
+use Rattle.std.proofs.Common.{◌≡◌, ◌↔◌, ◌∙◌, ℕ, ap, rules, subst, sym}
 use Rattle.std.specs.Prelude.{IsErrAnd}
 use Rattle.std.proofs.lemmas.Result.{IfOk-at_ok, IfErr-at_err}
 use Rattle.tg_model.specs.Graph.{IsSubject}
@@ -35,3 +35,10 @@ returns-clause-no_such_worker g c =
     let here : StandsFor c.self.inside.store graph = ap (λ (b : LockedState). graph_of_store b.store) c.self.view_is ∙ stands in
     let told = c.create-created.ensures.no_such_worker graph here in
     subst (λ (w : ℕ). IsErrAnd c.create-created.result (λ refused. refused.why ≡ CreateFault.NoSuchWorker) ↔ (¬ IsSubject graph w)) worker told
+
+pub returns-clause-exhausted : goal.returns-clause-exhausted
+returns-clause-exhausted g c =
+    let worker : c.worker-worker.result ≡ c.args.session.now.worker = c.worker-worker.ensures in
+    λ graph stands subject many.
+    let here : StandsFor c.self.inside.store graph = ap (λ (b : LockedState). graph_of_store b.store) c.self.view_is ∙ stands in
+    c.create-created.ensures.exhausted graph here (subst (λ (w : ℕ). IsSubject graph w) (sym worker) subject) many
