@@ -29,8 +29,7 @@ loop-root-init g c =
 pub walk_root-requires-clause-traced : goal.walk_root-requires-clause-traced
 unfolding no_root
 walk_root-requires-clause-traced g c =
-    let h = c.args.spaces.now.spaces in let all = c.requires.traced.0 in let i = c.loop-root.root-index in
-    (
+    let h = c.args.spaces.now.spaces in let all = c.requires.traced.0 in let i = c.loop-root.root-index in (
       all,
       c.requires.traced.1 _ (Contains-get_or c.args.roots.now i no_root c.loop-root-test.true),
       subst (λ (k : Kind). AreTraced k h all (g.C.Claimer.walked c.loop-root.claimer).won) (sym c.loop-root.invariant.keeps.same_kind) (c.loop-root.invariant.traced all c.requires.traced.1 c.requires.traced.2),

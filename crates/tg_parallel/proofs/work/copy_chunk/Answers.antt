@@ -8,8 +8,7 @@ use Rattle.tg_parallel.proofs.work.copy_chunk.Goals as goal
 pub walk-requires-clause-traced : goal.walk-requires-clause-traced
 walk-requires-clause-traced c =
     let s = c.args.seat.now in let h = c.args.spaces.now.spaces in let roots = c.args.roots.now in let d = c.requires.drawn in
-    let all = roots_in roots s.done.chunks in
-    (
+    let all = roots_in roots s.done.chunks in (
       all,
       in_chunk c.args.kind h roots d.0 c.args.chunk s d.1 c.chunk_of.result.now c.chunk_of.ensures,
       subst (λ (k : Kind). AreTraced k h all (wins_of s.done.won)) (sym c.requires.kind) c.requires.earned,
