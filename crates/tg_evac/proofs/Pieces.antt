@@ -1,10 +1,11 @@
 -- Claims of the targets of roots, and of won cells, piece by piece.
-use Rattle.std.proofs.Common.{◌≡◌, ℕ, ◌≢◌, ◌<◌, ◌≤◌, ◌+◌, ◌++◌, ◌∷◌, ◌==◌, Bool, true, false, List, [], length, get_or, map, take, drop, refl, sym, ap, subst, arith, inr, ◌∙◌, ⊎_elim}
+use Rattle.std.proofs.Common.{◌≡◌, ℕ, ◌≢◌, ◌<◌, ◌≤◌, ◌+◌, ◌++◌, ◌∷◌, ◌==◌, Bool, true, false, List, [], length, get_or, map, take, drop, refl, sym, ap, subst, arith, inl, inr, ◌∙◌, ⊎_elim, Result, Ok, Err}
 use Rattle.std.specs.List.{All, Contains}
+use Rattle.std.specs.Result.{OnOk}
 use Rattle.std.proofs.lemmas.Bool.{cases_eq}
 use Rattle.std.proofs.lemmas.Bool.Decides.{eqb_tells}
 use Rattle.std.proofs.lemmas.List.{get_or-map, get_or_append_left, length-append, length-map, length_push, map-append, take-append-drop, take-append-le, take_more}
-use Rattle.std.proofs.lemmas.List.Elements.{All-append, All-weaker, All-contains_itself, Contains-append_left, Contains-append_right, Contains-get_or, filter-append}
+use Rattle.std.proofs.lemmas.List.Elements.{All-append, All-weaker, All-contains_itself, Contains-append_left, Contains-append_right, filter-append}
 use Rattle.tg_word.specs.declared.Place.{Place}
 use Rattle.tg_word.specs.Word.{place_in}
 use Rattle.tg_space.specs.Closure.{IsClosed}
@@ -15,7 +16,7 @@ use Rattle.tg_space.specs.declared.spaces.Kind.{Kind}
 use Rattle.tg_space.specs.declared.spaces.Root.{Root}
 use Rattle.tg_space.specs.declared.spaces.Root.TheVariants.{Row}
 use Rattle.tg_evac.specs.declared.win.Win.{Win}
-use Rattle.tg_evac.specs.Claims.{AreTraced, Claimed, IsClaimOf, cells_won, IsRootClaim, chunk_targets, is_in, is_in_old, is_straight, win_at, won_in}
+use Rattle.tg_evac.specs.Claims.{AreTraced, Claimed, IsClaimOf, cells_won, chunk_targets, is_in, is_in_old, is_straight, win_at, won_in}
 use Rattle.tg_evac.specs.Claimers.{AddsWins, AreScanned, KeepsWins, KnowsMore, Walked, copies_to, image_at, walked_of}
 use Rattle.tg_evac.proofs.Claiming.{in_other, in_push}
 use Rattle.tg_evac.proofs.Chunks.{ChunksPassed, chunk_inside, one_passed, row_kept}
@@ -23,18 +24,22 @@ use Rattle.tg_evac.proofs.Reasons.{traced_more}
 use Rattle.tg_evac.proofs.Walking.{met_piece, still_met, wider, wins_then, wins_weaker}
 
 -- the targets of a root
-module _ (h : SpaceList) (roots : List Root) (i : ℕ) (d : Root) (inside : i < length roots) {Fixed : Type 0} {a b c : Walked Fixed}
-    (one : AddsWins (IsRootClaim a.kind h roots) a b)
-    (two : AddsWins (IsClaimOf h (is_straight b.kind (get_or roots i d)) (root_targets_of (from_space b.kind) h (get_or roots i d))) b c) where
-  root_is : AddsWins (IsClaimOf h (is_straight a.kind (get_or roots i d)) (root_targets_of (from_space a.kind) h (get_or roots i d))) b c
-  root_is = subst (λ (k : Kind). AddsWins (IsClaimOf h (is_straight k (get_or roots i d)) (root_targets_of (from_space k) h (get_or roots i d))) b c) one.same_kind two
+module _ (h : SpaceList) (root : Root) {Fixed : Type 0} {a b : Walked Fixed} (adds : AddsWins (IsClaimOf h (is_straight a.kind root) (root_targets_of (from_space a.kind) h root)) a b) where
+  pub keeps_root : KeepsWins a b
+  keeps_root = wins_weaker adds (λ w claim. tt)
 
-  pub wins_root : AddsWins (IsRootClaim a.kind h roots) a c
-  wins_root = wins_then one (wins_weaker root_is (λ w claim. record { root = get_or roots i d; is = Contains-get_or roots i d inside; claim = claim }))
+  pub traced_root : (all : List Root) → Contains all root → AreTraced a.kind h all a.won → AreTraced a.kind h all b.won
+  traced_root all held traced = traced_more a.kind h all adds (λ w claim. inl (record { root = root; is = held; claim = claim })) traced
 
+pub ok_always : {A E : Type 0} (r : Result A E) {P : Type 0} → P → OnOk r P
+ok_always (Ok x) p = p
+ok_always (Err e) p = tt
+
+-- the roots, one after the other
+module _ (h : SpaceList) (roots : List Root) (i : ℕ) (d : Root) (inside : i < length roots) {reason : Win → Type 0} {other : Win → Type 0} {Fixed : Type 0} {a b c : Walked Fixed} (one : AddsWins reason a b) (two : AddsWins other b c) where
   pub met_root : All (Contains b.met) (all_root_targets (from_space a.kind) h (take i roots)) → All (Contains c.met) (root_targets_of (from_space b.kind) h (get_or roots i d)) → All (Contains c.met) (all_root_targets (from_space a.kind) h (take (i + 1) roots))
   met_root before here =
-      met_piece (root_targets_of (from_space a.kind) h) roots i d inside b.met c.met root_is.still before
+      met_piece (root_targets_of (from_space a.kind) h) roots i d inside b.met c.met two.still before
       (subst (λ (k : Kind). All (Contains c.met) (root_targets_of (from_space k) h (get_or roots i d))) one.same_kind here)
 
 -- the targets of one more chunk

@@ -10,11 +10,11 @@ ghost use Rattle.tg_evac.specs.Claims.{HavePointers, IsTracedFrom};
 ghost use Rattle.tg_evac.specs.Claimers.{HasPlacesOf, copies_to};
 
 use crate::claims::Claims;
-use crate::copies::{Copies, scan};
+use crate::copies::Copies;
 use crate::fault::CollectFault;
+use crate::from_roots::walk;
 use crate::notes::notes_of;
 use crate::plan::Plan;
-use crate::roots::claim_roots;
 use std::alloc::Global;
 use tg_block::Block;
 use tg_remember::Remembered;
@@ -127,7 +127,6 @@ fn trace(
     ensures full { IfErr result (λ fault. fault ≡ CollectFault.HeapFull → claims.old.plan.room ≤ 64 * claims.old.plan.kept + used_cells claims.old.plan.kind spaces.now.spaces) }
 {
     let mut copies = Copies::new(alloc, spare)?;
-    claim_roots(claims, spaces, kind, roots)?;
-    scan(claims, spaces, kind, &mut copies)?;
+    walk(claims, spaces, kind, roots, &mut copies)?;
     Ok(copies)
 }

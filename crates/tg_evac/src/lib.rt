@@ -10,7 +10,8 @@
 //! is in Old. Any other goes to Aged. What was met once keeps its place.
 //!
 //! *Scan.* First the targets of the roots are claimed, the rows before the remembered cells. Then the won cells are scanned,
-//! in the order in which they were won, until there is none left: breadth first. To scan a cell is to claim what it names and
+//! in the order in which they were won, until there is none left: breadth first. A full collection does this for one root
+//! after the other, so that what a root leads to lies together. To scan a cell is to claim what it names and
 //! to copy it: the place in each of its references and links is replaced by that of what it names, where that is moved, and
 //! all else is as it was. The copies of a space are made in the order of their places, so they fill its new blocks one after
 //! the other, and all but the last are full.
@@ -47,7 +48,7 @@
 //! nothing.
 //!
 //! **What other collectors may use.** The walk asks of its table of claims only what [`Claimer`] says, so it serves any
-//! table: [`claim_roots`] and [`scan`] are generic, and [`Copies`] holds what they copy. That won pairs with their copies
+//! table: [`walk`] is generic, and [`Copies`] holds what it copies. That won pairs with their copies
 //! are a collection is proved of any list of pairs, in whatever order and by whomever they were won
 //! (`proofs/Collecting.antt`), where each was claimed for a reason: that the reasons put copies in the space of their
 //! generation stands in `proofs/Reasons.antt`, and that no more cells are won than aren't free in `proofs/Counting.antt`.
@@ -55,12 +56,12 @@
 
 pub use claimer::Claimer;
 pub use collect::{Copied, collect_one};
-pub use copies::{Copies, scan};
+pub use copies::Copies;
 pub use fault::CollectFault;
+pub use from_roots::walk;
 pub use new_blocks::NewBlocks;
 pub use notes::notes_of;
 pub use plan::Plan;
-pub use roots::claim_roots;
 pub use tg_space::Root;
 pub use win::Win;
 
@@ -69,6 +70,7 @@ mod claims;
 mod collect;
 mod copies;
 mod fault;
+mod from_roots;
 mod images;
 mod new_blocks;
 mod notes;

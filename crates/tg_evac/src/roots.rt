@@ -4,9 +4,9 @@ ghost use Rattle.std.specs.List.{All, Contains};
 ghost use Rattle.tg_space.specs.Soundness.{IsPointer, IsRootIn};
 ghost use Rattle.tg_space.specs.SpaceList.{Holds, cells_of};
 ghost use Rattle.tg_space.specs.SpaceTable.{kept_blocks};
-ghost use Rattle.tg_space.specs.Targets.{all_root_targets, from_space, root_targets_of, targets_at};
+ghost use Rattle.tg_space.specs.Targets.{from_space, root_targets_of, targets_at};
 ghost use Rattle.tg_space.specs.declared.spaces.Root.TheVariants.{Row};
-ghost use Rattle.tg_evac.specs.Claims.{HavePointers, IsClaimOf, IsRootClaim, chunk_targets, is_straight as straight_from};
+ghost use Rattle.tg_evac.specs.Claims.{HavePointers, IsClaimOf, chunk_targets, is_straight as straight_from};
 ghost use Rattle.tg_evac.specs.Claimers.{AddsWins, KnowsMore};
 
 use crate::claimer::Claimer;
@@ -17,33 +17,10 @@ use tg_block::{LINK, WORDS};
 use tg_space::{Kind, Root, Spaces};
 use tg_word::{Place, place_of};
 
-/// Claims the targets of all roots.
+/// Claims the targets of a root.
 ///
 /// It is refused as a claim is. What was claimed till then stays so.
-pub fn claim_roots<C: Claimer>(
-    claimer: &mut C,
-    spaces: &Spaces,
-    kind: Kind,
-    roots: &[Root],
-) -> Result<(), CollectFault>
-    requires pointers { HavePointers spaces.now.spaces }
-    requires roots { All (IsRootIn spaces.now.spaces) roots.now }
-    requires kind { (C.walked claimer.old).kind ≡ kind }
-    requires whole { (C.walked claimer.old).cells ≡ length (cells_of spaces.now.spaces) }
-    requires kept { (C.walked claimer.old).kept ≡ kept_blocks (C.walked claimer.old).kind spaces.now.spaces }
-    ensures added { AddsWins (IsRootClaim (C.walked claimer.old).kind spaces.now.spaces roots.now) (C.walked claimer.old) (C.walked claimer.new) }
-    ensures grows { KnowsMore (C.knows claimer.old) (C.knows claimer.new) }
-    ensures met { OnOk result (All (Contains (C.walked claimer.new).met) (all_root_targets (from_space (C.walked claimer.old).kind) spaces.now.spaces roots.now)) }
-    ensures full { IfErr result (λ fault. fault ≡ CollectFault.HeapFull → C.is_full claimer.new) }
-{
-    for root in roots {
-        claim_root(claimer, spaces, kind, *root)?;
-    }
-    Ok(())
-}
-
-// Claims the targets of a root.
-fn claim_root<C: Claimer>(
+pub fn claim_root<C: Claimer>(
     claimer: &mut C,
     spaces: &Spaces,
     kind: Kind,

@@ -1,5 +1,5 @@
 -- The work of a helper, chunk by chunk: what was won is earned, and what was met grows.
-use Rattle.std.proofs.Common.{◌≡◌, ℕ, ◌+◌, ◌*◌, ◌/◌, ◌<◌, ◌≤◌, ◌++◌, if◌then◌else◌, List, [], ◌∷◌, true, false, length, take, refl, sym, ap, subst, ◌∙◌, inl, arith, Result, Ok, Err}
+use Rattle.std.proofs.Common.{◌≡◌, ℕ, ◌+◌, ◌*◌, ◌/◌, ◌<◌, ◌≤◌, ◌++◌, if◌then◌else◌, List, [], ◌∷◌, true, false, length, take, refl, sym, ap, subst, ◌∙◌, arith, Result, Ok, Err}
 use Rattle.std.specs.Int.{div_ceil}
 use Rattle.std.specs.Result.{OnOk}
 use Rattle.std.specs.List.{All, Contains}
@@ -16,10 +16,9 @@ use Rattle.tg_race.specs.Conditions.{can_claim_roots}
 use Rattle.tg_race.specs.Race.{chunks_of, empty, is_chunk, past, with_chunk}
 use Rattle.tg_race.specs.Seats.{Board}
 use Rattle.tg_race.proofs.Sums.{weigh_push}
-use Rattle.tg_evac.specs.Claims.{AreTraced, IsRootClaim}
-use Rattle.tg_evac.specs.Claimers.{AddsWins, AreScanned, KeepsWins}
+use Rattle.tg_evac.specs.Claims.{AreTraced}
+use Rattle.tg_evac.specs.Claimers.{AreScanned, KeepsWins}
 use Rattle.tg_evac.proofs.Pieces.{none_scanned}
-use Rattle.tg_evac.proofs.Reasons.{traced_more}
 use Rattle.tg_evac.proofs.Walking.{still_met}
 use Rattle.tg_parallel.specs.Parts.{AreCountsOf, AreEarned, HasPlaces, cells_met, roots_in, roots_of_chunk, win_of, wins_of}
 use Rattle.tg_parallel.specs.Seats.{HasCopied, HasDrawn, IsSameSeat, Sitting, walked_at}
@@ -32,56 +31,32 @@ roots_more roots before c = flat_map-append (roots_of_chunk roots) before (c ∷
 
 -- ---- one chunk
 
-module _ (kind : Kind) (h : SpaceList) (roots : List Root) (before : List ℕ) (chunk : ℕ) (s t : Sitting) (drawn : HasDrawn before chunk s) (same_kind : s.kind ≡ kind)
-    (slice : List Root) (is : slice ≡ roots_of_chunk roots chunk) (adds : AddsWins (IsRootClaim s.kind h slice) (walked_at s) (walked_at t)) where
-  chunks_now : t.done.chunks ≡ s.done.chunks
-  chunks_now = λ i. (adds.same_fixed i).1
-
-  in_chunk : (r : Root) → Contains slice r → Contains (roots_in roots s.done.chunks) r
+module _ (kind : Kind) (h : SpaceList) (roots : List Root) (before : List ℕ) (chunk : ℕ) (s : Sitting) (drawn : HasDrawn before chunk s) (slice : List Root) (is : slice ≡ roots_of_chunk roots chunk) where
+  pub in_chunk : (r : Root) → Contains slice r → Contains (roots_in roots s.done.chunks) r
   in_chunk r held =
       let here : Contains s.done.chunks chunk = subst (λ (l : List ℕ). Contains l chunk) (sym drawn.is) (Contains-push before chunk) in
       flat_has (roots_of_chunk roots) s.done.chunks chunk r here (subst (λ (l : List Root). Contains l r) is held)
 
-  pub earned_roots : AreEarned kind h roots s.done → AreEarned kind h roots t.done
-  earned_roots earned = subst (λ (cs : List ℕ). AreTraced kind h (roots_in roots cs) (wins_of t.done.won)) (sym chunks_now)
-      (traced_more kind h (roots_in roots s.done.chunks) adds
-      (λ w claim. inl (subst (λ (k : Kind). IsRootClaim k h (roots_in roots s.done.chunks) w) same_kind (record { root = claim.root; is = in_chunk claim.root claim.is; claim = claim.claim })))
-      earned)
+  module _ (same_kind : s.kind ≡ kind) (t : Sitting) (keeps : KeepsWins (walked_at s) (walked_at t)) where
+    chunks_now : t.done.chunks ≡ s.done.chunks
+    chunks_now = λ i. (keeps.same_fixed i).1
 
-  module _ (u : Sitting) (keeps : KeepsWins (walked_at t) (walked_at u)) where
-    chunks_then : u.done.chunks ≡ t.done.chunks
-    chunks_then = λ i. (keeps.same_fixed i).1
+    pub earned_walk : ((all : List Root) → ((r : Root) → Contains slice r → Contains all r) → AreTraced s.kind h all (wins_of s.done.won) → AreTraced s.kind h all (wins_of t.done.won)) → AreEarned kind h roots s.done → AreEarned kind h roots t.done
+    earned_walk traced earned = subst (λ (cs : List ℕ). AreTraced kind h (roots_in roots cs) (wins_of t.done.won)) (sym chunks_now)
+        (subst (λ (k : Kind). AreTraced k h (roots_in roots s.done.chunks) (wins_of s.done.won) → AreTraced k h (roots_in roots s.done.chunks) (wins_of t.done.won)) same_kind (traced (roots_in roots s.done.chunks) in_chunk) earned)
 
-    kind_then : t.kind ≡ kind
-    kind_then = adds.same_kind ∙ same_kind
-
-    pub earned_scan : ((rs : List Root) → AreTraced t.kind h rs (wins_of t.done.won) → AreTraced t.kind h rs (wins_of u.done.won)) → AreEarned kind h roots s.done → AreEarned kind h roots u.done
-    earned_scan traced earned = subst (λ (cs : List ℕ). AreTraced kind h (roots_in roots cs) (wins_of u.done.won)) (sym chunks_then)
-        (subst (λ (k : Kind). AreTraced k h (roots_in roots t.done.chunks) (wins_of t.done.won) → AreTraced k h (roots_in roots t.done.chunks) (wins_of u.done.won)) kind_then (traced (roots_in roots t.done.chunks)) (earned_roots earned))
-
-    pub same_then : IsSameSeat s u
-    same_then = record {
-      kind = keeps.same_kind ∙ adds.same_kind;
-      limit = (let one = adds.same_room in let two = keeps.same_room in omega arith);
-      board = λ i. ((keeps.same_fixed ∙ adds.same_fixed) i).0;
-      share = λ i. ((keeps.same_fixed ∙ adds.same_fixed) i).2;
-    }
-
-    pub chunks_kept : u.done.chunks ≡ s.done.chunks
-    chunks_kept = chunks_then ∙ chunks_now
-
-    pub copied_then : {n m : ℕ} {aged old aged_now old_now : List (List ℕ)} → HasCopied kind h roots before s n aged old → All (Contains (cells_met t.done)) (all_root_targets (from_space s.kind) h slice) →
-        AreScanned h (walked_at u) (HasPlaces u.done) (length (wins_of u.done.won)) aged_now old_now → m ≡ length (wins_of u.done.won) → HasCopied kind h roots u.done.chunks u m aged_now old_now
-    copied_then {aged_now = aged_now} {old_now = old_now} copied met scanned ended =
+    pub copied_walk : {n m : ℕ} {aged old aged_now old_now : List (List ℕ)} → HasCopied kind h roots before s n aged old → All (Contains (cells_met t.done)) (all_root_targets (from_space s.kind) h slice) →
+        AreScanned h (walked_at t) (HasPlaces t.done) (length (wins_of t.done.won)) aged_now old_now → m ≡ length (wins_of t.done.won) → HasCopied kind h roots t.done.chunks t m aged_now old_now
+    copied_walk {aged_now = aged_now} {old_now = old_now} copied met scanned ended =
         let targets = all_root_targets (from_space kind) h in
-        let all : roots_in roots u.done.chunks ≡ roots_in roots before ++ slice = ap (roots_in roots) (chunks_then ∙ chunks_now ∙ drawn.is) ∙ roots_more roots before chunk ∙ ap (λ (l : List Root). roots_in roots before ++ l) (sym is) in
-        let split : targets (roots_in roots u.done.chunks) ≡ targets (roots_in roots before) ++ targets slice = ap targets all ∙ flat_map-append (root_targets_of (from_space kind) h) (roots_in roots before) slice in
-        let old_met : All (Contains (cells_met u.done)) (targets (roots_in roots before)) = still_met keeps (targets (roots_in roots before)) (still_met adds (targets (roots_in roots before)) copied.met) in
-        let new_met : All (Contains (cells_met u.done)) (targets slice) = still_met keeps (targets slice) (subst (λ (k : Kind). All (Contains (cells_met t.done)) (all_root_targets (from_space k) h slice)) same_kind met) in
+        let all : roots_in roots t.done.chunks ≡ roots_in roots before ++ slice = ap (roots_in roots) (chunks_now ∙ drawn.is) ∙ roots_more roots before chunk ∙ ap (λ (l : List Root). roots_in roots before ++ l) (sym is) in
+        let split : targets (roots_in roots t.done.chunks) ≡ targets (roots_in roots before) ++ targets slice = ap targets all ∙ flat_map-append (root_targets_of (from_space kind) h) (roots_in roots before) slice in
+        let old_met : All (Contains (cells_met t.done)) (targets (roots_in roots before)) = still_met keeps (targets (roots_in roots before)) copied.met in
+        let new_met : All (Contains (cells_met t.done)) (targets slice) = subst (λ (k : Kind). All (Contains (cells_met t.done)) (all_root_targets (from_space k) h slice)) same_kind met in
         record {
-          met = subst (λ (l : List ℕ). All (Contains (cells_met u.done)) l) (sym split) (All-append (Contains (cells_met u.done)) (targets (roots_in roots before)) (targets slice) old_met new_met);
-          all = ended ∙ length-map u.done.won win_of;
-          copies = subst (λ (k : ℕ). AreScanned h (walked_at u) (HasPlaces u.done) k aged_now old_now) (sym ended) scanned;
+          met = subst (λ (l : List ℕ). All (Contains (cells_met t.done)) l) (sym split) (All-append (Contains (cells_met t.done)) (targets (roots_in roots before)) (targets slice) old_met new_met);
+          all = ended ∙ length-map t.done.won win_of;
+          copies = subst (λ (k : ℕ). AreScanned h (walked_at t) (HasPlaces t.done) k aged_now old_now) (sym ended) scanned;
         }
 
 -- ---- between two chunks
@@ -179,9 +154,9 @@ pub rises : (before : List ℕ) (chunk : ℕ) (s u : Sitting) (r : ℕ) → HasD
 rises before chunk s u r drawn chunks all =
     All-contains (λ (c : ℕ). c < r) u.done.chunks chunk all (subst (λ (l : List ℕ). Contains l chunk) (sym (chunks ∙ drawn.is)) (Contains-push before chunk))
 
-pub on_ok_both : {A E : Type 0} (r : Result A E) {P Q R : Type 0} → (P → Q → R) → OnOk r P → OnOk r Q → OnOk r R
-on_ok_both (Ok x) f p q = f p q
-on_ok_both (Err e) f p q = p
+pub on_ok_all : {A E : Type 0} (r : Result A E) {P Q R S : Type 0} → (P → Q → R → S) → OnOk r P → OnOk r Q → OnOk r R → OnOk r S
+on_ok_all (Ok x) f p q o = f p q o
+on_ok_all (Err e) f p q o = tt
 
 -- ---- how many chunks there are
 

@@ -10,7 +10,7 @@ use crate::gate::Gate;
 use crate::seat::Seat;
 use std::alloc::Global;
 use tg_block::Block;
-use tg_evac::{CollectFault, Copies, claim_roots, scan};
+use tg_evac::{CollectFault, Copies, walk};
 use tg_space::{Kind, Root, Spaces};
 
 // How many roots a chunk has; the last may have fewer.
@@ -109,8 +109,7 @@ fn copy_chunk(
     ensures copied { OnOk result (HasCopied kind spaces.now.spaces roots.now seat.exit.now.done.chunks seat.exit.now copies.exit.now.scanned copies.exit.now.aged copies.exit.now.old) }
     ensures full { IfErr result (λ fault. fault ≡ CollectFault.HeapFull → HasClaimedPast seat.exit.now.limit seat.exit.now.done) }
 {
-    claim_roots(seat, spaces, kind, chunk_of(roots, chunk))?;
-    scan(seat, spaces, kind, copies)
+    walk(seat, spaces, kind, chunk_of(roots, chunk), copies)
 }
 
 // The roots of a chunk.

@@ -1,0 +1,80 @@
+use Rattle.std.proofs.Common.{List, sym, subst}
+use Rattle.std.specs.List.{All, Contains}
+use Rattle.std.proofs.lemmas.List.{take_all}
+use Rattle.std.proofs.lemmas.List.Elements.{All-nil, Contains-get_or}
+use Rattle.tg_space.specs.Targets.{from_space, all_root_targets}
+use Rattle.tg_space.specs.declared.spaces.Kind.{Kind}
+use Rattle.tg_space.specs.declared.spaces.Root.{Root}
+use Rattle.tg_space.specs.declared.spaces.Root.TheVariants.{Row}
+use Rattle.tg_evac.specs.declared.win.Win.{Win}
+use Rattle.tg_evac.specs.Claims.{AreTraced}
+use Rattle.tg_evac.proofs.Pieces.{met_root, ok_always}
+use Rattle.tg_evac.proofs.Walking.{still_met, wins_none, wins_then}
+use Rattle.tg_evac.proofs.from_roots.walk.Goals as goal
+
+no_root : Root
+no_root = Row (record { space = 0; block = 0; cell = 0 })
+
+pub loop-root-init : goal.loop-root-init
+loop-root-init g c =
+    let w = g.C.Claimer.walked c.args.claimer.now in
+    record {
+      traced = λ all held traced. traced;
+      keeps = wins_none (λ (win : Win). Unit {0}) w;
+      grows = λ to agrees. agrees;
+      met = All-nil (Contains w.met);
+      scanned = c.requires.scanned;
+    }
+
+pub walk_root-requires-clause-traced : goal.walk_root-requires-clause-traced
+unfolding no_root
+walk_root-requires-clause-traced g c =
+    let h = c.args.spaces.now.spaces in let all = c.requires.traced.0 in let i = c.loop-root.root-index in (
+      all,
+      c.requires.traced.1 _ (Contains-get_or c.args.roots.now i no_root c.loop-root-test.true),
+      subst (λ (k : Kind). AreTraced k h all (g.C.Claimer.walked c.loop-root.claimer).won) (sym c.loop-root.invariant.keeps.same_kind) (c.loop-root.invariant.traced all c.requires.traced.1 c.requires.traced.2),
+    )
+
+pub returns-in_err-walk_root-clause-traced : goal.returns-in_err-walk_root-clause-traced
+unfolding no_root
+returns-in_err-walk_root-clause-traced g c all held traced =
+    let m = g.C.Claimer in let h = c.args.spaces.now.spaces in let i = c.loop-root.root-index in
+    subst (λ (k : Kind). AreTraced k h all (m.walked c.loop-root.claimer).won → AreTraced k h all (m.walked c.walk_root.new.claimer).won) c.loop-root.invariant.keeps.same_kind (c.walk_root.ensures.traced all (held _ (Contains-get_or c.args.roots.now i no_root c.loop-root-test.true))) (c.loop-root.invariant.traced all held traced)
+
+pub returns-in_err-walk_root-clause-keeps : goal.returns-in_err-walk_root-clause-keeps
+returns-in_err-walk_root-clause-keeps g c = wins_then c.loop-root.invariant.keeps c.walk_root.ensures.keeps
+
+pub loop-root-preserved : goal.loop-root-preserved
+unfolding no_root
+loop-root-preserved g c =
+    let m = g.C.Claimer in let h = c.args.spaces.now.spaces in let roots = c.args.roots.now in let i = c.loop-root.root-index in let inside = c.loop-root-test.true in
+    let one = c.loop-root.invariant.keeps in let two = c.walk_root.ensures.keeps in
+    record {
+      traced = λ all held traced.
+          subst (λ (k : Kind). AreTraced k h all (m.walked c.loop-root.claimer).won → AreTraced k h all (m.walked c.walk_root.new.claimer).won) one.same_kind (c.walk_root.ensures.traced all (held _ (Contains-get_or roots i no_root inside))) (c.loop-root.invariant.traced all held traced);
+      keeps = wins_then one two;
+      grows = λ to agrees. c.loop-root.invariant.grows to (c.walk_root.ensures.grows to agrees);
+      met = met_root h roots i no_root inside one two c.loop-root.invariant.met c.in_ok-walk_root.ensures.met;
+      scanned = c.in_ok-walk_root.ensures.scanned;
+    }
+
+pub scan-requires-clause-traced : goal.scan-requires-clause-traced
+scan-requires-clause-traced g c =
+    let h = c.args.spaces.now.spaces in let all = c.requires.traced.0 in
+    (all, subst (λ (k : Kind). AreTraced k h all (g.C.Claimer.walked c.loop-root.claimer).won) (sym c.loop-root.invariant.keeps.same_kind) (c.loop-root.invariant.traced all c.requires.traced.1 c.requires.traced.2))
+
+pub returns-clause-traced : goal.returns-clause-traced
+returns-clause-traced g c all held traced =
+    let m = g.C.Claimer in let h = c.args.spaces.now.spaces in
+    subst (λ (k : Kind). AreTraced k h all (m.walked c.loop-root.claimer).won → AreTraced k h all (m.walked c.scan.new.claimer).won) c.loop-root.invariant.keeps.same_kind (c.scan.ensures.traced all) (c.loop-root.invariant.traced all held traced)
+
+pub returns-clause-keeps : goal.returns-clause-keeps
+returns-clause-keeps g c = wins_then c.loop-root.invariant.keeps c.scan.ensures.keeps
+
+pub returns-clause-met : goal.returns-clause-met
+returns-clause-met g c =
+    let m = g.C.Claimer in let roots = c.args.roots.now in
+    let all = take_all c.loop-root.root-index roots c.loop-root-test.false in
+    let kind = (m.walked c.args.claimer.now).kind in let h = c.args.spaces.now.spaces in
+    let met = subst (λ (rs : List Root). All (Contains (m.walked c.loop-root.claimer).met) (all_root_targets (from_space kind) h rs)) all c.loop-root.invariant.met in
+    ok_always c.scan.result (still_met c.scan.ensures.keeps (all_root_targets (from_space kind) h roots) met)

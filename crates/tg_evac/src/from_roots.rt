@@ -1,0 +1,82 @@
+//! The walk from roots: what they name is claimed, and all that this leads to is copied.
+ghost use Rattle.std.specs.Prelude.{◌≡◌, ℕ, IfErr, List, OnOk, length};
+ghost use Rattle.std.specs.List.{All, Contains};
+ghost use Rattle.tg_space.specs.Soundness.{IsRootIn};
+ghost use Rattle.tg_space.specs.SpaceList.{cells_of};
+ghost use Rattle.tg_space.specs.SpaceTable.{kept_blocks};
+ghost use Rattle.tg_space.specs.Targets.{all_root_targets, from_space, root_targets_of};
+ghost use Rattle.tg_space.specs.declared.spaces.Root.{Root as RootOf};
+ghost use Rattle.tg_evac.specs.Claims.{AreTraced, HavePointers};
+ghost use Rattle.tg_evac.specs.Claimers.{AreScanned, KeepsWins, KnowsMore};
+
+use crate::claimer::Claimer;
+use crate::copies::{Copies, scan};
+use crate::fault::CollectFault;
+use crate::roots::claim_root;
+use tg_space::{Kind, Root, Spaces};
+
+/// Claims the targets of the roots, and scans the won cells until none is left.
+///
+/// A full collection does so for one root after the other, so that what a root leads to lies together. A nursery collection
+/// claims the targets of all roots first, since what a remembered cell names goes to Old where it is met from there first.
+///
+/// It is refused as a claim is, or with `OutOfMemory` where memory for a copy was refused. What was claimed till then stays
+/// so.
+#[inline(always)]
+pub fn walk<C: Claimer>(
+    claimer: &mut C,
+    spaces: &Spaces,
+    kind: Kind,
+    roots: &[Root],
+    copies: &mut Copies,
+) -> Result<(), CollectFault>
+    requires pointers { HavePointers spaces.now.spaces }
+    requires roots { All (IsRootIn spaces.now.spaces) roots.now }
+    requires kind { (C.walked claimer.old).kind ≡ kind }
+    requires whole { (C.walked claimer.old).cells ≡ length (cells_of spaces.now.spaces) }
+    requires kept { (C.walked claimer.old).kept ≡ kept_blocks (C.walked claimer.old).kind spaces.now.spaces }
+    requires traced { (all : List RootOf) × ((root : RootOf) → Contains roots.now root → Contains all root) × AreTraced (C.walked claimer.old).kind spaces.now.spaces all (C.walked claimer.old).won }
+    requires scanned { AreScanned spaces.now.spaces (C.walked claimer.old) (C.knows claimer.old) copies.now.scanned copies.now.aged copies.now.old }
+    ensures traced { (all : List RootOf) → ((root : RootOf) → Contains roots.now root → Contains all root) → AreTraced (C.walked claimer.old).kind spaces.now.spaces all (C.walked claimer.old).won → AreTraced (C.walked claimer.old).kind spaces.now.spaces all (C.walked claimer.new).won }
+    ensures keeps { KeepsWins (C.walked claimer.old) (C.walked claimer.new) }
+    ensures grows { KnowsMore (C.knows claimer.old) (C.knows claimer.new) }
+    ensures met { OnOk result (All (Contains (C.walked claimer.new).met) (all_root_targets (from_space (C.walked claimer.old).kind) spaces.now.spaces roots.now)) }
+    ensures scanned { OnOk result (AreScanned spaces.now.spaces (C.walked claimer.new) (C.knows claimer.new) (length (C.walked claimer.new).won) copies.exit.now.aged copies.exit.now.old) }
+    ensures ended { OnOk result (copies.exit.now.scanned ≡ length (C.walked claimer.new).won) }
+    ensures full { IfErr result (λ fault. fault ≡ CollectFault.HeapFull → C.is_full claimer.new) }
+{
+    for root in roots {
+        walk_root(claimer, spaces, kind, *root, copies)?;
+    }
+    scan(claimer, spaces, kind, copies)
+}
+
+// Claims the targets of a root. Where the collection is full the won cells are scanned too.
+#[inline(always)]
+fn walk_root<C: Claimer>(
+    claimer: &mut C,
+    spaces: &Spaces,
+    kind: Kind,
+    root: Root,
+    copies: &mut Copies,
+) -> Result<(), CollectFault>
+    requires pointers { HavePointers spaces.now.spaces }
+    requires root { IsRootIn spaces.now.spaces root }
+    requires kind { (C.walked claimer.old).kind ≡ kind }
+    requires whole { (C.walked claimer.old).cells ≡ length (cells_of spaces.now.spaces) }
+    requires kept { (C.walked claimer.old).kept ≡ kept_blocks (C.walked claimer.old).kind spaces.now.spaces }
+    requires traced { (all : List RootOf) × Contains all root × AreTraced (C.walked claimer.old).kind spaces.now.spaces all (C.walked claimer.old).won }
+    requires scanned { AreScanned spaces.now.spaces (C.walked claimer.old) (C.knows claimer.old) copies.now.scanned copies.now.aged copies.now.old }
+    ensures traced { (all : List RootOf) → Contains all root → AreTraced (C.walked claimer.old).kind spaces.now.spaces all (C.walked claimer.old).won → AreTraced (C.walked claimer.old).kind spaces.now.spaces all (C.walked claimer.new).won }
+    ensures keeps { KeepsWins (C.walked claimer.old) (C.walked claimer.new) }
+    ensures grows { KnowsMore (C.knows claimer.old) (C.knows claimer.new) }
+    ensures met { OnOk result (All (Contains (C.walked claimer.new).met) (root_targets_of (from_space (C.walked claimer.old).kind) spaces.now.spaces root)) }
+    ensures scanned { OnOk result (AreScanned spaces.now.spaces (C.walked claimer.new) (C.knows claimer.new) copies.exit.now.scanned copies.exit.now.aged copies.exit.now.old) }
+    ensures full { IfErr result (λ fault. fault ≡ CollectFault.HeapFull → C.is_full claimer.new) }
+{
+    claim_root(claimer, spaces, kind, root)?;
+    match kind {
+        Kind::Full => scan(claimer, spaces, kind, copies),
+        Kind::Nursery => Ok(()),
+    }
+}
