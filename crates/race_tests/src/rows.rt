@@ -4,7 +4,7 @@ use std::process::Abort;
 use std::sync::Wait;
 use std::test::Fail;
 use std::thread::Threads;
-use tg_script::{ScriptFault, Settings};
+use tg_script::{Helpers, ScriptFault, Settings};
 use tg_threads::{NoGate, RaceFault};
 
 // Runs the script side by side, and compares what is written and how the run ends.
@@ -36,14 +36,19 @@ fn race_of_two_workers(rt: HostRuntime) -> Result<(), Fail> {
 
 #[test]
 fn race_with_a_collection(rt: HostRuntime) -> Result<(), Fail> {
-    races(
-        &rt,
-        settings_of(2, 1_000_000)?,
-        1,
-        b"0 create r\nfull\n0 list\n",
-        b"ok 2\nok 3\nok 2:r\nentries 2 audit ok\n",
-        Ok(()),
-    )
+    for number in [1, 2, 8] {
+        let mut settings = settings_of(2, 1_000_000)?;
+        settings.helpers = Helpers::new(number).ok_or("a number that is out of its range")?;
+        races(
+            &rt,
+            settings,
+            1,
+            b"0 create r\nfull\n0 list\nminor\n",
+            b"ok 2\nok 3\nok 2:r\nok\nentries 2 audit ok\n",
+            Ok(()),
+        )?;
+    }
+    Ok(())
 }
 
 #[test]

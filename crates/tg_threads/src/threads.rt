@@ -64,7 +64,8 @@ impl<L: Round, P: Payload> Promise<Result<Finished<L>, AllocError>> for Assigned
 
 /// Gives each worker a thread that runs its lines, and waits for all of them. What they bring back stands in the order of the
 /// workers: each session has run its lines one after the other, and each line has come to a receipt, to a refusal or to a
-/// collection, which has so many helpers. Where a thread can't be started, those that were started run to their end. The sessions have no receipts yet.
+/// collection, which has so many helpers. Where a thread can't be started, those that were started run to their end. The sessions
+/// have no receipts yet.
 pub fn run_threads<
     L: Round + Send + Sync,
     P: Payload + Send,
