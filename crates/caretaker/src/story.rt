@@ -14,7 +14,7 @@ use tg_journal::{AuditFault, Entry, audit};
 use tg_model::{Command, Edge, Opening, Reply};
 use tg_payload::{Draft, Payload, values_of};
 use tg_rights::Label;
-use tg_store::{Kind, Limits, Store};
+use tg_store::{Kind, Limits, Store, StoreFault};
 
 // The workers. They are named 0, 1, 2, .., and so are vertices from then on.
 const WORKERS: u64 = 2;
@@ -46,7 +46,7 @@ pub fn run_story<P: Payload, R: Print + AllocGlobal>(rt: &R, boxes: Boxes<P>) ->
         visitor,
         document,
     } = boxes;
-    let mut store = open_store(rt.alloc(), caretaker, visitor)?;
+    let mut store = open_store(rt.alloc(), caretaker, visitor, label("g")?)?;
     tell_story(rt, &mut store, document)
 }
 
@@ -59,21 +59,30 @@ fn tell_story<P: Payload, R: Print + AllocGlobal>(
     let document = hand_on(rt, store, document)?;
     visit(rt, store, document)?;
     take_back(rt, store, document)?;
-    let entries = audit_own(rt.alloc(), store)?;
+    let entries = audited(rt.alloc(), store)?;
     println!(rt; "audit ok, {entries} entries")?;
     Ok(())
 }
 
-// A store with two workers, in which the caretaker may hand rights on to the visitor.
-fn open_store<P: Payload>(alloc: Global, caretaker: P, visitor: P) -> Result<Store<P>, Stop> {
+// A store with two workers, of whom the caretaker has these rights over the visitor.
+fn open_store<P: Payload>(
+    alloc: Global,
+    caretaker: P,
+    visitor: P,
+    rights: Label,
+) -> Result<Store<P>, StoreFault> {
     let drafts = drafts_of(alloc, caretaker, visitor)?;
-    let opening = opening_of(alloc, &drafts)?;
+    let opening = opening_of(alloc, &drafts, rights)?;
     let limits = Limits::new(MOST_BLOCKS, MOST_BLOCKS_OF_A_SPACE)?;
     Ok(Store::open(alloc, opening, limits, drafts)?)
 }
 
 // What the two workers store, by rising name.
-fn drafts_of<P: Payload>(alloc: Global, caretaker: P, visitor: P) -> Result<Vec<Draft<P>>, Stop> {
+fn drafts_of<P: Payload>(
+    alloc: Global,
+    caretaker: P,
+    visitor: P,
+) -> Result<Vec<Draft<P>>, StoreFault> {
     let mut drafts = Vec::new(alloc);
     drafts.push(Draft::new(alloc, caretaker)?)?;
     drafts.push(Draft::new(alloc, visitor)?)?;
@@ -81,13 +90,17 @@ fn drafts_of<P: Payload>(alloc: Global, caretaker: P, visitor: P) -> Result<Vec<
 }
 
 // Workers who store what is in the drafts, and an edge from the caretaker to the visitor.
-fn opening_of<P: Payload>(alloc: Global, drafts: &[Draft<P>]) -> Result<Opening, Stop> {
+fn opening_of<P: Payload>(
+    alloc: Global,
+    drafts: &[Draft<P>],
+    rights: Label,
+) -> Result<Opening, StoreFault> {
     let values = values_of(alloc, drafts)?;
     let mut edges = Vec::new(alloc);
     edges.push(Edge {
         from: CARETAKER,
         to: VISITOR,
-        label: label("g")?,
+        label: rights,
     })?;
     Ok(Opening::new(WORKERS, edges, values, MOST_VERTICES)?)
 }
@@ -98,8 +111,7 @@ fn hand_on<P: Payload, R: Print + AllocGlobal>(
     store: &mut Store<P>,
     document: P,
 ) -> Result<u64, Stop> {
-    let draft = Draft::new(rt.alloc(), document)?;
-    let name = store.create(CARETAKER, label("rw")?, draft)?;
+    let name = make(rt.alloc(), store, label("rw")?, document)?;
     tell_reply(rt, "caretaker makes a document", &Reply::Name(name))?;
     ask(
         rt,
@@ -109,6 +121,16 @@ fn hand_on<P: Payload, R: Print + AllocGlobal>(
         hand_to_visitor(name)?,
     )?;
     Ok(name)
+}
+
+// Makes a vertex over which the caretaker has the rights, and answers its name.
+fn make<P: Payload>(
+    alloc: Global,
+    store: &mut Store<P>,
+    rights: Label,
+    payload: P,
+) -> Result<u64, StoreFault> {
+    Ok(store.create(CARETAKER, rights, Draft::new(alloc, payload)?)?)
 }
 
 // The visitor reads the document, before and after a collection and a write of the caretaker.
@@ -169,15 +191,31 @@ fn ask<P: Payload, R: Print>(
     words: &str,
     command: Command,
 ) -> Result<(), Stop> {
-    let reply = store.apply(worker, command)?;
+    let reply = reply_to(store, worker, command)?;
     tell_reply(rt, words, &reply)
+}
+
+fn reply_to<P: Payload>(
+    store: &mut Store<P>,
+    worker: u64,
+    command: Command,
+) -> Result<Reply, StoreFault> {
+    Ok(store.apply(worker, command)?)
 }
 
 // Collects, and prints how many vertices are left.
 fn collect<P: Payload, R: Print>(rt: &R, store: &mut Store<P>) -> Result<(), Stop> {
-    let left = store.collect(Kind::Full)?;
+    let left = left_by_collection(store)?;
     println!(rt; "full collection: {left} vertices are left")?;
     Ok(())
+}
+
+fn left_by_collection<P: Payload>(store: &mut Store<P>) -> Result<u64, StoreFault> {
+    Ok(store.collect(Kind::Full)?)
+}
+
+fn audited<P: Payload>(alloc: Global, store: &Store<P>) -> Result<u64, StoreFault> {
+    Ok(audit_own(alloc, store)?)
 }
 
 // Audits the store's own journal, and answers how many entries it has. As the journal of a store is always a legal
