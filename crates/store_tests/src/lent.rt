@@ -41,60 +41,91 @@ fn draft(alloc: Global, tag: u64) -> Option<Draft<Tagged>> {
     Draft::new(alloc, Tagged { number: 0, tag }).ok()
 }
 
-// A store of two workers, who have the tags 10 and 11.
-fn open_two(alloc: Global) -> Option<Store<Tagged>> {
+// The drafts of two workers, who have the tags 10 and 11.
+fn two_drafts(alloc: Global) -> Option<Vec<Draft<Tagged>>> {
     let mut drafts = Vec::new(alloc);
     drafts.push(draft(alloc, 10)?).ok()?;
     drafts.push(draft(alloc, 11)?).ok()?;
-    let values = values_of(alloc, &drafts).ok()?;
-    let opening = Opening::new(2, Vec::new(alloc), values, 3).ok()?;
-    Store::open(alloc, opening, Limits::new(4, 2).ok()?, drafts).ok()
+    Some(drafts)
 }
 
-// The number and the tag of the vertex, where they are lent to the worker.
-fn lent(store: &Store<Tagged>, worker: u64, name: u64) -> Option<(u64, u64)> {
-    let payload = store.payload(worker, name)?;
-    Some((payload.number, payload.tag))
+// An opening of two workers with these drafts, in which three vertices may be made.
+fn opening_of(alloc: Global, drafts: &[Draft<Tagged>]) -> Option<Opening> {
+    let values = values_of(alloc, drafts).ok()?;
+    Opening::new(2, Vec::new(alloc), values, 3).ok()
 }
 
-// What worker 0, worker 1 and one who is no worker are lent of vertex 2; what worker 0 is lent of itself and of worker 1; and
-// how many entries there are.
-fn seen(store: &Store<Tagged>) -> ([Option<(u64, u64)>; 5], usize) {
-    let all = [
+// A store with these two.
+fn open_two(alloc: Global) -> Option<Store<Tagged>> {
+    let limits = Limits::new(4, 2).ok()?;
+    let drafts = two_drafts(alloc)?;
+    let opening = opening_of(alloc, &drafts)?;
+    Store::open(alloc, opening, limits, drafts).ok()
+}
+
+// The tag of the vertex and its number, added up, where they are lent to the worker, and else 0.
+fn lent(store: &Store<Tagged>, worker: u64, name: u64) -> u64 {
+    match store.payload(worker, name) {
+        Some(payload) => payload.tag.wrapping_add(payload.number),
+        None => 0,
+    }
+}
+
+// What worker 0 is lent of vertex 2, what it is lent of itself and of worker 1, and what worker 1 and one who is no worker are lent.
+fn all_lent(store: &Store<Tagged>) -> [u64; 5] {
+    [
         lent(store, 0, 2),
-        lent(store, 1, 2),
-        lent(store, 2, 2),
         lent(store, 0, 0),
         lent(store, 0, 1),
-    ];
-    (all, store.journal().entries().len())
+        lent(store, 1, 2),
+        lent(store, 2, 2),
+    ]
 }
 
-// Worker 0 makes vertex 2 and writes 5 to it.
-fn make_and_write(alloc: Global, store: &mut Store<Tagged>) -> Option<()> {
+// Worker 0 makes vertex 2, with the tag 12.
+fn make(alloc: Global, store: &mut Store<Tagged>) -> Option<u64> {
     let label = Label::read_text(b"rw")?;
-    let target = store.create(0, label, draft(alloc, 12)?).ok()?;
-    let _reply = store.apply(0, Command::Write { target, value: 5 }).ok()?;
+    store.create(0, label, draft(alloc, 12)?).ok()
+}
+
+// Worker 0 commands, and the reply is passed over.
+fn command(store: &mut Store<Tagged>, command: Command) -> Option<()> {
+    let _reply = store.apply(0, command).ok()?;
+    Some(())
+}
+
+// Makes vertex 2, writes 5 to it, and collects.
+fn make_and_write(alloc: Global, store: &mut Store<Tagged>) -> Option<()> {
+    let target = make(alloc, store)?;
+    command(store, Command::Write { target, value: 5 })?;
+    let _kept = store.collect(Kind::Full).ok()?;
     Some(())
 }
 
 // Worker 0 gives up the right to read vertex 2.
 fn give_up(store: &mut Store<Tagged>) -> Option<()> {
     let rights = Label::read_text(b"r")?;
-    let _reply = store.apply(0, Command::Remove { target: 2, rights }).ok()?;
-    Some(())
+    command(store, Command::Remove { target: 2, rights })
+}
+
+// What is lent once vertex 2 was written and collected, and then once the right to read it was given up; and how many entries
+// there are in the end.
+fn lent_in_turn(alloc: Global, store: &mut Store<Tagged>) -> Option<([u64; 5], [u64; 5], usize)> {
+    make_and_write(alloc, store)?;
+    let before = all_lent(store);
+    give_up(store)?;
+    Some((before, all_lent(store), store.journal().entries().len()))
+}
+
+// The same in a store of its own.
+fn seen_in_two(alloc: Global) -> Option<([u64; 5], [u64; 5], usize)> {
+    let mut store = open_two(alloc)?;
+    lent_in_turn(alloc, &mut store)
 }
 
 #[test]
 fn lent_to_who_may_read(rt: HostRuntime) -> Result<(), Fail> {
-    let alloc = rt.alloc();
-    let mut store = open_two(alloc).ok_or("a store")?;
-    assert_eq!(rt; seen(&store), ([None, None, None, None, None], 0));
-    make_and_write(alloc, &mut store).ok_or("a write")?;
-    assert_eq!(rt; seen(&store), ([Some((5, 12)), None, None, None, None], 2));
-    let _kept = store.collect(Kind::Full).ok().ok_or("a collection")?;
-    assert_eq!(rt; seen(&store), ([Some((5, 12)), None, None, None, None], 2));
-    give_up(&mut store).ok_or("a remove")?;
-    assert_eq!(rt; seen(&store), ([None, None, None, None, None], 3));
+    let seen = seen_in_two(rt.alloc()).ok_or("a store")?;
+    assert_eq!(rt; seen, ([17, 0, 0, 0, 0], [0, 0, 0, 0, 0], 3));
     Ok(())
 }
