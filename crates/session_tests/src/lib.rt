@@ -4,6 +4,8 @@
 #![tactic(auto)]
 
 #[cfg(test)]
+mod creates;
+#[cfg(test)]
 mod opened;
 #[cfg(test)]
 mod receipts;
