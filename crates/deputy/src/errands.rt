@@ -1,13 +1,13 @@
 //! What each of the three does with its session.
 
-use crate::opening::{HAND, cell, label};
-use crate::stop::Stop;
+use crate::opening::{HAND, cell};
 use std::alloc::Global;
 use std::sync::Wait;
 use tg_model::{Command, Reply};
 use tg_payload::CellPayload;
+use tg_rights::Label;
 use tg_shared::{Round, Session, SharedStore};
-use tg_store::Kind;
+use tg_store::{Kind, StoreFault};
 
 // How often the client reads its paper and collects.
 const READS: u64 = 20;
@@ -23,14 +23,15 @@ pub struct Errands {
     pub ledger_by_hand: bool,
 }
 
-/// Makes a vertex, which the session's subject may read and write. Answers its name.
+/// Makes a vertex over which the session's subject has the rights. Answers its name.
 pub fn make<L: Round, R: Wait>(
     rt: &R,
     alloc: Global,
     store: &SharedStore<L, CellPayload>,
     session: &mut Session<L>,
-) -> Result<u64, Stop> {
-    Ok(session.create(rt, store, label("rw")?, cell(alloc)?)?)
+    rights: Label,
+) -> Result<u64, StoreFault> {
+    Ok(session.create(rt, store, rights, cell(alloc)?)?)
 }
 
 // Puts a command to the store, and answers whether it was done. A denial is no refusal.
@@ -39,22 +40,23 @@ fn is_done<L: Round, R: Wait>(
     store: &SharedStore<L, CellPayload>,
     session: &mut Session<L>,
     command: Command,
-) -> Result<bool, Stop> {
+) -> Result<bool, StoreFault> {
     let reply = session.call(rt, store, command)?;
     Ok(matches!(reply, Reply::Done))
 }
 
-/// Hands the client's right to write to the paper on to the deputy's hand. Answers whether that was done.
+/// Hands rights of the client over the paper on to the deputy's hand. Answers whether that was done.
 pub fn hand_on<L: Round, R: Wait>(
     rt: &R,
     store: &SharedStore<L, CellPayload>,
     client: &mut Session<L>,
     paper: u64,
-) -> Result<bool, Stop> {
+    rights: Label,
+) -> Result<bool, StoreFault> {
     let grant = Command::Grant {
         via: HAND,
         target: paper,
-        rights: label("w")?,
+        rights,
     };
     is_done(rt, store, client, grant)
 }
@@ -65,7 +67,7 @@ fn write<L: Round, R: Wait>(
     store: &SharedStore<L, CellPayload>,
     session: &mut Session<L>,
     target: u64,
-) -> Result<bool, Stop> {
+) -> Result<bool, StoreFault> {
     is_done(rt, store, session, Command::Write { target, value: 1 })
 }
 
@@ -77,7 +79,7 @@ pub fn run_errands<L: Round, R: Wait>(
     hand: &mut Session<L>,
     ledger: u64,
     paper: u64,
-) -> Result<Errands, Stop> {
+) -> Result<Errands, StoreFault> {
     Ok(Errands {
         ledger_by_deputy: write(rt, store, deputy, ledger)?,
         paper_by_hand: write(rt, store, hand, paper)?,
@@ -91,7 +93,7 @@ pub fn read_and_collect<L: Round, R: Wait>(
     store: &SharedStore<L, CellPayload>,
     client: &mut Session<L>,
     paper: u64,
-) -> Result<(), Stop> {
+) -> Result<(), StoreFault> {
     for _ in 0..READS {
         let _read = is_done(rt, store, client, Command::Read { target: paper })?;
         let _left = client.collect(rt, store, Kind::Full)?;

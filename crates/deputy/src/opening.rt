@@ -5,7 +5,7 @@ use std::alloc::Global;
 use tg_model::{Edge, Opening};
 use tg_payload::{CellPayload, Draft, values_of};
 use tg_rights::Label;
-use tg_store::{Limits, Store};
+use tg_store::{Limits, Store, StoreFault};
 
 // The subjects are the deputy, the client and the deputy's hand, which has no right but those that are granted to it.
 const SUBJECTS: u64 = 3;
@@ -28,12 +28,12 @@ pub fn label(letters: &str) -> Result<Label, Stop> {
 }
 
 /// A draft of a cell with 0, which is what everything in the story stores.
-pub fn cell(alloc: Global) -> Result<Draft<CellPayload>, Stop> {
+pub fn cell(alloc: Global) -> Result<Draft<CellPayload>, StoreFault> {
     Ok(Draft::new(alloc, CellPayload::new(0))?)
 }
 
 // What the three store.
-fn cells(alloc: Global) -> Result<Vec<Draft<CellPayload>>, Stop> {
+fn cells(alloc: Global) -> Result<Vec<Draft<CellPayload>>, StoreFault> {
     let mut drafts = Vec::new(alloc);
     for _ in 0..SUBJECTS {
         drafts.push(cell(alloc)?)?;
@@ -41,25 +41,25 @@ fn cells(alloc: Global) -> Result<Vec<Draft<CellPayload>>, Stop> {
     Ok(drafts)
 }
 
-// The client may grant to the deputy's hand.
-fn edges(alloc: Global) -> Result<Vec<Edge>, Stop> {
+// The client has these rights over the deputy's hand.
+fn edges(alloc: Global, rights: Label) -> Result<Vec<Edge>, StoreFault> {
     let mut edges = Vec::new(alloc);
     edges.push(Edge {
         from: CLIENT,
         to: HAND,
-        label: label("g")?,
+        label: rights,
     })?;
     Ok(edges)
 }
 
-/// The opening: three subjects that store cells, and one edge.
-pub fn opening(alloc: Global) -> Result<Opening, Stop> {
+/// The opening: three subjects that store cells, and one edge, with these rights of the client over the hand.
+pub fn opening(alloc: Global, rights: Label) -> Result<Opening, StoreFault> {
     let values = values_of(alloc, &cells(alloc)?)?;
-    Ok(Opening::new(SUBJECTS, edges(alloc)?, values, MOST_VERTICES)?)
+    Ok(Opening::new(SUBJECTS, edges(alloc, rights)?, values, MOST_VERTICES)?)
 }
 
 /// A store with this opening.
-pub fn open_store(alloc: Global) -> Result<Store<CellPayload>, Stop> {
+pub fn open_store(alloc: Global, rights: Label) -> Result<Store<CellPayload>, StoreFault> {
     let limits = Limits::new(MOST_BLOCKS, MOST_BLOCKS_OF_A_SPACE)?;
-    Ok(Store::open(alloc, opening(alloc)?, limits, cells(alloc)?)?)
+    Ok(Store::open(alloc, opening(alloc, rights)?, limits, cells(alloc)?)?)
 }

@@ -3,7 +3,7 @@ ghost use Rattle.std.specs.Prelude.{◌≡◌, ◌+◌};
 ghost use Rattle.tg_shared.specs.Sessions.{start_of_store};
 
 use crate::errands::{Errands, hand_on, make, read_and_collect, run_errands};
-use crate::opening::{open_store, opening};
+use crate::opening::{label, open_store, opening};
 use crate::stop::Stop;
 use crate::tell::Ending;
 use std::alloc::Global;
@@ -13,13 +13,14 @@ use std::sync::ledger::Blank;
 use std::thread::{Threads, join};
 use tg_journal::{Journal, audit};
 use tg_payload::CellPayload;
+use tg_rights::Label;
 use tg_shared::{Round, Session, Shared, SharedStore, close};
-use tg_store::Store;
+use tg_store::{Store, StoreFault};
 
 /// Opens a store, tells the story in it on two threads, and audits its journal from an opening of its own. Answers how
 /// many entries there are, too.
 pub fn run_story<R: Threads + Wait + Sync>(rt: &R, alloc: Global) -> Result<(Ending, u64), Stop> {
-    let store = open_store(alloc)?;
+    let store = open_store(alloc, label("g")?)?;
     let parts = store.opening().max_vertices() + 1;
     share::<Brand, R>(rt, alloc, Blank::new(parts), store)
 }
@@ -37,7 +38,7 @@ fn share<L: Round + Send + Sync, R: Threads + Wait + Sync>(
 {
     match SharedStore::<L, CellPayload>::new(alloc, blank, store) {
         Ok(shared) => tell_and_close(rt, alloc, shared),
-        Err(_) => Err(Stop::OutOfMemory),
+        Err(_) => Err(Stop::Store(StoreFault::OutOfMemory)),
     }
 }
 
@@ -69,7 +70,11 @@ fn close_and_audit<L: Round>(
 
 // How many entries the journal has, which is a legal history of the opening that the program makes anew.
 fn audited(alloc: Global, journal: &Journal) -> Result<u64, Stop> {
-    let kept = opening(alloc)?;
+    Ok(audited_from(alloc, label("g")?, journal)?)
+}
+
+fn audited_from(alloc: Global, rights: Label, journal: &Journal) -> Result<u64, StoreFault> {
+    let kept = opening(alloc, rights)?;
     audit(alloc, &kept, journal.entries())?;
     Ok(journal.len())
 }
@@ -96,9 +101,10 @@ fn tell_of_three<L: Round + Send + Sync, R: Threads + Wait + Sync>(
     client: &mut Session<L>,
     hand: &mut Session<L>,
 ) -> Result<Ending, Stop> {
-    let ledger = make(rt, alloc, store, deputy)?;
-    let paper = make(rt, alloc, store, client)?;
-    let _granted = hand_on(rt, store, client, paper)?;
+    let rights = label("rw")?;
+    let ledger = make(rt, alloc, store, deputy, rights)?;
+    let paper = make(rt, alloc, store, client, rights)?;
+    let _granted = hand_on(rt, store, client, paper, label("w")?)?;
     let (errands, read) = work(rt, store, deputy, client, hand, ledger, paper);
     read?;
     Ok(Ending {
@@ -117,7 +123,7 @@ fn work<L: Round + Send + Sync, R: Threads + Wait + Sync>(
     hand: &mut Session<L>,
     ledger: u64,
     paper: u64,
-) -> (Result<Errands, Stop>, Result<(), Stop>) {
+) -> (Result<Errands, StoreFault>, Result<(), StoreFault>) {
     join(
         rt,
         move || run_errands(rt, store, deputy, hand, ledger, paper),

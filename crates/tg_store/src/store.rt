@@ -261,10 +261,21 @@ impl<P: Payload> Store<P> {
         ensures opening { self.new.opening ≡ self.old.opening }
         ensures limits { self.new.heap.table.limits ≡ self.old.heap.table.limits }
     {
-        let roots = self.heap.roots(self.alloc, kind)?;
-        let spare = self.heap.take_spare();
-        let copied = collect_one(self.alloc, self.heap.spaces(), &roots, kind, spare)?;
+        let spare = self.take_spare();
+        let copied = self.copy_reached(kind, spare)?;
         Ok(self.settle(kind, copied)?)
+    }
+
+    // Copies what a collection of this kind keeps, first into the spare blocks.
+    fn copy_reached(&self, kind: Kind, spare: Vec<Block>) -> Result<Copied, CollectFault>
+        ensures collected { IfOk result (λ copied. IsCollection kind self.now.heap.table.spaces (roots_of kind self.now.heap) copied.forward.words copied.adoption.aged copied.adoption.old copied.remembered.places) }
+        ensures moved { IfOk result (λ copied. copies_in copied.forward.words 0 + copies_in copied.forward.words 1 ≤ used_cells kind self.now.heap.table.spaces) }
+        ensures few { IfOk result (λ copied. AreFewBlocks self.now.heap.table.limits.space_blocks (kept_blocks kind self.now.heap.table.spaces) 0 copied.forward.words copied.adoption.aged copied.adoption.old) }
+        ensures full { IfErr result (λ fault. fault ≡ CollectFault.HeapFull → MayLackRoom self.now.heap.table.limits.space_blocks 1 (kept_blocks kind self.now.heap.table.spaces) (used_cells kind self.now.heap.table.spaces)) }
+    {
+        let roots = self.heap.roots(self.alloc, kind)?;
+        let copied = collect_one(self.alloc, self.heap.spaces(), &roots, kind, spare)?;
+        Ok(copied)
     }
 
     /// What a collection of this kind starts from: the rows of the workers, by rising name; for a nursery collection the
