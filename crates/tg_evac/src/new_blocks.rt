@@ -50,11 +50,7 @@ impl NewBlocks {
     /// Puts a cell behind the others. A block that it opens is one of the spare ones, as long as there are any. It is refused
     /// only where memory was.
     #[inline(always)]
-    pub fn push(
-        &mut self,
-        spare: &mut Vec<Block>,
-        words: [u64; WORDS],
-    ) -> Result<(), AllocError>
+    pub fn push(&mut self, spare: &mut Vec<Block>, words: [u64; WORDS]) -> Result<(), AllocError>
         requires { length self.old < 2 ^ 26 }
         ensures { OnOk result (self.new ≡ self.old ++ words ∷ []) }
     {

@@ -55,8 +55,8 @@ pub fn collect_with<P: Payload, R: Threads + Wait + Sync>(
     ensures opening { store.new.opening ≡ store.old.opening }
     ensures limits { store.new.heap.table.limits ≡ store.old.heap.table.limits }
 {
-    let roots = store.roots(kind)?;
     let spare = store.take_spare();
+    let roots = store.roots(kind)?;
     let copied = collect_many(
         rt,
         alloc,

@@ -237,7 +237,11 @@ fn start<'s, E, G: Gate>(
         move || -> Helped
             requires { AreSound spaces.now.spaces roots.now × AreCountsOf kind spaces.now.spaces roots.now table.now.counts × (other.table ≡ table.now.table) × (other.done ≡ empty 1) }
             ensures { IsHelped kind spaces.entry.now roots.entry.now table.entry.now 1 result }
-        { help(alloc, table, other, number, spaces, roots, kind, gate, blocks) },
+        {
+            help(
+                alloc, table, other, number, spaces, roots, kind, gate, blocks,
+            )
+        },
     ) else {
         return Err(HelpersFault::NoThread);
     };
@@ -245,8 +249,7 @@ fn start<'s, E, G: Gate>(
 }
 
 // Takes as many blocks from the end as there are, at most.
-fn take_last(blocks: &mut Vec<Block>, most: usize) -> Result<Vec<Block>, AllocError>
-{
+fn take_last(blocks: &mut Vec<Block>, most: usize) -> Result<Vec<Block>, AllocError> {
     blocks.split_off(blocks.len() - most.min(blocks.len()))
 }
 

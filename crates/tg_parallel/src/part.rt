@@ -127,9 +127,7 @@ pub fn help<G: Gate>(
 {
     let limit = spaces.limits().space_blocks();
     let mut seat = Seat::new(alloc, table, helper, kind, limit);
-    let worked = work(
-        alloc, &mut seat, number, spaces, roots, kind, gate, spare,
-    );
+    let worked = work(alloc, &mut seat, number, spaces, roots, kind, gate, spare);
     let (helper, aged, old) = seat.into_parts();
     match worked {
         Ok(copies) => Helped {

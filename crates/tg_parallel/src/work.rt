@@ -42,11 +42,16 @@ pub fn work<G: Gate>(
     ensures full { IfErr result (λ fault. fault ≡ CollectFault.HeapFull → HasClaimedPast seat.exit.now.limit seat.exit.now.done) }
 {
     match kind {
-        Kind::Full => work_kind(
-            alloc, seat, number, spaces, roots, Kind::Full, gate, spare,
-        ),
+        Kind::Full => work_kind(alloc, seat, number, spaces, roots, Kind::Full, gate, spare),
         Kind::Nursery => work_kind(
-            alloc, seat, number, spaces, roots, Kind::Nursery, gate, spare,
+            alloc,
+            seat,
+            number,
+            spaces,
+            roots,
+            Kind::Nursery,
+            gate,
+            spare,
         ),
     }
 }

@@ -47,7 +47,7 @@ impl<P: Payload> Store<P> {
     ghost use Rattle.tg_model.specs.Opened.{start_of};
     ghost use Rattle.tg_model.specs.Rules.{IsAllowed, step, answer_of};
     ghost use Rattle.tg_model.specs.declared.reply.Denial.{Denial};
-    ghost use Rattle.tg_space.specs.Collection.{IsCollection, MayLackRoom, used_cells};
+    ghost use Rattle.tg_space.specs.Collection.{AreFewBlocks, copies_in, IsCollection, MayLackRoom, used_cells};
     ghost use Rattle.tg_space.specs.Soundness.{AreSound};
     ghost use Rattle.tg_space.specs.SpaceList.{block_count, space_of};
     ghost use Rattle.tg_space.specs.SpaceTable.{kept_blocks};

@@ -41,7 +41,16 @@ fn collect_by<R: Threads + Wait + Sync + Abort>(
     let heap = random_heap(alloc, seed, kind)?;
     let spaces = heap_of(alloc, &heap.cells)?;
     assert!(rt; are_sound(&spaces, &heap.roots));
-    let copied = collect_many(rt, alloc, &spaces, &heap.roots, kind, helpers, &NoGate, Vec::new(alloc))?;
+    let copied = collect_many(
+        rt,
+        alloc,
+        &spaces,
+        &heap.roots,
+        kind,
+        helpers,
+        &NoGate,
+        Vec::new(alloc),
+    )?;
     check_copied(rt, &heap, &spaces, kind, &copied);
     Ok(())
 }
@@ -138,7 +147,16 @@ fn two_helpers_at_one_gate(rt: HostRuntime) -> Result<(), Fail> {
         second: AtomicU64::new(0),
         missed: AtomicU64::new(0),
     };
-    let copied = collect_many(&rt, alloc, &spaces, &roots, Kind::Full, 2, &gate, Vec::new(alloc))?;
+    let copied = collect_many(
+        &rt,
+        alloc,
+        &spaces,
+        &roots,
+        Kind::Full,
+        2,
+        &gate,
+        Vec::new(alloc),
+    )?;
     assert_eq!(rt; gate.missed.load(Ordering::SeqCst), 0);
     assert_eq!(rt; copies_of(&copied, CELLS as u64 - 1), 1);
     Ok(())
@@ -177,7 +195,16 @@ fn a_refused_helper_stops_no_other(rt: HostRuntime) -> Result<(), Fail> {
             },
             passes: AtomicU64::new(0),
         };
-        let copied = collect_many(&rt, alloc, &spaces, &roots, Kind::Full, 2, &gate, Vec::new(alloc));
+        let copied = collect_many(
+            &rt,
+            alloc,
+            &spaces,
+            &roots,
+            Kind::Full,
+            2,
+            &gate,
+            Vec::new(alloc),
+        );
         let ended = if copied.is_ok() { 2 } else { 1 };
         assert!(rt; matches!(copied, Ok(_) | Err(HelpersFault::HeapFull)));
         assert_eq!(rt; gate.passes.load(Ordering::SeqCst), 8 + ended);
@@ -209,7 +236,16 @@ fn a_full_heap_is_refused(rt: HostRuntime) -> Result<(), Fail> {
     let roots = rows_of_all(alloc)?;
     assert!(rt; are_sound(&spaces, &roots));
     for helpers in [1, 4] {
-        let refused = collect_many(&rt, alloc, &spaces, &roots, Kind::Full, helpers, &NoGate, Vec::new(alloc));
+        let refused = collect_many(
+            &rt,
+            alloc,
+            &spaces,
+            &roots,
+            Kind::Full,
+            helpers,
+            &NoGate,
+            Vec::new(alloc),
+        );
         assert!(rt; matches!(refused, Err(HelpersFault::HeapFull)));
     }
     Ok(())

@@ -1,8 +1,11 @@
 -- How few blocks are left, and what is settled.
-use Rattle.std.proofs.Common.{◌≤◌, ◌+◌, List, subst}
+use Rattle.std.proofs.Common.{◌≡◌, ◌≤◌, ◌+◌, List, subst}
 use Rattle.tg_space.specs.SpaceTable.{SpaceTable, kept_blocks}
 use Rattle.tg_space.specs.Collection.{AreFewBlocks, IsCollection, copies_in, used_cells}
 use Rattle.tg_space.specs.declared.spaces.Root.{Root}
+use Rattle.tg_space.specs.declared.spaces.Kind.TheVariants.{Nursery}
+use Rattle.tg_graph.specs.Kept.{VerticesOfOldStay}
+use Rattle.tg_store.specs.Store.{HasFewBlocks, StoreState}
 use Rattle.tg_store.proofs.BlockLaws.{few_left}
 use Rattle.tg_helpers.proofs.collect_with.Goals as goal
 
@@ -13,13 +16,20 @@ returns-clause-blocks g c =
     let few = subst (λ (t : SpaceTable). AreFewBlocks t.limits.space_blocks (kept_blocks kind t.spaces) c.args.helpers made.forward.words made.adoption.aged made.adoption.old) c.spaces.ensures c.in_ok-copied.ensures.few in
     let moved = subst (λ (t : SpaceTable). copies_in made.forward.words 0 + copies_in made.forward.words 1 ≤ used_cells kind t.spaces) c.spaces.ensures c.in_ok-copied.ensures.moved in
     let adopted = c.in_ok-settle.ensures.adopted in
-    few_left c.args.helpers c.args.store.now.heap.table c.settle.new.self.heap.table made.forward.words made.adoption.aged made.adoption.old kind few moved adopted.full c.args.store.now.heap adopted.nursery
+    let before = c.take_spare-spare.new.self.heap in
+    let after = c.settle.new.self.heap.table in
+    subst (λ (state : StoreState). HasFewBlocks kind c.args.helpers state.heap.table after) c.take_spare-spare.ensures
+    (few_left c.args.helpers before.table after made.forward.words made.adoption.aged made.adoption.old kind few moved adopted.full before adopted.nursery)
+
+pub returns-clause-stay : goal.returns-clause-stay
+returns-clause-stay g c =
+    subst (λ (state : StoreState). c.args.kind ≡ Nursery → VerticesOfOldStay state.heap.table.spaces c.settle.new.self.heap.table.spaces) c.take_spare-spare.ensures c.in_ok-settle.ensures.stay
 
 pub settle-requires : goal.settle-requires
 settle-requires g c =
     let kind = c.args.kind in
     let made = c.in_ok-copied.copied in
-    let heap = c.args.store.now.heap in
+    let heap = c.take_spare-spare.new.self.heap in
     let over_heap : IsCollection kind heap.table.spaces c.deref.result.now made.forward.words made.adoption.aged made.adoption.old made.remembered.places =
     subst (λ (t : SpaceTable). IsCollection kind t.spaces c.deref.result.now made.forward.words made.adoption.aged made.adoption.old made.remembered.places) c.spaces.ensures c.in_ok-copied.ensures.collected in
     let collected : IsCollection kind heap.table.spaces c.in_ok-roots.roots.items made.forward.words made.adoption.aged made.adoption.old made.remembered.places =
