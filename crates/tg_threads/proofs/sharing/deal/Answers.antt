@@ -54,6 +54,14 @@ loop-task-preserved-in_default g c = record {
   fresh = c.loop-task.invariant.fresh;
 }
 
+pub loop-task-preserved-in_default-2 : goal.loop-task-preserved-in_default-2
+loop-task-preserved-in_default-2 g c = record {
+  left = grind (arith, common_steps, append_assoc, c.loop-task.invariant.left, c.in-Some.ensures);
+  dealt = dealt_nobodys boxed_of (length c.args.works.items) c.len-workers.result c.loop-task.yielded c.in-Some.task (map assigned_of c.loop-task.works.items) (c.len-workers.ensures ∙ c.args.works.ok.0)
+      (sym c.runner.ensures ∙ c.in_default.is) c.loop-task.invariant.dealt;
+  fresh = c.loop-task.invariant.fresh;
+}
+
 pub loop-task-preserved : goal.loop-task-preserved
 loop-task-preserved g c = record {
   left = grind (arith, common_steps, append_assoc, c.loop-task.invariant.left, c.in-Some.ensures);
