@@ -117,9 +117,9 @@ impl Gate for Meet {
         } else {
             (&self.second, &self.first)
         };
-        mine.store(1, Ordering::SeqCst);
+        mine.fetch_add(1, Ordering::SeqCst);
         for _ in 0..100_000_000u64 {
-            if other.load(Ordering::SeqCst) == 1 {
+            if other.load(Ordering::SeqCst) > 0 {
                 return;
             }
             thread::yield_now();
@@ -162,7 +162,20 @@ fn two_helpers_at_one_gate(rt: HostRuntime) -> Result<(), Fail> {
     Ok(())
 }
 
-// A gate at which two helpers meet, and that counts how often they pass.
+impl Meet {
+    // How often a helper has come to the gate.
+    fn passes_of(&self, helper: u32) -> u64 {
+        let mine = if helper == 0 {
+            &self.first
+        } else {
+            &self.second
+        };
+        mine.load(Ordering::SeqCst)
+    }
+}
+
+// A gate at which two helpers meet, and that counts how often they pass. A helper that comes a second time lets the other one
+// go first, which so has claimed a chunk before all are gone.
 #[derive(Drop)]
 struct Counted {
     meet: Meet,
@@ -173,6 +186,16 @@ impl Gate for Counted {
     fn pass(&self, helper: u32) {
         self.meet.pass(helper);
         self.passes.fetch_add(1, Ordering::SeqCst);
+        if self.meet.passes_of(helper) == 2 {
+            give_way();
+        }
+    }
+}
+
+// Lets other threads go first.
+fn give_way() {
+    for _ in 0..20_000u64 {
+        thread::yield_now();
     }
 }
 
