@@ -79,4 +79,3 @@ returns-clause-others g c =
     λ r s places other at index.
     subst (λ (x : SpaceTable). IsRowIndex x.spaces r s places) (sym c.narrow.ensures)
     (other_index t.spaces c.args.self.now.payloads (table_list t c.requires.table) c.requires.graph c.args.from q i word c.requires.from reference.cell (reference.from, reference.to) sound r at other s places index)
-
