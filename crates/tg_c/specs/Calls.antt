@@ -44,7 +44,7 @@ use Rattle.tg_c.specs.Statuses.{of_apply, of_audit, of_collect, of_create, refus
 
 -- what the store in an open place holds
 abbrev pub state_in : StorePlace → StoreState
-state_in place = place.handle.session.store
+state_in place = place.handle.opened.store
 
 -- ---- a call on a place
 
