@@ -2,6 +2,7 @@
 ghost use Rattle.std.specs.Prelude.{◌≡◌, ◌++◌, ◌<◌, ◌≤◌, ◌+◌, ◌^◌, [], length, replicate, IfOk, OnOk, OnErr};
 ghost use Rattle.tg_space.specs.SpaceList.{IsSpace, space_of};
 ghost use Rattle.tg_space.specs.SpaceTable.{adopted, IsPrefixCount};
+ghost use Rattle.tg_space.specs.declared.kind.Kind.{Kind};
 
 use crate::space::Space;
 use std::alloc::{AllocError, Global};
@@ -45,6 +46,7 @@ pub fn put_alone(alloc: Global, spaces: &mut [Space], old: Space) -> Vec<Block>
     ensures adopted { spaces.new ≡ adopted Kind.Full spaces.old [] old }
     ensures whole { IsSpace old }
 {
+    // It tells that these are the blocks of a space (`IsSpace`).
     let _ = old.len();
     let emptied = take_all(alloc, spaces);
     spaces[0] = old;

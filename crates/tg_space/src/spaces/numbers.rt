@@ -59,15 +59,6 @@ impl Spaces {
         }
     }
 
-    /// The words of the cell with a number.
-    pub fn numbered_cell(&self, number: u64) -> [u64; WORDS]
-        requires { number < length (cells_of self.now.spaces) }
-        ensures words { result ≡ slice_index_or (cells_of self.now.spaces) number [] }
-        ensures whole { length result ≡ 8 }
-    {
-        self.cell(self.unflat(number))
-    }
-
     /// The words of the cell with a number, where they stand.
     #[inline(always)]
     pub fn numbered_words(&self, number: u64) -> &[u64; WORDS]
