@@ -137,21 +137,13 @@ fn check_first<P: Payload>(
     ensures name { IfOk result (λ vertex. vertex.name ≡ to) }
     ensures vertex { IfOk result (λ vertex. HasVertex heap.now vertex) }
 {
-    check_distinct(rule, same)?;
-    check_held(heap, rule, worker, to, rights)
-}
-
-// Denies a command in which two vertices that must differ are one.
-fn check_distinct(rule: Rule, same: bool) -> Result<(), Denial>
-    ensures { result_err result ≡ unless_distinct rule same }
-{
     if same {
         return Err(Denial {
             rule,
             cause: Cause::NotDistinct,
         });
     }
-    Ok(())
+    check_held(heap, rule, worker, to, rights)
 }
 
 // Denies a command that wants rights of one vertex over another, where they are missing. Else it answers that other.
