@@ -1,30 +1,12 @@
 // copier.c: how long a bare copier takes for the live heaps of main.rt.in, and memcpy for as many bytes.
 // It keeps nothing but what copying needs: no space but one, no rights to check, blocks that are there already.
 // Prints a line for each: its name, the number of cells, and the median time in nanoseconds.
-#include <stdint.h>
-#include <stdio.h>
-#include <stdlib.h>
-#include <string.h>
-#include <time.h>
+#include "cells.h"
 
 enum { BLOCKS = 547, CELLS = BLOCKS * 64, ROUNDS = 301 };
 
-typedef struct {
-    uint64_t words[8];
-} cell;
-
 static cell *spaces[2][BLOCKS], **from = spaces[0], **to = spaces[1];
-static uint64_t forward[CELLS], numbers[CELLS], seed, root;
-
-static uint64_t draw(void) {
-    seed = seed * 6364136223846793005u + 1442695040888963407u;
-    return seed >> 33;
-}
-
-// A reference: present, Old, and the number of the cell where the bits of block and cell stand.
-static uint64_t link_to(uint64_t number) { return 1ull << 37 | number << 4; }
-static uint64_t number_in(uint64_t word) { return word >> 4 & ((1 << 26) - 1); }
-static cell *cell_at(cell **blocks, uint64_t number) { return &blocks[number / 64][number % 64]; }
+static uint64_t forward[CELLS], numbers[CELLS], root;
 
 static void build(int is_random) {
     seed = 1;
@@ -71,17 +53,6 @@ static uint64_t collect(void) {
     from = to;
     to = emptied;
     return free;
-}
-
-static uint64_t now(void) {
-    struct timespec t;
-    clock_gettime(CLOCK_MONOTONIC, &t);
-    return t.tv_sec * 1000000000ull + t.tv_nsec;
-}
-
-static int compare(const void *a, const void *b) {
-    uint64_t x = *(const uint64_t *)a, y = *(const uint64_t *)b;
-    return (x > y) - (x < y);
 }
 
 static void report(const char *name, uint64_t *times) {

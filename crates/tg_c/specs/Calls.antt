@@ -12,8 +12,8 @@ use Rattle.tg_model.specs.declared.reply.Denial.{Denial}
 use Rattle.tg_model.specs.declared.reply.Reply.{Reply}
 use Rattle.tg_model.specs.declared.reply.Reply.TheVariants as reply
 use Rattle.tg_model.specs.declared.value.Value.{Value}
-use Rattle.tg_space.specs.declared.spaces.Kind.{Kind}
-use Rattle.tg_space.specs.declared.spaces.Kind.TheVariants.{Full, Nursery}
+use Rattle.tg_space.specs.declared.kind.Kind.{Kind}
+use Rattle.tg_space.specs.declared.kind.Kind.TheVariants.{Full, Nursery}
 use Rattle.tg_space.specs.Collection.{MayLackRoom, used_cells}
 use Rattle.tg_space.specs.SpaceList.{block_count, space_of}
 use Rattle.tg_space.specs.SpaceTable.{AreLimits, kept_blocks, limits_of}
@@ -44,7 +44,7 @@ use Rattle.tg_c.specs.Statuses.{of_apply, of_audit, of_collect, of_create, refus
 
 -- what the store in an open place holds
 abbrev pub state_in : StorePlace → StoreState
-state_in place = place.handle.session.store
+state_in place = place.handle.opened.store
 
 -- ---- a call on a place
 

@@ -12,8 +12,8 @@ use Rattle.tg_model.specs.declared.edge.Edge.{Edge}
 use Rattle.tg_model.specs.declared.value.Value.{Value}
 use Rattle.tg_model.specs.declared.law.Law.TheVariants as law
 use Rattle.tg_model.specs.Opened.{Plan, JoinsWorkers}
-use Rattle.tg_space.specs.declared.spaces.Kind.{Kind}
-use Rattle.tg_space.specs.declared.spaces.Kind.TheVariants.{Full, Nursery}
+use Rattle.tg_space.specs.declared.kind.Kind.{Kind}
+use Rattle.tg_space.specs.declared.kind.Kind.TheVariants.{Full, Nursery}
 use Rattle.tg_store.specs.declared.census.Census.{Census}
 use Rattle.tg_c.specs.declared.forms.CensusOut.{CensusOut}
 use Rattle.tg_c.specs.declared.forms.DenialOut.{DenialOut}

@@ -11,9 +11,9 @@ use Rattle.tg_space.specs.Rows.{chunks_from, link_at}
 use Rattle.tg_space.specs.Soundness.{IsPointer, IsRootIn}
 use Rattle.tg_space.specs.SpaceList.{SpaceList, IsSpaceList, Holds, cell_at, flat_of, cells_of}
 use Rattle.tg_space.specs.Targets.{from_space, pointers_of, target_in, named_by, cells_followed, targets_at, targets_of, root_targets_of}
-use Rattle.tg_space.specs.declared.spaces.Kind.{Kind}
-use Rattle.tg_space.specs.declared.spaces.Root.{Root}
-use Rattle.tg_space.specs.declared.spaces.Root.TheVariants.{Row, Remembered}
+use Rattle.tg_space.specs.declared.kind.Kind.{Kind}
+use Rattle.tg_space.specs.declared.root.Root.{Root}
+use Rattle.tg_space.specs.declared.root.Root.TheVariants.{Row, Remembered}
 use Rattle.tg_space.proofs.Flat.{get_or-flat_of}
 use Rattle.tg_space.proofs.Pointing.{used_chunk, used_object}
 use Rattle.tg_evac.specs.Claims.{HavePointers, chunk_targets}

@@ -13,10 +13,10 @@ use Rattle.tg_space.specs.Generations.{AreInGenerations, NamesYoung}
 use Rattle.tg_space.specs.SpaceList.{SpaceList, BlockList, IsSpaceList, cell_at, cells_of}
 use Rattle.tg_space.specs.SpaceTable.{SpaceTable, IsSpaceTable, adopted, kept_blocks}
 use Rattle.tg_space.specs.Targets.{from_space, all_root_targets, targets_of, image_of}
-use Rattle.tg_space.specs.declared.spaces.Kind.{Kind}
-use Rattle.tg_space.specs.declared.spaces.Kind.TheVariants.{Full, Nursery}
-use Rattle.tg_space.specs.declared.spaces.Root.{Root}
-use Rattle.tg_space.specs.declared.spaces.Root.TheVariants.{Remembered}
+use Rattle.tg_space.specs.declared.kind.Kind.{Kind}
+use Rattle.tg_space.specs.declared.kind.Kind.TheVariants.{Full, Nursery}
+use Rattle.tg_space.specs.declared.root.Root.{Root}
+use Rattle.tg_space.specs.declared.root.Root.TheVariants.{Remembered}
 use Rattle.tg_space.proofs.Tables.{table_list}
 use Rattle.tg_evac.specs.declared.plan.Plan.{Plan}
 use Rattle.tg_evac.specs.declared.win.Win.{Win}

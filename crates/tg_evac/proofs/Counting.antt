@@ -13,8 +13,8 @@ use Rattle.tg_block.specs.Cells.{all_are_zero}
 use Rattle.tg_space.specs.Collection.{moved_cells, used_cells}
 use Rattle.tg_space.specs.SpaceList.{SpaceList, BlockList, IsSpace, IsSpaceList, Holds, cell_at, flat_of, cells_of, blocks_before}
 use Rattle.tg_space.specs.Targets.{from_space}
-use Rattle.tg_space.specs.declared.spaces.Kind.{Kind}
-use Rattle.tg_space.specs.declared.spaces.Kind.TheVariants.{Full, Nursery}
+use Rattle.tg_space.specs.declared.kind.Kind.{Kind}
+use Rattle.tg_space.specs.declared.kind.Kind.TheVariants.{Full, Nursery}
 use Rattle.tg_space.proofs.Flat.{get_or-flat_of, flat_inside, length-cells_of, length-blocks, before_mono}
 use Rattle.tg_evac.specs.Claims.{Claimed, HasFilledRoom, cells_won}
 

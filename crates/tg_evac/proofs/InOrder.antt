@@ -15,8 +15,8 @@ use Rattle.tg_space.specs.Generations.{NamesYoung}
 use Rattle.tg_space.specs.SpaceList.{SpaceList, BlockList, IsSpaceList, cells_of, flat_of}
 use Rattle.tg_space.specs.SpaceTable.{place_in_space}
 use Rattle.tg_space.specs.Targets.{cell_numbered, every_space, first_pointer, image_of, moved_word, pointers_of}
-use Rattle.tg_space.specs.declared.spaces.Kind.TheVariants.{Full}
-use Rattle.tg_space.specs.declared.spaces.Root.{Root}
+use Rattle.tg_space.specs.declared.kind.Kind.TheVariants.{Full}
+use Rattle.tg_space.specs.declared.root.Root.{Root}
 use Rattle.tg_space.proofs.Flat.{all_cells_whole, length-blocks}
 use Rattle.tg_evac.specs.declared.win.Win.{Win}
 use Rattle.tg_evac.specs.Claims.{AreClaims, AreGivenInOrder, Claimed, IsTracedFrom, StandsIn, is_in, win_at, won_in}

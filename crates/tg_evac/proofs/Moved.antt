@@ -6,8 +6,8 @@ use Rattle.std.proofs.lemmas.List.{length-map}
 use Rattle.tg_space.specs.Collection.{copies_in, used_cells}
 use Rattle.tg_space.specs.SpaceList.{SpaceList, IsSpaceList}
 use Rattle.tg_space.specs.Soundness.{IsRootIn}
-use Rattle.tg_space.specs.declared.spaces.Kind.{Kind}
-use Rattle.tg_space.specs.declared.spaces.Root.{Root}
+use Rattle.tg_space.specs.declared.kind.Kind.{Kind}
+use Rattle.tg_space.specs.declared.root.Root.{Root}
 use Rattle.tg_evac.specs.declared.win.Win.{Win}
 use Rattle.tg_evac.specs.Claims.{AreClaims, Claimed, HavePointers, IsTracedFrom, cells_won, is_in, won_in}
 use Rattle.tg_evac.proofs.Claiming.{won_distinct}

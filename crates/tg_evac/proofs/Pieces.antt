@@ -12,9 +12,9 @@ use Rattle.tg_space.specs.Closure.{IsClosed}
 use Rattle.tg_space.specs.Rows.{link_at}
 use Rattle.tg_space.specs.SpaceList.{SpaceList, cells_of}
 use Rattle.tg_space.specs.Targets.{cell_numbered, from_space, image_of, named_by, pointers_of, targets_at, targets_of, root_targets_of, all_root_targets}
-use Rattle.tg_space.specs.declared.spaces.Kind.{Kind}
-use Rattle.tg_space.specs.declared.spaces.Root.{Root}
-use Rattle.tg_space.specs.declared.spaces.Root.TheVariants.{Row}
+use Rattle.tg_space.specs.declared.kind.Kind.{Kind}
+use Rattle.tg_space.specs.declared.root.Root.{Root}
+use Rattle.tg_space.specs.declared.root.Root.TheVariants.{Row}
 use Rattle.tg_evac.specs.declared.win.Win.{Win}
 use Rattle.tg_evac.specs.Claims.{AreTraced, Claimed, IsClaimOf, cells_won, chunk_targets, is_in, is_in_old, is_straight, win_at, won_in}
 use Rattle.tg_evac.specs.Claimers.{AddsWins, AreScanned, KeepsWins, KnowsMore, Walked, copies_to, image_at, walked_of}

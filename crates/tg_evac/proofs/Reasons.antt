@@ -14,10 +14,10 @@ use Rattle.tg_space.specs.Generations.{AreSortedByAge, GoesTo, IsAgedCell, IsNex
 use Rattle.tg_space.specs.Soundness.{IsRootIn}
 use Rattle.tg_space.specs.SpaceList.{SpaceList, IsSpaceList, Holds, cells_of, flat_of}
 use Rattle.tg_space.specs.Targets.{from_space, young_spaces, targets_of, root_targets_of, all_root_targets}
-use Rattle.tg_space.specs.declared.spaces.Kind.{Kind}
-use Rattle.tg_space.specs.declared.spaces.Kind.TheVariants.{Full, Nursery}
-use Rattle.tg_space.specs.declared.spaces.Root.{Root}
-use Rattle.tg_space.specs.declared.spaces.Root.TheVariants.{Row, Remembered}
+use Rattle.tg_space.specs.declared.kind.Kind.{Kind}
+use Rattle.tg_space.specs.declared.kind.Kind.TheVariants.{Full, Nursery}
+use Rattle.tg_space.specs.declared.root.Root.{Root}
+use Rattle.tg_space.specs.declared.root.Root.TheVariants.{Row, Remembered}
 use Rattle.tg_space.proofs.Adding.{piece}
 use Rattle.tg_space.proofs.Flat.{same_place, flat_inside}
 use Rattle.tg_evac.specs.declared.plan.Plan.{Plan}

@@ -10,7 +10,7 @@ use Rattle.tg_space.specs.Rows.{link_of}
 use Rattle.tg_space.specs.Soundness.{AreSound, HasLayout, HasLayoutOf, IsLink, LinksTo, IsPointer}
 use Rattle.tg_space.specs.SpaceList.{SpaceList, IsSpaceList, cell_at, cells_of, flat_of}
 use Rattle.tg_space.specs.Targets.{pointers_of}
-use Rattle.tg_space.specs.declared.spaces.Root.{Root}
+use Rattle.tg_space.specs.declared.root.Root.{Root}
 use Rattle.tg_space.proofs.Flat.{flat_inside, get_or-flat_of}
 use Rattle.tg_space.proofs.Pointing.{pointers_sound, used_chunk}
 use Rattle.tg_evac.specs.Claims.{HavePointers}

@@ -7,7 +7,7 @@ use Rattle.tg_word.specs.Word.{IsPlace, link_to, place_in}
 use Rattle.tg_space.specs.Collection.{new_place}
 use Rattle.tg_space.specs.SpaceList.{SpaceList, BlockList, cell_at}
 use Rattle.tg_space.specs.Targets.{from_space, image_of}
-use Rattle.tg_space.specs.declared.spaces.Kind.{Kind}
+use Rattle.tg_space.specs.declared.kind.Kind.{Kind}
 use Rattle.tg_evac.specs.declared.win.Win.{Win}
 use Rattle.tg_evac.specs.Claimers.{image_at}
 

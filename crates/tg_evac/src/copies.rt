@@ -2,7 +2,7 @@
 ghost use Rattle.std.specs.Prelude.{◌≡◌, ℕ, ◌+◌, ◌<◌, ◌≤◌, ◌^◌, ◌++◌, ◌∷◌, true, false, List, [], IfErr, IfOk, OnOk, length};
 ghost use Rattle.tg_space.specs.SpaceList.{IsSpace, cells_of};
 ghost use Rattle.tg_space.specs.SpaceTable.{kept_blocks};
-ghost use Rattle.tg_space.specs.declared.spaces.Root.{Root as RootOf};
+ghost use Rattle.tg_space.specs.declared.root.Root.{Root as RootOf};
 ghost use Rattle.tg_evac.specs.Claims.{AreTraced, HavePointers, won_in};
 ghost use Rattle.tg_evac.specs.Copies.{HoldCells};
 ghost use Rattle.tg_evac.specs.Claimers.{AreScanned, KeepsWins, KnowsMore};

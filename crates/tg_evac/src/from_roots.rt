@@ -5,7 +5,7 @@ ghost use Rattle.tg_space.specs.Soundness.{IsRootIn};
 ghost use Rattle.tg_space.specs.SpaceList.{cells_of};
 ghost use Rattle.tg_space.specs.SpaceTable.{kept_blocks};
 ghost use Rattle.tg_space.specs.Targets.{all_root_targets, from_space, root_targets_of};
-ghost use Rattle.tg_space.specs.declared.spaces.Root.{Root as RootOf};
+ghost use Rattle.tg_space.specs.declared.root.Root.{Root as RootOf};
 ghost use Rattle.tg_evac.specs.Claims.{AreTraced, HavePointers};
 ghost use Rattle.tg_evac.specs.Claimers.{AreScanned, KeepsWins, KnowsMore};
 

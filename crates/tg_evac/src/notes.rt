@@ -5,7 +5,7 @@ ghost use Rattle.tg_word.specs.declared.Place.{Place as PlaceOf};
 ghost use Rattle.tg_space.specs.Generations.{NamesYoung};
 ghost use Rattle.tg_space.specs.Soundness.{IsRootIn};
 ghost use Rattle.tg_space.specs.SpaceList.{cells_of};
-ghost use Rattle.tg_space.specs.declared.spaces.Root.TheVariants.{Remembered as RememberedAt};
+ghost use Rattle.tg_space.specs.declared.root.Root.TheVariants.{Remembered as RememberedAt};
 ghost use Rattle.tg_evac.specs.Claims.{HavePointers};
 ghost use Rattle.tg_evac.specs.Copies.{HavePlaces, IsPlaceIn, moved_cell, new_cell};
 

@@ -5,7 +5,7 @@ ghost use Rattle.tg_space.specs.Soundness.{IsPointer, IsRootIn};
 ghost use Rattle.tg_space.specs.SpaceList.{Holds, cells_of};
 ghost use Rattle.tg_space.specs.SpaceTable.{kept_blocks};
 ghost use Rattle.tg_space.specs.Targets.{from_space, root_targets_of, targets_at};
-ghost use Rattle.tg_space.specs.declared.spaces.Root.TheVariants.{Row};
+ghost use Rattle.tg_space.specs.declared.root.Root.TheVariants.{Row};
 ghost use Rattle.tg_evac.specs.Claims.{HavePointers, IsClaimOf, chunk_targets, is_straight as straight_from};
 ghost use Rattle.tg_evac.specs.Claimers.{AddsWins, KnowsMore};
 

@@ -17,8 +17,8 @@ use Rattle.indexmap.specs.Layout.{length-set_value_at, set_value_at}
 use Rattle.tg_word.specs.declared.Place.{Place}
 use Rattle.tg_space.specs.SpaceList.{SpaceList}
 use Rattle.tg_space.specs.Targets.{from_space}
-use Rattle.tg_space.specs.declared.spaces.Kind.{Kind}
-use Rattle.tg_space.specs.declared.spaces.Kind.TheVariants.{Full, Nursery}
+use Rattle.tg_space.specs.declared.kind.Kind.{Kind}
+use Rattle.tg_space.specs.declared.kind.Kind.TheVariants.{Full, Nursery}
 use Rattle.tg_graph.specs.Index.{AreAged, HasIndexAt, IsAged, IsOldPlace, IsOldRow}
 use Rattle.tg_graph.specs.Kept.{moved_place}
 use Rattle.tg_graph.specs.declared.index.IndexedRow.{IndexedRow}

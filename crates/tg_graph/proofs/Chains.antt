@@ -12,7 +12,7 @@ use Rattle.tg_word.specs.Word.{place_in}
 use Rattle.tg_block.specs.declared.CellKind.TheVariants.{Object, Chunk}
 use Rattle.tg_space.specs.SpaceList.{SpaceList, IsSpaceList, Holds, cell_at, cells_of, flat_of}
 use Rattle.tg_space.specs.Soundness.{AreSound, IsKindAt, IsReference}
-use Rattle.tg_space.specs.declared.spaces.Root.{Root}
+use Rattle.tg_space.specs.declared.root.Root.{Root}
 use Rattle.tg_space.proofs.Flat.{flat_inside, same_place}
 use Rattle.tg_graph.specs.Rows.{IsChain, references_of, row_words}
 use Rattle.tg_space.specs.Rows.{chunks_from, link_at, row_of}

@@ -21,8 +21,8 @@ use Rattle.tg_space.specs.Soundness.{IsKindAt}
 use Rattle.tg_space.specs.Collection.{new_place}
 use Rattle.tg_space.specs.Targets.{from_space}
 use Rattle.tg_space.specs.Rows.{chunks_from, link_at}
-use Rattle.tg_space.specs.declared.spaces.Kind.{Kind}
-use Rattle.tg_space.specs.declared.spaces.Kind.TheVariants.{Full, Nursery}
+use Rattle.tg_space.specs.declared.kind.Kind.{Kind}
+use Rattle.tg_space.specs.declared.kind.Kind.TheVariants.{Full, Nursery}
 use Rattle.tg_graph.specs.Index.{AreAged, AreFollowed, AreIndexed, IsAged, IsFollowed, IsFollowedTo, IsIndexed, IsOldPlace, IsOldRow, IsQuiet, known_notes}
 use Rattle.tg_graph.specs.Kept.{moved_place}
 use Rattle.tg_graph.specs.Rows.{IsRow}

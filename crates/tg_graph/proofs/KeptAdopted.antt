@@ -9,8 +9,8 @@ use Rattle.tg_space.specs.SpaceList.{SpaceList, BlockList, Holds, space_of, cell
 use Rattle.tg_space.specs.SpaceTable.{adopted}
 use Rattle.tg_space.specs.Targets.{from_space}
 use Rattle.tg_space.specs.Collection.{IsNewPlace}
-use Rattle.tg_space.specs.declared.spaces.Kind.{Kind}
-use Rattle.tg_space.specs.declared.spaces.Kind.TheVariants.{Full, Nursery}
+use Rattle.tg_space.specs.declared.kind.Kind.{Kind}
+use Rattle.tg_space.specs.declared.kind.Kind.TheVariants.{Full, Nursery}
 
 -- which spaces a nursery collection leaves where they are
 pub old_stays : (space : ℕ) → from_space Nursery space ≡ false → space ≡ 0

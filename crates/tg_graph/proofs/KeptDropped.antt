@@ -10,8 +10,8 @@ use Rattle.tg_block.specs.declared.CellKind.TheVariants.{Object}
 use Rattle.tg_space.specs.SpaceList.{SpaceList, IsSpaceList, Holds, blocks_before, cell_at, cells_of, flat_of, space_of}
 use Rattle.tg_space.specs.Soundness.{IsKindAt}
 use Rattle.tg_space.specs.Targets.{from_space, cell_numbered}
-use Rattle.tg_space.specs.declared.spaces.Kind.{Kind}
-use Rattle.tg_space.specs.declared.spaces.Kind.TheVariants.{Full, Nursery}
+use Rattle.tg_space.specs.declared.kind.Kind.{Kind}
+use Rattle.tg_space.specs.declared.kind.Kind.TheVariants.{Full, Nursery}
 use Rattle.tg_space.proofs.Flat.{before_more, before_mono, flat_inside, get_or-flat_of, same_place}
 use Rattle.tg_payload.specs.Table.{Payloads, Updates, entry}
 use Rattle.tg_graph.specs.Rows.{key_at}

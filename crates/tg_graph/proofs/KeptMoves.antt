@@ -18,9 +18,9 @@ use Rattle.tg_space.specs.Soundness.{HasLayout, HasLayoutOf, IsOldCell, NamesCel
 use Rattle.tg_space.specs.Closure.{IsInClosure}
 use Rattle.tg_space.specs.Generations.{AreNeeded, AreRemembered, NamesYoung}
 use Rattle.tg_space.specs.Collection.{IsCollection, IsMadeInOld, IsNewPlace, new_place}
-use Rattle.tg_space.specs.declared.spaces.Kind.{Kind}
-use Rattle.tg_space.specs.declared.spaces.Root.{Root}
-use Rattle.tg_space.specs.declared.spaces.Root.TheVariants.{Remembered}
+use Rattle.tg_space.specs.declared.kind.Kind.{Kind}
+use Rattle.tg_space.specs.declared.root.Root.{Root}
+use Rattle.tg_space.specs.declared.root.Root.TheVariants.{Remembered}
 use Rattle.tg_space.proofs.Flat.{flat_inside, get_or-flat_of, same_place}
 use Rattle.tg_payload.specs.Table.{Payloads}
 use Rattle.tg_graph.specs.Heap.{IsGraph}

@@ -14,8 +14,8 @@ use Rattle.tg_space.specs.SpaceList.{SpaceList, IsSpaceList, Holds, cell_at, cel
 use Rattle.tg_space.specs.Targets.{every_space, first_pointer, pointers_of, root_targets_of, targets_of, all_root_targets}
 use Rattle.tg_space.specs.Soundness.{IsKindAt, IsReference, RefersTo}
 use Rattle.tg_space.specs.Closure.{IsInClosure}
-use Rattle.tg_space.specs.declared.spaces.Root.{Root}
-use Rattle.tg_space.specs.declared.spaces.Root.TheVariants.{Row}
+use Rattle.tg_space.specs.declared.root.Root.{Root}
+use Rattle.tg_space.specs.declared.root.Root.TheVariants.{Row}
 use Rattle.tg_space.specs.Rows.{link_of, chunks_from, link_at, row_of}
 use Rattle.tg_space.proofs.Flat.{same_place}
 use Rattle.tg_space.proofs.Pointing.{parts}

@@ -12,8 +12,8 @@ use Rattle.tg_space.specs.SpaceTable.{SpaceTable, IsSpaceTable, with_adopted}
 use Rattle.tg_space.specs.Soundness.{IsOldCell}
 use Rattle.tg_space.specs.Targets.{from_space}
 use Rattle.tg_space.specs.Collection.{IsCollection, new_place}
-use Rattle.tg_space.specs.declared.spaces.Kind.{Kind}
-use Rattle.tg_space.specs.declared.spaces.Kind.TheVariants.{Full, Nursery}
+use Rattle.tg_space.specs.declared.kind.Kind.{Kind}
+use Rattle.tg_space.specs.declared.kind.Kind.TheVariants.{Full, Nursery}
 use Rattle.tg_space.proofs.Tables.{table_list}
 use Rattle.tg_payload.specs.Table.{entry}
 use Rattle.tg_graph.specs.declared.settle.Rewritten.{Rewritten}

@@ -14,8 +14,8 @@ use Rattle.tg_space.specs.Closure.{IsInClosure}
 use Rattle.tg_space.specs.Rows.{chunks_from, link_at, row_of}
 use Rattle.tg_space.specs.Targets.{target_in, named_by, targets_of, targets_at, cells_followed, root_targets_of, all_root_targets, pointers_of}
 use Rattle.tg_space.specs.Soundness.{AreSound, IsKindAt, IsOldCell, IsPointer, IsRootIn, NamesCell}
-use Rattle.tg_space.specs.declared.spaces.Root.{Root}
-use Rattle.tg_space.specs.declared.spaces.Root.TheVariants.{Row, Remembered}
+use Rattle.tg_space.specs.declared.root.Root.{Root}
+use Rattle.tg_space.specs.declared.root.Root.TheVariants.{Row, Remembered}
 use Rattle.tg_space.proofs.Flat.{get_or-flat_of}
 use Rattle.tg_space.proofs.Pointing.{pointers_from_layout}
 use Rattle.tg_payload.specs.Table.{Payloads}

@@ -10,7 +10,7 @@ use Rattle.tg_space.specs.SpaceTable.{SpaceTable, IsSpaceTable, adopted, with_ad
 use Rattle.tg_space.specs.Soundness.{IsOldCell}
 use Rattle.tg_space.specs.Targets.{from_space, image_of}
 use Rattle.tg_space.specs.Collection.{new_place}
-use Rattle.tg_space.specs.declared.spaces.Kind.TheVariants.{Full, Nursery}
+use Rattle.tg_space.specs.declared.kind.Kind.TheVariants.{Full, Nursery}
 use Rattle.tg_space.proofs.Tables.{holds_same, same_holds, shape_cell, table_list}
 use Rattle.tg_space.proofs.Writing.{other_cell}
 use Rattle.tg_graph.specs.declared.settle.Rewritten.{Rewritten}

@@ -11,7 +11,7 @@ use Rattle.tg_block.specs.declared.CellKind.TheVariants.{Free, Object, Chunk, Ba
 use Rattle.tg_space.specs.SpaceList.{SpaceList, IsSpaceList, Holds, cell_at}
 use Rattle.tg_space.specs.Soundness.{AreSound, HasLayout, HasLayoutOf, IsKindAt, IsReference, IsLink, LinksTo}
 use Rattle.tg_space.specs.Rows.{link_of, link_at}
-use Rattle.tg_space.specs.declared.spaces.Root.{Root}
+use Rattle.tg_space.specs.declared.root.Root.{Root}
 use Rattle.tg_graph.specs.Rows.{references_of}
 use Rattle.tg_graph.proofs.Places.{layout_at}
 

@@ -9,7 +9,7 @@ use Rattle.tg_space.specs.SpaceList.{SpaceList, IsSpaceList, Holds, space_of, ce
 use Rattle.tg_space.specs.Soundness.{AreSound, HasLayout, IsRootIn}
 use Rattle.tg_space.specs.Rows.{link_of, link_at}
 use Rattle.tg_space.specs.Targets.{cell_numbered}
-use Rattle.tg_space.specs.declared.spaces.Root.{Root}
+use Rattle.tg_space.specs.declared.root.Root.{Root}
 use Rattle.tg_space.proofs.Flat.{before_more, blocks_all, length-cells_of, flat_inside, get_or-flat_of, same_place, all_cells_whole}
 use Rattle.tg_graph.specs.Rows.{places_in, places_of}
 use Rattle.tg_graph.proofs.Members.{Contains-map, Contains-from_map, Contains-flat_map, Contains-from_flat_map}

@@ -16,8 +16,8 @@ use Rattle.tg_space.specs.SpaceTable.{SpaceTable}
 use Rattle.tg_space.specs.Soundness.{AreSound, IsKindAt}
 use Rattle.tg_space.specs.Targets.{from_space, young_spaces}
 use Rattle.tg_space.specs.Rows.{chunks_from, link_at, row_of}
-use Rattle.tg_space.specs.declared.spaces.Kind.{Kind}
-use Rattle.tg_space.specs.declared.spaces.Kind.TheVariants.{Full as FullKind, Nursery}
+use Rattle.tg_space.specs.declared.kind.Kind.{Kind}
+use Rattle.tg_space.specs.declared.kind.Kind.TheVariants.{Full as FullKind, Nursery}
 use Rattle.tg_payload.specs.Table.{Payloads}
 use Rattle.tg_index.specs.Slots.{Slots, IsFirstVacant}
 use Rattle.tg_graph.specs.Heap.{IsGraph}

@@ -17,7 +17,7 @@ use Rattle.tg_space.specs.SpaceTable.{SpaceTable, IsNursery, IsSpaceTable, place
 use Rattle.tg_space.specs.Soundness.{IsKindAt, IsOldCell}
 use Rattle.tg_space.specs.Generations.{AreRemembered, NamesYoung}
 use Rattle.tg_space.specs.Targets.{first_pointer, from_space, pointers_of}
-use Rattle.tg_space.specs.declared.spaces.Kind.TheVariants.{Nursery}
+use Rattle.tg_space.specs.declared.kind.Kind.TheVariants.{Nursery}
 use Rattle.tg_space.specs.Rows.{chunks_from, link_at, row_of}
 use Rattle.tg_space.proofs.Tables.{cell_at-with_block, kept-with_block, table_list}
 use Rattle.tg_nursery.specs.Allocation.{HasLeft, room_made_for}

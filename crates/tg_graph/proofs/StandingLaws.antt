@@ -23,8 +23,8 @@ use Rattle.tg_graph.specs.Heap.{HeapState, IsUnchangedHeap, content_in, content_
 use Rattle.tg_graph.proofs.Members.{Contains-map, find_gives, option_cases}
 use Rattle.tg_graph.specs.Content.{Content, IsNamed, IsContent, IsSameContent, OnlyNamedHold}
 use Rattle.tg_graph.specs.Standing.{IsContentOf, IsReached, Keeps, KeepsReached}
-use Rattle.tg_space.specs.declared.spaces.Kind.{Kind}
-use Rattle.tg_space.specs.declared.spaces.Kind.TheVariants.{Full, Nursery}
+use Rattle.tg_space.specs.declared.kind.Kind.{Kind}
+use Rattle.tg_space.specs.declared.kind.Kind.TheVariants.{Full, Nursery}
 
 -- where the subjects are the workers
 pub IsSubject-workers : (g : ProtectionGraph) (workers : ℕ) → g.subjects ≡ range_with_len 0 workers → (x : ℕ) → IsSubject g x ↔ (x < workers)

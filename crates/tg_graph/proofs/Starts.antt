@@ -18,9 +18,9 @@ use Rattle.tg_space.specs.Collection.{IsCollection, IsMadeInOld}
 use Rattle.tg_space.specs.Generations.{IsRowTarget, NamesYoung}
 use Rattle.tg_space.specs.Rows.{chunks_from, link_at, row_of}
 use Rattle.tg_space.specs.Targets.{all_root_targets, cells_followed, first_pointer, named_by, pointers_of, root_targets_of, target_in, targets_at, targets_of, young_spaces}
-use Rattle.tg_space.specs.declared.spaces.Kind.TheVariants.{Nursery}
-use Rattle.tg_space.specs.declared.spaces.Root.{Root}
-use Rattle.tg_space.specs.declared.spaces.Root.TheVariants.{Row, Remembered}
+use Rattle.tg_space.specs.declared.kind.Kind.TheVariants.{Nursery}
+use Rattle.tg_space.specs.declared.root.Root.{Root}
+use Rattle.tg_space.specs.declared.root.Root.TheVariants.{Row, Remembered}
 use Rattle.tg_graph.specs.Heap.{AreShorter, CollectAlike, HeapState, IsShorter, IsWellFormed, roots_of}
 use Rattle.tg_graph.specs.Index.{IsIndexed, IsQuietCell, IsStart}
 use Rattle.tg_graph.specs.Rows.{IsChain, IsVertexAt}

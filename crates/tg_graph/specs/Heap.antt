@@ -11,10 +11,10 @@ use Rattle.tg_nursery.specs.Allocation.{HasFewerLeft}
 use Rattle.tg_space.specs.Soundness.{AreSound, IsKindAt, IsRootIn}
 use Rattle.tg_space.specs.Collection.{IsCollection}
 use Rattle.tg_space.specs.Targets.{root_targets_of, young_spaces}
-use Rattle.tg_space.specs.declared.spaces.Root.{Root}
-use Rattle.tg_space.specs.declared.spaces.Root.TheVariants.{Row, Remembered}
-use Rattle.tg_space.specs.declared.spaces.Kind.{Kind}
-use Rattle.tg_space.specs.declared.spaces.Kind.TheVariants.{Full, Nursery}
+use Rattle.tg_space.specs.declared.root.Root.{Root}
+use Rattle.tg_space.specs.declared.root.Root.TheVariants.{Row, Remembered}
+use Rattle.tg_space.specs.declared.kind.Kind.{Kind}
+use Rattle.tg_space.specs.declared.kind.Kind.TheVariants.{Full, Nursery}
 use Rattle.tg_space.specs.Generations.{AreRemembered}
 use Rattle.tg_payload.specs.Table.{Payloads, entry}
 use Rattle.tg_graph.specs.declared.heap.Found.{Found}

@@ -2,8 +2,8 @@
 use Rattle.std.specs.Prelude.{◌≡◌, ◌↔◌, ℕ, ◌<◌}
 use Rattle.tg_model.specs.Graph.{ProtectionGraph, HasEdge, IsReachable}
 use Rattle.tg_model.specs.Walks.{Walk}
-use Rattle.tg_space.specs.declared.spaces.Kind.{Kind}
-use Rattle.tg_space.specs.declared.spaces.Kind.TheVariants.{Full, Nursery}
+use Rattle.tg_space.specs.declared.kind.Kind.{Kind}
+use Rattle.tg_space.specs.declared.kind.Kind.TheVariants.{Full, Nursery}
 use Rattle.tg_graph.specs.Content.{Content, IsNamed}
 
 -- The content has all that can be reached, it has what its vertices have edges to, and on the names that it has it is the graph.

@@ -17,7 +17,7 @@ ghost use Rattle.tg_graph.specs.Heap.{IsGraph, content_in, rights_found};
 ghost use Rattle.tg_graph.specs.Index.{KeepsOtherIndexes};
 ghost use Rattle.tg_graph.specs.Rows.{IsVertexAt, name_at};
 ghost use Rattle.tg_graph.specs.Opened.{TakesOneCell};
-ghost use Rattle.tg_graph.specs.Spots.{IsMadeInRow, IsPutInRow, LacksCellsFor, vertex_put, with_note};
+ghost use Rattle.tg_graph.specs.Spots.{IsMadeInRow, IsPutInRow, IsSpotFor, LacksCellsFor, narrowed, vertex_put, with_note, word_put};
 ghost use Rattle.tg_graph.specs.Steps.{ChangesTo, KeepsRows};
 
 use crate::heap::{Found, VertexRefused};
@@ -59,7 +59,20 @@ impl<P: Payload> Cells<P> {
         ensures some { IfSome result (λ found. is_none_held found.rights ≡ false) }
         ensures place { IfSome result (λ found. IsVertexAt self.now.spaces.spaces name found.place) }
     {
-        match find_spot(&self.spaces, from, name) {
+        self.found_at_spot(from, name, find_spot(&self.spaces, from, name))
+    }
+
+    /// What the reference at a spot says, if the spot has one.
+    pub(crate) fn found_at_spot(&self, from: Place, name: u64, spot: Spot) -> Option<Found>
+        requires table { IsSpaceTable self.now.spaces }
+        requires graph { IsGraph self.now.spaces.spaces self.now.payloads }
+        requires from { IsKindAt self.now.spaces.spaces Object from }
+        requires spot { IsSpotFor self.now.spaces.spaces name from spot }
+        ensures rights { rights_found result ≡ (content_in self.now.spaces.spaces self.now.payloads).label (name_at self.now.spaces.spaces from) name }
+        ensures some { IfSome result (λ found. is_none_held found.rights ≡ false) }
+        ensures place { IfSome result (λ found. IsVertexAt self.now.spaces.spaces name found.place) }
+    {
+        match spot {
             Spot::Reference { cell, index } => Some(self.found_at(cell, index)),
             _ => None,
         }
@@ -177,8 +190,35 @@ impl<P: Payload> Cells<P> {
         ensures others { KeepsOtherIndexes self.old.spaces.spaces self.new.spaces.spaces from }
     {
         if let Spot::Reference { cell, index } = find_spot(&self.spaces, from, name) {
-            narrow(&mut self.spaces, cell, index, rights);
+            self.narrow_reference(from, name, cell, index, rights);
         }
+    }
+
+    /// Takes rights off the reference to a vertex in the row of an object. What is remembered stays.
+    pub(crate) fn narrow_reference(
+        &mut self,
+        from: Place,
+        name: u64,
+        cell: Place,
+        index: usize,
+        rights: Rights,
+    )
+        requires table { IsSpaceTable self.old.spaces }
+        requires graph { IsGraph self.old.spaces.spaces self.old.payloads }
+        requires from { IsKindAt self.old.spaces.spaces Object from }
+        requires spot { IsSpotFor self.old.spaces.spaces name from (Spot.Reference cell index) }
+        ensures written { self.new.spaces ≡ word_put self.old.spaces cell index (narrowed (slice_index (cell_at self.old.spaces.spaces cell) index) rights) }
+        ensures dropped { let content = content_in self.old.spaces.spaces self.old.payloads in
+            ChangesTo self.old.spaces self.new.spaces self.old.payloads (IsNamed content)
+            (without_rights content.label (name_at self.old.spaces.spaces from) name rights) content.value }
+        ensures payloads { self.new.payloads ≡ self.old.payloads }
+        ensures remembered { AreRemembered self.old.spaces.spaces self.old.remembered.places → AreRemembered self.new.spaces.spaces self.old.remembered.places }
+        ensures notes { self.new.remembered ≡ self.old.remembered }
+        ensures used { self.new.spaces.used ≡ self.old.spaces.used }
+        ensures blocks { (space : ℕ) → length (space_of self.new.spaces.spaces space) ≡ length (space_of self.old.spaces.spaces space) }
+        ensures others { KeepsOtherIndexes self.old.spaces.spaces self.new.spaces.spaces from }
+    {
+        narrow(&mut self.spaces, cell, index, rights);
     }
 
     /// Makes an object with a name that none has, gives another one rights over it, and notes the written cell if it has

@@ -104,6 +104,7 @@ impl<P: Payload> Heap<P> {
         ensures well_formed { IsWellFormed self.now }
         ensures table { IsSpaceTable self.now.table }
     {
+        // It tells what holds of all spaces (`IsSpaceTable`).
         let _ = self.cells.spaces.blocks();
         self.workers.len() as u64
     }
@@ -122,6 +123,7 @@ impl<P: Payload> Heap<P> {
         ensures number { result ≡ length (content_of self.now).names }
         ensures once { IsDistinct (λ a b. a == b) (content_of self.now).names }
     {
+        // It tells what holds of all spaces (`IsSpaceTable`).
         let _ = self.cells.spaces.blocks();
         self.cells.payloads.len()
     }

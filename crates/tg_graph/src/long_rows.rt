@@ -1,4 +1,4 @@
-//! The indexes of long rows, and which of them may have young cells.
+//! The indexes of long rows, and which of them may have young cells. See 'Rows and their indexes' in docs/ARCHITECTURE.md.
 ghost use Rattle.std.specs.Prelude.{◌≡◌, ◌≤◌, ◌<◌, ℕ, [], None, Some, if◌then◌else◌, length, nat_eq, option_copied, IfOk, IfSome, OnErr, OnOk};
 ghost use Rattle.std.specs.Map.{lookup};
 ghost use Rattle.tg_graph.specs.Index.{HasIndexAt, IsAged};

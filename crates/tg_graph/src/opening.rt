@@ -37,7 +37,8 @@ struct Room<P: Payload> {
     row: Vec<Rights>,
 }
 
-/// The cells of the graph that an opening starts from, and where its workers are. All growth comes first.
+/// The cells of the graph that an opening starts from, and where its workers are. See 'Growth comes first' in
+/// docs/ARCHITECTURE.md.
 pub(crate) fn opened<P: Payload>(
     alloc: Global,
     opening: &Opening,

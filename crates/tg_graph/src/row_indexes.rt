@@ -115,6 +115,7 @@ impl<P: Payload> Cells<P> {
         ensures places { OnErr result (self.new.remembered.places ≡ self.old.remembered.places) }
         ensures indexed { AreIndexed self.new.spaces.spaces self.new.remembered.places rows.new.entries }
     {
+        // It tells what holds of all spaces (`IsSpaceTable`).
         let _ = self.spaces.blocks();
         let Ok(place) = self.young_place(rows, from) else {
             return Err(AllocateFault::OutOfMemory);
@@ -191,6 +192,7 @@ impl<P: Payload> Cells<P> {
             LacksCellsFor self.old.spaces (worker + 2) 1 (name_at self.old.spaces.spaces from) name) }
         ensures indexed { AreIndexed self.new.spaces.spaces self.new.remembered.places rows.new.entries }
     {
+        // It tells what holds of all spaces (`IsSpaceTable`).
         let _ = self.spaces.blocks();
         let Ok(place) = self.young_place(rows, from) else {
             let why = AllocateFault::OutOfMemory;

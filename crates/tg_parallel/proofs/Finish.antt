@@ -14,10 +14,10 @@ use Rattle.tg_space.specs.Generations.{NamesYoung}
 use Rattle.tg_space.specs.SpaceList.{BlockList, IsSpace, SpaceList, cells_of}
 use Rattle.tg_space.specs.SpaceTable.{SpaceTable, IsSpaceTable, kept_blocks}
 use Rattle.tg_space.specs.Targets.{from_space, targets_of, root_targets_of, all_root_targets}
-use Rattle.tg_space.specs.declared.spaces.Kind.{Kind}
-use Rattle.tg_space.specs.declared.spaces.Kind.TheVariants.{Full, Nursery}
-use Rattle.tg_space.specs.declared.spaces.Root.{Root}
-use Rattle.tg_space.specs.declared.spaces.Root.TheVariants.{Remembered}
+use Rattle.tg_space.specs.declared.kind.Kind.{Kind}
+use Rattle.tg_space.specs.declared.kind.Kind.TheVariants.{Full, Nursery}
+use Rattle.tg_space.specs.declared.root.Root.{Root}
+use Rattle.tg_space.specs.declared.root.Root.TheVariants.{Remembered}
 use Rattle.tg_space.proofs.Tables.{table_list}
 use Rattle.tg_space.proofs.Tracing.{closure_is_won}
 use Rattle.tg_race.specs.declared.record.Counts.{Counts}

@@ -12,9 +12,9 @@ use Rattle.tg_space.specs.Collection.{AreFewBlocks, MayLackRoom, copies_in, is_c
 use Rattle.tg_space.specs.Soundness.{AreSound}
 use Rattle.tg_space.specs.SpaceList.{BlockList}
 use Rattle.tg_space.specs.SpaceTable.{SpaceTable, IsSpaceTable, kept_blocks}
-use Rattle.tg_space.specs.declared.spaces.Kind.{Kind}
-use Rattle.tg_space.specs.declared.spaces.Kind.TheVariants.{Full, Nursery}
-use Rattle.tg_space.specs.declared.spaces.Root.{Root}
+use Rattle.tg_space.specs.declared.kind.Kind.{Kind}
+use Rattle.tg_space.specs.declared.kind.Kind.TheVariants.{Full, Nursery}
+use Rattle.tg_space.specs.declared.root.Root.{Root}
 use Rattle.tg_space.proofs.Tables.{table_list}
 use Rattle.tg_race.specs.declared.record.Counts.{Counts}
 use Rattle.tg_race.specs.declared.record.Record.{Record}

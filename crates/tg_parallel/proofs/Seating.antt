@@ -13,7 +13,7 @@ use Rattle.tg_rights.specs.RightSet.{no_rights}
 use Rattle.tg_word.specs.declared.Place.{Place}
 use Rattle.tg_word.specs.Word.{IsPlace, link_to, place_in}
 use Rattle.tg_word.proofs.Packing.{place_in-word_at}
-use Rattle.tg_space.specs.declared.spaces.Kind.{Kind}
+use Rattle.tg_space.specs.declared.kind.Kind.{Kind}
 use Rattle.tg_race.specs.declared.record.Record.{Record}
 use Rattle.tg_race.specs.Course.{has_met}
 use Rattle.tg_race.specs.Race.{empty}

@@ -1,8 +1,8 @@
 -- What a helper says at the end, or several that became one.
 use Rattle.std.specs.Prelude.{◌≡◌, ◌≢◌, ℕ, ◌<◌, ◌++◌, List, IfOk, IfErr, Result, Ok, Err, All, length}
 use Rattle.tg_space.specs.SpaceTable.{SpaceTable}
-use Rattle.tg_space.specs.declared.spaces.Kind.{Kind}
-use Rattle.tg_space.specs.declared.spaces.Root.{Root}
+use Rattle.tg_space.specs.declared.kind.Kind.{Kind}
+use Rattle.tg_space.specs.declared.root.Root.{Root}
 use Rattle.tg_race.specs.Race.{empty, past}
 use Rattle.tg_race.specs.Seats.{Board, Seated}
 use Rattle.tg_evac.specs.declared.fault.CollectFault.TheVariants.{HeapFull}

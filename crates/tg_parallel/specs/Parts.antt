@@ -7,8 +7,8 @@ use Rattle.tg_block.specs.Cells.{cell_of, free_cell}
 use Rattle.tg_space.specs.SpaceList.{SpaceList, cells_of}
 use Rattle.tg_space.specs.SpaceTable.{SpaceTable, kept_blocks}
 use Rattle.tg_space.specs.Targets.{from_space, targets_of, all_root_targets}
-use Rattle.tg_space.specs.declared.spaces.Kind.{Kind}
-use Rattle.tg_space.specs.declared.spaces.Root.{Root}
+use Rattle.tg_space.specs.declared.kind.Kind.{Kind}
+use Rattle.tg_space.specs.declared.root.Root.{Root}
 use Rattle.tg_race.specs.declared.record.Counts.{Counts}
 use Rattle.tg_race.specs.declared.record.Record.{Record}
 use Rattle.tg_race.specs.Weights.{weigh, one_at}

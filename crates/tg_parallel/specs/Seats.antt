@@ -6,8 +6,8 @@ use Rattle.tg_word.specs.Word.{IsPlace}
 use Rattle.tg_block.specs.Cells.{cell_of, free_cell}
 use Rattle.tg_space.specs.SpaceList.{SpaceList}
 use Rattle.tg_space.specs.Targets.{from_space, all_root_targets}
-use Rattle.tg_space.specs.declared.spaces.Kind.{Kind}
-use Rattle.tg_space.specs.declared.spaces.Root.{Root}
+use Rattle.tg_space.specs.declared.kind.Kind.{Kind}
+use Rattle.tg_space.specs.declared.root.Root.{Root}
 use Rattle.tg_race.specs.declared.record.Record.{Record}
 use Rattle.tg_race.specs.Conditions.{blocks_of}
 use Rattle.tg_race.specs.Race.{is_chunk, used_in}

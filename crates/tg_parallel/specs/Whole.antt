@@ -1,8 +1,8 @@
 -- What the one helper that is left hands over, where the table is closed.
 use Rattle.std.specs.Prelude.{ℕ, ◌<◌, List}
 use Rattle.tg_space.specs.SpaceTable.{SpaceTable}
-use Rattle.tg_space.specs.declared.spaces.Kind.{Kind}
-use Rattle.tg_space.specs.declared.spaces.Root.{Root}
+use Rattle.tg_space.specs.declared.kind.Kind.{Kind}
+use Rattle.tg_space.specs.declared.root.Root.{Root}
 use Rattle.tg_race.specs.declared.record.Counts.{Counts}
 use Rattle.tg_race.specs.declared.record.Record.{Record}
 use Rattle.tg_race.specs.Board.{IsClosedTable}

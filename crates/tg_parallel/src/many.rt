@@ -5,9 +5,9 @@ ghost use Rattle.tg_space.specs.Collection.{AreFewBlocks, IsCollection, MayLackR
 ghost use Rattle.tg_space.specs.Generations.{NamesYoung};
 ghost use Rattle.tg_space.specs.Soundness.{AreSound};
 ghost use Rattle.tg_space.specs.SpaceTable.{IsSpaceTable, SpaceTable, kept_blocks};
-ghost use Rattle.tg_space.specs.declared.spaces.Kind.{Kind as KindOf};
-ghost use Rattle.tg_space.specs.declared.spaces.Root.{Root as RootOf};
-ghost use Rattle.tg_space.specs.declared.spaces.Root.TheVariants.{Remembered as RememberedAt};
+ghost use Rattle.tg_space.specs.declared.kind.Kind.{Kind as KindOf};
+ghost use Rattle.tg_space.specs.declared.root.Root.{Root as RootOf};
+ghost use Rattle.tg_space.specs.declared.root.Root.TheVariants.{Remembered as RememberedAt};
 ghost use Rattle.tg_race.specs.declared.record.Counts.{Counts};
 ghost use Rattle.tg_race.specs.declared.record.Record.{Record};
 ghost use Rattle.tg_race.specs.Race.{empty};

@@ -107,6 +107,7 @@ impl World {
     pub fn rule_holds(&self)
         ensures { KeepsRule self.now }
     {
+        // Read here, the world is known to keep what holds of every world: the rule.
         let _ = &self.shape;
     }
 

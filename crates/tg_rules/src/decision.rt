@@ -1,5 +1,5 @@
 //! Whether a command is served.
-ghost use Rattle.std.specs.Prelude.{◌≡◌, ◌<◌, ◌==◌, false, IfOk, length};
+ghost use Rattle.std.specs.Prelude.{◌≡◌, ◌<◌, ◌==◌, ◌||◌, false, IfOk, length};
 ghost use Rattle.std.specs.Option.{option_or};
 ghost use Rattle.std.specs.Result.{result_err};
 ghost use Rattle.tg_rights.specs.RightSet.{is_none_held};
@@ -55,12 +55,28 @@ pub fn find_parties<P: Payload>(
             via,
             target,
             rights,
-        } => check_take(heap, worker, via, target, rights),
+        } => {
+            let same = are_not_three(worker.name, via, target);
+            let via = check_first(heap, Rule::Take, same, worker, via, Rights::of(Right::T))?;
+            let target = check_held(heap, Rule::Take, via, target, rights.rights())?;
+            Ok(Parties {
+                from: worker,
+                target,
+            })
+        }
         Command::Grant {
             via,
             target,
             rights,
-        } => check_grant(heap, worker, via, target, rights),
+        } => {
+            let same = are_not_three(worker.name, via, target);
+            let receiver = check_first(heap, Rule::Grant, same, worker, via, Rights::of(Right::G))?;
+            let target = check_held(heap, Rule::Grant, worker, target, rights.rights())?;
+            Ok(Parties {
+                from: receiver,
+                target,
+            })
+        }
         Command::Remove { target, rights } => {
             check_use(heap, Rule::Remove, worker, target, rights.rights())
         }
@@ -77,50 +93,6 @@ pub fn find_parties<P: Payload>(
     }
 }
 
-// The checks of a take.
-fn check_take<P: Payload>(
-    heap: &Heap<P>,
-    worker: Vertex,
-    via: u64,
-    target: u64,
-    rights: Label,
-) -> Result<Parties, Denial>
-    requires { HasVertex heap.now worker }
-    ensures denial { result_err result ≡ denial_of (content_of heap.now).label worker.name (Command.Take via target rights) }
-    ensures found { IfOk result (AreParties heap.now worker.name (Command.Take via target rights)) }
-{
-    let same = worker.name == via || via == target || worker.name == target;
-    check_distinct(Rule::Take, same)?;
-    let via = check_held(heap, Rule::Take, worker, via, Rights::of(Right::T))?;
-    let target = check_held(heap, Rule::Take, via, target, rights.rights())?;
-    Ok(Parties {
-        from: worker,
-        target,
-    })
-}
-
-// The checks of a grant.
-fn check_grant<P: Payload>(
-    heap: &Heap<P>,
-    worker: Vertex,
-    via: u64,
-    target: u64,
-    rights: Label,
-) -> Result<Parties, Denial>
-    requires { HasVertex heap.now worker }
-    ensures denial { result_err result ≡ denial_of (content_of heap.now).label worker.name (Command.Grant via target rights) }
-    ensures found { IfOk result (AreParties heap.now worker.name (Command.Grant via target rights)) }
-{
-    let same = worker.name == via || via == target || worker.name == target;
-    check_distinct(Rule::Grant, same)?;
-    let receiver = check_held(heap, Rule::Grant, worker, via, Rights::of(Right::G))?;
-    let target = check_held(heap, Rule::Grant, worker, target, rights.rights())?;
-    Ok(Parties {
-        from: receiver,
-        target,
-    })
-}
-
 // The checks of a command that wants only rights of the worker over its target.
 fn check_use<P: Payload>(
     heap: &Heap<P>,
@@ -135,17 +107,35 @@ fn check_use<P: Payload>(
     ensures from { IfOk result (λ parties. parties.from ≡ worker) }
     ensures target { IfOk result (λ parties. HasVertex heap.now parties.target × (parties.target.name ≡ target)) }
 {
-    check_distinct(rule, worker.name == target)?;
-    let target = check_held(heap, rule, worker, target, rights)?;
+    let target = check_first(heap, rule, worker.name == target, worker, target, rights)?;
     Ok(Parties {
         from: worker,
         target,
     })
 }
 
-// Denies a command in which two vertices that must differ are one.
-fn check_distinct(rule: Rule, same: bool) -> Result<(), Denial>
-    ensures { result_err result ≡ unless_distinct rule same }
+// Whether two of the three vertices of a take or a grant are one.
+fn are_not_three(worker: u64, via: u64, target: u64) -> bool
+    ensures { result ≡ ((worker == via) || (via == target) || (worker == target)) }
+{
+    worker == via || via == target || worker == target
+}
+
+// The first checks of a command: that its vertices differ, and that the worker holds the rights to use the rule over another
+// vertex. Answers that other.
+fn check_first<P: Payload>(
+    heap: &Heap<P>,
+    rule: Rule,
+    same: bool,
+    worker: Vertex,
+    to: u64,
+    rights: Rights,
+) -> Result<Vertex, Denial>
+    requires worker { HasVertex heap.now worker }
+    requires some { is_none_held rights ≡ false }
+    ensures denial { result_err result ≡ option_or (unless_distinct rule same) (unless_held (content_of heap.now).label rule worker.name to rights) }
+    ensures name { IfOk result (λ vertex. vertex.name ≡ to) }
+    ensures vertex { IfOk result (λ vertex. HasVertex heap.now vertex) }
 {
     if same {
         return Err(Denial {
@@ -153,7 +143,7 @@ fn check_distinct(rule: Rule, same: bool) -> Result<(), Denial>
             cause: Cause::NotDistinct,
         });
     }
-    Ok(())
+    check_held(heap, rule, worker, to, rights)
 }
 
 // Denies a command that wants rights of one vertex over another, where they are missing. Else it answers that other.

@@ -82,8 +82,10 @@ impl<L: Round> Session<L> {
             });
         }
         let mut locked = store.locked.lock(rt);
+        // for what is told of it: the shared store, gone on
         let _ = locked.store();
         let created = locked.create(self, label, draft);
+        // and of the one that is left
         let _ = locked.store();
         created
     }
@@ -103,8 +105,10 @@ impl<L: Round> Session<L> {
             MayLackRoom s.heap.table.limits.space_blocks 1 (kept_blocks kind s.heap.table.spaces) (used_cells kind s.heap.table.spaces))) }
     {
         let mut locked = store.locked.lock(rt);
+        // for what is told of it: the shared store, gone on
         let _ = locked.store();
         let left = locked.collect(kind)?;
+        // and of the one that is left
         let _ = locked.store();
         Ok(left)
     }

@@ -78,8 +78,10 @@ impl<L: Round> Session<L> {
         ensures alone { helpers ≡ 1 → result ≢ Err HelpersFault.NoThread }
     {
         let mut locked = store.locked.lock(rt);
+        // for what is told of it: the shared store, gone on
         let _ = locked.store();
         let left = locked.collect_with(rt, self.alloc(), kind, helpers)?;
+        // and of the one that is left
         let _ = locked.store();
         Ok(left)
     }

@@ -16,15 +16,13 @@
 //! journal's entry at its place, and hands out the store.
 //!
 //! What a call does to the value behind the lock stands in the contracts of [`Locked`], the type that is locked: each of
-//! its calls is one call of the store and makes at most one receipt. A caller of a session can't name what was behind the
-//! lock then; it is told of its own receipts, and that its answer was right of some store that may have been there: of the
-//! shared one, gone on. Whenever the lock is free, the store is that one and keeps its promise ([`Locked::store`]), and the
+//! its calls is one call of the store and makes at most one receipt. A caller of a session is told of its own receipts, and
+//! that its answer was right of some store that may have been behind the lock: of the shared one, gone on (see 'What a
+//! session can know' in docs/ARCHITECTURE.md). Whenever the lock is free, the store is that one and keeps its promise ([`Locked::store`]), and the
 //! book that stands beside it has counted each entry since.
 //!
-//! **Why the count is known.** The book is that of a ledger ([`std::sync::ledger`]), whose parts are cut once: each
-//! session has one, and what is left lies behind the lock. With each entry the book and the share of the session grow by
-//! one. Where all parts are back together, their amount is the book's total: so at a successful close there are as many
-//! receipts as entries were made, and since each receipt matches, each entry stands in exactly one.
+//! The book is that of a ledger ([`std::sync::ledger`]). That there are as many receipts as entries, where a close succeeds,
+//! is told by 'Why the count is known at the close' in docs/ARCHITECTURE.md.
 //!
 //! **Why nothing is refused between an entry and its receipt.** A session makes room for the receipt, and copies the state
 //! of a vertex to be made, before it takes the lock ([`Session::make_room`]); the reply moves into the receipt. So under

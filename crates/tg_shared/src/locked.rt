@@ -63,6 +63,7 @@ impl<L: Round, P: Payload> Locked<L, P> {
         ensures grown { length L.start.entries ≤ length self.now.store.entries }
         ensures sessions { self.now.sessions ≡ sessions_made L.start }
     {
+        // It tells that the store is faithful.
         let _ = self.store.journal();
         &self.store
     }

@@ -98,6 +98,7 @@ pub fn close<L: Round, P: Payload>(
     let _ = locked.store();
     match locked.close(sessions) {
         Ok(store) => {
+            // It tells that the store is faithful.
             let _ = store.journal();
             Ok(store)
         }

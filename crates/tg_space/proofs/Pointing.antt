@@ -7,7 +7,7 @@ use Rattle.std.proofs.lemmas.List.Elements.{All-nil, All-cons, All-append, All-w
 use Rattle.tg_word.specs.Word.{place_in}
 use Rattle.tg_block.specs.Cells.{kind_of, all_are_zero}
 use Rattle.tg_block.specs.declared.CellKind.TheVariants.{Free, Object, Chunk, Bad}
-use Rattle.tg_space.specs.declared.spaces.Root.{Root}
+use Rattle.tg_space.specs.declared.root.Root.{Root}
 use Rattle.tg_space.specs.SpaceList.{SpaceList, IsSpaceList, cell_at, cells_of}
 use Rattle.tg_space.specs.Targets.{first_pointer, pointers_of, cell_numbered}
 use Rattle.tg_space.specs.Soundness.{AreSound, HasLayout, HasLayoutOf, IsReference, RefersTo, IsLink, LinksTo, IsPointer}

@@ -7,7 +7,7 @@ use Rattle.std.proofs.lemmas.Bool.{cases_eq, cases_lt}
 use Rattle.tg_word.specs.declared.Place.{Place}
 use Rattle.tg_block.specs.Cells.{IsBlock, free_cell, free_block, cell_of}
 use Rattle.tg_space.specs.SpaceList.{SpaceList, BlockList, IsSpace, IsSpaceList, Holds, space_of, block_of, cell_at, blocks_before, block_count, with_cell_at, with_word_at, with_block, flat_of, cells_of}
-use Rattle.tg_space.specs.declared.spaces.Kind.TheVariants.{Full, Nursery}
+use Rattle.tg_space.specs.declared.kind.Kind.TheVariants.{Full, Nursery}
 use Rattle.tg_space.specs.declared.limits.Limits.{Limits}
 use Rattle.tg_space.specs.SpaceTable.{SpaceTable, adopted, with_adopted, IsSpaceTable, IsPrefixCount, IsHandedOut, used_of, number_in_space, with_spaces}
 use Rattle.tg_space.proofs.Flat.{before_more, before_few, blocks_all, flat_inside, length-cells_of}

@@ -10,8 +10,8 @@ use Rattle.tg_block.specs.declared.CellKind.TheVariants.{Free, Object, Chunk, Ba
 use Rattle.tg_space.specs.SpaceList.{SpaceList, Holds, cell_at, cells_of}
 use Rattle.tg_space.specs.Rows.{link_of}
 use Rattle.tg_space.specs.Targets.{cell_numbered}
-use Rattle.tg_space.specs.declared.spaces.Root.{Root}
-use Rattle.tg_space.specs.declared.spaces.Root.TheVariants.{Row, Remembered}
+use Rattle.tg_space.specs.declared.root.Root.{Root}
+use Rattle.tg_space.specs.declared.root.Root.TheVariants.{Row, Remembered}
 
 -- the place names an object, or a chunk
 pub record IsKindAt (h : SpaceList) (kind : CellKind) (p : Place) : Type 0 where

@@ -4,8 +4,8 @@ use Rattle.std.specs.List.{All}
 use Rattle.tg_word.specs.declared.Place.{Place}
 use Rattle.tg_block.specs.Cells.{free_cell}
 use Rattle.tg_space.specs.SpaceList.{SpaceList, BlockList, IsSpace, Holds, space_of, cell_at, blocks_before, block_count}
-use Rattle.tg_space.specs.declared.spaces.Kind.{Kind}
-use Rattle.tg_space.specs.declared.spaces.Kind.TheVariants.{Full, Nursery}
+use Rattle.tg_space.specs.declared.kind.Kind.{Kind}
+use Rattle.tg_space.specs.declared.kind.Kind.TheVariants.{Full, Nursery}
 
 -- how many blocks all spaces, and how many one space may have
 pub record BlockLimits : Type 0 where

@@ -6,10 +6,10 @@ use Rattle.tg_word.specs.Word.{place_in, rights_in, word_at}
 use Rattle.tg_block.specs.Cells.{object_tag, chunk_tag}
 use Rattle.tg_space.specs.SpaceList.{SpaceList, cell_at, flat_of, cells_of}
 use Rattle.tg_space.specs.Rows.{row_of}
-use Rattle.tg_space.specs.declared.spaces.Kind.{Kind}
-use Rattle.tg_space.specs.declared.spaces.Kind.TheVariants.{Full, Nursery}
-use Rattle.tg_space.specs.declared.spaces.Root.{Root}
-use Rattle.tg_space.specs.declared.spaces.Root.TheVariants.{Row, Remembered}
+use Rattle.tg_space.specs.declared.kind.Kind.{Kind}
+use Rattle.tg_space.specs.declared.kind.Kind.TheVariants.{Full, Nursery}
+use Rattle.tg_space.specs.declared.root.Root.{Root}
+use Rattle.tg_space.specs.declared.root.Root.TheVariants.{Row, Remembered}
 
 -- From-space, the spaces whose cells a collection moves, is a test of the space's number. A full collection moves all
 -- cells, a nursery collection those of Aged and of the nurseries.

@@ -8,7 +8,9 @@ ghost use Rattle.tg_space.specs.SpaceList.{cells_of};
 ghost use Rattle.tg_space.specs.Targets.{from_space, image_of, moved_word as word_moved, pointers_of};
 
 use crate::forwarding::Forwarding;
-use crate::spaces::{Kind, Spaces, first_pointer};
+use crate::kind::Kind;
+use crate::pointers::first_pointer;
+use crate::spaces::Spaces;
 use tg_block::WORDS;
 use tg_word::{place_of, with_place};
 

@@ -7,7 +7,7 @@ ghost use Rattle.tg_space.specs.SpaceList.{Holds, IsSpaceList, SpaceList, cell_a
 ghost use Rattle.tg_space.specs.Closure.{IsComplete, IsInClosure, IsTraced};
 ghost use Rattle.tg_space.specs.Soundness.{AreSound, IsPointer};
 ghost use Rattle.tg_space.specs.Targets.{cell_numbered, pointers_of};
-ghost use Rattle.tg_space.specs.declared.spaces.Root.{Root};
+ghost use Rattle.tg_space.specs.declared.root.Root.{Root};
 
 /// The law of tracing: a list of cells, each of which is a root or a target of an earlier one, and which holds the
 /// roots and the targets of its cells, is exactly the closure of the roots.

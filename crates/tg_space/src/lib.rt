@@ -34,15 +34,22 @@
 pub use adoption::Adoption;
 pub use allocate_fault::AllocateFault;
 pub use forwarding::{Forwarding, ForwardingTable};
-pub use limits::Limits;
+pub use kind::Kind;
+pub use limits::{Limits, MOST_BLOCKS, MOST_SPACE_BLOCKS};
+pub use pointers::first_pointer;
+pub use root::Root;
 pub use space::Space;
-pub use spaces::{Kind, Root, Spaces, first_pointer};
+pub use spaces::Spaces;
 
 mod adoption;
 mod allocate_fault;
 mod forwarding;
 mod images;
+mod kind;
 pub mod laws;
 mod limits;
+mod pointers;
+mod root;
 mod space;
+mod space_list;
 mod spaces;

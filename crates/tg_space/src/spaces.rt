@@ -1,51 +1,23 @@
 //! All spaces of a heap.
-ghost use Rattle.std.specs.Prelude.{◌≡◌, ◌++◌, ◌<◌, ◌≤◌, ◌+◌, ◌*◌, ◌^◌, ◌∷◌, ◌↔◌, ℕ, [], length, replicate, slice_index, slice_index_or, slice_set, Err, IfOk, OnOk, OnErr, IsOk, IsTrue};
-ghost use Rattle.tg_block.specs.Cells.{free_cell, cell_of};
-ghost use Rattle.tg_word.specs.Word.{IsPlace, place_in};
-ghost use Rattle.tg_space.specs.SpaceList.{Holds, IsSpace, IsSpaceList, block_count, blocks_before, cell_at, cells_of, flat_of, space_of, with_block, with_cell_at, with_word_at};
-ghost use Rattle.tg_space.specs.Targets.{first_pointer as first_pointer_of, from_space};
-ghost use Rattle.tg_space.specs.SpaceTable.{adopted, BlockLimits, IsFull, IsHandedOut, IsNursery, IsPrefixCount, IsSpaceTable, kept_blocks, no_blocks, place_in_space, used_of, with_adopted, with_one_used, with_spaces};
+ghost use Rattle.std.specs.Prelude.{◌≡◌, ◌<◌, ◌≤◌, ◌+◌, ◌*◌, ◌^◌, ◌↔◌, [], length, slice_index, slice_index_or, Err, IfOk, OnOk, OnErr, IsOk, IsTrue};
+ghost use Rattle.tg_block.specs.Cells.{free_cell};
+ghost use Rattle.tg_word.specs.Word.{IsPlace};
+ghost use Rattle.tg_space.specs.SpaceList.{Holds, block_count, cell_at, cells_of, flat_of, space_of, with_block, with_cell_at, with_word_at};
+ghost use Rattle.tg_space.specs.SpaceTable.{IsFull, IsHandedOut, IsNursery, IsPrefixCount, IsSpaceTable, kept_blocks, no_blocks, place_in_space, used_of, with_adopted, with_one_used, with_spaces};
 
 use crate::adoption::Adoption;
 use crate::allocate_fault::AllocateFault;
+use crate::kind::Kind;
 use crate::limits::Limits;
 use crate::space::Space;
+use crate::space_list::{count_blocks, empty_spaces, put_alone, put_behind};
 use std::alloc::{AllocError, Global};
 use std::marker::Model;
 use std::mem;
-use tg_block::{Block, CELLS, CHUNK_POINTERS, CHUNK_TAG, OBJECT_POINTERS, OBJECT_TAG, WORDS};
-use tg_word::{OLD, Place, number_of, place_of};
+use tg_block::{Block, CELLS, WORDS};
+use tg_word::Place;
 
-/// Which cells a collection moves, and where to.
-#[derive(Clone, Copy, PartialEq, Eq, Debug)]
-pub enum Kind {
-    /// All cells, to Old.
-    Full,
-    /// The cells of the nurseries, to Aged or to Old, and those of Aged, to Old.
-    Nursery,
-}
-
-impl Kind {
-    /// Whether a collection moves the cells of a space: a full one all, a nursery collection all but those of Old.
-    #[inline(always)]
-    pub fn moves(self, space: u64) -> bool
-        ensures { result ≡ from_space self space }
-    {
-        match self {
-            Kind::Full => true,
-            Kind::Nursery => space != OLD,
-        }
-    }
-}
-
-/// What a collection starts from.
-#[derive(Clone, Copy, PartialEq, Eq, Debug)]
-pub enum Root {
-    /// A row from the cell at a place on, which is its object or one of its chunks.
-    Row(Place),
-    /// The cell of Old at a place, which may name a younger one.
-    Remembered(Place),
-}
+mod numbers;
 
 /// All spaces of a heap: Old, Aged and the nurseries.
 #[derive(Drop)]
@@ -207,75 +179,6 @@ impl Spaces {
         self.spaces[place.space as usize].words(place.block, place.cell)
     }
 
-    /// How many cells there are.
-    pub fn cells(&self) -> u64
-        ensures cells { result ≡ length (cells_of self.now.spaces) }
-        ensures few { result ≤ 66 * 2 ^ 26 }
-        ensures table { IsSpaceTable self.now }
-    {
-        CELLS as u64 * self.blocks()
-    }
-
-    /// The number of a cell: the cells of Old come first, then those of Aged and of the nurseries, each space block
-    /// by block. It takes the same short time in every heap.
-    #[inline(always)]
-    pub fn flat(&self, place: Place) -> u64
-        requires { Holds self.now.spaces place }
-        ensures flat { result ≡ flat_of self.now.spaces place }
-        ensures inside { result < length (cells_of self.now.spaces) }
-    {
-        CELLS as u64 * (self.starts[place.space as usize] + place.block) + place.cell
-    }
-
-    /// The number of the cell that a word names.
-    #[inline(always)]
-    pub fn target_of(&self, word: u64) -> u64
-        requires { Holds self.now.spaces (place_in word) }
-        ensures flat { result ≡ flat_of self.now.spaces (place_in word) }
-        ensures inside { result < length (cells_of self.now.spaces) }
-    {
-        let space = place_of(word).space;
-        CELLS as u64 * self.starts[space as usize] + number_of(word)
-    }
-
-    /// The place of the cell with a number.
-    #[inline(always)]
-    pub fn unflat(&self, number: u64) -> Place
-        requires { number < length (cells_of self.now.spaces) }
-        ensures held { Holds self.now.spaces result }
-        ensures flat { flat_of self.now.spaces result ≡ number }
-    {
-        let block = number / CELLS as u64;
-        let mut space: usize = 0;
-        while self.starts[space + 1] <= block {
-            space += 1;
-        }
-        Place {
-            space: space as u64,
-            block: block - self.starts[space],
-            cell: number % CELLS as u64,
-        }
-    }
-
-    /// The words of the cell with a number.
-    pub fn numbered_cell(&self, number: u64) -> [u64; WORDS]
-        requires { number < length (cells_of self.now.spaces) }
-        ensures words { result ≡ slice_index_or (cells_of self.now.spaces) number [] }
-        ensures whole { length result ≡ 8 }
-    {
-        self.cell(self.unflat(number))
-    }
-
-    /// The words of the cell with a number, where they stand.
-    #[inline(always)]
-    pub fn numbered_words(&self, number: u64) -> &[u64; WORDS]
-        requires { number < length (cells_of self.now.spaces) }
-        ensures words { result.now ≡ slice_index_or (cells_of self.now.spaces) number [] }
-        ensures whole { length result.now ≡ 8 }
-    {
-        self.words(self.unflat(number))
-    }
-
     /// Hands out the next cell of a nursery, which is free.
     ///
     /// The nursery has a cell that was not handed out: `used` is below 64 times `len`.
@@ -382,95 +285,5 @@ impl Spaces {
         self.used.fill(0);
         count_blocks(&self.spaces, &mut self.starts);
         self.spare = emptied;
-    }
-}
-
-// As many spaces with no block.
-fn empty_spaces(alloc: Global, count: usize) -> Result<Vec<Space>, AllocError>
-    ensures { IfOk result (λ spaces. spaces.items ≡ replicate count []) }
-{
-    let mut spaces = Vec::with_capacity(alloc, count)?;
-    for _ in 0..count {
-        spaces.push(Space::new(alloc))?;
-    }
-    Ok(spaces)
-}
-
-// Old is followed by these blocks, Aged is the other ones, and every nursery has none. The answer is the blocks that Aged had.
-fn put_behind(
-    alloc: Global,
-    spaces: &mut [Space],
-    aged: Space,
-    old: Space,
-) -> Result<Vec<Block>, AllocError>
-    requires enough { 2 ≤ length spaces.old }
-    requires room { length (space_of spaces.old 0) + length old ≤ 2 ^ 20 }
-    ensures adopted { OnOk result (spaces.new ≡ adopted Kind.Nursery spaces.old aged old) }
-    ensures first { OnOk result (IsSpace (space_of spaces.old 0 ++ old)) }
-    ensures second { OnOk result (IsSpace aged) }
-    ensures refused { OnErr result (spaces.new ≡ spaces.old) }
-{
-    spaces[0].append(old)?;
-    let emptied = take_all(alloc, &mut spaces[1..]);
-    spaces[1] = aged;
-    Ok(emptied)
-}
-
-// Old is these blocks, and every other space has none. The answer is the blocks that Old had.
-fn put_alone(alloc: Global, spaces: &mut [Space], old: Space) -> Vec<Block>
-    requires { 2 ≤ length spaces.old }
-    ensures adopted { spaces.new ≡ adopted Kind.Full spaces.old [] old }
-    ensures whole { IsSpace old }
-{
-    let _ = old.len();
-    let emptied = take_all(alloc, spaces);
-    spaces[0] = old;
-    emptied
-}
-
-// Takes every block out of these spaces. The answer is the blocks of the first.
-fn take_all(alloc: Global, spaces: &mut [Space]) -> Vec<Block>
-    requires { 0 < length spaces.old }
-    ensures { spaces.new ≡ replicate (length spaces.old) [] }
-{
-    let emptied = mem::replace(&mut spaces[0], Space::new(alloc));
-    empty_all(alloc, spaces);
-    emptied.into_blocks()
-}
-
-// Takes every block out of these spaces.
-fn empty_all(alloc: Global, spaces: &mut [Space])
-    ensures { spaces.new ≡ replicate (length spaces.old) [] }
-{
-    for space in spaces.iter_mut() {
-        *space = Space::new(alloc);
-    }
-}
-
-// Counts the blocks before each space, and at last all of them.
-fn count_blocks(spaces: &[Space], starts: &mut [u64])
-    requires few { length spaces.now ≤ 66 }
-    requires room { length starts.old ≡ length spaces.now + 1 }
-    ensures { IsPrefixCount starts.new spaces.now }
-{
-    let mut before = 0;
-    starts[0] = 0;
-    for (i, space) in spaces.iter().enumerate() {
-        before += space.len();
-        starts[i + 1] = before;
-    }
-}
-
-/// The first word of a cell with this tag that may name a cell: 4 of an object, 1 of a chunk, and 8, past the last,
-/// of any other.
-#[inline(always)]
-pub fn first_pointer(tag: u64) -> usize
-    ensures word { result ≡ first_pointer_of tag }
-    ensures inside { result ≤ 8 }
-{
-    match tag {
-        OBJECT_TAG => OBJECT_POINTERS,
-        CHUNK_TAG => CHUNK_POINTERS,
-        _ => WORDS,
     }
 }

@@ -6,8 +6,8 @@ use Rattle.std.proofs.lemmas.List.Sums.{sum_by-cons}
 use Rattle.tg_space.specs.SpaceList.{SpaceList, BlockList, block_count, space_of}
 use Rattle.tg_space.specs.SpaceTable.{SpaceTable, adopted, kept_blocks, with_adopted}
 use Rattle.tg_space.specs.Collection.{AreFewBlocks, blocks_for, copies_in, used_cells}
-use Rattle.tg_space.specs.declared.spaces.Kind.{Kind}
-use Rattle.tg_space.specs.declared.spaces.Kind.TheVariants.{Full, Nursery}
+use Rattle.tg_space.specs.declared.kind.Kind.{Kind}
+use Rattle.tg_space.specs.declared.kind.Kind.TheVariants.{Full, Nursery}
 use Rattle.tg_graph.specs.Kept.{AreWritten, rewritten_at}
 use Rattle.tg_graph.specs.Heap.{HeapState}
 use Rattle.tg_graph.proofs.KeptAdopted.{no_nursery_after, only_old_after}

@@ -5,8 +5,8 @@ use Rattle.tg_model.specs.Graph.{ProtectionGraph, IsReachable}
 use Rattle.tg_model.specs.Opened.{start_of}
 use Rattle.tg_journal.specs.History.{graph_after}
 use Rattle.tg_journal.proofs.HistoryLaws.{graph_after-subjects}
-use Rattle.tg_space.specs.declared.spaces.Kind.{Kind}
-use Rattle.tg_space.specs.declared.spaces.Kind.TheVariants.{Full, Nursery}
+use Rattle.tg_space.specs.declared.kind.Kind.{Kind}
+use Rattle.tg_space.specs.declared.kind.Kind.TheVariants.{Full, Nursery}
 use Rattle.tg_graph.specs.Content.{Content, IsNamed}
 use Rattle.tg_graph.specs.Heap.{content_of}
 use Rattle.tg_graph.specs.Standing.{IsReached, Keeps, KeepsReached}

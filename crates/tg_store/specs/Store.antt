@@ -10,8 +10,8 @@ use Rattle.tg_journal.specs.History.{IsLegal, graph_after}
 use Rattle.tg_space.specs.SpaceList.{BlockList, block_count, space_of}
 use Rattle.tg_space.specs.SpaceTable.{SpaceTable, with_adopted}
 use Rattle.tg_space.specs.Collection.{blocks_for, used_cells}
-use Rattle.tg_space.specs.declared.spaces.Kind.{Kind}
-use Rattle.tg_space.specs.declared.spaces.Kind.TheVariants.{Full, Nursery}
+use Rattle.tg_space.specs.declared.kind.Kind.{Kind}
+use Rattle.tg_space.specs.declared.kind.Kind.TheVariants.{Full, Nursery}
 use Rattle.tg_graph.specs.Heap as graph
 use Rattle.tg_graph.specs.Heap.{HeapState, content_of}
 use Rattle.tg_graph.specs.Kept.{AreWritten, rewritten_at}

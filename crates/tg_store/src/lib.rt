@@ -23,7 +23,7 @@
 //!
 //! A call that is refused leaves the store as it was, and hands back what it was handed; only a create for which there
 //! are too many vertices makes an entry too. Room for the entry comes first, and so does the copy of the reply; what a
-//! command needs of the heap comes next; the change and the entry come last and can't be refused.
+//! command needs of the heap comes next: see 'Why the entry comes last' in docs/ARCHITECTURE.md.
 //!
 //! A store is generic in its payloads, and a box of a payload is a payload (`tg_payload`): so payloads of several kinds
 //! stand side by side in boxes, and the store makes none. Only a read or a write that the rules allow reaches one.

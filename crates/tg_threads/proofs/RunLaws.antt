@@ -9,7 +9,7 @@ use Rattle.tg_model.specs.declared.value.Value.{Value}
 use Rattle.tg_model.specs.declared.command.Command.{Command}
 use Rattle.tg_model.specs.declared.command.Deed.TheVariants as deed
 use Rattle.tg_journal.specs.declared.entry.Entry.{Entry}
-use Rattle.tg_space.specs.declared.spaces.Kind.TheVariants as kind
+use Rattle.tg_space.specs.declared.kind.Kind.TheVariants as kind
 use Rattle.tg_text.specs.declared.line.Line.TheVariants as line
 use Rattle.tg_text.specs.declared.answer.Answer.TheVariants as answer
 use Rattle.tg_shared.specs.declared.receipt.Receipt.{Receipt}

@@ -6,8 +6,8 @@ use Rattle.tg_model.specs.declared.value.Value.{Value}
 use Rattle.tg_model.specs.declared.command.Deed.{Deed}
 use Rattle.tg_model.specs.declared.command.Deed.TheVariants as deed
 use Rattle.tg_model.specs.declared.reply.Reply.{Reply}
-use Rattle.tg_space.specs.declared.spaces.Kind.{Kind}
-use Rattle.tg_space.specs.declared.spaces.Kind.TheVariants as kind
+use Rattle.tg_space.specs.declared.kind.Kind.{Kind}
+use Rattle.tg_space.specs.declared.kind.Kind.TheVariants as kind
 use Rattle.tg_journal.specs.declared.entry.Entry.{Entry}
 use Rattle.tg_text.specs.declared.line.Line.{Line}
 use Rattle.tg_text.specs.declared.line.Line.TheVariants as line

@@ -24,7 +24,7 @@ fn have_layouts(spaces: &Spaces) -> bool
     ensures { IsTrue result → All (HasLayout spaces.now.spaces) (cells_of spaces.now.spaces) }
 {
     for number in 0..spaces.cells() {
-        let words = spaces.numbered_cell(number);
+        let words = *spaces.numbered_words(number);
         if !has_layout(spaces, &words) {
             return false;
         }
@@ -37,7 +37,7 @@ fn have_own_links(spaces: &Spaces) -> bool
     ensures { IsTrue result → (c d : ℕ) → c < length (cells_of spaces.now.spaces) → d < length (cells_of spaces.now.spaces) → link_of (cell_numbered spaces.now.spaces c) ≢ 0 → link_of (cell_numbered spaces.now.spaces c) ≡ link_of (cell_numbered spaces.now.spaces d) → c ≡ d }
 {
     for number in 0..spaces.cells() {
-        let words = spaces.numbered_cell(number);
+        let words = *spaces.numbered_words(number);
         if words[7] != 0 && !is_own_link(spaces, number, words[7]) {
             return false;
         }
@@ -50,7 +50,7 @@ fn is_own_link(spaces: &Spaces, owner: u64, link: u64) -> bool
     ensures { IsTrue result → (d : ℕ) → d < length (cells_of spaces.now.spaces) → link ≡ link_of (cell_numbered spaces.now.spaces d) → owner ≡ d }
 {
     for number in 0..spaces.cells() {
-        let words = spaces.numbered_cell(number);
+        let words = *spaces.numbered_words(number);
         if words[7] == link && number != owner {
             return false;
         }

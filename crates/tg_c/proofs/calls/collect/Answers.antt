@@ -9,7 +9,7 @@ returns c =
     let told = c.collect-left.ensures in
     served of_collect (Collects c.args.kind) c.args.place.now c.put.new.self (Ok c.in_ok-left.field-0)
     c.deref_mut.result.now.store c.collect-left.new.self c.collect-left.result
-    c.in-Some.ensures.taken.0 c.put.ensures.open (sym (ap (λ s. s.store) (c.deref_mut.ensures.value ∙ c.in-Some.ensures.taken.1))) (ap (λ s. s.store) c.put.ensures.session)
+    c.in-Some.ensures.taken.0 c.put.ensures.open (sym (ap (λ s. s.store) (c.deref_mut.ensures.value ∙ c.in-Some.ensures.taken.1))) (ap (λ s. s.store) c.put.ensures.opened)
     (sym (ap (λ a. refused_as of_collect a) c.in_ok-left.was)) (record {
       number = told.number;
       names = told.names;

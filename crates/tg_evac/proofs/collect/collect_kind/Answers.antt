@@ -7,9 +7,9 @@ use Rattle.tg_space.specs.Collection.{AreFewBlocks, IsCollection, copies_in, new
 use Rattle.tg_space.specs.Forwarding.{ForwardingWords}
 use Rattle.tg_space.specs.SpaceTable.{kept_blocks}
 use Rattle.tg_space.specs.Generations.{NamesYoung}
-use Rattle.tg_space.specs.declared.spaces.Kind.{Kind}
-use Rattle.tg_space.specs.declared.spaces.Kind.TheVariants.{Full}
-use Rattle.tg_space.specs.declared.spaces.Root.TheVariants.{Remembered}
+use Rattle.tg_space.specs.declared.kind.Kind.{Kind}
+use Rattle.tg_space.specs.declared.kind.Kind.TheVariants.{Full}
+use Rattle.tg_space.specs.declared.root.Root.TheVariants.{Remembered}
 use Rattle.tg_evac.specs.declared.plan.Plan.{Plan}
 use Rattle.tg_evac.specs.declared.win.Win.{Win}
 use Rattle.tg_evac.specs.Claims.{Claimed, IsTracedFrom, won_in}

@@ -4,7 +4,7 @@ use Rattle.std.proofs.lemmas.List.{take_all}
 use Rattle.std.proofs.lemmas.Result.{err_from_is_err_and}
 use Rattle.tg_space.specs.Closure.{IsClosed}
 use Rattle.tg_space.specs.Targets.{from_space, targets_of, all_root_targets}
-use Rattle.tg_space.specs.declared.spaces.Kind.{Kind}
+use Rattle.tg_space.specs.declared.kind.Kind.{Kind}
 use Rattle.tg_space.proofs.Tables.{table_list}
 use Rattle.tg_space.proofs.Tracing.{closure_is_won}
 use Rattle.tg_evac.specs.Claims.{AreTraced, cells_won}

@@ -2,7 +2,7 @@ use Rattle.std.proofs.Common.{◌==◌, ◌^◌, [], ap, subst, arith, lit<, ◌
 use Rattle.tg_word.specs.declared.Place.{Place}
 use Rattle.std.proofs.lemmas.List.Elements.{Contains-get_or}
 use Rattle.tg_word.specs.Word.{place_in}
-use Rattle.tg_space.specs.declared.spaces.Kind.{Kind}
+use Rattle.tg_space.specs.declared.kind.Kind.{Kind}
 use Rattle.tg_evac.specs.declared.win.Win.{Win}
 use Rattle.tg_evac.specs.Claims.{AreTraced, win_at}
 use Rattle.tg_evac.proofs.Reasons.{all_in_old}

@@ -1,7 +1,7 @@
 use Rattle.std.proofs.Common.{List, take}
 use Rattle.std.specs.List.{All, Contains}
 use Rattle.tg_space.specs.Targets.{from_space, all_root_targets}
-use Rattle.tg_space.specs.declared.spaces.Root.{Root}
+use Rattle.tg_space.specs.declared.root.Root.{Root}
 use Rattle.tg_evac.specs.Claims.{AreTraced}
 use Rattle.tg_evac.specs.Claimers.{AreScanned, KeepsWins, KnowsMore}
 use Rattle.tg_evac.proofs.from_roots.walk.Given as goal

@@ -1,6 +1,6 @@
 use Rattle.std.proofs.Common.{sym, subst}
 use Rattle.tg_space.specs.Targets.{from_space, root_targets_of}
-use Rattle.tg_space.specs.declared.spaces.Kind.{Kind}
+use Rattle.tg_space.specs.declared.kind.Kind.{Kind}
 use Rattle.tg_evac.specs.Claims.{AreTraced}
 use Rattle.tg_evac.proofs.Pieces.{keeps_root, ok_always, scanned_more, traced_root}
 use Rattle.tg_evac.proofs.Walking.{still_met, wins_then}

@@ -4,8 +4,8 @@ use Rattle.tg_space.specs.Collection.{new_place}
 use Rattle.tg_space.specs.Generations.{NamesYoung}
 use Rattle.tg_space.specs.Soundness.{IsOldCell, IsRootIn}
 use Rattle.tg_space.specs.Targets.{from_space, image_of}
-use Rattle.tg_space.specs.declared.spaces.Root.{Root}
-use Rattle.tg_space.specs.declared.spaces.Root.TheVariants.{Remembered}
+use Rattle.tg_space.specs.declared.root.Root.{Root}
+use Rattle.tg_space.specs.declared.root.Root.TheVariants.{Remembered}
 use Rattle.tg_evac.specs.Copies.{moved_cell}
 use Rattle.tg_evac.proofs.notes.note_root.Goals as goal
 

@@ -3,8 +3,8 @@ use Rattle.std.specs.List.{Contains}
 use Rattle.std.proofs.lemmas.List.{take_all}
 use Rattle.tg_word.specs.declared.Place.{Place}
 use Rattle.tg_space.specs.Generations.{NamesYoung}
-use Rattle.tg_space.specs.declared.spaces.Root.{Root}
-use Rattle.tg_space.specs.declared.spaces.Root.TheVariants.{Row, Remembered}
+use Rattle.tg_space.specs.declared.root.Root.{Root}
+use Rattle.tg_space.specs.declared.root.Root.TheVariants.{Row, Remembered}
 use Rattle.tg_evac.specs.Copies.{moved_cell}
 use Rattle.tg_evac.proofs.Copying.{noted_root}
 use Rattle.tg_evac.proofs.notes.note_roots.Goals as goal

@@ -5,7 +5,7 @@ use Rattle.tg_space.specs.SpaceList.{Holds, cells_of}
 use Rattle.tg_space.specs.Soundness.{IsPointer, NamesCell}
 use Rattle.tg_space.specs.Rows.{link_at}
 use Rattle.tg_space.specs.Targets.{from_space}
-use Rattle.tg_space.specs.declared.spaces.Kind.{Kind}
+use Rattle.tg_space.specs.declared.kind.Kind.{Kind}
 use Rattle.tg_evac.specs.Claims.{IsClaimOf, chunk_targets}
 use Rattle.tg_evac.proofs.Chunks.{ChunksPassed, all_passed, none_passed, chunks_none, chunks_moved}
 use Rattle.tg_evac.proofs.Pieces.{wins_chunk, met_chunk}

@@ -2,8 +2,8 @@ use Rattle.std.proofs.Common.{OnOk, ⊎_elim, subst, sym}
 use Rattle.std.specs.List.{All, Contains}
 use Rattle.tg_space.specs.Targets.{from_space, root_targets_of}
 use Rattle.tg_space.specs.Soundness.{IsRootIn}
-use Rattle.tg_space.specs.declared.spaces.Root.{Root}
-use Rattle.tg_space.specs.declared.spaces.Root.TheVariants.{Row}
+use Rattle.tg_space.specs.declared.root.Root.{Root}
+use Rattle.tg_space.specs.declared.root.Root.TheVariants.{Row}
 use Rattle.tg_evac.proofs.roots.claim_root.Goals as goal
 
 pub claim_row-requires-clause-held : goal.claim_row-requires-clause-held

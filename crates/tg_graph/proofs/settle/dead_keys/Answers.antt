@@ -1,7 +1,7 @@
 -- The keys of the dead cells before the loop's number.
 use Rattle.std.proofs.Common.{◌≤◌, ◌<◌, ◌+◌, ◌*◌, [], ℕ, List, Vec, Global, length, subst, sym, ap, arith, ◌∙◌, refl}
 use Rattle.tg_space.specs.SpaceList.{cells_of, space_of}
-use Rattle.tg_space.specs.declared.spaces.Kind.TheVariants.{Nursery}
+use Rattle.tg_space.specs.declared.kind.Kind.TheVariants.{Nursery}
 use Rattle.tg_space.proofs.Tables.{table_list}
 use Rattle.tg_graph.proofs.KeptDropped.{AreKeysBelow, dead_keys_are, keys_more, keys_none, keys_same, young_begin}
 use Rattle.tg_graph.proofs.settle.dead_keys.Goals.{in-Some+in_ok-push, in_default}

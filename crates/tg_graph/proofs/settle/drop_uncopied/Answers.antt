@@ -2,7 +2,7 @@
 use Rattle.std.proofs.Common.{◌≤◌, ◌+◌, length, subst, sym, refl, arith}
 use Rattle.tg_payload.specs.Table.{Payloads}
 use Rattle.tg_space.specs.SpaceList.{cells_of}
-use Rattle.tg_space.specs.declared.spaces.Kind.TheVariants.{Full}
+use Rattle.tg_space.specs.declared.kind.Kind.TheVariants.{Full}
 use Rattle.tg_space.proofs.Tables.{table_list}
 use Rattle.tg_graph.specs.Kept.{Drops, IsDeadKey}
 use Rattle.tg_graph.proofs.KeptDropped.{IsDeadBelow, all_begin, below_back, below_here, below_next, below_not, dead_keys_are, dead_other, dead_some, drops_more, drops_none, drops_same, drops_there, none_below}

@@ -4,8 +4,8 @@ use Rattle.tg_word.specs.declared.Place.{Place}
 use Rattle.tg_space.proofs.Tables.{table_list}
 use Rattle.tg_space.specs.Generations.{NamesYoung}
 use Rattle.tg_space.specs.SpaceTable.{kept_blocks}
-use Rattle.tg_space.specs.declared.spaces.Kind.TheVariants.{Full}
-use Rattle.tg_space.specs.declared.spaces.Root.TheVariants.{Remembered}
+use Rattle.tg_space.specs.declared.kind.Kind.TheVariants.{Full}
+use Rattle.tg_space.specs.declared.root.Root.TheVariants.{Remembered}
 use Rattle.tg_evac.specs.Copies.{IsPlaceIn, moved_cell, new_cell}
 use Rattle.tg_evac.proofs.Sound.{have_pointers}
 use Rattle.tg_parallel.proofs.Finish.{aged_few, few, have_places, none_young, numbered_aged, numbered_old, old_few}

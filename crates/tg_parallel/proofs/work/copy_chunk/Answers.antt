@@ -1,5 +1,5 @@
 use Rattle.std.proofs.Common.{sym, subst}
-use Rattle.tg_space.specs.declared.spaces.Kind.{Kind}
+use Rattle.tg_space.specs.declared.kind.Kind.{Kind}
 use Rattle.tg_evac.specs.Claims.{AreTraced}
 use Rattle.tg_parallel.specs.Parts.{roots_in, wins_of}
 use Rattle.tg_parallel.proofs.Working.{copied_walk, earned_walk, in_chunk, on_ok_all}

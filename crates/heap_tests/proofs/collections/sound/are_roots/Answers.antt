@@ -3,8 +3,8 @@ use Rattle.std.specs.List.{All}
 use Rattle.std.proofs.lemmas.List.{take_all, take_more}
 use Rattle.std.proofs.lemmas.List.Elements.{All-push}
 use Rattle.tg_space.specs.Soundness.{IsRootIn}
-use Rattle.tg_space.specs.declared.spaces.Root.{Root}
-use Rattle.tg_space.specs.declared.spaces.Root.TheVariants.{Row}
+use Rattle.tg_space.specs.declared.root.Root.{Root}
+use Rattle.tg_space.specs.declared.root.Root.TheVariants.{Row}
 use Rattle.heap_tests.proofs.collections.sound.are_roots.Goals as goal
 
 pub loop-root-preserved : goal.loop-root-preserved

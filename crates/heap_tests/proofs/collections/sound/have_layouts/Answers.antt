@@ -9,7 +9,7 @@ pub loop-number-preserved : goal.loop-number-preserved
 loop-number-preserved c =
     let h = c.args.spaces.now.spaces in
     below_more (λ k. HasLayout h (cell_numbered h k)) c.loop-number.number c.loop-number.invariant
-    (subst (λ (ws : List ℕ). HasLayout h ws) c.numbered_cell-words.ensures.words (c.if-not-has_layout.ensures refl))
+    (subst (λ (ws : List ℕ). HasLayout h ws) c.numbered_words.ensures.words (c.if-not-has_layout.ensures refl))
 
 pub returns : goal.returns
 returns c _ =

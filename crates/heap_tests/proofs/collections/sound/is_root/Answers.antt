@@ -1,7 +1,7 @@
 use Rattle.std.proofs.Common.{inl, refl, subst, sym}
 use Rattle.std.specs.Bool.{IsTrue}
 use Rattle.tg_space.specs.Soundness.{IsRootIn}
-use Rattle.tg_space.specs.declared.spaces.Root.{Root}
+use Rattle.tg_space.specs.declared.root.Root.{Root}
 use Rattle.heap_tests.proofs.collections.sound.is_root.Goals as goal
 
 pub returns-in-Row : goal.returns-in-Row

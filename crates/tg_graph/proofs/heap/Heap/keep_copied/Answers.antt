@@ -7,7 +7,7 @@ use Rattle.tg_space.specs.SpaceList.{Holds}
 use Rattle.tg_space.specs.SpaceTable.{with_adopted}
 use Rattle.tg_space.specs.Targets.{from_space}
 use Rattle.tg_space.specs.Collection.{new_place}
-use Rattle.tg_space.specs.declared.spaces.Kind.TheVariants.{Full}
+use Rattle.tg_space.specs.declared.kind.Kind.TheVariants.{Full}
 use Rattle.tg_graph.specs.Heap.{HeapState}
 use Rattle.tg_graph.specs.Kept.{moved_place}
 use Rattle.tg_graph.proofs.KeptHeap.{IsLeft, indexed_beside_none, workers_of}

@@ -1,8 +1,8 @@
 use Rattle.std.proofs.Common.{List, map, ◌++◌, subst, sym}
 use Rattle.tg_space.specs.Soundness.{AreSound}
-use Rattle.tg_space.specs.declared.spaces.Kind.TheVariants.{Nursery}
-use Rattle.tg_space.specs.declared.spaces.Root.{Root}
-use Rattle.tg_space.specs.declared.spaces.Root.TheVariants.{Remembered}
+use Rattle.tg_space.specs.declared.kind.Kind.TheVariants.{Nursery}
+use Rattle.tg_space.specs.declared.root.Root.{Root}
+use Rattle.tg_space.specs.declared.root.Root.TheVariants.{Remembered}
 use Rattle.tg_graph.specs.Heap.{AreShorter, CollectAlike, HeapState, roots_of}
 use Rattle.tg_graph.proofs.Starts.{starts_collect, starts_sound}
 use Rattle.tg_graph.proofs.heap.Heap.nursery_roots.Goals as goal

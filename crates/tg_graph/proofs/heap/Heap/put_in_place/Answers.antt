@@ -2,7 +2,7 @@
 use Rattle.std.proofs.Common.{ℕ, List, IsSome, refl, sym, subst, ◌∙◌}
 use Rattle.std.specs.List.{All, Contains}
 use Rattle.tg_space.specs.SpaceTable.{IsSpaceTable}
-use Rattle.tg_space.specs.declared.spaces.Kind.TheVariants.{Nursery}
+use Rattle.tg_space.specs.declared.kind.Kind.TheVariants.{Nursery}
 use Rattle.tg_payload.specs.Table.{entry}
 use Rattle.tg_graph.specs.declared.settle.Rewritten.{Rewritten}
 use Rattle.tg_space.specs.Collection.{IsCollection}

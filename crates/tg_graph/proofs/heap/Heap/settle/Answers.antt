@@ -1,8 +1,8 @@
 use Rattle.std.proofs.Common.{◌≡◌, ◌∙◌, length, map, refl, subst, sym}
 use Rattle.tg_space.specs.Generations.{AreNeeded}
 use Rattle.tg_space.specs.SpaceTable.{with_adopted}
-use Rattle.tg_space.specs.declared.spaces.Kind.{Kind}
-use Rattle.tg_space.specs.declared.spaces.Kind.TheVariants.{Full, Nursery}
+use Rattle.tg_space.specs.declared.kind.Kind.{Kind}
+use Rattle.tg_space.specs.declared.kind.Kind.TheVariants.{Full, Nursery}
 use Rattle.tg_graph.specs.Standing.{KeepsReached}
 use Rattle.tg_graph.specs.Heap.{HeapState, content_of}
 use Rattle.tg_graph.specs.Kept.{AreWritten, IsSettled, VerticesOfOldStay, rewritten_at}

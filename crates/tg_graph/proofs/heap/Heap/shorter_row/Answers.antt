@@ -3,7 +3,7 @@ use Rattle.std.specs.Prelude.{slice_get}
 use Rattle.std.proofs.lemmas.List.{get_or_default}
 use Rattle.std.proofs.lemmas.Option.{slice_get_within}
 use Rattle.tg_word.specs.declared.Place.{Place}
-use Rattle.tg_space.specs.declared.spaces.Root.TheVariants.{Row}
+use Rattle.tg_space.specs.declared.root.Root.TheVariants.{Row}
 use Rattle.tg_space.proofs.Tables.{table_list}
 use Rattle.tg_graph.specs.Heap.{HeapState, IsShorter}
 use Rattle.tg_graph.proofs.Ages.{slice_get_is}

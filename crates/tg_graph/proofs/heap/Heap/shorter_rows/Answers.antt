@@ -2,7 +2,7 @@ use Rattle.std.proofs.Common.{◌≡◌, ◌∙◌, ◌+◌, ◌<◌, ◌≤◌,
 use Rattle.std.proofs.lemmas.List.{take_all}
 use Rattle.std.proofs.lemmas.Option.{slice_get-get_or}
 use Rattle.tg_word.specs.declared.Place.{Place}
-use Rattle.tg_space.specs.declared.spaces.Root.{Root}
+use Rattle.tg_space.specs.declared.root.Root.{Root}
 use Rattle.tg_graph.specs.Heap.{AreShorter, HeapState}
 use Rattle.tg_graph.proofs.Starts.{more_shorter}
 use Rattle.tg_graph.proofs.heap.Heap.shorter_rows.Goals as goal

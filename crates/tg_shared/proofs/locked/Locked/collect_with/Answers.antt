@@ -1,5 +1,5 @@
 use Rattle.std.proofs.Common.{OnOk, ◌≡◌, ◌∙◌, ap, subst}
-use Rattle.tg_space.specs.declared.spaces.Kind.TheVariants.{Nursery}
+use Rattle.tg_space.specs.declared.kind.Kind.TheVariants.{Nursery}
 use Rattle.tg_graph.specs.Kept.{VerticesOfOldStay}
 use Rattle.tg_store.specs.Store.{graph_of_store}
 use Rattle.tg_shared.specs.Sessions.{LockedState}

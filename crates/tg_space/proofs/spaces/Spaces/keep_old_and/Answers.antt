@@ -2,7 +2,7 @@ use Rattle.std.proofs.Common.{rules, ◌≡◌, ◌+◌, ◌++◌, ◌∙◌, le
 use Rattle.std.proofs.lemmas.List.{take_at}
 use Rattle.tg_space.specs.SpaceList.{SpaceList, IsSpace, space_of}
 use Rattle.tg_space.specs.SpaceTable.{SpaceTable, IsSpaceTable, IsPrefixCount, adopted, with_adopted}
-use Rattle.tg_space.specs.declared.spaces.Kind.TheVariants.{Nursery}
+use Rattle.tg_space.specs.declared.kind.Kind.TheVariants.{Nursery}
 use Rattle.tg_space.proofs.Tables.{adopted_long, table_adopted}
 use Rattle.tg_space.proofs.spaces.Spaces.keep_old_and.Goals as goal
 

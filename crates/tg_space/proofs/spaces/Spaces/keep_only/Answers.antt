@@ -2,7 +2,7 @@ use Rattle.std.proofs.Common.{rules, ◌≡◌, ◌+◌, ◌++◌, [], ◌∙◌
 use Rattle.std.proofs.lemmas.List.{take_at}
 use Rattle.tg_space.specs.SpaceList.{SpaceList, IsSpace, space_of}
 use Rattle.tg_space.specs.SpaceTable.{SpaceTable, IsSpaceTable, IsPrefixCount, adopted, with_adopted}
-use Rattle.tg_space.specs.declared.spaces.Kind.TheVariants.{Full}
+use Rattle.tg_space.specs.declared.kind.Kind.TheVariants.{Full}
 use Rattle.tg_space.proofs.Tables.{kept_long, table_kept}
 use Rattle.tg_space.proofs.spaces.Spaces.keep_only.Goals as goal
 

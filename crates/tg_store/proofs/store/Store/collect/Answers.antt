@@ -1,6 +1,6 @@
 -- How few blocks are left, and which vertices stay: the spare blocks are none of the store that is seen.
 use Rattle.std.proofs.Common.{◌≡◌, subst}
-use Rattle.tg_space.specs.declared.spaces.Kind.TheVariants.{Nursery}
+use Rattle.tg_space.specs.declared.kind.Kind.TheVariants.{Nursery}
 use Rattle.tg_graph.specs.Kept.{VerticesOfOldStay}
 use Rattle.tg_store.specs.Store.{HasFewBlocks, StoreState}
 use Rattle.tg_store.proofs.BlockLaws.{few_left}

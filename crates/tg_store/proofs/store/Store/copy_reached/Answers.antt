@@ -2,7 +2,7 @@
 use Rattle.std.proofs.Common.{List, subst}
 use Rattle.tg_space.specs.SpaceTable.{SpaceTable}
 use Rattle.tg_space.specs.Collection.{IsCollection}
-use Rattle.tg_space.specs.declared.spaces.Root.{Root}
+use Rattle.tg_space.specs.declared.root.Root.{Root}
 use Rattle.tg_graph.specs.Heap.{roots_of}
 use Rattle.tg_store.specs.Store.{StoreState}
 use Rattle.tg_store.proofs.store.Store.copy_reached.Goals as goal

@@ -1,7 +1,7 @@
 use Rattle.std.proofs.Common.{subst, ap, inl, inr, Ok, Err}
 use Rattle.tg_model.specs.declared.value.Value.{Value}
 use Rattle.tg_c.specs.Calls.{Creates}
-use Rattle.tg_c.proofs.session.Session.create.Goals as goal
+use Rattle.tg_c.proofs.law_store.LawStore.create.Goals as goal
 
 pub returns-in-Ok-create : goal.returns-in-Ok-create
 returns-in-Ok-create c =

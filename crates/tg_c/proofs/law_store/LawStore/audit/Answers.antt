@@ -1,6 +1,6 @@
 use Rattle.std.proofs.Common.{◌∙◌}
 use Rattle.tg_c.proofs.AuditLaws.{audit_of_legal}
-use Rattle.tg_c.proofs.session.Session.audit.Goals as goal
+use Rattle.tg_c.proofs.law_store.LawStore.audit.Goals as goal
 
 pub returns-clause-fault : goal.returns-clause-fault
 returns-clause-fault c =

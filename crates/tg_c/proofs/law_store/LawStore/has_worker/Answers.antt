@@ -4,7 +4,7 @@ use Rattle.tg_model.specs.Graph.{IsSubject}
 use Rattle.tg_model.specs.Opened.{Plan}
 use Rattle.tg_journal.proofs.HistoryLaws.{workers-opened}
 use Rattle.tg_store.specs.Store.{graph_of_store}
-use Rattle.tg_c.proofs.session.Session.has_worker.Goals as goal
+use Rattle.tg_c.proofs.law_store.LawStore.has_worker.Goals as goal
 
 pub returns : goal.returns
 returns c =

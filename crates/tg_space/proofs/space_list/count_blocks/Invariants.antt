@@ -1,6 +1,6 @@
 use Rattle.std.proofs.Common.{◌≡◌, ◌≤◌, ◌*◌, ◌^◌, ℕ, get_or}
 use Rattle.tg_space.specs.SpaceList.{blocks_before}
-use Rattle.tg_space.proofs.spaces.count_blocks.Given as goal
+use Rattle.tg_space.proofs.space_list.count_blocks.Given as goal
 
 abbrev pub invariant-loop-i : goal.invariant-loop-i
 invariant-loop-i l = record {

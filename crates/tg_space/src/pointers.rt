@@ -1,0 +1,19 @@
+//! Which words of a cell may name cells.
+ghost use Rattle.std.specs.Prelude.{◌≡◌, ◌≤◌};
+ghost use Rattle.tg_space.specs.Targets.{first_pointer as first_pointer_of};
+
+use tg_block::{CHUNK_POINTERS, CHUNK_TAG, OBJECT_POINTERS, OBJECT_TAG, WORDS};
+
+/// The first word of a cell with this tag that may name a cell: 4 of an object, 1 of a chunk, and 8, past the last,
+/// of any other.
+#[inline(always)]
+pub fn first_pointer(tag: u64) -> usize
+    ensures word { result ≡ first_pointer_of tag }
+    ensures inside { result ≤ 8 }
+{
+    match tag {
+        OBJECT_TAG => OBJECT_POINTERS,
+        CHUNK_TAG => CHUNK_POINTERS,
+        _ => WORDS,
+    }
+}

@@ -1,0 +1,71 @@
+//! The numbers of cells: those of Old come first, then those of Aged and of the nurseries, each space block by block.
+ghost use Rattle.std.specs.Prelude.{◌≡◌, ◌<◌, ◌≤◌, ◌*◌, ◌^◌, [], length, slice_index_or};
+ghost use Rattle.tg_word.specs.Word.{place_in};
+ghost use Rattle.tg_space.specs.SpaceList.{Holds, cells_of, flat_of};
+ghost use Rattle.tg_space.specs.SpaceTable.{IsSpaceTable};
+
+use crate::spaces::Spaces;
+use tg_block::{CELLS, WORDS};
+use tg_word::{Place, number_of, place_of};
+
+impl Spaces {
+    /// How many cells there are.
+    pub fn cells(&self) -> u64
+        ensures cells { result ≡ length (cells_of self.now.spaces) }
+        ensures few { result ≤ 66 * 2 ^ 26 }
+        ensures table { IsSpaceTable self.now }
+    {
+        CELLS as u64 * self.blocks()
+    }
+
+    /// The number of a cell: the cells of Old come first, then those of Aged and of the nurseries, each space block
+    /// by block. It takes the same short time in every heap.
+    #[inline(always)]
+    pub fn flat(&self, place: Place) -> u64
+        requires { Holds self.now.spaces place }
+        ensures flat { result ≡ flat_of self.now.spaces place }
+        ensures inside { result < length (cells_of self.now.spaces) }
+    {
+        CELLS as u64 * (self.starts[place.space as usize] + place.block) + place.cell
+    }
+
+    /// The number of the cell that a word names.
+    #[inline(always)]
+    pub fn target_of(&self, word: u64) -> u64
+        requires { Holds self.now.spaces (place_in word) }
+        ensures flat { result ≡ flat_of self.now.spaces (place_in word) }
+        ensures inside { result < length (cells_of self.now.spaces) }
+    {
+        let space = place_of(word).space;
+        CELLS as u64 * self.starts[space as usize] + number_of(word)
+    }
+
+    /// The place of the cell with a number.
+    #[inline(always)]
+    pub fn unflat(&self, number: u64) -> Place
+        requires { number < length (cells_of self.now.spaces) }
+        ensures held { Holds self.now.spaces result }
+        ensures flat { flat_of self.now.spaces result ≡ number }
+    {
+        let block = number / CELLS as u64;
+        let mut space: usize = 0;
+        while self.starts[space + 1] <= block {
+            space += 1;
+        }
+        Place {
+            space: space as u64,
+            block: block - self.starts[space],
+            cell: number % CELLS as u64,
+        }
+    }
+
+    /// The words of the cell with a number, where they stand.
+    #[inline(always)]
+    pub fn numbered_words(&self, number: u64) -> &[u64; WORDS]
+        requires { number < length (cells_of self.now.spaces) }
+        ensures words { result.now ≡ slice_index_or (cells_of self.now.spaces) number [] }
+        ensures whole { length result.now ≡ 8 }
+    {
+        self.words(self.unflat(number))
+    }
+}
