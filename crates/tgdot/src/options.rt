@@ -2,7 +2,7 @@
 
 use crate::fault::DrawFault;
 use clap::error::ErrorKind;
-use clap::{Arg, ArgAction, Command, Error};
+use clap::{Arg, ArgAction, ArgMatches, Command, Error};
 use std::alloc::Global;
 use std::convert::AsStr;
 use tg_model::{MAX_VERTICES, MAX_WORKERS};
@@ -14,6 +14,12 @@ objects as circles, an arrow with its rights for each edge, and grey what no sub
 
 const EXAMPLE: &str = "Example:
   printf '0 create rw\\n0 list\\n' | tgdot --workers 1 --stock c | dot -Tsvg > graph.svg";
+
+const WORKERS: &str = "How many workers there are, from 1 to 64 [default: 2]";
+
+const VERTICES: &str = "How many vertices may ever be made [default: 1000000]";
+
+const STOCK: &str = "The boxes that creates take, as tgstore has them";
 
 /// What the words ask for.
 #[derive(Clone, Copy, Debug, Drop)]
@@ -28,39 +34,36 @@ pub struct DotOptions<'a> {
 
 /// Reads the words, the first of which is the program's name. An `Err` is the text for the user, of the help as of a fault.
 pub fn read_words<'a, S: AsStr>(alloc: Global, words: &'a [S]) -> Result<DotOptions<'a>, Error> {
-    let mut command = Command::new(alloc, "tgdot")
-        .bin_name("tgdot")?
-        .about(ABOUT)
-        .after_help(EXAMPLE)
-        .arg(option(
-            alloc,
-            "workers",
-            "N",
-            "How many workers there are, from 1 to 64 [default: 2]",
-        ))?
-        .arg(option(
-            alloc,
-            "vertices",
-            "N",
-            "How many vertices may ever be made [default: 1000000]",
-        ))?
-        .arg(option(
-            alloc,
-            "stock",
-            "TEXT",
-            "The boxes that creates take, as tgstore has them",
-        ))?;
+    let mut command = command(alloc)?;
     let matches = command.try_get_matches_from_mut(words)?;
-    let workers = number(matches.get_str("workers"), 2, MAX_WORKERS);
-    let max_vertices = number(matches.get_str("vertices"), 1_000_000, MAX_VERTICES);
-    match (workers, max_vertices) {
-        (Some(workers), Some(max_vertices)) => Ok(DotOptions {
-            workers,
-            max_vertices,
-            stock: matches.get_str("stock").unwrap_or(""),
-        }),
-        _ => Err(command.error(ErrorKind::ValueValidation, "a number is out of its range")?),
+    match options_of(&matches) {
+        Some(options) => Ok(options),
+        None => Err(command.error(ErrorKind::ValueValidation, "a number is out of its range")?),
     }
+}
+
+// The options that were found in the words, where their numbers are in range, and the defaults of the others.
+fn options_of<'a>(matches: &ArgMatches<'a>) -> Option<DotOptions<'a>> {
+    Some(DotOptions {
+        workers: number(matches.get_str("workers"), 2, MAX_WORKERS)?,
+        max_vertices: number(matches.get_str("vertices"), 1_000_000, MAX_VERTICES)?,
+        stock: matches.get_str("stock").unwrap_or(""),
+    })
+}
+
+// The command line.
+fn command<'a>(alloc: Global) -> Result<Command<'a>, Error> {
+    let command = described(alloc)?
+        .arg(option(alloc, "workers", "N", WORKERS))?
+        .arg(option(alloc, "vertices", "N", VERTICES))?
+        .arg(option(alloc, "stock", "TEXT", STOCK))?;
+    Ok(command)
+}
+
+// What the help says of the program.
+fn described<'a>(alloc: Global) -> Result<Command<'a>, Error> {
+    let command = Command::new(alloc, "tgdot").bin_name("tgdot")?;
+    Ok(command.about(ABOUT).after_help(EXAMPLE))
 }
 
 // An option that has a value.
