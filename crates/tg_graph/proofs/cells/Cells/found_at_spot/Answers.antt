@@ -1,40 +1,42 @@
-use Rattle.std.proofs.Common.{◌∙◌, sym, ap, arith, length}
+use Rattle.std.proofs.Common.{subst, ◌∙◌, sym, ap, arith, length}
 use Rattle.tg_space.specs.SpaceList.{cells_of}
 use Rattle.tg_space.proofs.Tables.{table_list}
 use Rattle.tg_space.specs.Rows.{chunks_from, link_at}
 use Rattle.tg_graph.proofs.Finding.{cell_held, found_refers, label_is_read, none_found, none_refers, reference_found}
+use Rattle.tg_graph.specs.Spots.{IsSpotFor}
+use Rattle.tg_graph.specs.declared.rows.Spot.{Spot}
 use Rattle.tg_graph.proofs.cells.Cells.found_at_spot.Goals as goal
 
 pub found_at-requires-clause-held : goal.found_at-requires-clause-held
 found_at-requires-clause-held g c =
     let h = c.args.self.now.spaces.spaces in
-    let reference = reference_found h c.args.from c.args.name c.in-Reference.cell c.in-Reference.index c.in-Reference.requires.spot in
+    let reference = reference_found h c.args.from c.args.name c.in-Reference.cell c.in-Reference.index (subst (λ (s : Spot). IsSpotFor h c.args.name c.args.from s) c.in-Reference.is c.requires.spot) in
     cell_held h c.args.self.now.payloads (table_list c.args.self.now.spaces c.requires.table) c.requires.graph c.args.from c.requires.from c.in-Reference.cell reference.cell
 
 pub found_at-requires-clause-inside : goal.found_at-requires-clause-inside
 found_at-requires-clause-inside g c =
     let h = c.args.self.now.spaces.spaces in
-    let reference = reference_found h c.args.from c.args.name c.in-Reference.cell c.in-Reference.index c.in-Reference.requires.spot in
+    let reference = reference_found h c.args.from c.args.name c.in-Reference.cell c.in-Reference.index (subst (λ (s : Spot). IsSpotFor h c.args.name c.args.from s) c.in-Reference.is c.requires.spot) in
     omega (arith, reference.to)
 
 pub returns-in-Reference-clause-rights : goal.returns-in-Reference-clause-rights
 returns-in-Reference-clause-rights g c =
     let h = c.args.self.now.spaces.spaces in
-    let reference = reference_found h c.args.from c.args.name c.in-Reference.cell c.in-Reference.index c.in-Reference.requires.spot in
+    let reference = reference_found h c.args.from c.args.name c.in-Reference.cell c.in-Reference.index (subst (λ (s : Spot). IsSpotFor h c.args.name c.args.from s) c.in-Reference.is c.requires.spot) in
     ap (λ found. found.rights) c.found_at.ensures ∙ sym reference.rights
     ∙ sym (label_is_read h c.args.self.now.payloads (table_list c.args.self.now.spaces c.requires.table) c.requires.graph c.args.from c.requires.from c.args.name)
 
 pub returns-in-Reference-clause-some : goal.returns-in-Reference-clause-some
 returns-in-Reference-clause-some g c =
     let h = c.args.self.now.spaces.spaces in
-    let reference = reference_found h c.args.from c.args.name c.in-Reference.cell c.in-Reference.index c.in-Reference.requires.spot in
+    let reference = reference_found h c.args.from c.args.name c.in-Reference.cell c.in-Reference.index (subst (λ (s : Spot). IsSpotFor h c.args.name c.args.from s) c.in-Reference.is c.requires.spot) in
     let refers = found_refers h c.args.self.now.payloads (table_list c.args.self.now.spaces c.requires.table) c.requires.graph c.args.from c.requires.from c.args.name c.in-Reference.cell c.in-Reference.index reference in
     rw c.found_at.ensures refers.rights
 
 pub returns-in-Reference-clause-place : goal.returns-in-Reference-clause-place
 returns-in-Reference-clause-place g c =
     let h = c.args.self.now.spaces.spaces in
-    let reference = reference_found h c.args.from c.args.name c.in-Reference.cell c.in-Reference.index c.in-Reference.requires.spot in
+    let reference = reference_found h c.args.from c.args.name c.in-Reference.cell c.in-Reference.index (subst (λ (s : Spot). IsSpotFor h c.args.name c.args.from s) c.in-Reference.is c.requires.spot) in
     let refers = found_refers h c.args.self.now.payloads (table_list c.args.self.now.spaces c.requires.table) c.requires.graph c.args.from c.requires.from c.args.name c.in-Reference.cell c.in-Reference.index reference in
     rw c.found_at.ensures (record { object = refers.object; named = reference.named })
 
