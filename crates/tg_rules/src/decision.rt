@@ -40,6 +40,7 @@ pub fn decide<P: Payload>(heap: &Heap<P>, worker: u64, command: &Command) -> Ver
 /// [`perform_between`] needn't look them up again. Takes no memory.
 ///
 /// [`perform_between`]: crate::perform_between
+#[inline(always)]
 pub fn find_parties<P: Payload>(
     heap: &Heap<P>,
     worker: u64,
@@ -122,6 +123,7 @@ fn check_grant<P: Payload>(
 }
 
 // The checks of a command that wants only rights of the worker over its target.
+#[inline(always)]
 fn check_use<P: Payload>(
     heap: &Heap<P>,
     rule: Rule,
@@ -144,6 +146,7 @@ fn check_use<P: Payload>(
 }
 
 // Denies a command in which two vertices that must differ are one.
+#[inline(always)]
 fn check_distinct(rule: Rule, same: bool) -> Result<(), Denial>
     ensures { result_err result ≡ unless_distinct rule same }
 {
@@ -157,6 +160,7 @@ fn check_distinct(rule: Rule, same: bool) -> Result<(), Denial>
 }
 
 // Denies a command that wants rights of one vertex over another, where they are missing. Else it answers that other.
+#[inline(always)]
 fn check_held<P: Payload>(
     heap: &Heap<P>,
     rule: Rule,
