@@ -44,6 +44,7 @@ pub(crate) struct Cells<P: Payload> {
 
 impl<P: Payload> Cells<P> {
     /// The name of an object.
+    #[inline(always)]
     pub(crate) fn name_of(&self, at: Place) -> u64
         requires { IsKindAt self.now.spaces.spaces Object at }
         ensures { result ≡ name_at self.now.spaces.spaces at }
@@ -52,6 +53,7 @@ impl<P: Payload> Cells<P> {
     }
 
     /// The reference in the row of an object to the vertex with a name.
+    #[inline(always)]
     pub(crate) fn find_edge(&self, from: Place, name: u64) -> Option<Found>
         requires graph { IsGraph self.now.spaces.spaces self.now.payloads }
         requires from { IsKindAt self.now.spaces.spaces Object from }
@@ -79,6 +81,7 @@ impl<P: Payload> Cells<P> {
     }
 
     /// What a reference says.
+    #[inline(always)]
     pub(crate) fn found_at(&self, cell: Place, index: usize) -> Found
         requires held { Holds self.now.spaces.spaces cell }
         requires inside { index < 8 }
@@ -92,6 +95,7 @@ impl<P: Payload> Cells<P> {
     }
 
     /// The edges of an object, by rising name of the target.
+    #[inline(always)]
     pub(crate) fn row(&self, from: Place) -> Result<EdgeList, AllocError>
         requires graph { IsGraph self.now.spaces.spaces self.now.payloads }
         requires from { IsKindAt self.now.spaces.spaces Object from }
@@ -104,6 +108,7 @@ impl<P: Payload> Cells<P> {
     }
 
     /// The state that an object stores.
+    #[inline(always)]
     pub(crate) fn state(&self, at: Place) -> Result<Numbers, AllocError>
         requires graph { IsGraph self.now.spaces.spaces self.now.payloads }
         requires at { IsKindAt self.now.spaces.spaces Object at }
@@ -124,6 +129,7 @@ impl<P: Payload> Cells<P> {
     }
 
     /// Writes a number to what an object stores. Where it is refused, nothing is changed.
+    #[inline(always)]
     pub(crate) fn write(&mut self, at: Place, number: u64) -> Result<(), AllocError>
         requires graph { IsGraph self.old.spaces.spaces self.old.payloads }
         requires at { IsKindAt self.old.spaces.spaces Object at }

@@ -151,6 +151,7 @@ impl<P: Payload> Heap<P> {
 
     /// The rights of the vertex at a place over the vertex with a name, and where that one is; `None` exactly where
     /// there are none. It looks into the index of the row, or walks along a short one. It takes no memory.
+    #[inline(always)]
     pub fn find_edge(&self, from: Place, name: u64) -> Option<Found>
         requires { IsObject self.now from }
         ensures rights { rights_found result ≡ (content_of self.now).label (name_of self.now from) name }
@@ -162,6 +163,7 @@ impl<P: Payload> Heap<P> {
 
     /// The edges of the vertex at a place, by rising name of the target. Sorts once. Answers only want of memory
     /// otherwise.
+    #[inline(always)]
     pub fn row(&self, from: Place) -> Result<EdgeList, AllocError>
         requires { IsObject self.now from }
         ensures { IfOk result (λ edges. (n : ℕ) → All (λ x. x < n) (content_of self.now).names → edges ≡ listing_of (content_of self.now).label n (name_of self.now from)) }
@@ -170,6 +172,7 @@ impl<P: Payload> Heap<P> {
     }
 
     /// The state of the vertex at a place. Answers only want of memory otherwise.
+    #[inline(always)]
     pub fn state(&self, at: Place) -> Result<Numbers, AllocError>
         requires { IsObject self.now at }
         ensures { IfOk result (λ state. state ≡ state_of ((content_of self.now).value (name_of self.now at))) }
@@ -187,6 +190,7 @@ impl<P: Payload> Heap<P> {
 
     /// Writes a number to the vertex at a place. It writes to no cell. Where it is refused, for want of memory alone,
     /// nothing is changed.
+    #[inline(always)]
     pub fn write(&mut self, at: Place, number: u64) -> Result<(), AllocError>
         requires { IsObject self.old at }
         ensures written { OnOk result (IsContent (content_of self.new) (IsNamed (content_of self.old)) (content_of self.old).label

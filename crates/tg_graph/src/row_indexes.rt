@@ -73,6 +73,7 @@ impl<P: Payload> Cells<P> {
     }
 
     /// The reference in the row of an object to the vertex with a name.
+    #[inline(always)]
     pub(crate) fn find_edge_in(&self, rows: &LongRows, from: Place, name: u64) -> Option<Found>
         requires graph { IsGraph self.now.spaces.spaces self.now.payloads }
         requires from { IsKindAt self.now.spaces.spaces Object from }

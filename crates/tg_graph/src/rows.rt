@@ -91,7 +91,7 @@ pub(crate) fn find_spot(spaces: &Spaces, from: Place, name: u64) -> Spot
     let mut at = from;
     let mut left = spaces.cells();
     'row: loop {
-        let cell = spaces.cell(at);
+        let cell = spaces.words(at);
         let first = first_pointer(cell[0]);
         let words = &cell[first..LINK];
         if let Some(k) = position_of(spaces, words, name) {
@@ -110,6 +110,7 @@ pub(crate) fn find_spot(spaces: &Spaces, from: Place, name: u64) -> Spot
 }
 
 // The number of the reference to a name among these words.
+#[inline(always)]
 fn position_of(spaces: &Spaces, words: &[u64], name: u64) -> Option<usize>
     requires { All (IsReference spaces.now.spaces) words.now }
     ensures position { result ≡ position (refers_to spaces.now.spaces name) words.now }
@@ -124,6 +125,7 @@ fn position_of(spaces: &Spaces, words: &[u64], name: u64) -> Option<usize>
 }
 
 // The empty place that was found before, or else the first among the words of a cell.
+#[inline(always)]
 fn first_empty(
     before: Option<(Place, usize)>,
     cell: Place,
@@ -174,7 +176,7 @@ pub(crate) fn edges_of(
     let mut at = from;
     let mut left = spaces.cells();
     'row: loop {
-        let cell = spaces.cell(at);
+        let cell = spaces.words(at);
         let first = first_pointer(cell[0]);
         push_edges(spaces, &cell[first..LINK], &mut edges)?;
         if cell[LINK] == 0 {
@@ -220,7 +222,7 @@ pub(crate) fn places_of(
     let mut at = from;
     let mut left = spaces.cells();
     'row: loop {
-        let cell = spaces.cell(at);
+        let cell = spaces.words(at);
         let first = first_pointer(cell[0]);
         push_names(spaces, &cell[first..LINK], &mut names)?;
         cells.push(at)?;

@@ -40,6 +40,7 @@ pub fn decide<P: Payload>(heap: &Heap<P>, worker: u64, command: &Command) -> Ver
 /// [`perform_between`] needn't look them up again. Takes no memory.
 ///
 /// [`perform_between`]: crate::perform_between
+#[inline(always)]
 pub fn find_parties<P: Payload>(
     heap: &Heap<P>,
     worker: u64,
@@ -94,6 +95,7 @@ pub fn find_parties<P: Payload>(
 }
 
 // The checks of a command that wants only rights of the worker over its target.
+#[inline(always)]
 fn check_use<P: Payload>(
     heap: &Heap<P>,
     rule: Rule,
@@ -115,6 +117,7 @@ fn check_use<P: Payload>(
 }
 
 // Whether two of the three vertices of a take or a grant are one.
+#[inline(always)]
 fn are_not_three(worker: u64, via: u64, target: u64) -> bool
     ensures { result ≡ ((worker == via) || (via == target) || (worker == target)) }
 {
@@ -123,6 +126,7 @@ fn are_not_three(worker: u64, via: u64, target: u64) -> bool
 
 // The first checks of a command: that its vertices differ, and that the worker holds the rights to use the rule over another
 // vertex. Answers that other.
+#[inline(always)]
 fn check_first<P: Payload>(
     heap: &Heap<P>,
     rule: Rule,
@@ -147,6 +151,7 @@ fn check_first<P: Payload>(
 }
 
 // Denies a command that wants rights of one vertex over another, where they are missing. Else it answers that other.
+#[inline(always)]
 fn check_held<P: Payload>(
     heap: &Heap<P>,
     rule: Rule,

@@ -82,6 +82,7 @@ pub fn perform<P: Payload>(
 
 /// Performs a command of a worker between the vertices that its checks met: what [`perform`] does, without looking them
 /// up again.
+#[inline(always)]
 pub fn perform_between<P: Payload>(
     heap: &mut Heap<P>,
     worker: u64,

@@ -38,6 +38,7 @@ impl Lines {
     /// bytes came than may, the line has more than [`MOST_LINE_BYTES`]; or the input ended within a line. The source is asked
     /// once for each byte of the line and for what ended it, and not again. What was put into the sink is finished before the
     /// source is asked for what it doesn't hold. Takes no memory.
+    #[inline(always)]
     pub fn next_line<S: Source, K: Sink>(
         &mut self,
         source: &mut S,
@@ -60,6 +61,7 @@ impl Lines {
     }
 
     // Reads the next line into the buffer where the source holds all of it, and answers whether it did; else nothing is read.
+    #[inline(always)]
     fn take_held<S: Source>(&mut self, source: &mut S, line: &mut LineBuffer) -> bool
         ensures bytes { TakesLineAtOnce (S.left source.old) result line.new (S.left source.new) }
         ensures few { result ≡ true → length line.new ≤ 256 }

@@ -13,6 +13,7 @@ use tg_model::{Command, Edge};
 
 /// The line whose text the bytes are, without a line feed; `None` exactly where no rule of the grammar gives them. Takes
 /// no memory.
+#[inline(always)]
 pub fn read_line(bytes: &[u8]) -> Option<Line>
     ensures found { IfSome result (λ line. LineFits line × (bytes.now ≡ line_text line)) }
     ensures only { (line : Line) → LineFits line → bytes.now ≡ line_text line → result ≡ Some line }
@@ -20,6 +21,7 @@ pub fn read_line(bytes: &[u8]) -> Option<Line>
     line_of(bytes)
 }
 
+#[inline(always)]
 fn line_of(bytes: &[u8]) -> Option<Line>
     ensures { result ≡ line_of (pieces bytes.now) }
 {
@@ -47,6 +49,7 @@ fn line_of(bytes: &[u8]) -> Option<Line>
 }
 
 /// What stands before the first space, and what behind it, where there is one.
+#[inline(always)]
 fn piece(bytes: &[u8]) -> (&[u8], Option<&[u8]>)
     ensures { pieces bytes.now ≡ result.0.now ∷ pieces_left (option_map (λ rest. rest.now) result.1) }
 {
@@ -58,6 +61,7 @@ fn piece(bytes: &[u8]) -> (&[u8], Option<&[u8]>)
     (bytes, None)
 }
 
+#[inline(always)]
 fn one_word(a: &[u8]) -> Option<Line>
     ensures { result ≡ one_word a.now }
 {
@@ -70,6 +74,7 @@ fn one_word(a: &[u8]) -> Option<Line>
     }
 }
 
+#[inline(always)]
 fn two_words(a: &[u8], b: &[u8]) -> Option<Line>
     ensures { result ≡ two_words a.now b.now }
 {
@@ -82,6 +87,7 @@ fn two_words(a: &[u8], b: &[u8]) -> Option<Line>
     })
 }
 
+#[inline(always)]
 fn three_words(a: &[u8], b: &[u8], c: &[u8]) -> Option<Line>
     ensures { result ≡ three_words a.now b.now c.now }
 {
@@ -102,6 +108,7 @@ fn three_words(a: &[u8], b: &[u8], c: &[u8]) -> Option<Line>
     }
 }
 
+#[inline(always)]
 fn four_words(a: &[u8], b: &[u8], c: &[u8], d: &[u8]) -> Option<Line>
     ensures { result ≡ four_words a.now b.now c.now d.now }
 {
@@ -132,6 +139,7 @@ fn four_words(a: &[u8], b: &[u8], c: &[u8], d: &[u8]) -> Option<Line>
     }
 }
 
+#[inline(always)]
 fn five_words(a: &[u8], b: &[u8], c: &[u8], d: &[u8], e: &[u8]) -> Option<Line>
     ensures { result ≡ five_words a.now b.now c.now d.now e.now }
 {

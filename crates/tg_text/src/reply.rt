@@ -12,6 +12,7 @@ use tg_model::{Cause, Denial, Reply, Rule};
 use tg_rights::{Label, Rights};
 
 /// Writes the answer's text, one line, or a front of it where the sink fails. Takes no memory.
+#[inline(always)]
 pub fn write_reply<K: Sink>(sink: &mut K, answer: &Answer) -> Result<(), WriteFailed>
     ensures { Writes (K.taken sink.old) (K.failures sink.old) (answer_text answer.now) result (K.taken sink.new) (K.failures sink.new) }
 {
@@ -37,6 +38,7 @@ pub fn write_reply_of<K: Sink>(sink: &mut K, reply: &Reply) -> Result<(), WriteF
     end_line(sink)
 }
 
+#[inline(always)]
 fn end_line<K: Sink>(sink: &mut K) -> Result<(), WriteFailed>
     ensures { Writes (K.taken sink.old) (K.failures sink.old) (10 ∷ []) result (K.taken sink.new) (K.failures sink.new) }
 {
@@ -55,6 +57,7 @@ fn write_told<K: Sink>(sink: &mut K, answer: &Answer) -> Result<(), WriteFailed>
 }
 
 /// Writes a reply's text without its line feed, or a front of it where the sink fails.
+#[inline(always)]
 pub(crate) fn write_answer<K: Sink>(sink: &mut K, reply: &Reply) -> Result<(), WriteFailed>
     ensures { Writes (K.taken sink.old) (K.failures sink.old) (reply_text reply.now) result (K.taken sink.new) (K.failures sink.new) }
 {
@@ -78,6 +81,7 @@ fn write_collected<K: Sink>(sink: &mut K, number: Option<u64>) -> Result<(), Wri
     }
 }
 
+#[inline(always)]
 fn write_name<K: Sink>(sink: &mut K, number: u64) -> Result<(), WriteFailed>
     ensures { Writes (K.taken sink.old) (K.failures sink.old) (reply_text (Reply.Name number)) result (K.taken sink.new) (K.failures sink.new) }
 {

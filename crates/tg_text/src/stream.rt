@@ -63,6 +63,7 @@ impl<R: BufRead + Drop, A: Ledger, F: Ledger> Source for OfRead<R, A, F> {
         next
     }
 
+    #[inline(always)]
     fn take_line(&mut self, line: &mut LineBuffer, most: usize) -> bool {
         line.clear();
         if self.held == 0 {
@@ -78,6 +79,7 @@ impl<R: BufRead + Drop, A: Ledger, F: Ledger> Source for OfRead<R, A, F> {
 }
 
 // Takes the next line and its line feed, where the reader holds all of it, and says how many more bytes it then holds.
+#[inline(always)]
 fn take_held<R: BufRead>(reader: &mut R, line: &mut LineBuffer, most: usize) -> Option<usize>
     requires few { most ≤ 256 }
     requires clear { line.old ≡ [] }
@@ -144,6 +146,7 @@ impl<W: Write + Drop, L: Ledger> Sink for OfWrite<W, L> {
 
     ghost finished = { λ s. s.finished };
 
+    #[inline(always)]
     fn put(&mut self, bytes: &[u8]) -> Put {
         self.finished = false;
         match self.writer.write(bytes) {

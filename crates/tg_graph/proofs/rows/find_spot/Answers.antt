@@ -15,21 +15,21 @@ position_of-requires c =
     let h = c.args.spaces.now.spaces in
     let references : All (IsReference h) (references_of (cell_at h c.row.at)) =
     references_at h (table_list c.args.spaces.now c.cells-left.ensures.table) [] c.requires.sound c.row.at c.row.invariant.row.held in
-    subst (All (IsReference h)) (sym (slice_is h c.row.at c.cell-cell.result c.first_pointer-first.result c.cell-cell.ensures.words c.first_pointer-first.ensures.word)) references
+    subst (All (IsReference h)) (sym (slice_is h c.row.at c.words-cell.result.now c.first_pointer-first.result c.words-cell.ensures.words c.first_pointer-first.ensures.word)) references
 
 pub returns-then-cell-eq0-clause-spot : goal.returns-then-cell-eq0-clause-spot
 returns-then-cell-eq0-clause-spot c =
     let h = c.args.spaces.now.spaces in
     let qs = chunks_from h (length (cells_of h)) (link_at h c.args.from) in
-    let ended = search_ends h c.args.name c.args.from c.row.at c.row.left c.row.empty c.first_empty-empty.result c.cell-cell.result c.first_pointer-first.result
-    c.cell-cell.ensures.words c.first_pointer-first.ensures.word c.row.invariant (sym c.in_default.is ∙ c.position_of.ensures.position) c.first_empty-empty.ensures c.if-cell-eq0.true in
+    let ended = search_ends h c.args.name c.args.from c.row.at c.row.left c.row.empty c.first_empty-empty.result c.words-cell.result.now c.first_pointer-first.result
+    c.words-cell.ensures.words c.first_pointer-first.ensures.word c.row.invariant (sym c.in_default.is ∙ c.position_of.ensures.position) c.first_empty-empty.ensures c.if-cell-eq0.true in
     subst (IsSpotIn h c.args.name c.args.from qs) (sym c.spot_for_new.ensures)
     (spot_is h c.args.name c.args.from c.row.at qs c.first_empty-empty.result ended.0 ended.1 ended.2)
 
 pub row-preserved : goal.row-preserved
 row-preserved c =
     let h = c.args.spaces.now.spaces in
-    let on = search_goes_on h c.args.name c.args.from c.row.at c.row.left c.row.empty c.first_empty-empty.result c.cell-cell.result c.first_pointer-first.result
-    c.cell-cell.ensures.words c.first_pointer-first.ensures.word c.row.invariant (sym c.in_default.is ∙ c.position_of.ensures.position) c.first_empty-empty.ensures
+    let on = search_goes_on h c.args.name c.args.from c.row.at c.row.left c.row.empty c.first_empty-empty.result c.words-cell.result.now c.first_pointer-first.result
+    c.words-cell.ensures.words c.first_pointer-first.ensures.word c.row.invariant (sym c.in_default.is ∙ c.position_of.ensures.position) c.first_empty-empty.ensures
     c.if-cell-eq0.false c.place_of-at.result c.place_of-at.ensures in
     on.1

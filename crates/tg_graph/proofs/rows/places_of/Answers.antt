@@ -17,22 +17,22 @@ push_names-requires c =
     let h = c.args.spaces.now.spaces in
     let references : All (IsReference h) (references_of (cell_at h c.row.at)) =
     references_at h (table_list c.args.spaces.now c.cells-left.ensures.table) [] c.requires.sound c.row.at c.row.invariant.row.held in
-    subst (All (IsReference h)) (sym (slice_is h c.row.at c.cell-cell.result c.first_pointer-first.result c.cell-cell.ensures.words c.first_pointer-first.ensures.word)) references
+    subst (All (IsReference h)) (sym (slice_is h c.row.at c.words-cell.result.now c.first_pointer-first.result c.words-cell.ensures.words c.first_pointer-first.ensures.word)) references
 
 pub returns-then-cell-eq0-clause-names : goal.returns-then-cell-eq0-clause-names
 returns-then-cell-eq0-clause-names c =
     let h = c.args.spaces.now.spaces in
-    (list_ends h c.args.from c.row.at c.row.left c.row.names.items c.push_names.new.names.items c.row.cells.items c.push.new.self.items c.cell-cell.result c.first_pointer-first.result
-    c.cell-cell.ensures.words c.first_pointer-first.ensures.word c.row.invariant c.in_ok-push_names.ensures c.in_ok-push.ensures.items c.if-cell-eq0.true).0
+    (list_ends h c.args.from c.row.at c.row.left c.row.names.items c.push_names.new.names.items c.row.cells.items c.push.new.self.items c.words-cell.result.now c.first_pointer-first.result
+    c.words-cell.ensures.words c.first_pointer-first.ensures.word c.row.invariant c.in_ok-push_names.ensures c.in_ok-push.ensures.items c.if-cell-eq0.true).0
 
 pub returns-then-cell-eq0-clause-cells : goal.returns-then-cell-eq0-clause-cells
 returns-then-cell-eq0-clause-cells c =
     let h = c.args.spaces.now.spaces in
-    (list_ends h c.args.from c.row.at c.row.left c.row.names.items c.push_names.new.names.items c.row.cells.items c.push.new.self.items c.cell-cell.result c.first_pointer-first.result
-    c.cell-cell.ensures.words c.first_pointer-first.ensures.word c.row.invariant c.in_ok-push_names.ensures c.in_ok-push.ensures.items c.if-cell-eq0.true).1
+    (list_ends h c.args.from c.row.at c.row.left c.row.names.items c.push_names.new.names.items c.row.cells.items c.push.new.self.items c.words-cell.result.now c.first_pointer-first.result
+    c.words-cell.ensures.words c.first_pointer-first.ensures.word c.row.invariant c.in_ok-push_names.ensures c.in_ok-push.ensures.items c.if-cell-eq0.true).1
 
 pub row-preserved : goal.row-preserved
 row-preserved c =
     let h = c.args.spaces.now.spaces in
-    (list_goes_on h c.args.from c.row.at c.row.left c.row.names.items c.push_names.new.names.items c.row.cells.items c.push.new.self.items c.cell-cell.result c.first_pointer-first.result
-    c.cell-cell.ensures.words c.first_pointer-first.ensures.word c.row.invariant c.in_ok-push_names.ensures c.in_ok-push.ensures.items c.if-cell-eq0.false c.place_of-at.result c.place_of-at.ensures).1
+    (list_goes_on h c.args.from c.row.at c.row.left c.row.names.items c.push_names.new.names.items c.row.cells.items c.push.new.self.items c.words-cell.result.now c.first_pointer-first.result
+    c.words-cell.ensures.words c.first_pointer-first.ensures.word c.row.invariant c.in_ok-push_names.ensures c.in_ok-push.ensures.items c.if-cell-eq0.false c.place_of-at.result c.place_of-at.ensures).1
