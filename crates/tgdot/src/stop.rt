@@ -8,7 +8,7 @@ use thiserror::Error;
 
 /// Why the program ends early: the line on standard error, after its name.
 #[derive(Debug, Drop, Error)]
-pub enum DrawFault {
+pub enum Stop {
     /// There was no memory for a list, a line or the graph.
     #[error("out of memory")]
     OutOfMemory,
@@ -29,32 +29,31 @@ pub enum DrawFault {
     Stream(#[from] io::Error),
 }
 
-impl From<AllocError> for DrawFault {
-    fn from(_error: AllocError) -> DrawFault {
-        DrawFault::OutOfMemory
+impl From<AllocError> for Stop {
+    fn from(_error: AllocError) -> Stop {
+        Stop::OutOfMemory
     }
 }
 
-impl<T: Drop> From<AllocFailed<T>> for DrawFault {
+impl<T: Drop> From<AllocFailed<T>> for Stop {
     // What there was no memory for is dropped.
-    fn from(_refused: AllocFailed<T>) -> DrawFault {
-        DrawFault::OutOfMemory
+    fn from(_refused: AllocFailed<T>) -> Stop {
+        Stop::OutOfMemory
     }
 }
 
-impl From<ModelFault> for DrawFault {
+impl From<ModelFault> for Stop {
     // A name that is no worker's is looked for before, so it was memory.
-    fn from(_fault: ModelFault) -> DrawFault {
-        DrawFault::OutOfMemory
+    fn from(_fault: ModelFault) -> Stop {
+        Stop::OutOfMemory
     }
 }
 
-impl DrawFault {
+impl Stop {
     /// The exit status: 2 where the words of the command line are at fault, else 1.
     pub fn status(&self) -> u8 {
         match self {
-            DrawFault::BadWords | DrawFault::Stock(StockFault::BadStock) | DrawFault::Opening(_) =>
-                2,
+            Stop::BadWords | Stop::Stock(StockFault::BadStock) | Stop::Opening(_) => 2,
             _ => 1,
         }
     }
