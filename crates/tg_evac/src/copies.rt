@@ -18,9 +18,12 @@ use tg_block::{Block, WORDS};
 use tg_space::{Adoption, Kind, Spaces};
 use tg_word::place_of;
 
-// How many won cells are read before the first of them is scanned. Memory answers for them side by side then, where they lie
-// apart from one another.
+// How many won cells are read before the first of them is scanned, where the heap is large. Memory answers for them side by side
+// then, though they lie apart from one another.
 const NEAR: usize = 8;
+
+// How many cells a heap has that is large: more than a processor keeps at hand.
+const FAR: u64 = 1 << 17;
 
 /// The copies of won cells, in the order in which those were won.
 #[derive(Drop)]
@@ -88,6 +91,62 @@ impl Copies {
 /// so.
 #[inline(always)]
 pub fn scan<C: Claimer>(
+    claimer: &mut C,
+    spaces: &Spaces,
+    kind: Kind,
+    copies: &mut Copies,
+) -> Result<(), CollectFault>
+    requires pointers { HavePointers spaces.now.spaces }
+    requires kind { (C.walked claimer.old).kind ≡ kind }
+    requires whole { (C.walked claimer.old).cells ≡ length (cells_of spaces.now.spaces) }
+    requires kept { (C.walked claimer.old).kept ≡ kept_blocks (C.walked claimer.old).kind spaces.now.spaces }
+    requires traced { (roots : List RootOf) × AreTraced (C.walked claimer.old).kind spaces.now.spaces roots (C.walked claimer.old).won }
+    requires scanned { AreScanned spaces.now.spaces (C.walked claimer.old) (C.knows claimer.old) copies.now.scanned copies.now.aged copies.now.old }
+    ensures traced { (roots : List RootOf) → AreTraced (C.walked claimer.old).kind spaces.now.spaces roots (C.walked claimer.old).won → AreTraced (C.walked claimer.old).kind spaces.now.spaces roots (C.walked claimer.new).won }
+    ensures keeps { KeepsWins (C.walked claimer.old) (C.walked claimer.new) }
+    ensures grows { KnowsMore (C.knows claimer.old) (C.knows claimer.new) }
+    ensures scanned { OnOk result (AreScanned spaces.now.spaces (C.walked claimer.new) (C.knows claimer.new) (length (C.walked claimer.new).won) copies.exit.now.aged copies.exit.now.old) }
+    ensures ended { OnOk result (copies.exit.now.scanned ≡ length (C.walked claimer.new).won) }
+    ensures full { IfErr result (λ fault. fault ≡ CollectFault.HeapFull → C.is_full claimer.new) }
+{
+    if spaces.cells() < FAR {
+        return scan_each(claimer, spaces, kind, copies);
+    }
+    scan_apart(claimer, spaces, kind, copies)
+}
+
+// Scans the won cells that were not, each where it stands.
+#[inline(always)]
+fn scan_each<C: Claimer>(
+    claimer: &mut C,
+    spaces: &Spaces,
+    kind: Kind,
+    copies: &mut Copies,
+) -> Result<(), CollectFault>
+    requires pointers { HavePointers spaces.now.spaces }
+    requires kind { (C.walked claimer.old).kind ≡ kind }
+    requires whole { (C.walked claimer.old).cells ≡ length (cells_of spaces.now.spaces) }
+    requires kept { (C.walked claimer.old).kept ≡ kept_blocks (C.walked claimer.old).kind spaces.now.spaces }
+    requires traced { (roots : List RootOf) × AreTraced (C.walked claimer.old).kind spaces.now.spaces roots (C.walked claimer.old).won }
+    requires scanned { AreScanned spaces.now.spaces (C.walked claimer.old) (C.knows claimer.old) copies.now.scanned copies.now.aged copies.now.old }
+    ensures traced { (roots : List RootOf) → AreTraced (C.walked claimer.old).kind spaces.now.spaces roots (C.walked claimer.old).won → AreTraced (C.walked claimer.old).kind spaces.now.spaces roots (C.walked claimer.new).won }
+    ensures keeps { KeepsWins (C.walked claimer.old) (C.walked claimer.new) }
+    ensures grows { KnowsMore (C.knows claimer.old) (C.knows claimer.new) }
+    ensures scanned { OnOk result (AreScanned spaces.now.spaces (C.walked claimer.new) (C.knows claimer.new) (length (C.walked claimer.new).won) copies.exit.now.aged copies.exit.now.old) }
+    ensures ended { OnOk result (copies.exit.now.scanned ≡ length (C.walked claimer.new).won) }
+    ensures full { IfErr result (λ fault. fault ≡ CollectFault.HeapFull → C.is_full claimer.new) }
+{
+    while copies.scanned < claimer.len() {
+        let cell = claimer.win(copies.scanned).cell;
+        scan_next(claimer, spaces, kind, copies, spaces.numbered_words(cell))?;
+        copies.scanned += 1;
+    }
+    Ok(())
+}
+
+// Scans the won cells that were not, some of which are read before the first of them is scanned.
+#[inline(always)]
+fn scan_apart<C: Claimer>(
     claimer: &mut C,
     spaces: &Spaces,
     kind: Kind,

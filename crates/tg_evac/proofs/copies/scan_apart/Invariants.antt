@@ -2,7 +2,7 @@ use Rattle.std.proofs.Common.{◌-◌, List}
 use Rattle.tg_space.specs.declared.spaces.Root.{Root}
 use Rattle.tg_evac.specs.Claims.{AreTraced}
 use Rattle.tg_evac.specs.Claimers.{AreScanned, KeepsWins, KnowsMore}
-use Rattle.tg_evac.proofs.copies.scan.Given as goal
+use Rattle.tg_evac.proofs.copies.scan_apart.Given as goal
 
 abbrev pub invariant-loop-copies : goal.invariant-loop-copies
 invariant-loop-copies g l =

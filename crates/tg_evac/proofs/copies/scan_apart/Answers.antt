@@ -3,7 +3,7 @@ use Rattle.tg_space.specs.declared.spaces.Kind.{Kind}
 use Rattle.tg_evac.specs.declared.win.Win.{Win}
 use Rattle.tg_evac.specs.Claims.{AreTraced}
 use Rattle.tg_evac.proofs.Walking.{wins_none, wins_then}
-use Rattle.tg_evac.proofs.copies.scan.Goals as goal
+use Rattle.tg_evac.proofs.copies.scan_apart.Goals as goal
 
 pub loop-copies-init : goal.loop-copies-init
 loop-copies-init g c =
