@@ -1,6 +1,7 @@
 pub mod Claiming
 pub mod Counting
 pub mod Chunks
+pub mod Reading
 pub mod Reasons
 pub mod Walking
 pub mod Pieces

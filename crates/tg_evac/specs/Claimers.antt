@@ -1,5 +1,5 @@
 -- What a walk over the cells sees of a table of claims, whatever the table is.
-use Rattle.std.specs.Prelude.{◌≡◌, ℕ, ◌≤◌, ◌<◌, ⊤, List, ◌++◌, length, map, take}
+use Rattle.std.specs.Prelude.{◌≡◌, ℕ, ◌+◌, ◌≤◌, ◌<◌, ⊤, List, [], ◌++◌, length, map, slice_index_or, take}
 use Rattle.std.specs.List.{All, Contains}
 use Rattle.tg_word.specs.declared.Place.{Place}
 use Rattle.tg_word.specs.Word.{place_in}
@@ -63,6 +63,11 @@ pub record AreScanned {Fixed : Type 0} (h : SpaceList) (w : Walked Fixed) (knows
   pub old_long : length old ≡ length (won_in 0 (take scanned w.won))
   pub in_aged : (to : ℕ → Place) → knows to → aged ≡ copies_to 1 w.kind h to (take scanned w.won)
   pub in_old : (to : ℕ → Place) → knows to → old ≡ copies_to 0 w.kind h to (take scanned w.won)
+
+-- so many pairs from the k-th on are there, and these are the words of their cells
+pub record AreRead (h : SpaceList) (won : List Win) (k count : ℕ) (near : List (List ℕ)) : Type 0 where
+  pub within : k + count ≤ length won
+  pub words : (i : ℕ) → i < count → slice_index_or near i [] ≡ cell_numbered h (win_at won (k + i)).cell
 
 -- ---- the plain table
 

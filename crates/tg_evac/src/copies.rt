@@ -3,9 +3,10 @@ ghost use Rattle.std.specs.Prelude.{◌≡◌, ℕ, ◌+◌, ◌<◌, ◌≤◌,
 ghost use Rattle.tg_space.specs.SpaceList.{IsSpace, cells_of};
 ghost use Rattle.tg_space.specs.SpaceTable.{kept_blocks};
 ghost use Rattle.tg_space.specs.declared.root.Root.{Root as RootOf};
-ghost use Rattle.tg_evac.specs.Claims.{AreTraced, HavePointers, won_in};
+ghost use Rattle.tg_space.specs.Targets.{cell_numbered};
+ghost use Rattle.tg_evac.specs.Claims.{AreTraced, HavePointers, win_at, won_in};
 ghost use Rattle.tg_evac.specs.Copies.{HoldCells};
-ghost use Rattle.tg_evac.specs.Claimers.{AreScanned, KeepsWins, KnowsMore};
+ghost use Rattle.tg_evac.specs.Claimers.{AreRead, AreScanned, KeepsWins, KnowsMore};
 
 use crate::claimer::Claimer;
 use crate::fault::CollectFault;
@@ -16,6 +17,13 @@ use std::alloc::{AllocError, Global};
 use tg_block::{Block, WORDS};
 use tg_space::{Adoption, Kind, Spaces};
 use tg_word::place_of;
+
+// How many won cells are read before the first of them is scanned, where the heap is large. Memory answers for them side by side
+// then, though they lie apart from one another.
+const NEAR: usize = 8;
+
+// How many cells a heap has that is large: more than a processor keeps at hand.
+const FAR: u64 = 1 << 17;
 
 /// The copies of won cells, in the order in which those were won.
 #[derive(Drop)]
@@ -101,16 +109,15 @@ pub fn scan<C: Claimer>(
     ensures ended { OnOk result (copies.exit.now.scanned ≡ length (C.walked claimer.new).won) }
     ensures full { IfErr result (λ fault. fault ≡ CollectFault.HeapFull → C.is_full claimer.new) }
 {
-    while copies.scanned < claimer.len() {
-        scan_next(claimer, spaces, kind, copies)?;
-        copies.scanned += 1;
+    if spaces.cells() < FAR {
+        return scan_each(claimer, spaces, kind, copies);
     }
-    Ok(())
+    scan_apart(claimer, spaces, kind, copies)
 }
 
-// Scans the next won cell.
+// Scans the won cells that were not, each where it stands.
 #[inline(always)]
-fn scan_next<C: Claimer>(
+fn scan_each<C: Claimer>(
     claimer: &mut C,
     spaces: &Spaces,
     kind: Kind,
@@ -122,7 +129,119 @@ fn scan_next<C: Claimer>(
     requires kept { (C.walked claimer.old).kept ≡ kept_blocks (C.walked claimer.old).kind spaces.now.spaces }
     requires traced { (roots : List RootOf) × AreTraced (C.walked claimer.old).kind spaces.now.spaces roots (C.walked claimer.old).won }
     requires scanned { AreScanned spaces.now.spaces (C.walked claimer.old) (C.knows claimer.old) copies.now.scanned copies.now.aged copies.now.old }
+    ensures traced { (roots : List RootOf) → AreTraced (C.walked claimer.old).kind spaces.now.spaces roots (C.walked claimer.old).won → AreTraced (C.walked claimer.old).kind spaces.now.spaces roots (C.walked claimer.new).won }
+    ensures keeps { KeepsWins (C.walked claimer.old) (C.walked claimer.new) }
+    ensures grows { KnowsMore (C.knows claimer.old) (C.knows claimer.new) }
+    ensures scanned { OnOk result (AreScanned spaces.now.spaces (C.walked claimer.new) (C.knows claimer.new) (length (C.walked claimer.new).won) copies.exit.now.aged copies.exit.now.old) }
+    ensures ended { OnOk result (copies.exit.now.scanned ≡ length (C.walked claimer.new).won) }
+    ensures full { IfErr result (λ fault. fault ≡ CollectFault.HeapFull → C.is_full claimer.new) }
+{
+    while copies.scanned < claimer.len() {
+        let cell = claimer.win(copies.scanned).cell;
+        scan_next(claimer, spaces, kind, copies, spaces.numbered_words(cell))?;
+        copies.scanned += 1;
+    }
+    Ok(())
+}
+
+// Scans the won cells that were not, some of which are read before the first of them is scanned.
+#[inline(always)]
+fn scan_apart<C: Claimer>(
+    claimer: &mut C,
+    spaces: &Spaces,
+    kind: Kind,
+    copies: &mut Copies,
+) -> Result<(), CollectFault>
+    requires pointers { HavePointers spaces.now.spaces }
+    requires kind { (C.walked claimer.old).kind ≡ kind }
+    requires whole { (C.walked claimer.old).cells ≡ length (cells_of spaces.now.spaces) }
+    requires kept { (C.walked claimer.old).kept ≡ kept_blocks (C.walked claimer.old).kind spaces.now.spaces }
+    requires traced { (roots : List RootOf) × AreTraced (C.walked claimer.old).kind spaces.now.spaces roots (C.walked claimer.old).won }
+    requires scanned { AreScanned spaces.now.spaces (C.walked claimer.old) (C.knows claimer.old) copies.now.scanned copies.now.aged copies.now.old }
+    ensures traced { (roots : List RootOf) → AreTraced (C.walked claimer.old).kind spaces.now.spaces roots (C.walked claimer.old).won → AreTraced (C.walked claimer.old).kind spaces.now.spaces roots (C.walked claimer.new).won }
+    ensures keeps { KeepsWins (C.walked claimer.old) (C.walked claimer.new) }
+    ensures grows { KnowsMore (C.knows claimer.old) (C.knows claimer.new) }
+    ensures scanned { OnOk result (AreScanned spaces.now.spaces (C.walked claimer.new) (C.knows claimer.new) (length (C.walked claimer.new).won) copies.exit.now.aged copies.exit.now.old) }
+    ensures ended { OnOk result (copies.exit.now.scanned ≡ length (C.walked claimer.new).won) }
+    ensures full { IfErr result (λ fault. fault ≡ CollectFault.HeapFull → C.is_full claimer.new) }
+{
+    let mut near = [[0; WORDS]; NEAR];
+    while copies.scanned < claimer.len() {
+        scan_some(claimer, spaces, kind, copies, &mut near)?;
+    }
+    Ok(())
+}
+
+// Scans the next won cells, which are read first: one at least, and as many as there is room for.
+#[inline(always)]
+fn scan_some<C: Claimer>(
+    claimer: &mut C,
+    spaces: &Spaces,
+    kind: Kind,
+    copies: &mut Copies,
+    near: &mut [[u64; WORDS]; NEAR],
+) -> Result<(), CollectFault>
+    requires pointers { HavePointers spaces.now.spaces }
+    requires kind { (C.walked claimer.old).kind ≡ kind }
+    requires whole { (C.walked claimer.old).cells ≡ length (cells_of spaces.now.spaces) }
+    requires kept { (C.walked claimer.old).kept ≡ kept_blocks (C.walked claimer.old).kind spaces.now.spaces }
+    requires traced { (roots : List RootOf) × AreTraced (C.walked claimer.old).kind spaces.now.spaces roots (C.walked claimer.old).won }
+    requires scanned { AreScanned spaces.now.spaces (C.walked claimer.old) (C.knows claimer.old) copies.now.scanned copies.now.aged copies.now.old }
     requires next { copies.now.scanned < length (C.walked claimer.old).won }
+    ensures traced { (roots : List RootOf) → AreTraced (C.walked claimer.old).kind spaces.now.spaces roots (C.walked claimer.old).won → AreTraced (C.walked claimer.old).kind spaces.now.spaces roots (C.walked claimer.new).won }
+    ensures keeps { KeepsWins (C.walked claimer.old) (C.walked claimer.new) }
+    ensures grows { KnowsMore (C.knows claimer.old) (C.knows claimer.new) }
+    ensures scanned { OnOk result (AreScanned spaces.now.spaces (C.walked claimer.new) (C.knows claimer.new) copies.exit.now.scanned copies.exit.now.aged copies.exit.now.old) }
+    ensures further { OnOk result (copies.entry.now.scanned < copies.exit.now.scanned) }
+    ensures full { IfErr result (λ fault. fault ≡ CollectFault.HeapFull → C.is_full claimer.new) }
+{
+    let count = read_some(claimer, spaces, copies.scanned, near);
+    for i in 0..count {
+        let _ = claimer.len();
+        scan_next(claimer, spaces, kind, copies, &near[i])?;
+        copies.scanned += 1;
+    }
+    Ok(())
+}
+
+// Reads the won cells from the k-th on, as many as there is room for, and answers how many.
+#[inline(always)]
+fn read_some<C: Claimer>(
+    claimer: &C,
+    spaces: &Spaces,
+    k: usize,
+    near: &mut [[u64; WORDS]; NEAR],
+) -> usize
+    requires whole { (C.walked claimer.now).cells ≡ length (cells_of spaces.now.spaces) }
+    requires next { k < length (C.walked claimer.now).won }
+    ensures some { 0 < result }
+    ensures few { result ≤ 8 }
+    ensures read { AreRead spaces.now.spaces (C.walked claimer.now).won k result near.new }
+{
+    let count = (claimer.len() - k).min(NEAR);
+    for i in 0..count {
+        near[i] = *spaces.numbered_words(claimer.win(k + i).cell);
+    }
+    count
+}
+
+// Scans the next won cell, which has these words.
+#[inline(always)]
+fn scan_next<C: Claimer>(
+    claimer: &mut C,
+    spaces: &Spaces,
+    kind: Kind,
+    copies: &mut Copies,
+    words: &[u64; WORDS],
+) -> Result<(), CollectFault>
+    requires pointers { HavePointers spaces.now.spaces }
+    requires kind { (C.walked claimer.old).kind ≡ kind }
+    requires whole { (C.walked claimer.old).cells ≡ length (cells_of spaces.now.spaces) }
+    requires kept { (C.walked claimer.old).kept ≡ kept_blocks (C.walked claimer.old).kind spaces.now.spaces }
+    requires traced { (roots : List RootOf) × AreTraced (C.walked claimer.old).kind spaces.now.spaces roots (C.walked claimer.old).won }
+    requires scanned { AreScanned spaces.now.spaces (C.walked claimer.old) (C.knows claimer.old) copies.now.scanned copies.now.aged copies.now.old }
+    requires next { copies.now.scanned < length (C.walked claimer.old).won }
+    requires words { words.now ≡ cell_numbered spaces.now.spaces (win_at (C.walked claimer.old).won copies.now.scanned).cell }
     requires room { (space : ℕ) → space < 2 → length (won_in space (C.walked claimer.old).won) ≤ 2 ^ 26 }
     ensures traced { (roots : List RootOf) → AreTraced (C.walked claimer.old).kind spaces.now.spaces roots (C.walked claimer.old).won → AreTraced (C.walked claimer.old).kind spaces.now.spaces roots (C.walked claimer.new).won }
     ensures keeps { KeepsWins (C.walked claimer.old) (C.walked claimer.new) }
@@ -133,13 +252,7 @@ fn scan_next<C: Claimer>(
 {
     let win = claimer.win(copies.scanned);
     let straight = is_in_old(kind, place_of(win.word));
-    let words = image(
-        claimer,
-        spaces,
-        kind,
-        spaces.numbered_words(win.cell),
-        straight,
-    )?;
-    copies.push(straight, words)?;
+    let copy = image(claimer, spaces, kind, words, straight)?;
+    copies.push(straight, copy)?;
     Ok(())
 }

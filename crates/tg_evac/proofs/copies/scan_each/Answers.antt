@@ -1,10 +1,11 @@
-use Rattle.std.proofs.Common.{◌≡◌, ℕ, ◌+◌, sym, ap, subst}
+use Rattle.std.proofs.Common.{◌≡◌, ℕ, ◌+◌, sym, ap, subst, ◌∙◌}
+use Rattle.tg_space.specs.Targets.{cell_numbered}
 use Rattle.tg_space.specs.declared.kind.Kind.{Kind}
 use Rattle.tg_evac.specs.declared.win.Win.{Win}
 use Rattle.tg_evac.specs.Claims.{AreTraced}
 use Rattle.tg_evac.specs.Claimers.{AreScanned}
 use Rattle.tg_evac.proofs.Walking.{wins_none, wins_then}
-use Rattle.tg_evac.proofs.copies.scan.Goals as goal
+use Rattle.tg_evac.proofs.copies.scan_each.Goals as goal
 
 pub loop-copies-init : goal.loop-copies-init
 loop-copies-init g c =
@@ -37,3 +38,6 @@ pub scan_next-requires-clause-traced : goal.scan_next-requires-clause-traced
 scan_next-requires-clause-traced g c =
     let m = g.C.Claimer in let h = c.args.spaces.now.spaces in let roots = c.requires.traced.0 in
     (roots, subst (λ (k : Kind). AreTraced k h roots (m.walked c.loop-copies.claimer).won) (sym c.loop-copies.invariant.keeps.same_kind) (c.loop-copies.invariant.traced roots c.requires.traced.1))
+
+pub scan_next-requires-clause-words : goal.scan_next-requires-clause-words
+scan_next-requires-clause-words g c = c.numbered_words.ensures.words ∙ ap (λ (w : Win). cell_numbered c.args.spaces.now.spaces w.cell) c.win-cell.ensures.win

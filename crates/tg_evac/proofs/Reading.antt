@@ -1,0 +1,32 @@
+-- Won cells that are read before they are scanned.
+use Rattle.std.proofs.Common.{◌≡◌, ℕ, ◌<◌, ◌≤◌, ◌+◌, List, [], length, get_or, set, sym, ap, subst, arith, ◌∙◌, ⊎_elim}
+use Rattle.std.proofs.lemmas.Bool.{cases_lt}
+use Rattle.std.proofs.lemmas.List.{get_or_append_left, get_or-set_same, get_or-set_other, length-append}
+use Rattle.tg_space.specs.SpaceList.{SpaceList}
+use Rattle.tg_space.specs.Targets.{cell_numbered}
+use Rattle.tg_evac.specs.declared.win.Win.{Win}
+use Rattle.tg_evac.specs.Claims.{win_at}
+use Rattle.tg_evac.specs.Claimers.{AddsWins, AreRead, Walked}
+
+-- one more row of words that are as they should be
+pub more_words : (rows : List (List ℕ)) (i : ℕ) (words : List ℕ) (wanted : ℕ → List ℕ) → i < length rows → ((j : ℕ) → j < i → get_or rows j [] ≡ wanted j) → words ≡ wanted i → (j : ℕ) → j < i + 1 → get_or (set rows i words) j [] ≡ wanted j
+more_words rows i words wanted inside before here j below =
+    ⊎_elim
+    (λ (low : j < i). get_or-set_other rows i j words [] (λ same. omega (arith, low, same)) ∙ before j low)
+    (λ (high : i ≤ j).
+    let same : i ≡ j = omega (arith, high, below) in
+    subst (λ (n : ℕ). get_or (set rows i words) n [] ≡ wanted n) same (get_or-set_same rows i words [] inside ∙ here))
+    (cases_lt j i)
+
+-- what was read of the pairs stays right while more are won
+module _ (h : SpaceList) {Fixed : Type 0} {reason : Win → Type 0} {a b : Walked Fixed} (adds : AddsWins reason a b) (k count : ℕ) (near : List (List ℕ)) (read : AreRead h a.won k count near) (i : ℕ) (more : i < count) where
+  inside : k + i < length a.won
+  inside = omega (arith, read.within, more)
+
+  pub still_inside : k + i < length b.won
+  still_inside = omega (arith, inside, ap (λ (l : List Win). length l) adds.is ∙ length-append a.won adds.added)
+
+  pub still_read : get_or near i [] ≡ cell_numbered h (win_at b.won (k + i)).cell
+  still_read =
+      read.words i more ∙
+      sym (ap (λ (l : List Win). cell_numbered h (win_at l (k + i)).cell) adds.is ∙ ap (λ (w : Win). cell_numbered h w.cell) (get_or_append_left a.won adds.added (win_at [] 0) (k + i) inside))

@@ -1,0 +1,37 @@
+use Rattle.std.proofs.Common.{sym, subst}
+use Rattle.tg_space.specs.declared.spaces.Kind.{Kind}
+use Rattle.tg_evac.specs.declared.win.Win.{Win}
+use Rattle.tg_evac.specs.Claims.{AreTraced}
+use Rattle.tg_evac.proofs.Walking.{wins_none, wins_then}
+use Rattle.tg_evac.proofs.copies.scan_apart.Goals as goal
+
+pub loop-copies-init : goal.loop-copies-init
+loop-copies-init g c =
+    let m = g.C.Claimer in
+    record { traced = λ roots traced. traced; keeps = wins_none (λ (w : Win). Unit {0}) (m.walked c.args.claimer.now); grows = λ to agrees. agrees; scanned = c.requires.scanned }
+
+pub returns-in_err-scan_some-clause-traced : goal.returns-in_err-scan_some-clause-traced
+returns-in_err-scan_some-clause-traced g c roots traced =
+    let m = g.C.Claimer in let h = c.args.spaces.now.spaces in
+    subst (λ (k : Kind). AreTraced k h roots (m.walked c.loop-copies.claimer).won → AreTraced k h roots (m.walked c.scan_some.new.claimer).won) c.loop-copies.invariant.keeps.same_kind
+    (c.scan_some.ensures.traced roots) (c.loop-copies.invariant.traced roots traced)
+
+pub returns-in_err-scan_some-clause-keeps : goal.returns-in_err-scan_some-clause-keeps
+returns-in_err-scan_some-clause-keeps g c = wins_then c.loop-copies.invariant.keeps c.scan_some.ensures.keeps
+
+pub loop-copies-preserved : goal.loop-copies-preserved
+loop-copies-preserved g c =
+    let m = g.C.Claimer in let h = c.args.spaces.now.spaces in
+    record {
+      traced = λ roots traced.
+          subst (λ (k : Kind). AreTraced k h roots (m.walked c.loop-copies.claimer).won → AreTraced k h roots (m.walked c.scan_some.new.claimer).won) c.loop-copies.invariant.keeps.same_kind
+          (c.scan_some.ensures.traced roots) (c.loop-copies.invariant.traced roots traced);
+      keeps = wins_then c.loop-copies.invariant.keeps c.scan_some.ensures.keeps;
+      grows = λ to agrees. c.loop-copies.invariant.grows to (c.scan_some.ensures.grows to agrees);
+      scanned = c.in_ok-scan_some.ensures.scanned;
+    }
+
+pub scan_some-requires-clause-traced : goal.scan_some-requires-clause-traced
+scan_some-requires-clause-traced g c =
+    let m = g.C.Claimer in let h = c.args.spaces.now.spaces in let roots = c.requires.traced.0 in
+    (roots, subst (λ (k : Kind). AreTraced k h roots (m.walked c.loop-copies.claimer).won) (sym c.loop-copies.invariant.keeps.same_kind) (c.loop-copies.invariant.traced roots c.requires.traced.1))
