@@ -25,6 +25,7 @@ pub(crate) struct Replies {
 // Decides a command of a worker, and performs it where it is served. For each graph that the heap stands for the
 // reply is that graph's, and then the heap stands for the graph after the command. Where it is refused, the heap is
 // as it was.
+#[inline(always)]
 pub(crate) fn answer_command<P: Payload>(
     alloc: Global,
     heap: &mut Heap<P>,
@@ -69,6 +70,7 @@ fn denied(denial: &Denial) -> Replies
 }
 
 // Performs a command that changes nothing. Its reply is copied, which may be refused.
+#[inline(always)]
 fn look<P: Payload>(
     alloc: Global,
     heap: &mut Heap<P>,
@@ -97,6 +99,7 @@ fn look<P: Payload>(
 }
 
 // Performs a command whose reply says no more than that it is done.
+#[inline(always)]
 fn change<P: Payload>(
     heap: &mut Heap<P>,
     worker: u64,

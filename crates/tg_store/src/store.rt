@@ -1,5 +1,5 @@
 //! The store and its calls.
-ghost use Rattle.std.specs.Prelude.{◌≡◌, ◌≢◌, ◌↔◌, ◌⊎◌, ◌≤◌, ◌<◌, ◌+◌, ℕ, [], Err, Ok, Some, IfOk, IfErr, IfSome, IsSome, IsErrAnd, OnOk, OnErr, MatchOption, length};
+ghost use Rattle.std.specs.Prelude.{◌≡◌, ◌≢◌, ◌↔◌, ◌⊎◌, ◌≤◌, ◌<◌, ◌+◌, ℕ, [], Err, Ok, Some, IfOk, IfErr, IfSome, IsSome, IsTrue, IsErrAnd, OnOk, OnErr, MatchOption, length};
 ghost use Rattle.tg_model.specs.Rules.{step};
 ghost use Rattle.tg_store.specs.Faults.{IsFirstDifference};
 
@@ -17,6 +17,7 @@ use tg_payload::{Draft, Payload};
 use tg_rights::Label;
 use tg_rules::readable;
 use tg_space::{Kind, Limits, Root, Spaces};
+use tg_word::OLD;
 
 /// An object store with access control, over payloads that its callers hand in. Contracts see it as a `StoreState`,
 /// and tell each call by the protection graph that this stands for: that of its opening, after the deeds of its journal.
@@ -132,6 +133,7 @@ impl<P: Payload> Store<P> {
     /// `NoSuchWorker` is answered exactly where no worker has the name, and looked for first; `HeapFull` only where the
     /// command is allowed, a new reference needs a cell, and the nursery of the worker has none left and gets no more
     /// blocks; else `OutOfMemory` alone. After a fault the store is as it was, with no entry.
+    #[inline(always)]
     pub fn apply(&mut self, worker: u64, command: Command) -> Result<Reply, ApplyFault>
         ensures entry { IfOk result (λ reply. Enters self.old self.new worker (Deed.Plain command) reply) }
         ensures reply { (g : ProtectionGraph) → StandsFor self.old g → IfOk result (λ reply. reply ≡ answer_of g worker (Deed.Plain command)) }
@@ -244,6 +246,8 @@ impl<P: Payload> Store<P> {
     /// the blocks of Old, and adds no more than the younger cells in use need, or one more, since it fills blocks of Old and of
     /// Aged. No space has more blocks than `Limits` gives it, or else no more than it had.
     ///
+    /// A nursery collection that finds no younger cells takes no memory.
+    ///
     /// `HeapFull` is answered only where the cells in use that would be moved may not fit into the blocks that a space may
     /// have, and else `OutOfMemory` alone; the store is then as it was.
     pub fn collect(&mut self, kind: Kind) -> Result<u64, CollectFault>
@@ -261,9 +265,20 @@ impl<P: Payload> Store<P> {
         ensures opening { self.new.opening ≡ self.old.opening }
         ensures limits { self.new.heap.table.limits ≡ self.old.heap.table.limits }
     {
+        if kind == Kind::Nursery && self.is_all_old() {
+            return Ok(self.heap.vertices());
+        }
         let spare = self.take_spare();
         let copied = self.copy_reached(kind, spare)?;
         Ok(self.settle(kind, copied)?)
+    }
+
+    // Whether no space but Old has a block, so that a nursery collection has nothing to move.
+    fn is_all_old(&self) -> bool
+        ensures { IsTrue result ↔ (block_count self.now.heap.table.spaces ≡ length (space_of self.now.heap.table.spaces 0)) }
+    {
+        let spaces = self.heap.spaces();
+        spaces.blocks() == spaces.len(OLD)
     }
 
     // Copies what a collection of this kind keeps, first into the spare blocks.
