@@ -25,6 +25,7 @@ impl<P: Payload> Run<P> {
     ghost use Rattle.tg_script.specs.Run.{Handles, HandlesWith};
 
     /// What a line is answered. No line fails: where memory or room is wanting, that is the answer.
+    #[inline(always)]
     pub(crate) fn answer<C: Collector>(&mut self, collector: &C, line: Line) -> Answer
         requires ready { C.Ready }
         requires command { IsCommand line }
@@ -39,6 +40,7 @@ impl<P: Payload> Run<P> {
         }
     }
 
+    #[inline(always)]
     fn apply(&mut self, worker: u64, command: Command) -> Answer
         ensures { Handles self.old (Line.Plain worker command) result self.new }
     {
@@ -70,6 +72,7 @@ impl<P: Payload> Run<P> {
     }
 
     // The first payload of the stock goes to the new vertex.
+    #[inline(always)]
     fn create(&mut self, worker: u64, label: Label) -> Answer
         ensures { Handles self.old (Line.Create worker label) result self.new }
     {
@@ -80,6 +83,7 @@ impl<P: Payload> Run<P> {
     }
 
     // Where no vertex is made, the payload is put back.
+    #[inline(always)]
     fn create_of(&mut self, worker: u64, label: Label, draft: Draft<P>) -> Answer
         requires { self.old.supply.front ≡ None }
         ensures { HandlesWith self.old draft (Line.Create worker label) result self.new }

@@ -270,6 +270,7 @@ fn run_commands<P: Payload, C: Collector, S: Source, K: Sink>(
 }
 
 // Answers the line, and writes the answer.
+#[inline(always)]
 fn run_line<P: Payload, C: Collector, K: Sink>(
     run: &mut Run<P>,
     collector: &C,

@@ -45,6 +45,7 @@ impl Script {
 
     /// The next line, or `None` at the end of the input, or else the first fault. What was put into the sink is finished before
     /// the source is asked for what it doesn't hold.
+    #[inline(always)]
     pub(crate) fn next<S: Source, K: Sink>(
         &mut self,
         source: &mut S,
@@ -73,6 +74,7 @@ impl Script {
     }
 
     // The line in the buffer, if it is one that may stand here.
+    #[inline(always)]
     fn take_line(&mut self) -> Result<Option<Line>, ScriptFault>
         requires { self.old.count + self.old.lines.room < 1048576 }
         ensures { TakesLine self.old result self.new }
@@ -91,6 +93,7 @@ impl Script {
 }
 
 // The line of these bytes, if it may stand here.
+#[inline(always)]
 fn standing_line(text: &[u8], workers: u64, opening: bool) -> Option<Line>
     ensures found { IfSome result (λ line. LineFits line × MayStand workers opening line × (text.now ≡ line_text line)) }
     ensures bad { IfNone result (IsBadText workers opening text.now) }
