@@ -1,6 +1,6 @@
 use Rattle.std.proofs.Common.{◌≡◌, ℕ, ◌+◌, ◌<◌, [], length, get_or, sym, ap, subst, arith}
 use Rattle.tg_space.specs.Targets.{cell_numbered}
-use Rattle.tg_space.specs.declared.spaces.Kind.{Kind}
+use Rattle.tg_space.specs.declared.kind.Kind.{Kind}
 use Rattle.tg_evac.specs.declared.win.Win.{Win}
 use Rattle.tg_evac.specs.Claims.{AreTraced, win_at}
 use Rattle.tg_evac.specs.Claimers.{AreScanned}
