@@ -162,6 +162,7 @@ fn spot_for_new(empty: Option<(Place, usize)>, last: Place) -> Spot
 
 /// The references of the row of an object: the name of each target with the label, in chain order. Answers only want
 /// of memory otherwise.
+#[inline(always)]
 pub(crate) fn edges_of(
     alloc: Global,
     spaces: &Spaces,
@@ -188,6 +189,7 @@ pub(crate) fn edges_of(
 }
 
 // Puts the edges of these references at the end.
+#[inline(always)]
 fn push_edges(
     spaces: &Spaces,
     words: &[u64],

@@ -128,6 +128,7 @@ pub fn readable<P: Payload>(heap: &Heap<P>, worker: u64, name: u64) -> Option<&P
 }
 
 // One vertex gets rights over another.
+#[inline(always)]
 fn add<P: Payload>(
     heap: &mut Heap<P>,
     worker: u64,
@@ -150,6 +151,7 @@ fn add<P: Payload>(
 }
 
 // Rights of a vertex are given up.
+#[inline(always)]
 fn remove<P: Payload>(heap: &mut Heap<P>, from: Vertex, name: u64, rights: Label) -> Reply
     requires { HasVertex heap.old from }
     ensures reply { result ≡ Reply.Done }
@@ -162,6 +164,7 @@ fn remove<P: Payload>(heap: &mut Heap<P>, from: Vertex, name: u64, rights: Label
 }
 
 // The state of a vertex.
+#[inline(always)]
 fn read<P: Payload>(heap: &Heap<P>, target: Vertex) -> Result<Reply, PerformFault>
     requires { HasVertex heap.now target }
     ensures reply { IfOk result (λ reply. reply ≡ Reply.Values (state_of ((content_of heap.now).value target.name))) }
@@ -171,6 +174,7 @@ fn read<P: Payload>(heap: &Heap<P>, target: Vertex) -> Result<Reply, PerformFaul
 }
 
 // The state of a vertex becomes that after a number is written.
+#[inline(always)]
 fn write<P: Payload>(heap: &mut Heap<P>, target: Vertex, number: u64) -> Result<Reply, PerformFault>
     requires { HasVertex heap.old target }
     ensures reply { IfOk result (λ reply. reply ≡ Reply.Done) }
@@ -185,6 +189,7 @@ fn write<P: Payload>(heap: &mut Heap<P>, target: Vertex, number: u64) -> Result<
 }
 
 // The edges of a vertex.
+#[inline(always)]
 fn list<P: Payload>(heap: &Heap<P>, from: Vertex) -> Result<Reply, PerformFault>
     requires { HasVertex heap.now from }
     ensures reply { IfOk result (IsReplyOn (content_of heap.now) from.name Command.List) }

@@ -14,6 +14,7 @@ pub(crate) struct Vertex {
 }
 
 /// The vertex of a worker.
+#[inline(always)]
 pub(crate) fn worker_of<P: Payload>(heap: &Heap<P>, worker: u64) -> Vertex
     requires { worker < length heap.now.workers }
     ensures name { result.name ≡ worker }

@@ -59,6 +59,7 @@ pub(crate) fn answer_command<P: Payload>(
 }
 
 // The reply to a command that is denied.
+#[inline(always)]
 fn denied(denial: &Denial) -> Replies
     ensures reply { result.reply ≡ Reply.Denied denial.now }
     ensures copy { result.copy ≡ Reply.Denied denial.now }
@@ -129,6 +130,7 @@ fn change<P: Payload>(
 }
 
 // Whether the command changes nothing where it is served.
+#[inline(always)]
 fn only_looks(command: &Command) -> bool
     ensures { IsTrue result ↔ OnlyLooks command.now }
 {

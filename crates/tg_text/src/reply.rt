@@ -23,6 +23,7 @@ pub fn write_reply<K: Sink>(sink: &mut K, answer: &Answer) -> Result<(), WriteFa
 }
 
 // The text, and then its line feed.
+#[inline(always)]
 fn write_in_parts<K: Sink>(sink: &mut K, answer: &Answer) -> Result<(), WriteFailed>
     ensures { Writes (K.taken sink.old) (K.failures sink.old) (answer_text answer.now) result (K.taken sink.new) (K.failures sink.new) }
 {
@@ -46,6 +47,7 @@ fn end_line<K: Sink>(sink: &mut K) -> Result<(), WriteFailed>
 }
 
 // The text without its line feed.
+#[inline(always)]
 fn write_told<K: Sink>(sink: &mut K, answer: &Answer) -> Result<(), WriteFailed>
     ensures { Writes (K.taken sink.old) (K.failures sink.old) (told_text answer.now) result (K.taken sink.new) (K.failures sink.new) }
 {
