@@ -9,7 +9,7 @@ use std::alloc::{AllocError, Global};
 use std::mem;
 use tg_block::Block;
 
-// As many spaces with no block.
+/// As many spaces with no block.
 pub fn empty_spaces(alloc: Global, count: usize) -> Result<Vec<Space>, AllocError>
     ensures { IfOk result (λ spaces. spaces.items ≡ replicate count []) }
 {
@@ -20,7 +20,7 @@ pub fn empty_spaces(alloc: Global, count: usize) -> Result<Vec<Space>, AllocErro
     Ok(spaces)
 }
 
-// Old is followed by these blocks, Aged is the other ones, and every nursery has none. The answer is the blocks that Aged had.
+/// Old is followed by these blocks, Aged is the other ones, and every nursery has none. The answer is the blocks that Aged had.
 pub fn put_behind(
     alloc: Global,
     spaces: &mut [Space],
@@ -40,7 +40,7 @@ pub fn put_behind(
     Ok(emptied)
 }
 
-// Old is these blocks, and every other space has none. The answer is the blocks that Old had.
+/// Old is these blocks, and every other space has none. The answer is the blocks that Old had.
 pub fn put_alone(alloc: Global, spaces: &mut [Space], old: Space) -> Vec<Block>
     requires { 2 ≤ length spaces.old }
     ensures adopted { spaces.new ≡ adopted Kind.Full spaces.old [] old }
@@ -72,7 +72,7 @@ fn empty_all(alloc: Global, spaces: &mut [Space])
     }
 }
 
-// Counts the blocks before each space, and at last all of them.
+/// Counts the blocks before each space, and at last all of them.
 pub fn count_blocks(spaces: &[Space], starts: &mut [u64])
     requires few { length spaces.now ≤ 66 }
     requires room { length starts.old ≡ length spaces.now + 1 }

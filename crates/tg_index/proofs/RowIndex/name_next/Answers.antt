@@ -1,6 +1,4 @@
-use Rattle.std.proofs.Common.{◌≡◌, ◌∙◌, ◌+◌, ◌<◌, Some, cond, map, nat_eq, ap, refl, sym, subst, arith}
-use Rattle.std.specs.BinaryHeap.{heap_items}
-use Rattle.std.specs.declared.cmp.Reverse.{Reverse}
+use Rattle.std.proofs.Common.{◌∙◌, ◌+◌, Some, cond, nat_eq, ap, refl}
 use Rattle.tg_index.specs.Slots.{Slots, place_number}
 use Rattle.tg_index.proofs.SlotLemmas.{named_next}
 use Rattle.tg_index.proofs.RowIndex.name_next.Goals as goal

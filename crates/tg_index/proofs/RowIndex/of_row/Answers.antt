@@ -1,5 +1,5 @@
-use Rattle.std.proofs.Common.{◌≡◌, ◌∙◌, ◌<◌, ◌+◌, None, Option, ℕ, length, get_or, take, refl, ap, sym, subst, arith}
-use Rattle.tg_index.specs.Slots.{IsIndexOf, PutsAt, listed_row}
+use Rattle.std.proofs.Common.{◌≡◌, ◌∙◌, ◌+◌, None, get_or, take, refl, ap, sym, subst, arith}
+use Rattle.tg_index.specs.Slots.{PutsAt, listed_row}
 use Rattle.tg_index.proofs.SlotLemmas.{listed_absent, listed_next}
 use Rattle.tg_index.proofs.RowIndex.of_row.Goals as goal
 
