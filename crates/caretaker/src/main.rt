@@ -7,27 +7,27 @@
 //! `main` makes the payloads, in boxes, and all that is done with them is generic in the payload.
 #![tactic(auto)]
 
-mod stop;
+mod fault;
 mod story;
 mod tell;
 
+use fault::StoryFault;
 use std::process::ExitCode;
-use stop::Stop;
 use story::{Boxes, run_story};
 use tg_payload::{CellPayload, PayloadBox, SumPayload};
 
 fn main(rt: HostRuntime) -> ExitCode {
     match run_boxed(&rt) {
         Ok(()) => ExitCode::SUCCESS,
-        Err(stop) => {
-            let _ = eprintln!(rt; "caretaker: {stop}");
+        Err(fault) => {
+            let _ = eprintln!(rt; "caretaker: {fault}");
             ExitCode::FAILURE
         }
     }
 }
 
 // Makes the boxes: a cell with 0 for each worker, and a document that adds up what is written to it, from 40 on.
-fn run_boxed(rt: &HostRuntime) -> Result<(), Stop> {
+fn run_boxed(rt: &HostRuntime) -> Result<(), StoryFault> {
     let alloc = rt.alloc();
     let caretaker: PayloadBox = Box::new(alloc, CellPayload::new(0))?;
     let visitor: PayloadBox = Box::new(alloc, CellPayload::new(0))?;

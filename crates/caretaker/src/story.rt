@@ -7,7 +7,7 @@ ghost use Rattle.std.specs.Prelude.{◌≡◌, IfErr, IfOk, OnOk, length};
 ghost use Rattle.tg_journal.specs.History.{IsAuditFault, IsLegal};
 ghost use Rattle.tg_model.specs.Opened.{start_of};
 
-use crate::stop::Stop;
+use crate::fault::StoryFault;
 use crate::tell::tell_reply;
 use std::alloc::Global;
 use tg_journal::{AuditFault, Entry, audit};
@@ -40,7 +40,10 @@ pub struct Boxes<P: Payload> {
 }
 
 /// Opens a store, tells the story in it, and audits its journal. Each step is a line on standard output.
-pub fn run_story<P: Payload, R: Print + AllocGlobal>(rt: &R, boxes: Boxes<P>) -> Result<(), Stop> {
+pub fn run_story<P: Payload, R: Print + AllocGlobal>(
+    rt: &R,
+    boxes: Boxes<P>,
+) -> Result<(), StoryFault> {
     let Boxes {
         caretaker,
         visitor,
@@ -55,7 +58,7 @@ fn tell_story<P: Payload, R: Print + AllocGlobal>(
     rt: &R,
     store: &mut Store<P>,
     document: P,
-) -> Result<(), Stop> {
+) -> Result<(), StoryFault> {
     let document = hand_on(rt, store, document)?;
     visit(rt, store, document)?;
     take_back(rt, store, document)?;
@@ -110,7 +113,7 @@ fn hand_on<P: Payload, R: Print + AllocGlobal>(
     rt: &R,
     store: &mut Store<P>,
     document: P,
-) -> Result<u64, Stop> {
+) -> Result<u64, StoryFault> {
     let name = make(rt.alloc(), store, label("rw")?, document)?;
     tell_reply(rt, "caretaker makes a document", &Reply::Name(name))?;
     ask(
@@ -134,7 +137,11 @@ fn make<P: Payload>(
 }
 
 // The visitor reads the document, before and after a collection and a write of the caretaker.
-fn visit<P: Payload, R: Print>(rt: &R, store: &mut Store<P>, document: u64) -> Result<(), Stop> {
+fn visit<P: Payload, R: Print>(
+    rt: &R,
+    store: &mut Store<P>,
+    document: u64,
+) -> Result<(), StoryFault> {
     ask(rt, store, VISITOR, "visitor reads", read(document))?;
     collect(rt, store)?;
     ask(rt, store, VISITOR, "visitor reads", read(document))?;
@@ -155,7 +162,7 @@ fn take_back<P: Payload, R: Print>(
     rt: &R,
     store: &mut Store<P>,
     document: u64,
-) -> Result<(), Stop> {
+) -> Result<(), StoryFault> {
     ask(
         rt,
         store,
@@ -190,7 +197,7 @@ fn ask<P: Payload, R: Print>(
     worker: u64,
     words: &str,
     command: Command,
-) -> Result<(), Stop> {
+) -> Result<(), StoryFault> {
     let reply = reply_to(store, worker, command)?;
     tell_reply(rt, words, &reply)
 }
@@ -204,7 +211,7 @@ fn reply_to<P: Payload>(
 }
 
 // Collects, and prints how many vertices are left.
-fn collect<P: Payload, R: Print>(rt: &R, store: &mut Store<P>) -> Result<(), Stop> {
+fn collect<P: Payload, R: Print>(rt: &R, store: &mut Store<P>) -> Result<(), StoryFault> {
     let left = left_by_collection(store)?;
     println!(rt; "full collection: {left} vertices are left")?;
     Ok(())
@@ -247,7 +254,7 @@ fn write(target: u64, value: u64) -> Command {
 }
 
 // The right to read the target, for the visitor too.
-fn hand_to_visitor(target: u64) -> Result<Command, Stop> {
+fn hand_to_visitor(target: u64) -> Result<Command, StoryFault> {
     Ok(Command::Grant {
         via: VISITOR,
         target,
@@ -256,7 +263,7 @@ fn hand_to_visitor(target: u64) -> Result<Command, Stop> {
 }
 
 // The rights of these letters over the target, which are then no longer those of the one who asks.
-fn give_up(target: u64, letters: &str) -> Result<Command, Stop> {
+fn give_up(target: u64, letters: &str) -> Result<Command, StoryFault> {
     Ok(Command::Remove {
         target,
         rights: label(letters)?,
@@ -264,6 +271,6 @@ fn give_up(target: u64, letters: &str) -> Result<Command, Stop> {
 }
 
 // The label of these letters.
-fn label(letters: &str) -> Result<Label, Stop> {
-    Label::read_text(letters.as_bytes()).ok_or(Stop::BadLabel)
+fn label(letters: &str) -> Result<Label, StoryFault> {
+    Label::read_text(letters.as_bytes()).ok_or(StoryFault::BadLabel)
 }

@@ -1,12 +1,12 @@
 //! What the program prints of a reply.
 
-use crate::stop::Stop;
+use crate::fault::StoryFault;
 use std::str;
 use tg_model::{Cause, Denial, Reply};
 use tg_rights::Rights;
 
 /// Prints what was asked for, and the reply.
-pub fn tell_reply<R: Print>(rt: &R, asked: &str, reply: &Reply) -> Result<(), Stop> {
+pub fn tell_reply<R: Print>(rt: &R, asked: &str, reply: &Reply) -> Result<(), StoryFault> {
     match reply {
         Reply::Done => println!(rt; "{asked}: ok")?,
         Reply::Name(name) => println!(rt; "{asked}: ok, its name is {name}")?,
@@ -19,7 +19,7 @@ pub fn tell_reply<R: Print>(rt: &R, asked: &str, reply: &Reply) -> Result<(), St
 }
 
 // Prints why what was asked for was denied: two vertices that are one, or the rights that are missing on an edge.
-fn tell_denial<R: Print>(rt: &R, asked: &str, denial: &Denial) -> Result<(), Stop> {
+fn tell_denial<R: Print>(rt: &R, asked: &str, denial: &Denial) -> Result<(), StoryFault> {
     match denial.cause {
         Cause::NotDistinct => println!(rt; "{asked}: denied, its vertices have to differ")?,
         Cause::Missing { from, to, rights } => tell_missing(rt, asked, from, to, rights)?,
@@ -33,7 +33,7 @@ fn tell_missing<R: Print>(
     from: u64,
     to: u64,
     rights: Rights,
-) -> Result<(), Stop> {
+) -> Result<(), StoryFault> {
     let text = rights.text();
     let letters = str::from_utf8(text.as_bytes()).unwrap_or("?");
     println!(rt; "{asked}: denied, {letters} is missing on {from}->{to}")?;

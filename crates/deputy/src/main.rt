@@ -11,30 +11,33 @@
 #![tactic(auto)]
 
 mod errands;
+mod fault;
 mod opening;
 mod round;
-mod stop;
 mod tell;
 
+use fault::RoundFault;
 use round::run_story;
 use std::alloc::Global;
 use std::process::ExitCode;
 use std::sync::Wait;
 use std::thread::Threads;
-use stop::Stop;
 use tell::print_ending;
 
 fn main(rt: HostRuntime) -> ExitCode {
     match run_and_print(&rt, rt.alloc()) {
         Ok(()) => ExitCode::SUCCESS,
-        Err(stop) => {
-            let _ = eprintln!(rt; "deputy: {stop}");
+        Err(fault) => {
+            let _ = eprintln!(rt; "deputy: {fault}");
             ExitCode::FAILURE
         }
     }
 }
 
-fn run_and_print<R: Threads + Wait + Sync + Print>(rt: &R, alloc: Global) -> Result<(), Stop> {
+fn run_and_print<R: Threads + Wait + Sync + Print>(
+    rt: &R,
+    alloc: Global,
+) -> Result<(), RoundFault> {
     let (ending, entries) = run_story(rt, alloc)?;
     print_ending(rt, &ending, entries)
 }

@@ -1,6 +1,6 @@
 //! Who there is when the story begins.
 
-use crate::stop::Stop;
+use crate::fault::RoundFault;
 use std::alloc::Global;
 use tg_model::{Edge, Opening};
 use tg_payload::{CellPayload, Draft, values_of};
@@ -23,8 +23,8 @@ const MOST_BLOCKS: u64 = 16;
 const MOST_BLOCKS_OF_A_SPACE: u64 = 4;
 
 /// A label with the rights of these letters.
-pub fn label(letters: &str) -> Result<Label, Stop> {
-    Label::read_text(letters.as_bytes()).ok_or(Stop::BadLabel)
+pub fn label(letters: &str) -> Result<Label, RoundFault> {
+    Label::read_text(letters.as_bytes()).ok_or(RoundFault::BadLabel)
 }
 
 /// A draft of a cell with 0, which is what everything in the story stores.

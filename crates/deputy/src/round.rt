@@ -3,8 +3,8 @@ ghost use Rattle.std.specs.Prelude.{◌≡◌, ◌+◌};
 ghost use Rattle.tg_shared.specs.Sessions.{start_of_store};
 
 use crate::errands::{Errands, hand_on, make, read_and_collect, run_errands};
+use crate::fault::RoundFault;
 use crate::opening::{label, open_store, opening};
-use crate::stop::Stop;
 use crate::tell::Ending;
 use std::alloc::Global;
 use std::marker::Brand;
@@ -19,7 +19,10 @@ use tg_store::{Store, StoreFault};
 
 /// Opens a store, tells the story in it on two threads, and audits its journal from an opening of its own. Answers how
 /// many entries there are, too.
-pub fn run_story<R: Threads + Wait + Sync>(rt: &R, alloc: Global) -> Result<(Ending, u64), Stop> {
+pub fn run_story<R: Threads + Wait + Sync>(
+    rt: &R,
+    alloc: Global,
+) -> Result<(Ending, u64), RoundFault> {
     let store = open_store(alloc, label("g")?)?;
     let parts = store.opening().max_vertices() + 1;
     share::<Brand, R>(rt, alloc, Blank::new(parts), store)
@@ -31,14 +34,14 @@ fn share<L: Round + Send + Sync, R: Threads + Wait + Sync>(
     alloc: Global,
     blank: Blank,
     store: Store<CellPayload>,
-) -> Result<(Ending, u64), Stop>
+) -> Result<(Ending, u64), RoundFault>
     requires name { blank.name ≡ L.name }
     requires parts { (blank.parts ≡ L.parts) × (blank.parts ≡ store.opening.limit + 1) }
     requires start { start_of_store store ≡ L.start }
 {
     match SharedStore::<L, CellPayload>::new(alloc, blank, store) {
         Ok(shared) => tell_and_close(rt, alloc, shared),
-        Err(_) => Err(Stop::Store(StoreFault::OutOfMemory)),
+        Err(_) => Err(RoundFault::Store(StoreFault::OutOfMemory)),
     }
 }
 
@@ -47,7 +50,7 @@ fn tell_and_close<L: Round + Send + Sync, R: Threads + Wait + Sync>(
     rt: &R,
     alloc: Global,
     shared: Shared<L, CellPayload>,
-) -> Result<(Ending, u64), Stop> {
+) -> Result<(Ending, u64), RoundFault> {
     let Shared {
         store,
         mut sessions,
@@ -61,15 +64,15 @@ fn close_and_audit<L: Round>(
     alloc: Global,
     store: SharedStore<L, CellPayload>,
     sessions: Vec<Session<L>>,
-) -> Result<u64, Stop> {
+) -> Result<u64, RoundFault> {
     match close(store, sessions) {
         Ok(store) => audited(alloc, store.journal()),
-        Err(refused) => Err(Stop::Close(refused.why)),
+        Err(refused) => Err(RoundFault::Close(refused.why)),
     }
 }
 
 // How many entries the journal has, which is a legal history of the opening that the program makes anew.
-fn audited(alloc: Global, journal: &Journal) -> Result<u64, Stop> {
+fn audited(alloc: Global, journal: &Journal) -> Result<u64, RoundFault> {
     Ok(audited_from(alloc, label("g")?, journal)?)
 }
 
@@ -85,10 +88,10 @@ fn tell<L: Round + Send + Sync, R: Threads + Wait + Sync>(
     alloc: Global,
     store: &SharedStore<L, CellPayload>,
     sessions: &mut [Session<L>],
-) -> Result<Ending, Stop> {
+) -> Result<Ending, RoundFault> {
     match sessions {
         [deputy, client, hand] => tell_of_three(rt, alloc, store, deputy, client, hand),
-        _ => Err(Stop::NoSession),
+        _ => Err(RoundFault::NoSession),
     }
 }
 
@@ -100,7 +103,7 @@ fn tell_of_three<L: Round + Send + Sync, R: Threads + Wait + Sync>(
     deputy: &mut Session<L>,
     client: &mut Session<L>,
     hand: &mut Session<L>,
-) -> Result<Ending, Stop> {
+) -> Result<Ending, RoundFault> {
     let rights = label("rw")?;
     let ledger = make(rt, alloc, store, deputy, rights)?;
     let paper = make(rt, alloc, store, client, rights)?;

@@ -1,7 +1,7 @@
 //! What is told of the story.
 
 use crate::errands::Errands;
-use crate::stop::Stop;
+use crate::fault::RoundFault;
 
 /// What became of the story.
 #[derive(Clone, Copy, PartialEq, Eq, Debug)]
@@ -13,7 +13,7 @@ pub struct Ending {
 }
 
 /// Prints it, with the number of entries of the journal, which passed its audit.
-pub fn print_ending<R: Print>(rt: &R, ending: &Ending, entries: u64) -> Result<(), Stop> {
+pub fn print_ending<R: Print>(rt: &R, ending: &Ending, entries: u64) -> Result<(), RoundFault> {
     let Ending {
         ledger,
         paper,
@@ -26,7 +26,7 @@ pub fn print_ending<R: Print>(rt: &R, ending: &Ending, entries: u64) -> Result<(
     Ok(())
 }
 
-fn print_errands<R: Print>(rt: &R, errands: &Errands) -> Result<(), Stop> {
+fn print_errands<R: Print>(rt: &R, errands: &Errands) -> Result<(), RoundFault> {
     let by_deputy = outcome(errands.ledger_by_deputy);
     let paper_by_hand = outcome(errands.paper_by_hand);
     let ledger_by_hand = outcome(errands.ledger_by_hand);

@@ -9,7 +9,7 @@ use std::test::Fail;
 use std::thread::Threads;
 use tg_payload::{CellPayload, Draft};
 use tg_script::{Bytes, Count, Helpers, Limits, ScriptFault, Settings, Written, drafts_of};
-use tg_threads::{NoGate, RaceFault, run_race};
+use tg_threads::{NoTurnstile, RaceFault, run_race};
 
 // Lines of two workers, whose replies no order between them changes.
 const SCRIPT: &[u8] =
@@ -107,7 +107,7 @@ fn race_counted<A: Ledger, F: Ledger, R: Threads + Wait + Sync>(
         alloc,
         &mut source,
         &mut sink,
-        &NoGate,
+        &NoTurnstile,
         settings,
         workers,
         stock,

@@ -4,10 +4,10 @@
 #![tactic(auto)]
 
 #[cfg(test)]
-mod gates;
-#[cfg(test)]
 mod orders;
 #[cfg(test)]
 mod raced;
 #[cfg(test)]
 mod rows;
+#[cfg(test)]
+mod turnstiles;

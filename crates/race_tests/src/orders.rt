@@ -6,7 +6,7 @@ use std::sync::Wait;
 use std::test::Fail;
 use std::thread::Threads;
 use tg_script::Settings;
-use tg_threads::NoGate;
+use tg_threads::NoTurnstile;
 
 // The edges between three workers.
 const EDGES: &[u8] = b"edge 0 1 rw\nedge 1 0 rw\nedge 2 0 rw\n";
@@ -123,7 +123,7 @@ fn written<R: Threads + Wait + Sync>(
     stock: u64,
     script: &[u8],
 ) -> Result<Vec<u8>, Fail> {
-    let ran = race_script(rt, alloc, &NoGate, settings, stock, script)?;
+    let ran = race_script(rt, alloc, &NoTurnstile, settings, stock, script)?;
     match ran.outcome {
         Ok(()) => Ok(ran.written),
         Err(_) => Err(Fail::from("a race that stopped")),

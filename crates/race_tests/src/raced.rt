@@ -11,7 +11,7 @@ use tg_payload::{CellPayload, Draft};
 use tg_script::{
     Bytes, Count, Helpers, Limits, OneThread, Settings, Written, drafts_of, run_in_memory,
 };
-use tg_threads::{Gate, RaceFault, run_race};
+use tg_threads::{RaceFault, Turnstile, run_race};
 
 /// What was written, and how it ended.
 #[derive(Debug, Drop)]
@@ -43,23 +43,25 @@ fn cells(alloc: Global, count: u64) -> Result<Vec<Draft<CellPayload>>, AllocErro
 }
 
 /// Runs the script side by side, with a cell with 0 for each worker, and so many in the stock.
-pub(crate) fn race_script<G: Gate + Sync, R: Threads + Wait + Sync>(
+pub(crate) fn race_script<G: Turnstile + Sync, R: Threads + Wait + Sync>(
     rt: &R,
     alloc: Global,
-    gate: &G,
+    turnstile: &G,
     settings: Settings,
     stock: u64,
     script: &[u8],
 ) -> Result<Raced, AllocError> {
     let (asked, failures) = (Blank::new(1), Blank::new(1));
-    race_counted::<Brand, Brand, G, R>(rt, alloc, gate, settings, stock, script, asked, failures)
+    race_counted::<Brand, Brand, G, R>(
+        rt, alloc, turnstile, settings, stock, script, asked, failures,
+    )
 }
 
 // The counts of the source and of the sink are those of the ledgers A and F.
-fn race_counted<A: Ledger, F: Ledger, G: Gate + Sync, R: Threads + Wait + Sync>(
+fn race_counted<A: Ledger, F: Ledger, G: Turnstile + Sync, R: Threads + Wait + Sync>(
     rt: &R,
     alloc: Global,
-    gate: &G,
+    turnstile: &G,
     settings: Settings,
     stock: u64,
     script: &[u8],
@@ -81,7 +83,7 @@ fn race_counted<A: Ledger, F: Ledger, G: Gate + Sync, R: Threads + Wait + Sync>(
         alloc,
         &mut source,
         &mut sink,
-        gate,
+        turnstile,
         settings,
         workers,
         stock,

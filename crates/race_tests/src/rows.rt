@@ -5,7 +5,7 @@ use std::sync::Wait;
 use std::test::Fail;
 use std::thread::Threads;
 use tg_script::{Helpers, ScriptFault, Settings};
-use tg_threads::{NoGate, RaceFault};
+use tg_threads::{NoTurnstile, RaceFault};
 
 // Runs the script side by side, and compares what is written and how the run ends.
 fn races(
@@ -16,7 +16,7 @@ fn races(
     written: &[u8],
     outcome: Result<(), RaceFault>,
 ) -> Result<(), Fail> {
-    let ran = race_script(rt, rt.alloc(), &NoGate, settings, stock, script)?;
+    let ran = race_script(rt, rt.alloc(), &NoTurnstile, settings, stock, script)?;
     assert_eq!(rt; ran.written.as_slice(), written);
     assert_eq!(rt; ran.outcome, outcome);
     Ok(())

@@ -25,6 +25,5 @@ pub use serving::{RunPayloads, serve};
 pub use settings::Options;
 pub use start::{Start, StartFault, prepare};
 pub use stop::Stop;
-pub use words::{
-    DEFAULT_BLOCKS, DEFAULT_HELPERS, DEFAULT_VERTICES, DEFAULT_WORKERS, MOST_BLOCKS, options,
-};
+pub use tg_space::MOST_BLOCKS;
+pub use words::{DEFAULT_BLOCKS, DEFAULT_HELPERS, DEFAULT_VERTICES, DEFAULT_WORKERS, options};

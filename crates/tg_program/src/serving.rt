@@ -11,7 +11,7 @@ use std::sync::Wait;
 use std::thread::Threads;
 use tg_payload::Payload;
 use tg_script::{Collector, Sink, Source, drafts_of, run_script_with};
-use tg_threads::{NoGate, run_race};
+use tg_threads::{NoTurnstile, run_race};
 
 /// The payloads of a run.
 #[derive(Drop)]
@@ -52,7 +52,7 @@ pub fn serve<P: Payload + Send, R: Threads + Wait + Sync, C: Collector, S: Sourc
             alloc,
             source,
             sink,
-            &NoGate,
+            &NoTurnstile,
             start.settings,
             workers,
             stock,

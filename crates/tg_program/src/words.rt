@@ -12,6 +12,7 @@ use std::alloc::Global;
 use std::convert::AsStr;
 use tg_model::{MAX_VERTICES, MAX_WORKERS};
 use tg_script::{Helpers, Limits, MOST_HELPERS, Settings};
+use tg_space::{MOST_BLOCKS, MOST_SPACE_BLOCKS};
 
 /// How many workers there are where the words don't say it.
 pub const DEFAULT_WORKERS: u64 = 2;
@@ -24,12 +25,6 @@ pub const DEFAULT_VERTICES: u64 = 1_000_000;
 
 /// How many blocks the heap may have where the words don't say it.
 pub const DEFAULT_BLOCKS: u64 = 4096;
-
-/// The most blocks that a heap may be given.
-pub const MOST_BLOCKS: u64 = 65_536;
-
-/// The most blocks of one space.
-const MOST_SPACE_BLOCKS: u64 = 1_048_576;
 
 /// Reads the words, the first of which is the program's name: the options that they say, and the defaults of those that
 /// they don't. `Ok` only where each number is in its range: workers from 1 to 64, helpers from 1 to 8, vertices from 1 to 2^24,

@@ -12,22 +12,22 @@
 #![tactic(auto)]
 
 mod fault;
-mod gate;
 pub mod laws;
 mod race;
 mod sharing;
 mod task;
 mod telling;
 mod threads;
+mod turnstile;
 mod weaving;
 mod worker;
 
 pub use fault::RaceFault;
-pub use gate::{Gate, NoGate};
 pub use race::run_race;
 pub use sharing::share_out;
 pub use task::{Task, Told, runner};
 pub use telling::tell_all;
 pub use threads::{ThreadsFault, Work, run_threads};
+pub use turnstile::{NoTurnstile, Turnstile};
 pub use weaving::{in_script_order, sessions_of};
 pub use worker::Finished;

@@ -10,11 +10,11 @@ ghost use Rattle.tg_threads.specs.Race.{EndsRace, HasRaced, IsBeforeWriting, Ope
 ghost use Rattle.tg_threads.specs.Shares.{AreRaced};
 
 use crate::fault::RaceFault;
-use crate::gate::Gate;
 use crate::sharing::share_out;
 use crate::task::Told;
 use crate::telling::tell_all;
 use crate::threads::run_threads;
+use crate::turnstile::Turnstile;
 use crate::weaving::{in_script_order, sessions_of};
 use std::alloc::Global;
 use std::marker::Brand;
@@ -32,7 +32,7 @@ use tg_text::{Line, Sink, Source};
 /// i-th create line has the i-th of them, and where no vertex is made it is dropped.
 ///
 /// The whole script is read first; with a fault in it no line is run. Then each worker has a thread with its session, which runs the
-/// worker's lines in script order and passes the gate before each; the collections are worker 0's, each by as many helpers as the
+/// worker's lines in script order and passes the turnstile before each; the collections are worker 0's, each by as many helpers as the
 /// settings say. Once all have ended the store is
 /// closed and audited, and only then anything is written: the reply to each line in script order, and the line with the number of
 /// entries. In what order lines of different workers are run is open, and who waits for whom.
@@ -40,12 +40,18 @@ use tg_text::{Line, Sink, Source};
 /// After a fault nothing was written but after `WriteFailed`, which leaves a front of the text. A thread that can't be started is
 /// `NoThread`; those that were started have ended. The source is asked for at most 1,048,577 bytes. The sink is finished at the end,
 /// after a fault too, which then stands.
-pub fn run_race<P: Payload + Send, S: Source, K: Sink, G: Gate + Sync, R: Threads + Wait + Sync>(
+pub fn run_race<
+    P: Payload + Send,
+    S: Source,
+    K: Sink,
+    G: Turnstile + Sync,
+    R: Threads + Wait + Sync,
+>(
     rt: &R,
     alloc: Global,
     source: &mut S,
     sink: &mut K,
-    gate: &G,
+    turnstile: &G,
     settings: Settings,
     workers: Vec<Draft<P>>,
     stock: Vec<Draft<P>>,
@@ -61,7 +67,7 @@ pub fn run_race<P: Payload + Send, S: Source, K: Sink, G: Gate + Sync, R: Thread
     ensures unfailed { OnOk result (K.failures sink.new ≡ K.failures sink.old) }
     ensures finished { K.finished sink.new ≡ true }
 {
-    let outcome = race(rt, alloc, source, sink, gate, settings, workers, stock);
+    let outcome = race(rt, alloc, source, sink, turnstile, settings, workers, stock);
     finish(sink, outcome)
 }
 
@@ -80,12 +86,12 @@ fn finish<K: Sink>(sink: &mut K, outcome: Result<(), RaceFault>) -> Result<(), R
 }
 
 // All but that the sink is finished.
-fn race<P: Payload + Send, S: Source, K: Sink, G: Gate + Sync, R: Threads + Wait + Sync>(
+fn race<P: Payload + Send, S: Source, K: Sink, G: Turnstile + Sync, R: Threads + Wait + Sync>(
     rt: &R,
     alloc: Global,
     source: &mut S,
     sink: &mut K,
-    gate: &G,
+    turnstile: &G,
     settings: Settings,
     workers: Vec<Draft<P>>,
     stock: Vec<Draft<P>>,
@@ -102,7 +108,15 @@ fn race<P: Payload + Send, S: Source, K: Sink, G: Gate + Sync, R: Threads + Wait
     let helpers = settings.helpers;
     let opened = open_race(alloc, source, sink, settings, workers)?;
     let Opened { store, lines } = opened;
-    let raced = run_lines(rt, alloc, gate, helpers, store, stock, lines.as_slice())?;
+    let raced = run_lines(
+        rt,
+        alloc,
+        turnstile,
+        helpers,
+        store,
+        stock,
+        lines.as_slice(),
+    )?;
     raced.tell(alloc, sink)
 }
 
@@ -174,10 +188,10 @@ impl<P: Payload> Raced<P> {
 }
 
 // Runs the lines in a store with no entry.
-fn run_lines<P: Payload + Send, G: Gate + Sync, R: Threads + Wait + Sync>(
+fn run_lines<P: Payload + Send, G: Turnstile + Sync, R: Threads + Wait + Sync>(
     rt: &R,
     alloc: Global,
-    gate: &G,
+    turnstile: &G,
     helpers: Helpers,
     store: Store<P>,
     stock: Vec<Draft<P>>,
@@ -189,14 +203,14 @@ fn run_lines<P: Payload + Send, G: Gate + Sync, R: Threads + Wait + Sync>(
     ensures fault { IfErr result IsBeforeWriting }
 {
     let blank = Blank::new(store.opening().max_vertices() + 1);
-    share::<Brand, P, G, R>(rt, alloc, gate, helpers, blank, store, stock, lines)
+    share::<Brand, P, G, R>(rt, alloc, turnstile, helpers, blank, store, stock, lines)
 }
 
 // Shares the store, runs the lines, and closes.
-fn share<L: Round + Send + Sync, P: Payload + Send, G: Gate + Sync, R: Threads + Wait + Sync>(
+fn share<L: Round + Send + Sync, P: Payload + Send, G: Turnstile + Sync, R: Threads + Wait + Sync>(
     rt: &R,
     alloc: Global,
-    gate: &G,
+    turnstile: &G,
     helpers: Helpers,
     blank: Blank,
     store: Store<P>,
@@ -212,16 +226,21 @@ fn share<L: Round + Send + Sync, P: Payload + Send, G: Gate + Sync, R: Threads +
     ensures fault { IfErr result IsBeforeWriting }
 {
     match SharedStore::<L, P>::new(alloc, blank, store) {
-        Ok(shared) => run_shared(rt, alloc, gate, helpers, shared, stock, lines),
+        Ok(shared) => run_shared(rt, alloc, turnstile, helpers, shared, stock, lines),
         Err(_) => Err(RaceFault::OutOfMemory),
     }
 }
 
 // Runs the lines in the shared store, and closes.
-fn run_shared<L: Round + Send + Sync, P: Payload + Send, G: Gate + Sync, R: Threads + Wait + Sync>(
+fn run_shared<
+    L: Round + Send + Sync,
+    P: Payload + Send,
+    G: Turnstile + Sync,
+    R: Threads + Wait + Sync,
+>(
     rt: &R,
     alloc: Global,
-    gate: &G,
+    turnstile: &G,
     helpers: Helpers,
     shared: Shared<L, P>,
     stock: Vec<Draft<P>>,
@@ -235,7 +254,7 @@ fn run_shared<L: Round + Send + Sync, P: Payload + Send, G: Gate + Sync, R: Thre
 {
     let Shared { store, sessions } = shared;
     let works = share_out(alloc, sessions, stock, lines)?;
-    let finished = run_threads(rt, alloc, &store, gate, helpers, works)?;
+    let finished = run_threads(rt, alloc, &store, turnstile, helpers, works)?;
     let told = in_script_order(alloc, lines, finished.as_slice())?;
     let sessions = sessions_of(alloc, finished)?;
     let store = closed(store, sessions)?;

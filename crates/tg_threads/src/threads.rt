@@ -3,8 +3,8 @@ ghost use Rattle.std.specs.Prelude.{◌≡◌, ℕ, [], IfOk, map};
 ghost use Rattle.std.specs.List.{All};
 ghost use Rattle.tg_threads.specs.Tasks.{AllBring, Brings, assigned_of, boxed_of, promised_by};
 
-use crate::gate::Gate;
 use crate::task::Task;
+use crate::turnstile::Turnstile;
 use crate::worker::{Finished, run_tasks};
 use std::alloc::{AllocError, AllocFailed, Global};
 use std::snapshot::Snapshot;
@@ -69,13 +69,13 @@ impl<L: Round, P: Payload> Promise<Result<Finished<L>, AllocError>> for Assigned
 pub fn run_threads<
     L: Round + Send + Sync,
     P: Payload + Send,
-    G: Gate + Sync,
+    G: Turnstile + Sync,
     R: Threads + Wait + Sync,
 >(
     rt: &R,
     alloc: Global,
     store: &SharedStore<L, P>,
-    gate: &G,
+    turnstile: &G,
     helpers: Helpers,
     works: Vec<Work<L, P>>,
 ) -> Result<Vec<Finished<L>>, ThreadsFault>
@@ -89,7 +89,7 @@ pub fn run_threads<
             requires { All (λ w. w.session.receipts ≡ []) works.items }
             ensures { IfOk result (λ all. AllBring helpers (map assigned_of works.items) all.items) }
         {
-            let handles = start_all(rt, alloc, scope, store, gate, helpers, works)?;
+            let handles = start_all(rt, alloc, scope, store, turnstile, helpers, works)?;
             join_all(rt, alloc, handles)
         },
     )
@@ -101,14 +101,14 @@ fn start_all<
     E,
     L: Round + Send + Sync,
     P: Payload + Send,
-    G: Gate + Sync,
+    G: Turnstile + Sync,
     R: Threads + Wait + Sync,
 >(
     rt: &'s R,
     alloc: Global,
     scope: &Scope<'s, E>,
     store: &'s SharedStore<L, P>,
-    gate: &'s G,
+    turnstile: &'s G,
     helpers: Helpers,
     works: Vec<Work<L, P>>,
 ) -> Result<Vec<PromisedHandle<Result<Finished<L>, AllocError>, Assigned<P>>>, ThreadsFault>
@@ -118,7 +118,7 @@ fn start_all<
 {
     let mut handles = Vec::with_capacity(alloc, works.len())?;
     for work in works {
-        let handle = start(rt, alloc, scope, store, gate, helpers, work)?;
+        let handle = start(rt, alloc, scope, store, turnstile, helpers, work)?;
         handles.push(handle)?;
     }
     Ok(handles)
@@ -130,14 +130,14 @@ fn start<
     E,
     L: Round + Send + Sync,
     P: Payload + Send,
-    G: Gate + Sync,
+    G: Turnstile + Sync,
     R: Threads + Wait + Sync,
 >(
     rt: &'s R,
     alloc: Global,
     scope: &Scope<'s, E>,
     store: &'s SharedStore<L, P>,
-    gate: &'s G,
+    turnstile: &'s G,
     helpers: Helpers,
     work: Work<L, P>,
 ) -> Result<PromisedHandle<Result<Finished<L>, AllocError>, Assigned<P>>, ThreadsFault>
@@ -156,7 +156,7 @@ fn start<
         move || -> Result<Finished<L>, AllocError>
             requires { session.receipts ≡ [] }
             ensures { IfOk result (λ finished. Brings helpers session.worker (map boxed_of tasks.items) finished.session finished.told.items) }
-        { run_tasks(rt, alloc, store, gate, helpers, session, tasks) },
+        { run_tasks(rt, alloc, store, turnstile, helpers, session, tasks) },
     ) else {
         return Err(ThreadsFault::NoThread);
     };

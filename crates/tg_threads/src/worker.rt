@@ -6,8 +6,8 @@ ghost use Rattle.tg_shared.specs.declared.receipt.Receipt.{Receipt as ReceiptOf}
 ghost use Rattle.tg_threads.specs.Output.{IsOfStore};
 ghost use Rattle.tg_threads.specs.Tasks.{Brings, HasAsked, HasCollected, HasMade, HasRun, IsRunBy, boxed_of};
 
-use crate::gate::Gate;
 use crate::task::{Task, Told};
+use crate::turnstile::Turnstile;
 use std::alloc::{AllocError, Global};
 use std::sync::Wait;
 use std::thread::Threads;
@@ -26,13 +26,13 @@ pub struct Finished<L: Round> {
     pub told: Vec<Told>,
 }
 
-/// Runs the lines, one after the other, and passes the gate before each. A collection has so many helpers. Answers only want of
+/// Runs the lines, one after the other, and passes the turnstile before each. A collection has so many helpers. Answers only want of
 /// memory otherwise, before any line is run.
-pub(crate) fn run_tasks<L: Round, P: Payload, G: Gate, R: Threads + Wait + Sync>(
+pub(crate) fn run_tasks<L: Round, P: Payload, G: Turnstile, R: Threads + Wait + Sync>(
     rt: &R,
     alloc: Global,
     store: &SharedStore<L, P>,
-    gate: &G,
+    turnstile: &G,
     helpers: Helpers,
     mut session: Session<L>,
     tasks: Vec<Task<P>>,
@@ -42,7 +42,7 @@ pub(crate) fn run_tasks<L: Round, P: Payload, G: Gate, R: Threads + Wait + Sync>
 {
     let mut told = Vec::with_capacity(alloc, tasks.len())?;
     for task in tasks {
-        gate.pass(session.worker());
+        turnstile.pass(session.worker());
         told.push(run_task(rt, store, helpers, &mut session, task))?;
     }
     Ok(Finished { session, told })

@@ -1,12 +1,12 @@
 //! The picture of a graph, as a text for `dot`.
 
-use crate::stop::Stop;
+use crate::fault::DrawFault;
 use std::alloc::{AllocError, Global};
 use std::str;
 use tg_model::Graph;
 
 /// Prints the graph as a digraph: its vertices by rising name, then its edges.
-pub fn draw<R: Print>(rt: &R, alloc: Global, graph: &Graph, workers: u64) -> Result<(), Stop> {
+pub fn draw<R: Print>(rt: &R, alloc: Global, graph: &Graph, workers: u64) -> Result<(), DrawFault> {
     let reached = reached_by_workers(alloc, graph, workers)?;
     println!(rt; "digraph store {{")?;
     for (name, reached) in reached.iter().enumerate() {
@@ -55,7 +55,7 @@ fn reach_targets(
     Ok(())
 }
 
-fn draw_vertex<R: Print>(rt: &R, name: u64, workers: u64, reached: bool) -> Result<(), Stop> {
+fn draw_vertex<R: Print>(rt: &R, name: u64, workers: u64, reached: bool) -> Result<(), DrawFault> {
     let shape = if name < workers { "box" } else { "circle" };
     let colour = if reached { "black" } else { "grey" };
     println!(rt; "    {name} [shape={shape} color={colour} fontcolor={colour}]")?;
@@ -63,7 +63,7 @@ fn draw_vertex<R: Print>(rt: &R, name: u64, workers: u64, reached: bool) -> Resu
 }
 
 // The edges of a vertex, each with the letters of its rights.
-fn draw_edges<R: Print>(rt: &R, graph: &Graph, from: u64, reached: bool) -> Result<(), Stop> {
+fn draw_edges<R: Print>(rt: &R, graph: &Graph, from: u64, reached: bool) -> Result<(), DrawFault> {
     let colour = if reached { "black" } else { "grey" };
     for to in 0..graph.made() {
         let rights = graph.label(from, to);

@@ -10,29 +10,29 @@
 #![tactic(auto)]
 
 mod drawing;
+mod fault;
 mod options;
 mod script;
-mod stop;
 
 use drawing::draw;
+use fault::DrawFault;
 use options::read_words;
 use script::run_script;
 use std::env;
 use std::process::ExitCode;
-use stop::Stop;
 
 fn main(rt: HostRuntime) -> ExitCode {
     match obey(&rt) {
         Ok(status) => ExitCode::from(status),
-        Err(stop) => {
-            let _ = eprintln!(rt; "tgdot: {stop}");
-            ExitCode::from(stop.status())
+        Err(fault) => {
+            let _ = eprintln!(rt; "tgdot: {fault}");
+            ExitCode::from(fault.status())
         }
     }
 }
 
 // Does what the words of the command line ask for.
-fn obey(rt: &HostRuntime) -> Result<u8, Stop> {
+fn obey(rt: &HostRuntime) -> Result<u8, DrawFault> {
     let words = words_of(rt)?;
     match read_words(rt.alloc(), words.as_slice()) {
         Ok(options) => {
@@ -48,9 +48,9 @@ fn obey(rt: &HostRuntime) -> Result<u8, Stop> {
 }
 
 // The words of the command line. Each has to be text.
-fn words_of(rt: &HostRuntime) -> Result<Vec<String>, Stop> {
+fn words_of(rt: &HostRuntime) -> Result<Vec<String>, DrawFault> {
     match env::args(rt) {
         Ok(words) => Ok(words.collect(rt.alloc())?),
-        Err(_) => Err(Stop::BadWords),
+        Err(_) => Err(DrawFault::BadWords),
     }
 }

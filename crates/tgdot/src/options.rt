@@ -1,6 +1,6 @@
 //! The words of the command line.
 
-use crate::stop::Stop;
+use crate::fault::DrawFault;
 use clap::error::ErrorKind;
 use clap::{Arg, ArgAction, ArgMatches, Command, Error};
 use std::alloc::Global;

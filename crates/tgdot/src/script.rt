@@ -1,7 +1,7 @@
 //! A script, run on the plain graph.
 
+use crate::fault::DrawFault;
 use crate::options::DotOptions;
-use crate::stop::Stop;
 use std::alloc::Global;
 use std::io::Input;
 use tg_model::{Deed, Edge, Graph, Law, Numbers, Opening, Reply, Value};
@@ -9,7 +9,11 @@ use tg_rights::Label;
 use tg_text::{Line, StockItem, read_line, read_stock};
 
 /// Runs the script on standard input. The graph that it leaves.
-pub fn run_script<R: Input>(rt: &R, alloc: Global, options: DotOptions) -> Result<Graph, Stop> {
+pub fn run_script<R: Input>(
+    rt: &R,
+    alloc: Global,
+    options: DotOptions,
+) -> Result<Graph, DrawFault> {
     let stock = read_stock(alloc, options.stock.as_bytes())?;
     let lines = read_lines(rt, alloc, options.workers)?;
     let mut graph = open_graph(alloc, options, lines.as_slice())?;
@@ -24,7 +28,7 @@ pub fn run_script<R: Input>(rt: &R, alloc: Global, options: DotOptions) -> Resul
 }
 
 // The lines of the script. An edge stands before all other lines, and between workers.
-fn read_lines<R: Input>(rt: &R, alloc: Global, workers: u64) -> Result<Vec<Line>, Stop> {
+fn read_lines<R: Input>(rt: &R, alloc: Global, workers: u64) -> Result<Vec<Line>, DrawFault> {
     let mut lines = Vec::new(alloc);
     let mut text = String::new(alloc);
     let mut opening = true;
@@ -34,11 +38,11 @@ fn read_lines<R: Input>(rt: &R, alloc: Global, workers: u64) -> Result<Vec<Line>
             break;
         }
         let Some(read) = line_of(text.as_str()) else {
-            return Err(Stop::BadLine { line });
+            return Err(DrawFault::BadLine { line });
         };
         match &read {
             Line::Edge(edge) if opening && edge.joins_workers(workers) => {}
-            Line::Edge(_) => return Err(Stop::BadLine { line }),
+            Line::Edge(_) => return Err(DrawFault::BadLine { line }),
             _ => opening = false,
         }
         lines.push(read)?;
@@ -56,7 +60,7 @@ fn line_of(text: &str) -> Option<Line> {
 }
 
 // The graph of the edge lines, in which each worker stores a cell with 0.
-fn open_graph(alloc: Global, options: DotOptions, lines: &[Line]) -> Result<Graph, Stop> {
+fn open_graph(alloc: Global, options: DotOptions, lines: &[Line]) -> Result<Graph, DrawFault> {
     let mut edges: Vec<Edge> = Vec::new(alloc);
     for line in lines {
         if let Line::Edge(edge) = line {
@@ -82,7 +86,7 @@ fn run_commands(
     workers: u64,
     lines: &[Line],
     stock: &[StockItem],
-) -> Result<(), Stop> {
+) -> Result<(), DrawFault> {
     let mut boxes = stock.iter();
     let mut item = boxes.next();
     for line in lines {
@@ -108,7 +112,7 @@ fn create(
     worker: u64,
     label: Label,
     item: Option<&StockItem>,
-) -> Result<bool, Stop> {
+) -> Result<bool, DrawFault> {
     let Some(&kind) = item else {
         return Ok(false);
     };
@@ -136,7 +140,7 @@ fn law_of(kind: StockItem) -> Law {
 }
 
 // What a new box has.
-fn state_of(alloc: Global, kind: StockItem) -> Result<Numbers, Stop> {
+fn state_of(alloc: Global, kind: StockItem) -> Result<Numbers, DrawFault> {
     let mut state = Vec::new(alloc);
     if !matches!(kind, StockItem::Log) {
         state.push(0)?;

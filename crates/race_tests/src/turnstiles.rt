@@ -3,9 +3,9 @@ use crate::raced::{race_script, settings_of};
 use std::sync::atomic::{AtomicU64, Ordering};
 use std::test::Fail;
 use std::thread;
-use tg_threads::Gate;
+use tg_threads::Turnstile;
 
-// A gate at which each of two workers waits at its first pass for the other's, for so many turns.
+// A turnstile at which each of two workers waits at its first pass for the other's, for so many turns.
 #[derive(Drop)]
 struct Meet {
     turns: u64,
@@ -25,7 +25,7 @@ impl Meet {
     }
 }
 
-impl Gate for Meet {
+impl Turnstile for Meet {
     fn pass(&self, worker: u64) {
         let (mine, other) = if worker == 0 {
             (&self.first, &self.second)
@@ -45,27 +45,41 @@ impl Gate for Meet {
 
 #[test]
 fn two_workers_at_one_gate(rt: HostRuntime) -> Result<(), Fail> {
-    let gate = Meet::within(100_000_000);
+    let turnstile = Meet::within(100_000_000);
     let settings = settings_of(2, 1_000_000)?;
-    let ran = race_script(&rt, rt.alloc(), &gate, settings, 0, b"0 list\n1 list\n")?;
+    let ran = race_script(
+        &rt,
+        rt.alloc(),
+        &turnstile,
+        settings,
+        0,
+        b"0 list\n1 list\n",
+    )?;
     assert_eq!(rt;
         ran.written.as_slice(),
         b"ok\nok\nentries 2 audit ok\n".as_slice()
     );
-    assert_eq!(rt; gate.missed.load(Ordering::SeqCst), 0);
+    assert_eq!(rt; turnstile.missed.load(Ordering::SeqCst), 0);
     Ok(())
 }
 
-// Lines of one thread can't meet one another at the gate.
+// Lines of one thread can't meet one another at the turnstile.
 #[test]
 fn lines_of_one_thread_miss_one_another(rt: HostRuntime) -> Result<(), Fail> {
-    let gate = Meet::within(1000);
+    let turnstile = Meet::within(1000);
     let settings = settings_of(2, 1_000_000)?;
-    let ran = race_script(&rt, rt.alloc(), &gate, settings, 0, b"0 list\n0 list\n")?;
+    let ran = race_script(
+        &rt,
+        rt.alloc(),
+        &turnstile,
+        settings,
+        0,
+        b"0 list\n0 list\n",
+    )?;
     assert_eq!(rt;
         ran.written.as_slice(),
         b"ok\nok\nentries 2 audit ok\n".as_slice()
     );
-    assert_eq!(rt; gate.missed.load(Ordering::SeqCst), 1);
+    assert_eq!(rt; turnstile.missed.load(Ordering::SeqCst), 1);
     Ok(())
 }

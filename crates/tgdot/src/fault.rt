@@ -8,7 +8,7 @@ use thiserror::Error;
 
 /// Why the program ends early: the line on standard error, after its name.
 #[derive(Debug, Drop, Error)]
-pub enum Stop {
+pub enum DrawFault {
     /// There was no memory for a list, a line or the graph.
     #[error("out of memory")]
     OutOfMemory,
@@ -29,31 +29,32 @@ pub enum Stop {
     Stream(#[from] io::Error),
 }
 
-impl From<AllocError> for Stop {
-    fn from(_error: AllocError) -> Stop {
-        Stop::OutOfMemory
+impl From<AllocError> for DrawFault {
+    fn from(_error: AllocError) -> DrawFault {
+        DrawFault::OutOfMemory
     }
 }
 
-impl<T: Drop> From<AllocFailed<T>> for Stop {
+impl<T: Drop> From<AllocFailed<T>> for DrawFault {
     // What there was no memory for is dropped.
-    fn from(_refused: AllocFailed<T>) -> Stop {
-        Stop::OutOfMemory
+    fn from(_refused: AllocFailed<T>) -> DrawFault {
+        DrawFault::OutOfMemory
     }
 }
 
-impl From<ModelFault> for Stop {
+impl From<ModelFault> for DrawFault {
     // A name that is no worker's is looked for before, so it was memory.
-    fn from(_fault: ModelFault) -> Stop {
-        Stop::OutOfMemory
+    fn from(_fault: ModelFault) -> DrawFault {
+        DrawFault::OutOfMemory
     }
 }
 
-impl Stop {
+impl DrawFault {
     /// The exit status: 2 where the words of the command line are at fault, else 1.
     pub fn status(&self) -> u8 {
         match self {
-            Stop::BadWords | Stop::Stock(StockFault::BadStock) | Stop::Opening(_) => 2,
+            DrawFault::BadWords | DrawFault::Stock(StockFault::BadStock) | DrawFault::Opening(_) =>
+                2,
             _ => 1,
         }
     }
