@@ -6,6 +6,8 @@
 #[cfg(test)]
 mod gates;
 #[cfg(test)]
+mod heaps;
+#[cfg(test)]
 mod orders;
 #[cfg(test)]
 mod raced;
