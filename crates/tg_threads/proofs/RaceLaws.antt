@@ -1,7 +1,7 @@
 -- What comes of a whole race, from what its parts did.
 use mathlib.Core.Bool.{false≢true}
 use Rattle.std.proofs.Common.{◌≡◌, ◌⊎◌, ◌+◌, ◌≤◌, arith, inl, inr, ℕ, List, [], ◌∷◌, ◌++◌, Option, Some, Result, Ok, Err, refl, sym, ap, ◌∙◌, subst, append-nil, length}
-use Rattle.std.specs.Prelude.{IsOk, OnOk, map}
+use Rattle.std.specs.Prelude.{IsErrAnd, IsOk, OnOk, map}
 use Rattle.std.specs.List.{All, filter, range_with_len}
 use Rattle.std.proofs.lemmas.List.{length-map}
 use Rattle.std.proofs.lemmas.List.Elements.{All-head}
@@ -123,9 +123,12 @@ race_told (Err fault.WriteFailed) start bytes before left lines s ts after whole
 
 -- the audit of a store's own journal, which is legal, is refused for want of memory alone
 pub unaudited : {T : Type 0} (s : StoreState) (ts : List Told) (given : Plan) (listed : List Entry) (f : AuditFault) (r : Result T RaceFault) (before : List ℕ) (after : Option (List ℕ)) → given ≡ s.opening → listed ≡ s.entries →
-    IsLegal (start_of s.opening) s.entries → IsAuditFault (start_of given) listed f → r ≡ Err (race_fault_of_audit f) → after ≡ Some before → TellsRace s ts before r after
-unaudited s ts given listed audit.OutOfMemory r before after opening entries legal says is kept = subst (λ x. TellsRace s ts before x after) (sym is) kept
-unaudited s ts given listed (audit.BadEntry at) r before after opening entries legal says is kept =
+    IsLegal (start_of s.opening) s.entries → IsAuditFault (start_of given) listed f → IsErrAnd r (λ why. why ≡ race_fault_of_audit f) → after ≡ Some before → TellsRace s ts before r after
+unaudited s ts given listed f (Ok done) before after opening entries legal says is kept = absurd is
+unaudited {T} s ts given listed audit.OutOfMemory (Err why) before after opening entries legal says is kept =
+    let P : RaceFault → Type 0 = λ x. TellsRace {T = T} s ts before (Err x) after in
+    subst P (sym is) kept
+unaudited s ts given listed (audit.BadEntry at) (Err why) before after opening entries legal says is kept =
     absurd (IsFirstBad-not_legal (start_of given) listed at says
     (subst (λ (p : Plan). IsLegal (start_of p) listed) (sym opening) (subst (λ (es : List Entry). IsLegal (start_of s.opening) es) (sym entries) legal)))
 

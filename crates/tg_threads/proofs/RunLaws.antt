@@ -12,16 +12,12 @@ use Rattle.tg_journal.specs.declared.entry.Entry.{Entry}
 use Rattle.tg_space.specs.declared.spaces.Kind.TheVariants as kind
 use Rattle.tg_text.specs.declared.line.Line.TheVariants as line
 use Rattle.tg_text.specs.declared.answer.Answer.TheVariants as answer
-use Rattle.tg_rules.specs.Effect.{AddsEdge}
-use Rattle.tg_store.specs.declared.fault.ApplyFault.{ApplyFault}
-use Rattle.tg_store.specs.declared.fault.ApplyFault.TheVariants as apply
-use Rattle.tg_script.specs.Answering.{apply_refusal}
 use Rattle.tg_shared.specs.declared.receipt.Receipt.{Receipt}
 use Rattle.tg_shared.specs.Receipts.{receipt_of}
 use Rattle.tg_shared.specs.Sessions.{SessionState, KeepsReceipts}
 use Rattle.tg_threads.specs.declared.task.Told.{Told}
 use Rattle.tg_threads.specs.declared.task.Told.TheVariants as came
-use Rattle.tg_threads.specs.Output.{Boxed, IsOfStore}
+use Rattle.tg_threads.specs.Output.{Boxed}
 use Rattle.tg_threads.specs.Tasks.{IsRunBy, HasAsked, HasMade, HasCollected, HasRun, RunsOne, Runs}
 
 some_same : {X : Type 0} (a b : X) → Some a ≡ Some b → a ≡ b
@@ -34,12 +30,6 @@ named_test false x workers y t h = absurd cc
 -- the worker that a line names is one of the workers
 pub named : (x workers y : ℕ) → cond (nat_lt x workers) (Some x) None ≡ Some y → (x < workers) × (x ≡ y)
 named x workers y h = named_test (nat_lt x workers) x workers y refl h
-
--- the store refuses a command for want of room only where it adds an edge
-pub refused_command : (command : Command) (f : ApplyFault) → (f ≡ apply.HeapFull → AddsEdge command) → IsOfStore (deed.Plain command) (apply_refusal f)
-refused_command command apply.NoSuchWorker adds = tt
-refused_command command apply.OutOfMemory adds = tt
-refused_command command apply.HeapFull adds = adds refl
 
 -- a session that keeps its receipts gets none
 none_more : (old new : SessionState) → KeepsReceipts old new → (new.worker ≡ old.worker) × (new.receipts ≡ old.receipts ++ [])
