@@ -4,6 +4,8 @@
 #![tactic(auto)]
 
 #[cfg(test)]
+mod heaps;
+#[cfg(test)]
 mod orders;
 #[cfg(test)]
 mod raced;

@@ -1,7 +1,7 @@
 -- What comes of a whole race, from what its parts did.
 use mathlib.Core.Bool.{false≢true}
-use Rattle.std.proofs.Common.{◌≡◌, ◌+◌, ◌≤◌, arith, inl, inr, ℕ, List, [], ◌∷◌, ◌++◌, Option, Result, Ok, Err, refl, sym, ap, ◌∙◌, subst, append-nil, length}
-use Rattle.std.specs.Prelude.{IsOk, OnOk, map}
+use Rattle.std.proofs.Common.{◌≡◌, ◌⊎◌, ◌+◌, ◌≤◌, arith, inl, inr, ℕ, List, [], ◌∷◌, ◌++◌, Option, Some, Result, Ok, Err, refl, sym, ap, ◌∙◌, subst, append-nil, length}
+use Rattle.std.specs.Prelude.{IsErrAnd, IsOk, OnOk, map}
 use Rattle.std.specs.List.{All, filter, range_with_len}
 use Rattle.std.proofs.lemmas.List.{length-map}
 use Rattle.std.proofs.lemmas.List.Elements.{All-head}
@@ -9,8 +9,11 @@ use Rattle.std.proofs.lemmas.List.FromFn.{length-map-range_with_len, length-rang
 use Rattle.tg_model.specs.declared.edge.Edge.{Edge}
 use Rattle.tg_model.specs.declared.value.Value.{Value}
 use Rattle.tg_model.specs.Opened.{Plan, start_of}
-use Rattle.tg_journal.specs.History.{IsLegal}
+use Rattle.tg_journal.specs.History.{IsLegal, IsAuditFault}
 use Rattle.tg_journal.specs.declared.entry.Entry.{Entry}
+use Rattle.tg_journal.specs.declared.replay.AuditFault.{AuditFault}
+use Rattle.tg_journal.specs.declared.replay.AuditFault.TheVariants as audit
+use Rattle.tg_journal.proofs.HistoryLaws.{IsFirstBad-not_legal}
 use Rattle.tg_store.specs.Store.{StoreState}
 use Rattle.tg_text.specs.declared.line.Line.{Line}
 use Rattle.tg_text.specs.declared.line.Line.TheVariants as line
@@ -18,6 +21,8 @@ use Rattle.tg_text.specs.Sinks.{KeepsBytes}
 use Rattle.tg_script.specs.Opening.{IsCommand, edge_lines}
 use Rattle.tg_script.specs.Script.{Start, commands_of, edges_of}
 use Rattle.tg_script.proofs.LinesLaws.{keeps_known}
+use Rattle.tg_shared.specs.declared.closing.CloseFault.{CloseFault}
+use Rattle.tg_shared.specs.declared.closing.CloseFault.TheVariants as closing
 use Rattle.tg_shared.specs.Sessions.{SessionState, AreFresh}
 use Rattle.tg_threads.specs.declared.fault.RaceFault.{RaceFault}
 use Rattle.tg_threads.specs.declared.fault.RaceFault.TheVariants as fault
@@ -26,7 +31,7 @@ use Rattle.tg_threads.specs.declared.worker.Finished.{Finished}
 use Rattle.tg_threads.specs.Output.{Boxed, IsRaceOutput, boxed, end_text}
 use Rattle.tg_threads.specs.Tasks.{AllBring, text_of_told}
 use Rattle.tg_threads.specs.Shares.{AreRaced, IsInScriptOrder, all_assigned, is_run_by, lines_of}
-use Rattle.tg_threads.specs.Race.{EndsRace, HasRaced, IsWhole, TellsRace, plan_of_script, race_read_failures, race_write_failures}
+use Rattle.tg_threads.specs.Race.{EndsRace, HasRaced, IsWhole, TellsRace, plan_of_script, race_fault_of_audit, race_read_failures, race_write_failures}
 use Rattle.tg_threads.proofs.WeaveLaws.{bring_as_many, each_told}
 
 -- as many fresh sessions as workers
@@ -79,6 +84,11 @@ brought_in_order {L = L} workers lines all lent ts same many h =
     let P : List (Finished L) → ℕ → Type 0 = λ fs n. IsInScriptOrder n lines (map (λ f. f.told.items) fs) ts in
     subst (P all) many (subst (λ fs. P fs (length fs)) same h)
 
+-- why a store isn't closed
+pub unclosed : {A B : Type 0} (why : CloseFault) → (why ≡ closing.SessionsMissing → A) → (why ≡ closing.ReceiptMismatch → B) → A ⊎ B
+unclosed closing.SessionsMissing missing mismatch = inl (missing refl)
+unclosed closing.ReceiptMismatch missing mismatch = inr (mismatch refl)
+
 -- ---- the whole
 
 -- what the lines came to, with a legal history, is an output
@@ -107,9 +117,20 @@ race_told (Err (fault.Script f)) start bytes before left lines s ts after whole 
 race_told (Err fault.OutOfMemory) start bytes before left lines s ts after whole opening raced h = (lines, whole, h)
 race_told (Err fault.NoThread) start bytes before left lines s ts after whole opening raced h = (lines, whole, h)
 race_told (Err fault.ReceiptMismatch) start bytes before left lines s ts after whole opening raced h = (lines, whole, h)
-race_told (Err fault.AuditFailed) start bytes before left lines s ts after whole opening raced h = (lines, whole, h)
+race_told (Err fault.AuditFailed) start bytes before left lines s ts after whole opening raced h = absurd h
 race_told (Err fault.WriteFailed) start bytes before left lines s ts after whole opening raced h =
     (lines, h.1, h.2, whole, subst (λ text. IsRaceOutput start lines text) h.3 (raced_output start lines s ts opening raced h.0), h.4)
+
+-- the audit of a store's own journal, which is legal, is refused for want of memory alone
+pub unaudited : {T : Type 0} (s : StoreState) (ts : List Told) (given : Plan) (listed : List Entry) (f : AuditFault) (r : Result T RaceFault) (before : List ℕ) (after : Option (List ℕ)) → given ≡ s.opening → listed ≡ s.entries →
+    IsLegal (start_of s.opening) s.entries → IsAuditFault (start_of given) listed f → IsErrAnd r (λ why. why ≡ race_fault_of_audit f) → after ≡ Some before → TellsRace s ts before r after
+unaudited s ts given listed f (Ok done) before after opening entries legal says is kept = absurd is
+unaudited {T} s ts given listed audit.OutOfMemory (Err why) before after opening entries legal says is kept =
+    let P : RaceFault → Type 0 = λ x. TellsRace {T = T} s ts before (Err x) after in
+    subst P (sym is) kept
+unaudited s ts given listed (audit.BadEntry at) (Err why) before after opening entries legal says is kept =
+    absurd (IsFirstBad-not_legal (start_of given) listed at says
+    (subst (λ (p : Plan). IsLegal (start_of p) listed) (sym opening) (subst (λ (es : List Entry). IsLegal (start_of s.opening) es) (sym entries) legal)))
 
 -- ---- the end
 
@@ -119,7 +140,7 @@ race_keeps (Err (fault.Script f)) start bytes before left mid after h keeps = (h
 race_keeps (Err fault.OutOfMemory) start bytes before left mid after h keeps = (h.0, h.1, keeps_known mid after before h.2 keeps)
 race_keeps (Err fault.NoThread) start bytes before left mid after h keeps = (h.0, h.1, keeps_known mid after before h.2 keeps)
 race_keeps (Err fault.ReceiptMismatch) start bytes before left mid after h keeps = (h.0, h.1, keeps_known mid after before h.2 keeps)
-race_keeps (Err fault.AuditFailed) start bytes before left mid after h keeps = (h.0, h.1, keeps_known mid after before h.2 keeps)
+race_keeps (Err fault.AuditFailed) start bytes before left mid after h keeps = absurd h
 race_keeps (Err fault.WriteFailed) start bytes before left mid after h keeps = (h.0, h.1, h.2, h.3, h.4, keeps_known mid after (before ++ h.1) h.5 keeps)
 
 -- the whole text was written, but the sink was not finished

@@ -8,6 +8,7 @@ use Rattle.tg_model.specs.declared.value.Value.{Value}
 use Rattle.tg_model.specs.declared.command.Deed.{Deed}
 use Rattle.tg_model.specs.declared.command.Deed.TheVariants as deed
 use Rattle.tg_model.specs.declared.reply.Reply.TheVariants as reply
+use Rattle.tg_rules.specs.Effect.{AddsEdge}
 use Rattle.tg_journal.specs.declared.entry.Entry.{Entry}
 use Rattle.tg_journal.specs.History.{IsLegal}
 use Rattle.tg_text.specs.declared.line.Line.{Line}
@@ -61,19 +62,20 @@ boxed stock (l ∷ lines) = record { line = l; value = box_of stock l } ∷ boxe
 abbrev pub IsRefused : Refusal → Option Entry → Answer → Type 0
 IsRefused r e a = (e ≡ None) × (a ≡ told.Refused r)
 
--- a refusal of the store, to a command
-abbrev pub IsOfStore : Refusal → Type 0
-IsOfStore refusal.Memory = Unit {0}
-IsOfStore refusal.Heap = Unit {0}
-IsOfStore refusal.Worker = Unit {0}
-IsOfStore refusal.Vertices = ⊥
-IsOfStore refusal.Threads = ⊥
-IsOfStore refusal.Stock = ⊥
+-- a refusal of the store, to this deed: room in the heap can be wanting only for a vertex or an edge
+abbrev pub IsOfStore : Deed → Refusal → Type 0
+IsOfStore d refusal.Memory = Unit {0}
+IsOfStore (deed.Create label law state) refusal.Heap = Unit {0}
+IsOfStore (deed.Plain command) refusal.Heap = AddsEdge command
+IsOfStore d refusal.Worker = Unit {0}
+IsOfStore d refusal.Vertices = ⊥
+IsOfStore d refusal.Threads = ⊥
+IsOfStore d refusal.Stock = ⊥
 
 -- x asked for the deed: its entry has both, and the answer is the entry's reply; or else the store refused
 abbrev pub EntersOrRefuses : ℕ → Deed → Option Entry → Answer → Type 0
 EntersOrRefuses x d (Some e) a = (e.worker ≡ x) × (e.deed ≡ d) × (a ≡ told.Reply e.reply)
-EntersOrRefuses x d None a = (r : Refusal) × IsOfStore r × (a ≡ told.Refused r)
+EntersOrRefuses x d None a = (r : Refusal) × IsOfStore d r × (a ≡ told.Refused r)
 
 -- x asked for a vertex, with this box or with none
 abbrev pub IsMade : ℕ → RightSet → Option Value → Option Entry → Answer → Type 0

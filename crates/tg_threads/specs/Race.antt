@@ -43,13 +43,13 @@ abbrev pub IsNotRun : Start → List ℕ → ScriptFault → List ℕ → Type 0
 IsNotRun start bytes f left =
     (lines : List Line) × (ReadsScript start.workers bytes lines (Some f) left ⊎ (ReadsScript start.workers bytes lines None left × IsOpenFault start f))
 
--- a fault behind the opening, before anything is written
+-- a fault behind the opening, before anything is written; the audit finds none
 abbrev pub IsBeforeWriting : RaceFault → Type 0
 IsBeforeWriting (fault.Script f) = ⊥
 IsBeforeWriting fault.OutOfMemory = Unit {0}
 IsBeforeWriting fault.NoThread = Unit {0}
 IsBeforeWriting fault.ReceiptMismatch = Unit {0}
-IsBeforeWriting fault.AuditFailed = Unit {0}
+IsBeforeWriting fault.AuditFailed = ⊥
 IsBeforeWriting fault.WriteFailed = ⊥
 
 -- a fault of the threads, and one of the audit, as one of a race
@@ -78,13 +78,14 @@ race_write_failures r = 0
 
 -- What stands in the sink after a race over these bytes, where `before` stood in it, and what is left of them: a text that may be
 -- written for all of the script, or a front of one where the sink failed. For a script with a fault, for one whose store can't be
--- opened, and where anything else was wanting, nothing more.
+-- opened, and where anything else was wanting, nothing more. The audit never fails.
 abbrev pub HasRaced : {T : Type 0} → Start → List ℕ → List ℕ → Result T RaceFault → List ℕ → Option (List ℕ) → Type 0
 HasRaced start bytes before (Ok done) left after =
     (lines : List Line) × (text : List ℕ) × IsWhole start bytes lines left × IsRaceOutput start lines text × (after ≡ Some (before ++ text))
 HasRaced start bytes before (Err fault.WriteFailed) left after =
     (lines : List Line) × (front : List ℕ) × (rest : List ℕ) × IsWhole start bytes lines left × IsRaceOutput start lines (front ++ rest) × (after ≡ Some (before ++ front))
 HasRaced start bytes before (Err (fault.Script f)) left after = IsNotRun start bytes f left × (after ≡ Some before)
+HasRaced start bytes before (Err fault.AuditFailed) left after = ⊥
 HasRaced start bytes before (Err f) left after = (lines : List Line) × IsWhole start bytes lines left × (after ≡ Some before)
 
 -- ---- parts of it
@@ -96,13 +97,15 @@ OpensRace start bytes (Ok opened) left =
 OpensRace start bytes (Err (fault.Script f)) left = IsNotRun start bytes f left
 OpensRace start bytes (Err f) left = ⊥
 
--- The store's journal is a legal history, and the text was written behind what stood there, or a front of it; or nothing.
+-- The store's journal is a legal history, as the audit finds, and the text was written behind what stood there, or a front of it;
+-- or nothing.
 abbrev pub TellsRace : {T : Type 0} → StoreState → List Told → List ℕ → Result T RaceFault → Option (List ℕ) → Type 0
 TellsRace s ts before (Ok done) after = IsLegal (start_of s.opening) s.entries × (after ≡ Some (before ++ (text_of_told s.entries ts ++ end_text (length s.entries))))
 TellsRace s ts before (Err fault.WriteFailed) after =
     IsLegal (start_of s.opening) s.entries
     × (front : List ℕ) × (rest : List ℕ) × (text_of_told s.entries ts ++ end_text (length s.entries) ≡ front ++ rest) × (after ≡ Some (before ++ front))
 TellsRace s ts before (Err (fault.Script f)) after = ⊥
+TellsRace s ts before (Err fault.AuditFailed) after = ⊥
 TellsRace s ts before (Err f) after = after ≡ Some before
 
 -- The sink was finished: what was taken is the same still. A fault stands; where there was none and it failed, that is the fault.

@@ -54,7 +54,7 @@ RunsOne helpers workers b (came.Refused r) more = (more ≡ []) × Tells helpers
 abbrev pub HasAsked : Deed → Told → SessionState → SessionState → Type 0
 HasAsked d (came.Entered at) old new = (reply : Reply) × AddsReceipt old new at d reply
 HasAsked d (came.Collected kept) old new = ⊥
-HasAsked d (came.Refused r) old new = IsOfStore r × KeepsReceipts old new
+HasAsked d (came.Refused r) old new = IsOfStore d r × KeepsReceipts old new
 
 -- a session asked for a vertex with this box; without one it asked for nothing
 abbrev pub HasMade : RightSet → Option Value → Told → SessionState → SessionState → Type 0

@@ -1,10 +1,10 @@
 //! A whole script, whose workers run their lines side by side.
-ghost use Rattle.std.specs.Prelude.{◌≡◌, ◌+◌, ◌≤◌, ℕ, List, [], Some, true, IfErr, IfOk, OnOk, length};
+ghost use Rattle.std.specs.Prelude.{◌≡◌, ◌⊎◌, ◌+◌, ◌<◌, ◌≤◌, ℕ, List, [], Some, true, IfErr, IfOk, OnOk, length};
 ghost use Rattle.std.specs.List.{All, range_with_len};
 ghost use Rattle.tg_text.specs.Sinks.{KeepsBytes};
 ghost use Rattle.tg_script.specs.Opening.{IsCommand};
 ghost use Rattle.tg_script.specs.Script.{Start};
-ghost use Rattle.tg_shared.specs.Sessions.{AreFresh, AreSharedOut, MayClose, start_of_store};
+ghost use Rattle.tg_shared.specs.Sessions.{AreFresh, AreSharedOut, AtSome, MayClose, sessions_made, start_of_store};
 ghost use Rattle.tg_threads.specs.Output.{boxed};
 ghost use Rattle.tg_threads.specs.Race.{EndsRace, HasRaced, IsBeforeWriting, OpensRace, race_read_failures, race_write_failures};
 ghost use Rattle.tg_threads.specs.Shares.{AreRaced};
@@ -270,7 +270,8 @@ fn closed<L: Round, P: Payload>(
     ensures opening { IfOk result (λ store. store.opening ≡ L.start.opening) }
     ensures matching { IfOk result (λ store. MayClose store.entries 0 sessions.items) }
     ensures shared_out { IfOk result (λ store. AreSharedOut store.entries sessions.items) }
-    ensures fault { IfErr result IsBeforeWriting }
+    ensures due { IfErr result (λ why. (why ≡ RaceFault.ReceiptMismatch)
+        × ((length sessions.items < sessions_made L.start) ⊎ AtSome L.start (λ s. ¬ MayClose s.entries (length L.start.entries) sessions.items))) }
 {
     match close(store, sessions) {
         Ok(store) => Ok(store),

@@ -1,9 +1,9 @@
 //! The run of one worker's lines.
 ghost use Rattle.std.specs.Prelude.{◌≡◌, ◌<◌, ◌++◌, ◌∷◌, [], ℕ, length, map, List, IfErr, IfOk};
 ghost use Rattle.tg_model.specs.declared.command.Deed.TheVariants as Deed;
+ghost use Rattle.tg_script.specs.Answering.{apply_refusal};
 ghost use Rattle.tg_script.specs.Script.{MayWant};
 ghost use Rattle.tg_shared.specs.declared.receipt.Receipt.{Receipt as ReceiptOf};
-ghost use Rattle.tg_threads.specs.Output.{IsOfStore};
 ghost use Rattle.tg_threads.specs.Tasks.{Brings, HasAsked, HasCollected, HasMade, HasRun, IsRunBy, boxed_of};
 
 use crate::task::{Task, Told};
@@ -152,7 +152,7 @@ fn collect_by<L: Round, P: Payload, R: Threads + Wait + Sync>(
 }
 
 fn apply_refusal(fault: ApplyFault) -> Refusal
-    ensures { IsOfStore result }
+    ensures { result ≡ apply_refusal fault }
 {
     match fault {
         ApplyFault::NoSuchWorker => Refusal::Worker,
