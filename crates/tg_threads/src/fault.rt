@@ -3,6 +3,8 @@
 use crate::threads::ThreadsFault;
 use std::alloc::{AllocError, AllocFailed};
 use tg_journal::AuditFault;
+use tg_payload::Payload;
+use tg_shared::SharedRefused;
 use tg_text::{ScriptFault, WriteFailed};
 use thiserror::Error;
 
@@ -59,6 +61,19 @@ impl<T: Drop> From<AllocFailed<T>> for RaceFault {
 
     // What there was no memory for is dropped.
     fn from(_refused: AllocFailed<T>) -> RaceFault {
+        RaceFault::OutOfMemory
+    }
+}
+
+impl<P: Payload> From<SharedRefused<P>> for RaceFault {
+    ghost use Rattle.std.specs.Prelude.{◌≡◌};
+    ghost use Rattle.tg_threads.specs.declared.fault.RaceFault.TheVariants.{OutOfMemory};
+
+    ghost from_gives = { λ _ e. e ≡ OutOfMemory };
+
+    // There was no memory for the sessions. The store comes back, and is dropped.
+    fn from(refused: SharedRefused<P>) -> RaceFault {
+        drop(refused);
         RaceFault::OutOfMemory
     }
 }

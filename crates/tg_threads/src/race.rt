@@ -117,7 +117,9 @@ fn race<P: Payload + Send, S: Source, K: Sink, G: Turnstile + Sync, R: Threads +
         stock,
         lines.as_slice(),
     )?;
-    raced.tell(alloc, sink)
+    let told = raced.tell(alloc, sink);
+    drop(raced);
+    told
 }
 
 // A store with no entry, and the lines that are to be run in it.
@@ -225,10 +227,8 @@ fn share<L: Round + Send + Sync, P: Payload + Send, G: Turnstile + Sync, R: Thre
     ensures raced { IfOk result (λ raced. (raced.store.opening ≡ store.opening) × AreRaced helpers store.opening.workers (boxed stock.items lines.now) raced.store.entries raced.told.items) }
     ensures fault { IfErr result IsBeforeWriting }
 {
-    match SharedStore::<L, P>::new(alloc, blank, store) {
-        Ok(shared) => run_shared(rt, alloc, turnstile, helpers, shared, stock, lines),
-        Err(_) => Err(RaceFault::OutOfMemory),
-    }
+    let shared = SharedStore::<L, P>::new(alloc, blank, store)?;
+    run_shared(rt, alloc, turnstile, helpers, shared, stock, lines)
 }
 
 // Runs the lines in the shared store, and closes.

@@ -18,6 +18,6 @@ returns-clause-output g c = λ bytes before known taken.
     c.in_ok-opened.ensures.new.0 (c.as_slice.ensures.value ∙ whole.2) came.1 in (
       opens.0,
       opens.1,
-      race_told c.tell.result start bytes before opens.0 lines store ts (s.taken c.tell.new.sink) whole.1 (came.0 ∙ whole.3) same
-          (c.tell.ensures.told before (keeps_known (s.taken c.args.sink.now) (s.taken c.open_race.new.sink) before taken c.in_ok-opened.ensures.taken)),
+      race_told c.tell-told.result start bytes before opens.0 lines store ts (s.taken c.tell-told.new.sink) whole.1 (came.0 ∙ whole.3) same
+          (c.tell-told.ensures.told before (keeps_known (s.taken c.args.sink.now) (s.taken c.open_race.new.sink) before taken c.in_ok-opened.ensures.taken)),
     )
