@@ -95,10 +95,7 @@ fn minor_in_a_race_frees_young_vertices(rt: HostRuntime) -> Result<(), Fail> {
     script.create(alloc, 1, 109)?;
     script.add("0 create r\n", "refused heap\n")?;
     script.remove(alloc, 1, 64)?;
-    script.add(
-        "minor\n0 create rw\n",
-        "ok\nok 110\nentries 174 audit ok\n",
-    )?;
+    script.add("minor\n0 create rw\n", "ok\nok 110\nentries 174 audit ok\n")?;
     races_in(&rt, 2, &script)
 }
 
