@@ -197,6 +197,7 @@ fn scan_some<C: Claimer>(
 {
     let count = read_some(claimer, spaces, copies.scanned, near);
     for i in 0..count {
+        // It tells that no more was won than a space has room for (`room`), which the next scan asks for.
         let _ = claimer.len();
         scan_next(claimer, spaces, kind, copies, &near[i])?;
         copies.scanned += 1;
