@@ -8,12 +8,11 @@ use tg_shared::{Round, Session, SharedStore, close};
 use tg_store::{Limits, Store};
 
 // A cell with 0.
-fn zero(alloc: Global) -> Option<Value> {
-    let state = Vec::from_elem(alloc, 0u64, 1).ok()?;
-    Some(Value {
+fn zero() -> Value {
+    Value {
         law: Law::Cell,
-        state: Numbers::from_vec(state),
-    })
+        state: Numbers::one(0),
+    }
 }
 
 fn edge(from: u64, to: u64, letters: &str) -> Option<Edge> {
@@ -27,8 +26,8 @@ pub(crate) fn opening_with(alloc: Global, letters: &str) -> Option<Opening> {
     edges.push(edge(0, 1, letters)?).ok()?;
     edges.push(edge(1, 0, letters)?).ok()?;
     let mut values = Vec::new(alloc);
-    values.push(zero(alloc)?).ok()?;
-    values.push(zero(alloc)?).ok()?;
+    values.push(zero()).ok()?;
+    values.push(zero()).ok()?;
     Opening::new(2, edges, values, 4).ok()
 }
 

@@ -23,7 +23,7 @@ fn is_denial_shown(alloc: Global, denial: &Denial, wanted: &str) -> bool {
 
 fn values(alloc: Global) -> Result<Reply, AllocError> {
     let numbers = vec![in alloc; 7, 18446744073709551615]?;
-    Ok(Reply::Values(Numbers::from_vec(numbers)))
+    Ok(Reply::Values(Numbers::from_vec(alloc, numbers)?))
 }
 
 // One edge to 3, with the rights r and g.

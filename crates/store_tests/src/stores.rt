@@ -18,19 +18,17 @@ use tg_store::{
 };
 
 // A cell with the number.
-fn cell_of(alloc: Global, number: u64) -> Option<Value> {
-    let mut state = Vec::new(alloc);
-    state.push(number).ok()?;
-    Some(Value {
+fn cell_of(number: u64) -> Value {
+    Value {
         law: Law::Cell,
-        state: Numbers::from_vec(state),
-    })
+        state: Numbers::one(number),
+    }
 }
 
 // An opening of one worker, who stores a cell with the number.
 fn opening_of_one(alloc: Global, number: u64, max_vertices: u64) -> Option<Opening> {
     let mut values = Vec::new(alloc);
-    values.push(cell_of(alloc, number)?).ok()?;
+    values.push(cell_of(number)).ok()?;
     Opening::new(1, Vec::new(alloc), values, max_vertices).ok()
 }
 
@@ -173,8 +171,8 @@ fn two_counting_boxes(rt: HostRuntime) -> Result<(), Fail> {
 // An opening of two workers, who store cells with 0.
 fn opening_of_two(alloc: Global, max_vertices: u64) -> Option<Opening> {
     let mut values = Vec::new(alloc);
-    values.push(cell_of(alloc, 0)?).ok()?;
-    values.push(cell_of(alloc, 0)?).ok()?;
+    values.push(cell_of(0)).ok()?;
+    values.push(cell_of(0)).ok()?;
     Opening::new(2, Vec::new(alloc), values, max_vertices).ok()
 }
 

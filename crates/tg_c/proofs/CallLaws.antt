@@ -55,9 +55,9 @@ denied_or_told P (Some denial) r may is = may denial
 
 -- the graph's answer to a command is one that the command can have
 pub reply_fits : (asked : Command) (g : ProtectionGraph) (x : ℕ) → IsReplyTo asked (answer_of g x (Plain asked))
-reply_fits (command.Take via target rights) g x = denied_or_told (λ r. IsDoneOrDenied r) (denial_of g.label x (command.Take via target rights)) Done (λ why. tt) tt
-reply_fits (command.Grant via target rights) g x = denied_or_told (λ r. IsDoneOrDenied r) (denial_of g.label x (command.Grant via target rights)) Done (λ why. tt) tt
-reply_fits (command.Remove target rights) g x = denied_or_told (λ r. IsDoneOrDenied r) (denial_of g.label x (command.Remove target rights)) Done (λ why. tt) tt
+reply_fits (command.Take rights via target) g x = denied_or_told (λ r. IsDoneOrDenied r) (denial_of g.label x (command.Take rights via target)) Done (λ why. tt) tt
+reply_fits (command.Grant rights via target) g x = denied_or_told (λ r. IsDoneOrDenied r) (denial_of g.label x (command.Grant rights via target)) Done (λ why. tt) tt
+reply_fits (command.Remove rights target) g x = denied_or_told (λ r. IsDoneOrDenied r) (denial_of g.label x (command.Remove rights target)) Done (λ why. tt) tt
 reply_fits (command.Read target) g x = denied_or_told (λ r. IsReadOrDenied r) (denial_of g.label x (command.Read target)) (Values (state_of (g.value target))) (λ why. tt) tt
 reply_fits (command.Write target value) g x = denied_or_told (λ r. IsDoneOrDenied r) (denial_of g.label x (command.Write target value)) Done (λ why. tt) tt
 reply_fits command.List g x = tt

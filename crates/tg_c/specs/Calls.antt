@@ -110,9 +110,9 @@ IsListed (reply.Values values) = ⊥
 IsListed reply.VerticesFull = ⊥
 
 abbrev pub IsReplyTo : Command → Reply → Type 0
-IsReplyTo (command.Take via target rights) r = IsDoneOrDenied r
-IsReplyTo (command.Grant via target rights) r = IsDoneOrDenied r
-IsReplyTo (command.Remove target rights) r = IsDoneOrDenied r
+IsReplyTo (command.Take rights via target) r = IsDoneOrDenied r
+IsReplyTo (command.Grant rights via target) r = IsDoneOrDenied r
+IsReplyTo (command.Remove rights target) r = IsDoneOrDenied r
 IsReplyTo (command.Write target value) r = IsDoneOrDenied r
 IsReplyTo (command.Read target) r = IsReadOrDenied r
 IsReplyTo command.List r = IsListed r

@@ -86,7 +86,7 @@ rule_number rule.Write = 4
 
 abbrev pub denial_at : ℕ → Cause → DenialOut
 denial_at rule NotDistinct = record { rule = rule; cause = 0; from = 0; to = 0; rights = 0 }
-denial_at rule (Missing from to rights) = record { rule = rule; cause = 1; from = from; to = to; rights = bits_of rights }
+denial_at rule (Missing rights from to) = record { rule = rule; cause = 1; from = from; to = to; rights = bits_of rights }
 
 abbrev pub denial_out : Denial → DenialOut
 denial_out denial = denial_at (rule_number denial.rule) denial.cause

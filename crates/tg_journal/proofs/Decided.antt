@@ -75,9 +75,9 @@ same_rule Write b = inr (λ e. cc e)
 same_cause : (a b : Cause) → Decided (a ≡ b)
 same_cause NotDistinct NotDistinct = inl refl
 same_cause NotDistinct b = inr (λ e. cc e)
-same_cause (Missing x y r) NotDistinct = inr (λ e. cc e)
-same_cause (Missing x y r) (Missing u v s) =
-    along (((x ≡ u) × (y ≡ v)) × (r ≡ s)) (Missing x y r ≡ Missing u v s) (λ e. cc (e.0.0, e.0.1, e.1)) (λ e. ((cc e, cc e), cc e))
+same_cause (Missing r x y) NotDistinct = inr (λ e. cc e)
+same_cause (Missing r x y) (Missing s u v) =
+    along (((x ≡ u) × (y ≡ v)) × (r ≡ s)) (Missing r x y ≡ Missing s u v) (λ e. cc (e.0.0, e.0.1, e.1)) (λ e. ((cc e, cc e), cc e))
     (both ((x ≡ u) × (y ≡ v)) (r ≡ s) (both (x ≡ u) (y ≡ v) (cases_eq x u) (cases_eq y v)) (same_rights r s))
 
 same_denial : (a b : Denial) → Decided (a ≡ b)

@@ -57,29 +57,29 @@ apart_three x y z h k l = or_from _ _ (or_from _ _ (ne_eqb x y h) (ne_eqb y z k)
 
 module _ (label : ℕ → ℕ → RightSet) where
   pub permits-no_denial : (x : ℕ) (command : Command) → denial_of label x command ≡ None → Permits label x command
-  permits-no_denial x (Take y z r) h =
+  permits-no_denial x (Take r y z) h =
       let a = or_none _ _ h in
       let b = or_none _ _ a.1 in
       let d = three_apart x y z (distinct rule.Take _ a.0) in
       (d.0, d.1, d.2, held label rule.Take x y (only right.T) b.0, held label rule.Take y z r b.1)
-  permits-no_denial x (Grant y z r) h =
+  permits-no_denial x (Grant r y z) h =
       let a = or_none _ _ h in
       let b = or_none _ _ a.1 in
       let d = three_apart x y z (distinct rule.Grant _ a.0) in
       (d.0, d.1, d.2, held label rule.Grant x y (only right.G) b.0, held label rule.Grant x z r b.1)
-  permits-no_denial x (Remove y r) h = let a = or_none _ _ h in (eqb-false x y (distinct rule.Remove _ a.0), held label rule.Remove x y r a.1)
+  permits-no_denial x (Remove r y) h = let a = or_none _ _ h in (eqb-false x y (distinct rule.Remove _ a.0), held label rule.Remove x y r a.1)
   permits-no_denial x (Read y) h = let a = or_none _ _ h in (eqb-false x y (distinct rule.Read _ a.0), held label rule.Read x y (only right.R) a.1)
   permits-no_denial x (Write y v) h = let a = or_none _ _ h in (eqb-false x y (distinct rule.Write _ a.0), held label rule.Write x y (only right.W) a.1)
   permits-no_denial x Listing h = tt
 
   pub no_denial-permits : (x : ℕ) (command : Command) → Permits label x command → denial_of label x command ≡ None
-  no_denial-permits x (Take y z r) a =
+  no_denial-permits x (Take r y z) a =
       none_or _ _ (distinct_none rule.Take _ (apart_three x y z a.0 a.1 a.2))
       (none_or _ _ (held_none label rule.Take x y (only right.T) a.3) (held_none label rule.Take y z r a.4))
-  no_denial-permits x (Grant y z r) a =
+  no_denial-permits x (Grant r y z) a =
       none_or _ _ (distinct_none rule.Grant _ (apart_three x y z a.0 a.1 a.2))
       (none_or _ _ (held_none label rule.Grant x y (only right.G) a.3) (held_none label rule.Grant x z r a.4))
-  no_denial-permits x (Remove y r) a = none_or _ _ (distinct_none rule.Remove _ (ne_eqb x y a.0)) (held_none label rule.Remove x y r a.1)
+  no_denial-permits x (Remove r y) a = none_or _ _ (distinct_none rule.Remove _ (ne_eqb x y a.0)) (held_none label rule.Remove x y r a.1)
   no_denial-permits x (Read y) a = none_or _ _ (distinct_none rule.Read _ (ne_eqb x y a.0)) (held_none label rule.Read x y (only right.R) a.1)
   no_denial-permits x (Write y v) a = none_or _ _ (distinct_none rule.Write _ (ne_eqb x y a.0)) (held_none label rule.Write x y (only right.W) a.1)
   no_denial-permits x Listing a = refl

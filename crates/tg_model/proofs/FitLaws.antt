@@ -35,9 +35,9 @@ abbrev AllFit : ProtectionGraph → Type 0
 AllFit g = (y : ℕ) → IfSome (g.value y) ValueFits
 
 fits_after : (value : ℕ → Option Value) (command : Command) (y : ℕ) → IfSome (value y) ValueFits → IfSome (values_after value command y) ValueFits
-fits_after value (Take y z r) a fits = fits
-fits_after value (Grant y z r) a fits = fits
-fits_after value (Remove y r) a fits = fits
+fits_after value (Take r y z) a fits = fits
+fits_after value (Grant r y z) a fits = fits
+fits_after value (Remove r y) a fits = fits
 fits_after value (Read y) a fits = fits
 fits_after value (Write y v) a fits = cond_both (a == y) _ _ (λ o. IfSome o ValueFits) (λ e. fits-map v (value a) fits) (λ e. fits)
 fits_after value Listing a fits = fits

@@ -45,15 +45,15 @@ module _ (label : ℕ → ℕ → RightSet) where
     moved b z e at = subst P (sym e) at
 
     pub closed_after : (x : ℕ) (command : Command) → P x → Permits label x command → (a b : ℕ) → P a → HasEdge (labels_after label x command) a b → P b
-    closed_after x (Take y z r) at allowed a b from edge =
+    closed_after x (Take r y z) at allowed a b from edge =
         ⊎_elim (closed a b from)
         (λ (at_x, at_z, some). moved b z at_z (closed y z (closed x y at (HasEdge-holds x y (only right.T) allowed.3 refl)) (HasEdge-holds y z r allowed.4 some)))
         (HasEdge-with_rights x z r a b edge)
-    closed_after x (Grant y z r) at allowed a b from edge =
+    closed_after x (Grant r y z) at allowed a b from edge =
         ⊎_elim (closed a b from)
         (λ (at_y, at_z, some). moved b z at_z (closed x z at (HasEdge-holds x z r allowed.4 some)))
         (HasEdge-with_rights y z r a b edge)
-    closed_after x (Remove y r) at allowed a b from edge = closed a b from (HasEdge-without_rights x y r a b edge)
+    closed_after x (Remove r y) at allowed a b from edge = closed a b from (HasEdge-without_rights x y r a b edge)
     closed_after x (Read y) at allowed a b from edge = closed a b from edge
     closed_after x (Write y v) at allowed a b from edge = closed a b from edge
     closed_after x Listing at allowed a b from edge = closed a b from edge
@@ -72,18 +72,18 @@ module _ (label : ℕ → ℕ → RightSet) where
 
     -- the rows of all but x and the vertices to which x has an edge
     pub row_after : (command : Command) (v : ℕ) → u ≢ x → Permits label x command → labels_after label x command u v ≡ label u v
-    row_after (Take y z r) v other allowed = row_with_rights x z r u v other
-    row_after (Grant y z r) v other allowed = row_with_rights y z r u v (elsewhere y (HasEdge-holds x y (only right.G) allowed.3 refl))
-    row_after (Remove y r) v other allowed = row_without_rights x y r u v other
+    row_after (Take r y z) v other allowed = row_with_rights x z r u v other
+    row_after (Grant r y z) v other allowed = row_with_rights y z r u v (elsewhere y (HasEdge-holds x y (only right.G) allowed.3 refl))
+    row_after (Remove r y) v other allowed = row_without_rights x y r u v other
     row_after (Read y) v other allowed = refl
     row_after (Write y w) v other allowed = refl
     row_after Listing v other allowed = refl
 
     -- the values of all but the vertices to which x has an edge
     pub value_after : (value : ℕ → Option Value) (command : Command) → Permits label x command → values_after value command u ≡ value u
-    value_after value (Take y z r) allowed = refl
-    value_after value (Grant y z r) allowed = refl
-    value_after value (Remove y r) allowed = refl
+    value_after value (Take r y z) allowed = refl
+    value_after value (Grant r y z) allowed = refl
+    value_after value (Remove r y) allowed = refl
     value_after value (Read y) allowed = refl
     value_after value (Write y v) allowed = cond-false (u == y) _ _ (ne_eqb u y (elsewhere y (HasEdge-holds x y (only right.W) allowed.1 refl)))
     value_after value Listing allowed = refl

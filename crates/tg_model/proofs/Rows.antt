@@ -45,7 +45,7 @@ abbrev make : RightSet → Deed
 make rights = Create rights Cell (0 ∷ [])
 
 abbrev denied : Rule → ℕ → ℕ → RightSet → Reply
-denied rule from to rights = Denied (record { rule = rule; cause = Missing from to rights })
+denied rule from to rights = Denied (record { rule = rule; cause = Missing rights from to })
 
 abbrev not_distinct : Rule → Reply
 not_distinct rule = Denied (record { rule = rule; cause = NotDistinct })
@@ -55,17 +55,17 @@ create_then_list : answers (opened 1 1000 []) ((0, make (union r w)) ∷ (0, Pla
 create_then_list = refl
 
 grant_then_denied_write : answers (opened 2 1000 (edge 0 1 (union t g) ∷ []))
-    ((0, make (union r w)) ∷ (0, Plain (Grant 1 2 r)) ∷ (1, Plain (Read 2)) ∷ (1, Plain (Write 2 7)) ∷ [])
+    ((0, make (union r w)) ∷ (0, Plain (Grant r 1 2)) ∷ (1, Plain (Read 2)) ∷ (1, Plain (Write 2 7)) ∷ [])
     ≡ Name 2 ∷ Done ∷ Values (0 ∷ []) ∷ denied rule.Write 1 2 w ∷ []
 grant_then_denied_write = refl
 
 take_more_than_is_held : answers (opened 2 1000 (edge 0 1 t ∷ []))
-    ((1, make r) ∷ (0, Plain (Take 1 2 (union r (union w g)))) ∷ (0, Plain Listing) ∷ [])
+    ((1, make r) ∷ (0, Plain (Take (union r (union w g)) 1 2)) ∷ (0, Plain Listing) ∷ [])
     ≡ Name 2 ∷ denied rule.Take 1 2 (union w g) ∷ Edges ((1, t) ∷ []) ∷ []
 take_more_than_is_held = refl
 
 removed_vertex_is_collected : answers (opened 1 1000 [])
-    ((0, make (union r w)) ∷ (0, Plain (Remove 1 (union r w))) ∷ (0, Plain Listing) ∷ (0, Plain (Read 1)) ∷ (0, make r) ∷ [])
+    ((0, make (union r w)) ∷ (0, Plain (Remove (union r w) 1)) ∷ (0, Plain Listing) ∷ (0, Plain (Read 1)) ∷ (0, make r) ∷ [])
     ≡ Name 1 ∷ Done ∷ Edges [] ∷ denied rule.Read 0 1 r ∷ Name 2 ∷ []
 removed_vertex_is_collected = refl
 
@@ -73,12 +73,12 @@ read_of_a_name_never_made : answers (opened 1 1000 []) ((0, Plain (Read 99)) ∷
 read_of_a_name_never_made = refl
 
 order_of_the_checks : answers (opened 2 1000 [])
-    ((0, Plain (Take 1 0 r)) ∷ (0, Plain (Take 1 1 r)) ∷ (0, Plain (Take 0 1 r)) ∷ (0, Plain (Read 0)) ∷ (0, Plain (Take 1 5 r)) ∷ (0, Plain (Grant 1 5 r)) ∷ [])
+    ((0, Plain (Take r 1 0)) ∷ (0, Plain (Take r 1 1)) ∷ (0, Plain (Take r 0 1)) ∷ (0, Plain (Read 0)) ∷ (0, Plain (Take r 1 5)) ∷ (0, Plain (Grant r 1 5)) ∷ [])
     ≡ not_distinct rule.Take ∷ not_distinct rule.Take ∷ not_distinct rule.Take ∷ not_distinct rule.Read ∷ denied rule.Take 0 1 t ∷ denied rule.Grant 0 1 g ∷ []
 order_of_the_checks = refl
 
 old_cell_stays_remembered : answers (opened 1 1000 [])
-    ((0, make (union t g)) ∷ (0, make r) ∷ (0, Plain (Grant 1 2 r)) ∷ (0, Plain (Remove 2 r)) ∷ (0, Plain (Take 1 2 r)) ∷ (0, Plain (Read 2)) ∷ [])
+    ((0, make (union t g)) ∷ (0, make r) ∷ (0, Plain (Grant r 1 2)) ∷ (0, Plain (Remove r 2)) ∷ (0, Plain (Take r 1 2)) ∷ (0, Plain (Read 2)) ∷ [])
     ≡ Name 1 ∷ Name 2 ∷ Done ∷ Done ∷ Done ∷ Values (0 ∷ []) ∷ []
 old_cell_stays_remembered = refl
 
@@ -92,7 +92,7 @@ vertex_limit : answers (opened 2 3 []) ((0, make r) ∷ (1, make r) ∷ (1, Plai
 vertex_limit = refl
 
 grant_needs_the_granters_own_right : answers (opened 2 1000 (edge 0 1 g ∷ []))
-    ((0, make (union r w)) ∷ (0, Plain (Grant 1 2 (union r t))) ∷ (0, Plain (Grant 1 2 w)) ∷ (1, Plain Listing) ∷ [])
+    ((0, make (union r w)) ∷ (0, Plain (Grant (union r t) 1 2)) ∷ (0, Plain (Grant w 1 2)) ∷ (1, Plain Listing) ∷ [])
     ≡ Name 2 ∷ denied rule.Grant 0 2 t ∷ Done ∷ Edges ((2, w) ∷ []) ∷ []
 grant_needs_the_granters_own_right = refl
 

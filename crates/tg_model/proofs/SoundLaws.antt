@@ -56,12 +56,12 @@ module _ (n : ℕ) (label : ℕ → ℕ → RightSet) (joined : Joined n label) 
   }
 
   joined_after : (x : ℕ) (command : Command) → x < n → Permits label x command → Joined n (labels_after label x command)
-  joined_after x (Take y z r) below allowed =
+  joined_after x (Take r y z) below allowed =
       joined_more x z r (λ some. (below, (joined.ends y z (HasEdge-holds label y z r allowed.4 some)).1)) allowed.2
-  joined_after x (Grant y z r) below allowed =
+  joined_after x (Grant r y z) below allowed =
       joined_more y z r
       (λ some. ((joined.ends x y (HasEdge-holds label x y (only right.G) allowed.3 refl)).1, (joined.ends x z (HasEdge-holds label x z r allowed.4 some)).1)) allowed.1
-  joined_after x (Remove y r) below allowed = joined_less x y r
+  joined_after x (Remove r y) below allowed = joined_less x y r
   joined_after x (Read y) below allowed = joined
   joined_after x (Write y v) below allowed = joined
   joined_after x Listing below allowed = joined
@@ -75,9 +75,9 @@ is_some-written_at value y v a =
     cond_both (a == y) _ _ (λ o. is_some o ≡ is_some (value a)) (λ e. is_some-map (written v) (value a)) (λ e. refl)
 
 is_some-values_after : (value : ℕ → Option Value) (command : Command) (a : ℕ) → is_some (values_after value command a) ≡ is_some (value a)
-is_some-values_after value (Take y z r) a = refl
-is_some-values_after value (Grant y z r) a = refl
-is_some-values_after value (Remove y r) a = refl
+is_some-values_after value (Take r y z) a = refl
+is_some-values_after value (Grant r y z) a = refl
+is_some-values_after value (Remove r y) a = refl
 is_some-values_after value (Read y) a = refl
 is_some-values_after value (Write y v) a = is_some-written_at value y v a
 is_some-values_after value Listing a = refl

@@ -28,9 +28,9 @@ HoldsOver label x y rights = IsTrue (holds_all (label x y) rights)
 
 -- where a command of x is served
 abbrev pub Permits : (ℕ → ℕ → RightSet) → ℕ → Command → Type 0
-Permits label x (Take y z rights) = (x ≢ y) × (y ≢ z) × (x ≢ z) × HoldsOver label x y (only right.T) × HoldsOver label y z rights
-Permits label x (Grant y z rights) = (x ≢ y) × (y ≢ z) × (x ≢ z) × HoldsOver label x y (only right.G) × HoldsOver label x z rights
-Permits label x (Remove y rights) = (x ≢ y) × HoldsOver label x y rights
+Permits label x (Take rights y z) = (x ≢ y) × (y ≢ z) × (x ≢ z) × HoldsOver label x y (only right.T) × HoldsOver label y z rights
+Permits label x (Grant rights y z) = (x ≢ y) × (y ≢ z) × (x ≢ z) × HoldsOver label x y (only right.G) × HoldsOver label x z rights
+Permits label x (Remove rights y) = (x ≢ y) × HoldsOver label x y rights
 Permits label x (Read y) = (x ≢ y) × HoldsOver label x y (only right.R)
 Permits label x (Write y v) = (x ≢ y) × HoldsOver label x y (only right.W)
 Permits label x Listing = Unit {0}
@@ -45,17 +45,17 @@ unless_distinct rule same = if same then Some (record { rule = rule; cause = Not
 abbrev pub unless_held : (ℕ → ℕ → RightSet) → Rule → ℕ → ℕ → RightSet → Option Denial
 unless_held label rule x y rights =
     if holds_all (label x y) rights then None
-    else Some (record { rule = rule; cause = Missing x y (minus rights (label x y)) })
+    else Some (record { rule = rule; cause = Missing (minus rights (label x y)) x y })
 
 -- the denial of a command of x: the first check that fails
 abbrev pub denial_of : (ℕ → ℕ → RightSet) → ℕ → Command → Option Denial
-denial_of label x (Take y z rights) =
+denial_of label x (Take rights y z) =
     option_or (unless_distinct rule.Take ((x == y) || (y == z) || (x == z)))
     (option_or (unless_held label rule.Take x y (only right.T)) (unless_held label rule.Take y z rights))
-denial_of label x (Grant y z rights) =
+denial_of label x (Grant rights y z) =
     option_or (unless_distinct rule.Grant ((x == y) || (y == z) || (x == z)))
     (option_or (unless_held label rule.Grant x y (only right.G)) (unless_held label rule.Grant x z rights))
-denial_of label x (Remove y rights) = option_or (unless_distinct rule.Remove (x == y)) (unless_held label rule.Remove x y rights)
+denial_of label x (Remove rights y) = option_or (unless_distinct rule.Remove (x == y)) (unless_held label rule.Remove x y rights)
 denial_of label x (Read y) = option_or (unless_distinct rule.Read (x == y)) (unless_held label rule.Read x y (only right.R))
 denial_of label x (Write y v) = option_or (unless_distinct rule.Write (x == y)) (unless_held label rule.Write x y (only right.W))
 denial_of label x Listing = None
@@ -64,9 +64,9 @@ denial_of label x Listing = None
 
 -- the labels after a command of x that is served
 abbrev pub labels_after : (ℕ → ℕ → RightSet) → ℕ → Command → ℕ → ℕ → RightSet
-labels_after label x (Take y z rights) = with_rights label x z rights
-labels_after label x (Grant y z rights) = with_rights label y z rights
-labels_after label x (Remove y rights) = without_rights label x y rights
+labels_after label x (Take rights y z) = with_rights label x z rights
+labels_after label x (Grant rights y z) = with_rights label y z rights
+labels_after label x (Remove rights y) = without_rights label x y rights
 labels_after label x (Read y) = label
 labels_after label x (Write y v) = label
 labels_after label x Listing = label
@@ -81,9 +81,9 @@ written_at value y v a = if a == y then option_map (written v) (value a) else va
 
 -- the values after a command that is served
 abbrev pub values_after : (ℕ → Option Value) → Command → ℕ → Option Value
-values_after value (Take y z rights) = value
-values_after value (Grant y z rights) = value
-values_after value (Remove y rights) = value
+values_after value (Take rights y z) = value
+values_after value (Grant rights y z) = value
+values_after value (Remove rights y) = value
 values_after value (Read y) = value
 values_after value (Write y v) = written_at value y v
 values_after value Listing = value
@@ -96,9 +96,9 @@ state_of None = []
 
 -- the reply to a command of x that is served, where n vertices were made
 abbrev pub reply_of : (ℕ → ℕ → RightSet) → (ℕ → Option Value) → ℕ → ℕ → Command → Reply
-reply_of label value n x (Take y z rights) = Done
-reply_of label value n x (Grant y z rights) = Done
-reply_of label value n x (Remove y rights) = Done
+reply_of label value n x (Take rights y z) = Done
+reply_of label value n x (Grant rights y z) = Done
+reply_of label value n x (Remove rights y) = Done
 reply_of label value n x (Read y) = Values (state_of (value y))
 reply_of label value n x (Write y v) = Done
 reply_of label value n x Listing = Edges (listing_of label n x)

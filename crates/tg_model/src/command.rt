@@ -11,20 +11,20 @@ use tg_rights::Label;
 pub enum Command {
     /// Rights of `via` over `target` become x's as well. Served where x holds take over `via`, and `via` the rights.
     Take {
+        rights: Label,
         via: u64,
         target: u64,
-        rights: Label,
     },
     /// Rights of x over `target` become `via`'s as well. Served where x holds grant over `via`, and x the rights.
     Grant {
+        rights: Label,
         via: u64,
         target: u64,
-        rights: Label,
     },
     /// Rights of x over `target` are given up. Served where x holds them all.
     Remove {
-        target: u64,
         rights: Label,
+        target: u64,
     },
     /// The state of `target`. Served where x holds read over it.
     Read {

@@ -22,7 +22,7 @@ pub enum Cause {
     /// Two vertices of the command that have to differ are one.
     NotDistinct,
     /// These rights are missing on the edge between the two.
-    Missing { from: u64, to: u64, rights: Rights },
+    Missing { rights: Rights, from: u64, to: u64 },
 }
 
 /// Why a command was denied: the first check that failed, in the order distinctness, the right to use the rule, the

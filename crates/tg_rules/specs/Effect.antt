@@ -23,27 +23,27 @@ IsContentAfter old new x command = IsContent new (IsNamed old) (labels_after old
 
 -- the command changes nothing where it is served
 abbrev pub OnlyLooks : Command → Type 0
-OnlyLooks (Take y z rights) = ⊥
-OnlyLooks (Grant y z rights) = ⊥
-OnlyLooks (Remove y rights) = ⊥
+OnlyLooks (Take rights y z) = ⊥
+OnlyLooks (Grant rights y z) = ⊥
+OnlyLooks (Remove rights y) = ⊥
 OnlyLooks (Read y) = Unit {0}
 OnlyLooks (Write y v) = ⊥
 OnlyLooks Listing = Unit {0}
 
 -- the command adds an edge, and so may need a cell for a reference
 abbrev pub AddsEdge : Command → Type 0
-AddsEdge (Take y z rights) = Unit {0}
-AddsEdge (Grant y z rights) = Unit {0}
-AddsEdge (Remove y rights) = ⊥
+AddsEdge (Take rights y z) = Unit {0}
+AddsEdge (Grant rights y z) = Unit {0}
+AddsEdge (Remove rights y) = ⊥
 AddsEdge (Read y) = ⊥
 AddsEdge (Write y v) = ⊥
 AddsEdge Listing = ⊥
 
 -- the edge that the command of x adds goes where more cells are needed than the nursery of x has left and gets
 abbrev pub LacksCellsToServe : SpaceTable → ℕ → Command → Type 0
-LacksCellsToServe t x (Take y z rights) = LacksCellsFor t (x + 2) 0 x z
-LacksCellsToServe t x (Grant y z rights) = LacksCellsFor t (x + 2) 0 y z
-LacksCellsToServe t x (Remove y rights) = ⊥
+LacksCellsToServe t x (Take rights y z) = LacksCellsFor t (x + 2) 0 x z
+LacksCellsToServe t x (Grant rights y z) = LacksCellsFor t (x + 2) 0 y z
+LacksCellsToServe t x (Remove rights y) = ⊥
 LacksCellsToServe t x (Read y) = ⊥
 LacksCellsToServe t x (Write y v) = ⊥
 LacksCellsToServe t x Listing = ⊥

@@ -8,18 +8,18 @@ use Rattle.tg_rules.specs.Verdict.{HasVertex}
 
 -- the vertex whose row gets or loses rights by a command of x, or is listed
 abbrev pub owner_of_row : ℕ → Command → ℕ
-owner_of_row x (Take y z rights) = x
-owner_of_row x (Grant y z rights) = y
-owner_of_row x (Remove y rights) = x
+owner_of_row x (Take rights y z) = x
+owner_of_row x (Grant rights y z) = y
+owner_of_row x (Remove rights y) = x
 owner_of_row x (Read y) = x
 owner_of_row x (Write y v) = x
 owner_of_row x Listing = x
 
 -- the vertex that a command of x names last, or x where it names none
 abbrev pub last_named : ℕ → Command → ℕ
-last_named x (Take y z rights) = z
-last_named x (Grant y z rights) = z
-last_named x (Remove y rights) = y
+last_named x (Take rights y z) = z
+last_named x (Grant rights y z) = z
+last_named x (Remove rights y) = y
 last_named x (Read y) = y
 last_named x (Write y v) = y
 last_named x Listing = x

@@ -177,7 +177,7 @@ fn check_held<P: Payload>(
 
 // The denial for want of these rights.
 fn missing(rule: Rule, from: u64, to: u64, rights: Rights) -> Denial
-    ensures { result ≡ record { rule = rule; cause = Cause.Missing from to rights } }
+    ensures { result ≡ record { rule = rule; cause = Cause.Missing rights from to } }
 {
     Denial {
         rule,

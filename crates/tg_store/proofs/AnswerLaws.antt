@@ -21,9 +21,9 @@ use Rattle.tg_rules.specs.Effect.{IsReplyOn, OnlyLooks}
 
 -- a command that changes something is answered that it is done
 pub reply_of-done : (label : ℕ → ℕ → RightSet) (value : ℕ → Option Value) (n x : ℕ) (command : Command) → (OnlyLooks command → ⊥) → reply_of label value n x command ≡ Done
-reply_of-done label value n x (Take y z rights) changes = refl
-reply_of-done label value n x (Grant y z rights) changes = refl
-reply_of-done label value n x (Remove y rights) changes = refl
+reply_of-done label value n x (Take rights y z) changes = refl
+reply_of-done label value n x (Grant rights y z) changes = refl
+reply_of-done label value n x (Remove rights y) changes = refl
 reply_of-done label value n x (Read y) changes = absurd (changes tt)
 reply_of-done label value n x (Write y v) changes = refl
 reply_of-done label value n x Listing changes = absurd (changes tt)
@@ -56,9 +56,9 @@ module _ (c : Content) (g : ProtectionGraph) (stands : IsContentOf c g) (x : ℕ
 
 -- the reply to a command that is served is no denial
 not_denied : (label : ℕ → ℕ → RightSet) (value : ℕ → Option Value) (n x : ℕ) (command : Command) (denial : Denial) → Denied denial ≡ reply_of label value n x command → ⊥
-not_denied label value n x (Take y z rights) denial e = cc
-not_denied label value n x (Grant y z rights) denial e = cc
-not_denied label value n x (Remove y rights) denial e = cc
+not_denied label value n x (Take rights y z) denial e = cc
+not_denied label value n x (Grant rights y z) denial e = cc
+not_denied label value n x (Remove rights y) denial e = cc
 not_denied label value n x (Read y) denial e = cc
 not_denied label value n x (Write y v) denial e = cc
 not_denied label value n x Listing denial e = cc

@@ -59,21 +59,21 @@ line_of-words (Edge e) f =
     ∙ at_label (λ l. Some (Edge (record { from = e.from; to = e.to; label = l }))) e.label f.2
 line_of-words (Create x l) f =
     at_number (λ x. option_and_then (λ l. Some (Create x l)) (label_read (text_of l))) x f.0 ∙ at_label (λ l. Some (Create x l)) l f.1
-line_of-words (Plain x (Take y z l)) f =
-    at_number (λ x. option_and_then (λ y. option_and_then (λ z. option_and_then (λ l. Some (Plain x (Take y z l))) (label_read (text_of l))) (number_of (decimal z))) (number_of (decimal y))) x f.0
-    ∙ at_number (λ y. option_and_then (λ z. option_and_then (λ l. Some (Plain x (Take y z l))) (label_read (text_of l))) (number_of (decimal z))) y f.1.0
-    ∙ at_number (λ z. option_and_then (λ l. Some (Plain x (Take y z l))) (label_read (text_of l))) z f.1.1
-    ∙ at_label (λ l. Some (Plain x (Take y z l))) l f.1.2
-line_of-words (Plain x (Grant y z l)) f =
-    at_number (λ x. option_and_then (λ y. option_and_then (λ z. option_and_then (λ l. Some (Plain x (Grant y z l))) (label_read (text_of l))) (number_of (decimal z))) (number_of (decimal y))) x f.0
-    ∙ at_number (λ y. option_and_then (λ z. option_and_then (λ l. Some (Plain x (Grant y z l))) (label_read (text_of l))) (number_of (decimal z))) y f.1.0
-    ∙ at_number (λ z. option_and_then (λ l. Some (Plain x (Grant y z l))) (label_read (text_of l))) z f.1.1
-    ∙ at_label (λ l. Some (Plain x (Grant y z l))) l f.1.2
-line_of-words (Plain x (Remove y l)) f =
+line_of-words (Plain x (Take l y z)) f =
+    at_number (λ x. option_and_then (λ y. option_and_then (λ z. option_and_then (λ l. Some (Plain x (Take l y z))) (label_read (text_of l))) (number_of (decimal z))) (number_of (decimal y))) x f.0
+    ∙ at_number (λ y. option_and_then (λ z. option_and_then (λ l. Some (Plain x (Take l y z))) (label_read (text_of l))) (number_of (decimal z))) y f.1.0
+    ∙ at_number (λ z. option_and_then (λ l. Some (Plain x (Take l y z))) (label_read (text_of l))) z f.1.1
+    ∙ at_label (λ l. Some (Plain x (Take l y z))) l f.1.2
+line_of-words (Plain x (Grant l y z)) f =
+    at_number (λ x. option_and_then (λ y. option_and_then (λ z. option_and_then (λ l. Some (Plain x (Grant l y z))) (label_read (text_of l))) (number_of (decimal z))) (number_of (decimal y))) x f.0
+    ∙ at_number (λ y. option_and_then (λ z. option_and_then (λ l. Some (Plain x (Grant l y z))) (label_read (text_of l))) (number_of (decimal z))) y f.1.0
+    ∙ at_number (λ z. option_and_then (λ l. Some (Plain x (Grant l y z))) (label_read (text_of l))) z f.1.1
+    ∙ at_label (λ l. Some (Plain x (Grant l y z))) l f.1.2
+line_of-words (Plain x (Remove l y)) f =
     chosen_no (bytes_eq (decimal x) (codes "edge")) _ _ (no_edge x f.0)
-    ∙ at_number (λ x. option_and_then (λ y. option_and_then (λ l. Some (Plain x (Remove y l))) (label_read (text_of l))) (number_of (decimal y))) x f.0
-    ∙ at_number (λ y. option_and_then (λ l. Some (Plain x (Remove y l))) (label_read (text_of l))) y f.1.0
-    ∙ at_label (λ l. Some (Plain x (Remove y l))) l f.1.1
+    ∙ at_number (λ x. option_and_then (λ y. option_and_then (λ l. Some (Plain x (Remove l y))) (label_read (text_of l))) (number_of (decimal y))) x f.0
+    ∙ at_number (λ y. option_and_then (λ l. Some (Plain x (Remove l y))) (label_read (text_of l))) y f.1.0
+    ∙ at_label (λ l. Some (Plain x (Remove l y))) l f.1.1
 line_of-words (Plain x (Read y)) f =
     at_number (λ x. option_and_then (λ y. Some (Plain x (Read y))) (number_of (decimal y))) x f.0 ∙ at_number (λ y. Some (Plain x (Read y))) y f.1
 line_of-words (Plain x (Write y v)) f =
@@ -197,8 +197,8 @@ four_words_text a b c d line h =
           (list4 a b c d (codes "edge") (decimal p.0) (decimal p.1) (text_of p.2) (word a (codes "edge") k.0) p.3 p.4 p.5)
       | inr k ↦ elim (chosen (bytes_eq b (codes "remove")) _ _ line k.1) [
         | inl m ↦
-            let p = numbers_and_rights (λ x y l. Plain x (Remove y l)) a c d line m.1 in
-            is_read (a ∷ b ∷ c ∷ d ∷ []) (Plain p.0 (Remove p.1 p.2)) line p.6 (p.7, (p.8, p.9))
+            let p = numbers_and_rights (λ x y l. Plain x (Remove l y)) a c d line m.1 in
+            is_read (a ∷ b ∷ c ∷ d ∷ []) (Plain p.0 (Remove p.2 p.1)) line p.6 (p.7, (p.8, p.9))
             (list4 a b c d (decimal p.0) (codes "remove") (decimal p.1) (text_of p.2) p.3 (word b (codes "remove") m.0) p.4 p.5)
         | inr m ↦ elim (chosen (bytes_eq b (codes "write")) _ _ line m.1) [
           | inl n ↦
@@ -214,13 +214,13 @@ five_words_text : (a b c d e : List ℕ) (line : Line) → five_words a b c d e 
 five_words_text a b c d e line h =
     elim (chosen (bytes_eq b (codes "take")) _ _ line h) [
       | inl k ↦
-          let p = three_numbers_and_rights (λ x y z l. Plain x (Take y z l)) a c d e line k.1 in
-          is_read (a ∷ b ∷ c ∷ d ∷ e ∷ []) (Plain p.0 (Take p.1 p.2 p.3)) line p.8 (p.9, (p.10, p.11, p.12))
+          let p = three_numbers_and_rights (λ x y z l. Plain x (Take l y z)) a c d e line k.1 in
+          is_read (a ∷ b ∷ c ∷ d ∷ e ∷ []) (Plain p.0 (Take p.3 p.1 p.2)) line p.8 (p.9, (p.10, p.11, p.12))
           (list5 a b c d e (decimal p.0) (codes "take") (decimal p.1) (decimal p.2) (text_of p.3) p.4 (word b (codes "take") k.0) p.5 p.6 p.7)
       | inr k ↦ elim (chosen (bytes_eq b (codes "grant")) _ _ line k.1) [
         | inl m ↦
-            let p = three_numbers_and_rights (λ x y z l. Plain x (Grant y z l)) a c d e line m.1 in
-            is_read (a ∷ b ∷ c ∷ d ∷ e ∷ []) (Plain p.0 (Grant p.1 p.2 p.3)) line p.8 (p.9, (p.10, p.11, p.12))
+            let p = three_numbers_and_rights (λ x y z l. Plain x (Grant l y z)) a c d e line m.1 in
+            is_read (a ∷ b ∷ c ∷ d ∷ e ∷ []) (Plain p.0 (Grant p.3 p.1 p.2)) line p.8 (p.9, (p.10, p.11, p.12))
             (list5 a b c d e (decimal p.0) (codes "grant") (decimal p.1) (decimal p.2) (text_of p.3) p.4 (word b (codes "grant") m.0) p.5 p.6 p.7)
         | inr m ↦ nothing line _ m.1
       ]
@@ -271,9 +271,9 @@ all_five a b c d e h i j k l = all_one a (b ∷ c ∷ d ∷ e ∷ []) h (all_fou
 
 -- the words of a line are visible
 visible-words_of_command : (x : ℕ) (c : Command) → NumberFits x → CommandFits c → list_all visible (words_of_command x c) ≡ true
-visible-words_of_command x (Take y z l) h f = all_five (decimal x) (codes "take") (decimal y) (decimal z) (text_of l) (visible-decimal x h) refl (visible-decimal y f.0) (visible-decimal z f.1) (visible-text_of l)
-visible-words_of_command x (Grant y z l) h f = all_five (decimal x) (codes "grant") (decimal y) (decimal z) (text_of l) (visible-decimal x h) refl (visible-decimal y f.0) (visible-decimal z f.1) (visible-text_of l)
-visible-words_of_command x (Remove y l) h f = all_four (decimal x) (codes "remove") (decimal y) (text_of l) (visible-decimal x h) refl (visible-decimal y f.0) (visible-text_of l)
+visible-words_of_command x (Take l y z) h f = all_five (decimal x) (codes "take") (decimal y) (decimal z) (text_of l) (visible-decimal x h) refl (visible-decimal y f.0) (visible-decimal z f.1) (visible-text_of l)
+visible-words_of_command x (Grant l y z) h f = all_five (decimal x) (codes "grant") (decimal y) (decimal z) (text_of l) (visible-decimal x h) refl (visible-decimal y f.0) (visible-decimal z f.1) (visible-text_of l)
+visible-words_of_command x (Remove l y) h f = all_four (decimal x) (codes "remove") (decimal y) (text_of l) (visible-decimal x h) refl (visible-decimal y f.0) (visible-text_of l)
 visible-words_of_command x (Read y) h f = all_three (decimal x) (codes "read") (decimal y) (visible-decimal x h) refl (visible-decimal y f)
 visible-words_of_command x (Write y v) h f = all_four (decimal x) (codes "write") (decimal y) (decimal v) (visible-decimal x h) refl (visible-decimal y f.0) (visible-decimal v f.1)
 visible-words_of_command x Listing h f = all_one (decimal x) (codes "list" ∷ []) (visible-decimal x h) refl
@@ -290,9 +290,9 @@ cut [] some h = absurd (some refl)
 cut (w ∷ ws) some h = pieces-join w ws h
 
 some_command : (x : ℕ) (c : Command) → words_of_command x c ≡ [] → ⊥
-some_command x (Take y z l) e = cc
-some_command x (Grant y z l) e = cc
-some_command x (Remove y l) e = cc
+some_command x (Take l y z) e = cc
+some_command x (Grant l y z) e = cc
+some_command x (Remove l y) e = cc
 some_command x (Read y) e = cc
 some_command x (Write y v) e = cc
 some_command x Listing e = cc

@@ -67,9 +67,9 @@ short_word : (w : List ℕ) → length w ≤ 20 → Short w
 short_word w h = record { most = h }
 
 short_command : (x : ℕ) (c : Command) → NumberFits x → CommandFits c → AllShort (words_of_command x c) × (length (words_of_command x c) ≤ 5)
-short_command x (Take y z l) h f = ((short_number x h, (short_word (codes "take") (omega arith), (short_number y f.0, (short_number z f.1, (short_rights l, tt))))), omega arith)
-short_command x (Grant y z l) h f = ((short_number x h, (short_word (codes "grant") (omega arith), (short_number y f.0, (short_number z f.1, (short_rights l, tt))))), omega arith)
-short_command x (Remove y l) h f = ((short_number x h, (short_word (codes "remove") (omega arith), (short_number y f.0, (short_rights l, tt)))), omega arith)
+short_command x (Take l y z) h f = ((short_number x h, (short_word (codes "take") (omega arith), (short_number y f.0, (short_number z f.1, (short_rights l, tt))))), omega arith)
+short_command x (Grant l y z) h f = ((short_number x h, (short_word (codes "grant") (omega arith), (short_number y f.0, (short_number z f.1, (short_rights l, tt))))), omega arith)
+short_command x (Remove l y) h f = ((short_number x h, (short_word (codes "remove") (omega arith), (short_number y f.0, (short_rights l, tt)))), omega arith)
 short_command x (Read y) h f = ((short_number x h, (short_word (codes "read") (omega arith), (short_number y f, tt))), omega arith)
 short_command x (Write y v) h f = ((short_number x h, (short_word (codes "write") (omega arith), (short_number y f.0, (short_number v f.1, tt)))), omega arith)
 short_command x Listing h f = ((short_number x h, (short_word (codes "list") (omega arith), tt)), omega arith)

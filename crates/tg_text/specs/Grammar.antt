@@ -10,9 +10,9 @@ use Rattle.tg_text.specs.declared.line.Line.TheVariants.{Edge, Create, Plain, Fu
 -- Numbers are decimal, without leading zeros, and rights stand in the order r w t g. The first number of a command
 -- is the worker x.
 abbrev pub words_of_command : ℕ → Command → List (List ℕ)
-words_of_command x (Take y z rights) = decimal x ∷ codes "take" ∷ decimal y ∷ decimal z ∷ text_of rights ∷ []
-words_of_command x (Grant y z rights) = decimal x ∷ codes "grant" ∷ decimal y ∷ decimal z ∷ text_of rights ∷ []
-words_of_command x (Remove y rights) = decimal x ∷ codes "remove" ∷ decimal y ∷ text_of rights ∷ []
+words_of_command x (Take rights y z) = decimal x ∷ codes "take" ∷ decimal y ∷ decimal z ∷ text_of rights ∷ []
+words_of_command x (Grant rights y z) = decimal x ∷ codes "grant" ∷ decimal y ∷ decimal z ∷ text_of rights ∷ []
+words_of_command x (Remove rights y) = decimal x ∷ codes "remove" ∷ decimal y ∷ text_of rights ∷ []
 words_of_command x (Read y) = decimal x ∷ codes "read" ∷ decimal y ∷ []
 words_of_command x (Write y v) = decimal x ∷ codes "write" ∷ decimal y ∷ decimal v ∷ []
 words_of_command x Listing = decimal x ∷ codes "list" ∷ []
@@ -38,9 +38,9 @@ abbrev pub LabelFits : RightSet → Type 0
 LabelFits rights = is_none_held rights ≡ false
 
 abbrev pub CommandFits : Command → Type 0
-CommandFits (Take y z rights) = NumberFits y × NumberFits z × LabelFits rights
-CommandFits (Grant y z rights) = NumberFits y × NumberFits z × LabelFits rights
-CommandFits (Remove y rights) = NumberFits y × LabelFits rights
+CommandFits (Take rights y z) = NumberFits y × NumberFits z × LabelFits rights
+CommandFits (Grant rights y z) = NumberFits y × NumberFits z × LabelFits rights
+CommandFits (Remove rights y) = NumberFits y × LabelFits rights
 CommandFits (Read y) = NumberFits y
 CommandFits (Write y v) = NumberFits y × NumberFits v
 CommandFits Listing = Unit {0}

@@ -23,7 +23,7 @@ rule_text rule.Write = codes "write"
 
 abbrev pub cause_text : Cause → List ℕ
 cause_text NotDistinct = codes "distinct"
-cause_text (Missing from to rights) = decimal from ++ codes "->" ++ decimal to ++ codes " " ++ text_of rights
+cause_text (Missing rights from to) = decimal from ++ codes "->" ++ decimal to ++ codes " " ++ text_of rights
 
 -- ` V` for each value
 abbrev pub value_text : ℕ → List ℕ

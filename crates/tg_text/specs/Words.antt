@@ -67,7 +67,7 @@ four_words a b c d =
     if bytes_eq a (codes "edge") then
     option_and_then (λ x. option_and_then (λ y. option_and_then (λ l. Some (Edge (record { from = x; to = y; label = l }))) (label_read d)) (number_of c)) (number_of b)
     else if bytes_eq b (codes "remove") then
-    option_and_then (λ x. option_and_then (λ y. option_and_then (λ l. Some (Plain x (Remove y l))) (label_read d)) (number_of c)) (number_of a)
+    option_and_then (λ x. option_and_then (λ y. option_and_then (λ l. Some (Plain x (Remove l y))) (label_read d)) (number_of c)) (number_of a)
     else if bytes_eq b (codes "write") then
     option_and_then (λ x. option_and_then (λ y. option_and_then (λ v. Some (Plain x (Write y v))) (number_of d)) (number_of c)) (number_of a)
     else None
@@ -75,9 +75,9 @@ four_words a b c d =
 abbrev pub five_words : List ℕ → List ℕ → List ℕ → List ℕ → List ℕ → Option Line
 five_words a b c d e =
     if bytes_eq b (codes "take") then
-    option_and_then (λ x. option_and_then (λ y. option_and_then (λ z. option_and_then (λ l. Some (Plain x (Take y z l))) (label_read e)) (number_of d)) (number_of c)) (number_of a)
+    option_and_then (λ x. option_and_then (λ y. option_and_then (λ z. option_and_then (λ l. Some (Plain x (Take l y z))) (label_read e)) (number_of d)) (number_of c)) (number_of a)
     else if bytes_eq b (codes "grant") then
-    option_and_then (λ x. option_and_then (λ y. option_and_then (λ z. option_and_then (λ l. Some (Plain x (Grant y z l))) (label_read e)) (number_of d)) (number_of c)) (number_of a)
+    option_and_then (λ x. option_and_then (λ y. option_and_then (λ z. option_and_then (λ l. Some (Plain x (Grant l y z))) (label_read e)) (number_of d)) (number_of c)) (number_of a)
     else None
 
 abbrev pub line_of : List (List ℕ) → Option Line

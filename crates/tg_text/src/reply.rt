@@ -151,7 +151,7 @@ fn write_missing<K: Sink>(
     to: u64,
     rights: Rights,
 ) -> Result<(), WriteFailed>
-    ensures { Writes (K.taken sink.old) (K.failures sink.old) (cause_text (Cause.Missing from to rights)) result (K.taken sink.new) (K.failures sink.new) }
+    ensures { Writes (K.taken sink.old) (K.failures sink.old) (cause_text (Cause.Missing rights from to)) result (K.taken sink.new) (K.failures sink.new) }
 {
     let mut first = Buffer::new();
     let mut second = Buffer::new();

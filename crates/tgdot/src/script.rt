@@ -69,7 +69,7 @@ fn open_graph(alloc: Global, options: DotOptions, lines: &[Line]) -> Result<Grap
     }
     let mut values = Vec::new(alloc);
     for _ in 0..options.workers {
-        let state = state_of(alloc, StockItem::Cell)?;
+        let state = state_of(StockItem::Cell);
         values.push(Value {
             law: Law::Cell,
             state,
@@ -116,7 +116,7 @@ fn create(
     let Some(&kind) = item else {
         return Ok(false);
     };
-    let state = state_of(alloc, kind)?;
+    let state = state_of(kind);
     let deed = Deed::Create {
         label,
         law: law_of(kind),
@@ -140,10 +140,9 @@ fn law_of(kind: StockItem) -> Law {
 }
 
 // What a new box has.
-fn state_of(alloc: Global, kind: StockItem) -> Result<Numbers, DrawFault> {
-    let mut state = Vec::new(alloc);
-    if !matches!(kind, StockItem::Log) {
-        state.push(0)?;
+fn state_of(kind: StockItem) -> Numbers {
+    match kind {
+        StockItem::Log => Numbers::none(),
+        _ => Numbers::one(0),
     }
-    Ok(Numbers::from_vec(state))
 }

@@ -126,7 +126,7 @@ impl Graph {
     {
         let state = match self.values.get(target as usize) {
             Some(value) => value.state.copy(self.alloc)?,
-            None => Numbers::from_vec(Vec::new(self.alloc)),
+            None => Numbers::none(),
         };
         Ok(Reply::Values(state))
     }
