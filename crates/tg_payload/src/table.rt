@@ -8,7 +8,7 @@ use crate::{Draft, Payload};
 use slab::Slab;
 use std::alloc::{AllocError, Global};
 use std::marker::Model;
-use tg_model::{Law, Numbers};
+use tg_model::Numbers;
 
 /// Payloads, each under a key that the table picked when it came in. Once a payload was taken out, its key may be
 /// picked again. Contracts see a finite map from keys to values, and `spare`, for how many more payloads there is room.
@@ -104,17 +104,6 @@ impl<P: Payload> PayloadTable<P> {
     {
         match self.payloads.get(key as usize) {
             Some(payload) => payload,
-            None => unreachable!(),
-        }
-    }
-
-    /// The law under the key. Takes no memory.
-    pub fn law(&self, key: u64) -> Law
-        requires { IsSome (entry self.now key) }
-        ensures { option_map (λ value. value.law) (entry self.now key) ≡ Some result }
-    {
-        match self.payloads.get(key as usize) {
-            Some(payload) => payload.law(),
             None => unreachable!(),
         }
     }
