@@ -1,7 +1,7 @@
 -- What comes of a whole race, from what its parts did.
 use mathlib.Core.Bool.{false≢true}
 use Rattle.std.proofs.Common.{◌≡◌, ◌⊎◌, ◌+◌, ◌≤◌, arith, inl, inr, ℕ, List, [], ◌∷◌, ◌++◌, Option, Some, Result, Ok, Err, refl, sym, ap, ◌∙◌, subst, append-nil, length}
-use Rattle.std.specs.Prelude.{IsErrAnd, IsOk, OnOk, map}
+use Rattle.std.specs.Prelude.{IfErr, IsErrAnd, IsOk, OnOk, map}
 use Rattle.std.specs.List.{All, filter, range_with_len}
 use Rattle.std.proofs.lemmas.List.{length-map}
 use Rattle.std.proofs.lemmas.List.Elements.{All-head}
@@ -31,7 +31,7 @@ use Rattle.tg_threads.specs.declared.worker.Finished.{Finished}
 use Rattle.tg_threads.specs.Output.{Boxed, IsRaceOutput, boxed, end_text}
 use Rattle.tg_threads.specs.Tasks.{AllBring, text_of_told}
 use Rattle.tg_threads.specs.Shares.{AreRaced, IsInScriptOrder, all_assigned, is_run_by, lines_of}
-use Rattle.tg_threads.specs.Race.{EndsRace, HasRaced, IsWhole, TellsRace, plan_of_script, race_fault_of_audit, race_read_failures, race_write_failures}
+use Rattle.tg_threads.specs.Race.{EndsRace, HasRaced, IsBeforeWriting, IsOfTelling, IsRaceDue, IsWhole, TellsRace, plan_of_script, race_fault_of_audit, race_read_failures, race_write_failures}
 use Rattle.tg_threads.proofs.WeaveLaws.{bring_as_many, each_told}
 
 -- as many fresh sessions as workers
@@ -132,6 +132,36 @@ unaudited s ts given listed (audit.BadEntry at) (Err why) before after opening e
     absurd (IsFirstBad-not_legal (start_of given) listed at says
     (subst (λ (p : Plan). IsLegal (start_of p) listed) (sym opening) (subst (λ (es : List Entry). IsLegal (start_of s.opening) es) (sym entries) legal)))
 
+-- ---- when a fault is due
+
+-- so it is no fault that the audit found
+pub unaudited_fault : {T : Type 0} (s : StoreState) (given : Plan) (listed : List Entry) (f : AuditFault) (r : Result T RaceFault) → given ≡ s.opening → listed ≡ s.entries →
+    IsLegal (start_of s.opening) s.entries → IsAuditFault (start_of given) listed f → IsErrAnd r (λ why. why ≡ race_fault_of_audit f) → IfErr r IsOfTelling
+unaudited_fault s given listed f (Ok done) opening entries legal says is = absurd is
+unaudited_fault s given listed audit.OutOfMemory (Err why) opening entries legal says is = subst IsOfTelling (sym is) tt
+unaudited_fault s given listed (audit.BadEntry at) (Err why) opening entries legal says is =
+    absurd (IsFirstBad-not_legal (start_of given) listed at says
+    (subst (λ (p : Plan). IsLegal (start_of p) listed) (sym opening) (subst (λ (es : List Entry). IsLegal (start_of s.opening) es) (sym entries) legal)))
+
+-- before anything is written
+pub before_writing_due : (start : Start) (f : RaceFault) → IsBeforeWriting f → IsRaceDue start f
+before_writing_due start (fault.Script f) h = absurd h
+before_writing_due start fault.OutOfMemory h = tt
+before_writing_due start fault.NoThread h = tt
+before_writing_due start fault.ReceiptMismatch h = tt
+before_writing_due start fault.AuditFailed h = absurd h
+before_writing_due start fault.WriteFailed h = absurd h
+
+-- and where the replies are
+pub telling_due : {T : Type 0} (start : Start) (r : Result T RaceFault) → IfErr r IsOfTelling → IfErr r (IsRaceDue start)
+telling_due start (Ok done) h = tt
+telling_due start (Err (fault.Script f)) h = absurd h
+telling_due start (Err fault.OutOfMemory) h = tt
+telling_due start (Err fault.NoThread) h = absurd h
+telling_due start (Err fault.ReceiptMismatch) h = absurd h
+telling_due start (Err fault.AuditFailed) h = absurd h
+telling_due start (Err fault.WriteFailed) h = tt
+
 -- ---- the end
 
 race_keeps : {T : Type 0} (r : Result T RaceFault) (start : Start) (bytes before left : List ℕ) (mid after : Option (List ℕ)) → HasRaced start bytes before r left mid → KeepsBytes mid after → HasRaced start bytes before r left after
@@ -154,6 +184,10 @@ race_ended outcome r start bytes before left mid after f g h (keeps, inl same) =
     subst (λ x. HasRaced start bytes before x left after) (sym same.0) (race_keeps outcome start bytes before left mid after h keeps)
 race_ended outcome r start bytes before left mid after f g h (keeps, inr failed) =
     subst (λ x. HasRaced start bytes before x left after) (sym failed.1) (race_unfinished outcome start bytes before left after failed.0 (race_keeps outcome start bytes before left mid after h keeps))
+
+pub ended_due : {T : Type 0} (start : Start) (outcome r : Result T RaceFault) (mid after : Option (List ℕ)) (f g : ℕ) → IfErr outcome (IsRaceDue start) → EndsRace mid f outcome r after g → IfErr r (IsRaceDue start)
+ended_due start outcome r mid after f g due (keeps, inl same) = subst (λ x. IfErr x (IsRaceDue start)) (sym same.0) due
+ended_due start outcome r mid after f g due (keeps, inr failed) = subst (λ x. IfErr x (IsRaceDue start)) (sym failed.1) tt
 
 -- ---- how often the source and the sink failed
 

@@ -10,7 +10,9 @@ use Rattle.tg_text.specs.declared.fault.ScriptFault.{ScriptFault}
 use Rattle.tg_text.specs.declared.fault.ScriptFault.TheVariants as script
 use Rattle.tg_text.specs.Reading.{ReadsScript}
 use Rattle.tg_text.specs.Sinks.{KeepsBytes}
+use Rattle.tg_script.specs.Lines.{IsOfKeeping}
 use Rattle.tg_script.specs.Script.{Start, CanOpen, HasRoomForWorkers, commands_of, edges_of}
+use Rattle.tg_script.specs.Running.{IsDue}
 use Rattle.tg_store.specs.Store.{StoreState}
 use Rattle.tg_threads.specs.declared.fault.RaceFault.{RaceFault}
 use Rattle.tg_threads.specs.declared.fault.RaceFault.TheVariants as fault
@@ -38,10 +40,12 @@ IsOpenFault start script.OutOfMemory = HasRoomForWorkers start
 IsOpenFault start script.HeapFull = HasRoomForWorkers start × (start.blocks < start.workers)
 IsOpenFault start f = ⊥
 
--- the bytes are lines up to this fault; or they are a whole script, and this fault came of opening its store
+-- the bytes are lines up to this fault, which was met in reading or keeping them; or they are a whole script, and this fault came
+-- of opening its store
 abbrev pub IsNotRun : Start → List ℕ → ScriptFault → List ℕ → Type 0
 IsNotRun start bytes f left =
-    (lines : List Line) × (ReadsScript start.workers bytes lines (Some f) left ⊎ (ReadsScript start.workers bytes lines None left × IsOpenFault start f))
+    (lines : List Line)
+    × ((IsOfKeeping f × ReadsScript start.workers bytes lines (Some f) left) ⊎ (ReadsScript start.workers bytes lines None left × IsOpenFault start f))
 
 -- a fault behind the opening, before anything is written; the audit finds none
 abbrev pub IsBeforeWriting : RaceFault → Type 0
@@ -51,6 +55,19 @@ IsBeforeWriting fault.NoThread = Unit {0}
 IsBeforeWriting fault.ReceiptMismatch = Unit {0}
 IsBeforeWriting fault.AuditFailed = ⊥
 IsBeforeWriting fault.WriteFailed = ⊥
+
+-- a fault that comes of telling what the lines came to; the audit finds none
+abbrev pub IsOfTelling : RaceFault → Type 0
+IsOfTelling fault.OutOfMemory = Unit {0}
+IsOfTelling fault.WriteFailed = Unit {0}
+IsOfTelling f = ⊥
+
+-- What holds where a race ends with this fault, whatever its source and its sink tell of their bytes: for its limits it ends only
+-- where they are at fault, and the audit finds none.
+abbrev pub IsRaceDue : Start → RaceFault → Type 0
+IsRaceDue start (fault.Script f) = IsDue start f
+IsRaceDue start fault.AuditFailed = ⊥
+IsRaceDue start f = Unit {0}
 
 -- a fault of the threads, and one of the audit, as one of a race
 abbrev pub of_threads : ThreadsFault → RaceFault

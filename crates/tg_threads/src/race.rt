@@ -1,12 +1,13 @@
 //! A whole script, whose workers run their lines side by side.
 ghost use Rattle.std.specs.Prelude.{◌≡◌, ◌⊎◌, ◌+◌, ◌<◌, ◌≤◌, ℕ, List, [], Some, true, IfErr, IfOk, OnOk, length};
 ghost use Rattle.std.specs.List.{All, range_with_len};
+ghost use Rattle.tg_model.specs.declared.value.Value.{Value};
 ghost use Rattle.tg_text.specs.Sinks.{KeepsBytes};
 ghost use Rattle.tg_script.specs.Opening.{IsCommand};
 ghost use Rattle.tg_script.specs.Script.{Start};
 ghost use Rattle.tg_shared.specs.Sessions.{AreFresh, AreSharedOut, AtSome, MayClose, sessions_made, start_of_store};
 ghost use Rattle.tg_threads.specs.Output.{boxed};
-ghost use Rattle.tg_threads.specs.Race.{EndsRace, HasRaced, IsBeforeWriting, OpensRace, race_read_failures, race_write_failures};
+ghost use Rattle.tg_threads.specs.Race.{EndsRace, HasRaced, IsBeforeWriting, IsRaceDue, OpensRace, race_read_failures, race_write_failures};
 ghost use Rattle.tg_threads.specs.Shares.{AreRaced};
 
 use crate::fault::RaceFault;
@@ -61,6 +62,7 @@ pub fn run_race<
     ensures output { let start : Start = record { workers = settings.workers; helpers = settings.helpers; limit = settings.max_vertices; blocks = settings.limits.max_blocks; values = workers.items; stock = stock.items } in
         (bytes before : List ℕ) → S.left source.old ≡ Some bytes → K.taken sink.old ≡ Some before →
         (left : List ℕ) × (S.left source.new ≡ Some left) × HasRaced start bytes before result left (K.taken sink.new) }
+    ensures due { let start : Start = record { workers = settings.workers; helpers = settings.helpers; limit = settings.max_vertices; blocks = settings.limits.max_blocks; values = workers.items; stock = stock.items } in IfErr result (IsRaceDue start) }
     ensures asked { S.asked source.new ≤ S.asked source.old + 1048577 }
     ensures read_failed { S.failures source.new ≡ S.failures source.old + race_read_failures result }
     ensures write_failed { K.failures sink.old + race_write_failures result ≤ K.failures sink.new }
@@ -101,6 +103,7 @@ fn race<P: Payload + Send, S: Source, K: Sink, G: Turnstile + Sync, R: Threads +
     ensures output { let start : Start = record { workers = settings.workers; helpers = settings.helpers; limit = settings.max_vertices; blocks = settings.limits.max_blocks; values = workers.items; stock = stock.items } in
         (bytes before : List ℕ) → S.left source.old ≡ Some bytes → K.taken sink.old ≡ Some before →
         (left : List ℕ) × (S.left source.new ≡ Some left) × HasRaced start bytes before result left (K.taken sink.new) }
+    ensures due { let start : Start = record { workers = settings.workers; helpers = settings.helpers; limit = settings.max_vertices; blocks = settings.limits.max_blocks; values = workers.items; stock = stock.items } in IfErr result (IsRaceDue start) }
     ensures asked { S.asked source.new ≤ S.asked source.old + 1048577 }
     ensures read_failed { S.failures source.new ≡ S.failures source.old + race_read_failures result }
     ensures write_failed { K.failures sink.new ≡ K.failures sink.old + race_write_failures result }
@@ -144,6 +147,7 @@ fn open_race<P: Payload, S: Source, K: Sink>(
     ensures output { let start : Start = record { workers = settings.workers; helpers = settings.helpers; limit = settings.max_vertices; blocks = settings.limits.max_blocks; values = workers.items; stock = [] } in
         (bytes : List ℕ) → S.left source.old ≡ Some bytes → (left : List ℕ) × (S.left source.new ≡ Some left) × OpensRace start bytes result left }
     ensures taken { KeepsBytes (K.taken sink.old) (K.taken sink.new) }
+    ensures due { (stock : List Value) → let start : Start = record { workers = settings.workers; helpers = settings.helpers; limit = settings.max_vertices; blocks = settings.limits.max_blocks; values = workers.items; stock = stock } in IfErr result (IsRaceDue start) }
     ensures asked { S.asked source.new ≤ S.asked source.old + 1048577 }
     ensures read_failed { S.failures source.new ≡ S.failures source.old + race_read_failures result }
     ensures write_failed { K.failures sink.new ≡ K.failures sink.old + race_write_failures result }
@@ -171,14 +175,15 @@ struct Raced<P: Payload> {
 }
 
 impl<P: Payload> Raced<P> {
-    ghost use Rattle.std.specs.Prelude.{◌≡◌, ◌+◌, List, ℕ, Some};
+    ghost use Rattle.std.specs.Prelude.{◌≡◌, ◌+◌, List, ℕ, Some, IfErr};
     ghost use Rattle.std.specs.List.{All};
-    ghost use Rattle.tg_threads.specs.Race.{TellsRace, race_read_failures, race_write_failures};
+    ghost use Rattle.tg_threads.specs.Race.{IsOfTelling, TellsRace, race_read_failures, race_write_failures};
     ghost use Rattle.tg_threads.specs.Tasks.{IsThere};
 
     // Audits the journal, and writes the replies.
     fn tell<K: Sink>(&self, alloc: Global, sink: &mut K) -> Result<(), RaceFault>
         requires { All (IsThere self.now.store.entries) self.now.told.items }
+        ensures fault { IfErr result IsOfTelling }
         ensures read { race_read_failures result ≡ 0 }
         ensures write_failed { K.failures sink.new ≡ K.failures sink.old + race_write_failures result }
         ensures told { (before : List ℕ) → K.taken sink.old ≡ Some before → TellsRace self.now.store self.now.told.items before result (K.taken sink.new) }
@@ -275,6 +280,9 @@ fn closed<L: Round, P: Payload>(
 {
     match close(store, sessions) {
         Ok(store) => Ok(store),
-        Err(_) => Err(RaceFault::ReceiptMismatch),
+        Err(refused) => {
+            drop(refused);
+            Err(RaceFault::ReceiptMismatch)
+        }
     }
 }

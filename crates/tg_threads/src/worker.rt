@@ -97,15 +97,17 @@ fn create<L: Round, P: Payload, R: Wait>(
     let Some(draft) = draft else {
         return Told::Refused(Refusal::Stock);
     };
-    if let Err(refused) = session.create(rt, store, label, draft) {
-        match refused.why {
-            CreateFault::VerticesFull => (),
-            CreateFault::NoSuchWorker => return Told::Refused(Refusal::Worker),
-            CreateFault::OutOfMemory => return Told::Refused(Refusal::Memory),
-            CreateFault::HeapFull => return Told::Refused(Refusal::Heap),
-        }
+    let Err(refused) = session.create(rt, store, label, draft) else {
+        return last_told(session);
+    };
+    let why = refused.why;
+    drop(refused);
+    match why {
+        CreateFault::VerticesFull => last_told(session),
+        CreateFault::NoSuchWorker => Told::Refused(Refusal::Worker),
+        CreateFault::OutOfMemory => Told::Refused(Refusal::Memory),
+        CreateFault::HeapFull => Told::Refused(Refusal::Heap),
     }
-    last_told(session)
 }
 
 // How many vertices the heap then has is told of a full collection alone.

@@ -1,7 +1,11 @@
-use Rattle.std.proofs.Common.{◌∙◌}
+use Rattle.std.proofs.Common.{◌∙◌, List, subst, sym}
+use Rattle.std.proofs.lemmas.Result.{err_from_is_err_and}
+use Rattle.std.specs.List.{All}
+use Rattle.tg_text.specs.declared.line.Line.{Line}
+use Rattle.tg_script.specs.Opening.{IsCommand}
 use Rattle.tg_script.specs.Script.{Start, commands_of}
 use Rattle.tg_script.proofs.LinesLaws.{keeps_known}
-use Rattle.tg_threads.proofs.RaceLaws.{race_told, raced_same}
+use Rattle.tg_threads.proofs.RaceLaws.{race_told, raced_same, telling_due}
 use Rattle.tg_threads.proofs.race.race.Goals as goal
 
 pub returns-clause-output : goal.returns-clause-output
@@ -21,3 +25,16 @@ returns-clause-output g c = λ bytes before known taken.
       race_told c.tell-told.result start bytes before opens.0 lines store ts (s.taken c.tell-told.new.sink) whole.1 (came.0 ∙ whole.3) same
           (c.tell-told.ensures.told before (keeps_known (s.taken c.args.sink.now) (s.taken c.open_race.new.sink) before taken c.in_ok-opened.ensures.taken)),
     )
+
+pub returns-clause-due : goal.returns-clause-due
+returns-clause-due g c =
+    let start : Start = record { workers = c.args.settings.workers; helpers = c.args.settings.helpers; limit = c.args.settings.max_vertices; blocks = c.args.settings.limits.max_blocks; values = c.args.workers.items; stock = c.args.stock.items } in
+    telling_due start c.tell-told.result c.tell-told.ensures.fault
+
+pub returns-in_err-opened-clause-due : goal.returns-in_err-opened-clause-due
+returns-in_err-opened-clause-due g c =
+    let given = err_from_is_err_and c.from_residual.result c.from_residual.ensures.1 in
+    rw (given.1, given.2) (c.in_err-opened.ensures.due c.args.stock.items)
+
+pub run_lines-requires-clause-commands : goal.run_lines-requires-clause-commands
+run_lines-requires-clause-commands g c κs within = subst (λ (lines : List Line). All IsCommand lines) (sym c.as_slice.ensures.value) c.in_ok-opened.ensures.commands
