@@ -6,15 +6,11 @@ use tg_journal::{AuditFault, Entry, Journal, audit};
 use tg_model::{Cause, Command, Deed, Denial, Edge, Law, Numbers, Opening, Reply, Rule, Value};
 use tg_rights::{Label, Right, Rights};
 
-fn number(alloc: Global, value: u64) -> Result<Numbers, AllocError> {
-    let mut items = Vec::new(alloc);
-    items.push(value)?;
-    Ok(Numbers::from_vec(items))
-}
-
 fn label(letters: &str) -> Result<Label, Fail> {
-    let rights = Rights::read_text(letters.as_bytes()).ok_or("no text of rights")?;
-    Ok(Label::new(rights).ok_or("no right")?)
+    match Label::read_text(letters.as_bytes()) {
+        Some(label) => Ok(label),
+        None => Err(Fail::from("no label")),
+    }
 }
 
 // Two workers, with a cell of 0 each. The first may take from the second and grant to it.
@@ -29,20 +25,20 @@ fn opening(alloc: Global) -> Result<Opening, Fail> {
     for _ in 0..2 {
         values.push(Value {
             law: Law::Cell,
-            state: number(alloc, 0)?,
+            state: Numbers::one(0),
         })?;
     }
     Ok(Opening::new(2, edges, values, 8)?)
 }
 
 // Worker 0 makes a cell of 0.
-fn created(alloc: Global) -> Result<Entry, Fail> {
+fn created() -> Result<Entry, Fail> {
     Ok(Entry {
         worker: 0,
         deed: Deed::Create {
             label: label("rw")?,
             law: Law::Cell,
-            state: number(alloc, 0)?,
+            state: Numbers::one(0),
         },
         reply: Reply::Name(2),
     })
@@ -63,12 +59,12 @@ fn granted() -> Result<Entry, Fail> {
 }
 
 // Worker 1 reads it.
-fn read(alloc: Global, state: u64) -> Result<Entry, Fail> {
-    Ok(Entry {
+fn read(state: u64) -> Entry {
+    Entry {
         worker: 1,
         deed: Deed::Plain(Command::Read { target: 2 }),
-        reply: Reply::Values(number(alloc, state)?),
-    })
+        reply: Reply::Values(Numbers::one(state)),
+    }
 }
 
 // A worker may not write it.
@@ -100,17 +96,17 @@ fn enter(journal: &mut Journal, entry: Entry) -> Result<(), AllocError> {
 }
 
 // Adds the entries behind the first, with the state that is said to have been read, and with the one who is denied to write.
-fn enter_rest(alloc: Global, journal: &mut Journal, state: u64, writer: u64) -> Result<(), Fail> {
+fn enter_rest(journal: &mut Journal, state: u64, writer: u64) -> Result<(), Fail> {
     enter(journal, granted()?)?;
-    enter(journal, read(alloc, state)?)?;
+    enter(journal, read(state))?;
     Ok(enter(journal, denied_write(writer))?)
 }
 
 // The journal, with the state that is said to have been read, and with the one who is denied to write.
 fn grant_then_denied_write(alloc: Global, state: u64, writer: u64) -> Result<Journal, Fail> {
     let mut journal = Journal::new(alloc);
-    enter(&mut journal, created(alloc)?)?;
-    enter_rest(alloc, &mut journal, state, writer)?;
+    enter(&mut journal, created()?)?;
+    enter_rest(&mut journal, state, writer)?;
     Ok(journal)
 }
 
@@ -143,9 +139,10 @@ fn last_writer(alloc: Global) -> Result<u64, Fail> {
 #[test]
 fn altered_journal(rt: HostRuntime) -> Result<(), Fail> {
     let alloc = rt.alloc();
-    let (plain, altered) = (audited_with(alloc, 0, 1)?, audited_with(alloc, 1, 1)?);
     assert_eq!(rt; last_writer(alloc)?, 1);
-    assert_eq!(rt; (plain, altered), (None, Some(2)));
+    for (state, wanted) in [(0, None), (1, Some(2))] {
+        assert_eq!(rt; audited_with(alloc, state, 1)?, wanted);
+    }
     Ok(())
 }
 
@@ -161,63 +158,93 @@ fn audited_part(alloc: Global, from: usize, to: usize) -> Result<Option<u64>, Fa
 }
 
 // Worker 0 makes a cell without a state.
-fn misfit(alloc: Global) -> Result<Entry, Fail> {
+fn misfit() -> Result<Entry, Fail> {
     Ok(Entry {
         worker: 0,
         deed: Deed::Create {
             label: label("rw")?,
             law: Law::Cell,
-            state: Numbers::from_vec(Vec::new(alloc)),
+            state: Numbers::none(),
         },
         reply: Reply::Name(2),
     })
 }
 
-// What the audit finds in the journal with these entries in front of those behind its first one.
-fn audited_behind(alloc: Global, front: Vec<Entry>) -> Result<Option<u64>, Fail> {
-    let mut journal = Journal::new(alloc);
-    for entry in front {
-        enter(&mut journal, entry)?;
+// How a journal is damaged.
+#[derive(Clone, Copy)]
+enum Damage {
+    NoFirst,
+    NoLast,
+    UnknownWorker,
+    FirstTwice,
+    // the first entry has a state that doesn't fit
+    Misfit,
+}
+
+// Adds what stands in the place of the first entry.
+fn enter_front(journal: &mut Journal, damage: Damage) -> Result<(), Fail> {
+    if matches!(damage, Damage::Misfit) {
+        return Ok(enter(journal, misfit()?)?);
     }
-    enter_rest(alloc, &mut journal, 0, 1)?;
+    for _ in 0..2 {
+        enter(journal, created()?)?;
+    }
+    Ok(())
+}
+
+// What the audit finds in the journal with this in the place of its first entry.
+fn audited_behind(alloc: Global, damage: Damage) -> Result<Option<u64>, Fail> {
+    let mut journal = Journal::new(alloc);
+    enter_front(&mut journal, damage)?;
+    enter_rest(&mut journal, 0, 1)?;
     audited(alloc, journal.entries())
 }
 
-// What the audit finds without the first entry, without the last, with an unknown worker, with the first entry twice,
-// and with a state that doesn't fit.
-fn damages(alloc: Global) -> Result<[Option<u64>; 5], Fail> {
-    Ok([
-        audited_part(alloc, 1, 4)?,
-        audited_part(alloc, 0, 3)?,
-        audited_with(alloc, 0, 9)?,
-        audited_behind(alloc, vec![in alloc; created(alloc)?, created(alloc)?]?)?,
-        audited_behind(alloc, vec![in alloc; misfit(alloc)?]?)?,
-    ])
+// What the audit finds in the journal once it is damaged.
+fn audited_damaged(alloc: Global, damage: Damage) -> Result<Option<u64>, Fail> {
+    match damage {
+        Damage::NoFirst => audited_part(alloc, 1, 4),
+        Damage::NoLast => audited_part(alloc, 0, 3),
+        Damage::UnknownWorker => audited_with(alloc, 0, 9),
+        Damage::FirstTwice | Damage::Misfit => audited_behind(alloc, damage),
+    }
 }
 
 #[test]
 fn damaged_journals(rt: HostRuntime) -> Result<(), Fail> {
-    let wanted = [Some(0), None, Some(3), Some(1), Some(0)];
-    assert_eq!(rt; damages(rt.alloc())?, wanted);
+    for (damage, wanted) in [
+        (Damage::NoFirst, Some(0)),
+        (Damage::NoLast, None),
+        (Damage::UnknownWorker, Some(3)),
+        (Damage::FirstTwice, Some(1)),
+        (Damage::Misfit, Some(0)),
+    ] {
+        assert_eq!(rt; audited_damaged(rt.alloc(), damage)?, wanted);
+    }
     Ok(())
 }
 
-// What the audit finds behind the journal's first two entries in 3,000 denied writes, the last of them by this worker.
+// Adds the journal's first two entries, and 3,000 denied writes, the last of them by this worker.
+fn enter_long(journal: &mut Journal, last: u64) -> Result<(), Fail> {
+    enter(journal, created()?)?;
+    enter(journal, granted()?)?;
+    for at in 0..3000 {
+        enter(journal, denied_write(if at == 2999 { last } else { 1 }))?;
+    }
+    Ok(())
+}
+
+// What the audit finds in such a journal.
 fn audited_long(alloc: Global, last: u64) -> Result<Option<u64>, Fail> {
     let mut journal = Journal::new(alloc);
-    enter(&mut journal, created(alloc)?)?;
-    enter(&mut journal, granted()?)?;
-    for _ in 0..2999 {
-        enter(&mut journal, denied_write(1))?;
-    }
-    enter(&mut journal, denied_write(last))?;
+    enter_long(&mut journal, last)?;
     audited(alloc, journal.entries())
 }
 
 #[test]
 fn journal_of_three_thousand_entries(rt: HostRuntime) -> Result<(), Fail> {
-    let alloc = rt.alloc();
-    let (plain, unknown) = (audited_long(alloc, 1)?, audited_long(alloc, 9)?);
-    assert_eq!(rt; (plain, unknown), (None, Some(3001)));
+    for (last, wanted) in [(1, None), (9, Some(3001))] {
+        assert_eq!(rt; audited_long(rt.alloc(), last)?, wanted);
+    }
     Ok(())
 }

@@ -1,6 +1,7 @@
 //! The race of three cells event by event, and helpers on threads over one table.
 use crate::race::trials::{Found, race, win_and_look};
 use std::alloc::{AllocError, Global};
+use std::collections::LinkedList;
 use std::test::Fail;
 use tg_closed::ClosedWords;
 use tg_race::{Event, RaceTable, Record, Shape, World};
@@ -41,52 +42,79 @@ fn leads_to(word: u64, place: Place) -> bool {
     word >> 37 == 1 && word & 15 == 0 && place_of(word) == place
 }
 
-fn has_won(record: &Record, cell: u64, place: Place) -> bool {
-    record
-        .won
-        .iter()
-        .any(|pair| pair.0 == cell && pair.1 == place)
+// Whether the cell is among the pairs with this place.
+fn has_pair(pairs: &LinkedList<(u64, Place)>, cell: u64, place: Place) -> bool {
+    for pair in pairs.iter() {
+        if pair.0 == cell && pair.1 == place {
+            return true;
+        }
+    }
+    false
 }
 
-fn has_seen(record: &Record, cell: u64, place: Place) -> bool {
-    record
-        .seen
-        .iter()
-        .any(|pair| pair.0 == cell && pair.1 == place)
-}
-
-// What the helper 0 does before it meets the other, and which of it could happen.
-fn events_of_0(world: &mut World) -> Result<[bool; 7], AllocError> {
-    let win = |cell: u64, place: Place| -> Event { Event::Win { cell, place } };
-    Ok([
-        world.event(0, Event::Part)?,
-        world.event(0, Event::Claim)?,
-        world.event(0, Event::Block { aged: true })?,
-        world.event(0, win(0, FIRST))?,
-        world.event(0, win(1, FIRST))?,
-        world.event(0, win(2, SECOND))?,
-        world.event(0, win(1, SECOND))?,
-    ])
-}
+// What the helper 0 does before it meets the other, and whether it could happen.
+const EVENTS_OF_0: [(Event, bool); 7] = [
+    (Event::Part, true),
+    (Event::Claim, true),
+    (Event::Block { aged: true }, true),
+    (
+        Event::Win {
+            cell: 0,
+            place: FIRST,
+        },
+        true,
+    ),
+    (
+        Event::Win {
+            cell: 1,
+            place: FIRST,
+        },
+        false,
+    ),
+    (
+        Event::Win {
+            cell: 2,
+            place: SECOND,
+        },
+        false,
+    ),
+    (
+        Event::Win {
+            cell: 1,
+            place: SECOND,
+        },
+        true,
+    ),
+];
 
 // What the helper 1 does.
-fn events_of_1(world: &mut World) -> Result<[bool; 3], AllocError> {
-    let lost = Event::Win {
-        cell: 0,
-        place: FIRST,
-    };
-    Ok([
-        world.event(1, Event::Claim)?,
-        world.event(1, lost)?,
-        world.event(1, Event::Look { cell: 1 })?,
-    ])
+const EVENTS_OF_1: [(Event, bool); 3] = [
+    (Event::Claim, true),
+    (
+        Event::Win {
+            cell: 0,
+            place: FIRST,
+        },
+        false,
+    ),
+    (Event::Look { cell: 1 }, true),
+];
+
+// Whether each event happens where it could, and no other does.
+fn happen(world: &mut World, helper: usize, events: &[(Event, bool)]) -> Result<bool, AllocError> {
+    for (event, could) in events {
+        if world.event(helper, *event)? != *could {
+            return Ok(false);
+        }
+    }
+    Ok(true)
 }
 
 // The helper 1 has claimed chunk 1, which is past the last, and has seen where the cell 1 went.
 fn has_looked(record: Option<&Record>) -> bool {
     match record {
         Some(v) => {
-            v.chunks.len() == 1 && v.chunks.iter().all(|c| *c == 1) && has_seen(v, 1, SECOND)
+            v.chunks.len() == 1 && v.chunks.iter().all(|c| *c == 1) && has_pair(&v.seen, 1, SECOND)
         }
         None => false,
     }
@@ -99,8 +127,8 @@ fn has_all(record: Option<&Record>) -> bool {
             v.share == 2
                 && v.chunks.iter().any(|c| *c == 1)
                 && v.won.len() == 2
-                && has_won(v, 0, FIRST)
-                && has_won(v, 1, SECOND)
+                && has_pair(&v.won, 0, FIRST)
+                && has_pair(&v.won, 1, SECOND)
         }
         None => false,
     }
@@ -110,8 +138,8 @@ fn has_all(record: Option<&Record>) -> bool {
 fn race_of_three_cells(rt: HostRuntime) -> Result<(), Fail> {
     let mut world = three_cells(rt.alloc())?;
     // the place FIRST is used, and nothing that was claimed or won leads to the cell 2
-    assert!(rt; events_of_0(&mut world)? == [true, true, true, true, false, false, true]);
-    assert!(rt; events_of_1(&mut world)? == [true, false, true]);
+    assert!(rt; happen(&mut world, 0, &EVENTS_OF_0)?);
+    assert!(rt; happen(&mut world, 1, &EVENTS_OF_1)?);
     assert!(rt; has_looked(world.record_of(1)));
     assert!(rt; world.event(0, Event::Meet { other: 1 })?);
     assert!(rt; !world.event(1, Event::Claim)?);

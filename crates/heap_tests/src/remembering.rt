@@ -1,7 +1,27 @@
 //! The remembered set.
+use std::alloc::AllocError;
 use std::test::Fail;
 use tg_remember::Remembered;
 use tg_word::Place;
+
+// Notes the places in turn.
+fn note_each(remembered: &mut Remembered, places: &[Place]) -> Result<(), AllocError> {
+    for place in places {
+        remembered.reserve()?;
+        remembered.note(*place);
+    }
+    Ok(())
+}
+
+// The places that are remembered, in order.
+fn are_remembered(remembered: &Remembered, places: &[Place]) -> bool {
+    for (at, place) in places.iter().enumerate() {
+        if !remembered.contains(*place) || remembered.len() <= at || remembered.nth(at) != *place {
+            return false;
+        }
+    }
+    remembered.len() == places.len()
+}
 
 #[test]
 fn each_place_once_in_the_order_of_first_notes(rt: HostRuntime) -> Result<(), Fail> {
@@ -16,13 +36,7 @@ fn each_place_once_in_the_order_of_first_notes(rt: HostRuntime) -> Result<(), Fa
         cell: 63,
     };
     let mut remembered = Remembered::new(rt.alloc());
-    for place in [first, second, first] {
-        remembered.reserve()?;
-        remembered.note(place);
-    }
-    assert!(rt; remembered.contains(first) && remembered.contains(second));
-    assert_eq!(rt; remembered.len(), 2);
-    assert_eq!(rt; remembered.nth(0), first);
-    assert_eq!(rt; remembered.nth(1), second);
+    note_each(&mut remembered, &[first, second, first])?;
+    assert!(rt; are_remembered(&remembered, &[first, second]));
     Ok(())
 }

@@ -47,12 +47,11 @@ fn label(letters: &str) -> Label {
 }
 
 // The state that a payload starts with: nothing in a log, else 0.
-fn first_state(alloc: Global, law: Law) -> Result<Numbers, AllocError> {
-    let mut items = Vec::new(alloc);
-    if !matches!(law, Law::Log(_)) {
-        items.push(0)?;
+fn first_state(law: Law) -> Numbers {
+    match law {
+        Law::Log(_) => Numbers::none(),
+        _ => Numbers::one(0),
     }
-    Ok(Numbers::from_vec(items))
 }
 
 // An opening of so many workers with these edges, and with so many cells of 0.
@@ -75,7 +74,7 @@ fn opening(
     for _ in 0..cells {
         values.push(Value {
             law: Law::Cell,
-            state: first_state(alloc, Law::Cell)?,
+            state: first_state(Law::Cell),
         })?;
     }
     Ok(Opening::new(workers, drawn, values, max_vertices))
@@ -87,7 +86,7 @@ fn deed(alloc: Global, ask: &Ask) -> Result<Deed, AllocError> {
             return Ok(Deed::Create {
                 label: label(letters),
                 law: *law,
-                state: first_state(alloc, *law)?,
+                state: first_state(*law),
             });
         }
         Ask::Take(via, target, letters) => Command::Take {
@@ -116,11 +115,12 @@ fn deed(alloc: Global, ask: &Ask) -> Result<Deed, AllocError> {
 
 // Whether the edges are those that are wanted, in this order.
 fn are_edges(edges: &[(u64, Label)], wanted: &[(u64, &str)]) -> bool {
+    for (edge, want) in edges.iter().zip(wanted) {
+        if edge.0 != want.0 || edge.1 != label(want.1) {
+            return false;
+        }
+    }
     edges.len() == wanted.len()
-        && edges
-            .iter()
-            .zip(wanted)
-            .all(|(edge, want)| edge.0 == want.0 && edge.1 == label(want.1))
 }
 
 fn is_wanted(reply: &Reply, want: &Want) -> bool {
@@ -150,82 +150,74 @@ fn is_wanted(reply: &Reply, want: &Want) -> bool {
     }
 }
 
+// Whether the worker's deed is answered as wanted. One that wanted memory is handed in again.
+fn is_answered(graph: &mut Graph, worker: u64, deed: &Deed, want: &Want) -> bool {
+    if !deed.fits() {
+        return false;
+    }
+    let answer = match graph.apply(worker, deed) {
+        Err(ModelFault::OutOfMemory) => graph.apply(worker, deed),
+        answer => answer,
+    };
+    match &answer {
+        Ok(reply) => is_wanted(reply, want),
+        Err(ModelFault::NoSuchWorker) => matches!(want, Want::NoSuchWorker),
+        Err(ModelFault::OutOfMemory) => false,
+    }
+}
+
 // How many lines are answered as wanted, before the first that isn't.
-fn answered(
-    alloc: Global,
-    workers: u64,
-    max_vertices: u64,
-    edges: &[(u64, u64, &str)],
-    lines: &[(u64, Ask, Want)],
-) -> Result<usize, AllocError> {
-    let Ok(opening) = opening(alloc, workers, max_vertices, edges, workers)? else {
+fn answered(alloc: Global, run: &WorkedRun) -> Result<usize, AllocError> {
+    let Ok(opening) = opening(alloc, run.workers, run.max_vertices, run.edges, run.workers)? else {
         return Ok(0);
     };
     let mut graph = Graph::open(alloc, &opening)?;
-    for (at, (worker, ask, want)) in lines.iter().enumerate() {
-        let deed = deed(alloc, ask)?;
-        if !deed.fits() {
-            return Ok(at);
-        }
-        let answer = match graph.apply(*worker, &deed) {
-            Err(ModelFault::OutOfMemory) => graph.apply(*worker, &deed),
-            answer => answer,
-        };
-        let wanted = match &answer {
-            Ok(reply) => is_wanted(reply, want),
-            Err(ModelFault::NoSuchWorker) => matches!(want, Want::NoSuchWorker),
-            Err(ModelFault::OutOfMemory) => false,
-        };
-        if !wanted {
+    for (at, (worker, ask, want)) in run.lines.iter().enumerate() {
+        if !is_answered(&mut graph, *worker, &deed(alloc, ask)?, want) {
             return Ok(at);
         }
     }
-    Ok(lines.len())
+    Ok(run.lines.len())
 }
 
-// Asserts that each line is answered as wanted. Where there was no memory for what isn't the graph's, it goes again.
-fn run(
-    rt: &impl std::process::Abort,
-    alloc: Global,
+// The same. Where there was no memory for what isn't the graph's, it goes again.
+fn answered_at_last(alloc: Global, run: &WorkedRun) -> Result<usize, AllocError> {
+    match answered(alloc, run) {
+        Ok(count) => Ok(count),
+        Err(_) => answered(alloc, run),
+    }
+}
+
+// A run: how many workers there are, how many vertices may ever be made, the edges in front, and each line with its worker and with
+// what is to be answered.
+#[derive(Clone, Copy)]
+struct WorkedRun<'a> {
+    name: &'a str,
     workers: u64,
     max_vertices: u64,
-    edges: &[(u64, u64, &str)],
-    lines: &[(u64, Ask, Want)],
-) -> Result<(), Fail> {
-    let count = match answered(alloc, workers, max_vertices, edges, lines) {
-        Ok(count) => count,
-        Err(_) => answered(alloc, workers, max_vertices, edges, lines)?,
-    };
-    assert_eq!(rt; count, lines.len());
-    Ok(())
+    edges: &'a [(u64, u64, &'a str)],
+    lines: &'a [(u64, Ask, Want)],
 }
 
-#[test]
-fn grant_then_denied_write(rt: HostRuntime) -> Result<(), Fail> {
-    run(
-        &rt,
-        rt.alloc(),
-        2,
-        1000,
-        &[(0, 1, "tg")],
-        &[
+const RUNS: [WorkedRun<'static>; 13] = [
+    WorkedRun {
+        name: "grant_then_denied_write",
+        workers: 2,
+        max_vertices: 1000,
+        edges: &[(0, 1, "tg")],
+        lines: &[
             (0, Ask::Create("rw", Law::Cell), Want::Name(2)),
             (0, Ask::Grant(1, 2, "r"), Want::Done),
             (1, Ask::Read(2), Want::Values(&[0])),
             (1, Ask::Write(2, 7), Want::Missing(Rule::Write, 1, 2, "w")),
         ],
-    )
-}
-
-#[test]
-fn grant_survives_a_full_collection(rt: HostRuntime) -> Result<(), Fail> {
-    run(
-        &rt,
-        rt.alloc(),
-        2,
-        1000,
-        &[(0, 1, "tg")],
-        &[
+    },
+    WorkedRun {
+        name: "grant_survives_a_full_collection",
+        workers: 2,
+        max_vertices: 1000,
+        edges: &[(0, 1, "tg")],
+        lines: &[
             (0, Ask::Create("rw", Law::Cell), Want::Name(2)),
             (0, Ask::Grant(1, 2, "r"), Want::Done),
             (1, Ask::Read(2), Want::Values(&[0])),
@@ -233,18 +225,13 @@ fn grant_survives_a_full_collection(rt: HostRuntime) -> Result<(), Fail> {
             (1, Ask::Write(2, 7), Want::Missing(Rule::Write, 1, 2, "w")),
             (1, Ask::List, Want::Edges(&[(2, "r")])),
         ],
-    )
-}
-
-#[test]
-fn take_more_than_is_held(rt: HostRuntime) -> Result<(), Fail> {
-    run(
-        &rt,
-        rt.alloc(),
-        2,
-        1000,
-        &[(0, 1, "t")],
-        &[
+    },
+    WorkedRun {
+        name: "take_more_than_is_held",
+        workers: 2,
+        max_vertices: 1000,
+        edges: &[(0, 1, "t")],
+        lines: &[
             (1, Ask::Create("r", Law::Cell), Want::Name(2)),
             (
                 0,
@@ -253,48 +240,33 @@ fn take_more_than_is_held(rt: HostRuntime) -> Result<(), Fail> {
             ),
             (0, Ask::List, Want::Edges(&[(1, "t")])),
         ],
-    )
-}
-
-#[test]
-fn removed_vertex_is_collected(rt: HostRuntime) -> Result<(), Fail> {
-    run(
-        &rt,
-        rt.alloc(),
-        1,
-        1000,
-        &[],
-        &[
+    },
+    WorkedRun {
+        name: "removed_vertex_is_collected",
+        workers: 1,
+        max_vertices: 1000,
+        edges: &[],
+        lines: &[
             (0, Ask::Create("rw", Law::Cell), Want::Name(1)),
             (0, Ask::Remove(1, "rw"), Want::Done),
             (0, Ask::List, Want::Edges(&[])),
             (0, Ask::Read(1), Want::Missing(Rule::Read, 0, 1, "r")),
             (0, Ask::Create("r", Law::Cell), Want::Name(2)),
         ],
-    )
-}
-
-#[test]
-fn read_of_a_name_never_made(rt: HostRuntime) -> Result<(), Fail> {
-    run(
-        &rt,
-        rt.alloc(),
-        1,
-        1000,
-        &[],
-        &[(0, Ask::Read(99), Want::Missing(Rule::Read, 0, 99, "r"))],
-    )
-}
-
-#[test]
-fn order_of_the_checks(rt: HostRuntime) -> Result<(), Fail> {
-    run(
-        &rt,
-        rt.alloc(),
-        2,
-        1000,
-        &[],
-        &[
+    },
+    WorkedRun {
+        name: "read_of_a_name_never_made",
+        workers: 1,
+        max_vertices: 1000,
+        edges: &[],
+        lines: &[(0, Ask::Read(99), Want::Missing(Rule::Read, 0, 99, "r"))],
+    },
+    WorkedRun {
+        name: "order_of_the_checks",
+        workers: 2,
+        max_vertices: 1000,
+        edges: &[],
+        lines: &[
             (0, Ask::Take(1, 0, "r"), Want::NotDistinct(Rule::Take)),
             (0, Ask::Take(1, 1, "r"), Want::NotDistinct(Rule::Take)),
             (0, Ask::Take(0, 1, "r"), Want::NotDistinct(Rule::Take)),
@@ -310,18 +282,13 @@ fn order_of_the_checks(rt: HostRuntime) -> Result<(), Fail> {
                 Want::Missing(Rule::Grant, 0, 1, "g"),
             ),
         ],
-    )
-}
-
-#[test]
-fn ten_edges_and_a_hole(rt: HostRuntime) -> Result<(), Fail> {
-    run(
-        &rt,
-        rt.alloc(),
-        1,
-        1000,
-        &[],
-        &[
+    },
+    WorkedRun {
+        name: "ten_edges_and_a_hole",
+        workers: 1,
+        max_vertices: 1000,
+        edges: &[],
+        lines: &[
             (0, Ask::Create("r", Law::Cell), Want::Name(1)),
             (0, Ask::Create("r", Law::Cell), Want::Name(2)),
             (0, Ask::Create("r", Law::Cell), Want::Name(3)),
@@ -351,18 +318,13 @@ fn ten_edges_and_a_hole(rt: HostRuntime) -> Result<(), Fail> {
                 ]),
             ),
         ],
-    )
-}
-
-#[test]
-fn old_cell_stays_remembered(rt: HostRuntime) -> Result<(), Fail> {
-    run(
-        &rt,
-        rt.alloc(),
-        1,
-        1000,
-        &[],
-        &[
+    },
+    WorkedRun {
+        name: "old_cell_stays_remembered",
+        workers: 1,
+        max_vertices: 1000,
+        edges: &[],
+        lines: &[
             (0, Ask::Create("tg", Law::Cell), Want::Name(1)),
             (0, Ask::Create("r", Law::Cell), Want::Name(2)),
             (0, Ask::Grant(1, 2, "r"), Want::Done),
@@ -370,18 +332,13 @@ fn old_cell_stays_remembered(rt: HostRuntime) -> Result<(), Fail> {
             (0, Ask::Take(1, 2, "r"), Want::Done),
             (0, Ask::Read(2), Want::Values(&[0])),
         ],
-    )
-}
-
-#[test]
-fn cycle_of_dead_boxes(rt: HostRuntime) -> Result<(), Fail> {
-    run(
-        &rt,
-        rt.alloc(),
-        1,
-        1000,
-        &[],
-        &[
+    },
+    WorkedRun {
+        name: "cycle_of_dead_boxes",
+        workers: 1,
+        max_vertices: 1000,
+        edges: &[],
+        lines: &[
             (0, Ask::Create("rg", Law::Cell), Want::Name(1)),
             (0, Ask::Create("rg", Law::Cell), Want::Name(2)),
             (0, Ask::Create("rg", Law::Cell), Want::Name(3)),
@@ -392,7 +349,81 @@ fn cycle_of_dead_boxes(rt: HostRuntime) -> Result<(), Fail> {
             (0, Ask::Remove(2, "rg"), Want::Done),
             (0, Ask::Remove(3, "rg"), Want::Done),
         ],
-    )
+    },
+    WorkedRun {
+        name: "log_and_sum_payloads",
+        workers: 2,
+        max_vertices: 1000,
+        edges: &[],
+        lines: &[
+            (0, Ask::Create("rw", Law::Log(4)), Want::Name(2)),
+            (0, Ask::Create("rw", Law::Sum), Want::Name(3)),
+            (0, Ask::Read(2), Want::Values(&[])),
+            (0, Ask::Write(2, 1), Want::Done),
+            (0, Ask::Write(2, 2), Want::Done),
+            (1, Ask::Write(2, 9), Want::Missing(Rule::Write, 1, 2, "w")),
+            (0, Ask::Write(2, 3), Want::Done),
+            (0, Ask::Write(2, 4), Want::Done),
+            (0, Ask::Write(2, 5), Want::Done),
+            (0, Ask::Read(2), Want::Values(&[2, 3, 4, 5])),
+            (0, Ask::Write(3, 18446744073709551615), Want::Done),
+            (0, Ask::Write(3, 1), Want::Done),
+            (0, Ask::Read(3), Want::Values(&[0])),
+        ],
+    },
+    WorkedRun {
+        name: "vertex_limit_and_unknown_worker",
+        workers: 2,
+        max_vertices: 3,
+        edges: &[],
+        lines: &[
+            (0, Ask::Create("r", Law::Cell), Want::Name(2)),
+            (1, Ask::Create("r", Law::Cell), Want::VerticesFull),
+            (1, Ask::List, Want::Edges(&[])),
+            (7, Ask::List, Want::NoSuchWorker),
+        ],
+    },
+    WorkedRun {
+        name: "grant_needs_the_granters_own_right",
+        workers: 2,
+        max_vertices: 1000,
+        edges: &[(0, 1, "g")],
+        lines: &[
+            (0, Ask::Create("rw", Law::Cell), Want::Name(2)),
+            (
+                0,
+                Ask::Grant(1, 2, "rt"),
+                Want::Missing(Rule::Grant, 0, 2, "t"),
+            ),
+            (0, Ask::Grant(1, 2, "w"), Want::Done),
+            (1, Ask::List, Want::Edges(&[(2, "w")])),
+        ],
+    },
+    WorkedRun {
+        name: "edge_lines_unite",
+        workers: 2,
+        max_vertices: 1000,
+        edges: &[(0, 1, "r"), (0, 1, "g")],
+        lines: &[
+            (0, Ask::List, Want::Edges(&[(1, "rg")])),
+            (1, Ask::Create("wt", Law::Cell), Want::Name(2)),
+            (1, Ask::List, Want::Edges(&[(2, "wt")])),
+        ],
+    },
+];
+
+// Each line is answered as wanted.
+#[test]
+fn worked_runs(rt: HostRuntime) -> Result<(), Fail> {
+    for run in &RUNS {
+        assert_eq!(rt;
+            answered_at_last(rt.alloc(), run)?,
+            run.lines.len(),
+            "{}",
+            run.name
+        );
+    }
+    Ok(())
 }
 
 // An edge from each worker but the first to the first, to take from it.
@@ -408,106 +439,37 @@ fn takers(alloc: Global) -> Result<Vec<(u64, u64, &'static str)>, AllocError> {
 // one of them takes and reads through it.
 fn takes_from_one_row(alloc: Global) -> Result<Vec<(u64, Ask, Want)>, AllocError> {
     let mut lines = Vec::new(alloc);
-    lines.push((0, Ask::Create("tg", Law::Cell), Want::Name(64)))?;
-    for name in 65..2065 {
-        lines.push((0, Ask::Create("r", Law::Cell), Want::Name(name)))?;
+    for at in 0..4066 {
+        lines.push(line_at(at))?;
     }
-    for target in 65..2065 {
-        lines.push((0, Ask::Grant(64, target, "r"), Want::Done))?;
-    }
-    for worker in 1..64 {
-        lines.push((worker, Ask::Take(0, 64, "t"), Want::Done))?;
-    }
-    lines.push((5, Ask::Take(64, 1000, "r"), Want::Done))?;
-    lines.push((5, Ask::Read(1000), Want::Values(&[0])))?;
     Ok(lines)
+}
+
+// The line at a place among them.
+fn line_at(at: u64) -> (u64, Ask, Want) {
+    match at {
+        0 => (0, Ask::Create("tg", Law::Cell), Want::Name(64)),
+        1..=2000 => (0, Ask::Create("r", Law::Cell), Want::Name(at + 64)),
+        2001..=4000 => (0, Ask::Grant(64, at - 1936, "r"), Want::Done),
+        4001..=4063 => (at - 4000, Ask::Take(0, 64, "t"), Want::Done),
+        4064 => (5, Ask::Take(64, 1000, "r"), Want::Done),
+        _ => (5, Ask::Read(1000), Want::Values(&[0])),
+    }
 }
 
 #[test]
 fn many_workers_take_from_one_row(rt: HostRuntime) -> Result<(), Fail> {
     let alloc = rt.alloc();
     let (edges, lines) = (takers(alloc)?, takes_from_one_row(alloc)?);
-    run(&rt, alloc, 64, 1_000_000, &edges, &lines)
-}
-
-#[test]
-fn log_and_sum_payloads(rt: HostRuntime) -> Result<(), Fail> {
-    run(
-        &rt,
-        rt.alloc(),
-        2,
-        1000,
-        &[],
-        &[
-            (0, Ask::Create("rw", Law::Log(4)), Want::Name(2)),
-            (0, Ask::Create("rw", Law::Sum), Want::Name(3)),
-            (0, Ask::Read(2), Want::Values(&[])),
-            (0, Ask::Write(2, 1), Want::Done),
-            (0, Ask::Write(2, 2), Want::Done),
-            (1, Ask::Write(2, 9), Want::Missing(Rule::Write, 1, 2, "w")),
-            (0, Ask::Write(2, 3), Want::Done),
-            (0, Ask::Write(2, 4), Want::Done),
-            (0, Ask::Write(2, 5), Want::Done),
-            (0, Ask::Read(2), Want::Values(&[2, 3, 4, 5])),
-            (0, Ask::Write(3, 18446744073709551615), Want::Done),
-            (0, Ask::Write(3, 1), Want::Done),
-            (0, Ask::Read(3), Want::Values(&[0])),
-        ],
-    )
-}
-
-#[test]
-fn vertex_limit_and_unknown_worker(rt: HostRuntime) -> Result<(), Fail> {
-    run(
-        &rt,
-        rt.alloc(),
-        2,
-        3,
-        &[],
-        &[
-            (0, Ask::Create("r", Law::Cell), Want::Name(2)),
-            (1, Ask::Create("r", Law::Cell), Want::VerticesFull),
-            (1, Ask::List, Want::Edges(&[])),
-            (7, Ask::List, Want::NoSuchWorker),
-        ],
-    )
-}
-
-#[test]
-fn grant_needs_the_granters_own_right(rt: HostRuntime) -> Result<(), Fail> {
-    run(
-        &rt,
-        rt.alloc(),
-        2,
-        1000,
-        &[(0, 1, "g")],
-        &[
-            (0, Ask::Create("rw", Law::Cell), Want::Name(2)),
-            (
-                0,
-                Ask::Grant(1, 2, "rt"),
-                Want::Missing(Rule::Grant, 0, 2, "t"),
-            ),
-            (0, Ask::Grant(1, 2, "w"), Want::Done),
-            (1, Ask::List, Want::Edges(&[(2, "w")])),
-        ],
-    )
-}
-
-#[test]
-fn edge_lines_unite(rt: HostRuntime) -> Result<(), Fail> {
-    run(
-        &rt,
-        rt.alloc(),
-        2,
-        1000,
-        &[(0, 1, "r"), (0, 1, "g")],
-        &[
-            (0, Ask::List, Want::Edges(&[(1, "rg")])),
-            (1, Ask::Create("wt", Law::Cell), Want::Name(2)),
-            (1, Ask::List, Want::Edges(&[(2, "wt")])),
-        ],
-    )
+    let run = WorkedRun {
+        name: "many_workers_take_from_one_row",
+        workers: 64,
+        max_vertices: 1_000_000,
+        edges: &edges,
+        lines: &lines,
+    };
+    assert_eq!(rt; answered_at_last(alloc, &run)?, lines.len());
+    Ok(())
 }
 
 // The fault of an opening, asked for a second time where there was no memory for its parts.
@@ -527,15 +489,17 @@ fn fault(
 
 #[test]
 fn bad_openings(rt: HostRuntime) -> Result<(), Fail> {
-    let none = fault(rt.alloc(), 0, 1000, &[], 0)?;
-    assert_eq!(rt; none, Some(OpeningFault::BadWorkers));
-    let many = fault(rt.alloc(), 65, 1000, &[], 65)?;
-    assert_eq!(rt; many, Some(OpeningFault::BadWorkers));
-    let below = fault(rt.alloc(), 2, 1, &[], 2)?;
-    assert_eq!(rt; below, Some(OpeningFault::BadLimits));
-    let looped = fault(rt.alloc(), 2, 1000, &[(0, 0, "r")], 2)?;
-    assert_eq!(rt; looped, Some(OpeningFault::BadEdge { at: 0 }));
-    let fewer = fault(rt.alloc(), 2, 1000, &[], 1)?;
-    assert_eq!(rt; fewer, Some(OpeningFault::BadValues { at: 1 }));
+    let no_edges: &[(u64, u64, &str)] = &[];
+    let looped: &[(u64, u64, &str)] = &[(0, 0, "r")];
+    for (workers, max_vertices, edges, cells, wanted) in [
+        (0, 1000, no_edges, 0, OpeningFault::BadWorkers),
+        (65, 1000, no_edges, 65, OpeningFault::BadWorkers),
+        (2, 1, no_edges, 2, OpeningFault::BadLimits),
+        (2, 1000, looped, 2, OpeningFault::BadEdge { at: 0 }),
+        (2, 1000, no_edges, 1, OpeningFault::BadValues { at: 1 }),
+    ] {
+        let found = fault(rt.alloc(), workers, max_vertices, edges, cells)?;
+        assert_eq!(rt; found, Some(wanted));
+    }
     Ok(())
 }

@@ -10,31 +10,25 @@ use tg_word::{Place, Slot, pack, unpack};
 
 // The spaces of two workers, with two blocks of two: 64 cells were allocated for worker 0, and then one for worker 1.
 fn filled(rt: &impl Abort, alloc: Global) -> Result<Spaces, Fail> {
-    let limits = Limits::new(2, 2)?;
-    let mut spaces = Spaces::new(alloc, 2, limits)?;
+    let mut spaces = Spaces::new(alloc, 2, Limits::new(2, 2)?)?;
     for cell in 0..64 {
-        assert_eq!(rt; spaces.nurseries(), 2);
-        let place = allocate(&mut spaces, 0)?;
-        assert_eq!(rt;
-            place,
-            Place {
-                space: 2,
-                block: 0,
-                cell
-            }
-        );
+        assert!(rt; is_allocated(&mut spaces, 0, cell));
     }
-    assert_eq!(rt; spaces.nurseries(), 2);
-    let place = allocate(&mut spaces, 1)?;
-    assert_eq!(rt;
-        place,
-        Place {
-            space: 3,
-            block: 0,
-            cell: 0
-        }
-    );
+    assert!(rt; is_allocated(&mut spaces, 1, 0));
     Ok(spaces)
+}
+
+// Whether the next cell of the worker's nursery is this one of its first block.
+fn is_allocated(spaces: &mut Spaces, worker: u64, cell: u64) -> bool {
+    if worker > 1 || spaces.nurseries() != 2 {
+        return false;
+    }
+    let wanted = Place {
+        space: worker + 2,
+        block: 0,
+        cell,
+    };
+    allocate(spaces, worker) == Ok(wanted)
 }
 
 // Whether the word reads as this slot, and what is read packs into the word.

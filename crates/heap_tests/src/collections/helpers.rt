@@ -14,7 +14,7 @@ use tg_block::{OBJECT_TAG, WORDS};
 use tg_evac::Copied;
 use tg_parallel::{Gate, HelpersFault, NoGate, collect_many, collect_seated};
 use tg_rights::{Right, Rights};
-use tg_space::{Kind, Limits, Root};
+use tg_space::{Kind, Limits, Root, Spaces};
 use tg_word::{Slot, pack};
 
 #[test]
@@ -141,28 +141,38 @@ fn two_helpers_at_one_gate(rt: HostRuntime) -> Result<(), Fail> {
     }
     let spaces = heap_of(alloc, &cells)?;
     let roots = rows_of_all(alloc)?;
-    assert!(rt; are_sound(&spaces, &roots));
-    let gate = Meet {
-        first: AtomicU64::new(0),
-        second: AtomicU64::new(0),
-        missed: AtomicU64::new(0),
-    };
-    let copied = collect_many(
-        &rt,
-        alloc,
-        &spaces,
-        &roots,
-        Kind::Full,
-        2,
-        &gate,
-        Vec::new(alloc),
-    )?;
+    let gate = Meet::new();
+    let met = by_two_at(&rt, alloc, &spaces, &roots, &gate);
+    assert_eq!(rt; met, Some(Ok(1)));
     assert_eq!(rt; gate.missed.load(Ordering::SeqCst), 0);
-    assert_eq!(rt; copies_of(&copied, CELLS as u64 - 1), 1);
     Ok(())
 }
 
+// How many copies of the last object a full collection of a sound heap leaves by two helpers, who pass the gate.
+fn by_two_at<R: Threads + Wait + Sync, G: Gate>(
+    rt: &R,
+    alloc: Global,
+    spaces: &Spaces,
+    roots: &[Root],
+    gate: &G,
+) -> Option<Result<u64, HelpersFault>> {
+    if !are_sound(spaces, roots) {
+        return None;
+    }
+    let spare = Vec::new(alloc);
+    let copied = collect_many(rt, alloc, spaces, roots, Kind::Full, 2, gate, spare);
+    Some(copied.map(|copied| copies_of(&copied, CELLS as u64 - 1)))
+}
+
 impl Meet {
+    fn new() -> Meet {
+        Meet {
+            first: AtomicU64::new(0),
+            second: AtomicU64::new(0),
+            missed: AtomicU64::new(0),
+        }
+    }
+
     // How often a helper has come to the gate.
     fn passes_of(&self, helper: u32) -> u64 {
         let mine = if helper == 0 {
@@ -207,31 +217,20 @@ fn a_refused_helper_stops_no_other(rt: HostRuntime) -> Result<(), Fail> {
     let alloc = rt.alloc();
     let spaces = heap_within(alloc, &objects(), Limits::new(8, 1)?)?;
     let roots = rows_of(alloc, 64)?;
-    assert!(rt; are_sound(&spaces, &roots));
     let mut refused = 0u64;
     for _ in 0..20 {
         let gate = Counted {
-            meet: Meet {
-                first: AtomicU64::new(0),
-                second: AtomicU64::new(0),
-                missed: AtomicU64::new(0),
-            },
+            meet: Meet::new(),
             passes: AtomicU64::new(0),
         };
-        let copied = collect_many(
-            &rt,
-            alloc,
-            &spaces,
-            &roots,
-            Kind::Full,
-            2,
-            &gate,
-            Vec::new(alloc),
-        );
-        let ended = if copied.is_ok() { 2 } else { 1 };
-        assert!(rt; matches!(copied, Ok(_) | Err(HelpersFault::HeapFull)));
+        let ended = match by_two_at(&rt, alloc, &spaces, &roots, &gate) {
+            Some(Ok(_)) => 2,
+            Some(Err(HelpersFault::HeapFull)) => 1,
+            _ => 0,
+        };
+        assert!(rt; ended > 0);
         assert_eq!(rt; gate.passes.load(Ordering::SeqCst), 8 + ended);
-        refused = refused.wrapping_add(2 - ended);
+        refused = refused.wrapping_add(u64::from(ended == 1));
     }
     assert!(rt; refused > 0);
     Ok(())
@@ -251,25 +250,40 @@ fn copies_of(copied: &Copied, name: u64) -> u64 {
     copies
 }
 
+// Whether a full collection of a sound heap by so many helpers is refused for want of room.
+fn is_refused<R: Threads + Wait + Sync>(
+    rt: &R,
+    alloc: Global,
+    spaces: &Spaces,
+    roots: &[Root],
+    helpers: u32,
+) -> bool
+    requires { (1 ≤ helpers) × (helpers ≤ 8) }
+{
+    are_sound(spaces, roots)
+        && matches!(
+            collect_many(
+                rt,
+                alloc,
+                spaces,
+                roots,
+                Kind::Full,
+                helpers,
+                &NoGate,
+                Vec::new(alloc),
+            ),
+            Err(HelpersFault::HeapFull)
+        )
+}
+
 // All cells are live, and Old may have a block less than they need.
 #[test]
 fn a_full_heap_is_refused(rt: HostRuntime) -> Result<(), Fail> {
     let alloc = rt.alloc();
     let spaces = heap_within(alloc, &objects(), Limits::new(8, 2)?)?;
     let roots = rows_of_all(alloc)?;
-    assert!(rt; are_sound(&spaces, &roots));
     for helpers in [1, 4] {
-        let refused = collect_many(
-            &rt,
-            alloc,
-            &spaces,
-            &roots,
-            Kind::Full,
-            helpers,
-            &NoGate,
-            Vec::new(alloc),
-        );
-        assert!(rt; matches!(refused, Err(HelpersFault::HeapFull)));
+        assert!(rt; is_refused(&rt, alloc, &spaces, &roots, helpers));
     }
     Ok(())
 }
