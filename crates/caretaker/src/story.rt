@@ -44,13 +44,16 @@ pub fn run_story<P: Payload, R: Print + AllocGlobal>(
     rt: &R,
     boxes: Boxes<P>,
 ) -> Result<(), StoryFault> {
+    let rights = label("g")?;
     let Boxes {
         caretaker,
         visitor,
         document,
     } = boxes;
-    let mut store = open_store(rt.alloc(), caretaker, visitor, label("g")?)?;
-    tell_story(rt, &mut store, document)
+    let mut store = open_store(rt.alloc(), caretaker, visitor, rights)?;
+    let told = tell_story(rt, &mut store, document);
+    drop(store);
+    told
 }
 
 // Tells the story in the store.
@@ -156,9 +159,18 @@ fn visit<P: Payload, R: Print>(
     ask(rt, store, VISITOR, "visitor writes 2", write(document, 2))
 }
 
-// The visitor gives the right back, and then the caretaker gives up its own: no one can read the document or hand it
-// on, and the next collection drops it.
+// The visitor gives the right back, and then the caretaker gives up its own.
 fn take_back<P: Payload, R: Print>(
+    rt: &R,
+    store: &mut Store<P>,
+    document: u64,
+) -> Result<(), StoryFault> {
+    give_back(rt, store, document)?;
+    let_go(rt, store, document)
+}
+
+// The visitor gives the right back, and can't read the document any more.
+fn give_back<P: Payload, R: Print>(
     rt: &R,
     store: &mut Store<P>,
     document: u64,
@@ -171,7 +183,15 @@ fn take_back<P: Payload, R: Print>(
         give_up(document, "r")?,
     )?;
     collect(rt, store)?;
-    ask(rt, store, VISITOR, "visitor reads", read(document))?;
+    ask(rt, store, VISITOR, "visitor reads", read(document))
+}
+
+// The caretaker gives up its own: no one can read the document or hand it on, and the next collection drops it.
+fn let_go<P: Payload, R: Print>(
+    rt: &R,
+    store: &mut Store<P>,
+    document: u64,
+) -> Result<(), StoryFault> {
     ask(
         rt,
         store,
@@ -199,7 +219,7 @@ fn ask<P: Payload, R: Print>(
     command: Command,
 ) -> Result<(), StoryFault> {
     let reply = reply_to(store, worker, command)?;
-    tell_reply(rt, words, &reply)
+    Ok(tell_reply(rt, words, &reply)?)
 }
 
 fn reply_to<P: Payload>(

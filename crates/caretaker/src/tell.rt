@@ -1,30 +1,27 @@
 //! What the program prints of a reply.
 
-use crate::fault::StoryFault;
-use std::str;
+use std::{io, str};
 use tg_model::{Cause, Denial, Reply};
 use tg_rights::Rights;
 
 /// Prints what was asked for, and the reply.
-pub fn tell_reply<R: Print>(rt: &R, asked: &str, reply: &Reply) -> Result<(), StoryFault> {
+pub fn tell_reply<R: Print>(rt: &R, asked: &str, reply: &Reply) -> io::Result<()> {
     match reply {
-        Reply::Done => println!(rt; "{asked}: ok")?,
-        Reply::Name(name) => println!(rt; "{asked}: ok, its name is {name}")?,
-        Reply::Values(values) => println!(rt; "{asked}: ok, {:?}", values.as_slice())?,
-        Reply::Edges(edges) => println!(rt; "{asked}: ok, {} edges", edges.as_slice().len())?,
-        Reply::Denied(denial) => tell_denial(rt, asked, denial)?,
-        Reply::VerticesFull => println!(rt; "{asked}: no more vertices may be made")?,
+        Reply::Done => println!(rt; "{asked}: ok"),
+        Reply::Name(name) => println!(rt; "{asked}: ok, its name is {name}"),
+        Reply::Values(values) => println!(rt; "{asked}: ok, {:?}", values.as_slice()),
+        Reply::Edges(edges) => println!(rt; "{asked}: ok, {} edges", edges.as_slice().len()),
+        Reply::Denied(denial) => tell_denial(rt, asked, denial),
+        Reply::VerticesFull => println!(rt; "{asked}: no more vertices may be made"),
     }
-    Ok(())
 }
 
 // Prints why what was asked for was denied: two vertices that are one, or the rights that are missing on an edge.
-fn tell_denial<R: Print>(rt: &R, asked: &str, denial: &Denial) -> Result<(), StoryFault> {
+fn tell_denial<R: Print>(rt: &R, asked: &str, denial: &Denial) -> io::Result<()> {
     match denial.cause {
-        Cause::NotDistinct => println!(rt; "{asked}: denied, its vertices have to differ")?,
-        Cause::Missing { from, to, rights } => tell_missing(rt, asked, from, to, rights)?,
+        Cause::NotDistinct => println!(rt; "{asked}: denied, its vertices have to differ"),
+        Cause::Missing { from, to, rights } => tell_missing(rt, asked, from, to, rights),
     }
-    Ok(())
 }
 
 fn tell_missing<R: Print>(
@@ -33,9 +30,8 @@ fn tell_missing<R: Print>(
     from: u64,
     to: u64,
     rights: Rights,
-) -> Result<(), StoryFault> {
+) -> io::Result<()> {
     let text = rights.text();
     let letters = str::from_utf8(text.as_bytes()).unwrap_or("?");
-    println!(rt; "{asked}: denied, {letters} is missing on {from}->{to}")?;
-    Ok(())
+    println!(rt; "{asked}: denied, {letters} is missing on {from}->{to}")
 }
