@@ -145,7 +145,7 @@ fn scan_each<C: Claimer>(
 }
 
 // Scans the won cells that were not, some of which are read before the first of them is scanned.
-#[inline(always)]
+#[inline(never)]
 fn scan_apart<C: Claimer>(
     claimer: &mut C,
     spaces: &Spaces,
