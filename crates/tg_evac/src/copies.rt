@@ -145,6 +145,8 @@ fn scan_each<C: Claimer>(
 }
 
 // Scans the won cells that were not, some of which are read before the first of them is scanned.
+//
+// It is a call of its own: with it inlined the walk is too large to be compiled for each kind.
 #[inline(never)]
 fn scan_apart<C: Claimer>(
     claimer: &mut C,
