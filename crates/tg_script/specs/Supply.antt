@@ -1,10 +1,9 @@
 -- The values of the payloads that are left of a stock.
-use Rattle.std.specs.Prelude.{List, ◌++◌}
+use Rattle.std.specs.Prelude.{List, ◌++◌, reverse}
 use Rattle.std.specs.Option.{option_to_list}
-use Rattle.std.specs.Vec.Iter.{into_iter_items}
 use Rattle.tg_model.specs.declared.value.Value.{Value}
 use Rattle.tg_script.specs.declared.supply.Supply.{Supply}
 
--- one that was put back stands in front
+-- one that was put back stands in front, and the last of the rest is next
 abbrev pub values_left : {P : Type 0} → Supply P → List Value
-values_left s = option_to_list s.front ++ into_iter_items s.rest
+values_left s = option_to_list s.front ++ reverse s.rest.items

@@ -1,28 +1,27 @@
 //! The stock of a run: the payloads for the vertices that its script makes.
-use std::vec::IntoIter;
+ghost use Rattle.std.specs.Prelude.{◌≡◌, ◌++◌, ◌∷◌, [], None, IfNone};
+ghost use Rattle.std.specs.Option.{option_to_list};
+ghost use Rattle.tg_script.specs.Supply.{values_left};
+
 use tg_payload::{Draft, Payload};
 
-/// The payloads that are left, of which the first is taken first. One that was taken can be put back in front.
+/// The payloads that are left. One that was taken can be put back in front.
 #[derive(Drop)]
 pub(crate) struct Supply<P: Payload> {
     /// A payload that was put back.
     pub(crate) front: Option<Draft<P>>,
-    pub(crate) rest: IntoIter<Draft<P>>,
+    /// Those behind it, of which the last is taken first, so that the list can give its memory back as it is used up.
+    pub(crate) rest: Vec<Draft<P>>,
 }
 
 impl<P: Payload> Supply<P> {
-    ghost use Rattle.std.specs.Prelude.{◌≡◌, ◌++◌, ◌∷◌, [], None, IfNone};
-    ghost use Rattle.std.specs.Option.{option_to_list};
-    ghost use Rattle.tg_script.specs.Supply.{values_left};
-
     /// All of the payloads are left.
     pub(crate) fn new(drafts: Vec<Draft<P>>) -> Supply<P>
         ensures { values_left result ≡ drafts.items }
     {
-        Supply {
-            front: None,
-            rest: drafts.into_iter(),
-        }
+        let mut rest = drafts;
+        rest.reverse();
+        Supply { front: None, rest }
     }
 
     /// Takes the first payload.
@@ -33,7 +32,7 @@ impl<P: Payload> Supply<P> {
     {
         match self.front.take() {
             Some(draft) => Some(draft),
-            None => self.rest.next(),
+            None => take_last(&mut self.rest),
         }
     }
 
@@ -44,4 +43,16 @@ impl<P: Payload> Supply<P> {
     {
         self.front = Some(draft);
     }
+}
+
+// Takes the last payload. Where less than half of the list's room is used then, the rest of it is given back, if the allocator can.
+fn take_last<P: Payload>(list: &mut Vec<Draft<P>>) -> Option<Draft<P>>
+    ensures items { list.old.items ≡ list.new.items ++ option_to_list result }
+    ensures empty { IfNone result (list.old.items ≡ []) }
+{
+    let last = list.pop();
+    if list.len() < list.capacity() / 2 {
+        list.shrink_to_fit();
+    }
+    last
 }
