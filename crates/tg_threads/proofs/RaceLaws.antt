@@ -63,17 +63,17 @@ commands_behind (e ∷ edges) lines h = commands_behind edges lines h
 
 -- ---- what the threads brought back
 
-pub all_brought : {L : Type 0} (helpers n workers : ℕ) (bs : List Boxed) (given : List (ℕ × List Boxed)) (all : List (Finished L)) → n ≡ workers → given ≡ all_assigned n bs → AllBring helpers given all → AllBring helpers (all_assigned workers bs) all
+pub all_brought : {L : Type 0} (helpers n workers : ℕ) (bs : List Boxed) (given : List (ℕ × List Boxed)) (all : List (Finished L)) → n ≡ workers → given ≡ all_assigned n bs → AllBring helpers workers given all → AllBring helpers workers (all_assigned workers bs) all
 all_brought {L = L} helpers n workers bs given all same is h =
-    let P : List (ℕ × List Boxed) → Type 0 = λ g. AllBring helpers g all in
+    let P : List (ℕ × List Boxed) → Type 0 = λ g. AllBring helpers workers g all in
     subst P (is ∙ ap (λ (k : ℕ). all_assigned k bs) same) h
 
 -- one from each worker
-pub brought_by_each : {L : Type 0} (helpers workers : ℕ) (bs : List Boxed) (all : List (Finished L)) → AllBring helpers (all_assigned workers bs) all → length all ≡ workers
-brought_by_each helpers workers bs all h = bring_as_many helpers (all_assigned workers bs) all h ∙ length-map-range_with_len (λ x. (x, lines_of workers x bs)) 0 workers
+pub brought_by_each : {L : Type 0} (helpers workers : ℕ) (bs : List Boxed) (all : List (Finished L)) → AllBring helpers workers (all_assigned workers bs) all → length all ≡ workers
+brought_by_each helpers workers bs all h = bring_as_many helpers workers (all_assigned workers bs) all h ∙ length-map-range_with_len (λ x. (x, lines_of workers x bs)) 0 workers
 
 -- as many as each worker has lines
-pub brought_whole : {L : Type 0} (helpers workers : ℕ) (stock : List Value) (lines : List Line) (all lent : List (Finished L)) → lent ≡ all → AllBring helpers (all_assigned workers (boxed stock lines)) all →
+pub brought_whole : {L : Type 0} (helpers workers : ℕ) (stock : List Value) (lines : List Line) (all lent : List (Finished L)) → lent ≡ all → AllBring helpers workers (all_assigned workers (boxed stock lines)) all →
     map (λ f. length f.told.items) lent ≡ map (λ x. length (filter (is_run_by (length lent) x) lines)) (range_with_len 0 (length lent))
 brought_whole {L = L} helpers workers stock lines all lent same h =
     let P : List (Finished L) → ℕ → Type 0 = λ fs n. map (λ f. length f.told.items) fs ≡ map (λ x. length (filter (is_run_by n x) lines)) (range_with_len 0 n) in

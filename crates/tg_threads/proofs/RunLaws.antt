@@ -8,17 +8,39 @@ use Rattle.tg_rights.specs.RightSet.{RightSet}
 use Rattle.tg_model.specs.declared.value.Value.{Value}
 use Rattle.tg_model.specs.declared.command.Command.{Command}
 use Rattle.tg_model.specs.declared.command.Deed.TheVariants as deed
+use Rattle.tg_model.specs.Graph.{IsSubject}
 use Rattle.tg_journal.specs.declared.entry.Entry.{Entry}
+use Rattle.tg_journal.proofs.HistoryLaws.{workers-opened}
 use Rattle.tg_space.specs.declared.kind.Kind.TheVariants as kind
 use Rattle.tg_text.specs.declared.line.Line.TheVariants as line
 use Rattle.tg_text.specs.declared.answer.Answer.TheVariants as answer
 use Rattle.tg_shared.specs.declared.receipt.Receipt.{Receipt}
 use Rattle.tg_shared.specs.Receipts.{receipt_of}
-use Rattle.tg_shared.specs.Sessions.{SessionState, KeepsReceipts}
+use Rattle.tg_rules.specs.Effect.{AddsEdge}
+use Rattle.tg_store.specs.Store.{graph_of_store}
+use Rattle.tg_store.specs.declared.fault.ApplyFault.{ApplyFault}
+use Rattle.tg_store.specs.declared.fault.ApplyFault.TheVariants as apply
+use Rattle.tg_script.specs.Answering.{apply_refusal}
+use Rattle.tg_shared.specs.Sessions.{AtSome, SessionState, SharedStart, KeepsReceipts}
 use Rattle.tg_threads.specs.declared.task.Told.{Told}
 use Rattle.tg_threads.specs.declared.task.Told.TheVariants as came
-use Rattle.tg_threads.specs.Output.{Boxed}
+use Rattle.tg_threads.specs.Output.{Boxed, IsOfStore}
 use Rattle.tg_threads.specs.Tasks.{IsRunBy, HasAsked, HasMade, HasCollected, HasRun, RunsOne, Runs}
+
+-- ---- who is there
+
+-- a worker of the opening is a subject of each store that may be behind the lock
+pub is_there : (start : SharedStart) (x : ℕ) → x < start.opening.workers → AtSome start (λ s. ¬ IsSubject (graph_of_store s) x) → ⊥
+is_there start x low h = h.3 ((workers-opened h.0.opening h.0.entries x).1 (subst (λ p. x < p.workers) (sym h.1.opening) low))
+
+-- why a command is refused that a worker asked for who is there
+pub refused_there : (start : SharedStart) (x : ℕ) (command : Command) (why : ApplyFault) → x < start.opening.workers → (why ≡ apply.NoSuchWorker → AtSome start (λ s. ¬ IsSubject (graph_of_store s) x)) → (why ≡ apply.HeapFull → AddsEdge command) →
+    IsOfStore (deed.Plain command) (apply_refusal why)
+refused_there start x command apply.NoSuchWorker low none full = absurd (is_there start x low (none refl))
+refused_there start x command apply.OutOfMemory low none full = tt
+refused_there start x command apply.HeapFull low none full = full refl
+
+-- ---- one line
 
 some_same : {X : Type 0} (a b : X) → Some a ≡ Some b → a ≡ b
 some_same a b h = cc

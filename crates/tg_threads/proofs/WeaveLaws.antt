@@ -27,18 +27,18 @@ use Rattle.tg_threads.proofs.FitLaws.{Fits, made_of, all_fit, woven, fit_told, f
 
 -- ---- what each thread brought
 
-pub bring_as_many : {L : Type 0} (helpers : ℕ) (given : List (ℕ × List Boxed)) (all : List (Finished L)) → AllBring helpers given all → length all ≡ length given
-bring_as_many {L = L} helpers [] all h = ap (λ (fs : List (Finished L)). length fs) h
-bring_as_many {L = L} helpers (a ∷ given) all h = ap (λ (fs : List (Finished L)). length fs) h.2 ∙ ap suc (bring_as_many helpers given h.1 h.4)
+pub bring_as_many : {L : Type 0} (helpers workers : ℕ) (given : List (ℕ × List Boxed)) (all : List (Finished L)) → AllBring helpers workers given all → length all ≡ length given
+bring_as_many {L = L} helpers workers [] all h = ap (λ (fs : List (Finished L)). length fs) h
+bring_as_many {L = L} helpers workers (a ∷ given) all h = ap (λ (fs : List (Finished L)). length fs) h.2 ∙ ap suc (bring_as_many helpers workers given h.1 h.4)
 
-brings_at : {L : Type 0} (helpers : ℕ) (given : List (ℕ × List Boxed)) (all : List (Finished L)) (k : ℕ) (a : ℕ × List Boxed) → AllBring helpers given all → slice_get given k ≡ Some a →
-    (f : Finished L) × (slice_get all k ≡ Some f) × Brings helpers a.0 a.1 f.session f.told.items
-brings_at helpers [] all k a h at = absurd cc
-brings_at {L = L} helpers (b ∷ given) all zero a h at =
+brings_at : {L : Type 0} (helpers workers : ℕ) (given : List (ℕ × List Boxed)) (all : List (Finished L)) (k : ℕ) (a : ℕ × List Boxed) → AllBring helpers workers given all → slice_get given k ≡ Some a →
+    (f : Finished L) × (slice_get all k ≡ Some f) × Brings helpers workers a.0 a.1 f.session f.told.items
+brings_at helpers workers [] all k a h at = absurd cc
+brings_at {L = L} helpers workers (b ∷ given) all zero a h at =
     let same : b ≡ a = cc in
-    (h.0, ap (λ (fs : List (Finished L)). slice_get fs 0) h.2, subst (λ (c : ℕ × List Boxed). Brings helpers c.0 c.1 h.0.session h.0.told.items) same h.3)
-brings_at {L = L} helpers (b ∷ given) all (suc k) a h at =
-    let more = brings_at helpers given h.1 k a h.4 at in
+    (h.0, ap (λ (fs : List (Finished L)). slice_get fs 0) h.2, subst (λ (c : ℕ × List Boxed). Brings helpers workers c.0 c.1 h.0.session h.0.told.items) same h.3)
+brings_at {L = L} helpers workers (b ∷ given) all (suc k) a h at =
+    let more = brings_at helpers workers given h.1 k a h.4 at in
     (more.0, ap (λ (fs : List (Finished L)). slice_get fs (suc k)) h.2 ∙ more.1, more.2)
 
 -- worker x's thread ran its lines
@@ -47,14 +47,14 @@ record IsBrought {L : Type 0} (helpers workers : ℕ) (bs : List Boxed) (all : L
   worker : f.session.worker ≡ x
   runs : Runs helpers workers (lines_of workers x bs) f.told.items f.session.receipts
 
-brought : {L : Type 0} (helpers workers : ℕ) (bs : List Boxed) (all : List (Finished L)) → AllBring helpers (all_assigned workers bs) all → (x : ℕ) → x < workers → (f : Finished L) × IsBrought helpers workers bs all x f
+brought : {L : Type 0} (helpers workers : ℕ) (bs : List Boxed) (all : List (Finished L)) → AllBring helpers workers (all_assigned workers bs) all → (x : ℕ) → x < workers → (f : Finished L) × IsBrought helpers workers bs all x f
 brought helpers workers bs all h x low =
     let as_given : ℕ → ℕ × List Boxed = λ y. (y, lines_of workers y bs) in
     let long : length (all_assigned workers bs) ≡ workers = length-map-range_with_len as_given 0 workers in
     let at : slice_get (all_assigned workers bs) x ≡ Some (as_given x) =
     slice_get-get_or (all_assigned workers bs) x (0, []) (omega (arith, low, long)) ∙ ap (λ a. Some a) (get_or-map-range_with_len as_given 0 workers x x (0, []) low (omega arith)) in
-    let b = brings_at helpers (all_assigned workers bs) all x (as_given x) h at in
-    let ran = b.2 workers low (own_lines workers x bs) in
+    let b = brings_at helpers workers (all_assigned workers bs) all x (as_given x) h at in
+    let ran = b.2 low (own_lines workers x bs) in
     (b.0, record { at = b.1; worker = ran.0; runs = ran.1 })
 
 -- ---- as many as there were lines
@@ -79,13 +79,13 @@ map_at : {X Y : Type 0} (f : X → Y) (xs : List X) (k : ℕ) (x : X) (d : Y) �
 map_at f xs k x d at = get_or_from_slice_get (map f xs) k (f x) d (slice_get-map f xs k ∙ ap (option_map f) at)
 
 -- each thread brought as many as it was given lines
-pub each_told : {L : Type 0} (helpers workers : ℕ) (stock : List Value) (lines : List Line) (all : List (Finished L)) → AllBring helpers (all_assigned workers (boxed stock lines)) all →
+pub each_told : {L : Type 0} (helpers workers : ℕ) (stock : List Value) (lines : List Line) (all : List (Finished L)) → AllBring helpers workers (all_assigned workers (boxed stock lines)) all →
     map (λ f. length f.told.items) all ≡ map (λ x. length (filter (is_run_by workers x) lines)) (range_with_len 0 workers)
 each_told {L = L} helpers workers stock lines all h =
     let long_of : Finished L → ℕ = λ f. length f.told.items in
     let bs = boxed stock lines in
     fill_by_all (λ x. count_of workers x lines) (map long_of all) workers 0
-    (length-map all long_of ∙ bring_as_many helpers (all_assigned workers bs) all h ∙ length-map-range_with_len (λ x. (x, lines_of workers x bs)) 0 workers)
+    (length-map all long_of ∙ bring_as_many helpers workers (all_assigned workers bs) all h ∙ length-map-range_with_len (λ x. (x, lines_of workers x bs)) 0 workers)
     (λ x low.
     let b = brought helpers workers bs all h x low in
     map_at long_of all x b.0 0 b.1.at ∙ runs_long helpers workers (lines_of workers x bs) b.0.told.items b.0.session.receipts b.1.runs
@@ -139,10 +139,10 @@ none_of x (e ∷ entries) sessions each others = ⊎_elim
     ∙ none_of x entries sessions (All-tail (λ e. count_by (λ s. s.worker == e.worker) sessions ≡ 1) e entries each) others)
     (cases_eq e.worker x)
 
-others_past : {L : Type 0} (helpers workers x : ℕ) (bs : List Boxed) (all : List (Finished L)) → AllBring helpers (all_assigned workers bs) all → workers ≤ x → All (λ s. s.worker ≢ x) (map (λ f. f.session) all)
+others_past : {L : Type 0} (helpers workers x : ℕ) (bs : List Boxed) (all : List (Finished L)) → AllBring helpers workers (all_assigned workers bs) all → workers ≤ x → All (λ s. s.worker ≢ x) (map (λ f. f.session) all)
 others_past {L = L} helpers workers x bs all h past = λ k d low.
     let session : Finished L → SessionState = λ g. g.session in
-    let long : length all ≡ workers = bring_as_many helpers (all_assigned workers bs) all h ∙ length-map-range_with_len (λ x. (x, lines_of workers x bs)) 0 workers in
+    let long : length all ≡ workers = bring_as_many helpers workers (all_assigned workers bs) all h ∙ length-map-range_with_len (λ x. (x, lines_of workers x bs)) 0 workers in
     let many : length (map session all) ≡ length all = length-map all session in
     let below : k < workers = omega (arith, low, many, long) in
     let b = brought helpers workers bs all h k below in
@@ -152,7 +152,7 @@ others_past {L = L} helpers workers x bs all h past = λ k d low.
 -- ---- the race
 
 own_race : {L : Type 0} (helpers workers start : ℕ) (stock : List Value) (lines : List Line) (all : List (Finished L)) (ts : List Told) (entries : List Entry) →
-    AllBring helpers (all_assigned workers (boxed stock lines)) all → IsInScriptOrder workers lines (map (λ f. f.told.items) all) ts →
+    AllBring helpers workers (all_assigned workers (boxed stock lines)) all → IsInScriptOrder workers lines (map (λ f. f.told.items) all) ts →
     MayClose entries start (map (λ f. f.session) all) → AreSharedOut entries (map (λ f. f.session) all) → (x : ℕ) → x < workers → IsOwn helpers workers entries (boxed stock lines) x (told_of workers x lines ts)
 own_race {L = L} helpers workers start stock lines all ts entries bring order closes shared x below =
     let told : Finished L → List Told = λ f. f.told.items in
@@ -162,7 +162,7 @@ own_race {L = L} helpers workers start stock lines all ts entries bring order cl
     subst (IsOwn helpers workers entries (boxed stock lines) x) is (own_of helpers workers start x entries (boxed stock lines) all b.0 b.1 closes.matching shared.own)
 
 each_race : {L : Type 0} (helpers workers : ℕ) (stock : List Value) (lines : List Line) (all : List (Finished L)) (ts : List Told) (entries : List Entry) → 0 < workers →
-    AllBring helpers (all_assigned workers (boxed stock lines)) all → AreSharedOut entries (map (λ f. f.session) all) → AllZip (Fits helpers workers entries) (boxed stock lines) ts →
+    AllBring helpers workers (all_assigned workers (boxed stock lines)) all → AreSharedOut entries (map (λ f. f.session) all) → AllZip (Fits helpers workers entries) (boxed stock lines) ts →
     ((x : ℕ) → x < workers → IsOwn helpers workers entries (boxed stock lines) x (told_of workers x lines ts)) → HasEach entries (made_of entries ts)
 each_race {L = L} helpers workers stock lines all ts entries low bring shared fits own = λ x.
     let bs = boxed stock lines in
@@ -178,7 +178,7 @@ each_race {L = L} helpers workers stock lines all ts entries low bring shared fi
 -- What the lines came to in script order is what may be told of a race, where the store was closed with the sessions that the
 -- threads brought back.
 pub raced : {L : Type 0} (helpers workers start : ℕ) (stock : List Value) (lines : List Line) (all : List (Finished L)) (ts : List Told) (entries : List Entry) → 0 < workers → All IsCommand lines →
-    AllBring helpers (all_assigned workers (boxed stock lines)) all → IsInScriptOrder workers lines (map (λ f. f.told.items) all) ts →
+    AllBring helpers workers (all_assigned workers (boxed stock lines)) all → IsInScriptOrder workers lines (map (λ f. f.told.items) all) ts →
     MayClose entries start (map (λ f. f.session) all) → AreSharedOut entries (map (λ f. f.session) all) → AreRaced helpers workers (boxed stock lines) entries ts
 raced {L = L} helpers workers start stock lines all ts entries low commands bring order closes shared =
     let bs = boxed stock lines in

@@ -62,12 +62,13 @@ boxed stock (l ∷ lines) = record { line = l; value = box_of stock l } ∷ boxe
 abbrev pub IsRefused : Refusal → Option Entry → Answer → Type 0
 IsRefused r e a = (e ≡ None) × (a ≡ told.Refused r)
 
--- a refusal of the store, to this deed: room in the heap can be wanting only for a vertex or an edge
+-- A refusal of the store, to this deed of a worker that is there: memory was wanting or, only for a vertex or an edge, room in the
+-- heap.
 abbrev pub IsOfStore : Deed → Refusal → Type 0
 IsOfStore d refusal.Memory = Unit {0}
 IsOfStore (deed.Create label law state) refusal.Heap = Unit {0}
 IsOfStore (deed.Plain command) refusal.Heap = AddsEdge command
-IsOfStore d refusal.Worker = Unit {0}
+IsOfStore d refusal.Worker = ⊥
 IsOfStore d refusal.Vertices = ⊥
 IsOfStore d refusal.Threads = ⊥
 IsOfStore d refusal.Stock = ⊥

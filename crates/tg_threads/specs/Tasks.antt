@@ -81,10 +81,9 @@ Runs helpers workers (b ∷ bs) ts rs =
 abbrev pub IsRunBy : ℕ → ℕ → Boxed → Type 0
 IsRunBy workers x b = runner_of workers b.line ≡ Some x
 
--- the worker's session ran its lines, all that its thread was given, and they came to this
-abbrev pub Brings : ℕ → ℕ → List Boxed → SessionState → List Told → Type 0
-Brings helpers x bs session ts =
-    (workers : ℕ) → x < workers → All (IsRunBy workers x) bs → (session.worker ≡ x) × Runs helpers workers bs ts session.receipts
+-- the session of one of so many workers ran its lines, all that its thread was given, and they came to this
+abbrev pub Brings : ℕ → ℕ → ℕ → List Boxed → SessionState → List Told → Type 0
+Brings helpers workers x bs session ts = x < workers → All (IsRunBy workers x) bs → (session.worker ≡ x) × Runs helpers workers bs ts session.receipts
 
 -- the worker, and the lines that its thread is given
 abbrev pub assigned_of : {L P : Type 0} → Work L P → ℕ × List Boxed
@@ -95,9 +94,10 @@ abbrev pub promised_by : {T P : Type 0} → PromisedHandle T (Assigned P) → �
 promised_by h = (h.promise.worker, map boxed_of h.promise.tasks.value.items)
 
 -- each of them ran its lines
-abbrev pub AllBring : {L : Type 0} → ℕ → List (ℕ × List Boxed) → List (Finished L) → Type 0
-AllBring helpers [] all = all ≡ []
-AllBring {L = L} helpers (a ∷ given) all = (f : Finished L) × (more : List (Finished L)) × (all ≡ f ∷ more) × Brings helpers a.0 a.1 f.session f.told.items × AllBring {L = L} helpers given more
+abbrev pub AllBring : {L : Type 0} → ℕ → ℕ → List (ℕ × List Boxed) → List (Finished L) → Type 0
+AllBring helpers workers [] all = all ≡ []
+AllBring {L = L} helpers workers (a ∷ given) all =
+    (f : Finished L) × (more : List (Finished L)) × (all ≡ f ∷ more) × Brings helpers workers a.0 a.1 f.session f.told.items × AllBring {L = L} helpers workers given more
 
 -- ---- what it is with the journal at hand
 

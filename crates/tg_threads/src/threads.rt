@@ -1,5 +1,5 @@
 //! The threads of the workers.
-ghost use Rattle.std.specs.Prelude.{◌≡◌, ℕ, [], IfOk, map};
+ghost use Rattle.std.specs.Prelude.{◌≡◌, ℕ, [], IfOk, IfErr, map};
 ghost use Rattle.std.specs.List.{All};
 ghost use Rattle.tg_threads.specs.Tasks.{AllBring, Brings, assigned_of, boxed_of, promised_by};
 
@@ -35,12 +35,22 @@ pub enum ThreadsFault {
 }
 
 impl From<AllocError> for ThreadsFault {
+    ghost use Rattle.std.specs.Prelude.{◌≡◌};
+    ghost use Rattle.tg_threads.specs.declared.threads.ThreadsFault.TheVariants.{OutOfMemory};
+
+    ghost from_gives = { λ _ e. e ≡ OutOfMemory };
+
     fn from(_error: AllocError) -> ThreadsFault {
         ThreadsFault::OutOfMemory
     }
 }
 
 impl<T: Drop> From<AllocFailed<T>> for ThreadsFault {
+    ghost use Rattle.std.specs.Prelude.{◌≡◌};
+    ghost use Rattle.tg_threads.specs.declared.threads.ThreadsFault.TheVariants.{OutOfMemory};
+
+    ghost from_gives = { λ _ e. e ≡ OutOfMemory };
+
     // What there was no memory for is dropped.
     fn from(_refused: AllocFailed<T>) -> ThreadsFault {
         ThreadsFault::OutOfMemory
@@ -59,7 +69,7 @@ impl<L: Round, P: Payload> Promise<Result<Finished<L>, AllocError>> for Assigned
     ghost use Rattle.std.specs.Prelude.{IfOk, map};
     ghost use Rattle.tg_threads.specs.Tasks.{Brings, boxed_of};
 
-    ghost kept_by = { λ p r. IfOk r (λ finished. Brings p.helpers p.worker (map boxed_of p.tasks.value.items) finished.session finished.told.items) };
+    ghost kept_by = { λ p r. IfOk r (λ finished. Brings p.helpers L.start.opening.workers p.worker (map boxed_of p.tasks.value.items) finished.session finished.told.items) };
 }
 
 /// Gives each worker a thread that runs its lines, and waits for all of them. What they bring back stands in the order of the
@@ -80,14 +90,14 @@ pub fn run_threads<
     works: Vec<Work<L, P>>,
 ) -> Result<Vec<Finished<L>>, ThreadsFault>
     requires { All (λ w. w.session.receipts ≡ []) works.items }
-    ensures { IfOk result (λ all. AllBring helpers (map assigned_of works.items) all.items) }
+    ensures { IfOk result (λ all. AllBring helpers L.start.opening.workers (map assigned_of works.items) all.items) }
 {
     thread::scope(
         thread::scope_env(),
         rt,
         |scope| -> Result<Vec<Finished<L>>, ThreadsFault>
             requires { All (λ w. w.session.receipts ≡ []) works.items }
-            ensures { IfOk result (λ all. AllBring helpers (map assigned_of works.items) all.items) }
+            ensures { IfOk result (λ all. AllBring helpers L.start.opening.workers (map assigned_of works.items) all.items) }
         {
             let handles = start_all(rt, alloc, scope, store, turnstile, helpers, works)?;
             join_all(rt, alloc, handles)
@@ -144,6 +154,7 @@ fn start<
     requires fresh { work.session.receipts ≡ [] }
     ensures promise { IfOk result (λ handle. promised_by handle ≡ assigned_of work) }
     ensures helpers { IfOk result (λ handle. handle.promise.helpers ≡ helpers) }
+    ensures fault { IfErr result (λ fault. fault ≡ ThreadsFault.NoThread) }
 {
     let Work { session, tasks } = work;
     let assigned = Assigned {
@@ -155,7 +166,7 @@ fn start<
         assigned,
         move || -> Result<Finished<L>, AllocError>
             requires { session.receipts ≡ [] }
-            ensures { IfOk result (λ finished. Brings helpers session.worker (map boxed_of tasks.items) finished.session finished.told.items) }
+            ensures { IfOk result (λ finished. Brings helpers L.start.opening.workers session.worker (map boxed_of tasks.items) finished.session finished.told.items) }
         { run_tasks(rt, alloc, store, turnstile, helpers, session, tasks) },
     ) else {
         return Err(ThreadsFault::NoThread);
@@ -169,7 +180,8 @@ fn join_all<L: Round, P: Payload, R: Threads>(
     alloc: Global,
     handles: Vec<PromisedHandle<Result<Finished<L>, AllocError>, Assigned<P>>>,
 ) -> Result<Vec<Finished<L>>, ThreadsFault>
-    ensures { (helpers : ℕ) → All (λ h. h.promise.helpers ≡ helpers) handles.items → IfOk result (λ all. AllBring helpers (map promised_by handles.items) all.items) }
+    ensures brought { (helpers : ℕ) → All (λ h. h.promise.helpers ≡ helpers) handles.items → IfOk result (λ all. AllBring helpers L.start.opening.workers (map promised_by handles.items) all.items) }
+    ensures fault { IfErr result (λ fault. fault ≡ ThreadsFault.OutOfMemory) }
 {
     let mut all = Vec::new(alloc);
     for handle in handles {

@@ -38,7 +38,7 @@ pub(crate) fn run_tasks<L: Round, P: Payload, G: Turnstile, R: Threads + Wait + 
     tasks: Vec<Task<P>>,
 ) -> Result<Finished<L>, AllocError>
     requires fresh { session.receipts ≡ [] }
-    ensures { IfOk result (λ finished. Brings helpers session.worker (map boxed_of tasks.items) finished.session finished.told.items) }
+    ensures { IfOk result (λ finished. Brings helpers L.start.opening.workers session.worker (map boxed_of tasks.items) finished.session finished.told.items) }
 {
     let mut told = Vec::with_capacity(alloc, tasks.len())?;
     for task in tasks {
@@ -56,7 +56,7 @@ fn run_task<L: Round, P: Payload, R: Threads + Wait + Sync>(
     session: &mut Session<L>,
     task: Task<P>,
 ) -> Told
-    ensures { (workers : ℕ) → session.old.worker < workers → IsRunBy workers session.old.worker (boxed_of task) →
+    ensures { let workers : ℕ = L.start.opening.workers in session.old.worker < workers → IsRunBy workers session.old.worker (boxed_of task) →
         HasRun helpers workers (boxed_of task) result session.old session.new }
 {
     let Task { line, draft } = task;
@@ -76,7 +76,7 @@ fn apply<L: Round, P: Payload, R: Wait>(
     session: &mut Session<L>,
     command: Command,
 ) -> Told
-    ensures { HasAsked (Deed.Plain command) result session.old session.new }
+    ensures { session.old.worker < L.start.opening.workers → HasAsked (Deed.Plain command) result session.old session.new }
 {
     if let Err(fault) = session.call(rt, store, command) {
         return Told::Refused(apply_refusal(fault));
@@ -92,7 +92,7 @@ fn create<L: Round, P: Payload, R: Wait>(
     label: Label,
     draft: Option<Draft<P>>,
 ) -> Told
-    ensures { HasMade label draft result session.old session.new }
+    ensures { session.old.worker < L.start.opening.workers → HasMade label draft result session.old session.new }
 {
     let Some(draft) = draft else {
         return Told::Refused(Refusal::Stock);
