@@ -12,10 +12,10 @@ pub enum StoryFault {
     #[error("bad label")]
     BadLabel,
     /// The store refused a call, or memory for it was wanting.
-    #[error("{0}")]
+    #[error(transparent)]
     Store(#[from] StoreFault),
     /// Standard output failed.
-    #[error("{0}")]
+    #[error(transparent)]
     Output(#[from] io::Error),
 }
 

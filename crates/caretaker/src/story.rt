@@ -62,7 +62,8 @@ fn tell_story<P: Payload, R: Print + AllocGlobal>(
     store: &mut Store<P>,
     document: P,
 ) -> Result<(), StoryFault> {
-    let document = hand_on(rt, store, document)?;
+    let document = make_document(rt, store, document)?;
+    hand_on(rt, store, document)?;
     visit(rt, store, document)?;
     take_back(rt, store, document)?;
     let entries = audited(rt.alloc(), store)?;
@@ -111,21 +112,14 @@ fn opening_of<P: Payload>(
     Ok(Opening::new(WORKERS, edges, values, MOST_VERTICES)?)
 }
 
-// The caretaker makes the document, and hands the right to read it on to the visitor.
-fn hand_on<P: Payload, R: Print + AllocGlobal>(
+// The caretaker makes the document, which it may read and write. Answers its name.
+fn make_document<P: Payload, R: Print + AllocGlobal>(
     rt: &R,
     store: &mut Store<P>,
     document: P,
 ) -> Result<u64, StoryFault> {
     let name = make(rt.alloc(), store, label("rw")?, document)?;
     tell_reply(rt, "caretaker makes a document", &Reply::Name(name))?;
-    ask(
-        rt,
-        store,
-        CARETAKER,
-        "caretaker hands r on",
-        hand_to_visitor(name)?,
-    )?;
     Ok(name)
 }
 
@@ -137,6 +131,20 @@ fn make<P: Payload>(
     payload: P,
 ) -> Result<u64, StoreFault> {
     Ok(store.create(CARETAKER, rights, Draft::new(alloc, payload)?)?)
+}
+
+// The caretaker hands the right to read the document on to the visitor.
+fn hand_on<P: Payload, R: Print>(
+    rt: &R,
+    store: &mut Store<P>,
+    document: u64,
+) -> Result<(), StoryFault> {
+    let grant = Command::Grant {
+        via: VISITOR,
+        target: document,
+        rights: label("r")?,
+    };
+    ask(rt, store, CARETAKER, "caretaker hands r on", grant)
 }
 
 // The visitor reads the document, before and after a collection and a write of the caretaker.
@@ -175,13 +183,7 @@ fn give_back<P: Payload, R: Print>(
     store: &mut Store<P>,
     document: u64,
 ) -> Result<(), StoryFault> {
-    ask(
-        rt,
-        store,
-        VISITOR,
-        "visitor gives r back",
-        give_up(document, "r")?,
-    )?;
+    give_up(rt, store, VISITOR, "visitor gives r back", document, "r")?;
     collect(rt, store)?;
     ask(rt, store, VISITOR, "visitor reads", read(document))
 }
@@ -192,22 +194,33 @@ fn let_go<P: Payload, R: Print>(
     store: &mut Store<P>,
     document: u64,
 ) -> Result<(), StoryFault> {
-    ask(
+    give_up(
         rt,
         store,
         CARETAKER,
         "caretaker gives up rw",
-        give_up(document, "rw")?,
+        document,
+        "rw",
     )?;
-    ask(
-        rt,
-        store,
-        CARETAKER,
-        "caretaker hands r on",
-        hand_to_visitor(document)?,
-    )?;
+    hand_on(rt, store, document)?;
     collect(rt, store)?;
     ask(rt, store, VISITOR, "visitor reads", read(document))
+}
+
+// The worker gives up the rights of these letters over the target.
+fn give_up<P: Payload, R: Print>(
+    rt: &R,
+    store: &mut Store<P>,
+    worker: u64,
+    words: &str,
+    target: u64,
+    letters: &str,
+) -> Result<(), StoryFault> {
+    let remove = Command::Remove {
+        target,
+        rights: label(letters)?,
+    };
+    ask(rt, store, worker, words, remove)
 }
 
 // Puts a command of the worker to the store, and prints the reply. A denial is a reply.
@@ -271,23 +284,6 @@ fn read(target: u64) -> Command {
 
 fn write(target: u64, value: u64) -> Command {
     Command::Write { target, value }
-}
-
-// The right to read the target, for the visitor too.
-fn hand_to_visitor(target: u64) -> Result<Command, StoryFault> {
-    Ok(Command::Grant {
-        via: VISITOR,
-        target,
-        rights: label("r")?,
-    })
-}
-
-// The rights of these letters over the target, which are then no longer those of the one who asks.
-fn give_up(target: u64, letters: &str) -> Result<Command, StoryFault> {
-    Ok(Command::Remove {
-        target,
-        rights: label(letters)?,
-    })
 }
 
 // The label of these letters.

@@ -1,4 +1,4 @@
-//! The journal of the script `grant_then_denied_write`, written by hand, as it is and damaged.
+//! The journal of the script `grant_then_denied_write`, written by hand, as it is, altered and damaged.
 
 use std::alloc::{AllocError, Global};
 use std::test::Fail;
@@ -21,6 +21,11 @@ fn opening(alloc: Global) -> Result<Opening, Fail> {
         to: 1,
         label: label("tg")?,
     })?;
+    Ok(Opening::new(2, edges, cells(alloc)?, 8)?)
+}
+
+// Two cells of 0.
+fn cells(alloc: Global) -> Result<Vec<Value>, AllocError> {
     let mut values = Vec::new(alloc);
     for _ in 0..2 {
         values.push(Value {
@@ -28,34 +33,59 @@ fn opening(alloc: Global) -> Result<Opening, Fail> {
             state: Numbers::one(0),
         })?;
     }
-    Ok(Opening::new(2, edges, values, 8)?)
+    Ok(values)
 }
 
-// Worker 0 makes a cell of 0.
-fn created() -> Result<Entry, Fail> {
-    Ok(Entry {
-        worker: 0,
-        deed: Deed::Create {
-            label: label("rw")?,
-            law: Law::Cell,
-            state: Numbers::one(0),
-        },
-        reply: Reply::Name(2),
+// What an entry says.
+#[derive(Clone, Copy)]
+enum Said {
+    // worker 0 makes a cell of 0
+    Created,
+    // worker 0 makes a cell without a state
+    Misfit,
+    // worker 0 grants worker 1 the right to read it
+    Granted,
+    // worker 1 reads this
+    Read(u64),
+    // this worker may not write it
+    Denied(u64),
+}
+
+fn entry(said: Said) -> Result<Entry, Fail> {
+    Ok(match said {
+        Said::Created => created(Numbers::one(0), label("rw")?),
+        Said::Misfit => created(Numbers::none(), label("rw")?),
+        Said::Granted => granted(label("r")?),
+        Said::Read(state) => read(state),
+        Said::Denied(worker) => denied_write(worker),
     })
 }
 
-// Worker 0 grants worker 1 the right to read it.
-fn granted() -> Result<Entry, Fail> {
+// Worker 0 makes a cell.
+fn created(state: Numbers, label: Label) -> Entry {
+    Entry {
+        worker: 0,
+        deed: Deed::Create {
+            label,
+            law: Law::Cell,
+            state,
+        },
+        reply: Reply::Name(2),
+    }
+}
+
+// Worker 0 grants worker 1 rights over it.
+fn granted(rights: Label) -> Entry {
     let command = Command::Grant {
         via: 1,
         target: 2,
-        rights: label("r")?,
+        rights,
     };
-    Ok(Entry {
+    Entry {
         worker: 0,
         deed: Deed::Plain(command),
         reply: Reply::Done,
-    })
+    }
 }
 
 // Worker 1 reads it.
@@ -69,10 +99,6 @@ fn read(state: u64) -> Entry {
 
 // A worker may not write it.
 fn denied_write(worker: u64) -> Entry {
-    let command = Command::Write {
-        target: 2,
-        value: 7,
-    };
     let cause = Cause::Missing {
         from: worker,
         to: 2,
@@ -80,7 +106,10 @@ fn denied_write(worker: u64) -> Entry {
     };
     Entry {
         worker,
-        deed: Deed::Plain(command),
+        deed: Deed::Plain(Command::Write {
+            target: 2,
+            value: 7,
+        }),
         reply: Reply::Denied(Denial {
             rule: Rule::Write,
             cause,
@@ -89,156 +118,85 @@ fn denied_write(worker: u64) -> Entry {
 }
 
 // Adds the entry.
-fn enter(journal: &mut Journal, entry: Entry) -> Result<(), AllocError> {
+fn enter(journal: &mut Journal, said: Said) -> Result<(), Fail> {
     journal.reserve()?;
-    journal.push(entry);
+    journal.push(entry(said)?);
     Ok(())
 }
 
-// Adds the entries behind the first, with the state that is said to have been read, and with the one who is denied to write.
-fn enter_rest(journal: &mut Journal, state: u64, writer: u64) -> Result<(), Fail> {
-    enter(journal, granted()?)?;
-    enter(journal, read(state))?;
-    Ok(enter(journal, denied_write(writer))?)
-}
-
-// The journal, with the state that is said to have been read, and with the one who is denied to write.
-fn grant_then_denied_write(alloc: Global, state: u64, writer: u64) -> Result<Journal, Fail> {
-    let mut journal = Journal::new(alloc);
-    enter(&mut journal, created()?)?;
-    enter_rest(&mut journal, state, writer)?;
-    Ok(journal)
-}
-
-// What the audit finds, given that memory is ample.
-fn audited(alloc: Global, entries: &[Entry]) -> Result<Option<u64>, Fail> {
-    match audit(alloc, &opening(alloc)?, entries) {
+// What the audit finds in the journal, given that memory is ample.
+fn found_in(alloc: Global, journal: &Journal) -> Result<Option<u64>, Fail> {
+    match audit(alloc, &opening(alloc)?, journal.entries()) {
         Ok(()) => Ok(None),
         Err(AuditFault::BadEntry { at }) => Ok(Some(at)),
-        Err(AuditFault::OutOfMemory) => Err(AllocError)?,
+        Err(AuditFault::OutOfMemory) => Err(Fail::from(AllocError)),
     }
 }
 
-// What the audit finds in the journal, with the state that is said to have been read, and with the one who is denied to
-// write.
-fn audited_with(alloc: Global, state: u64, writer: u64) -> Result<Option<u64>, Fail> {
-    let journal = grant_then_denied_write(alloc, state, writer)?;
-    audited(alloc, journal.entries())
-}
-
-// Who is denied to write by the last of the journal's four entries.
-fn last_writer(alloc: Global) -> Result<u64, Fail> {
-    let journal = grant_then_denied_write(alloc, 0, 1)?;
-    if journal.len() == 4 {
-        Ok(journal.entry(3).worker)
-    } else {
-        Err(Fail::from("no four entries"))
-    }
-}
-
-#[test]
-fn altered_journal(rt: HostRuntime) -> Result<(), Fail> {
-    let alloc = rt.alloc();
-    assert_eq!(rt; last_writer(alloc)?, 1);
-    for (state, wanted) in [(0, None), (1, Some(2))] {
-        assert_eq!(rt; audited_with(alloc, state, 1)?, wanted);
-    }
-    Ok(())
-}
-
-// What the audit finds in a part of the journal's four entries.
-fn audited_part(alloc: Global, from: usize, to: usize) -> Result<Option<u64>, Fail> {
-    let journal = grant_then_denied_write(alloc, 0, 1)?;
-    let entries = journal.entries();
-    if entries.len() == 4 && from <= to && to <= 4 {
-        audited(alloc, &entries[from..to])
-    } else {
-        Err(Fail::from("no four entries"))
-    }
-}
-
-// Worker 0 makes a cell without a state.
-fn misfit() -> Result<Entry, Fail> {
-    Ok(Entry {
-        worker: 0,
-        deed: Deed::Create {
-            label: label("rw")?,
-            law: Law::Cell,
-            state: Numbers::none(),
-        },
-        reply: Reply::Name(2),
-    })
-}
-
-// How a journal is damaged.
-#[derive(Clone, Copy)]
-enum Damage {
-    NoFirst,
-    NoLast,
-    UnknownWorker,
-    FirstTwice,
-    // the first entry has a state that doesn't fit
-    Misfit,
-}
-
-// Adds what stands in the place of the first entry.
-fn enter_front(journal: &mut Journal, damage: Damage) -> Result<(), Fail> {
-    if matches!(damage, Damage::Misfit) {
-        return Ok(enter(journal, misfit()?)?);
-    }
-    for _ in 0..2 {
-        enter(journal, created()?)?;
-    }
-    Ok(())
-}
-
-// What the audit finds in the journal with this in the place of its first entry.
-fn audited_behind(alloc: Global, damage: Damage) -> Result<Option<u64>, Fail> {
+// What the audit finds in the journal of these entries.
+fn audited(alloc: Global, entries: &[Said]) -> Result<Option<u64>, Fail> {
     let mut journal = Journal::new(alloc);
-    enter_front(&mut journal, damage)?;
-    enter_rest(&mut journal, 0, 1)?;
-    audited(alloc, journal.entries())
+    for said in entries {
+        enter(&mut journal, *said)?;
+    }
+    found_in(alloc, &journal)
 }
 
-// What the audit finds in the journal once it is damaged.
-fn audited_damaged(alloc: Global, damage: Damage) -> Result<Option<u64>, Fail> {
-    match damage {
-        Damage::NoFirst => audited_part(alloc, 1, 4),
-        Damage::NoLast => audited_part(alloc, 0, 3),
-        Damage::UnknownWorker => audited_with(alloc, 0, 9),
-        Damage::FirstTwice | Damage::Misfit => audited_behind(alloc, damage),
-    }
-}
+// The journals, and which entry of each is blamed.
+static JOURNALS: [(&'static [Said], Option<u64>); 7] = [
+    (
+        &[Said::Created, Said::Granted, Said::Read(0), Said::Denied(1)],
+        None,
+    ),
+    // what was read is altered
+    (
+        &[Said::Created, Said::Granted, Said::Read(1), Said::Denied(1)],
+        Some(2),
+    ),
+    // without the first, and without the last
+    (&[Said::Granted, Said::Read(0), Said::Denied(1)], Some(0)),
+    (&[Said::Created, Said::Granted, Said::Read(0)], None),
+    // an unknown worker
+    (
+        &[Said::Created, Said::Granted, Said::Read(0), Said::Denied(9)],
+        Some(3),
+    ),
+    // the first twice
+    (
+        &[
+            Said::Created,
+            Said::Created,
+            Said::Granted,
+            Said::Read(0),
+            Said::Denied(1),
+        ],
+        Some(1),
+    ),
+    // a state that doesn't fit
+    (
+        &[Said::Misfit, Said::Granted, Said::Read(0), Said::Denied(1)],
+        Some(0),
+    ),
+];
 
 #[test]
-fn damaged_journals(rt: HostRuntime) -> Result<(), Fail> {
-    for (damage, wanted) in [
-        (Damage::NoFirst, Some(0)),
-        (Damage::NoLast, None),
-        (Damage::UnknownWorker, Some(3)),
-        (Damage::FirstTwice, Some(1)),
-        (Damage::Misfit, Some(0)),
-    ] {
-        assert_eq!(rt; audited_damaged(rt.alloc(), damage)?, wanted);
+fn altered_and_damaged_journals(rt: HostRuntime) -> Result<(), Fail> {
+    for (entries, wanted) in &JOURNALS {
+        assert_eq!(rt; audited(rt.alloc(), entries)?, *wanted);
     }
     Ok(())
 }
 
-// Adds the journal's first two entries, and 3,000 denied writes, the last of them by this worker.
-fn enter_long(journal: &mut Journal, last: u64) -> Result<(), Fail> {
-    enter(journal, created()?)?;
-    enter(journal, granted()?)?;
-    for at in 0..3000 {
-        enter(journal, denied_write(if at == 2999 { last } else { 1 }))?;
-    }
-    Ok(())
-}
-
-// What the audit finds in such a journal.
+// What the audit finds in a journal of 3,002 entries, the last of them by this worker.
 fn audited_long(alloc: Global, last: u64) -> Result<Option<u64>, Fail> {
     let mut journal = Journal::new(alloc);
-    enter_long(&mut journal, last)?;
-    audited(alloc, journal.entries())
+    enter(&mut journal, Said::Created)?;
+    enter(&mut journal, Said::Granted)?;
+    for _ in 0..2999 {
+        enter(&mut journal, Said::Denied(1))?;
+    }
+    enter(&mut journal, Said::Denied(last))?;
+    found_in(alloc, &journal)
 }
 
 #[test]

@@ -1,13 +1,9 @@
-//! The race of three cells event by event, and helpers on threads over one table.
-use crate::race::trials::{Found, race, win_and_look};
+//! The race of three cells event by event, and one helper at a table.
 use std::alloc::{AllocError, Global};
 use std::collections::LinkedList;
 use std::test::Fail;
-use tg_closed::ClosedWords;
 use tg_race::{Event, RaceTable, Record, Shape, World};
 use tg_word::{Place, place_of};
-
-mod trials;
 
 const FIRST: Place = Place {
     space: 1,
@@ -134,19 +130,29 @@ fn has_all(record: Option<&Record>) -> bool {
     }
 }
 
+// Each event of both helpers, up to where they meet, happens where it could.
+fn race_to_the_meeting(world: &mut World) -> Result<bool, AllocError> {
+    // the place FIRST is used, and nothing that was claimed or won leads to the cell 2
+    Ok(
+        happen(world, 0, &EVENTS_OF_0)?
+            && happen(world, 1, &EVENTS_OF_1)?
+            && has_looked(world.record_of(1))
+            && world.event(0, Event::Meet { other: 1 })?
+            && !world.event(1, Event::Claim)?,
+    )
+}
+
+// The cells 0 and 1 have the places FIRST and SECOND, and the cell 2 has none.
+fn are_forwarded(words: &[u64]) -> bool {
+    words.len() == 3 && words[2] == 0 && leads_to(words[0], FIRST) && leads_to(words[1], SECOND)
+}
+
 #[test]
 fn race_of_three_cells(rt: HostRuntime) -> Result<(), Fail> {
     let mut world = three_cells(rt.alloc())?;
-    // the place FIRST is used, and nothing that was claimed or won leads to the cell 2
-    assert!(rt; happen(&mut world, 0, &EVENTS_OF_0)?);
-    assert!(rt; happen(&mut world, 1, &EVENTS_OF_1)?);
-    assert!(rt; has_looked(world.record_of(1)));
-    assert!(rt; world.event(0, Event::Meet { other: 1 })?);
-    assert!(rt; !world.event(1, Event::Claim)?);
+    assert!(rt; race_to_the_meeting(&mut world)?);
     assert!(rt; has_all(world.record_of(0)) && world.record_of(2).is_none());
-    let words = world.words();
-    assert!(rt; words.len() == 3 && words[2] == 0);
-    assert!(rt; leads_to(words[0], FIRST) && leads_to(words[1], SECOND));
+    assert!(rt; are_forwarded(world.words()));
     Ok(())
 }
 
@@ -154,53 +160,10 @@ fn race_of_three_cells(rt: HostRuntime) -> Result<(), Fail> {
 fn one_helper_at_the_table(rt: HostRuntime) -> Result<(), Fail> {
     // three blocks of Old stay, and five cells behind them may be moved
     let (table, mut helper) = RaceTable::open(rt.alloc(), 197, 9, 3, 1)?;
-    assert!(rt; helper.claim_roots(&table) == 0);
+    assert_eq!(rt; helper.claim_roots(&table), 0);
     assert!(rt; helper.look(&table, 196).is_none());
-    assert!(rt; helper.claim_block(&table, false) == 3);
-    assert!(rt; helper.claim_block(&table, true) == 0);
-    let words = table.close(helper);
-    assert!(rt; words.len() == 5 && taken(&words) == 0);
-    Ok(())
-}
-
-#[test]
-fn a_won_cell_is_seen(rt: HostRuntime) -> Result<(), Fail> {
-    assert!(rt; matches!(win_and_look(rt.alloc())?, Some(place) if place == FIRST));
-    Ok(())
-}
-
-// Whether each word is that of the one win of its cell, and what was lost was lost to that win.
-fn are_words_of(words: &ClosedWords, found: &[Found]) -> bool {
-    let wins = found.iter().filter(|f| f.won).count();
-    wins == taken(words) && found.iter().all(|f| is_word_of(words, *f))
-}
-
-// How many words aren't 0.
-fn taken(words: &ClosedWords) -> usize {
-    let mut taken: usize = 0;
-    for i in 0..words.len() {
-        if words.word(i) != 0 {
-            taken = taken.wrapping_add(1);
-        }
-    }
-    taken
-}
-
-fn is_word_of(words: &ClosedWords, found: Found) -> bool {
-    let cell = found.cell as usize;
-    cell < words.len() && leads_to(words.word(cell), found.place)
-}
-
-#[test]
-fn two_helpers_on_threads(rt: HostRuntime) -> Result<(), Fail> {
-    let (words, found) = race(&rt, rt.alloc(), 2, 90)?;
-    assert!(rt; found.len() == 128 && are_words_of(&words, found.as_slice()));
-    Ok(())
-}
-
-#[test]
-fn eight_helpers_on_threads(rt: HostRuntime) -> Result<(), Fail> {
-    let (words, found) = race(&rt, rt.alloc(), 8, 200)?;
-    assert!(rt; found.len() == 512 && are_words_of(&words, found.as_slice()));
+    assert_eq!(rt; helper.claim_block(&table, false), 3);
+    assert_eq!(rt; helper.claim_block(&table, true), 0);
+    assert_eq!(rt; table.close(helper).len(), 5);
     Ok(())
 }

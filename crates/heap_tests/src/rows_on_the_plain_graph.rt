@@ -1,12 +1,10 @@
-//! Runs that are worked out by hand, line by line on the plain graph, with no collection. With each allocation refused in
-//! turn (`rt try --test --fail-alloc N`) they pass as well, but for the one whose own lists want memory: a deed that wanted
-//! memory is handed in a second time, and each reply after it is that of the graph as it was before the first.
+//! Runs that are worked out by hand, line by line on the plain graph, with no collection.
 
 use std::alloc::{AllocError, Global};
 use std::test::Fail;
 use tg_model::{
-    Cause, Command, Deed, Denial, Edge, Graph, Law, ModelFault, Numbers, Opening, OpeningFault,
-    Reply, Rule, Value,
+    Cause, Command, Deed, Denial, Edge, Graph, Law, ModelFault, Numbers, Opening, Reply, Rule,
+    Value,
 };
 use tg_rights::{Label, Right, Rights};
 
@@ -54,40 +52,51 @@ fn first_state(law: Law) -> Numbers {
     }
 }
 
-// An opening of so many workers with these edges, and with so many cells of 0.
-fn opening(
-    alloc: Global,
-    workers: u64,
-    max_vertices: u64,
-    edges: &[(u64, u64, &str)],
-    cells: u64,
-) -> Result<Result<Opening, OpeningFault>, AllocError> {
-    let mut drawn = Vec::new(alloc);
-    for (from, to, letters) in edges {
-        drawn.push(Edge {
+// The edges of a run.
+fn edges_of(alloc: Global, run: &WorkedRun) -> Result<Vec<Edge>, AllocError> {
+    let mut edges = Vec::new(alloc);
+    for (from, to, letters) in run.edges {
+        edges.push(Edge {
             from: *from,
             to: *to,
             label: label(letters),
         })?;
     }
+    Ok(edges)
+}
+
+// So many cells of 0.
+fn cells(alloc: Global, count: u64) -> Result<Vec<Value>, AllocError> {
     let mut values = Vec::new(alloc);
-    for _ in 0..cells {
+    for _ in 0..count {
         values.push(Value {
             law: Law::Cell,
             state: first_state(Law::Cell),
         })?;
     }
-    Ok(Opening::new(workers, drawn, values, max_vertices))
+    Ok(values)
 }
 
-fn deed(alloc: Global, ask: &Ask) -> Result<Deed, AllocError> {
+// The graph that a run starts from.
+fn graph_of(alloc: Global, run: &WorkedRun) -> Result<Graph, Fail> {
+    let edges = edges_of(alloc, run)?;
+    let opening = Opening::new(
+        run.workers,
+        edges,
+        cells(alloc, run.workers)?,
+        run.max_vertices,
+    )?;
+    Ok(Graph::open(alloc, &opening)?)
+}
+
+fn deed(ask: &Ask) -> Deed {
     let command = match ask {
         Ask::Create(letters, law) => {
-            return Ok(Deed::Create {
+            return Deed::Create {
                 label: label(letters),
                 law: *law,
                 state: first_state(*law),
-            });
+            };
         }
         Ask::Take(via, target, letters) => Command::Take {
             via: *via,
@@ -110,7 +119,7 @@ fn deed(alloc: Global, ask: &Ask) -> Result<Deed, AllocError> {
         },
         Ask::List => Command::List,
     };
-    Ok(Deed::Plain(command))
+    Deed::Plain(command)
 }
 
 // Whether the edges are those that are wanted, in this order.
@@ -150,16 +159,12 @@ fn is_wanted(reply: &Reply, want: &Want) -> bool {
     }
 }
 
-// Whether the worker's deed is answered as wanted. One that wanted memory is handed in again.
+// Whether the worker's deed is answered as wanted.
 fn is_answered(graph: &mut Graph, worker: u64, deed: &Deed, want: &Want) -> bool {
     if !deed.fits() {
         return false;
     }
-    let answer = match graph.apply(worker, deed) {
-        Err(ModelFault::OutOfMemory) => graph.apply(worker, deed),
-        answer => answer,
-    };
-    match &answer {
+    match &graph.apply(worker, deed) {
         Ok(reply) => is_wanted(reply, want),
         Err(ModelFault::NoSuchWorker) => matches!(want, Want::NoSuchWorker),
         Err(ModelFault::OutOfMemory) => false,
@@ -167,25 +172,13 @@ fn is_answered(graph: &mut Graph, worker: u64, deed: &Deed, want: &Want) -> bool
 }
 
 // How many lines are answered as wanted, before the first that isn't.
-fn answered(alloc: Global, run: &WorkedRun) -> Result<usize, AllocError> {
-    let Ok(opening) = opening(alloc, run.workers, run.max_vertices, run.edges, run.workers)? else {
-        return Ok(0);
-    };
-    let mut graph = Graph::open(alloc, &opening)?;
-    for (at, (worker, ask, want)) in run.lines.iter().enumerate() {
-        if !is_answered(&mut graph, *worker, &deed(alloc, ask)?, want) {
-            return Ok(at);
+fn answered(graph: &mut Graph, lines: &[(u64, Ask, Want)]) -> usize {
+    for (at, (worker, ask, want)) in lines.iter().enumerate() {
+        if !is_answered(graph, *worker, &deed(ask), want) {
+            return at;
         }
     }
-    Ok(run.lines.len())
-}
-
-// The same. Where there was no memory for what isn't the graph's, it goes again.
-fn answered_at_last(alloc: Global, run: &WorkedRun) -> Result<usize, AllocError> {
-    match answered(alloc, run) {
-        Ok(count) => Ok(count),
-        Err(_) => answered(alloc, run),
-    }
+    lines.len()
 }
 
 // A run: how many workers there are, how many vertices may ever be made, the edges in front, and each line with its worker and with
@@ -199,7 +192,7 @@ struct WorkedRun<'a> {
     lines: &'a [(u64, Ask, Want)],
 }
 
-const RUNS: [WorkedRun<'static>; 13] = [
+static RUNS: [WorkedRun<'static>; 13] = [
     WorkedRun {
         name: "grant_then_denied_write",
         workers: 2,
@@ -416,8 +409,9 @@ const RUNS: [WorkedRun<'static>; 13] = [
 #[test]
 fn worked_runs(rt: HostRuntime) -> Result<(), Fail> {
     for run in &RUNS {
+        let mut graph = graph_of(rt.alloc(), run)?;
         assert_eq!(rt;
-            answered_at_last(rt.alloc(), run)?,
+            answered(&mut graph, run.lines),
             run.lines.len(),
             "{}",
             run.name
@@ -426,80 +420,20 @@ fn worked_runs(rt: HostRuntime) -> Result<(), Fail> {
     Ok(())
 }
 
-// An edge from each worker but the first to the first, to take from it.
-fn takers(alloc: Global) -> Result<Vec<(u64, u64, &'static str)>, AllocError> {
-    let mut edges = Vec::new(alloc);
-    for worker in 1..64 {
-        edges.push((worker, 0, "t"))?;
-    }
-    Ok(edges)
-}
-
-// The first worker makes a vertex, and 2,000 more to which it gives that one edges; all others take rights over it, and
-// one of them takes and reads through it.
-fn takes_from_one_row(alloc: Global) -> Result<Vec<(u64, Ask, Want)>, AllocError> {
-    let mut lines = Vec::new(alloc);
-    for at in 0..4066 {
-        lines.push(line_at(at))?;
-    }
-    Ok(lines)
-}
-
-// The line at a place among them.
-fn line_at(at: u64) -> (u64, Ask, Want) {
-    match at {
-        0 => (0, Ask::Create("tg", Law::Cell), Want::Name(64)),
-        1..=2000 => (0, Ask::Create("r", Law::Cell), Want::Name(at + 64)),
-        2001..=4000 => (0, Ask::Grant(64, at - 1936, "r"), Want::Done),
-        4001..=4063 => (at - 4000, Ask::Take(0, 64, "t"), Want::Done),
-        4064 => (5, Ask::Take(64, 1000, "r"), Want::Done),
-        _ => (5, Ask::Read(1000), Want::Values(&[0])),
-    }
-}
-
+// The edges of one vertex may be as many as that.
 #[test]
-fn many_workers_take_from_one_row(rt: HostRuntime) -> Result<(), Fail> {
-    let alloc = rt.alloc();
-    let (edges, lines) = (takers(alloc)?, takes_from_one_row(alloc)?);
+fn a_row_of_two_thousand_edges(rt: HostRuntime) -> Result<(), Fail> {
     let run = WorkedRun {
-        name: "many_workers_take_from_one_row",
-        workers: 64,
+        name: "a_row_of_two_thousand_edges",
+        workers: 1,
         max_vertices: 1_000_000,
-        edges: &edges,
-        lines: &lines,
+        edges: &[],
+        lines: &[],
     };
-    assert_eq!(rt; answered_at_last(alloc, &run)?, lines.len());
-    Ok(())
-}
-
-// The fault of an opening, asked for a second time where there was no memory for its parts.
-fn fault(
-    alloc: Global,
-    workers: u64,
-    max_vertices: u64,
-    edges: &[(u64, u64, &str)],
-    cells: u64,
-) -> Result<Option<OpeningFault>, AllocError> {
-    let opening = match opening(alloc, workers, max_vertices, edges, cells) {
-        Ok(opening) => opening,
-        Err(_) => opening(alloc, workers, max_vertices, edges, cells)?,
-    };
-    Ok(opening.err())
-}
-
-#[test]
-fn bad_openings(rt: HostRuntime) -> Result<(), Fail> {
-    let no_edges: &[(u64, u64, &str)] = &[];
-    let looped: &[(u64, u64, &str)] = &[(0, 0, "r")];
-    for (workers, max_vertices, edges, cells, wanted) in [
-        (0, 1000, no_edges, 0, OpeningFault::BadWorkers),
-        (65, 1000, no_edges, 65, OpeningFault::BadWorkers),
-        (2, 1, no_edges, 2, OpeningFault::BadLimits),
-        (2, 1000, looped, 2, OpeningFault::BadEdge { at: 0 }),
-        (2, 1000, no_edges, 1, OpeningFault::BadValues { at: 1 }),
-    ] {
-        let found = fault(rt.alloc(), workers, max_vertices, edges, cells)?;
-        assert_eq!(rt; found, Some(wanted));
+    let mut graph = graph_of(rt.alloc(), &run)?;
+    let create = Ask::Create("r", Law::Cell);
+    for name in 1..=2000 {
+        assert!(rt; is_answered(&mut graph, 0, &deed(&create), &Want::Name(name)));
     }
     Ok(())
 }

@@ -1,34 +1,46 @@
-//! The worked rows of words, limits, nurseries, flat numbers and adoption.
+//! The worked rows of words, nurseries, flat numbers and adoption.
 use std::alloc::Global;
-use std::process::Abort;
 use std::test::Fail;
-use tg_model::OpeningFault;
 use tg_nursery::{AllocateFault, allocate};
 use tg_rights::{Right, Rights};
 use tg_space::{Adoption, Kind, Limits, Space, Spaces};
 use tg_word::{Place, Slot, pack, unpack};
 
 // The spaces of two workers, with two blocks of two: 64 cells were allocated for worker 0, and then one for worker 1.
-fn filled(rt: &impl Abort, alloc: Global) -> Result<Spaces, Fail> {
+fn filled(alloc: Global) -> Result<Spaces, Fail> {
     let mut spaces = Spaces::new(alloc, 2, Limits::new(2, 2)?)?;
-    for cell in 0..64 {
-        assert!(rt; is_allocated(&mut spaces, 0, cell));
+    if !is_filled(&mut spaces) {
+        return Err(Fail::from("another place"));
     }
-    assert!(rt; is_allocated(&mut spaces, 1, 0));
     Ok(spaces)
 }
 
-// Whether the next cell of the worker's nursery is this one of its first block.
-fn is_allocated(spaces: &mut Spaces, worker: u64, cell: u64) -> bool {
-    if worker > 1 || spaces.nurseries() != 2 {
-        return false;
+// Allocates the cells, and tells whether each is the next of its nursery's first block.
+fn is_filled(spaces: &mut Spaces) -> bool {
+    for cell in 0..64 {
+        if !is_next(spaces, 0, cell) {
+            return false;
+        }
     }
+    is_next(spaces, 1, 0)
+}
+
+// Whether the next cell of the worker's nursery is this one of its first block.
+fn is_next(spaces: &mut Spaces, worker: u64, cell: u64) -> bool {
     let wanted = Place {
-        space: worker + 2,
+        space: worker.wrapping_add(2),
         block: 0,
         cell,
     };
-    allocate(spaces, worker) == Ok(wanted)
+    next_cell(spaces, worker) == Some(Ok(wanted))
+}
+
+// The next cell of the worker's nursery, where there is one for it.
+fn next_cell(spaces: &mut Spaces, worker: u64) -> Option<Result<Place, AllocateFault>> {
+    if worker > 1 || spaces.nurseries() != 2 {
+        return None;
+    }
+    Some(allocate(spaces, worker))
 }
 
 // Whether the word reads as this slot, and what is read packs into the word.
@@ -89,55 +101,57 @@ fn words_off_the_layout(rt: HostRuntime) {
 }
 
 #[test]
-fn limits_out_of_range(rt: HostRuntime) {
-    for (max_blocks, space_blocks) in [(0, 1), (65_537, 1), (1, 0), (1, 1_048_577)] {
-        let fault = Limits::new(max_blocks, space_blocks).err();
-        assert_eq!(rt; fault, Some(OpeningFault::BadLimits));
-    }
-    assert!(rt; Limits::new(65_536, 1_048_576).is_ok());
-}
-
-#[test]
 fn nurseries_fill_and_refuse(rt: HostRuntime) -> Result<(), Fail> {
-    let mut spaces = filled(&rt, rt.alloc())?;
-    assert_eq!(rt; spaces.nurseries(), 2);
-    let refused = allocate(&mut spaces, 0);
-    assert_eq!(rt; refused, Err(AllocateFault::HeapFull));
+    let mut spaces = filled(rt.alloc())?;
+    assert_eq!(rt;
+        next_cell(&mut spaces, 0),
+        Some(Err(AllocateFault::HeapFull))
+    );
     assert_eq!(rt; spaces.blocks(), 2);
     Ok(())
 }
 
+// The first cell of worker 1, which stands behind the 64 of worker 0.
 #[test]
 fn flat_numbers(rt: HostRuntime) -> Result<(), Fail> {
-    let spaces = filled(&rt, rt.alloc())?;
+    let spaces = filled(rt.alloc())?;
     let place = Place {
         space: 3,
         block: 0,
         cell: 0,
     };
-    assert!(rt; spaces.holds(place));
-    assert_eq!(rt; spaces.flat(place), 64);
-    assert!(rt; 64 < spaces.cells());
-    assert_eq!(rt; spaces.unflat(64), place);
+    assert!(rt; spaces.holds(place) && spaces.flat(place) == 64);
+    assert!(rt; 64 < spaces.cells() && spaces.unflat(64) == place);
     Ok(())
+}
+
+// A space with one block.
+fn one_block(alloc: Global) -> Result<Space, Fail> {
+    let mut space = Space::new(alloc);
+    space.add_block(alloc)?;
+    Ok(space)
+}
+
+// Adopts a block of Old, as a full collection does.
+fn adopt_one(alloc: Global, spaces: &mut Spaces) -> Result<(), Fail> {
+    let old = one_block(alloc)?;
+    let aged = Space::new(alloc);
+    Ok(spaces.adopt(Kind::Full, Adoption { aged, old })?)
+}
+
+// Whether only Old has blocks, and it has one.
+fn has_one_old_block(spaces: &Spaces) -> bool {
+    spaces.nurseries() == 2
+        && spaces.blocks() == 1
+        && spaces.len(0) == 1
+        && spaces.used(2) == 0
+        && spaces.used(3) == 0
 }
 
 #[test]
 fn full_adoption(rt: HostRuntime) -> Result<(), Fail> {
-    let mut spaces = filled(&rt, rt.alloc())?;
-    let mut old = Space::new(rt.alloc());
-    old.add_block(rt.alloc())?;
-    let adoption = Adoption {
-        aged: Space::new(rt.alloc()),
-        old,
-    };
-    spaces.adopt(Kind::Full, adoption)?;
-    assert_eq!(rt; spaces.nurseries(), 2);
-    assert_eq!(rt; spaces.blocks(), 1);
-    assert_eq!(rt; spaces.len(0), 1);
-    for nursery in 2..4 {
-        assert_eq!(rt; spaces.len(nursery), 0);
-        assert_eq!(rt; spaces.used(nursery), 0);
-    }
+    let mut spaces = filled(rt.alloc())?;
+    adopt_one(rt.alloc(), &mut spaces)?;
+    assert!(rt; has_one_old_block(&spaces));
     Ok(())
 }

@@ -68,18 +68,37 @@ pub(crate) fn store(alloc: Global, workers: u64, edges: &[Edge]) -> Option<Store
         Some(opening) => opening,
         None => opening_of(alloc, &drafts, edges, 1000)?,
     };
+    open(alloc, opening, drafts)
+}
+
+// Opens a store with this. Where it is refused, what comes back is handed in again.
+fn open(
+    alloc: Global,
+    opening: Opening,
+    drafts: Vec<Draft<LogPayload>>,
+) -> Option<Store<LogPayload>> {
     let limits = Limits::new(1000, 1000).ok()?;
     match Store::open(alloc, opening, limits, drafts) {
         Ok(store) => Some(store),
-        Err(
-            OpenRefused {
-                opening,
-                drafts,
-                why: OpenFault::OutOfMemory,
-            },
-        ) => Store::open(alloc, opening, limits, drafts).ok(),
-        Err(_) => None,
+        Err(refused) => open_again(alloc, limits, refused),
     }
+}
+
+// Opens a store with what was refused for want of memory.
+fn open_again(
+    alloc: Global,
+    limits: Limits,
+    refused: OpenRefused<LogPayload>,
+) -> Option<Store<LogPayload>> {
+    let OpenRefused {
+        opening,
+        drafts,
+        why,
+    } = refused;
+    if why != OpenFault::OutOfMemory {
+        return None;
+    }
+    Store::open(alloc, opening, limits, drafts).ok()
 }
 
 /// Makes a vertex of the worker. Where it is refused the store is as it was, and the draft that comes back is handed in again.
@@ -191,4 +210,35 @@ pub(crate) fn is_legal(alloc: Global, store: &Store<LogPayload>) -> bool {
         Err(AuditFault::OutOfMemory) => audit_of(alloc, store).is_ok(),
         outcome => outcome.is_ok(),
     }
+}
+
+// Runs all lines. How many vertices the store has after the last.
+fn run_all<R: Threads + Wait + Sync>(
+    rt: &R,
+    alloc: Global,
+    store: &mut Store<LogPayload>,
+    lines: &[&[u8]],
+    helpers: u32,
+) -> Option<u64>
+    requires { helpers ≤ 8 }
+{
+    let mut left = 0;
+    for line in lines {
+        left = run_line(rt, alloc, store, line, helpers)?;
+    }
+    Some(left)
+}
+
+/// Runs all lines. How many vertices are left of them, how many entries there are, and whether each is right.
+pub(crate) fn seen_of_lines<R: Threads + Wait + Sync>(
+    rt: &R,
+    alloc: Global,
+    store: &mut Store<LogPayload>,
+    lines: &[&[u8]],
+    helpers: u32,
+) -> Option<(u64, u64, bool)>
+    requires { helpers ≤ 8 }
+{
+    let left = run_all(rt, alloc, store, lines, helpers)?;
+    Some((left, store.journal().len(), is_legal(alloc, store)))
 }

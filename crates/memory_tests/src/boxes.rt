@@ -3,7 +3,6 @@ ghost use Rattle.std.specs.Prelude.{◌∷◌, []};
 ghost use Rattle.tg_model.specs.declared.law.Law.TheVariants.{Sum};
 
 use std::alloc::{AllocError, Global};
-use std::test::Fail;
 use tg_model::{Command, Law, Opening};
 use tg_payload::{CellPayload, Draft, Payload, PayloadBox, values_of};
 use tg_rights::{Label, Right, Rights};
@@ -73,11 +72,23 @@ fn ran<P: Payload>(alloc: Global, script: &[u8], own: P, stock: P) -> Option<InM
     Some(run_in_memory(alloc, &OneThread, script, settings, workers, stock))
 }
 
-// Runs the script with one worker, who stores a cell, and a stock of one such sum.
-fn ran_with_boxes(alloc: Global, script: &[u8]) -> Option<InMemory> {
+// A cell, and such a sum.
+fn cell_and_sum(alloc: Global) -> Option<(PayloadBox, PayloadBox)> {
     let cell: PayloadBox = Box::new(alloc, CellPayload::new(0)).ok()?;
     let sum: PayloadBox = Box::new(alloc, refusing_once()).ok()?;
-    ran(alloc, script, cell, sum)
+    Some((cell, sum))
+}
+
+// Two writes, and a read behind each.
+const SCRIPT: &[u8] = b"0 create rw\n0 write 1 5\n0 read 1\n0 write 1 5\n0 read 1\n";
+
+// What is written for them.
+const REPLIES: &[u8] = b"ok 1\nrefused memory\nok 0\nok\nok 5\n";
+
+// Whether the script, run with one worker, who stores the first payload, and a stock of the second, has these replies.
+fn has_replies<P: Payload>(alloc: Global, own: P, stock: P) -> Option<bool> {
+    let ran = ran(alloc, SCRIPT, own, stock)?;
+    Some(ran.outcome.is_ok() && ran.written.as_slice() == REPLIES)
 }
 
 // A store of one worker.
@@ -128,27 +139,29 @@ fn seen_in_a_store<P: Payload>(
     payload: P,
 ) -> Option<(ApplyFault, bool, u64)> {
     let mut store = open_one(alloc, own)?;
-    seen_of_writes(alloc, &mut store, payload)
+    let seen = seen_of_writes(alloc, &mut store, payload);
+    drop(store);
+    seen
+}
+
+// Whether a script has its replies with one worker who stores a cell and a stock of one such sum.
+fn boxes_have_replies(alloc: Global) -> Option<bool> {
+    let (cell, sum) = cell_and_sum(alloc)?;
+    has_replies(alloc, cell, sum)
 }
 
 // What is seen of a worker who stores a cell, and of one such sum.
 fn seen_of_boxes(alloc: Global) -> Option<(ApplyFault, bool, u64)> {
-    let cell: PayloadBox = Box::new(alloc, CellPayload::new(0)).ok()?;
-    let sum: PayloadBox = Box::new(alloc, refusing_once()).ok()?;
+    let (cell, sum) = cell_and_sum(alloc)?;
     seen_in_a_store(alloc, cell, sum)
 }
 
 // The write that is refused has no entry, and the read behind it is answered what was there before.
 #[test]
-fn box_that_refuses_once(rt: HostRuntime) -> Result<(), Fail> {
-    let script = b"0 create rw\n0 write 1 5\n0 read 1\n0 write 1 5\n0 read 1\n";
-    let ran = ran_with_boxes(rt.alloc(), script).ok_or("out of memory")?;
-    assert_eq!(rt; ran.outcome, Ok(()));
+fn box_that_refuses_once(rt: HostRuntime) {
+    assert_eq!(rt; boxes_have_replies(rt.alloc()), Some(true));
     assert_eq!(rt;
-        ran.written.as_slice(),
-        b"ok 1\nrefused memory\nok 0\nok\nok 5\n".as_slice()
+        seen_of_boxes(rt.alloc()),
+        Some((ApplyFault::OutOfMemory, false, 4))
     );
-    let seen = seen_of_boxes(rt.alloc()).ok_or("a refusal")?;
-    assert_eq!(rt; seen, (ApplyFault::OutOfMemory, false, 4));
-    Ok(())
 }

@@ -1,17 +1,16 @@
 //! Collections by several helpers.
 ghost use Rattle.std.specs.Prelude.{◌≤◌};
 
-use crate::again::{collect, create, is_legal, run_line, store};
+use crate::again::{collect, create, is_legal, seen_of_lines, store};
 use std::alloc::Global;
 use std::sync::Wait;
-use std::test::Fail;
 use std::thread::Threads;
 use tg_payload::LogPayload;
 use tg_rights::{Label, Right, Rights};
 use tg_store::{Kind, Store};
 
 // The old cell of vertex 1 has to stay remembered, or the fourth nursery collection loses what it names.
-const LINES: [&[u8]; 11] = [
+static LINES: [&'static [u8]; 11] = [
     b"0 create tg",
     b"minor",
     b"minor",
@@ -25,37 +24,8 @@ const LINES: [&[u8]; 11] = [
     b"full",
 ];
 
-// Runs all lines. How many vertices the last collection left.
-fn run_all<R: Threads + Wait + Sync>(
-    rt: &R,
-    alloc: Global,
-    store: &mut Store<LogPayload>,
-    helpers: u32,
-) -> Option<u64>
-    requires { helpers ≤ 8 }
-{
-    let mut left = 0;
-    for line in LINES {
-        left = run_line(rt, alloc, store, line, helpers)?;
-    }
-    Some(left)
-}
-
-// How many vertices are left of all lines, how many entries there are, and whether each is right.
-fn seen_in<R: Threads + Wait + Sync>(
-    rt: &R,
-    alloc: Global,
-    store: &mut Store<LogPayload>,
-    helpers: u32,
-) -> Option<(u64, u64, bool)>
-    requires { helpers ≤ 8 }
-{
-    let left = run_all(rt, alloc, store, helpers)?;
-    Some((left, store.journal().len(), is_legal(alloc, store)))
-}
-
-// What is seen in a store of one worker.
-fn seen_of_lines<R: Threads + Wait + Sync>(
+// What is seen of the lines in a store of one worker.
+fn seen_in_one<R: Threads + Wait + Sync>(
     rt: &R,
     alloc: Global,
     helpers: u32,
@@ -63,7 +33,9 @@ fn seen_of_lines<R: Threads + Wait + Sync>(
     requires { helpers ≤ 8 }
 {
     let mut store = store(alloc, 1, &[])?;
-    seen_in(rt, alloc, &mut store, helpers)
+    let seen = seen_of_lines(rt, alloc, &mut store, &LINES, helpers);
+    drop(store);
+    seen
 }
 
 // Makes a vertex of each worker, whose row is a root, and collects by so many helpers. How many vertices are left.
@@ -107,23 +79,24 @@ fn seen_of_rows<R: Threads + Wait + Sync>(
     requires { helpers ≤ 8 }
 {
     let mut store = store(alloc, 64, &[])?;
-    seen_in_rows(rt, alloc, &mut store, helpers)
+    let seen = seen_in_rows(rt, alloc, &mut store, helpers);
+    drop(store);
+    seen
 }
 
 #[test]
-fn collections_with_refused_memory(rt: HostRuntime) -> Result<(), Fail> {
+fn collections_with_refused_memory(rt: HostRuntime) {
     for helpers in [1, 2, 8] {
-        let seen = seen_of_lines(&rt, rt.alloc(), helpers).ok_or("a line that is refused again")?;
-        assert_eq!(rt; seen, (3, 6, true));
+        assert_eq!(rt; seen_in_one(&rt, rt.alloc(), helpers), Some((3, 6, true)));
     }
-    Ok(())
 }
 
 #[test]
-fn shared_out_collections_with_refused_memory(rt: HostRuntime) -> Result<(), Fail> {
+fn shared_out_collections_with_refused_memory(rt: HostRuntime) {
     for helpers in [2, 8] {
-        let seen = seen_of_rows(&rt, rt.alloc(), helpers).ok_or("a call that is refused again")?;
-        assert_eq!(rt; seen, (128, 192, true));
+        assert_eq!(rt;
+            seen_of_rows(&rt, rt.alloc(), helpers),
+            Some((128, 192, true))
+        );
     }
-    Ok(())
 }

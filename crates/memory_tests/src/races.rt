@@ -1,5 +1,5 @@
 //! Scripts whose workers have a thread each.
-ghost use Rattle.std.specs.Prelude.{◌≡◌, ◌<◌};
+ghost use Rattle.std.specs.Prelude.{◌≡◌, ◌<◌, length};
 
 use std::alloc::Global;
 use std::marker::Brand;
@@ -79,8 +79,13 @@ fn race_once<R: Threads + Wait + Sync>(rt: &R, alloc: Global, helpers: u32) -> O
         max_vertices: 10,
         limits: Limits::new(100, 100).ok()?,
     };
+    let workers = cells(alloc, 2)?;
+    let stock = cells(alloc, 1)?;
+    if workers.len() != 2 {
+        return None;
+    }
     let (asked, failures) = (Blank::new(1), Blank::new(1));
-    race_counted::<Brand, Brand, R>(rt, alloc, settings, asked, failures)
+    Some(race_counted::<Brand, Brand, R>(rt, alloc, settings, asked, failures, workers, stock))
 }
 
 // The counts of the source and of the sink are those of the ledgers A and F.
@@ -90,18 +95,16 @@ fn race_counted<A: Ledger, F: Ledger, R: Threads + Wait + Sync>(
     settings: Settings,
     asked: Blank,
     failures: Blank,
-) -> Option<Raced>
+    workers: Vec<Draft<CellPayload>>,
+    stock: Vec<Draft<CellPayload>>,
+) -> Raced
     requires asked { (asked.name ≡ A.name) × (asked.parts ≡ A.parts) × (0 < asked.parts) }
     requires failures { (failures.name ≡ F.name) × (failures.parts ≡ F.parts) × (0 < failures.parts) }
     requires two { settings.workers ≡ 2 }
+    requires each { length workers.items ≡ 2 }
 {
     let mut source = Bytes::new(SCRIPT, Count::<A>::new(asked));
     let mut sink = Written::new(alloc, Count::<F>::new(failures));
-    let workers = cells(alloc, 2)?;
-    let stock = cells(alloc, 1)?;
-    if workers.len() != 2 {
-        return None;
-    }
     let outcome = run_race(
         rt,
         alloc,
@@ -113,10 +116,10 @@ fn race_counted<A: Ledger, F: Ledger, R: Threads + Wait + Sync>(
         stock,
     );
     let Written { bytes, .. } = sink;
-    Some(Raced {
+    Raced {
         written: bytes,
         outcome,
-    })
+    }
 }
 
 // Whether the race is as it has to be where at most one request is refused, and whole when it is run again.

@@ -180,6 +180,7 @@ fn seen_of_journal(alloc: Global, store: &Store<LogPayload>) -> (u64, bool) {
 fn seen_of_two<R: Wait>(rt: &R, alloc: Global) -> Option<(u64, u64, u64, bool)> {
     let (left, receipts, store) = share_at_last(rt, alloc, opened(alloc)?)?;
     let (entries, is_right) = seen_of_journal(alloc, &store);
+    drop(store);
     Some((left, receipts, entries, is_right))
 }
 

@@ -1,8 +1,7 @@
 //! A store's calls by one thread.
-use crate::again::{is_legal, run_line, store};
+use crate::again::{seen_of_lines, store};
 use std::alloc::Global;
 use std::sync::Wait;
-use std::test::Fail;
 use std::thread::Threads;
 use tg_model::Edge;
 use tg_payload::LogPayload;
@@ -16,7 +15,7 @@ fn edge(from: u64, to: u64, letters: &[u8]) -> Option<Edge> {
 }
 
 // Every command, a row that needs an index, a log that grows, a denial, and collections of both kinds.
-const LINES: [&[u8]; 26] = [
+static LINES: [&'static [u8]; 26] = [
     b"0 create rwtg",
     b"0 write 2 5",
     b"0 create r",
@@ -45,46 +44,22 @@ const LINES: [&[u8]; 26] = [
     b"0 list",
 ];
 
-// Runs all lines. How many vertices the last collection left.
-fn run_all<R: Threads + Wait + Sync>(
-    rt: &R,
-    alloc: Global,
-    store: &mut Store<LogPayload>,
-) -> Option<u64> {
-    let mut left = 0;
-    for line in LINES {
-        left = run_line(rt, alloc, store, line, 0)?;
-    }
-    Some(left)
-}
-
-// How many vertices are left of all lines, how many entries there are, and whether each is right.
-fn seen_in<R: Threads + Wait + Sync>(
-    rt: &R,
-    alloc: Global,
-    store: &mut Store<LogPayload>,
-) -> Option<(u64, u64, bool)> {
-    let left = run_all(rt, alloc, store)?;
-    Some((left, store.journal().len(), is_legal(alloc, store)))
-}
-
 /// A store of two workers, with edges between them.
 pub(crate) fn opened(alloc: Global) -> Option<Store<LogPayload>> {
     let edges = [edge(0, 1, b"tg")?, edge(1, 0, b"r")?];
     store(alloc, 2, &edges)
 }
 
-// What is seen in a store of its own.
-fn seen_of_lines<R: Threads + Wait + Sync>(rt: &R, alloc: Global) -> Option<(u64, u64, bool)> {
+// What is seen of the lines in a store of its own.
+fn seen_in_two<R: Threads + Wait + Sync>(rt: &R, alloc: Global) -> Option<(u64, u64, bool)> {
     let mut store = opened(alloc)?;
-    seen_in(rt, alloc, &mut store)
+    let seen = seen_of_lines(rt, alloc, &mut store, &LINES, 0);
+    drop(store);
+    seen
 }
 
+// Where nothing is seen, a call was refused again, or changed what it refused.
 #[test]
-fn each_allocation_refused(rt: HostRuntime) -> Result<(), Fail> {
-    let seen = seen_of_lines(&rt, rt.alloc()).ok_or(
-        "a call that is refused again, or changes what it refused",
-    )?;
-    assert_eq!(rt; seen, (10, 22, true));
-    Ok(())
+fn each_allocation_refused(rt: HostRuntime) {
+    assert_eq!(rt; seen_in_two(&rt, rt.alloc()), Some((10, 22, true)));
 }

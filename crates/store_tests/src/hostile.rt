@@ -1,80 +1,78 @@
-//! Scripts at the limits of length and of numbers, and one that is cut at each of its bytes.
-use crate::scripts::runs;
-use std::alloc::{AllocError, Global};
+//! Scripts at the limit of length, and one that is cut at each of its bytes.
+use crate::rows::{LongRow, Piece, Row};
+use crate::scripts::{runs, runs_long};
 use std::process::Abort;
 use std::test::Fail;
 use tg_script::ScriptFault;
 
-// So many lines that list.
-fn lists(alloc: Global, times: u64) -> Result<Vec<u8>, AllocError> {
-    let mut script = Vec::with_capacity(alloc, 1 << 20)?;
-    for _ in 0..times {
-        script.extend_from_slice(b"0 list\n")?;
-    }
-    Ok(script)
-}
-
-// What is written for them, where the worker has no edge.
-fn empty_lists(alloc: Global, times: u64) -> Result<Vec<u8>, AllocError> {
-    let mut written = Vec::with_capacity(alloc, 1 << 20)?;
-    for _ in 0..times {
-        written.extend_from_slice(b"ok\n")?;
-    }
-    Ok(written)
-}
-
 // 1,048,576 bytes.
-#[test]
-fn script_of_the_greatest_length(rt: HostRuntime) -> Result<(), Fail> {
-    let mut script = lists(rt.alloc(), 149_795)?;
-    script.extend_from_slice(b"0 read 999\n")?;
-    let mut written = empty_lists(rt.alloc(), 149_795)?;
-    written.extend_from_slice(b"denied read 0->999 r\n")?;
-    assert_eq!(rt; script.len(), 1_048_576);
-    let (script, written) = (script.as_slice(), written.as_slice());
-    runs(&rt, 1, 1_000_000, b"", script, written, Ok(()))
-}
+const GREATEST_LENGTH: LongRow<'static> = LongRow {
+    row: Row {
+        name: "script of the greatest length",
+        workers: 1,
+        max_vertices: 1_000_000,
+        blocks: 4096,
+        stock: b"",
+        script: b"",
+        written: b"",
+        outcome: Ok(()),
+    },
+    pieces: &[
+        Piece {
+            first: 1,
+            last: 149_795,
+            script: b"0 list\n",
+            written: b"ok\n",
+        },
+        Piece {
+            first: 1,
+            last: 1,
+            script: b"0 read 999\n",
+            written: b"denied read 0->999 r\n",
+        },
+    ],
+};
 
 // The lines that are whole before the first byte past the limit are run.
+const TOO_LONG: LongRow<'static> = LongRow {
+    row: Row {
+        name: "script too long",
+        workers: 1,
+        max_vertices: 1_000_000,
+        blocks: 4096,
+        stock: b"",
+        script: b"",
+        written: b"",
+        outcome: Err(ScriptFault::InputTooLong),
+    },
+    pieces: &[
+        Piece {
+            first: 1,
+            last: 149_796,
+            script: b"0 list\n",
+            written: b"ok\n",
+        },
+        Piece {
+            first: 1,
+            last: 1,
+            script: b"0 list\n",
+            written: b"",
+        },
+    ],
+};
+
+#[test]
+fn script_of_the_greatest_length(rt: HostRuntime) -> Result<(), Fail> {
+    runs_long(&rt, &GREATEST_LENGTH)
+}
+
 #[test]
 fn script_too_long(rt: HostRuntime) -> Result<(), Fail> {
-    let script = lists(rt.alloc(), 149_797)?;
-    let written = empty_lists(rt.alloc(), 149_796)?;
-    assert_eq!(rt; script.len(), 1_048_579);
-    let (script, written) = (script.as_slice(), written.as_slice());
-    runs(
-        &rt,
-        1,
-        1_000_000,
-        b"",
-        script,
-        written,
-        Err(ScriptFault::InputTooLong),
-    )
-}
-
-// The longest line is looked at whole, and is bad.
-#[test]
-fn line_of_256_bytes(rt: HostRuntime) -> Result<(), Fail> {
-    let mut script = Vec::with_capacity(rt.alloc(), 257)?;
-    for _ in 0..256 {
-        script.push(b'x')?;
-    }
-    script.push(b'\n')?;
-    let fault = Err(ScriptFault::BadLine { line: 1 });
-    runs(&rt, 1, 1_000_000, b"", script.as_slice(), b"", fault)
-}
-
-#[test]
-fn greatest_number(rt: HostRuntime) -> Result<(), Fail> {
-    let script = b"0 read 18446744073709551615\n0 read 18446744073709551616\n";
-    let written = b"denied read 0->18446744073709551615 r\n";
-    let fault = Err(ScriptFault::BadLine { line: 2 });
-    runs(&rt, 1, 1_000_000, b"", script, written, fault)
+    runs_long(&rt, &TOO_LONG)
 }
 
 // Each line of a script of two workers, with what is written for it.
-const LINES: [(&[u8], &[u8]); 5] = [
+const LINES: &[(&[u8], &[u8])] = &[
     (b"edge 0 1 tg\n", b""),
     (b"0 create rw\n", b"ok 2\n"),
     (b"0 grant 1 2 r\n", b"ok\n"),
@@ -94,11 +92,25 @@ fn runs_with_parts(
     let mut script = Vec::from_slice(rt.alloc(), before)?;
     let mut outcome = Ok(());
     for byte in line {
-        runs(rt, 2, 1_000_000, b"c", script.as_slice(), written, outcome)?;
+        runs(rt, &cut_row(script.as_slice(), written, outcome))?;
         script.push(*byte)?;
         outcome = Err(ScriptFault::BadLine { line: number });
     }
     Ok(())
+}
+
+// The row of such a script.
+fn cut_row<'a>(script: &'a [u8], written: &'a [u8], outcome: Result<(), ScriptFault>) -> Row<'a> {
+    Row {
+        name: "cut script",
+        workers: 2,
+        max_vertices: 1_000_000,
+        blocks: 4096,
+        stock: b"c",
+        script,
+        written,
+        outcome,
+    }
 }
 
 #[test]
@@ -111,6 +123,5 @@ fn script_cut_at_each_byte(rt: HostRuntime) -> Result<(), Fail> {
         before.extend_from_slice(line)?;
         written.extend_from_slice(reply)?;
     }
-    let (script, written) = (before.as_slice(), written.as_slice());
-    runs(&rt, 2, 1_000_000, b"c", script, written, Ok(()))
+    runs(&rt, &cut_row(before.as_slice(), written.as_slice(), Ok(())))
 }

@@ -120,7 +120,9 @@ fn lent_in_turn(alloc: Global, store: &mut Store<Tagged>) -> Option<([u64; 5], [
 // The same in a store of its own.
 fn seen_in_two(alloc: Global) -> Option<([u64; 5], [u64; 5], usize)> {
     let mut store = open_two(alloc)?;
-    lent_in_turn(alloc, &mut store)
+    let seen = lent_in_turn(alloc, &mut store);
+    drop(store);
+    seen
 }
 
 #[test]

@@ -15,9 +15,15 @@ mod lent;
 #[cfg(test)]
 mod payloads;
 #[cfg(test)]
+mod races;
+#[cfg(test)]
+mod rows;
+#[cfg(test)]
 mod rows_by_helpers;
 #[cfg(test)]
 mod scripts;
+#[cfg(test)]
+mod sessions;
 #[cfg(test)]
 mod shown;
 #[cfg(test)]

@@ -54,26 +54,14 @@ fn not_distinct() -> Denial {
 }
 
 #[test]
-fn plain_replies(rt: HostRuntime) -> Result<(), Fail> {
+fn replies_and_denials(rt: HostRuntime) -> Result<(), Fail> {
     let alloc = rt.alloc();
     let denied = Reply::Denied(not_distinct());
-    assert_eq!(rt; is_shown(alloc, &Reply::Done, "ok"), true);
-    assert_eq!(rt; is_shown(alloc, &Reply::Name(40), "ok 40"), true);
-    assert_eq!(rt; is_shown(alloc, &denied, "denied take distinct"), true);
-    assert_eq!(rt;
-        is_denial_shown(alloc, &missing(), "denied write 1->2 w"),
-        true
-    );
-    Ok(())
-}
-
-#[test]
-fn replies_with_lists(rt: HostRuntime) -> Result<(), Fail> {
-    let alloc = rt.alloc();
-    let values = values(alloc)?;
-    let edges = edges(alloc)?;
-    let numbers = is_shown(alloc, &values, "ok 7 18446744073709551615");
-    let targets = is_shown(alloc, &edges, "ok 3:rg");
-    assert_eq!(rt; (numbers, targets), (true, true));
+    assert!(rt; is_shown(alloc, &Reply::Done, "ok"));
+    assert!(rt; is_shown(alloc, &Reply::Name(40), "ok 40"));
+    assert!(rt; is_shown(alloc, &denied, "denied take distinct"));
+    assert!(rt; is_denial_shown(alloc, &missing(), "denied write 1->2 w"));
+    assert!(rt; is_shown(alloc, &values(alloc)?, "ok 7 18446744073709551615"));
+    assert!(rt; is_shown(alloc, &edges(alloc)?, "ok 3:rg"));
     Ok(())
 }

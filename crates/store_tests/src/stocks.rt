@@ -2,33 +2,18 @@
 use std::test::Fail;
 use tg_text::{StockFault, StockItem, read_stock};
 
-#[test]
-fn stock_text(rt: HostRuntime) -> Result<(), Fail> {
-    let boxes = read_stock(rt.alloc(), b"cs2l")?;
-    let named = [
-        StockItem::Cell,
-        StockItem::Sum,
-        StockItem::Sum,
-        StockItem::Log,
-    ];
-    assert_eq!(rt; boxes.as_slice(), named.as_slice());
-    let none = read_stock(rt.alloc(), b"")?;
-    assert!(rt; none.is_empty());
-    Ok(())
-}
+const BAD: &[&[u8]] = &[b"c0", b"c01", b"x", b"c100001", b"c100000s"];
 
 #[test]
-fn bad_stock_texts(rt: HostRuntime) {
-    for text in [
-        b"c0".as_slice(),
-        b"c01".as_slice(),
-        b"x".as_slice(),
-        b"c100001".as_slice(),
-        b"c100000s".as_slice(),
-    ] {
-        assert_eq!(rt;
-            read_stock(rt.alloc(), text).err(),
-            Some(StockFault::BadStock)
-        );
+fn stock_texts(rt: HostRuntime) -> Result<(), Fail> {
+    use StockItem::{Cell, Log, Sum};
+    let named: [(&[u8], &[StockItem]); 2] = [(b"cs2l", &[Cell, Sum, Sum, Log]), (b"", &[])];
+    for (text, items) in named {
+        assert_eq!(rt; read_stock(rt.alloc(), text)?.as_slice(), items);
     }
+    for text in BAD {
+        let fault = read_stock(rt.alloc(), text).err();
+        assert_eq!(rt; fault, Some(StockFault::BadStock));
+    }
+    Ok(())
 }

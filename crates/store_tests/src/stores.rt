@@ -1,5 +1,5 @@
 //! Boxes in a store, through generic code.
-ghost use Rattle.std.specs.Prelude.{◌≤◌};
+ghost use Rattle.std.specs.Prelude.{◌≤◌, IfSome};
 
 use crate::counting_payload::counting_box;
 use std::alloc::Global;
@@ -8,8 +8,7 @@ use std::sync::{Arc, Wait};
 use std::test::Fail;
 use std::thread::Threads;
 use tg_helpers::collect_with;
-use tg_journal::{AuditFault, Entry, audit};
-use tg_model::{Command, Deed, Law, Numbers, Opening, Reply, Value};
+use tg_model::{Command, Law, Numbers, Opening, Reply, Value};
 use tg_payload::{CellPayload, Draft, Payload, PayloadBox};
 use tg_rights::{Label, Right, Rights};
 use tg_store::{
@@ -135,7 +134,9 @@ fn dropped_with_store<P: Payload>(
     drops: &AtomicU64,
 ) -> Option<(CreateFault, u64, u64)> {
     let mut store = opened_one(alloc, workers, 2)?;
-    dropped_with_draft(alloc, &mut store, first, second, drops)
+    let seen = dropped_with_draft(alloc, &mut store, first, second, drops);
+    drop(store);
+    seen
 }
 
 // Makes a vertex for each of the two payloads in a store with room for one. Answers why the second is refused, and how
@@ -244,7 +245,9 @@ fn filled<P: Payload>(
     payloads: Vec<P>,
 ) -> Option<(u64, CreateFault, CollectFault, CollectFault, Census)> {
     let mut store = open_small(alloc, workers)?;
-    fill_and_collect(alloc, &mut store, payloads)
+    let seen = fill_and_collect(alloc, &mut store, payloads);
+    drop(store);
+    seen
 }
 
 // So many boxes, each with a cell that stores 0.
@@ -320,11 +323,6 @@ fn give_up_cycle<P: Payload>(store: &mut Store<P>) -> Option<()> {
     Some(())
 }
 
-// How many vertices a collection of the kind leaves.
-fn left_by<P: Payload>(store: &mut Store<P>, kind: Kind) -> Option<u64> {
-    store.collect(kind).ok()
-}
-
 // Makes a cycle of vertices, one for each of three payloads, over which nobody has rights.
 fn make_dead_cycle<P: Payload>(
     alloc: Global,
@@ -336,22 +334,6 @@ fn make_dead_cycle<P: Payload>(
     give_up_cycle(store)
 }
 
-// Makes a vertex for each of three payloads, lets each have an edge to the next in turn, and gives up all rights over
-// them. Answers how many were dropped before any collection, what a nursery collection and a full one then answer, and
-// how many were dropped by both.
-fn dropped_by_a_collection<P: Payload>(
-    alloc: Global,
-    store: &mut Store<P>,
-    payloads: Vec<P>,
-    drops: &AtomicU64,
-) -> Option<(u64, u64, u64, u64)> {
-    make_dead_cycle(alloc, store, payloads)?;
-    let before = drops.load(Ordering::SeqCst);
-    let young = left_by(store, Kind::Nursery)?;
-    let left = left_by(store, Kind::Full)?;
-    Some((before, young, left, drops.load(Ordering::SeqCst)))
-}
-
 // So many boxes, with payloads that count their drops.
 fn counting_boxes(alloc: Global, number: u64, drops: &Arc<AtomicU64>) -> Option<Vec<PayloadBox>> {
     let mut payloads = Vec::new(alloc);
@@ -361,81 +343,76 @@ fn counting_boxes(alloc: Global, number: u64, drops: &Arc<AtomicU64>) -> Option<
     Some(payloads)
 }
 
-// What this answers in a store with room for the three.
-fn dropped_in_a_store<P: Payload>(
-    alloc: Global,
-    worker: P,
-    payloads: Vec<P>,
-    drops: &AtomicU64,
-) -> Option<(u64, u64, u64, u64)> {
-    let mut store = opened_one(alloc, worker, 4)?;
-    dropped_by_a_collection(alloc, &mut store, payloads, drops)
-}
-
-// What this answers of boxes with payloads that count their drops.
-fn dropped_boxes(alloc: Global, drops: &Arc<AtomicU64>) -> Option<(u64, u64, u64, u64)> {
-    let payloads = counting_boxes(alloc, 3, drops)?;
-    dropped_in_a_store(alloc, cell_box(alloc, 0)?, payloads, drops)
-}
-
-#[test]
-fn cycle_of_dead_boxes(rt: HostRuntime) -> Result<(), Fail> {
-    let alloc = rt.alloc();
-    let drops = Arc::new(alloc, AtomicU64::new(0))?;
-    let seen = dropped_boxes(alloc, &drops).ok_or("a refusal")?;
-    assert_eq!(rt; seen, (0, 1, 1, 3));
-    Ok(())
-}
-
-// How many vertices a collection of the kind by so many helpers leaves.
-fn left_by_helpers<P: Payload, R: Threads + Wait + Sync>(
+// How many vertices a collection of the kind leaves, by one thread or by so many helpers.
+fn left_by<P: Payload, R: Threads + Wait + Sync>(
     rt: &R,
     alloc: Global,
     store: &mut Store<P>,
     kind: Kind,
-    helpers: u32,
+    helpers: Option<u32>,
 ) -> Option<u64>
-    requires { (1 ≤ helpers) × (helpers ≤ 8) }
+    requires { IfSome helpers (λ number. (1 ≤ number) × (number ≤ 8)) }
 {
-    collect_with(rt, alloc, store, kind, helpers).ok()
+    match helpers {
+        Some(helpers) => collect_with(rt, alloc, store, kind, helpers).ok(),
+        None => store.collect(kind).ok(),
+    }
 }
 
-// What a nursery collection and then a full one by so many helpers leave of such a cycle, and how many boxes both drop.
-fn dropped_by_helpers<P: Payload, R: Threads + Wait + Sync>(
+// How many boxes of such a cycle are dropped before any collection, what a nursery collection and then a full one leave, and how
+// many boxes both drop.
+fn dropped_by_collections<P: Payload, R: Threads + Wait + Sync>(
+    rt: &R,
+    alloc: Global,
+    store: &mut Store<P>,
+    payloads: Vec<P>,
+    drops: &AtomicU64,
+    helpers: Option<u32>,
+) -> Option<(u64, u64, u64, u64)>
+    requires { IfSome helpers (λ number. (1 ≤ number) × (number ≤ 8)) }
+{
+    make_dead_cycle(alloc, store, payloads)?;
+    let before = drops.load(Ordering::SeqCst);
+    let young = left_by(rt, alloc, store, Kind::Nursery, helpers)?;
+    let left = left_by(rt, alloc, store, Kind::Full, helpers)?;
+    Some((before, young, left, drops.load(Ordering::SeqCst)))
+}
+
+// The same in a store with room for the three.
+fn dropped_in_a_store<P: Payload, R: Threads + Wait + Sync>(
     rt: &R,
     alloc: Global,
     worker: P,
     payloads: Vec<P>,
     drops: &AtomicU64,
-    helpers: u32,
-) -> Option<(u64, u64, u64)>
-    requires { (1 ≤ helpers) × (helpers ≤ 8) }
+    helpers: Option<u32>,
+) -> Option<(u64, u64, u64, u64)>
+    requires { IfSome helpers (λ number. (1 ≤ number) × (number ≤ 8)) }
 {
     let mut store = opened_one(alloc, worker, 4)?;
-    make_dead_cycle(alloc, &mut store, payloads)?;
-    let young = left_by_helpers(rt, alloc, &mut store, Kind::Nursery, helpers)?;
-    let left = left_by_helpers(rt, alloc, &mut store, Kind::Full, helpers)?;
-    Some((young, left, drops.load(Ordering::SeqCst)))
+    let seen = dropped_by_collections(rt, alloc, &mut store, payloads, drops, helpers);
+    drop(store);
+    seen
 }
 
 // The same of boxes with payloads that count their drops.
-fn boxes_dropped_by_helpers<R: Threads + Wait + Sync>(
+fn dropped_boxes<R: Threads + Wait + Sync>(
     rt: &R,
     alloc: Global,
-    helpers: u32,
-) -> Option<(u64, u64, u64)>
-    requires { (1 ≤ helpers) × (helpers ≤ 8) }
+    helpers: Option<u32>,
+) -> Option<(u64, u64, u64, u64)>
+    requires { IfSome helpers (λ number. (1 ≤ number) × (number ≤ 8)) }
 {
     let drops = Arc::new(alloc, AtomicU64::new(0)).ok()?;
     let payloads = counting_boxes(alloc, 3, &drops)?;
-    dropped_by_helpers(rt, alloc, cell_box(alloc, 0)?, payloads, &drops, helpers)
+    dropped_in_a_store(rt, alloc, cell_box(alloc, 0)?, payloads, &drops, helpers)
 }
 
 #[test]
-fn cycle_of_dead_boxes_and_helpers(rt: HostRuntime) -> Result<(), Fail> {
-    for helpers in [1, 2, 8] {
-        let seen = boxes_dropped_by_helpers(&rt, rt.alloc(), helpers).ok_or("a refusal")?;
-        assert_eq!(rt; seen, (1, 1, 3));
+fn cycle_of_dead_boxes(rt: HostRuntime) -> Result<(), Fail> {
+    for helpers in [None, Some(1), Some(2), Some(8)] {
+        let seen = dropped_boxes(&rt, rt.alloc(), helpers).ok_or("a refusal")?;
+        assert_eq!(rt; seen, (0, 1, 1, 3));
     }
     Ok(())
 }
@@ -506,222 +483,14 @@ fn seen_once_filled(
 // What is seen in a store in which three vertices may be made.
 fn seen_in_three(alloc: Global) -> Option<(Result<u64, CreateFault>, bool, bool, u64)> {
     let mut store = open_three(alloc)?;
-    seen_once_filled(alloc, &mut store)
+    let seen = seen_once_filled(alloc, &mut store);
+    drop(store);
+    seen
 }
 
 #[test]
 fn vertex_limit_and_unknown_worker(rt: HostRuntime) -> Result<(), Fail> {
     let seen = seen_in_three(rt.alloc()).ok_or("no vertex")?;
     assert_eq!(rt; seen, (Err(CreateFault::VerticesFull), true, true, 3));
-    Ok(())
-}
-
-// The entries of a journal, but for one whose reply is another.
-fn with_altered(alloc: Global, entries: &[Entry], altered: u64) -> Option<Vec<Entry>> {
-    let mut copies = Vec::new(alloc);
-    for (at, entry) in entries.iter().enumerate() {
-        let deed = match &entry.deed {
-            Deed::Create { label, law, state } => Deed::Create {
-                label: *label,
-                law: *law,
-                state: state.copy(alloc).ok()?,
-            },
-            Deed::Plain(command) => Deed::Plain(*command),
-        };
-        let reply = if at as u64 == altered {
-            Reply::Name(9)
-        } else {
-            entry.reply.copy(alloc).ok()?
-        };
-        let worker = entry.worker;
-        copies
-            .push(Entry {
-                worker,
-                deed,
-                reply,
-            })
-            .ok()?;
-    }
-    Some(copies)
-}
-
-// What the audit finds in the store's journal.
-fn audit_of(alloc: Global, store: &Store<CellPayload>) -> Result<(), AuditFault> {
-    audit(alloc, store.opening(), store.journal().entries())
-}
-
-// What the audit finds in the store's journal once the reply of an entry is another.
-fn audit_of_altered(
-    alloc: Global,
-    store: &Store<CellPayload>,
-    altered: u64,
-) -> Option<Result<(), AuditFault>> {
-    let entries = with_altered(alloc, store.journal().entries(), altered)?;
-    Some(audit(alloc, store.opening(), &entries))
-}
-
-// What the audit finds in the journal, and once its first or its second entry has another reply.
-fn audits_once_filled(
-    alloc: Global,
-    store: &mut Store<CellPayload>,
-) -> Option<[Result<(), AuditFault>; 3]> {
-    let _second = fill_by_two(alloc, store)?;
-    let first = audit_of_altered(alloc, store, 0)?;
-    let second = audit_of_altered(alloc, store, 1)?;
-    Some([audit_of(alloc, store), first, second])
-}
-
-// What it finds in a store in which three vertices may be made.
-fn audits_in_three(alloc: Global) -> Option<[Result<(), AuditFault>; 3]> {
-    let mut store = open_three(alloc)?;
-    audits_once_filled(alloc, &mut store)
-}
-
-#[test]
-fn altered_journal(rt: HostRuntime) -> Result<(), Fail> {
-    let seen = audits_in_three(rt.alloc()).ok_or("no vertex or no memory")?;
-    let first = AuditFault::BadEntry { at: 0 };
-    let second = AuditFault::BadEntry { at: 1 };
-    assert_eq!(rt; seen, [Ok(()), Err(first), Err(second)]);
-    Ok(())
-}
-
-// The next number of a sequence that looks random, below 2^31.
-fn draw(seed: &mut u64) -> u64 {
-    *seed = seed
-        .wrapping_mul(6_364_136_223_846_793_005)
-        .wrapping_add(1_442_695_040_888_963_407);
-    *seed >> 33
-}
-
-// Some command by way of one of the first eight vertices, over one whose name has no bits but those of the mask.
-fn some_command(seed: &mut u64, mask: u64) -> Option<Command> {
-    let via = draw(seed) % 8;
-    let target = draw(seed) & mask;
-    let rights = Label::new(Rights::from_bits((draw(seed) % 16) as u8)?)?;
-    Some(match draw(seed) % 6 {
-        0 => Command::Take {
-            via,
-            target,
-            rights,
-        },
-        1 => Command::Grant {
-            via,
-            target,
-            rights,
-        },
-        2 => Command::Remove { target, rights },
-        3 => Command::Read { target },
-        4 => Command::Write { target, value: via },
-        _ => Command::List,
-    })
-}
-
-// Makes a vertex of the worker, with all rights over it.
-fn create_with_all(alloc: Global, store: &mut Store<CellPayload>, worker: u64) -> Option<()> {
-    let _name = create(
-        alloc,
-        store,
-        worker,
-        Rights::from_bits(15)?,
-        CellPayload::new(0),
-    )?
-    .ok()?;
-    Some(())
-}
-
-// Collects, or makes a vertex, or lets a worker command something.
-fn take_step(
-    alloc: Global,
-    store: &mut Store<CellPayload>,
-    mask: u64,
-    seed: &mut u64,
-) -> Option<()> {
-    let worker = draw(seed) % 2;
-    match draw(seed) % 12 {
-        0 => {
-            let _left = left_by(store, Kind::Full)?;
-        }
-        1 | 2 => {
-            let _left = left_by(store, Kind::Nursery)?;
-        }
-        3 => create_with_all(alloc, store, worker)?,
-        _ => {
-            if let Some(some) = some_command(seed, mask) {
-                command(store, worker, some)?;
-            }
-        }
-    }
-    Some(())
-}
-
-// Takes so many steps, with collections of both kinds at random moments.
-fn take_steps(
-    alloc: Global,
-    store: &mut Store<CellPayload>,
-    steps: u64,
-    mask: u64,
-    seed: &mut u64,
-) -> Option<()> {
-    for _ in 0..steps {
-        take_step(alloc, store, mask, seed)?;
-    }
-    Some(())
-}
-
-// What the audit finds in the journal after so many steps.
-fn audit_after_steps(
-    alloc: Global,
-    store: &mut Store<CellPayload>,
-    steps: u64,
-    mask: u64,
-    seed: &mut u64,
-) -> Option<Result<(), AuditFault>> {
-    take_steps(alloc, store, steps, mask, seed)?;
-    Some(audit_of(alloc, store))
-}
-
-// A store of two workers with a large heap.
-fn open_large(alloc: Global) -> Option<Store<CellPayload>> {
-    open_cells(alloc, 1000, Limits::new(64, 16).ok()?)
-}
-
-// What the audit finds in the journal of such a store after 400 steps.
-fn audit_of_steps(alloc: Global, seed: &mut u64) -> Option<Result<(), AuditFault>> {
-    let mut store = open_large(alloc)?;
-    audit_after_steps(alloc, &mut store, 400, 7, seed)
-}
-
-// The audit replays the journal on the plain graph, which no collection enters.
-#[test]
-fn random_commands_between_collections(rt: HostRuntime) -> Result<(), Fail> {
-    let alloc = rt.alloc();
-    let mut seed = 1;
-    for _ in 0..20 {
-        let outcome = audit_of_steps(alloc, &mut seed).ok_or("a refusal")?;
-        assert_eq!(rt; outcome, Ok(()));
-    }
-    Ok(())
-}
-
-// What the audit finds in the journal of such a store after 400 steps over 64 vertices, which worker 0 makes first.
-fn audit_of_long_rows(alloc: Global, seed: &mut u64) -> Option<Result<(), AuditFault>> {
-    let mut store = open_large(alloc)?;
-    for _ in 0..64 {
-        create_with_all(alloc, &mut store, 0)?;
-    }
-    audit_after_steps(alloc, &mut store, 400, 63, seed)
-}
-
-// Rows of more than four cells, where a command looks into the index of the row, and a list walks along it. The plain graph
-// that the audit replays says what both have to find, before a collection and after it.
-#[test]
-fn random_commands_on_long_rows(rt: HostRuntime) -> Result<(), Fail> {
-    let alloc = rt.alloc();
-    let mut seed = 7;
-    for _ in 0..10 {
-        let outcome = audit_of_long_rows(alloc, &mut seed).ok_or("a refusal")?;
-        assert_eq!(rt; outcome, Ok(()));
-    }
     Ok(())
 }

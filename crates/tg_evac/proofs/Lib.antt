@@ -12,4 +12,5 @@ pub mod Collecting
 pub mod Sound
 pub mod Young
 pub mod Behind
+pub mod OneCell
 pub mod Moved

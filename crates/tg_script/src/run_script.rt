@@ -203,8 +203,15 @@ fn run_lines<P: Payload, C: Collector, S: Source, K: Sink>(
     let Front { edges, first } = read_edges(alloc, &mut script, source, sink)?;
     let mut run = open_run(alloc, settings, edges, workers, stock)?;
     match first {
-        Some(first) => run_commands(&mut run, collector, &mut script, source, sink, first),
-        None => Ok(()),
+        Some(first) => {
+            let ran = run_commands(&mut run, collector, &mut script, source, sink, first);
+            drop(run);
+            ran
+        }
+        None => {
+            drop(run);
+            Ok(())
+        }
     }
 }
 

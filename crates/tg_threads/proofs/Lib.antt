@@ -1,7 +1,6 @@
 pub mod BringLaws
 pub mod FitLaws
 pub mod OneLaws
-pub mod OrderLaws
 pub mod RaceLaws
 pub mod RunLaws
 pub mod ShareLaws

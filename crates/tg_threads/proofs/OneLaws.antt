@@ -21,7 +21,8 @@ use Rattle.tg_text.specs.declared.answer.Answer.{Answer}
 use Rattle.tg_text.specs.declared.answer.Answer.TheVariants as told
 use Rattle.tg_text.specs.Texts.{answer_text}
 use Rattle.tg_script.specs.Script.{Scene, Answers, AnswersCreate, IsOutput}
-use Rattle.tg_threads.specs.Output.{Tells, AreTold, HasEach, IsOfFirst, IsOfOne, first_of, behind_first, box_of, stock_behind, boxed}
+use Rattle.tg_weave.specs.Boxes.{first_of, behind_first, box_of, stock_behind, boxed}
+use Rattle.tg_threads.specs.Output.{Tells, AreTold, HasEach, IsOfFirst, IsOfOne}
 
 -- ---- the history is that of the lines
 

@@ -26,12 +26,16 @@ use Rattle.tg_shared.specs.declared.closing.CloseFault.TheVariants as closing
 use Rattle.tg_shared.specs.Sessions.{SessionState, AreFresh}
 use Rattle.tg_threads.specs.declared.fault.RaceFault.{RaceFault}
 use Rattle.tg_threads.specs.declared.fault.RaceFault.TheVariants as fault
-use Rattle.tg_threads.specs.declared.task.Told.{Told}
-use Rattle.tg_threads.specs.declared.worker.Finished.{Finished}
-use Rattle.tg_threads.specs.Output.{Boxed, IsRaceOutput, boxed, end_text}
-use Rattle.tg_threads.specs.Tasks.{AllBring, text_of_told}
-use Rattle.tg_threads.specs.Shares.{AreRaced, IsInScriptOrder, all_assigned, is_run_by, lines_of}
+use Rattle.tg_weave.specs.declared.task.Told.{Told}
+use Rattle.tg_weave.specs.declared.work.Work.{Work}
+use Rattle.tg_weave.specs.declared.work.Finished.{Finished}
+use Rattle.tg_weave.specs.Boxes.{Boxed, boxed}
+use Rattle.tg_weave.specs.Shares.{IsInScriptOrder, all_lines, is_run_by, lines_in, lines_of}
+use Rattle.tg_weave.specs.Telling.{end_text, text_of_told}
+use Rattle.tg_threads.specs.Output.{IsRaceOutput}
+use Rattle.tg_threads.specs.Tasks.{AllBring, AreRaced, all_assigned, assigned_of}
 use Rattle.tg_threads.specs.Race.{EndsRace, HasRaced, IsBeforeWriting, IsOfTelling, IsRaceDue, IsWhole, TellsRace, plan_of_script, race_fault_of_audit, race_read_failures, race_write_failures}
+use Rattle.tg_threads.proofs.ShareLaws.{each_assigned}
 use Rattle.tg_threads.proofs.WeaveLaws.{bring_as_many, each_told}
 
 -- as many fresh sessions as workers
@@ -63,25 +67,26 @@ commands_behind (e ∷ edges) lines h = commands_behind edges lines h
 
 -- ---- what the threads brought back
 
-pub all_brought : {L : Type 0} (helpers n workers : ℕ) (bs : List Boxed) (given : List (ℕ × List Boxed)) (all : List (Finished L)) → n ≡ workers → given ≡ all_assigned n bs → AllBring helpers workers given all → AllBring helpers workers (all_assigned workers bs) all
-all_brought {L = L} helpers n workers bs given all same is h =
+pub all_brought : {P : Type 0} (helpers workers : ℕ) (bs : List Boxed) (works : List (Work SessionState P)) (sessions : List SessionState) (all : List (Finished SessionState)) → AreFresh (range_with_len 0 workers) sessions →
+    map (λ w. w.session) works ≡ sessions → map lines_in works ≡ all_lines (length sessions) bs → AllBring helpers workers (map assigned_of works) all → AllBring helpers workers (all_assigned workers bs) all
+all_brought helpers workers bs works sessions all fresh is lines h =
     let P : List (ℕ × List Boxed) → Type 0 = λ g. AllBring helpers workers g all in
-    subst P (is ∙ ap (λ (k : ℕ). all_assigned k bs) same) h
+    subst P (each_assigned workers bs works sessions fresh is (lines ∙ ap (λ (n : ℕ). all_lines n bs) (fresh_length workers sessions fresh))) h
 
 -- one from each worker
-pub brought_by_each : {L : Type 0} (helpers workers : ℕ) (bs : List Boxed) (all : List (Finished L)) → AllBring helpers workers (all_assigned workers bs) all → length all ≡ workers
+pub brought_by_each : (helpers workers : ℕ) (bs : List Boxed) (all : List (Finished SessionState)) → AllBring helpers workers (all_assigned workers bs) all → length all ≡ workers
 brought_by_each helpers workers bs all h = bring_as_many helpers workers (all_assigned workers bs) all h ∙ length-map-range_with_len (λ x. (x, lines_of workers x bs)) 0 workers
 
 -- as many as each worker has lines
-pub brought_whole : {L : Type 0} (helpers workers : ℕ) (stock : List Value) (lines : List Line) (all lent : List (Finished L)) → lent ≡ all → AllBring helpers workers (all_assigned workers (boxed stock lines)) all →
+pub brought_whole : (helpers workers : ℕ) (stock : List Value) (lines : List Line) (all lent : List (Finished SessionState)) → lent ≡ all → AllBring helpers workers (all_assigned workers (boxed stock lines)) all →
     map (λ f. length f.told.items) lent ≡ map (λ x. length (filter (is_run_by (length lent) x) lines)) (range_with_len 0 (length lent))
-brought_whole {L = L} helpers workers stock lines all lent same h =
-    let P : List (Finished L) → ℕ → Type 0 = λ fs n. map (λ f. length f.told.items) fs ≡ map (λ x. length (filter (is_run_by n x) lines)) (range_with_len 0 n) in
+brought_whole helpers workers stock lines all lent same h =
+    let P : List (Finished SessionState) → ℕ → Type 0 = λ fs n. map (λ f. length f.told.items) fs ≡ map (λ x. length (filter (is_run_by n x) lines)) (range_with_len 0 n) in
     subst (λ fs. P fs (length fs)) (sym same) (subst (P all) (sym (brought_by_each helpers workers (boxed stock lines) all h)) (each_told helpers workers stock lines all h))
 
-pub brought_in_order : {L : Type 0} (workers : ℕ) (lines : List Line) (all lent : List (Finished L)) (ts : List Told) → lent ≡ all → length all ≡ workers → IsInScriptOrder (length lent) lines (map (λ f. f.told.items) lent) ts → IsInScriptOrder workers lines (map (λ f. f.told.items) all) ts
-brought_in_order {L = L} workers lines all lent ts same many h =
-    let P : List (Finished L) → ℕ → Type 0 = λ fs n. IsInScriptOrder n lines (map (λ f. f.told.items) fs) ts in
+pub brought_in_order : (workers : ℕ) (lines : List Line) (all lent : List (Finished SessionState)) (ts : List Told) → lent ≡ all → length all ≡ workers → IsInScriptOrder (length lent) lines (map (λ f. f.told.items) lent) ts → IsInScriptOrder workers lines (map (λ f. f.told.items) all) ts
+brought_in_order workers lines all lent ts same many h =
+    let P : List (Finished SessionState) → ℕ → Type 0 = λ fs n. IsInScriptOrder n lines (map (λ f. f.told.items) fs) ts in
     subst (P all) many (subst (λ fs. P fs (length fs)) same h)
 
 -- why a store isn't closed

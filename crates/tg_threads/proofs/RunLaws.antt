@@ -1,9 +1,8 @@
 -- What a session's calls come to, line by line.
-use Rattle.std.proofs.Common.{◌≡◌, ◌<◌, inl, inr, ℕ, Bool, true, false, cond, List, [], ◌∷◌, ◌++◌, Option, Some, None, refl, sym, ap, ◌∙◌, subst, append-nil, append_assoc}
-use Rattle.std.specs.Prelude.{nat_lt, map}
+use Rattle.std.proofs.Common.{◌≡◌, ◌<◌, inl, inr, ℕ, List, [], ◌∷◌, ◌++◌, Option, Some, None, refl, sym, ap, ◌∙◌, subst, append-nil, append_assoc}
+use Rattle.std.specs.Prelude.{map}
 use Rattle.std.specs.List.{All}
 use Rattle.std.proofs.lemmas.List.Elements.{All-head, All-tail}
-use Rattle.std.proofs.lemmas.Bool.{ltb-true}
 use Rattle.tg_rights.specs.RightSet.{RightSet}
 use Rattle.tg_model.specs.declared.value.Value.{Value}
 use Rattle.tg_model.specs.declared.command.Command.{Command}
@@ -22,9 +21,11 @@ use Rattle.tg_store.specs.declared.fault.ApplyFault.{ApplyFault}
 use Rattle.tg_store.specs.declared.fault.ApplyFault.TheVariants as apply
 use Rattle.tg_script.specs.Answering.{apply_refusal}
 use Rattle.tg_shared.specs.Sessions.{AtSome, SessionState, SharedStart, KeepsReceipts}
-use Rattle.tg_threads.specs.declared.task.Told.{Told}
-use Rattle.tg_threads.specs.declared.task.Told.TheVariants as came
-use Rattle.tg_threads.specs.Output.{Boxed, IsOfStore}
+use Rattle.tg_weave.specs.declared.task.Told.{Told}
+use Rattle.tg_weave.specs.declared.task.Told.TheVariants as came
+use Rattle.tg_weave.specs.Boxes.{Boxed}
+use Rattle.tg_weave.proofs.ShareLaws.{named}
+use Rattle.tg_threads.specs.Output.{IsOfStore}
 use Rattle.tg_threads.specs.Tasks.{IsRunBy, HasAsked, HasMade, HasCollected, HasRun, RunsOne, Runs}
 
 -- ---- who is there
@@ -41,17 +42,6 @@ refused_there start x command apply.OutOfMemory low none full = tt
 refused_there start x command apply.HeapFull low none full = full refl
 
 -- ---- one line
-
-some_same : {X : Type 0} (a b : X) → Some a ≡ Some b → a ≡ b
-some_same a b h = cc
-
-named_test : (b : Bool) (x workers y : ℕ) → nat_lt x workers ≡ b → cond b (Some x) None ≡ Some y → (x < workers) × (x ≡ y)
-named_test true x workers y t h = (ltb-true x workers t, some_same x y h)
-named_test false x workers y t h = absurd cc
-
--- the worker that a line names is one of the workers
-pub named : (x workers y : ℕ) → cond (nat_lt x workers) (Some x) None ≡ Some y → (x < workers) × (x ≡ y)
-named x workers y h = named_test (nat_lt x workers) x workers y refl h
 
 -- a session that keeps its receipts gets none
 none_more : (old new : SessionState) → KeepsReceipts old new → (new.worker ≡ old.worker) × (new.receipts ≡ old.receipts ++ [])
@@ -104,10 +94,6 @@ pub runs_more : (helpers workers : ℕ) (bs : List Boxed) (ts : List Told) (rs :
 runs_more helpers workers [] ts rs b t more h one = (t, [], more, [], ap (λ x. x ++ t ∷ []) h.0, ap (λ x. x ++ more) h.1 ∙ sym (append-nil more), one, (refl, refl))
 runs_more helpers workers (b' ∷ bs) ts rs b t more h one =
     (h.0, h.1 ++ t ∷ [], h.2, h.3 ++ more, ap (λ x. x ++ t ∷ []) h.4, ap (λ x. x ++ more) h.5 ∙ append_assoc h.2 h.3 more, h.6, runs_more helpers workers bs h.1 h.3 b t more h.7 one)
-
-pub map_push : {X Y : Type 0} (f : X → Y) (xs : List X) (x : X) → map f (xs ++ x ∷ []) ≡ map f xs ++ f x ∷ []
-map_push f [] x = refl
-map_push f (y ∷ xs) x = ap (λ l. f y ∷ l) (map_push f xs x)
 
 mapped_in : {X Y : Type 0} (f : X → Y) (P : Y → Type 0) (xs : List X) (x : X) (ys : List X) → All P (map f ((xs ++ x ∷ []) ++ ys)) → P (f x)
 mapped_in f P [] x ys all = All-head P (f x) (map f ys) all

@@ -15,39 +15,40 @@ use Rattle.tg_script.specs.Opening.{IsCommand}
 use Rattle.tg_shared.specs.declared.receipt.Receipt.{Receipt}
 use Rattle.tg_shared.specs.Receipts.{Stands}
 use Rattle.tg_shared.specs.Sessions.{SessionState, MatchesSince, MayClose, AreSharedOut}
-use Rattle.tg_threads.specs.declared.task.Told.{Told}
-use Rattle.tg_threads.specs.declared.task.Told.TheVariants as came
-use Rattle.tg_threads.specs.declared.worker.Finished.{Finished}
-use Rattle.tg_threads.specs.Output.{Boxed, HasEach, boxed, stock_behind}
-use Rattle.tg_threads.specs.Tasks.{runner_of, Runs, Brings, AllBring}
-use Rattle.tg_threads.specs.Shares.{is_run_by, lines_of, all_assigned, told_of, IsInScriptOrder, AreRaced}
+use Rattle.tg_weave.specs.declared.task.Told.{Told}
+use Rattle.tg_weave.specs.declared.task.Told.TheVariants as came
+use Rattle.tg_weave.specs.declared.work.Finished.{Finished}
+use Rattle.tg_weave.specs.Boxes.{Boxed, boxed, stock_behind}
+use Rattle.tg_weave.specs.Shares.{runner_of, is_run_by, lines_of, told_of, IsInScriptOrder}
+use Rattle.tg_weave.proofs.OrderLaws.{count_of}
+use Rattle.tg_threads.specs.Output.{HasEach}
+use Rattle.tg_threads.specs.Tasks.{Runs, Brings, AllBring, all_assigned, AreRaced}
 use Rattle.tg_threads.proofs.ShareLaws.{own_lines}
-use Rattle.tg_threads.proofs.OrderLaws.{count_of}
 use Rattle.tg_threads.proofs.FitLaws.{Fits, made_of, all_fit, woven, fit_told, fit_there, own_made, told_past}
 
 -- ---- what each thread brought
 
-pub bring_as_many : {L : Type 0} (helpers workers : ℕ) (given : List (ℕ × List Boxed)) (all : List (Finished L)) → AllBring helpers workers given all → length all ≡ length given
-bring_as_many {L = L} helpers workers [] all h = ap (λ (fs : List (Finished L)). length fs) h
-bring_as_many {L = L} helpers workers (a ∷ given) all h = ap (λ (fs : List (Finished L)). length fs) h.2 ∙ ap suc (bring_as_many helpers workers given h.1 h.4)
+pub bring_as_many : (helpers workers : ℕ) (given : List (ℕ × List Boxed)) (all : List (Finished SessionState)) → AllBring helpers workers given all → length all ≡ length given
+bring_as_many helpers workers [] all h = ap (λ (fs : List (Finished SessionState)). length fs) h
+bring_as_many helpers workers (a ∷ given) all h = ap (λ (fs : List (Finished SessionState)). length fs) h.2 ∙ ap suc (bring_as_many helpers workers given h.1 h.4)
 
-brings_at : {L : Type 0} (helpers workers : ℕ) (given : List (ℕ × List Boxed)) (all : List (Finished L)) (k : ℕ) (a : ℕ × List Boxed) → AllBring helpers workers given all → slice_get given k ≡ Some a →
-    (f : Finished L) × (slice_get all k ≡ Some f) × Brings helpers workers a.0 a.1 f.session f.told.items
+brings_at : (helpers workers : ℕ) (given : List (ℕ × List Boxed)) (all : List (Finished SessionState)) (k : ℕ) (a : ℕ × List Boxed) → AllBring helpers workers given all → slice_get given k ≡ Some a →
+    (f : Finished SessionState) × (slice_get all k ≡ Some f) × Brings helpers workers a.0 a.1 f.session f.told.items
 brings_at helpers workers [] all k a h at = absurd cc
-brings_at {L = L} helpers workers (b ∷ given) all zero a h at =
+brings_at helpers workers (b ∷ given) all zero a h at =
     let same : b ≡ a = cc in
-    (h.0, ap (λ (fs : List (Finished L)). slice_get fs 0) h.2, subst (λ (c : ℕ × List Boxed). Brings helpers workers c.0 c.1 h.0.session h.0.told.items) same h.3)
-brings_at {L = L} helpers workers (b ∷ given) all (suc k) a h at =
+    (h.0, ap (λ (fs : List (Finished SessionState)). slice_get fs 0) h.2, subst (λ (c : ℕ × List Boxed). Brings helpers workers c.0 c.1 h.0.session h.0.told.items) same h.3)
+brings_at helpers workers (b ∷ given) all (suc k) a h at =
     let more = brings_at helpers workers given h.1 k a h.4 at in
-    (more.0, ap (λ (fs : List (Finished L)). slice_get fs (suc k)) h.2 ∙ more.1, more.2)
+    (more.0, ap (λ (fs : List (Finished SessionState)). slice_get fs (suc k)) h.2 ∙ more.1, more.2)
 
 -- worker x's thread ran its lines
-record IsBrought {L : Type 0} (helpers workers : ℕ) (bs : List Boxed) (all : List (Finished L)) (x : ℕ) (f : Finished L) : Type 0 where
+record IsBrought (helpers workers : ℕ) (bs : List Boxed) (all : List (Finished SessionState)) (x : ℕ) (f : Finished SessionState) : Type 0 where
   at : slice_get all x ≡ Some f
   worker : f.session.worker ≡ x
   runs : Runs helpers workers (lines_of workers x bs) f.told.items f.session.receipts
 
-brought : {L : Type 0} (helpers workers : ℕ) (bs : List Boxed) (all : List (Finished L)) → AllBring helpers workers (all_assigned workers bs) all → (x : ℕ) → x < workers → (f : Finished L) × IsBrought helpers workers bs all x f
+brought : (helpers workers : ℕ) (bs : List Boxed) (all : List (Finished SessionState)) → AllBring helpers workers (all_assigned workers bs) all → (x : ℕ) → x < workers → (f : Finished SessionState) × IsBrought helpers workers bs all x f
 brought helpers workers bs all h x low =
     let as_given : ℕ → ℕ × List Boxed = λ y. (y, lines_of workers y bs) in
     let long : length (all_assigned workers bs) ≡ workers = length-map-range_with_len as_given 0 workers in
@@ -79,10 +80,10 @@ map_at : {X Y : Type 0} (f : X → Y) (xs : List X) (k : ℕ) (x : X) (d : Y) �
 map_at f xs k x d at = get_or_from_slice_get (map f xs) k (f x) d (slice_get-map f xs k ∙ ap (option_map f) at)
 
 -- each thread brought as many as it was given lines
-pub each_told : {L : Type 0} (helpers workers : ℕ) (stock : List Value) (lines : List Line) (all : List (Finished L)) → AllBring helpers workers (all_assigned workers (boxed stock lines)) all →
+pub each_told : (helpers workers : ℕ) (stock : List Value) (lines : List Line) (all : List (Finished SessionState)) → AllBring helpers workers (all_assigned workers (boxed stock lines)) all →
     map (λ f. length f.told.items) all ≡ map (λ x. length (filter (is_run_by workers x) lines)) (range_with_len 0 workers)
-each_told {L = L} helpers workers stock lines all h =
-    let long_of : Finished L → ℕ = λ f. length f.told.items in
+each_told helpers workers stock lines all h =
+    let long_of : Finished SessionState → ℕ = λ f. length f.told.items in
     let bs = boxed stock lines in
     fill_by_all (λ x. count_of workers x lines) (map long_of all) workers 0
     (length-map all long_of ∙ bring_as_many helpers workers (all_assigned workers bs) all h ∙ length-map-range_with_len (λ x. (x, lines_of workers x bs)) 0 workers)
@@ -105,11 +106,11 @@ record IsOwn (helpers workers : ℕ) (entries : List Entry) (bs : List Boxed) (x
   fits : AllZip (Fits helpers workers entries) (lines_of workers x bs) ts
   made : made_of entries ts ≡ filter (λ e. e.worker == x) entries
 
-own_of : {L : Type 0} (helpers workers start x : ℕ) (entries : List Entry) (bs : List Boxed) (all : List (Finished L)) (f : Finished L) → IsBrought helpers workers bs all x f →
+own_of : (helpers workers start x : ℕ) (entries : List Entry) (bs : List Boxed) (all : List (Finished SessionState)) (f : Finished SessionState) → IsBrought helpers workers bs all x f →
     All (MatchesSince entries start) (map (λ f. f.session) all) → All (λ s. map (λ r. r.entry) s.receipts ≡ filter (λ e. e.worker == s.worker) entries) (map (λ f. f.session) all) →
     IsOwn helpers workers entries bs x f.told.items
-own_of {L = L} helpers workers start x entries bs all f b matching own =
-    let session : Finished L → SessionState = λ g. g.session in
+own_of helpers workers start x entries bs all f b matching own =
+    let session : Finished SessionState → SessionState = λ g. g.session in
     let at : slice_get (map session all) x ≡ Some f.session = slice_get-map session all x ∙ ap (option_map session) b.at in
     let stands = standing entries start f.session (All_at (MatchesSince entries start) (map session all) x f.session matching at) in
     let fit = all_fit helpers workers f.session.worker entries (lines_of workers x bs) f.told.items f.session.receipts b.runs stands in
@@ -139,9 +140,9 @@ none_of x (e ∷ entries) sessions each others = ⊎_elim
     ∙ none_of x entries sessions (All-tail (λ e. count_by (λ s. s.worker == e.worker) sessions ≡ 1) e entries each) others)
     (cases_eq e.worker x)
 
-others_past : {L : Type 0} (helpers workers x : ℕ) (bs : List Boxed) (all : List (Finished L)) → AllBring helpers workers (all_assigned workers bs) all → workers ≤ x → All (λ s. s.worker ≢ x) (map (λ f. f.session) all)
-others_past {L = L} helpers workers x bs all h past = λ k d low.
-    let session : Finished L → SessionState = λ g. g.session in
+others_past : (helpers workers x : ℕ) (bs : List Boxed) (all : List (Finished SessionState)) → AllBring helpers workers (all_assigned workers bs) all → workers ≤ x → All (λ s. s.worker ≢ x) (map (λ f. f.session) all)
+others_past helpers workers x bs all h past = λ k d low.
+    let session : Finished SessionState → SessionState = λ g. g.session in
     let long : length all ≡ workers = bring_as_many helpers workers (all_assigned workers bs) all h ∙ length-map-range_with_len (λ x. (x, lines_of workers x bs)) 0 workers in
     let many : length (map session all) ≡ length all = length-map all session in
     let below : k < workers = omega (arith, low, many, long) in
@@ -151,36 +152,36 @@ others_past {L = L} helpers workers x bs all h past = λ k d low.
 
 -- ---- the race
 
-own_race : {L : Type 0} (helpers workers start : ℕ) (stock : List Value) (lines : List Line) (all : List (Finished L)) (ts : List Told) (entries : List Entry) →
+own_race : (helpers workers start : ℕ) (stock : List Value) (lines : List Line) (all : List (Finished SessionState)) (ts : List Told) (entries : List Entry) →
     AllBring helpers workers (all_assigned workers (boxed stock lines)) all → IsInScriptOrder workers lines (map (λ f. f.told.items) all) ts →
     MayClose entries start (map (λ f. f.session) all) → AreSharedOut entries (map (λ f. f.session) all) → (x : ℕ) → x < workers → IsOwn helpers workers entries (boxed stock lines) x (told_of workers x lines ts)
-own_race {L = L} helpers workers start stock lines all ts entries bring order closes shared x below =
-    let told : Finished L → List Told = λ f. f.told.items in
+own_race helpers workers start stock lines all ts entries bring order closes shared x below =
+    let told : Finished SessionState → List Told = λ f. f.told.items in
     let b = brought helpers workers (boxed stock lines) all bring x below in
     let is : b.0.told.items ≡ told_of workers x lines ts =
     sym (map_at told all x b.0 [] b.1.at) ∙ ap (λ l. get_or l x []) order.own ∙ get_or-map-range_with_len (λ y. told_of workers y lines ts) 0 workers x x [] below (omega arith) in
     subst (IsOwn helpers workers entries (boxed stock lines) x) is (own_of helpers workers start x entries (boxed stock lines) all b.0 b.1 closes.matching shared.own)
 
-each_race : {L : Type 0} (helpers workers : ℕ) (stock : List Value) (lines : List Line) (all : List (Finished L)) (ts : List Told) (entries : List Entry) → 0 < workers →
+each_race : (helpers workers : ℕ) (stock : List Value) (lines : List Line) (all : List (Finished SessionState)) (ts : List Told) (entries : List Entry) → 0 < workers →
     AllBring helpers workers (all_assigned workers (boxed stock lines)) all → AreSharedOut entries (map (λ f. f.session) all) → AllZip (Fits helpers workers entries) (boxed stock lines) ts →
     ((x : ℕ) → x < workers → IsOwn helpers workers entries (boxed stock lines) x (told_of workers x lines ts)) → HasEach entries (made_of entries ts)
-each_race {L = L} helpers workers stock lines all ts entries low bring shared fits own = λ x.
+each_race helpers workers stock lines all ts entries low bring shared fits own = λ x.
     let bs = boxed stock lines in
     let told_same : told_of workers x lines ts ≡ told_of workers x (map (λ (b : Boxed). b.line) bs) ts = ap (λ ls. told_of workers x ls ts) (sym (lines_boxed stock lines)) in
     let made = own_made helpers workers entries x bs ts fits in
     ⊎_elim
     (λ (below : x < workers). sym (own x below).made ∙ ap (made_of entries) told_same ∙ sym made)
     (λ (past : workers ≤ x).
-    none_of x entries (map (λ (f : Finished L). f.session) all) shared.each_of_one (others_past helpers workers x bs all bring past)
+    none_of x entries (map (λ (f : Finished SessionState). f.session) all) shared.each_of_one (others_past helpers workers x bs all bring past)
     ∙ sym (made ∙ ap (made_of entries) (sym told_same ∙ told_past workers x lines ts low past)))
     (cases_lt x workers)
 
 -- What the lines came to in script order is what may be told of a race, where the store was closed with the sessions that the
 -- threads brought back.
-pub raced : {L : Type 0} (helpers workers start : ℕ) (stock : List Value) (lines : List Line) (all : List (Finished L)) (ts : List Told) (entries : List Entry) → 0 < workers → All IsCommand lines →
+pub raced : (helpers workers start : ℕ) (stock : List Value) (lines : List Line) (all : List (Finished SessionState)) (ts : List Told) (entries : List Entry) → 0 < workers → All IsCommand lines →
     AllBring helpers workers (all_assigned workers (boxed stock lines)) all → IsInScriptOrder workers lines (map (λ f. f.told.items) all) ts →
     MayClose entries start (map (λ f. f.session) all) → AreSharedOut entries (map (λ f. f.session) all) → AreRaced helpers workers (boxed stock lines) entries ts
-raced {L = L} helpers workers start stock lines all ts entries low commands bring order closes shared =
+raced helpers workers start stock lines all ts entries low commands bring order closes shared =
     let bs = boxed stock lines in
     let same : lines ≡ map (λ (b : Boxed). b.line) bs = sym (lines_boxed stock lines) in
     let own = own_race helpers workers start stock lines all ts entries bring order closes shared in

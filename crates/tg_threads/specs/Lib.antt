@@ -1,4 +1,3 @@
 pub mod Output
 pub mod Race
-pub mod Shares
 pub mod Tasks

@@ -1,6 +1,6 @@
 -- What is written for a script whose workers run their lines side by side. Nothing here knows of threads, of locks, or of how
 -- replies are kept and put out.
-use Rattle.std.specs.Prelude.{◌≡◌, ◌≢◌, ◌⊎◌, ℕ, ◌<◌, ◌≤◌, ◌==◌, List, [], ◌∷◌, ◌++◌, length, Option, Some, None, codes, decimal}
+use Rattle.std.specs.Prelude.{◌≡◌, ◌≢◌, ◌⊎◌, ℕ, ◌<◌, ◌≤◌, ◌==◌, List, [], ◌∷◌, ◌++◌, length, Option, Some, None}
 use Rattle.std.specs.List.{All, filter}
 use Rattle.std.specs.Option.{option_to_list}
 use Rattle.tg_rights.specs.RightSet.{RightSet}
@@ -19,42 +19,8 @@ use Rattle.tg_text.specs.declared.answer.Refusal.{Refusal}
 use Rattle.tg_text.specs.declared.answer.Refusal.TheVariants as refusal
 use Rattle.tg_text.specs.Texts.{answer_text}
 use Rattle.tg_script.specs.Script.{MayWant, Start, commands_of, scene_of}
-
--- ---- which box a line has
-
--- a line, and the value in its box
-pub record Boxed : Type 0 where
-  pub line : Line
-  pub value : Option Value
-
-abbrev pub first_of : List Value → Option Value
-first_of [] = None
-first_of (value ∷ stock) = Some value
-
-abbrev pub behind_first : List Value → List Value
-behind_first [] = []
-behind_first (value ∷ stock) = stock
-
--- a create line has the first box that is left
-abbrev pub box_of : List Value → Line → Option Value
-box_of stock (line.Create x label) = first_of stock
-box_of stock (line.Edge edge) = None
-box_of stock (line.Plain x command) = None
-box_of stock line.Full = None
-box_of stock line.Minor = None
-
--- and uses it up, whatever becomes of the line
-abbrev pub stock_behind : List Value → Line → List Value
-stock_behind stock (line.Create x label) = behind_first stock
-stock_behind stock (line.Edge edge) = stock
-stock_behind stock (line.Plain x command) = stock
-stock_behind stock line.Full = stock
-stock_behind stock line.Minor = stock
-
--- so the i-th create line has the i-th box of the stock
-abbrev pub boxed : List Value → List Line → List Boxed
-boxed stock [] = []
-boxed stock (l ∷ lines) = record { line = l; value = box_of stock l } ∷ boxed (stock_behind stock l) lines
+use Rattle.tg_weave.specs.Boxes.{Boxed, boxed}
+use Rattle.tg_weave.specs.Telling.{end_text}
 
 -- ---- what is told of one line: the entry that it made, if any, and the answer
 
@@ -108,10 +74,6 @@ AreTold helpers workers (b ∷ bs) made text =
 -- the history has exactly these entries, and those of each worker in this order; entries of different workers may stand in any
 abbrev pub HasEach : List Entry → List Entry → Type 0
 HasEach entries made = (x : ℕ) → filter (λ e. e.worker == x) entries ≡ filter (λ e. e.worker == x) made
-
--- the last line
-abbrev pub end_text : ℕ → List ℕ
-end_text count = codes "entries " ++ decimal count ++ codes " audit ok" ++ 10 ∷ []
 
 -- The text may be written for these lines: there is a legal history of their opening whose entries are those of the command lines,
 -- one for each that has one and no other, each worker's in script order; and the text tells in script order the reply of each

@@ -1,7 +1,6 @@
 -- What comes of a whole script whose workers run their lines side by side.
 use Rattle.std.specs.Prelude.{◌≡◌, ◌⊎◌, ℕ, ◌+◌, ◌<◌, ◌≤◌, List, ◌++◌, length, Option, Some, None, Result, Ok, Err, IsOk}
 use Rattle.tg_model.specs.Opened.{Plan, start_of}
-use Rattle.tg_journal.specs.declared.entry.Entry.{Entry}
 use Rattle.tg_journal.specs.History.{IsLegal}
 use Rattle.tg_journal.specs.declared.replay.AuditFault.{AuditFault}
 use Rattle.tg_journal.specs.declared.replay.AuditFault.TheVariants as audit
@@ -19,9 +18,9 @@ use Rattle.tg_threads.specs.declared.fault.RaceFault.TheVariants as fault
 use Rattle.tg_threads.specs.declared.threads.ThreadsFault.{ThreadsFault}
 use Rattle.tg_threads.specs.declared.threads.ThreadsFault.TheVariants as threads
 use Rattle.tg_threads.specs.declared.race.Opened.{Opened}
-use Rattle.tg_threads.specs.declared.task.Told.{Told}
-use Rattle.tg_threads.specs.Output.{IsRaceOutput, end_text}
-use Rattle.tg_threads.specs.Tasks.{text_of_told}
+use Rattle.tg_weave.specs.declared.task.Told.{Told}
+use Rattle.tg_weave.specs.Telling.{end_text, text_of_told}
+use Rattle.tg_threads.specs.Output.{IsRaceOutput}
 
 -- ---- the script and its store
 

@@ -1,6 +1,6 @@
--- Who runs which line, what it comes to, and how the parts of a race stand to what is told of it.
-use Rattle.std.specs.Prelude.{◌≡◌, ℕ, ◌<◌, List, [], ◌∷◌, ◌++◌, length, map, Option, Some, None, nat_lt, slice_get, if◌then◌else◌}
-use Rattle.std.specs.List.{All, flat_map}
+-- What a worker's lines come to on its thread, and how the parts of a race stand to what is told of it.
+use Rattle.std.specs.Prelude.{◌≡◌, ℕ, ◌<◌, List, [], ◌∷◌, ◌++◌, map, Option, Some, None}
+use Rattle.std.specs.List.{All, range_with_len}
 use Rattle.tg_rights.specs.RightSet.{RightSet}
 use Rattle.tg_model.specs.declared.value.Value.{Value}
 use Rattle.tg_model.specs.declared.command.Deed.{Deed}
@@ -9,38 +9,22 @@ use Rattle.tg_model.specs.declared.reply.Reply.{Reply}
 use Rattle.tg_space.specs.declared.kind.Kind.{Kind}
 use Rattle.tg_space.specs.declared.kind.Kind.TheVariants as kind
 use Rattle.tg_journal.specs.declared.entry.Entry.{Entry}
-use Rattle.tg_text.specs.declared.line.Line.{Line}
-use Rattle.tg_text.specs.declared.line.Line.TheVariants as line
-use Rattle.tg_text.specs.declared.answer.Answer.{Answer}
 use Rattle.tg_text.specs.declared.answer.Answer.TheVariants as answer
 use Rattle.tg_text.specs.declared.answer.Refusal.TheVariants as refusal
-use Rattle.tg_text.specs.Texts.{answer_text}
 use Rattle.tg_shared.specs.declared.receipt.Receipt.{Receipt}
 use Rattle.tg_shared.specs.Receipts.{receipt_of}
 use Rattle.tg_shared.specs.Sessions.{SessionState, AddsReceipt, KeepsReceipts}
-use Rattle.tg_threads.specs.declared.task.Task.{Task}
 use Rattle.std.specs.declared.thread.PromisedHandle.{PromisedHandle}
 use Rattle.tg_threads.specs.declared.threads.Assigned.{Assigned}
-use Rattle.tg_threads.specs.declared.threads.Work.{Work}
-use Rattle.tg_threads.specs.declared.worker.Finished.{Finished}
-use Rattle.tg_threads.specs.declared.task.Told.{Told}
-use Rattle.tg_threads.specs.declared.task.Told.TheVariants as came
 use Rattle.tg_script.specs.Script.{MayWant}
-use Rattle.tg_threads.specs.Output.{Boxed, Tells, IsOfStore}
-
--- ---- who runs a line
-
--- the worker whose thread runs the line: its own, or worker 0 for a collection; and nobody's for one that names no worker
-abbrev pub runner_of : ℕ → Line → Option ℕ
-runner_of workers (line.Edge edge) = None
-runner_of workers (line.Create x label) = if nat_lt x workers then Some x else None
-runner_of workers (line.Plain x command) = if nat_lt x workers then Some x else None
-runner_of workers line.Full = Some 0
-runner_of workers line.Minor = Some 0
-
--- a task's line, with the value of its payload
-abbrev pub boxed_of : {P : Type 0} → Task P → Boxed
-boxed_of t = record { line = t.line; value = t.draft }
+use Rattle.tg_weave.specs.declared.task.Told.{Told}
+use Rattle.tg_weave.specs.declared.task.Told.TheVariants as came
+use Rattle.tg_weave.specs.declared.work.Work.{Work}
+use Rattle.tg_weave.specs.declared.work.Finished.{Finished}
+use Rattle.tg_weave.specs.Boxes.{Boxed, boxed_of}
+use Rattle.tg_weave.specs.Shares.{runner_of, lines_of, lines_in}
+use Rattle.tg_weave.specs.Telling.{IsThere, text_of_told}
+use Rattle.tg_threads.specs.Output.{Tells, IsOfStore, AreTold, HasEach}
 
 -- ---- what a line comes to
 
@@ -86,35 +70,29 @@ abbrev pub Brings : ℕ → ℕ → ℕ → List Boxed → SessionState → List
 Brings helpers workers x bs session ts = x < workers → All (IsRunBy workers x) bs → (session.worker ≡ x) × Runs helpers workers bs ts session.receipts
 
 -- the worker, and the lines that its thread is given
-abbrev pub assigned_of : {L P : Type 0} → Work L P → ℕ × List Boxed
-assigned_of w = (w.session.worker, map boxed_of w.tasks.items)
+abbrev pub assigned_of : {P : Type 0} → Work SessionState P → ℕ × List Boxed
+assigned_of w = (w.session.worker, lines_in w)
+
+-- each worker, by number, and the lines that its thread is given: all that it runs
+abbrev pub all_assigned : ℕ → List Boxed → List (ℕ × List Boxed)
+all_assigned workers bs = map (λ x. (x, lines_of workers x bs)) (range_with_len 0 workers)
 
 -- the same, as a thread's handle has it
 abbrev pub promised_by : {T P : Type 0} → PromisedHandle T (Assigned P) → ℕ × List Boxed
 promised_by h = (h.promise.worker, map boxed_of h.promise.tasks.value.items)
 
 -- each of them ran its lines
-abbrev pub AllBring : {L : Type 0} → ℕ → ℕ → List (ℕ × List Boxed) → List (Finished L) → Type 0
+abbrev pub AllBring : ℕ → ℕ → List (ℕ × List Boxed) → List (Finished SessionState) → Type 0
 AllBring helpers workers [] all = all ≡ []
-AllBring {L = L} helpers workers (a ∷ given) all =
-    (f : Finished L) × (more : List (Finished L)) × (all ≡ f ∷ more) × Brings helpers workers a.0 a.1 f.session f.told.items × AllBring {L = L} helpers workers given more
+AllBring helpers workers (a ∷ given) all =
+    (f : Finished SessionState) × (more : List (Finished SessionState)) × (all ≡ f ∷ more) × Brings helpers workers a.0 a.1 f.session f.told.items × AllBring helpers workers given more
 
 -- ---- what it is with the journal at hand
 
-abbrev pub entry_answer : Option Entry → Answer
-entry_answer (Some e) = answer.Reply e.reply
-entry_answer None = answer.Refused refusal.Memory
-
-abbrev pub told_answer : List Entry → Told → Answer
-told_answer entries (came.Entered at) = entry_answer (slice_get entries at)
-told_answer entries (came.Collected kept) = answer.Collected kept
-told_answer entries (came.Refused r) = answer.Refused r
-
--- an entry is where it is told to be
-abbrev pub IsThere : List Entry → Told → Type 0
-IsThere entries (came.Entered at) = at < length entries
-IsThere entries (came.Collected kept) = Unit {0}
-IsThere entries (came.Refused r) = Unit {0}
-
-abbrev pub text_of_told : List Entry → List Told → List ℕ
-text_of_told entries ts = flat_map (λ t. answer_text (told_answer entries t)) ts
+-- The lines came to this, where a collection has so many helpers, with these entries in the journal: each entry is where it is
+-- told to be, the lines made these of them in script order, and the journal has no others.
+pub record AreRaced (helpers workers : ℕ) (bs : List Boxed) (entries : List Entry) (ts : List Told) : Type 0 where
+  pub made : List Entry
+  pub told : AreTold helpers workers bs made (text_of_told entries ts)
+  pub each : HasEach entries made
+  pub there : All (IsThere entries) ts

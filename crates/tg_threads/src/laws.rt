@@ -4,7 +4,8 @@ ghost use Rattle.tg_text.specs.declared.line.Line.{Line};
 ghost use Rattle.tg_journal.specs.declared.entry.Entry.{Entry};
 ghost use Rattle.tg_journal.specs.History.{IsLegal};
 ghost use Rattle.tg_script.specs.Script.{Start, IsOutput, commands_of, scene_of};
-ghost use Rattle.tg_threads.specs.Output.{AreTold, HasEach, IsOfOne, boxed};
+ghost use Rattle.tg_weave.specs.Boxes.{boxed};
+ghost use Rattle.tg_threads.specs.Output.{AreTold, HasEach, IsOfOne};
 
 /// Where all lines are commands of worker 0, each has its entry, and there was room for each vertex, the replies are the output
 /// of the plain run, which answers one line after the other.

@@ -4,30 +4,24 @@
 //! [`run_threads`] runs them on threads and brings the sessions back with what each line came to: the place of its entry in the
 //! journal, a collection, or a refusal. [`in_script_order`] puts these together again, the store is closed and audited, and
 //! [`tell_all`] writes the reply to each line, and behind them the number of entries. [`runner`] says whose thread runs a line.
+//! What needs no thread of this stands in `tg_weave`, and is offered here again.
 //!
 //! What may be written for a whole script stands in `specs/Output`, as a relation between its lines and a legal history: the order
 //! between workers is open, it is that in which the lock was taken. The law of one worker says that its replies are those of a plain
-//! run. `specs/Race` says what then stands in the sink, and what does after a fault. `specs/Tasks` and `specs/Shares` are inside
-//! matters: what a session's run of its lines is, and how the lines are shared out.
+//! run. `specs/Race` says what then stands in the sink, and what does after a fault. `specs/Tasks` is an inside matter: what a
+//! session's run of its lines is.
 #![tactic(auto)]
 
 mod fault;
 pub mod laws;
 mod race;
-mod sharing;
-mod task;
-mod telling;
 mod threads;
 mod turnstile;
-mod weaving;
 mod worker;
 
 pub use fault::RaceFault;
 pub use race::run_race;
-pub use sharing::share_out;
-pub use task::{Task, Told, runner};
-pub use telling::tell_all;
+pub use tg_weave::{Task, Told, in_script_order, runner, sessions_of, share_out, tell_all};
 pub use threads::{ThreadsFault, Work, run_threads};
 pub use turnstile::{NoTurnstile, Turnstile};
-pub use weaving::{in_script_order, sessions_of};
 pub use worker::Finished;

@@ -6,17 +6,13 @@ ghost use Rattle.tg_text.specs.Sinks.{KeepsBytes};
 ghost use Rattle.tg_script.specs.Opening.{IsCommand};
 ghost use Rattle.tg_script.specs.Script.{Start};
 ghost use Rattle.tg_shared.specs.Sessions.{AreFresh, AreSharedOut, AtSome, MayClose, sessions_made, start_of_store};
-ghost use Rattle.tg_threads.specs.Output.{boxed};
 ghost use Rattle.tg_threads.specs.Race.{EndsRace, HasRaced, IsBeforeWriting, IsRaceDue, OpensRace, race_read_failures, race_write_failures};
-ghost use Rattle.tg_threads.specs.Shares.{AreRaced};
+ghost use Rattle.tg_threads.specs.Tasks.{AreRaced};
+ghost use Rattle.tg_weave.specs.Boxes.{boxed};
 
 use crate::fault::RaceFault;
-use crate::sharing::share_out;
-use crate::task::Told;
-use crate::telling::tell_all;
 use crate::threads::run_threads;
 use crate::turnstile::Turnstile;
-use crate::weaving::{in_script_order, sessions_of};
 use std::alloc::Global;
 use std::marker::Brand;
 use std::sync::Wait;
@@ -28,6 +24,7 @@ use tg_script::{Helpers, Settings, open_store, read_script};
 use tg_shared::{Round, Session, Shared, SharedStore, close};
 use tg_store::Store;
 use tg_text::{Line, Sink, Source};
+use tg_weave::{Told, in_script_order, sessions_of, share_out, tell_all};
 
 /// Runs the script, with one payload for each worker, by rising name, and a stock of payloads for the vertices that it makes: the
 /// i-th create line has the i-th of them, and where no vertex is made it is dropped.
@@ -178,7 +175,7 @@ impl<P: Payload> Raced<P> {
     ghost use Rattle.std.specs.Prelude.{◌≡◌, ◌+◌, List, ℕ, Some, IfErr};
     ghost use Rattle.std.specs.List.{All};
     ghost use Rattle.tg_threads.specs.Race.{IsOfTelling, TellsRace, race_read_failures, race_write_failures};
-    ghost use Rattle.tg_threads.specs.Tasks.{IsThere};
+    ghost use Rattle.tg_weave.specs.Telling.{IsThere};
 
     // Audits the journal, and writes the replies.
     fn tell<K: Sink>(&self, alloc: Global, sink: &mut K) -> Result<(), RaceFault>

@@ -1,9 +1,9 @@
 //! The threads of the workers.
 ghost use Rattle.std.specs.Prelude.{◌≡◌, ℕ, [], IfOk, IfErr, map};
 ghost use Rattle.std.specs.List.{All};
-ghost use Rattle.tg_threads.specs.Tasks.{AllBring, Brings, assigned_of, boxed_of, promised_by};
+ghost use Rattle.tg_threads.specs.Tasks.{AllBring, Brings, assigned_of, promised_by};
+ghost use Rattle.tg_weave.specs.Boxes.{boxed_of};
 
-use crate::task::Task;
 use crate::turnstile::Turnstile;
 use crate::worker::{Finished, run_tasks};
 use std::alloc::{AllocError, AllocFailed, Global};
@@ -14,14 +14,11 @@ use std::thread::{Promise, PromisedHandle, Scope, Threads};
 use tg_payload::Payload;
 use tg_script::Helpers;
 use tg_shared::{Round, Session, SharedStore};
+use tg_weave::Task;
 use thiserror::Error;
 
 /// A worker's session, and the lines that its thread has to run.
-#[derive(Drop)]
-pub struct Work<L: Round, P: Payload> {
-    pub session: Session<L>,
-    pub tasks: Vec<Task<P>>,
-}
+pub type Work<L, P> = tg_weave::Work<Session<L>, P>;
 
 /// Why not all of the workers' lines were run. The sessions are lost.
 #[derive(Clone, Copy, PartialEq, Eq, Debug, Error)]
@@ -67,7 +64,8 @@ pub(crate) struct Assigned<P: Payload> {
 
 impl<L: Round, P: Payload> Promise<Result<Finished<L>, AllocError>> for Assigned<P> {
     ghost use Rattle.std.specs.Prelude.{IfOk, map};
-    ghost use Rattle.tg_threads.specs.Tasks.{Brings, boxed_of};
+    ghost use Rattle.tg_threads.specs.Tasks.{Brings};
+    ghost use Rattle.tg_weave.specs.Boxes.{boxed_of};
 
     ghost kept_by = { λ p r. IfOk r (λ finished. Brings p.helpers L.start.opening.workers p.worker (map boxed_of p.tasks.value.items) finished.session finished.told.items) };
 }
@@ -89,7 +87,7 @@ pub fn run_threads<
     helpers: Helpers,
     works: Vec<Work<L, P>>,
 ) -> Result<Vec<Finished<L>>, ThreadsFault>
-    requires { All (λ w. w.session.receipts ≡ []) works.items }
+    requires fresh { All (λ w. w.session.receipts ≡ []) works.items }
     ensures { IfOk result (λ all. AllBring helpers L.start.opening.workers (map assigned_of works.items) all.items) }
 {
     thread::scope(
@@ -156,7 +154,7 @@ fn start<
     ensures helpers { IfOk result (λ handle. handle.promise.helpers ≡ helpers) }
     ensures fault { IfErr result (λ fault. fault ≡ ThreadsFault.NoThread) }
 {
-    let Work { session, tasks } = work;
+    let tg_weave::Work { session, tasks } = work;
     let assigned = Assigned {
         helpers,
         worker: session.worker(),

@@ -4,9 +4,9 @@ ghost use Rattle.tg_model.specs.declared.command.Deed.TheVariants as Deed;
 ghost use Rattle.tg_script.specs.Answering.{apply_refusal};
 ghost use Rattle.tg_script.specs.Script.{MayWant};
 ghost use Rattle.tg_shared.specs.declared.receipt.Receipt.{Receipt as ReceiptOf};
-ghost use Rattle.tg_threads.specs.Tasks.{Brings, HasAsked, HasCollected, HasMade, HasRun, IsRunBy, boxed_of};
+ghost use Rattle.tg_threads.specs.Tasks.{Brings, HasAsked, HasCollected, HasMade, HasRun, IsRunBy};
+ghost use Rattle.tg_weave.specs.Boxes.{boxed_of};
 
-use crate::task::{Task, Told};
 use crate::turnstile::Turnstile;
 use std::alloc::{AllocError, Global};
 use std::sync::Wait;
@@ -18,13 +18,10 @@ use tg_script::Helpers;
 use tg_shared::{HelpersFault, Round, Session, SharedStore};
 use tg_store::{ApplyFault, CollectFault, CreateFault, Kind};
 use tg_text::{Line, Refusal};
+use tg_weave::{Task, Told};
 
 /// A worker's session after its lines, and what each of them came to, in their order.
-#[derive(Drop)]
-pub struct Finished<L: Round> {
-    pub session: Session<L>,
-    pub told: Vec<Told>,
-}
+pub type Finished<L> = tg_weave::Finished<Session<L>>;
 
 /// Runs the lines, one after the other, and passes the turnstile before each. A collection has so many helpers. Answers only want of
 /// memory otherwise, before any line is run.
@@ -45,7 +42,7 @@ pub(crate) fn run_tasks<L: Round, P: Payload, G: Turnstile, R: Threads + Wait + 
         turnstile.pass(session.worker());
         told.push(run_task(rt, store, helpers, &mut session, task))?;
     }
-    Ok(Finished { session, told })
+    Ok(tg_weave::Finished { session, told })
 }
 
 // Runs one line.

@@ -2,12 +2,19 @@
 
 use crate::fault::DrawFault;
 use std::alloc::{AllocError, Global};
-use std::str;
+use std::io;
 use tg_model::Graph;
+use tg_rights::Label;
 
 /// Prints the graph as a digraph: its vertices by rising name, then its edges.
 pub fn draw<R: Print>(rt: &R, alloc: Global, graph: &Graph, workers: u64) -> Result<(), DrawFault> {
     let reached = reached_by_workers(alloc, graph, workers)?;
+    draw_digraph(rt, graph, workers, reached.as_slice())?;
+    Ok(())
+}
+
+// Prints the digraph, in which true stands at the name of what is reached.
+fn draw_digraph<R: Print>(rt: &R, graph: &Graph, workers: u64, reached: &[bool]) -> io::Result<()> {
     println!(rt; "digraph store {{")?;
     for (name, reached) in reached.iter().enumerate() {
         draw_vertex(rt, name as u64, workers, *reached)?;
@@ -15,8 +22,7 @@ pub fn draw<R: Print>(rt: &R, alloc: Global, graph: &Graph, workers: u64) -> Res
     for (from, reached) in reached.iter().enumerate() {
         draw_edges(rt, graph, from as u64, *reached)?;
     }
-    println!(rt; "}}")?;
-    Ok(())
+    println!(rt; "}}")
 }
 
 // Which vertices a subject reaches along edges: true at their names.
@@ -55,25 +61,26 @@ fn reach_targets(
     Ok(())
 }
 
-fn draw_vertex<R: Print>(rt: &R, name: u64, workers: u64, reached: bool) -> Result<(), DrawFault> {
+fn draw_vertex<R: Print>(rt: &R, name: u64, workers: u64, reached: bool) -> io::Result<()> {
     let shape = if name < workers { "box" } else { "circle" };
-    let colour = if reached { "black" } else { "grey" };
-    println!(rt; "    {name} [shape={shape} color={colour} fontcolor={colour}]")?;
-    Ok(())
+    let colour = colour_of(reached);
+    println!(rt; "    {name} [shape={shape} color={colour} fontcolor={colour}]")
 }
 
 // The edges of a vertex, each with the letters of its rights.
-fn draw_edges<R: Print>(rt: &R, graph: &Graph, from: u64, reached: bool) -> Result<(), DrawFault> {
-    let colour = if reached { "black" } else { "grey" };
+fn draw_edges<R: Print>(rt: &R, graph: &Graph, from: u64, reached: bool) -> io::Result<()> {
+    let colour = colour_of(reached);
     for to in 0..graph.made() {
-        let rights = graph.label(from, to);
-        if !rights.is_empty() {
-            let text = rights.text();
-            let letters = str::from_utf8(text.as_bytes()).unwrap_or("?");
+        if let Some(label) = Label::new(graph.label(from, to)) {
             println!(rt;
-                "    {from} -> {to} [label=\"{letters}\" color={colour} fontcolor={colour}]"
+                "    {from} -> {to} [label=\"{label}\" color={colour} fontcolor={colour}]"
             )?;
         }
     }
     Ok(())
+}
+
+// The colour of what is reached, and of what isn't.
+fn colour_of(reached: bool) -> &'static str {
+    if reached { "black" } else { "grey" }
 }

@@ -16,16 +16,16 @@ pub enum DrawFault {
     #[error("bad words")]
     BadWords,
     /// The stock is none, or names too many boxes.
-    #[error("{0}")]
+    #[error(transparent)]
     Stock(#[from] StockFault),
     /// The workers and vertices don't fit each other.
-    #[error("{0}")]
+    #[error(transparent)]
     Opening(#[from] OpeningFault),
     /// The line is none of the grammar, or an edge where it may not stand, or has no end.
     #[error("line {line}: bad line")]
     BadLine { line: u64 },
     /// Standard input or standard output failed.
-    #[error("{0}")]
+    #[error(transparent)]
     Stream(#[from] io::Error),
 }
 

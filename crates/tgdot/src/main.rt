@@ -16,7 +16,7 @@ mod script;
 
 use drawing::draw;
 use fault::DrawFault;
-use options::read_words;
+use options::{DotOptions, read_words};
 use script::run_script;
 use std::env;
 use std::process::ExitCode;
@@ -31,20 +31,23 @@ fn main(rt: HostRuntime) -> ExitCode {
     }
 }
 
-// Does what the words of the command line ask for.
+// Does what the words of the command line ask for. The exit status.
 fn obey(rt: &HostRuntime) -> Result<u8, DrawFault> {
     let words = words_of(rt)?;
     match read_words(rt.alloc(), words.as_slice()) {
-        Ok(options) => {
-            let graph = run_script(rt, rt.alloc(), options)?;
-            draw(rt, rt.alloc(), &graph, options.workers)?;
-            Ok(0)
-        }
+        Ok(options) => draw_script(rt, options),
         Err(error) => {
             error.print(rt)?;
             Ok(error.exit_code() as u8)
         }
     }
+}
+
+// Draws the graph that the script leaves.
+fn draw_script(rt: &HostRuntime, options: DotOptions) -> Result<u8, DrawFault> {
+    let graph = run_script(rt, rt.alloc(), options)?;
+    draw(rt, rt.alloc(), &graph, options.workers)?;
+    Ok(0)
 }
 
 // The words of the command line. Each has to be text.

@@ -2,7 +2,7 @@
 
 use crate::fault::DrawFault;
 use crate::options::DotOptions;
-use std::alloc::Global;
+use std::alloc::{AllocError, Global};
 use std::io::Input;
 use tg_model::{Deed, Edge, Graph, Law, Numbers, Opening, Reply, Value};
 use tg_rights::Label;
@@ -16,15 +16,7 @@ pub fn run_script<R: Input>(
 ) -> Result<Graph, DrawFault> {
     let stock = read_stock(alloc, options.stock.as_bytes())?;
     let lines = read_lines(rt, alloc, options.workers)?;
-    let mut graph = open_graph(alloc, options, lines.as_slice())?;
-    run_commands(
-        alloc,
-        &mut graph,
-        options.workers,
-        lines.as_slice(),
-        stock.as_slice(),
-    )?;
-    Ok(graph)
+    graph_after(alloc, options, lines.as_slice(), stock.as_slice())
 }
 
 // The lines of the script. An edge stands before all other lines, and between workers.
@@ -37,15 +29,10 @@ fn read_lines<R: Input>(rt: &R, alloc: Global, workers: u64) -> Result<Vec<Line>
         if rt.read_line(&mut text)? == 0 {
             break;
         }
-        let Some(read) = line_of(text.as_str()) else {
-            return Err(DrawFault::BadLine { line });
-        };
-        match &read {
-            Line::Edge(edge) if opening && edge.joins_workers(workers) => {}
-            Line::Edge(_) => return Err(DrawFault::BadLine { line }),
-            _ => opening = false,
+        match line_of(text.as_str()) {
+            Some(read) if may_stand(&read, &mut opening, workers) => lines.push(read)?,
+            _ => return Err(DrawFault::BadLine { line }),
         }
-        lines.push(read)?;
     }
     Ok(lines)
 }
@@ -59,29 +46,59 @@ fn line_of(text: &str) -> Option<Line> {
     read_line(bytes)
 }
 
+// Whether the line may stand behind those before it. The opening ends with the first line that is no edge.
+fn may_stand(line: &Line, opening: &mut bool, workers: u64) -> bool {
+    match line {
+        Line::Edge(edge) => *opening && edge.joins_workers(workers),
+        _ => {
+            *opening = false;
+            true
+        }
+    }
+}
+
+// The graph that the lines leave.
+fn graph_after(
+    alloc: Global,
+    options: DotOptions,
+    lines: &[Line],
+    stock: &[StockItem],
+) -> Result<Graph, DrawFault> {
+    let mut graph = open_graph(alloc, options, lines)?;
+    run_commands(&mut graph, options.workers, lines, stock)?;
+    Ok(graph)
+}
+
 // The graph of the edge lines, in which each worker stores a cell with 0.
 fn open_graph(alloc: Global, options: DotOptions, lines: &[Line]) -> Result<Graph, DrawFault> {
-    let mut edges: Vec<Edge> = Vec::new(alloc);
+    let edges = edges_of(alloc, lines)?;
+    let values = values_of(alloc, options.workers)?;
+    let opening = Opening::new(options.workers, edges, values, options.max_vertices)?;
+    Ok(Graph::open(alloc, &opening)?)
+}
+
+// The edges of the edge lines.
+fn edges_of(alloc: Global, lines: &[Line]) -> Result<Vec<Edge>, AllocError> {
+    let mut edges = Vec::new(alloc);
     for line in lines {
         if let Line::Edge(edge) = line {
             edges.push(*edge)?;
         }
     }
+    Ok(edges)
+}
+
+// A new cell for each worker.
+fn values_of(alloc: Global, workers: u64) -> Result<Vec<Value>, AllocError> {
     let mut values = Vec::new(alloc);
-    for _ in 0..options.workers {
-        let state = state_of(StockItem::Cell);
-        values.push(Value {
-            law: Law::Cell,
-            state,
-        })?;
+    for _ in 0..workers {
+        values.push(value_of(StockItem::Cell))?;
     }
-    let opening = Opening::new(options.workers, edges, values, options.max_vertices)?;
-    Ok(Graph::open(alloc, &opening)?)
+    Ok(values)
 }
 
 // Runs all commands. A create takes the first box that is left, and where no vertex is made it stays.
 fn run_commands(
-    alloc: Global,
     graph: &mut Graph,
     workers: u64,
     lines: &[Line],
@@ -90,59 +107,52 @@ fn run_commands(
     let mut boxes = stock.iter();
     let mut item = boxes.next();
     for line in lines {
-        match line {
-            Line::Create { worker, label } if *worker < workers => {
-                if create(alloc, graph, *worker, *label, item)? {
-                    item = boxes.next();
-                }
-            }
-            Line::Plain { worker, command } if *worker < workers => {
-                graph.apply(*worker, &Deed::Plain(*command))?;
-            }
-            _ => {}
+        if run_command(graph, workers, line, item)? {
+            item = boxes.next();
         }
     }
     Ok(())
 }
 
+// Runs the command of a line, if it is one of a worker. Whether it took the box.
+fn run_command(
+    graph: &mut Graph,
+    workers: u64,
+    line: &Line,
+    item: Option<&StockItem>,
+) -> Result<bool, DrawFault> {
+    match *line {
+        Line::Create { worker, label } if worker < workers => create(graph, worker, label, item),
+        Line::Plain { worker, command } if worker < workers => {
+            graph.apply(worker, &Deed::Plain(command))?;
+            Ok(false)
+        }
+        _ => Ok(false),
+    }
+}
+
 // Makes a vertex that stores the box, if there is one. Whether a vertex was made.
 fn create(
-    alloc: Global,
     graph: &mut Graph,
     worker: u64,
     label: Label,
     item: Option<&StockItem>,
 ) -> Result<bool, DrawFault> {
-    let Some(&kind) = item else {
+    let Some(kind) = item else {
         return Ok(false);
     };
-    let state = state_of(kind);
-    let deed = Deed::Create {
-        label,
-        law: law_of(kind),
-        state,
+    let Value { law, state } = value_of(*kind);
+    let deed = Deed::Create { label, law, state };
+    Ok(deed.fits() && matches!(graph.apply(worker, &deed)?, Reply::Name(_)))
+}
+
+// What a new box stores.
+fn value_of(kind: StockItem) -> Value {
+    let (law, state) = match kind {
+        StockItem::Cell => (Law::Cell, Numbers::one(0)),
+        StockItem::Sum => (Law::Sum, Numbers::one(0)),
+        StockItem::Max => (Law::Max, Numbers::one(0)),
+        StockItem::Log => (Law::Log(4), Numbers::none()),
     };
-    if !deed.fits() {
-        return Ok(false);
-    }
-    let reply = graph.apply(worker, &deed)?;
-    Ok(matches!(reply, Reply::Name(_)))
-}
-
-// The law of a new box.
-fn law_of(kind: StockItem) -> Law {
-    match kind {
-        StockItem::Cell => Law::Cell,
-        StockItem::Sum => Law::Sum,
-        StockItem::Max => Law::Max,
-        StockItem::Log => Law::Log(4),
-    }
-}
-
-// What a new box has.
-fn state_of(kind: StockItem) -> Numbers {
-    match kind {
-        StockItem::Log => Numbers::none(),
-        _ => Numbers::one(0),
-    }
+    Value { law, state }
 }

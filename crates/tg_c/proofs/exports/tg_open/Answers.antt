@@ -1,6 +1,15 @@
 use Rattle.std.proofs.Common.{refl, ◌∙◌, sym}
+use Rattle.tg_c.specs.declared.refusal.CallRefusal.TheVariants as refusal
 use Rattle.tg_c.proofs.OpenLaws.{not_done}
 use Rattle.tg_c.proofs.exports.tg_open.Goals as goal
+
+pub returns-then-store : goal.returns-then-store
+returns-then-store c = record {
+  already_open = λ was. c.status.ensures;
+  opened = λ done. absurd (not_done refusal.AlreadyOpen (sym c.status.ensures ∙ done));
+  refused = λ was fails. absurd (cc (was, c.if-store.true));
+  kept = λ fails. refl;
+}
 
 pub returns-in-Err : goal.returns-in-Err
 returns-in-Err c = record {

@@ -1,6 +1,6 @@
-use Rattle.std.proofs.Common.{◌≡◌, ◌∙◌, ◌+◌, ◌<◌, ℕ, Some, length, take, ap, subst, arith, ⊎_elim}
+use Rattle.std.proofs.Common.{◌≡◌, ◌∙◌, ◌+◌, ◌<◌, ℕ, true, Some, length, take, ap, subst, sym, arith, ⊎_elim}
 use Rattle.std.specs.Prelude.{slice_get, slice_index_or}
-use Rattle.std.proofs.lemmas.Bool.{cases_lt}
+use Rattle.std.proofs.lemmas.Bool.{cases_eq, cases_lt}
 use Rattle.std.proofs.lemmas.List.{get_or_read}
 use Rattle.std.proofs.lemmas.Option.{slice_get-get_or}
 use Rattle.tg_rights.specs.RightSet.{is_none_held, no_rights}
@@ -8,7 +8,7 @@ use Rattle.tg_model.specs.Graph.{with_rights}
 use Rattle.tg_payload.specs.Table.{Payloads}
 use Rattle.tg_space.specs.SpaceTable.{SpaceTable, used_of}
 use Rattle.tg_graph.specs.Content.{IsNamed}
-use Rattle.tg_graph.specs.Heap.{content_in}
+use Rattle.tg_graph.specs.Heap.{IsGraph, content_in}
 use Rattle.tg_graph.specs.Opened.{with_row}
 use Rattle.tg_graph.specs.Rows.{name_at}
 use Rattle.tg_graph.specs.Steps.{ChangesTo}
@@ -30,6 +30,43 @@ add_some-requires-clause-to g c =
     let low : to < length places = let a = c.loop-to-test.true in let b = c.requires.row in omega arith in
     let at : slice_get places to ≡ Some p = slice_get-get_or places to (record { space = 0; block = 0; cell = 0 }) low in
     (c.loop-to.invariant.added.vertices to p (c.requires.vertices to p at)).object
+
+pub add_some-requires-clause-worker : goal.add_some-requires-clause-worker
+add_some-requires-clause-worker g c =
+    let kept = c.loop-to.invariant.added.spaces in let spaces = c.requires.spaces in let from = c.requires.from in omega (arith, kept, spaces, from)
+
+pub add_some-requires-clause-graph : goal.add_some-requires-clause-graph
+add_some-requires-clause-graph g c =
+    let before = c.loop-to.invariant in
+    subst (λ (s : Payloads). IsGraph c.loop-to.cells.spaces.spaces s) (sym before.payloads) before.added.graph
+
+pub add_some-requires-clause-room : goal.add_some-requires-clause-room
+add_some-requires-clause-room g c =
+    λ some.
+    let before = c.loop-to.invariant in
+    let from = c.args.from in
+    let to = c.loop-to.to in
+    let row = c.args.row.now in
+    let r = c.index-row-to.result in
+    let inside = c.loop-to-test.true in
+    let used = before.used in
+    let blocks = before.blocks (from + 2) in
+    let block = c.requires.block in
+    let few = c.requires.few in
+    let long = c.requires.row in
+    let low = c.requires.from in
+    ⊎_elim
+    (λ earlier. let past = before.used_past earlier in omega (arith, past, blocks, block, few, long, inside))
+    (λ later.
+    ⊎_elim
+    (λ (same : to ≡ from).
+    let none : r ≡ no_rights = get_or_read row to r inside c.index-row-to.is no_rights ∙ ap (λ n. slice_index_or row n no_rights) same ∙ c.requires.no_loop in
+    let held : is_none_held r ≡ true = ap is_none_held none in
+    let f : ⊥ = cc (sym held ∙ some) in
+    absurd f)
+    (λ ne. omega (arith, ne, later, used, blocks, block, few, low))
+    (cases_eq to from))
+    (cases_lt from to)
 
 pub loop-to-preserved : goal.loop-to-preserved
 loop-to-preserved g c =
@@ -75,3 +112,9 @@ loop-to-preserved g c =
           omega (arith, kept, used_before))
           (cases_lt from to);
     }
+
+pub returns-clause-others : goal.returns-clause-others
+returns-clause-others g c = c.loop-to.invariant.others
+
+pub returns-clause-blocks : goal.returns-clause-blocks
+returns-clause-blocks g c = c.loop-to.invariant.blocks

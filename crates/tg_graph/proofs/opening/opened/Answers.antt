@@ -1,7 +1,9 @@
-use Rattle.std.proofs.Common.{◌≡◌, ◌∙◌, List, [], Some, length, ap, subst, sym}
+use Rattle.std.proofs.Common.{◌≡◌, ◌<◌, ◌∙◌, ◌+◌, ℕ, List, [], Some, length, ap, subst, sym}
 use Rattle.std.specs.Prelude.{slice_get}
+use Rattle.std.specs.List.{All}
+use Rattle.tg_model.specs.declared.edge.Edge.{Edge}
 use Rattle.tg_model.specs.declared.value.Value.{Value}
-use Rattle.tg_model.specs.Opened.{label_in}
+use Rattle.tg_model.specs.Opened.{JoinsWorkers, label_in}
 use Rattle.tg_word.specs.declared.Place.{Place}
 use Rattle.tg_remember.specs.Notes.{Notes}
 use Rattle.tg_space.specs.Generations.{AreRemembered}
@@ -31,3 +33,32 @@ returns-clause-remembered g c =
     let placed = c.place_workers.new.cells in
     let none : placed.remembered.places ≡ [] = ap (λ (r : Notes). r.places) c.place_workers.ensures.remembered ∙ c.in-Ok.ensures.remembered in
     c.add_edges.ensures.remembered (subst (λ (ps : List Place). AreRemembered placed.spaces.spaces ps) (sym none) (nothing_remembered placed.spaces.spaces c.place_workers.ensures.opened.old))
+
+pub add_edges-requires-clause-edges : goal.add_edges-requires-clause-edges
+add_edges-requires-clause-edges g c =
+    let plan = c.workers.ensures.plan in
+    let count : length c.deref.result.now ≡ c.args.opening.now.workers = ap (λ (ps : List Place). length ps) c.deref.ensures.value ∙ c.place_workers.ensures.count ∙ ap (λ (vs : List Value). length vs) c.requires ∙ plan.values.0 in
+    subst (λ (n : ℕ). All (JoinsWorkers n) c.edges.result.now) (sym count) (subst (λ (es : List Edge). All (JoinsWorkers c.args.opening.now.workers) es) (sym c.edges.ensures) plan.edges)
+
+pub add_edges-requires-clause-graph : goal.add_edges-requires-clause-graph
+add_edges-requires-clause-graph g c = c.place_workers.ensures.opened.graph
+
+pub add_edges-requires-clause-spaces : goal.add_edges-requires-clause-spaces
+add_edges-requires-clause-spaces g c =
+    let count = ap (λ (ps : List Place). length ps) c.deref.ensures.value ∙ c.place_workers.ensures.count in
+    c.place_workers.ensures.opened.spaces ∙ ap (λ (n : ℕ). n + 2) (sym count)
+
+pub add_edges-requires-clause-labels : goal.add_edges-requires-clause-labels
+add_edges-requires-clause-labels g c = c.place_workers.ensures.opened.content.labels
+
+pub add_edges-requires-clause-unused : goal.add_edges-requires-clause-unused
+add_edges-requires-clause-unused g c = c.place_workers.ensures.unused
+
+pub add_edges-requires-clause-blocks : goal.add_edges-requires-clause-blocks
+add_edges-requires-clause-blocks g c =
+    let count = ap (λ (ps : List Place). length ps) c.deref.ensures.value ∙ c.place_workers.ensures.count in
+    let opened = c.place_workers.ensures.opened in
+    λ x inside. opened.blocks x (subst (λ (n : ℕ). x < n) count inside)
+
+pub add_edges-requires-clause-old : goal.add_edges-requires-clause-old
+add_edges-requires-clause-old g c = c.place_workers.ensures.opened.old

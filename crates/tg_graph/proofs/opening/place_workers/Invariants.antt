@@ -1,4 +1,4 @@
-use Rattle.std.proofs.Common.{◌≡◌, ◌+◌, ◌≤◌, ℕ, length, vec_capacity}
+use Rattle.std.proofs.Common.{◌≡◌, ◌++◌, ◌+◌, ◌≤◌, ℕ, length, vec_capacity}
 use Rattle.tg_space.specs.SpaceTable.{IsSpaceTable, used_of}
 use Rattle.tg_graph.specs.Heap.{AreAtHome}
 use Rattle.tg_graph.specs.Opened.{IsOpened, no_labels}
@@ -6,6 +6,7 @@ use Rattle.tg_graph.proofs.opening.place_workers.Given as goal
 
 abbrev pub invariant-loop-draft : goal.invariant-loop-draft
 invariant-loop-draft g l = record {
+  left : l.yielded ++ l.draft-iterator.rest.items ≡ l.fn.drafts.items;
   opened : IsOpened l.cells.spaces l.cells.payloads l.places.items (length l.fn.drafts.items) l.initial.cells.spaces.limits no_labels l.yielded;
   home : AreAtHome l.places.items;
   count : length l.places.items ≡ length l.yielded;

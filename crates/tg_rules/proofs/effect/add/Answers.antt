@@ -1,6 +1,9 @@
-use Rattle.std.proofs.Common.{◌+◌, ap, refl}
+use Rattle.std.proofs.Common.{ℕ, ◌+◌, ap, refl, subst}
 use Rattle.std.specs.Prelude.{Err}
 use Rattle.std.proofs.lemmas.Result.{err_from_is_err_and}
+use Rattle.tg_model.specs.Graph.{with_rights}
+use Rattle.tg_graph.specs.Content.{IsContent, IsNamed}
+use Rattle.tg_graph.specs.Heap.{content_of, name_of}
 use Rattle.tg_rules.proofs.FaultLaws.{heap_full, lacks_by_name}
 use Rattle.tg_rules.proofs.effect.add.Goals as goal
 
@@ -10,3 +13,11 @@ returns-in_err-add_edge-clause-full g c =
     λ full.
     lacks_by_name c.args.heap.now (c.args.worker + 2) c.args.from.name c.args.target.name c.args.from c.args.target c.requires.from c.requires.target refl refl
     (c.in_err-add_edge.ensures.full (ap (λ fault. Err fault) (heap_full _ (cc (full, given.1, given.2)))))
+
+pub returns-clause-content : goal.returns-clause-content
+returns-clause-content g c =
+    let old = content_of c.args.heap.now in
+    let new = content_of c.add_edge.new.self in
+    subst (λ (x : ℕ). IsContent new (IsNamed old) (with_rights old.label x c.args.target.name c.args.rights) old.value) c.requires.from.named
+    (subst (λ (y : ℕ). IsContent new (IsNamed old) (with_rights old.label (name_of c.args.heap.now c.args.from.place) y c.args.rights) old.value) c.requires.target.named
+    c.in_ok-add_edge.ensures.added)

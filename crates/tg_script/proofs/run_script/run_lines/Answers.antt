@@ -36,8 +36,8 @@ returns-in_err-run-clause-output g c = λ bytes before left taken.
           (keeps_known (g.K.Sink.taken c.args.sink.now) (g.K.Sink.taken c.read_edges.new.sink) before taken c.in_ok-edges.ensures.taken),
     )
 
-pub returns-clause-output : goal.returns-clause-output
-returns-clause-output g c = λ bytes before left taken.
+pub returns-in-None-clause-output : goal.returns-in-None-clause-output
+returns-in-None-clause-output g c = λ bytes before left taken.
     let start : Start = record { workers = c.args.settings.workers; helpers = c.args.settings.helpers; limit = c.args.settings.max_vertices; blocks = c.args.settings.limits.max_blocks; values = c.args.workers.items; stock = c.args.stock.items } in
     let fresh : IsFresh c.new-script.result c.args.settings.workers = record { workers = c.new-script.ensures.workers; room = c.new-script.ensures.room; count = c.new-script.ensures.count; opening = c.new-script.ensures.opening } in
     let read = c.in_ok-edges.ensures.bytes bytes left in
@@ -58,10 +58,10 @@ returns-in-Some-clause-output g c = λ bytes before left taken.
     let b = rw c.in-Some.is at read in
     let command = rw c.in-Some.is at c.in_ok-edges.ensures.first in
     let kept = keeps_known (g.K.Sink.taken c.args.sink.now) (g.K.Sink.taken c.read_edges.new.sink) before taken c.in_ok-edges.ensures.taken in
-    let told = c.run_commands.ensures.written (scene_with start edges) b.0 before c.in_ok-run.ensures.2 b.1 kept in (
+    let told = c.run_commands-ran.ensures.written (scene_with start edges) b.0 before c.in_ok-run.ensures.2 b.1 kept in (
       told.0,
       told.1,
-      ran_commands c.run_commands.result start c.new-script.result c.read_edges.new.script bytes b.0 edges c.in-Some.first before told.0 (g.K.Sink.taken c.run_commands.new.sink)
+      ran_commands c.run_commands-ran.result start c.new-script.result c.read_edges.new.script bytes b.0 edges c.in-Some.first before told.0 (g.K.Sink.taken c.run_commands-ran.new.sink)
           fresh (c.in_ok-run.ensures.0, c.in_ok-run.ensures.1) command.0 b.2 told.2,
     )
 
@@ -81,4 +81,4 @@ returns-in_err-run-clause-due g c =
 pub returns-in-Some-clause-due : goal.returns-in-Some-clause-due
 returns-in-Some-clause-due g c =
     let start : Start = record { workers = c.args.settings.workers; helpers = c.args.settings.helpers; limit = c.args.settings.max_vertices; blocks = c.args.settings.limits.max_blocks; values = c.args.workers.items; stock = c.args.stock.items } in
-    lines_due start c.run_commands.result c.run_commands.ensures.fault
+    lines_due start c.run_commands-ran.result c.run_commands-ran.ensures.fault

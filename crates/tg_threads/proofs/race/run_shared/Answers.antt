@@ -1,19 +1,19 @@
 use Rattle.std.proofs.Common.{arith, length, ◌<◌, sym, subst, List}
 use Rattle.std.specs.List.{range_with_len}
-use Rattle.tg_shared.specs.Sessions.{AreFresh, AreSharedOut, MayClose, SessionState}
-use Rattle.tg_threads.specs.Output.{boxed}
+use Rattle.tg_shared.specs.Sessions.{AreSharedOut, MayClose, SessionState}
+use Rattle.tg_weave.specs.Boxes.{boxed}
 use Rattle.tg_threads.proofs.RaceLaws.{fresh_length, all_brought, brought_by_each, brought_in_order, brought_whole}
+use Rattle.tg_threads.proofs.ShareLaws.{works_fresh}
 use Rattle.tg_threads.proofs.WeaveLaws.{raced}
 use Rattle.tg_threads.proofs.race.run_shared.Goals as goal
 
-pub share_out-requires-clause-workers : goal.share_out-requires-clause-workers
-share_out-requires-clause-workers g c =
+pub share_out-requires : goal.share_out-requires
+share_out-requires g c =
     omega (arith, fresh_length g.L.Round.start.opening.workers c.args.shared.sessions.items c.requires.fresh, c.requires.new.0)
 
-pub share_out-requires-clause-fresh : goal.share_out-requires-clause-fresh
-share_out-requires-clause-fresh g c =
-    let sessions = c.args.shared.sessions.items in
-    subst (λ n. AreFresh (range_with_len 0 n) sessions) (sym (fresh_length g.L.Round.start.opening.workers sessions c.requires.fresh)) c.requires.fresh
+pub run_threads-requires-clause-fresh : goal.run_threads-requires-clause-fresh
+run_threads-requires-clause-fresh g c = λ lifetimes outlive.
+    works_fresh (range_with_len 0 g.L.Round.start.opening.workers) c.in_ok-works.works.items c.args.shared.sessions.items c.requires.fresh c.in_ok-works.ensures.sessions
 
 pub in_script_order-requires-clause-workers : goal.in_script_order-requires-clause-workers
 in_script_order-requires-clause-workers g c =
@@ -21,7 +21,7 @@ in_script_order-requires-clause-workers g c =
     let sessions = c.args.shared.sessions.items in
     let bs = boxed c.args.stock.items c.args.lines.now in
     let all = c.in_ok-finished.finished.items in
-    let bring = all_brought c.args.helpers (length sessions) workers bs _ all (fresh_length workers sessions c.requires.fresh) c.in_ok-works.ensures.lines c.in_ok-finished.ensures in
+    let bring = all_brought c.args.helpers workers bs c.in_ok-works.works.items sessions all c.requires.fresh c.in_ok-works.ensures.sessions c.in_ok-works.ensures.lines c.in_ok-finished.ensures in
     subst (λ fs. 0 < length fs) (sym c.as_slice.ensures.value) (omega (arith, brought_by_each c.args.helpers workers bs all bring, c.requires.new.0))
 
 pub in_script_order-requires-clause-whole : goal.in_script_order-requires-clause-whole
@@ -30,7 +30,7 @@ in_script_order-requires-clause-whole g c =
     let sessions = c.args.shared.sessions.items in
     let bs = boxed c.args.stock.items c.args.lines.now in
     let all = c.in_ok-finished.finished.items in
-    let bring = all_brought c.args.helpers (length sessions) workers bs _ all (fresh_length workers sessions c.requires.fresh) c.in_ok-works.ensures.lines c.in_ok-finished.ensures in
+    let bring = all_brought c.args.helpers workers bs c.in_ok-works.works.items sessions all c.requires.fresh c.in_ok-works.ensures.sessions c.in_ok-works.ensures.lines c.in_ok-finished.ensures in
     brought_whole c.args.helpers workers c.args.stock.items c.args.lines.now all c.as_slice.result.now c.as_slice.ensures.value bring
 
 pub returns-clause-raced : goal.returns-clause-raced
@@ -43,7 +43,7 @@ returns-clause-raced g c =
     let all = c.in_ok-finished.finished.items in
     let ts = c.in_ok-told.told.items in
     let entries = c.in_ok-store.store.entries in
-    let bring = all_brought c.args.helpers (length sessions) workers bs _ all (fresh_length workers sessions c.requires.fresh) c.in_ok-works.ensures.lines c.in_ok-finished.ensures in
+    let bring = all_brought c.args.helpers workers bs c.in_ok-works.works.items sessions all c.requires.fresh c.in_ok-works.ensures.sessions c.in_ok-works.ensures.lines c.in_ok-finished.ensures in
     let order = brought_in_order workers lines all c.as_slice.result.now ts c.as_slice.ensures.value (brought_by_each c.args.helpers workers bs all bring) c.in_ok-told.ensures in
     let closes : List SessionState → Type 0 = λ ss. MayClose entries 0 ss in
     let shared : List SessionState → Type 0 = λ ss. AreSharedOut entries ss in (

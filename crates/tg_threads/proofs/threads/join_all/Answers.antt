@@ -1,10 +1,11 @@
 use Rattle.std.proofs.Common.{◌≡◌, ◌++◌, ◌∷◌, [], ℕ, List, map, sym, subst, rules, arith, append-nil, append_assoc}
-use Rattle.std.specs.Result.{IfOk}
 use Rattle.std.proofs.lemmas.Grind.{common_steps}
-use Rattle.tg_threads.specs.declared.worker.Finished.{Finished}
-use Rattle.tg_threads.specs.Output.{Boxed}
+use Rattle.tg_shared.specs.Sessions.{SessionState}
+use Rattle.tg_weave.specs.declared.work.Finished.{Finished}
+use Rattle.tg_weave.specs.Boxes.{Boxed}
+use Rattle.tg_weave.proofs.ShareLaws.{map_push}
 use Rattle.tg_threads.specs.Tasks.{AllBring, Brings, promised_by}
-use Rattle.tg_threads.proofs.RunLaws.{all_next, map_push}
+use Rattle.tg_threads.proofs.RunLaws.{all_next}
 use Rattle.tg_threads.proofs.BringLaws.{brings_more}
 use Rattle.tg_threads.proofs.threads.join_all.Goals as goal
 
@@ -24,7 +25,7 @@ loop-handle-preserved g c =
           let one = subst (λ n. Brings n g.L.Round.start.opening.workers (promised_by c.in-Some.handle).0 (promised_by c.in-Some.handle).1 c.in_ok-join.field-0.session c.in_ok-join.field-0.told.items) here c.in_ok-join.ensures in
           let more = brings_more helpers g.L.Round.start.opening.workers (map promised_by c.loop-handle.yielded) c.loop-handle.all.items (promised_by c.in-Some.handle) c.in_ok-join.field-0 (c.loop-handle.invariant.brings helpers same) one in
           let P : List (ℕ × List Boxed) → Type 0 = λ given. AllBring helpers g.L.Round.start.opening.workers given (c.loop-handle.all.items ++ c.in_ok-join.field-0 ∷ []) in
-          let Q : List (Finished g.row.L.Denot) → Type 0 = λ all. AllBring helpers g.L.Round.start.opening.workers (map promised_by (c.loop-handle.yielded ++ c.in-Some.handle ∷ [])) all in
+          let Q : List (Finished SessionState) → Type 0 = λ all. AllBring helpers g.L.Round.start.opening.workers (map promised_by (c.loop-handle.yielded ++ c.in-Some.handle ∷ [])) all in
           subst Q (sym c.in_ok-push.ensures.items) (subst P (sym (map_push promised_by c.loop-handle.yielded c.in-Some.handle)) more);
     }
 

@@ -1,7 +1,6 @@
-use Rattle.std.proofs.Common.{◌≡◌, ℕ, List, map, ap, ◌∙◌}
+use Rattle.std.proofs.Common.{ℕ, List, map, ap, ◌∙◌}
 use Rattle.tg_threads.specs.declared.threads.Assigned.{Assigned}
-use Rattle.tg_threads.specs.Output.{Boxed}
-use Rattle.tg_threads.specs.Tasks.{assigned_of, boxed_of, promised_by}
+use Rattle.tg_weave.specs.Boxes.{Boxed, boxed_of}
 use Rattle.tg_threads.proofs.BringLaws.{brings_as}
 use Rattle.tg_threads.proofs.threads.start.Goals as goal
 

@@ -2,8 +2,9 @@ use Rattle.std.proofs.Common.{◌≡◌, ◌++◌, ◌∷◌, [], map, sym, ap, 
 use Rattle.std.specs.List.{All}
 use Rattle.std.proofs.lemmas.Grind.{common_steps}
 use Rattle.std.proofs.lemmas.List.Elements.{All-push}
+use Rattle.tg_weave.proofs.ShareLaws.{map_push}
 use Rattle.tg_threads.specs.Tasks.{assigned_of, promised_by}
-use Rattle.tg_threads.proofs.RunLaws.{all_next, map_push}
+use Rattle.tg_threads.proofs.RunLaws.{all_next}
 use Rattle.tg_threads.proofs.threads.start_all.Goals as goal
 
 pub loop-work-preserved : goal.loop-work-preserved

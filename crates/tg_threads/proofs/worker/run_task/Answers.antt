@@ -1,6 +1,7 @@
 use Rattle.std.proofs.Common.{◌≡◌, None, Some, sym, subst}
 use Rattle.tg_text.specs.declared.line.Line.{Line}
-use Rattle.tg_threads.specs.Tasks.{HasRun, runner_of}
+use Rattle.tg_weave.specs.Shares.{runner_of}
+use Rattle.tg_threads.specs.Tasks.{HasRun}
 use Rattle.tg_threads.proofs.RunLaws.{asked_runs, made_runs, full_runs, minor_runs}
 use Rattle.tg_threads.proofs.worker.run_task.Goals as goal
 

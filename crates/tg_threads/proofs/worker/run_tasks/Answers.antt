@@ -1,9 +1,10 @@
 use Rattle.std.proofs.Common.{◌≡◌, ◌++◌, ◌∷◌, [], map, List, refl, sym, subst, rules, arith, append-nil, append_assoc}
 use Rattle.std.proofs.lemmas.Grind.{common_steps}
-use Rattle.tg_threads.specs.Output.{Boxed}
-use Rattle.tg_threads.specs.Tasks.{IsRunBy, Runs, boxed_of}
-use Rattle.tg_threads.specs.declared.task.Told.{Told}
-use Rattle.tg_threads.proofs.RunLaws.{map_push, mapped_at, run_more}
+use Rattle.tg_weave.specs.Boxes.{Boxed, boxed_of}
+use Rattle.tg_weave.proofs.ShareLaws.{map_push}
+use Rattle.tg_threads.specs.Tasks.{IsRunBy, Runs}
+use Rattle.tg_weave.specs.declared.task.Told.{Told}
+use Rattle.tg_threads.proofs.RunLaws.{mapped_at, run_more}
 use Rattle.tg_threads.proofs.worker.run_tasks.Goals as goal
 
 pub loop-task-init : goal.loop-task-init

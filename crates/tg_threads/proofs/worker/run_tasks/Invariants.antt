@@ -1,6 +1,7 @@
 use Rattle.std.proofs.Common.{◌≡◌, ◌<◌, ◌++◌, ℕ, map}
 use Rattle.std.specs.List.{All}
-use Rattle.tg_threads.specs.Tasks.{IsRunBy, Runs, boxed_of}
+use Rattle.tg_weave.specs.Boxes.{boxed_of}
+use Rattle.tg_threads.specs.Tasks.{IsRunBy, Runs}
 use Rattle.tg_threads.proofs.worker.run_tasks.Given as goal
 
 abbrev pub invariant-loop-task : goal.invariant-loop-task

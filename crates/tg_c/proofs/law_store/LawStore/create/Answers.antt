@@ -1,7 +1,31 @@
-use Rattle.std.proofs.Common.{subst, ap, inl, inr, Ok, Err}
+use Rattle.std.proofs.Common.{subst, ap, inl, inr, Ok, Err, refl, rules, sym}
 use Rattle.tg_model.specs.declared.value.Value.{Value}
+use Rattle.tg_model.specs.Graph.{ProtectionGraph, IsSubject}
 use Rattle.tg_c.specs.Calls.{Creates}
 use Rattle.tg_c.proofs.law_store.LawStore.create.Goals as goal
+
+-- who isn't a worker is told so first
+pub returns-then-not-has_worker : goal.returns-then-not-has_worker
+returns-then-not-has_worker c = record {
+  entry = tt;
+  named = λ g stands. tt;
+  next = λ g stands. tt;
+  stored = tt;
+  placed = tt;
+  no_such_worker = λ g stands. (
+    (λ is. subst (λ (h : ProtectionGraph). ¬ IsSubject h c.args.worker) stands (λ subject. let holds = c.has_worker.ensures.1 subject in cc (holds, c.if-not-has_worker.true))),
+    (λ none. refl),
+  );
+  no_more = λ g stands is. absurd (cc is);
+  exhausted = λ g stands subject full.
+      absurd (let holds = c.has_worker.ensures.1 (subst (λ (h : ProtectionGraph). IsSubject h c.args.worker) (sym stands) subject) in cc (holds, c.if-not-has_worker.true));
+  no_more_entry = λ is. absurd (cc is);
+  full = λ g stands is. absurd (cc is);
+  refused = search rules;
+  same_graph = λ g stands. stands;
+  opening = refl;
+  limits = refl;
+}
 
 pub returns-in-Ok-create : goal.returns-in-Ok-create
 returns-in-Ok-create c =

@@ -1,8 +1,10 @@
-use Rattle.std.proofs.Common.{◌≡◌, ◌∙◌, ◌+◌, List, Option, arith, ap, subst, sym}
+use Rattle.std.proofs.Common.{◌≡◌, ◌∙◌, ◌+◌, ℕ, List, Option, Err, arith, refl, ap, subst, sym}
 use Rattle.tg_remember.specs.Notes.{Notes}
 use Rattle.tg_word.specs.declared.Place.{Place}
 use Rattle.tg_space.specs.SpaceTable.{SpaceTable}
+use Rattle.tg_space.specs.declared.allocate_fault.AllocateFault.{AllocateFault}
 use Rattle.tg_space.proofs.Tables.{table_list}
+use Rattle.tg_graph.specs.Heap.{IsOutOfCells}
 use Rattle.tg_graph.specs.Index.{IsRowIndex}
 use Rattle.tg_graph.specs.Spots.{with_note}
 use Rattle.tg_graph.proofs.IndexMoved.{kept_rows_index}
@@ -99,3 +101,16 @@ returns-clause-others g c =
     subst (λ (x : SpaceTable). IsRowIndex x.spaces r s places) (sym c.put.ensures)
     (others_put placed.spaces step.table placed.payloads step.placed.graph c.args.from object c.args.name space (omega arith, omega (arith, c.requires.worker, room.spaces, step.placed.spaces))
     c.place_vertex-to.result step.vertex.object step.vertex.named c.args.rights c.requires.some r s places other (step.rows.objects r (room.rows.objects r at)) still spot there left)
+
+pub returns-in-Err-clause-full : goal.returns-in-Err-clause-full
+returns-in-Err-clause-full g c =
+    λ is.
+    let spot = c.find_spot-spot.result in
+    let out = c.make_vertex_room.ensures.full (c.in-Err.is ∙ ap (λ (why : AllocateFault). Err why) is) in
+    record {
+      row = c.args.from;
+      held = record { object = c.requires.from; named = refl };
+      spot = spot;
+      found = c.find_spot-spot.ensures.spot;
+      out = subst (λ (n : ℕ). IsOutOfCells c.args.self.now.spaces (c.args.worker + 2) (1 + n)) c.cells.ensures (record { few_left = out.0; full = out.1 });
+    }

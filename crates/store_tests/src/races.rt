@@ -1,0 +1,5 @@
+//! Scripts whose workers run their lines side by side.
+mod orders;
+mod raced;
+mod rows;
+mod turnstiles;

@@ -1,0 +1,182 @@
+//! Two sessions that take turns on one thread, what is answered where one of them is kept back, and what they have receipts of.
+ghost use Rattle.std.specs.Prelude.{◌≡◌, ◌+◌};
+ghost use Rattle.tg_shared.specs.Sessions.{start_of_store};
+
+use crate::sessions::opened::{closed, make, store_with};
+use std::alloc::Global;
+use std::marker::Brand;
+use std::sync::Wait;
+use std::sync::ledger::Blank;
+use std::test::Fail;
+use tg_journal::{Entry, Journal};
+use tg_model::{Command, Deed, Numbers, Reply};
+use tg_payload::CellPayload;
+use tg_shared::{
+    CloseFault, CloseRefused, Receipt, Round, Session, Shared, SharedStore, close, receipts_match,
+};
+use tg_store::{CreateFault, Store};
+
+const WRITE: Command = Command::Write {
+    target: 0,
+    value: 7,
+};
+
+const READ: Command = Command::Read { target: 0 };
+
+// What is seen of two sessions in a store that has room for two more vertices.
+#[derive(Clone, Copy)]
+struct Seen {
+    // what the first session is answered that makes a vertex, the second, and the first once more
+    made: [Result<u64, CreateFault>; 3],
+    // why the store isn't closed without the second session
+    why_not_closed: CloseFault,
+    // how many entries it has when it is closed with both
+    entries: u64,
+    // whether the second session's receipts of what it wrote and read match the journal, and whether they do with another reply
+    matches: [bool; 2],
+}
+
+// Lets the session write 7 to the other worker's cell and read it back.
+fn write_and_read<L: Round, R: Wait>(
+    rt: &R,
+    store: &SharedStore<L, CellPayload>,
+    session: &mut Session<L>,
+) -> Option<()> {
+    let _done = session.call(rt, store, WRITE).ok()?;
+    let _read = session.call(rt, store, READ).ok()?;
+    Some(())
+}
+
+// Lets the first session make a vertex, the second one too, and the first once more, and then the second write and read.
+fn use_in_turn<L: Round, R: Wait>(
+    rt: &R,
+    alloc: Global,
+    store: &SharedStore<L, CellPayload>,
+    sessions: &mut [Session<L>],
+) -> Option<[Result<u64, CreateFault>; 3]> {
+    let by_first = make(rt, alloc, store, sessions.get_mut(0)?)?;
+    let by_second = make(rt, alloc, store, sessions.get_mut(1)?)?;
+    let then_by_first = make(rt, alloc, store, sessions.get_mut(0)?)?;
+    write_and_read(rt, store, sessions.get_mut(1)?)?;
+    Some([by_first, by_second, then_by_first])
+}
+
+// Closes without the last session, and then with it. Answers why it isn't closed at first.
+fn close_twice<L: Round>(
+    store: SharedStore<L, CellPayload>,
+    mut sessions: Vec<Session<L>>,
+) -> Option<(CloseFault, Store<CellPayload>)> {
+    let kept_back = sessions.pop()?;
+    let refused = close(store, sessions).err()?;
+    close_with(refused, kept_back)
+}
+
+// Closes what was not closed, with one session more.
+fn close_with<L: Round>(
+    refused: CloseRefused<L, CellPayload>,
+    kept_back: Session<L>,
+) -> Option<(CloseFault, Store<CellPayload>)> {
+    let CloseRefused {
+        store,
+        mut sessions,
+        why,
+    } = refused;
+    sessions.push(kept_back).ok()?;
+    Some((why, closed(store, sessions)?))
+}
+
+// A receipt of worker 1.
+fn receipt(at: u64, command: Command, reply: Reply) -> Receipt {
+    Receipt {
+        at,
+        entry: Entry {
+            worker: 1,
+            deed: Deed::Plain(command),
+            reply,
+        },
+    }
+}
+
+// Whether receipts of worker 1 match the journal that say that it wrote 7, and read this number.
+fn matches_with(alloc: Global, journal: &Journal, number: u64) -> Option<bool> {
+    let read = Reply::Values(Numbers::one(number));
+    let mut receipts = Vec::new(alloc);
+    receipts.push(receipt(3, WRITE, Reply::Done)).ok()?;
+    receipts.push(receipt(4, READ, read)).ok()?;
+    Some(receipts_match(journal, 1, &receipts))
+}
+
+// How many entries a journal has, and whether such receipts match it with the number that was read, and with another.
+fn seen_of_journal(alloc: Global, journal: &Journal) -> Option<(u64, [bool; 2])> {
+    let as_read = matches_with(alloc, journal, 7)?;
+    let altered = matches_with(alloc, journal, 8)?;
+    Some((journal.len(), [as_read, altered]))
+}
+
+// Lets both sessions take turns, and closes twice.
+fn seen_of_shared<L: Round, R: Wait>(
+    rt: &R,
+    alloc: Global,
+    shared: Shared<L, CellPayload>,
+) -> Option<Seen> {
+    let Shared {
+        store,
+        mut sessions,
+    } = shared;
+    let made = use_in_turn(rt, alloc, &store, &mut sessions);
+    let closed = close_twice(store, sessions)?;
+    seen_of_closed(alloc, made, closed)
+}
+
+// What is seen, once the store is closed.
+fn seen_of_closed(
+    alloc: Global,
+    made: Option<[Result<u64, CreateFault>; 3]>,
+    closed: (CloseFault, Store<CellPayload>),
+) -> Option<Seen> {
+    let (why_not_closed, store) = closed;
+    let seen = seen_of_journal(alloc, store.journal());
+    drop(store);
+    let (entries, matches) = seen?;
+    Some(Seen {
+        made: made?,
+        why_not_closed,
+        entries,
+        matches,
+    })
+}
+
+// The same of a store that is to be shared.
+fn seen_of<L: Round, R: Wait>(
+    rt: &R,
+    alloc: Global,
+    blank: Blank,
+    store: Store<CellPayload>,
+) -> Option<Seen>
+    requires name { blank.name ≡ L.name }
+    requires parts { (blank.parts ≡ L.parts) × (blank.parts ≡ store.opening.limit + 1) }
+    requires start { start_of_store store ≡ L.start }
+{
+    let shared = SharedStore::<L, CellPayload>::new(alloc, blank, store).ok()?;
+    seen_of_shared(rt, alloc, shared)
+}
+
+// The same of a store of two workers.
+fn seen_of_two<R: Wait>(rt: &R, alloc: Global) -> Option<Seen> {
+    let store = store_with(alloc, "rw")?;
+    let blank = Blank::new(store.opening().max_vertices() + 1);
+    seen_of::<Brand, R>(rt, alloc, blank, store)
+}
+
+// Two vertices are made, one by each session; there is room for no third, which has an entry of its own. The store isn't closed
+// without the second session, whose receipts are those of what it did.
+#[test]
+fn sessions_in_turn(rt: HostRuntime) -> Result<(), Fail> {
+    let seen = seen_of_two(&rt, rt.alloc()).ok_or("a refusal")?;
+    let full = Err(CreateFault::VerticesFull);
+    assert_eq!(rt; seen.made, [Ok(2), Ok(3), full]);
+    assert_eq!(rt; seen.why_not_closed, CloseFault::SessionsMissing);
+    assert_eq!(rt; seen.entries, 5);
+    assert_eq!(rt; seen.matches, [true, false]);
+    Ok(())
+}

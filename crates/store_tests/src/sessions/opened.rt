@@ -1,0 +1,69 @@
+//! A store of two workers, each of whom has the same rights over the other, and what its sessions do.
+
+use std::alloc::Global;
+use std::sync::Wait;
+use tg_model::{Edge, Law, Numbers, Opening, Value};
+use tg_payload::{CellPayload, Draft};
+use tg_rights::{Label, Rights};
+use tg_shared::{Round, Session, SharedStore, close};
+use tg_store::{CreateFault, Limits, Store};
+
+// A cell with 0.
+fn zero() -> Value {
+    Value {
+        law: Law::Cell,
+        state: Numbers::one(0),
+    }
+}
+
+fn edge(from: u64, to: u64, letters: &str) -> Option<Edge> {
+    let label = Label::new(Rights::read_text(letters.as_bytes())?)?;
+    Some(Edge { from, to, label })
+}
+
+/// An opening of two workers, who store cells with 0, and have these rights over one another. Four vertices may be made.
+pub(crate) fn opening_with(alloc: Global, letters: &str) -> Option<Opening> {
+    let mut edges = Vec::new(alloc);
+    edges.push(edge(0, 1, letters)?).ok()?;
+    edges.push(edge(1, 0, letters)?).ok()?;
+    let mut values = Vec::new(alloc);
+    values.push(zero()).ok()?;
+    values.push(zero()).ok()?;
+    Opening::new(2, edges, values, 4).ok()
+}
+
+// A draft of a cell with 0.
+fn draft(alloc: Global) -> Option<Draft<CellPayload>> {
+    Draft::new(alloc, CellPayload::new(0)).ok()
+}
+
+/// A store with such an opening.
+pub(crate) fn store_with(alloc: Global, letters: &str) -> Option<Store<CellPayload>> {
+    let mut drafts = Vec::new(alloc);
+    drafts.push(draft(alloc)?).ok()?;
+    drafts.push(draft(alloc)?).ok()?;
+    let limits = Limits::new(64, 16).ok()?;
+    Store::open(alloc, opening_with(alloc, letters)?, limits, drafts).ok()
+}
+
+/// Lets the session make a vertex, which it may read and write. Answers its name, or why there is none.
+pub(crate) fn make<L: Round, R: Wait>(
+    rt: &R,
+    alloc: Global,
+    store: &SharedStore<L, CellPayload>,
+    session: &mut Session<L>,
+) -> Option<Result<u64, CreateFault>> {
+    let label = Label::read_text(b"rw")?;
+    match session.create(rt, store, label, draft(alloc)?) {
+        Ok(name) => Some(Ok(name)),
+        Err(refused) => Some(Err(refused.why)),
+    }
+}
+
+/// The store, once it is closed with all of its sessions.
+pub(crate) fn closed<L: Round>(
+    store: SharedStore<L, CellPayload>,
+    sessions: Vec<Session<L>>,
+) -> Option<Store<CellPayload>> {
+    close(store, sessions).ok()
+}

@@ -1,0 +1,199 @@
+//! Two sessions on two threads.
+ghost use Rattle.std.specs.Prelude.{◌≡◌, ◌+◌};
+ghost use Rattle.tg_shared.specs.Sessions.{start_of_store};
+
+use crate::sessions::opened::{closed, opening_with, store_with};
+use std::alloc::Global;
+use std::marker::Brand;
+use std::process::Abort;
+use std::sync::Wait;
+use std::sync::ledger::Blank;
+use std::test::Fail;
+use std::thread::{Threads, join};
+use tg_journal::{AuditFault, Journal, audit};
+use tg_model::{Command, Reply};
+use tg_payload::CellPayload;
+use tg_shared::{Round, Session, Shared, SharedStore};
+use tg_store::{Kind, Store};
+
+// Whether the session may write the value to the target.
+fn writes<L: Round, R: Wait>(
+    rt: &R,
+    store: &SharedStore<L, CellPayload>,
+    session: &mut Session<L>,
+    target: u64,
+    value: u64,
+) -> bool {
+    matches!(
+        session.call(rt, store, Command::Write { target, value }),
+        Ok(Reply::Done)
+    )
+}
+
+// Whether the session reads the value.
+fn reads<L: Round, R: Wait>(
+    rt: &R,
+    store: &SharedStore<L, CellPayload>,
+    session: &mut Session<L>,
+    target: u64,
+    value: u64,
+) -> bool {
+    match session.call(rt, store, Command::Read { target }) {
+        Ok(Reply::Values(values)) => matches!(values.as_slice().first(), Some(v) if *v == value),
+        _ => false,
+    }
+}
+
+// A full collection by one thread, and then one by two helpers. How many were made.
+fn collect_twice<L: Round, R: Threads + Wait + Sync>(
+    rt: &R,
+    store: &SharedStore<L, CellPayload>,
+    session: &Session<L>,
+) -> u64 {
+    let alone = session.collect(rt, store, Kind::Full).is_ok();
+    let helped = session.collect_with(rt, store, Kind::Full, 2).is_ok();
+    u64::from(alone).wrapping_add(u64::from(helped))
+}
+
+// Fifty writes to the other worker's cell, each read back at once, and two full collections in the middle. How many of
+// these calls were answered as they should.
+fn work<L: Round, R: Threads + Wait + Sync>(
+    rt: &R,
+    store: &SharedStore<L, CellPayload>,
+    session: &mut Session<L>,
+) -> u64 {
+    let target = if session.worker() == 0 { 1 } else { 0 };
+    let mut good = 0u64;
+    for value in 0..50u64 {
+        good = good.wrapping_add(u64::from(writes(rt, store, session, target, value)));
+        good = good.wrapping_add(u64::from(reads(rt, store, session, target, value)));
+        if value == 25 {
+            good = good.wrapping_add(collect_twice(rt, store, session));
+        }
+    }
+    good
+}
+
+// Lets each session work on a thread. How many calls of each were answered as they should.
+fn work_at_once<L: Round + Send + Sync, R: Threads + Wait + Sync>(
+    rt: &R,
+    store: &SharedStore<L, CellPayload>,
+    first: &mut Session<L>,
+    second: &mut Session<L>,
+) -> (u64, u64) {
+    join(
+        rt,
+        move || work(rt, store, first),
+        move || work(rt, store, second),
+    )
+}
+
+// Does so with the first session and the last.
+fn work_by_both<L: Round + Send + Sync, R: Threads + Wait + Sync>(
+    rt: &R,
+    store: &SharedStore<L, CellPayload>,
+    sessions: &mut [Session<L>],
+) -> Option<(u64, u64)> {
+    let (first, others) = sessions.split_first_mut()?;
+    Some(work_at_once(rt, store, first, others.first_mut()?))
+}
+
+// What is seen of two sessions.
+#[derive(Clone, Copy, Debug, PartialEq, Eq)]
+struct Seen {
+    // how many calls of each were answered as they should
+    good: (u64, u64),
+    entries: u64,
+    // what an audit finds that starts from the opening with rw
+    audited: Result<(), AuditFault>,
+}
+
+// Lets both sessions work, and closes.
+fn seen_of_shared<L: Round + Send + Sync, R: Threads + Wait + Sync>(
+    rt: &R,
+    alloc: Global,
+    shared: Shared<L, CellPayload>,
+) -> Option<Seen> {
+    let Shared {
+        store,
+        mut sessions,
+    } = shared;
+    let good = work_by_both(rt, &store, &mut sessions);
+    let store = closed(store, sessions)?;
+    seen_of_closed(alloc, good, store)
+}
+
+// What is seen, once the store is closed.
+fn seen_of_closed(
+    alloc: Global,
+    good: Option<(u64, u64)>,
+    store: Store<CellPayload>,
+) -> Option<Seen> {
+    let seen = seen_of_journal(alloc, good, store.journal());
+    drop(store);
+    seen
+}
+
+// The same of its journal.
+fn seen_of_journal(alloc: Global, good: Option<(u64, u64)>, journal: &Journal) -> Option<Seen> {
+    let kept = opening_with(alloc, "rw")?;
+    Some(Seen {
+        good: good?,
+        entries: journal.len(),
+        audited: audit(alloc, &kept, journal.entries()),
+    })
+}
+
+// The same of a store that is to be shared.
+fn seen_of<L: Round + Send + Sync, R: Threads + Wait + Sync>(
+    rt: &R,
+    alloc: Global,
+    blank: Blank,
+    store: Store<CellPayload>,
+) -> Option<Seen>
+    requires name { blank.name ≡ L.name }
+    requires parts { (blank.parts ≡ L.parts) × (blank.parts ≡ store.opening.limit + 1) }
+    requires start { start_of_store store ≡ L.start }
+{
+    let shared = SharedStore::<L, CellPayload>::new(alloc, blank, store).ok()?;
+    seen_of_shared(rt, alloc, shared)
+}
+
+// The same of a store whose workers have these rights over one another.
+fn seen_with<R: Threads + Wait + Sync>(rt: &R, alloc: Global, letters: &str) -> Option<Seen> {
+    let store = store_with(alloc, letters)?;
+    let blank = Blank::new(store.opening().max_vertices() + 1);
+    seen_of::<Brand, R>(rt, alloc, blank, store)
+}
+
+// Compares what is seen of a store whose workers have these rights over one another.
+fn check(
+    rt: &(impl Abort + AllocGlobal + Threads + Wait + Sync),
+    letters: &str,
+    wanted: Seen,
+) -> Result<(), Fail> {
+    let seen = seen_with(rt, rt.alloc(), letters).ok_or("a refusal")?;
+    assert_eq!(rt; seen, wanted);
+    Ok(())
+}
+
+#[test]
+fn two_sessions_read_their_own_writes(rt: HostRuntime) -> Result<(), Fail> {
+    let wanted = Seen {
+        good: (102, 102),
+        entries: 200,
+        audited: Ok(()),
+    };
+    check(&rt, "rw", wanted)
+}
+
+// A store that was opened otherwise than its users were told is found out by an audit from the opening that they kept.
+#[test]
+fn another_opening_behind_the_lock(rt: HostRuntime) -> Result<(), Fail> {
+    let wanted = Seen {
+        good: (3, 3),
+        entries: 200,
+        audited: Err(AuditFault::BadEntry { at: 0 }),
+    };
+    check(&rt, "r", wanted)
+}

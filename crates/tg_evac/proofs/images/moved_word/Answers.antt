@@ -1,0 +1,47 @@
+use Rattle.std.proofs.Common.{◌≡◌, ◌∙◌, ℕ, true, ap, subst, sym, ⊎_elim}
+use Rattle.std.specs.List.{Contains}
+use Rattle.tg_word.specs.declared.Place.{Place}
+use Rattle.tg_word.specs.Word.{place_in}
+use Rattle.tg_space.specs.SpaceList.{Holds, flat_of}
+use Rattle.tg_space.specs.Soundness.{NamesCell}
+use Rattle.tg_space.specs.Targets.{from_space, target_in}
+use Rattle.tg_space.specs.declared.kind.Kind.{Kind}
+use Rattle.tg_evac.specs.Claims.{space_for}
+use Rattle.tg_evac.proofs.OneCell.{claims_one, met_one, one_moved, one_target}
+use Rattle.tg_evac.proofs.images.moved_word.Goals as goal
+
+pub returns-in_err-found-clause-added : goal.returns-in_err-found-clause-added
+returns-in_err-found-clause-added g c =
+    let h = c.args.spaces.now.spaces in let kind = (g.C.Claimer.walked c.args.claimer.now).kind in let word = c.args.word in let some = c.if-word-eq0.false in
+    let moves : from_space kind (place_in word).space ≡ true =
+    ap (λ (k : Kind). from_space k (place_in word).space) c.requires.kind ∙ ap (λ (p : Place). from_space c.args.kind p.space) (sym c.place_of-space.ensures) ∙ sym c.moves.ensures ∙ c.if-not-moves.false in
+    let held : Holds h (place_in word) = ⊎_elim (λ none. absurd (some none)) (λ (names : NamesCell h word). names.held) c.requires.pointer in
+    claims_one h c.args.straight (place_in word) c.target_of.result c.space_for.result (target_in (from_space kind) h word) held c.target_of.ensures.flat
+    (c.space_for.ensures ∙ ap (λ (p : Place). space_for c.args.straight p.space) c.place_of-space.ensures) (one_target (from_space kind) h word some moves) c.claim.ensures.added
+
+pub returns-clause-added : goal.returns-clause-added
+returns-clause-added g c =
+    let h = c.args.spaces.now.spaces in let kind = (g.C.Claimer.walked c.args.claimer.now).kind in let word = c.args.word in let some = c.if-word-eq0.false in
+    let moves : from_space kind (place_in word).space ≡ true =
+    ap (λ (k : Kind). from_space k (place_in word).space) c.requires.kind ∙ ap (λ (p : Place). from_space c.args.kind p.space) (sym c.place_of-space.ensures) ∙ sym c.moves.ensures ∙ c.if-not-moves.false in
+    let held : Holds h (place_in word) = ⊎_elim (λ none. absurd (some none)) (λ (names : NamesCell h word). names.held) c.requires.pointer in
+    claims_one h c.args.straight (place_in word) c.target_of.result c.space_for.result (target_in (from_space kind) h word) held c.target_of.ensures.flat
+    (c.space_for.ensures ∙ ap (λ (p : Place). space_for c.args.straight p.space) c.place_of-space.ensures) (one_target (from_space kind) h word some moves) c.claim.ensures.added
+
+pub returns-clause-met : goal.returns-clause-met
+returns-clause-met g c =
+    let h = c.args.spaces.now.spaces in let kind = (g.C.Claimer.walked c.args.claimer.now).kind in let word = c.args.word in
+    let moves : from_space kind (place_in word).space ≡ true =
+    ap (λ (k : Kind). from_space k (place_in word).space) c.requires.kind ∙ ap (λ (p : Place). from_space c.args.kind p.space) (sym c.place_of-space.ensures) ∙ sym c.moves.ensures ∙ c.if-not-moves.false in
+    let met = (g.C.Claimer.walked c.claim.new.self).met in
+    met_one (Contains met) (flat_of h (place_in word)) (target_in (from_space kind) h word) (one_target (from_space kind) h word c.if-word-eq0.false moves)
+    (subst (λ (n : ℕ). Contains met n) c.target_of.ensures.flat c.in_ok-found.ensures.met)
+
+pub returns-clause-word : goal.returns-clause-word
+returns-clause-word g c =
+    λ to knows.
+    let h = c.args.spaces.now.spaces in let kind = (g.C.Claimer.walked c.args.claimer.now).kind in let word = c.args.word in
+    let moves : from_space kind (place_in word).space ≡ true =
+    ap (λ (k : Kind). from_space k (place_in word).space) c.requires.kind ∙ ap (λ (p : Place). from_space c.args.kind p.space) (sym c.place_of-space.ensures) ∙ sym c.moves.ensures ∙ c.if-not-moves.false in
+    let goes : to (flat_of h (place_in word)) ≡ place_in c.in_ok-found.found = ap to (sym c.target_of.ensures.flat) ∙ c.in_ok-found.ensures.known to knows in
+    c.with_place.ensures ∙ one_moved (from_space kind) h to word (place_in c.in_ok-found.found) c.if-word-eq0.false moves goes

@@ -1,0 +1,8 @@
+use Rattle.std.proofs.Common.{◌≡◌, ◌++◌, map}
+use Rattle.tg_weave.proofs.weaving.sessions_of.Given as goal
+
+abbrev pub invariant-loop-one : goal.invariant-loop-one
+invariant-loop-one g l = record {
+  left : l.yielded ++ l.one-iterator.rest.items ≡ l.fn.finished.items;
+  sessions : l.sessions.items ≡ map (λ f. f.session) l.yielded;
+}

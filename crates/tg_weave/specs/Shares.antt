@@ -1,0 +1,51 @@
+-- How the lines of a script are shared out among the sessions of its workers, and how what they came to goes together again.
+use Rattle.std.specs.Prelude.{◌≡◌, ℕ, ◌==◌, Bool, false, List, map, Option, Some, None, nat_lt, if◌then◌else◌}
+use Rattle.std.specs.List.{AllZip, filter, range_with_len, zip}
+use Rattle.std.specs.Option.{option_map_or}
+use Rattle.tg_text.specs.declared.line.Line.{Line}
+use Rattle.tg_text.specs.declared.line.Line.TheVariants as line
+use Rattle.tg_text.specs.declared.answer.Refusal.TheVariants as refusal
+use Rattle.tg_weave.specs.declared.task.Told.{Told}
+use Rattle.tg_weave.specs.declared.task.Told.TheVariants as came
+use Rattle.tg_weave.specs.declared.work.Work.{Work}
+use Rattle.tg_weave.specs.Boxes.{Boxed, boxed_of}
+
+-- ---- who runs a line
+
+-- the worker whose session runs the line: its own, or worker 0 for a collection; and nobody's for one that names no worker
+abbrev pub runner_of : ℕ → Line → Option ℕ
+runner_of workers (line.Edge edge) = None
+runner_of workers (line.Create x label) = if nat_lt x workers then Some x else None
+runner_of workers (line.Plain x command) = if nat_lt x workers then Some x else None
+runner_of workers line.Full = Some 0
+runner_of workers line.Minor = Some 0
+
+-- whether the line is run by the session of worker x
+abbrev pub is_run_by : ℕ → ℕ → Line → Bool
+is_run_by workers x l = option_map_or (λ y. y == x) (runner_of workers l) false
+
+-- ---- who has which lines
+
+-- the lines that worker x's session runs, in script order
+abbrev pub lines_of : ℕ → ℕ → List Boxed → List Boxed
+lines_of workers x bs = filter (λ b. is_run_by workers x b.line) bs
+
+-- those of each worker, by number
+abbrev pub all_lines : ℕ → List Boxed → List (List Boxed)
+all_lines workers bs = map (λ x. lines_of workers x bs) (range_with_len 0 workers)
+
+-- the lines that a session is given
+abbrev pub lines_in : {S P : Type 0} → Work S P → List Boxed
+lines_in w = map boxed_of w.tasks.items
+
+-- ---- what they came to, in script order
+
+-- what the lines came to that worker x's session ran, in script order
+abbrev pub told_of : ℕ → ℕ → List Line → List Told → List Told
+told_of workers x lines ts = map (λ p. p.1) (filter (λ p. is_run_by workers x p.0) (zip lines ts))
+
+-- What the lines came to: one for each, those that a worker's session ran as it brought them back, in its order; and
+-- refused where no session runs the line.
+pub record IsInScriptOrder (workers : ℕ) (lines : List Line) (brought : List (List Told)) (ts : List Told) : Type 0 where
+  pub own : brought ≡ map (λ x. told_of workers x lines ts) (range_with_len 0 workers)
+  pub nobodys : AllZip (λ l t. runner_of workers l ≡ None → t ≡ came.Refused refusal.Worker) lines ts

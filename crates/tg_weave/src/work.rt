@@ -1,0 +1,18 @@
+//! A session with the lines that it has to run, and with what they came to.
+
+use crate::task::{Task, Told};
+use tg_payload::Payload;
+
+/// A worker's session, and the lines that it has to run.
+#[derive(Drop)]
+pub struct Work<S, P: Payload> {
+    pub session: S,
+    pub tasks: Vec<Task<P>>,
+}
+
+/// A worker's session after its lines, and what each of them came to, in their order.
+#[derive(Drop)]
+pub struct Finished<S> {
+    pub session: S,
+    pub told: Vec<Told>,
+}
