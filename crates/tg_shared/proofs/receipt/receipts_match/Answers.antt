@@ -46,9 +46,9 @@ returns-then-receipt-least c =
     let here = from_place rs i r c.loop-receipt-test.true c.receipt-item.is in
     let since = not_here (ReceiptsMatch c.entries-entries.result.now c.args.worker rs) c.entries-entries.result.now c.args.worker c.loop-receipt.least (drop i rs) (drop (i + 1) rs) r here in
     let none : ¬ ReceiptsMatch c.entries-entries.result.now c.args.worker rs =
-        elim c.then-receipt-least.branch [
-          | then-receipt-least-via-then-receipt-least w ↦ since (λ low stands. let below = w.if-receipt-least.true in omega arith) c.loop-receipt.invariant
-          | then-receipt-least-via-else-receipt-least+then-not-stands w ↦
-              since (λ low stands. let yes : w.stands.result ≡ true = w.stands.ensures.1 stands in let no : w.stands.result ≡ false = w.if-not-stands.true in cc) c.loop-receipt.invariant
-        ] in
+    elim c.then-receipt-least.branch [
+      | then-receipt-least-via-then-receipt-least w ↦ since (λ low stands. let below = w.if-receipt-least.true in omega arith) c.loop-receipt.invariant
+      | then-receipt-least-via-else-receipt-least+then-not-stands w ↦
+          since (λ low stands. let yes : w.stands.result ≡ true = w.stands.ensures.1 stands in let no : w.stands.result ≡ false = w.if-not-stands.true in cc) c.loop-receipt.invariant
+    ] in
     ((λ no. cc), (λ match. absurd (none (subst (λ (es : List Entry). ReceiptsMatch es c.args.worker rs) (sym c.entries-entries.ensures) match))))
