@@ -5,6 +5,22 @@
 # of the crates that are named. From then on `build` names the folder, and `program` the folder of the program in it. What is
 # proved of a crate comes along with its times, so that it isn't proved again.
 take_crates() {
+    take_libraries "$@"
+    cp "$here/main.rt.in" "$program/src/main.rt"
+}
+
+# take_tests CRATE CRATE..: the same for a crate of tests, whose files stand in the script's folder `tests` with `.in` behind their
+# names. They may use threads, and wait.
+take_tests() {
+    take_libraries "$@"
+    sed -i "s/^$1:/$1 tests_may=Threads+Wait:/" "$build/crates.txt"
+    (cd "$here/tests" && find . -name '*.in') | while read -r file; do
+        mkdir -p "$program/$(dirname "$file")"
+        cp "$here/tests/$file" "$program/${file%.in}"
+    done
+}
+
+take_libraries() {
     name=$1
     shift
     top=$(cd "$here/../.." && pwd)
@@ -12,7 +28,6 @@ take_crates() {
     trap 'rm -rf "$build"' EXIT INT TERM
     program=$build/crates/$name
     mkdir -p "$program/src"
-    cp "$here/main.rt.in" "$program/src/main.rt"
     cp "$top/HANDLES" "$build/"
     echo "$name: $*" > "$build/crates.txt"
     for library in $(with_those_below "$@"); do

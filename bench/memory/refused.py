@@ -1,12 +1,12 @@
 #!/usr/bin/env python3
 """refused.py [--tests FILE] [--program FILE] [WORD ..]
 
-Runs each test of crates/memory_tests that has each request refused in turn, and then the program on six small scripts: once
+Runs each test of bench/memory/tests that has each request refused in turn, and then the program on six small scripts: once
 for every request that it makes, with that one refused. A request is a call for memory, or for the start of a thread. A test must
 pass; of the program what_is_wrong of runs.py is asked. Where nothing is refused each thread that was started must be joined;
 and with one thread as much memory must be given back as where nothing is refused. It prints how many requests there were, and
-stops at the first run that is wrong. With words, only what has one of them in its name is run. It wants cc, and what `rt test` and
-`rt run` leave, which may be given."""
+stops at the first run that is wrong. With words, only what has one of them in its name is run. It wants cc, and what `rt run`
+leaves; the tests are proved and built first (tests.sh), unless they are given as built."""
 import argparse
 import collections
 import itertools
@@ -17,10 +17,8 @@ import subprocess
 import sys
 import tempfile
 
-from runs import CRATES, HERE, MOST_SECONDS, PROGRAM, Run, WAYS, knows, listings, log_and_sum_payloads, logs, old_cell_stays_remembered
+from runs import HERE, MOST_SECONDS, PROGRAM, Run, WAYS, knows, listings, log_and_sum_payloads, logs, old_cell_stays_remembered
 from runs import refused_lines, rows, stop, ten_edges_and_a_hole, what_is_wrong
-
-TESTS = os.path.join(CRATES, "memory_tests", "out", "memory_tests_tests")
 
 # The numbers of refuse.c.
 TOLD = struct.Struct("7q")
@@ -109,6 +107,12 @@ def of_program(program, script, way):
     return run
 
 
+def built_tests(folder):
+    tests = os.path.join(folder, "tests")
+    subprocess.run([os.path.join(HERE, "tests.sh"), tests], check=True)
+    return tests
+
+
 def all_runs(tests, program):
     """Each run that has its requests refused, with its name."""
     listed = subprocess.run([tests, "--list"], stdout=subprocess.PIPE, check=True).stdout.decode()
@@ -124,13 +128,14 @@ def all_runs(tests, program):
 
 def main():
     words = argparse.ArgumentParser()
-    words.add_argument("--tests", default=TESTS)
+    words.add_argument("--tests")
     words.add_argument("--program", default=PROGRAM)
     words.add_argument("words", nargs="*")
     words = words.parse_args()
     with tempfile.TemporaryDirectory() as folder:
         refuser = Refuser(folder)
-        for name, run in all_runs(words.tests, words.program):
+        tests = words.tests or built_tests(folder)
+        for name, run in all_runs(tests, words.program):
             if not words.words or any(word in name for word in words.words):
                 try_each(name, refuser, run)
 

@@ -5,9 +5,9 @@
 #![tactic(auto)]
 
 #[cfg(test)]
-mod command_line;
-#[cfg(test)]
 mod counting_payload;
+#[cfg(test)]
+mod help;
 #[cfg(test)]
 mod hostile;
 #[cfg(test)]

@@ -1,6 +1,6 @@
-//! Worked scripts with collections by several helpers on threads: what is written is the same.
+//! Worked scripts, run by one thread, and with collections by several helpers on threads: what is written is the same.
 use crate::rows::{LongRow, Piece, Row, settings_of, texts_of, with_texts};
-use crate::scripts::{ROWS, ran_in};
+use crate::scripts::{ROWS, compare, ran_in, runs};
 use std::alloc::Global;
 use std::process::Abort;
 use std::sync::Wait;
@@ -18,19 +18,13 @@ fn runs_by<R: Abort + Threads + Wait + Sync>(
     let collector = OnThreads::new(rt, alloc);
     let settings = settings_of(row, helpers)?;
     let ran = ran_in(alloc, &collector, settings, row.stock, row.script)?;
-    assert_eq!(rt;
-        ran.written.as_slice(),
-        row.written,
-        "{}, {helpers}",
-        row.name
-    );
-    assert_eq!(rt; ran.outcome, row.outcome, "{}, {helpers}", row.name);
-    Ok(())
+    compare(rt, &ran, row, helpers)
 }
 
 #[test]
-fn worked_scripts_with_helpers(rt: HostRuntime) -> Result<(), Fail> {
+fn worked_scripts(rt: HostRuntime) -> Result<(), Fail> {
     for row in ROWS {
+        runs(&rt, row)?;
         for helpers in [1, 2, 8] {
             runs_by(&rt, rt.alloc(), row, helpers)?;
         }

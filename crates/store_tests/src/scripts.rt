@@ -1,4 +1,4 @@
-//! Worked scripts, run by one thread, with what is written for each.
+//! Worked scripts with what is written for each, and how a script is run by one thread.
 use crate::counting_payload::counting_box;
 use crate::rows::{LongRow, Piece, Row, limits_of, settings_of, texts_of, with_texts};
 use std::alloc::{AllocError, Global};
@@ -638,21 +638,28 @@ pub(crate) fn ran_in<C: Collector>(
     Ok(run_with(alloc, collector, settings, cells, boxes, script)?)
 }
 
+// Compares what is written, and how the run ends, with the row.
+pub(crate) fn compare(
+    rt: &impl Abort,
+    ran: &InMemory,
+    row: &Row,
+    helpers: u32,
+) -> Result<(), Fail> {
+    assert_eq!(rt;
+        ran.written.as_slice(),
+        row.written,
+        "{}, {helpers}",
+        row.name
+    );
+    assert_eq!(rt; ran.outcome, row.outcome, "{}, {helpers}", row.name);
+    Ok(())
+}
+
 // Runs the row by one thread, and compares what is written and how the run ends.
 pub(crate) fn runs(rt: &(impl Abort + AllocGlobal), row: &Row) -> Result<(), Fail> {
     let settings = settings_of(row, 1)?;
     let ran = ran_in(rt.alloc(), &OneThread, settings, row.stock, row.script)?;
-    assert_eq!(rt; ran.written.as_slice(), row.written, "{}", row.name);
-    assert_eq!(rt; ran.outcome, row.outcome, "{}", row.name);
-    Ok(())
-}
-
-#[test]
-fn worked_scripts(rt: HostRuntime) -> Result<(), Fail> {
-    for row in ROWS {
-        runs(&rt, row)?;
-    }
-    Ok(())
+    compare(rt, &ran, row, 1)
 }
 
 // The same of a row that is given by its pieces.

@@ -27,7 +27,7 @@ use Rattle.tg_text.specs.declared.answer.Refusal.TheVariants as refusal
 use Rattle.tg_script.specs.declared.run.Run.{Run}
 use Rattle.tg_script.specs.Supply.{values_left}
 use Rattle.tg_script.specs.Script.{Scene, AnswersCreate, MayWant}
-use Rattle.tg_script.specs.Answering.{apply_refusal, create_answer}
+use Rattle.tg_refusals.specs.Refusals.{apply_refusal, create_answer}
 use Rattle.tg_script.specs.Run.{Shows, HandlesBy, Handles}
 
 -- ---- who is a subject, and which graph a store stands for

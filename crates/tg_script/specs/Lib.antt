@@ -3,6 +3,5 @@ pub mod Running
 pub mod Lines
 pub mod Opening
 pub mod Supply
-pub mod Answering
 pub mod Run
 pub mod Whole

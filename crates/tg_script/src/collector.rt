@@ -1,10 +1,10 @@
 //! What makes the collections of a script.
 ghost use Rattle.std.specs.Prelude.{◌≡◌};
-ghost use Rattle.tg_script.specs.Answering.{collect_refusal};
 
 use crate::helpers::Helpers;
 use tg_payload::Payload;
-use tg_store::{CollectFault, Kind, Store};
+use tg_refusals::collect_refusal;
+use tg_store::{Kind, Store};
 use tg_text::Refusal;
 
 /// What makes the collections of a script. Nothing here starts threads: what does stands above, and a run is the same over it.
@@ -52,14 +52,5 @@ impl Collector for OneThread {
             Ok(kept) => Ok(kept),
             Err(fault) => Err(collect_refusal(fault)),
         }
-    }
-}
-
-fn collect_refusal(fault: CollectFault) -> Refusal
-    ensures { result ≡ collect_refusal fault }
-{
-    match fault {
-        CollectFault::OutOfMemory => Refusal::Memory,
-        CollectFault::HeapFull => Refusal::Heap,
     }
 }

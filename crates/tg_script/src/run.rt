@@ -1,14 +1,14 @@
 //! A run under way: the store and the stock, and how each line is answered.
 ghost use Rattle.std.specs.Prelude.{◌≡◌};
-ghost use Rattle.tg_script.specs.Answering.{apply_refusal, create_answer};
 
 use crate::collector::Collector;
 use crate::helpers::Helpers;
 use crate::supply::Supply;
 use tg_model::{Command, Reply};
 use tg_payload::{Draft, Payload};
+use tg_refusals::{apply_refusal, create_answer};
 use tg_rights::Label;
-use tg_store::{ApplyFault, CreateFault, CreateRefused, Kind, Store};
+use tg_store::{CreateRefused, Kind, Store};
 use tg_text::{Answer, Line, Refusal};
 
 /// The store, the payloads for the vertices that are still to be made, and how many helpers a collection has.
@@ -96,26 +96,5 @@ impl<P: Payload> Run<P> {
                 create_answer(why)
             }
         }
-    }
-}
-
-fn apply_refusal(fault: ApplyFault) -> Refusal
-    ensures { result ≡ apply_refusal fault }
-{
-    match fault {
-        ApplyFault::NoSuchWorker => Refusal::Worker,
-        ApplyFault::OutOfMemory => Refusal::Memory,
-        ApplyFault::HeapFull => Refusal::Heap,
-    }
-}
-
-fn create_answer(fault: CreateFault) -> Answer
-    ensures { result ≡ create_answer fault }
-{
-    match fault {
-        CreateFault::NoSuchWorker => Answer::Refused(Refusal::Worker),
-        CreateFault::VerticesFull => Answer::Reply(Reply::VerticesFull),
-        CreateFault::OutOfMemory => Answer::Refused(Refusal::Memory),
-        CreateFault::HeapFull => Answer::Refused(Refusal::Heap),
     }
 }

@@ -1,9 +1,8 @@
 //! A script that is read line by line, with the first fault in it.
-ghost use Rattle.std.specs.Prelude.{◌≡◌, ◌+◌, ◌<◌, ◌≤◌, ◌↔◌, ℕ, List, Some, Ok, true, IsTrue, IfSome, IfNone};
-ghost use Rattle.tg_text.specs.Grammar.{LineFits, line_text};
-ghost use Rattle.tg_text.specs.Reading.{MayStand, IsBadText, opening_after};
+ghost use Rattle.std.specs.Prelude.{◌+◌, ◌≤◌};
 
-use tg_text::{Fetched, Line, LineBuffer, Lines, ScriptFault, Sink, Source, read_line};
+use tg_lines::{Lines, is_opening_after, standing_line};
+use tg_text::{Fetched, Line, LineBuffer, ScriptFault, Sink, Source};
 
 /// A script, as far as it was read.
 #[derive(Drop)]
@@ -89,37 +88,5 @@ impl Script {
                 line: self.count + 1,
             }),
         }
-    }
-}
-
-// The line of these bytes, if it may stand here.
-#[inline(always)]
-fn standing_line(text: &[u8], workers: u64, opening: bool) -> Option<Line>
-    ensures found { IfSome result (λ line. LineFits line × MayStand workers opening line × (text.now ≡ line_text line)) }
-    ensures bad { IfNone result (IsBadText workers opening text.now) }
-{
-    let line = read_line(text)?;
-    if may_stand(&line, workers, opening) {
-        Some(line)
-    } else {
-        None
-    }
-}
-
-fn may_stand(line: &Line, workers: u64, opening: bool) -> bool
-    ensures { IsTrue result ↔ MayStand workers opening line.now }
-{
-    match line {
-        Line::Edge(edge) => opening && edge.joins_workers(workers),
-        Line::Create { .. } | Line::Plain { .. } | Line::Full | Line::Minor => true,
-    }
-}
-
-fn is_opening_after(opening: bool, line: &Line) -> bool
-    ensures { result ≡ opening_after opening line.now }
-{
-    match line {
-        Line::Edge(_) => opening,
-        Line::Create { .. } | Line::Plain { .. } | Line::Full | Line::Minor => false,
     }
 }

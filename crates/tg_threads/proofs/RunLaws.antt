@@ -19,7 +19,7 @@ use Rattle.tg_rules.specs.Effect.{AddsEdge}
 use Rattle.tg_store.specs.Store.{graph_of_store}
 use Rattle.tg_store.specs.declared.fault.ApplyFault.{ApplyFault}
 use Rattle.tg_store.specs.declared.fault.ApplyFault.TheVariants as apply
-use Rattle.tg_script.specs.Answering.{apply_refusal}
+use Rattle.tg_refusals.specs.Refusals.{apply_refusal}
 use Rattle.tg_shared.specs.Sessions.{AtSome, SessionState, SharedStart, KeepsReceipts}
 use Rattle.tg_weave.specs.declared.task.Told.{Told}
 use Rattle.tg_weave.specs.declared.task.Told.TheVariants as came

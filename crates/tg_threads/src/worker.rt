@@ -1,7 +1,6 @@
 //! The run of one worker's lines.
 ghost use Rattle.std.specs.Prelude.{◌≡◌, ◌<◌, ◌++◌, ◌∷◌, [], ℕ, length, map, List, IfErr, IfOk};
 ghost use Rattle.tg_model.specs.declared.command.Deed.TheVariants as Deed;
-ghost use Rattle.tg_script.specs.Answering.{apply_refusal};
 ghost use Rattle.tg_script.specs.Script.{MayWant};
 ghost use Rattle.tg_shared.specs.declared.receipt.Receipt.{Receipt as ReceiptOf};
 ghost use Rattle.tg_threads.specs.Tasks.{Brings, HasAsked, HasCollected, HasMade, HasRun, IsRunBy};
@@ -13,10 +12,11 @@ use std::sync::Wait;
 use std::thread::Threads;
 use tg_model::Command;
 use tg_payload::{Draft, Payload};
+use tg_refusals::apply_refusal;
 use tg_rights::Label;
 use tg_script::Helpers;
 use tg_shared::{HelpersFault, Round, Session, SharedStore};
-use tg_store::{ApplyFault, CollectFault, CreateFault, Kind};
+use tg_store::{CollectFault, CreateFault, Kind};
 use tg_text::{Line, Refusal};
 use tg_weave::{Task, Told};
 
@@ -147,16 +147,6 @@ fn collect_by<L: Round, P: Payload, R: Threads + Wait + Sync>(
         Err(HelpersFault::OutOfMemory) => Err(Refusal::Memory),
         Err(HelpersFault::HeapFull) => Err(Refusal::Heap),
         Err(HelpersFault::NoThread) => Err(Refusal::Threads),
-    }
-}
-
-fn apply_refusal(fault: ApplyFault) -> Refusal
-    ensures { result ≡ apply_refusal fault }
-{
-    match fault {
-        ApplyFault::NoSuchWorker => Refusal::Worker,
-        ApplyFault::OutOfMemory => Refusal::Memory,
-        ApplyFault::HeapFull => Refusal::Heap,
     }
 }
 

@@ -1,0 +1,54 @@
+//! The numbers in the help.
+use std::alloc::Global;
+use std::test::Fail;
+use tg_block::CELLS;
+use tg_model::{MAX_VERTICES, MAX_WORKERS};
+use tg_program::{
+    DEFAULT_BLOCKS, DEFAULT_HELPERS, DEFAULT_VERTICES, DEFAULT_WORKERS, MOST_BLOCKS, options,
+};
+use tg_script::{MOST_BYTES, MOST_HELPERS, MOST_LINE_BYTES};
+
+// The text that is written instead of a run where help is asked for.
+fn help_text(alloc: Global) -> Result<String, Fail> {
+    match options(alloc, ["tgstore", "--help"].as_slice()) {
+        Ok(_) => Err(Fail::from("words that are accepted")),
+        Err(error) => Ok(format!(in alloc; "{error}")?),
+    }
+}
+
+// The help has each number as it is in the code.
+#[test]
+fn help_is_true(rt: HostRuntime) -> Result<(), Fail> {
+    let alloc = rt.alloc();
+    let text = help_text(alloc)?;
+    let lines: [(&str, u64, &str); 11] = [
+        ("How many workers there are, from 1 to ", MAX_WORKERS, ". "),
+        ("[default: ", DEFAULT_WORKERS, "]"),
+        (
+            "How many threads a collection may use, from 1 to ",
+            u64::from(MOST_HELPERS),
+            ". ",
+        ),
+        ("[default: ", DEFAULT_HELPERS, "]"),
+        (
+            "How many vertices may ever be made, from 1 to ",
+            MAX_VERTICES,
+            ". ",
+        ),
+        ("[default: ", DEFAULT_VERTICES, "]"),
+        (
+            "How many blocks of ",
+            CELLS as u64,
+            " cells the heap may have, from 1 to ",
+        ),
+        (" cells the heap may have, from 1 to ", MOST_BLOCKS, ". "),
+        ("[default: ", DEFAULT_BLOCKS, "]"),
+        ("of at most ", MOST_LINE_BYTES as u64, " bytes"),
+        ("at most ", u64::from(MOST_BYTES >> 20), " MiB in all"),
+    ];
+    for (before, number, after) in lines {
+        let line = format!(in alloc; "{before}{number}{after}")?;
+        assert!(rt; text.as_str().contains(line.as_str()), "{line}");
+    }
+    Ok(())
+}

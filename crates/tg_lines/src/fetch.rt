@@ -1,0 +1,129 @@
+//! The lines of a source, byte by byte.
+//!
+//! A line that the source holds whole is taken at once. For any other the source is asked for one byte at a time, and never for
+//! a byte behind the first fault: that is why a fault is then looked for at each byte, and not when a line is whole. Bytes of a
+//! line lie in one buffer, which serves all lines.
+ghost use Rattle.std.specs.Prelude.{◌≡◌, ◌+◌, ◌-◌, ◌<◌, ◌≤◌, true, false, length};
+ghost use Rattle.tg_text.specs.Fetching.{FetchesKnown, TakesLineAtOnce, failures_of_fetch, write_failures_of};
+ghost use Rattle.tg_text.specs.Sinks.{KeepsBytes};
+
+use crate::exchange::next_byte;
+use tg_text::{Fetched, LineBuffer, Next, Sink, Source};
+
+/// The most bytes that a script may have, line feeds included.
+pub const MOST_BYTES: u32 = 1_048_576;
+
+/// The most bytes that a line may have, without its line feed.
+pub const MOST_LINE_BYTES: usize = 256;
+
+/// How far the lines of a source were read.
+#[derive(Drop)]
+pub struct Lines {
+    /// How many bytes may still come, at most [`MOST_BYTES`].
+    pub room: u32,
+}
+
+impl Lines {
+    /// All lines are left, and [`MOST_BYTES`] bytes may come.
+    pub fn new() -> Lines
+        ensures { result.room ≡ 1048576 }
+    {
+        Lines { room: MOST_BYTES }
+    }
+
+    /// Reads the next line into the buffer, without its line feed, and says what came of it: a line, no more bytes, or
+    /// the first fault, looked for at each byte in this order: what was written couldn't be finished, the source failed, more
+    /// bytes came than may, the line has more than [`MOST_LINE_BYTES`]; or the input ended within a line. The source is asked
+    /// once for each byte of the line and for what ended it, and not again. What was put into the sink is finished before the
+    /// source is asked for what it doesn't hold. Takes no memory.
+    #[inline(always)]
+    pub fn next_line<S: Source, K: Sink>(
+        &mut self,
+        source: &mut S,
+        sink: &mut K,
+        line: &mut LineBuffer,
+    ) -> Fetched
+        ensures bytes { FetchesKnown self.old.room (S.left source.old) result line.new (S.left source.new) }
+        ensures room { result ≡ Fetched.Line → self.new.room + length line.new + 1 ≡ self.old.room }
+        ensures shrinks { self.new.room ≤ self.old.room }
+        ensures failures { S.failures source.new ≡ S.failures source.old + failures_of_fetch result }
+        ensures taken { KeepsBytes (K.taken sink.old) (K.taken sink.new) }
+        ensures write_failures { K.failures sink.new ≡ K.failures sink.old + write_failures_of result }
+        ensures asked { S.asked source.new + self.new.room ≤ S.asked source.old + self.old.room + 1 }
+        ensures asked_of_line { result ≡ Fetched.Line → S.asked source.new + self.new.room ≡ S.asked source.old + self.old.room }
+    {
+        if self.take_held(source, line) {
+            return Fetched::Line;
+        }
+        self.next_line_by_bytes(source, sink, line)
+    }
+
+    // Reads the next line into the buffer where the source holds all of it, and answers whether it did; else nothing is read.
+    #[inline(always)]
+    fn take_held<S: Source>(&mut self, source: &mut S, line: &mut LineBuffer) -> bool
+        ensures bytes { TakesLineAtOnce (S.left source.old) result line.new (S.left source.new) }
+        ensures few { result ≡ true → length line.new ≤ 256 }
+        ensures room { result ≡ true → self.new.room + length line.new + 1 ≡ self.old.room }
+        ensures kept { result ≡ false → self.new.room ≡ self.old.room }
+        ensures failures { S.failures source.new ≡ S.failures source.old }
+        ensures asked { S.asked source.new + self.new.room ≡ S.asked source.old + self.old.room }
+    {
+        if self.room == 0 || !source.is_ready() {
+            return false;
+        }
+        let most = MOST_LINE_BYTES.min(self.room as usize - 1);
+        if !source.take_line(line, most) {
+            return false;
+        }
+        self.room -= line.len() as u32 + 1;
+        true
+    }
+
+    // Reads the next line as `next_line` does, asking for each byte by itself.
+    fn next_line_by_bytes<S: Source, K: Sink>(
+        &mut self,
+        source: &mut S,
+        sink: &mut K,
+        line: &mut LineBuffer,
+    ) -> Fetched
+        ensures bytes { FetchesKnown self.old.room (S.left source.old) result line.new (S.left source.new) }
+        ensures room { result ≡ Fetched.Line → self.new.room + length line.new + 1 ≡ self.old.room }
+        ensures shrinks { self.new.room ≤ self.old.room }
+        ensures failures { S.failures source.new ≡ S.failures source.old + failures_of_fetch result }
+        ensures taken { KeepsBytes (K.taken sink.old) (K.taken sink.new) }
+        ensures write_failures { K.failures sink.new ≡ K.failures sink.old + write_failures_of result }
+        ensures asked { S.asked source.new + self.new.room ≤ S.asked source.old + self.old.room + 1 }
+        ensures asked_of_line { result ≡ Fetched.Line → S.asked source.new + self.new.room ≡ S.asked source.old + self.old.room }
+    {
+        line.clear();
+        for _ in 0..257u32 {
+            let Ok(next) = next_byte(source, sink) else {
+                return Fetched::WriteFailed;
+            };
+            match next {
+                Next::Failed => return Fetched::Failed,
+                Next::End => {
+                    return if line.len() == 0 {
+                        Fetched::End
+                    } else {
+                        Fetched::Unfinished
+                    };
+                }
+                Next::Byte(byte) => {
+                    if self.room == 0 {
+                        return Fetched::InputTooLong;
+                    }
+                    if byte != b'\n' && line.len() == MOST_LINE_BYTES {
+                        return Fetched::LineTooLong;
+                    }
+                    self.room -= 1;
+                    if byte == b'\n' {
+                        return Fetched::Line;
+                    }
+                    line.push(byte);
+                }
+            }
+        }
+        unreachable!()
+    }
+}

@@ -1,0 +1,41 @@
+//! Which line some bytes are, and whether it may stand where it stands: edges between workers stand in front of all others.
+ghost use Rattle.std.specs.Prelude.{◌≡◌, ◌↔◌, IsTrue, IfSome, IfNone};
+ghost use Rattle.tg_text.specs.Grammar.{LineFits, line_text};
+ghost use Rattle.tg_text.specs.Reading.{MayStand, IsBadText, opening_after};
+
+use tg_text::{Line, read_line};
+
+/// The line of these bytes, if it may stand here: with so many workers, and where edge lines may still come or no more.
+#[inline(always)]
+pub fn standing_line(text: &[u8], workers: u64, opening: bool) -> Option<Line>
+    ensures found { IfSome result (λ line. LineFits line × MayStand workers opening line × (text.now ≡ line_text line)) }
+    ensures bad { IfNone result (IsBadText workers opening text.now) }
+{
+    let line = read_line(text)?;
+    if may_stand(&line, workers, opening) {
+        Some(line)
+    } else {
+        None
+    }
+}
+
+#[inline(always)]
+fn may_stand(line: &Line, workers: u64, opening: bool) -> bool
+    ensures { IsTrue result ↔ MayStand workers opening line.now }
+{
+    match line {
+        Line::Edge(edge) => opening && edge.joins_workers(workers),
+        Line::Create { .. } | Line::Plain { .. } | Line::Full | Line::Minor => true,
+    }
+}
+
+/// Whether edge lines may still come behind a line.
+#[inline(always)]
+pub fn is_opening_after(opening: bool, line: &Line) -> bool
+    ensures { result ≡ opening_after opening line.now }
+{
+    match line {
+        Line::Edge(_) => opening,
+        Line::Create { .. } | Line::Plain { .. } | Line::Full | Line::Minor => false,
+    }
+}
