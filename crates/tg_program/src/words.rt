@@ -135,16 +135,19 @@ fn limits_of(blocks: u64) -> Limits
 fn command<'a>(alloc: Global) -> Result<Command<'a>, Error>
     ensures { IfOk result (λ command. app_of command ≡ command_line) }
 {
+    let options = vec![in alloc;
+        number_arg(alloc, "workers", help::WORKERS),
+        number_arg(alloc, "helpers", help::HELPERS),
+        number_arg(alloc, "vertices", help::VERTICES),
+        number_arg(alloc, "blocks", help::BLOCKS),
+        stock_arg(alloc),
+        race_arg(alloc),
+    ]?;
     let command = Command::new(alloc, "tgstore")
         .bin_name("tgstore")?
         .about(help::ABOUT)
         .after_help(help::MANUAL)
-        .arg(number_arg(alloc, "workers", help::WORKERS))?
-        .arg(number_arg(alloc, "helpers", help::HELPERS))?
-        .arg(number_arg(alloc, "vertices", help::VERTICES))?
-        .arg(number_arg(alloc, "blocks", help::BLOCKS))?
-        .arg(stock_arg(alloc))?
-        .arg(race_arg(alloc))?;
+        .args(options)?;
     Ok(command)
 }
 
