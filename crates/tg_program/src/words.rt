@@ -140,7 +140,7 @@ fn command<'a>(alloc: Global) -> Result<Command<'a>, Error>
         number_arg(alloc, "helpers", help::HELPERS),
         number_arg(alloc, "vertices", help::VERTICES),
         number_arg(alloc, "blocks", help::BLOCKS),
-        stock_arg(alloc),
+        option_arg(alloc, "stock", "TEXT", help::STOCK),
         race_arg(alloc),
     ]?;
     let command = Command::new(alloc, "tgstore")
@@ -151,29 +151,24 @@ fn command<'a>(alloc: Global) -> Result<Command<'a>, Error>
     Ok(command)
 }
 
+// An option with one value.
+fn option_arg<'a>(alloc: Global, name: &'a str, value: &'a str, help: &'a str) -> Arg<'a>
+    ensures rule { rule_of result ≡ option_rule name.entry.now }
+    ensures local { result.global ≡ false }
+{
+    Arg::new(alloc, name)
+        .long(name)
+        .value_name(value)
+        .help(help)
+        .action(ArgAction::Set)
+}
+
 // An option whose value is a number.
 fn number_arg<'a>(alloc: Global, name: &'a str, help: &'a str) -> Arg<'a>
     ensures rule { rule_of result ≡ number_rule name.entry.now }
     ensures local { result.global ≡ false }
 {
-    Arg::new(alloc, name)
-        .long(name)
-        .value_name("N")
-        .help(help)
-        .action(ArgAction::Set)
-        .value_parser(clap::value_parser!(u64))
-}
-
-// The option of the stock.
-fn stock_arg<'a>(alloc: Global) -> Arg<'a>
-    ensures rule { rule_of result ≡ option_rule (codes "stock") }
-    ensures local { result.global ≡ false }
-{
-    Arg::new(alloc, "stock")
-        .long("stock")
-        .value_name("TEXT")
-        .help(help::STOCK)
-        .action(ArgAction::Set)
+    option_arg(alloc, name, "N", help).value_parser(clap::value_parser!(u64))
 }
 
 // The option of a race, which has no value.

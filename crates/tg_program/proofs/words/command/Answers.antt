@@ -18,5 +18,5 @@ returns c =
     let helpers = second.1.shape c.number_arg-2.ensures.local ∙ ap₂ with_rule workers c.number_arg-2.ensures.rule in
     let vertices = third.1.shape c.number_arg-3.ensures.local ∙ ap₂ with_rule helpers c.number_arg-3.ensures.rule in
     let blocks = fourth.1.shape c.number_arg-4.ensures.local ∙ ap₂ with_rule vertices c.number_arg-4.ensures.rule in
-    let stock = fifth.1.shape c.stock_arg.ensures.local ∙ ap₂ with_rule blocks c.stock_arg.ensures.rule in
+    let stock = fifth.1.shape c.option_arg.ensures.local ∙ ap₂ with_rule blocks c.option_arg.ensures.rule in
     ap app_of (sym sixth.2) ∙ sixth.1.shape c.race_arg.ensures.local ∙ ap₂ with_rule stock c.race_arg.ensures.rule
