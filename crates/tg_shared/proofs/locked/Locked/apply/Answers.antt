@@ -6,11 +6,12 @@ use Rattle.tg_model.specs.declared.reply.Reply.{Reply}
 use Rattle.tg_model.specs.Rules.{Permits, answer_of, step}
 use Rattle.tg_journal.specs.declared.entry.Entry.{Entry}
 use Rattle.tg_rules.specs.Effect.{AddsEdge, LacksCellsToServe}
+use Rattle.tg_store.specs.declared.fault.ApplyFault.{ApplyFault}
 use Rattle.tg_store.specs.Store.{Enters, IsUnchanged, StandsFor, StoreState, graph_of_store}
 use Rattle.tg_shared.specs.Receipts.{receipt_of}
 use Rattle.tg_shared.specs.Sessions.{AddsReceipt, LockedState, Records, SessionState}
 use Rattle.tg_shared.proofs.Balances.{balanced_entered, balanced_same, goes_on_entered, goes_on_same}
-use Rattle.tg_shared.proofs.Calls.{err_here, ok_none}
+use Rattle.tg_shared.proofs.Calls.{came_as, err_here, goes_as, ok_not_err}
 use Rattle.tg_shared.proofs.locked.Locked.apply.Goals as goal
 
 -- the entry that the store made, and its receipt
@@ -32,21 +33,6 @@ invariant_of-self g c =
       goes_on_same g.L.Round.start c.self.inside.store c.apply.new.self c.self.invariant.3 kept.entries kept.opening c.apply.ensures.limits,
       c.self.invariant.4,
     )
-
-pub returns-in_err-reply-clause-entry : goal.returns-in_err-reply-clause-entry
-returns-in_err-reply-clause-entry g c =
-    let given = err_from_is_err_and c.from_residual.result c.from_residual.ensures.1 in
-    λ graph stands. ok_none c.from_residual.result given.0 _ given.1
-
-pub returns-in_err-reply-clause-step : goal.returns-in_err-reply-clause-step
-returns-in_err-reply-clause-step g c =
-    let given = err_from_is_err_and c.from_residual.result c.from_residual.ensures.1 in
-    λ graph stands. ok_none c.from_residual.result given.0 _ given.1
-
-pub returns-in_err-reply-clause-denied : goal.returns-in_err-reply-clause-denied
-returns-in_err-reply-clause-denied g c =
-    let given = err_from_is_err_and c.from_residual.result c.from_residual.ensures.1 in
-    λ graph denial stands is. ok_none c.from_residual.result given.0 _ given.1
 
 pub returns-in_err-reply-clause-refused : goal.returns-in_err-reply-clause-refused
 returns-in_err-reply-clause-refused g c =
@@ -78,10 +64,10 @@ returns g c =
           let all : reply ≡ Reply.Denied denial = told graph (ap graph_of_store same ∙ stands) ∙ is in
           (c.in_ok-reply.ensures.denied denial (λ i. Ok (all i))).heap ∙ ap (λ (s : StoreState). s.heap) same;
       no_such_worker = λ graph stands. (
-        (λ is. absurd (cc)),
-        (λ none. let is = (c.in_ok-reply.ensures.no_such_worker graph (ap graph_of_store same ∙ stands)).1 (λ subject. none (subst (λ (w : ℕ). IsSubject graph w) worker subject)) in absurd (cc)),
+        (λ is. absurd (ok_not_err tt ApplyFault.NoSuchWorker is)),
+        (λ none. let is = (c.in_ok-reply.ensures.no_such_worker graph (ap graph_of_store same ∙ stands)).1 (λ subject. none (subst (λ (w : ℕ). IsSubject graph w) worker subject)) in absurd (ok_not_err reply ApplyFault.NoSuchWorker is)),
       );
-      full = λ graph stands is. absurd (cc);
+      full = λ graph stands is. absurd (ok_not_err tt ApplyFault.HeapFull is);
       refused = tt;
       opening = c.apply.ensures.opening ∙ ap (λ (s : StoreState). s.opening) same;
       limits = c.apply.ensures.limits ∙ ap (λ (s : StoreState). s.heap.table.limits) same;
@@ -95,8 +81,8 @@ returns-in_err-reply-clause-no_such_worker g c =
     λ graph stands.
     let here : StandsFor c.self.inside.store graph = ap (λ (b : LockedState). graph_of_store b.store) c.self.view_is ∙ stands in
     let told = c.in_err-reply.ensures.no_such_worker graph here in (
-      (λ same subject. told.0 (cc (same, given.1, given.2)) (subst (λ (w : ℕ). IsSubject graph w) (sym worker) subject)),
-      (λ none. let is = told.1 (λ subject. none (subst (λ (w : ℕ). IsSubject graph w) worker subject)) in cc (is, given.1, given.2)),
+      (λ same subject. told.0 (came_as given.1 given.2 same) (subst (λ (w : ℕ). IsSubject graph w) (sym worker) subject)),
+      (λ none. let is = told.1 (λ subject. none (subst (λ (w : ℕ). IsSubject graph w) worker subject)) in goes_as given.1 given.2 is),
     )
 
 pub returns-in_err-reply-clause-full : goal.returns-in_err-reply-clause-full
@@ -105,7 +91,7 @@ returns-in_err-reply-clause-full g c =
     let worker : c.worker-worker.result ≡ c.args.session.now.worker = c.worker-worker.ensures in
     λ graph stands same.
     let here : StandsFor c.self.inside.store graph = ap (λ (b : LockedState). graph_of_store b.store) c.self.view_is ∙ stands in
-    let told = c.in_err-reply.ensures.full graph here (cc (same, given.1, given.2)) in
+    let told = c.in_err-reply.ensures.full graph here (came_as given.1 given.2 same) in
     let full : LockedState → ℕ → Type 0 = λ b w. Permits graph.label w c.args.command × AddsEdge c.args.command × LacksCellsToServe b.store.heap.table w c.args.command in
     subst (λ (b : LockedState). full b c.args.session.now.worker) c.self.view_is
     (subst (λ (w : ℕ). full (record { store = c.self.inside.store; sessions = c.self.inside.sessions }) w) worker told)
