@@ -1,28 +1,16 @@
-use Rattle.std.proofs.Common.{◌≡◌, ◌∙◌, ◌++◌, ◌∷◌, [], ℕ, List, Ok, length, sym, ap, subst, refl}
+use Rattle.std.proofs.Common.{◌≡◌, ◌∙◌, ℕ, Ok, length, sym, ap, subst, refl}
 use Rattle.std.proofs.lemmas.Result.{err_from_is_err_and}
 use Rattle.tg_model.specs.Graph.{IsSubject, ProtectionGraph}
 use Rattle.tg_model.specs.declared.command.Deed.{Deed}
 use Rattle.tg_model.specs.declared.reply.Reply.{Reply}
 use Rattle.tg_model.specs.Rules.{Permits, answer_of, step}
-use Rattle.tg_journal.specs.declared.entry.Entry.{Entry}
 use Rattle.tg_rules.specs.Effect.{AddsEdge, LacksCellsToServe}
 use Rattle.tg_store.specs.declared.fault.ApplyFault.{ApplyFault}
-use Rattle.tg_store.specs.Store.{Enters, IsUnchanged, StandsFor, StoreState, graph_of_store}
-use Rattle.tg_shared.specs.Receipts.{receipt_of}
-use Rattle.tg_shared.specs.Sessions.{AddsReceipt, LockedState, Records, SessionState}
+use Rattle.tg_store.specs.Store.{IsUnchanged, StandsFor, StoreState, graph_of_store}
+use Rattle.tg_shared.specs.Sessions.{LockedState}
 use Rattle.tg_shared.proofs.Balances.{balanced_entered, balanced_same, goes_on_entered, goes_on_same}
 use Rattle.tg_shared.proofs.Calls.{came_as, err_here, goes_as, ok_not_err}
 use Rattle.tg_shared.proofs.locked.Locked.apply.Goals as goal
-
--- the entry that the store made, and its receipt
-recorded : (old inside new : StoreState) (before after : SessionState) (worker at : ℕ) (deed made : Deed) (reply shown : Reply) → inside ≡ old → worker ≡ before.worker → at ≡ length inside.entries → made ≡ deed → shown ≡ reply
-    → Enters inside new worker deed shown → AddsReceipt before after at made shown → Records old new before after deed reply
-recorded old inside new before after worker at deed made reply shown same of place is told entry adds =
-    let here : at ≡ length old.entries = place ∙ ap (λ (s : StoreState). length s.entries) same in
-    record {
-      entry = entry ∙ (λ i. (same i).entries ++ (record { worker = of i; deed = deed; reply = told i }) ∷ []);
-      receipt = (adds.0, adds.1 ∙ (λ i. before.receipts ++ receipt_of (here i) (record { worker = before.worker; deed = is i; reply = told i }) ∷ []));
-    }
 
 pub invariant_of-self : goal.invariant_of-self
 invariant_of-self g c =
@@ -44,35 +32,45 @@ returns-in_err-reply-clause-refused g c =
 pub note-requires : goal.note-requires
 note-requires g c = record { room = c.requires.room; own = c.worker-worker.ensures }
 
-pub returns : goal.returns
-returns g c =
-    let inside : StoreState = c.self.inside.store in
-    let new : StoreState = c.apply.new.self in
-    let before : SessionState = c.args.session.now in
+-- the store behind the lock stands for the graph
+here : (inside store : StoreState) (graph : ProtectionGraph) → inside ≡ store → StandsFor store graph → StandsFor inside graph
+here inside store graph same stands = ap graph_of_store same ∙ stands
+
+pub returns-clause-step : goal.returns-clause-step
+returns-clause-step g c =
+    let same : c.self.inside.store ≡ c.args.self.now.store = ap (λ (b : LockedState). b.store) c.self.view_is in
+    λ graph stands.
+    subst (λ (w : ℕ). StandsFor c.apply.new.self (step graph w (Deed.Plain c.args.command))) c.worker-worker.ensures (c.in_ok-reply.ensures.step graph (here c.self.inside.store c.args.self.now.store graph same stands))
+
+pub returns-clause-denied : goal.returns-clause-denied
+returns-clause-denied g c =
+    let same : c.self.inside.store ≡ c.args.self.now.store = ap (λ (b : LockedState). b.store) c.self.view_is in
     let reply : Reply = c.in_ok-reply.reply in
-    let deed : Deed = Deed.Plain c.args.command in
-    let same : inside ≡ c.args.self.now.store = ap (λ (b : LockedState). b.store) c.self.view_is in
-    let worker : c.worker-worker.result ≡ before.worker = c.worker-worker.ensures in
-    let place : c.len-at.result ≡ length inside.entries = c.len-at.ensures ∙ ap (λ (es : List Entry). length es) c.journal.ensures.entries in
-    let told : (graph : ProtectionGraph) → StandsFor inside graph → reply ≡ answer_of graph before.worker deed =
-    λ graph here. subst (λ (w : ℕ). reply ≡ answer_of graph w deed) worker (c.in_ok-reply.ensures.reply graph here) in
-    record {
-      entry = λ graph stands. recorded c.args.self.now.store inside new before c.note.new.self c.worker-worker.result c.len-at.result deed c.deed_of-deed.result (answer_of graph before.worker deed) reply
-          same worker place c.deed_of-deed.ensures (told graph (ap graph_of_store same ∙ stands)) c.in_ok-reply.ensures.entry c.note.ensures.receipt;
-      step = λ graph stands. subst (λ (w : ℕ). StandsFor new (step graph w deed)) worker (c.in_ok-reply.ensures.step graph (ap graph_of_store same ∙ stands));
-      denied = λ graph denial stands is.
-          let all : reply ≡ Reply.Denied denial = told graph (ap graph_of_store same ∙ stands) ∙ is in
-          (c.in_ok-reply.ensures.denied denial (λ i. Ok (all i))).heap ∙ ap (λ (s : StoreState). s.heap) same;
-      no_such_worker = λ graph stands. (
-        (λ is. absurd (ok_not_err tt ApplyFault.NoSuchWorker is)),
-        (λ none. let is = (c.in_ok-reply.ensures.no_such_worker graph (ap graph_of_store same ∙ stands)).1 (λ subject. none (subst (λ (w : ℕ). IsSubject graph w) worker subject)) in absurd (ok_not_err reply ApplyFault.NoSuchWorker is)),
-      );
-      full = λ graph stands is. absurd (ok_not_err tt ApplyFault.HeapFull is);
-      refused = tt;
-      opening = c.apply.ensures.opening ∙ ap (λ (s : StoreState). s.opening) same;
-      limits = c.apply.ensures.limits ∙ ap (λ (s : StoreState). s.heap.table.limits) same;
-      sessions = ap (λ (b : LockedState). b.sessions) c.self.view_is;
-    }
+    λ graph denial stands is.
+    let told : reply ≡ answer_of graph c.worker-worker.result (Deed.Plain c.args.command) = c.in_ok-reply.ensures.reply graph (here c.self.inside.store c.args.self.now.store graph same stands) in
+    let all : reply ≡ Reply.Denied denial = subst (λ (w : ℕ). reply ≡ answer_of graph w (Deed.Plain c.args.command)) c.worker-worker.ensures told ∙ is in
+    (c.in_ok-reply.ensures.denied denial (λ i. Ok (all i))).heap ∙ ap (λ (s : StoreState). s.heap) same
+
+pub returns-clause-no_such_worker : goal.returns-clause-no_such_worker
+returns-clause-no_such_worker g c =
+    let same : c.self.inside.store ≡ c.args.self.now.store = ap (λ (b : LockedState). b.store) c.self.view_is in
+    λ graph stands.
+    let told = c.in_ok-reply.ensures.no_such_worker graph (here c.self.inside.store c.args.self.now.store graph same stands) in (
+      (λ is. absurd (ok_not_err tt ApplyFault.NoSuchWorker is)),
+      (λ none. absurd (ok_not_err c.in_ok-reply.reply ApplyFault.NoSuchWorker (told.1 (λ subject. none (subst (λ (w : ℕ). IsSubject graph w) c.worker-worker.ensures subject))))),
+    )
+
+pub returns-clause-full : goal.returns-clause-full
+returns-clause-full g c = λ graph stands is. absurd (ok_not_err tt ApplyFault.HeapFull is)
+
+pub returns-clause-opening : goal.returns-clause-opening
+returns-clause-opening g c = c.apply.ensures.opening ∙ ap (λ (b : LockedState). b.store.opening) c.self.view_is
+
+pub returns-clause-limits : goal.returns-clause-limits
+returns-clause-limits g c = c.apply.ensures.limits ∙ ap (λ (b : LockedState). b.store.heap.table.limits) c.self.view_is
+
+pub returns-clause-sessions : goal.returns-clause-sessions
+returns-clause-sessions g c = ap (λ (b : LockedState). b.sessions) c.self.view_is
 
 pub returns-in_err-reply-clause-no_such_worker : goal.returns-in_err-reply-clause-no_such_worker
 returns-in_err-reply-clause-no_such_worker g c =
