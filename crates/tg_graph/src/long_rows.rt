@@ -71,9 +71,7 @@ impl LongRows {
         ensures refused { OnErr result (self.new.entries ≡ self.old.entries) }
     {
         let at = self.indexes.len();
-        let Ok(_) = self.indexes.insert(name, row) else {
-            return Err(AllocError);
-        };
+        self.indexes.insert(name, row)?;
         Ok(at)
     }
 
