@@ -71,7 +71,9 @@ impl LongRows {
         ensures refused { OnErr result (self.new.entries ≡ self.old.entries) }
     {
         let at = self.indexes.len();
-        self.indexes.insert(name, row)?;
+        let Ok(_) = self.indexes.insert(name, row) else {
+            return Err(AllocError);
+        };
         Ok(at)
     }
 

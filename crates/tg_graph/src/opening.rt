@@ -112,9 +112,9 @@ fn empty_room<P: Payload>(
     ensures row { IfOk result (λ room. length room.row.items ≡ workers) }
     ensures remembered { IfOk result (λ room. room.cells.remembered.places ≡ []) }
 {
-    let cells = empty_cells(alloc, workers, limits)?;
     let places = Vec::with_capacity(alloc, workers as usize)?;
     let row = vec![in alloc; Rights::empty(); workers as usize]?;
+    let cells = empty_cells(alloc, workers, limits)?;
     Ok(Room { cells, places, row })
 }
 
