@@ -1,4 +1,4 @@
-use Rattle.std.proofs.Common.{◌≡◌, ◌++◌, ◌∷◌, ◌∙◌, ℕ, List, Option, [], map, take, get_or, sym, ap, append_assoc}
+use Rattle.std.proofs.Common.{◌++◌, ◌∷◌, ◌∙◌, ℕ, List, Option, [], map, take, get_or, sym, ap, append_assoc}
 use Rattle.std.proofs.lemmas.List.{map-append, take_more}
 use Rattle.tg_graph.specs.Index.{name_referred}
 use Rattle.tg_graph.proofs.rows.push_names.Goals as goal

@@ -1,13 +1,10 @@
 -- The heap that a nursery collection leaves.
-use Rattle.std.proofs.Common.{ℕ, List, IsSome, refl, sym, subst, ◌∙◌}
-use Rattle.std.specs.List.{All, Contains}
+use Rattle.std.proofs.Common.{refl, sym, subst, ◌∙◌}
 use Rattle.tg_space.specs.SpaceTable.{IsSpaceTable}
 use Rattle.tg_space.specs.declared.kind.Kind.TheVariants.{Nursery}
-use Rattle.tg_payload.specs.Table.{entry}
-use Rattle.tg_graph.specs.declared.settle.Rewritten.{Rewritten}
 use Rattle.tg_space.specs.Collection.{IsCollection}
 use Rattle.tg_graph.specs.Heap.{HeapState, roots_of}
-use Rattle.tg_graph.specs.Kept.{AreWritten, Drops, IsPrepared}
+use Rattle.tg_graph.specs.Kept.{IsPrepared}
 use Rattle.tg_graph.proofs.KeptBlocks.{nursery_written}
 use Rattle.tg_graph.proofs.KeptHeap.{IsLeft, indexed_beside}
 use Rattle.tg_graph.proofs.KeptSettled.{cells_there, nursery_left, payloads_there}
