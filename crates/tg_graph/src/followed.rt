@@ -80,9 +80,7 @@ fn follow_rows(
     let mut i = first;
     while i < rows.len() {
         match follow_row_at(spaces, kind, forward, noted, rows, i) {
-            Fate::Gone => {
-                rows.swap_remove_index(i);
-            }
+            Fate::Gone => drop(rows.swap_remove_index(i)),
             Fate::Young => i += 1,
             Fate::Old => {
                 rows.swap_indices(i, old);

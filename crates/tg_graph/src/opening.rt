@@ -112,18 +112,34 @@ fn empty_room<P: Payload>(
     ensures row { IfOk result (λ room. length room.row.items ≡ workers) }
     ensures remembered { IfOk result (λ room. room.cells.remembered.places ≡ []) }
 {
+    let places = Vec::with_capacity(alloc, workers as usize)?;
+    let row = vec![in alloc; Rights::empty(); workers as usize]?;
+    let cells = empty_cells(alloc, workers, limits)?;
+    Ok(Room { cells, places, row })
+}
+
+// Cells with no block, and room for so many payloads.
+fn empty_cells<P: Payload>(
+    alloc: Global,
+    workers: u64,
+    limits: Limits,
+) -> Result<Cells<P>, AllocError>
+    requires some { 1 ≤ workers }
+    requires few { workers ≤ 64 }
+    ensures spaces { IfOk result (λ cells. cells.spaces ≡ no_blocks workers limits) }
+    ensures payloads { IfOk result (λ cells. cells.payloads.entries ≡ []) }
+    ensures spare { IfOk result (λ cells. workers ≤ cells.payloads.spare) }
+    ensures remembered { IfOk result (λ cells. cells.remembered.places ≡ []) }
+{
     let spaces = Spaces::new(alloc, workers, limits)?;
     let mut payloads = PayloadTable::new(alloc);
     payloads.reserve(workers)?;
-    let places = Vec::with_capacity(alloc, workers as usize)?;
-    let row = vec![in alloc; Rights::empty(); workers as usize]?;
-    let cells = Cells {
+    Ok(Cells {
         alloc,
         spaces,
         payloads,
         remembered: Remembered::new(alloc),
-    };
-    Ok(Room { cells, places, row })
+    })
 }
 
 // Gives each nursery its first block.

@@ -47,7 +47,7 @@ pub fn serve<P: Payload + Send, R: Threads + Wait + Sync, C: Collector, S: Sourc
     let workers = drafts_of(alloc, payloads.workers)?;
     let stock = drafts_of(alloc, payloads.stock)?;
     if start.race {
-        return match run_race(
+        return run_race(
             rt,
             alloc,
             source,
@@ -56,12 +56,10 @@ pub fn serve<P: Payload + Send, R: Threads + Wait + Sync, C: Collector, S: Sourc
             start.settings,
             workers,
             stock,
-        ) {
-            Ok(()) => Ok(()),
-            Err(fault) => Err(Stop::Race(fault)),
-        };
+        )
+        .map_err(Stop::Race);
     }
-    match run_script_with(
+    run_script_with(
         alloc,
         collector,
         source,
@@ -69,8 +67,6 @@ pub fn serve<P: Payload + Send, R: Threads + Wait + Sync, C: Collector, S: Sourc
         start.settings,
         workers,
         stock,
-    ) {
-        Ok(()) => Ok(()),
-        Err(fault) => Err(Stop::Script(fault)),
-    }
+    )
+    .map_err(Stop::Script)
 }

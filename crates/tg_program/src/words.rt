@@ -135,17 +135,32 @@ fn limits_of(blocks: u64) -> Limits
 fn command<'a>(alloc: Global) -> Result<Command<'a>, Error>
     ensures { IfOk result (λ command. app_of command ≡ command_line) }
 {
+    let options = vec![in alloc;
+        number_arg(alloc, "workers", help::WORKERS),
+        number_arg(alloc, "helpers", help::HELPERS),
+        number_arg(alloc, "vertices", help::VERTICES),
+        number_arg(alloc, "blocks", help::BLOCKS),
+        option_arg(alloc, "stock", "TEXT", help::STOCK),
+        race_arg(alloc),
+    ]?;
     let command = Command::new(alloc, "tgstore")
         .bin_name("tgstore")?
         .about(help::ABOUT)
         .after_help(help::MANUAL)
-        .arg(number_arg(alloc, "workers", help::WORKERS))?
-        .arg(number_arg(alloc, "helpers", help::HELPERS))?
-        .arg(number_arg(alloc, "vertices", help::VERTICES))?
-        .arg(number_arg(alloc, "blocks", help::BLOCKS))?
-        .arg(stock_arg(alloc))?
-        .arg(race_arg(alloc))?;
+        .args(options)?;
     Ok(command)
+}
+
+// An option with one value.
+fn option_arg<'a>(alloc: Global, name: &'a str, value: &'a str, help: &'a str) -> Arg<'a>
+    ensures rule { rule_of result ≡ option_rule name.entry.now }
+    ensures local { result.global ≡ false }
+{
+    Arg::new(alloc, name)
+        .long(name)
+        .value_name(value)
+        .help(help)
+        .action(ArgAction::Set)
 }
 
 // An option whose value is a number.
@@ -153,24 +168,7 @@ fn number_arg<'a>(alloc: Global, name: &'a str, help: &'a str) -> Arg<'a>
     ensures rule { rule_of result ≡ number_rule name.entry.now }
     ensures local { result.global ≡ false }
 {
-    Arg::new(alloc, name)
-        .long(name)
-        .value_name("N")
-        .help(help)
-        .action(ArgAction::Set)
-        .value_parser(clap::value_parser!(u64))
-}
-
-// The option of the stock.
-fn stock_arg<'a>(alloc: Global) -> Arg<'a>
-    ensures rule { rule_of result ≡ option_rule (codes "stock") }
-    ensures local { result.global ≡ false }
-{
-    Arg::new(alloc, "stock")
-        .long("stock")
-        .value_name("TEXT")
-        .help(help::STOCK)
-        .action(ArgAction::Set)
+    option_arg(alloc, name, "N", help).value_parser(clap::value_parser!(u64))
 }
 
 // The option of a race, which has no value.

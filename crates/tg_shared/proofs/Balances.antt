@@ -9,6 +9,7 @@ use Rattle.tg_model.specs.Graph.{ProtectionGraph}
 use Rattle.tg_model.specs.Opened.{Plan, start_of}
 use Rattle.tg_model.proofs.SoundLaws.{le-step-made}
 use Rattle.tg_journal.specs.declared.entry.Entry.{Entry}
+use Rattle.tg_journal.specs.History.{graph_after}
 use Rattle.tg_journal.proofs.HistoryLaws.{le-graph_after-made}
 use Rattle.tg_store.specs.Store.{StoreState, Enters, graph_of_store}
 use Rattle.tg_store.proofs.StandLaws.{graph-entered}
@@ -31,6 +32,19 @@ balanced_entered old new start sessions total next rest parts worker deed reply 
       enough = held.enough ∙ ap (λ (p : Plan). p.limit + 1) (sym opening);
       made = omega arith;
     }
+
+-- the same opening and the same entries make the same graph
+pub graph_same : (old new : StoreState) → new.entries ≡ old.entries → new.opening ≡ old.opening → graph_of_store new ≡ graph_of_store old
+graph_same old new entries opening = λ i. graph_after (start_of (opening i)) (entries i)
+
+pub balanced_same : (old new : StoreState) (start sessions total rest parts : ℕ) → IsBalanced old start sessions total rest parts
+    → new.entries ≡ old.entries → new.opening ≡ old.opening → IsBalanced new start sessions total rest parts
+balanced_same old new start sessions total rest parts held entries opening = record {
+  counted = ap (λ (es : List Entry). length es) entries ∙ held.counted;
+  cut = held.cut;
+  enough = held.enough ∙ ap (λ (p : Plan). p.limit + 1) (sym opening);
+  made = subst (λ (g : ProtectionGraph). sessions ≤ g.made) (sym (graph_same old new entries opening)) held.made;
+}
 
 -- a store that is shared has made its subjects at least
 pub opened_made : (s : StoreState) → s.opening.workers ≤ (graph_of_store s).made

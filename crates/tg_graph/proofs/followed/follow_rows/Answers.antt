@@ -36,18 +36,6 @@ loop-i-preserved-in-Gone c =
     let out = taken c.args.kind c.args.spaces.now.spaces c.args.forward.now.words c.args.noted.now.places c.loop-i.rows.entries c.follow_row_at.new.rows.entries c.loop-i.i (omega (arith, c.loop-i-test.true)) c.loop-i.invariant.0 c.follow_row_at.ensures.0 c.follow_row_at.ensures.1 c.follow_row_at.ensures.2 c.follow_row_at.ensures.3 c.swap_remove_index.result c.swap_remove_index.new.self.entries c.swap_remove_index.ensures.entry c.swap_remove_index.ensures.entries in
     (one_gone c.args.kind c.args.spaces.now.spaces c.args.forward.now.words c.args.noted.now.places c.loop-i.rows.entries c.follow_row_at.new.rows.entries c.loop-i.i (omega (arith, c.loop-i-test.true)) c.loop-i.invariant.0 c.follow_row_at.ensures.0 c.follow_row_at.ensures.1 c.follow_row_at.ensures.2 c.follow_row_at.ensures.3 _ c.swap_remove_index.new.self.entries out.0, aged_rest c.loop-i.rows.entries c.follow_row_at.new.rows.entries c.loop-i.old c.loop-i.i (omega (arith, c.loop-i-test.true)) c.loop-i.invariant.2 c.loop-i.invariant.1 c.follow_row_at.ensures.0 c.follow_row_at.ensures.1 c.follow_row_at.ensures.2 c.follow_row_at.ensures.3 c.follow_row_at.ensures.5 _ c.swap_remove_index.new.self.entries out.0, c.loop-i.invariant.2)
 
-pub loop-i-smaller-in-Gone-2 : goal.loop-i-smaller-in-Gone-2
-loop-i-smaller-in-Gone-2 c =
-    let long = later_long c.args.kind c.args.spaces.now.spaces c.args.forward.now.words c.args.noted.now.places c.loop-i.rows.entries c.follow_row_at.new.rows.entries c.loop-i.i (omega (arith, c.loop-i-test.true)) c.loop-i.invariant.0 c.follow_row_at.ensures.0 c.follow_row_at.ensures.1 c.follow_row_at.ensures.2 c.follow_row_at.ensures.3 in
-    let out = taken c.args.kind c.args.spaces.now.spaces c.args.forward.now.words c.args.noted.now.places c.loop-i.rows.entries c.follow_row_at.new.rows.entries c.loop-i.i (omega (arith, c.loop-i-test.true)) c.loop-i.invariant.0 c.follow_row_at.ensures.0 c.follow_row_at.ensures.1 c.follow_row_at.ensures.2 c.follow_row_at.ensures.3 c.swap_remove_index.result c.swap_remove_index.new.self.entries c.swap_remove_index.ensures.entry c.swap_remove_index.ensures.entries in
-    let short = out.1 in
-    omega (arith, long, short, c.loop-i-test.true)
-
-pub loop-i-preserved-in-Gone-2 : goal.loop-i-preserved-in-Gone-2
-loop-i-preserved-in-Gone-2 c =
-    let out = taken c.args.kind c.args.spaces.now.spaces c.args.forward.now.words c.args.noted.now.places c.loop-i.rows.entries c.follow_row_at.new.rows.entries c.loop-i.i (omega (arith, c.loop-i-test.true)) c.loop-i.invariant.0 c.follow_row_at.ensures.0 c.follow_row_at.ensures.1 c.follow_row_at.ensures.2 c.follow_row_at.ensures.3 c.swap_remove_index.result c.swap_remove_index.new.self.entries c.swap_remove_index.ensures.entry c.swap_remove_index.ensures.entries in
-    (one_gone c.args.kind c.args.spaces.now.spaces c.args.forward.now.words c.args.noted.now.places c.loop-i.rows.entries c.follow_row_at.new.rows.entries c.loop-i.i (omega (arith, c.loop-i-test.true)) c.loop-i.invariant.0 c.follow_row_at.ensures.0 c.follow_row_at.ensures.1 c.follow_row_at.ensures.2 c.follow_row_at.ensures.3 _ c.swap_remove_index.new.self.entries out.0, aged_rest c.loop-i.rows.entries c.follow_row_at.new.rows.entries c.loop-i.old c.loop-i.i (omega (arith, c.loop-i-test.true)) c.loop-i.invariant.2 c.loop-i.invariant.1 c.follow_row_at.ensures.0 c.follow_row_at.ensures.1 c.follow_row_at.ensures.2 c.follow_row_at.ensures.3 c.follow_row_at.ensures.5 _ c.swap_remove_index.new.self.entries out.0, c.loop-i.invariant.2)
-
 pub loop-i-smaller-in-Young : goal.loop-i-smaller-in-Young
 loop-i-smaller-in-Young c =
     let long = later_long c.args.kind c.args.spaces.now.spaces c.args.forward.now.words c.args.noted.now.places c.loop-i.rows.entries c.follow_row_at.new.rows.entries c.loop-i.i (omega (arith, c.loop-i-test.true)) c.loop-i.invariant.0 c.follow_row_at.ensures.0 c.follow_row_at.ensures.1 c.follow_row_at.ensures.2 c.follow_row_at.ensures.3 in

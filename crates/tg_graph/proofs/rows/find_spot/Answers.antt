@@ -1,4 +1,4 @@
-use Rattle.std.proofs.Common.{◌∙◌, sym, subst, [], length}
+use Rattle.std.proofs.Common.{◌∙◌, ◌<◌, sym, subst, [], length, arith}
 use Rattle.std.specs.List.{All}
 use Rattle.tg_space.specs.SpaceList.{cell_at, cells_of}
 use Rattle.tg_space.specs.Soundness.{IsReference}
@@ -33,3 +33,20 @@ row-preserved c =
     c.words-cell.ensures.words c.first_pointer-first.ensures.word c.row.invariant (sym c.in_default.is ∙ c.position_of.ensures.position) c.first_empty-empty.ensures
     c.if-cell-eq0.false c.place_of-at.result c.place_of-at.ensures in
     on.1
+
+-- a cell is left, since the row goes on
+pub overflow_sub-left : goal.overflow_sub-left
+overflow_sub-left c =
+    let h = c.args.spaces.now.spaces in
+    (search_goes_on h c.args.name c.args.from c.row.at c.row.left c.row.empty c.first_empty-empty.result c.words-cell.result.now c.first_pointer-first.result
+    c.words-cell.ensures.words c.first_pointer-first.ensures.word c.row.invariant (sym c.in_default.is ∙ c.position_of.ensures.position) c.first_empty-empty.ensures
+    c.if-cell-eq0.false c.place_of-at.result c.place_of-at.ensures).0
+
+pub row-smaller : goal.row-smaller
+row-smaller c = let some : 0 < c.row.left = overflow_sub-left c in omega arith
+
+pub words-cell-requires : goal.words-cell-requires
+words-cell-requires c = c.row.invariant.row.held
+
+pub returns-then-cell-eq0-clause-table : goal.returns-then-cell-eq0-clause-table
+returns-then-cell-eq0-clause-table c = c.cells-left.ensures.table

@@ -1,4 +1,4 @@
-use Rattle.std.proofs.Common.{sym, subst, []}
+use Rattle.std.proofs.Common.{sym, subst, [], ◌<◌, arith}
 use Rattle.std.specs.List.{All}
 use Rattle.tg_space.specs.SpaceList.{cell_at}
 use Rattle.tg_space.specs.Soundness.{IsReference}
@@ -36,3 +36,19 @@ row-preserved c =
     let h = c.args.spaces.now.spaces in
     (list_goes_on h c.args.from c.row.at c.row.left c.row.names.items c.push_names.new.names.items c.row.cells.items c.push.new.self.items c.words-cell.result.now c.first_pointer-first.result
     c.words-cell.ensures.words c.first_pointer-first.ensures.word c.row.invariant c.in_ok-push_names.ensures c.in_ok-push.ensures.items c.if-cell-eq0.false c.place_of-at.result c.place_of-at.ensures).1
+
+-- a cell is left, since the row goes on
+pub overflow_sub-left : goal.overflow_sub-left
+overflow_sub-left c =
+    let h = c.args.spaces.now.spaces in
+    (list_goes_on h c.args.from c.row.at c.row.left c.row.names.items c.push_names.new.names.items c.row.cells.items c.push.new.self.items c.words-cell.result.now c.first_pointer-first.result
+    c.words-cell.ensures.words c.first_pointer-first.ensures.word c.row.invariant c.in_ok-push_names.ensures c.in_ok-push.ensures.items c.if-cell-eq0.false c.place_of-at.result c.place_of-at.ensures).0
+
+pub row-smaller : goal.row-smaller
+row-smaller c = let some : 0 < c.row.left = overflow_sub-left c in omega arith
+
+pub words-cell-requires : goal.words-cell-requires
+words-cell-requires c = c.row.invariant.row.held
+
+pub returns-then-cell-eq0-clause-table : goal.returns-then-cell-eq0-clause-table
+returns-then-cell-eq0-clause-table c = c.cells-left.ensures.table

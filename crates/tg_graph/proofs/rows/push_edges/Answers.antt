@@ -1,9 +1,10 @@
-use Rattle.std.proofs.Common.{◌≡◌, ℕ, ◌<◌, Bool, true, false, Some, None, List, [], ◌∷◌, ◌++◌, ◌+◌, length, get_or, take, refl, ap, sym, ◌∙◌, append_assoc, append-nil}
+use Rattle.std.proofs.Common.{◌≡◌, ℕ, ◌<◌, Bool, true, false, Some, None, List, [], ◌∷◌, ◌++◌, ◌+◌, length, get_or, take, refl, ap, subst, sym, ◌∙◌, ⊎_elim, append_assoc, append-nil}
 use Rattle.std.proofs.lemmas.List.{take_more}
 use Rattle.tg_rights.specs.RightSet.{RightSet, is_none_held, label_of}
 use Rattle.tg_word.specs.declared.Place.{Place}
-use Rattle.tg_word.specs.Word.{rights_in}
-use Rattle.tg_space.specs.SpaceList.{SpaceList}
+use Rattle.tg_word.specs.Word.{place_in, rights_in}
+use Rattle.tg_space.specs.SpaceList.{Holds, SpaceList}
+use Rattle.tg_space.specs.Soundness.{RefersTo}
 use Rattle.tg_graph.specs.Rows.{edges_in, name_at, name_in}
 use Rattle.tg_graph.proofs.Walks.{edges_in-append}
 use Rattle.tg_graph.proofs.rows.push_edges.Goals as goal
@@ -48,3 +49,12 @@ loop-word-preserved c =
           edges_more h words i c.args.edges.now.items c.loop-word.edges.items [] c.match-new.edges.items c.loop-word-test.true c.loop-word.invariant
           (edge_none h word (sym label ∙ w.in_default.is)) (rw w.edges-is (sym (append-nil c.loop-word.edges.items)))
     ]
+
+pub read-requires-clause-held : goal.read-requires-clause-held
+read-requires-clause-held c =
+    let h = c.args.spaces.now.spaces in
+    let word = get_or c.args.words.now c.loop-word.word-index 0 in
+    let some : label_of (rights_in word) ≡ Some c.in-Some.label = sym (c.new.ensures ∙ ap label_of c.rights_of.ensures) ∙ c.in-Some.is in
+    let held : Holds h (place_in word) =
+    ⊎_elim (λ (zero : word ≡ 0). let none : label_of (rights_in word) ≡ None = ap (λ (w : ℕ). label_of (rights_in w)) zero in absurd cc) (λ (to : RefersTo h word). to.object.held) (c.requires c.loop-word.word-index 0 c.loop-word-test.true) in
+    subst (Holds h) (sym c.place_of.ensures) held

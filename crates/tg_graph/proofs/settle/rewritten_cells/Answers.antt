@@ -37,3 +37,18 @@ loop-i-preserved c =
     ∙ ap (λ (cells : List Rewritten). cells ++ of c.image-words.result ∷ []) c.loop-i.invariant
     ∙ ap (λ (ws : List ℕ). map (rewritten_at h forward) (take c.loop-i.i places) ++ of ws ∷ []) words
     ∙ sym (mapped_more (rewritten_at h forward) places c.loop-i.i c.nth-place.result c.nth-place.ensures)
+
+pub cell-requires : goal.cell-requires
+cell-requires c =
+    let places = c.args.remembered.now.places in
+    let p = c.nth-place.result in
+    let low = slice_get_within places c.loop-i.i p c.nth-place.ensures in
+    let here : Some (get_or places c.loop-i.i p) ≡ Some p = sym (slice_get-get_or places c.loop-i.i p low) ∙ c.nth-place.ensures in
+    let same : get_or places c.loop-i.i p ≡ p = cc in
+    subst (Holds c.args.spaces.now.spaces) same (c.requires.held c.loop-i.i p low).held
+
+pub image-words-requires-clause-whole : goal.image-words-requires-clause-whole
+image-words-requires-clause-whole c = c.requires.whole
+
+pub image-words-requires-clause-places : goal.image-words-requires-clause-places
+image-words-requires-clause-places c = c.requires.places

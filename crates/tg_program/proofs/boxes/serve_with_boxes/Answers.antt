@@ -3,6 +3,7 @@ use Rattle.tg_payload.specs.contracts.payload.BoxDynPayloadSendPayload.TheImpl.{
 use Rattle.tg_text.specs.declared.stock.StockItem.{StockItem}
 use Rattle.tg_text.specs.declared.stock.StockItem.TheVariants.{Cell, Sum, Max, Log}
 use Rattle.tg_program.specs.Boxes.{value_of}
+use Rattle.tg_program.proofs.ServingLaws.{served_none, wanting, wanting_status}
 use Rattle.tg_program.proofs.BoxLaws.{cell_of, sum_of, max_of, log_of, one_more, next_one}
 use Rattle.tg_program.proofs.boxes.serve_with_boxes.OwnLists.{own-1, lawful-own-1, at-1-1, at-1-2, at-1-3, at-1-4}
 use denote.Param.Object.{read_made}
@@ -54,3 +55,65 @@ loop-item-preserved g c =
           let next = take_more items i Cell c.loop-item-test.true ∙ ap (λ (x : StockItem). take i items ++ x ∷ []) w.in-Log.is in
           next_one f value_of old new b items i Log c.in_ok-push-2.ensures.items c.loop-item.invariant next made
     ]
+
+pub returns-in_err-new : goal.returns-in_err-new
+returns-in_err-new g c =
+    let is = wanting c.from_residual.result c.from_residual.ensures.1 in
+    record {
+      status = wanting_status c.from_residual.result is;
+      output = λ bytes before left taken. (bytes, left, served_none c.args.start.now bytes before c.from_residual.result bytes _ is refl taken);
+    }
+
+pub returns-in_err-push : goal.returns-in_err-push
+returns-in_err-push g c =
+    let is = wanting c.from_residual-in_err-push.result c.from_residual-in_err-push.ensures.1 in
+    record {
+      status = wanting_status c.from_residual-in_err-push.result is;
+      output = λ bytes before left taken. (bytes, left, served_none c.args.start.now bytes before c.from_residual-in_err-push.result bytes _ is refl taken);
+    }
+
+pub returns-in_err-new-in-Cell : goal.returns-in_err-new-in-Cell
+returns-in_err-new-in-Cell g c =
+    let is = wanting c.from_residual-in_err-new-in-Cell.result c.from_residual-in_err-new-in-Cell.ensures.1 in
+    record {
+      status = wanting_status c.from_residual-in_err-new-in-Cell.result is;
+      output = λ bytes before left taken. (bytes, left, served_none c.args.start.now bytes before c.from_residual-in_err-new-in-Cell.result bytes _ is refl taken);
+    }
+
+pub returns-in_err-new-in-Sum : goal.returns-in_err-new-in-Sum
+returns-in_err-new-in-Sum g c =
+    let is = wanting c.from_residual-in_err-new-in-Sum.result c.from_residual-in_err-new-in-Sum.ensures.1 in
+    record {
+      status = wanting_status c.from_residual-in_err-new-in-Sum.result is;
+      output = λ bytes before left taken. (bytes, left, served_none c.args.start.now bytes before c.from_residual-in_err-new-in-Sum.result bytes _ is refl taken);
+    }
+
+pub returns-in_err-new-in-Max : goal.returns-in_err-new-in-Max
+returns-in_err-new-in-Max g c =
+    let is = wanting c.from_residual-in_err-new-in-Max.result c.from_residual-in_err-new-in-Max.ensures.1 in
+    record {
+      status = wanting_status c.from_residual-in_err-new-in-Max.result is;
+      output = λ bytes before left taken. (bytes, left, served_none c.args.start.now bytes before c.from_residual-in_err-new-in-Max.result bytes _ is refl taken);
+    }
+
+pub returns-in_err-new-in-Log : goal.returns-in_err-new-in-Log
+returns-in_err-new-in-Log g c =
+    let is = wanting c.from_residual-in_err-new-in-Log.result c.from_residual-in_err-new-in-Log.ensures.1 in
+    record {
+      status = wanting_status c.from_residual-in_err-new-in-Log.result is;
+      output = λ bytes before left taken. (bytes, left, served_none c.args.start.now bytes before c.from_residual-in_err-new-in-Log.result bytes _ is refl taken);
+    }
+
+pub returns-in_err-push-2 : goal.returns-in_err-push-2
+returns-in_err-push-2 g c =
+    let is = wanting c.from_residual-in_err-push-2.result c.from_residual-in_err-push-2.ensures.1 in
+    record {
+      status = wanting_status c.from_residual-in_err-push-2.result is;
+      output = λ bytes before left taken. (bytes, left, served_none c.args.start.now bytes before c.from_residual-in_err-push-2.result bytes _ is refl taken);
+    }
+
+pub returns : goal.returns
+returns g c = record {
+  status = c.serve.ensures.status;
+  output = c.serve.ensures.output;
+}

@@ -1,11 +1,35 @@
-use Rattle.std.proofs.Common.{◌≡◌, ◌↔◌, ◌<◌, ℕ, length, subst}
+use Rattle.std.proofs.Common.{◌≡◌, ◌↔◌, ◌<◌, ◌+◌, ◌∙◌, ℕ, List, length, drop, sym, subst}
+use Rattle.tg_store.specs.Store.{StoreState}
 use Rattle.tg_shared.specs.declared.closing.CloseFault.{CloseFault}
+use Rattle.tg_shared.specs.Sessions.{AreSharedOut, GoesOn, MayClose, SessionState, count_of}
 use Rattle.tg_shared.proofs.shared.close.Goals as goal
 
-pub returns-in-Err-clause-missing : goal.returns-in-Err-clause-missing
-returns-in-Err-clause-missing g c =
-    subst (λ (made : ℕ). (c.in-Err.refused.why ≡ CloseFault.SessionsMissing) ↔ (length c.args.sessions.items < made)) c.store.ensures.sessions c.in-Err.ensures.missing
+pub returns-in-Ok : goal.returns-in-Ok
+returns-in-Ok g c =
+    let items : List SessionState = c.args.sessions.items in
+    let start : ℕ = length g.L.Round.start.entries in
+    let same : c.into_inner-locked.result.store ≡ c.in-Ok.store = sym c.in-Ok.ensures.store in
+    record {
+      matching = subst (λ (s : StoreState). MayClose s.entries start items) same c.in-Ok.ensures.matching;
+      count = subst (λ (s : StoreState). length s.entries ≡ start + count_of items) same c.in-Ok.ensures.count;
+      shared_out = subst (λ (s : StoreState). AreSharedOut (drop start s.entries) items) same c.in-Ok.ensures.shared_out;
+      faithful = c.journal.ensures.faithful;
+      gone_on = subst (λ (s : StoreState). GoesOn g.L.Round.start s) same c.in-Ok.ensures.gone_on;
+      all = c.in-Ok.ensures.all ∙ c.store.ensures.sessions;
+      missing = subst (λ (made : ℕ). ⊥ ↔ (length items < made)) c.store.ensures.sessions c.in-Ok.ensures.missing;
+      mismatch = tt;
+      handed_back = tt;
+    }
 
-pub returns-in-Err-clause-mismatch : goal.returns-in-Err-clause-mismatch
-returns-in-Err-clause-mismatch g c =
-    λ why. (c.into_inner-locked.result.store, c.store.ensures.gone_on, c.store.ensures.faithful, (c.in-Err.ensures.mismatch.0 why).1)
+pub returns-in-Err : goal.returns-in-Err
+returns-in-Err g c = record {
+  matching = tt;
+  count = tt;
+  shared_out = tt;
+  faithful = tt;
+  gone_on = tt;
+  all = tt;
+  missing = subst (λ (made : ℕ). (c.in-Err.refused.why ≡ CloseFault.SessionsMissing) ↔ (length c.args.sessions.items < made)) c.store.ensures.sessions c.in-Err.ensures.missing;
+  mismatch = λ why. (c.into_inner-locked.result.store, c.store.ensures.gone_on, c.store.ensures.faithful, (c.in-Err.ensures.mismatch.0 why).1);
+  handed_back = c.in-Err.ensures.handed_back.1;
+}

@@ -1,4 +1,4 @@
-use Rattle.std.proofs.Common.{◌≡◌, ◌≢◌, ◌∙◌, ◌+◌, List, Option, true, false, ap, arith, subst, sym}
+use Rattle.std.proofs.Common.{◌≡◌, ◌≢◌, ◌∙◌, ◌+◌, List, Option, true, false, ap, arith, refl, subst, sym}
 use Rattle.tg_nursery.specs.Allocation.{room_made_for}
 use Rattle.tg_graph.specs.Spots.{IsSpotFor, cells_for, note_for, table_put, with_note}
 use Rattle.tg_space.specs.SpaceTable.{SpaceTable}
@@ -75,3 +75,33 @@ returns-clause-others g c =
     others_added c.args.self.now.spaces c.make_room.new.self.spaces c.args.self.now.payloads c.find_spot-spot.ensures.table made.table c.requires.graph (c.args.worker + 2) c.cells.result c.requires.worker made.spaces
     c.args.from c.requires.from c.read-name.result c.find_spot-spot.result c.find_spot-spot.ensures.spot made.left c.cells.ensures
     c.args.to c.requires.to c.read-name.ensures c.args.rights c.requires.some (omega arith) c.put.new.spaces c.put.ensures r s places other at index
+
+pub read-name-requires-clause-held : goal.read-name-requires-clause-held
+read-name-requires-clause-held g c = c.requires.to.held
+
+pub find_spot-spot-requires-clause-sound : goal.find_spot-spot-requires-clause-sound
+find_spot-spot-requires-clause-sound g c = c.requires.graph.sound
+
+pub find_spot-spot-requires-clause-row : goal.find_spot-spot-requires-clause-row
+find_spot-spot-requires-clause-row g c = record { object = c.requires.from; ends = c.requires.graph.ends c.args.from c.requires.from }
+
+pub make_room-requires-clause-few : goal.make_room-requires-clause-few
+make_room-requires-clause-few g c = let few = c.find_spot-spot.ensures.table.few in omega (arith, few, c.requires.worker)
+
+pub make_room-requires-clause-few_cells : goal.make_room-requires-clause-few_cells
+make_room-requires-clause-few_cells g c = omega (arith, cells_few c.find_spot-spot.result, c.cells.ensures)
+
+pub make_room-requires-clause-nursery : goal.make_room-requires-clause-nursery
+make_room-requires-clause-nursery g c = c.requires.worker
+
+pub remember-requires : goal.remember-requires
+remember-requires g c = c.in_ok-make_room.ensures.note
+
+pub returns-clause-payloads : goal.returns-clause-payloads
+returns-clause-payloads g c = c.make_room.ensures.payloads
+
+pub returns-clause-full : goal.returns-clause-full
+returns-clause-full g c = λ is. absurd (cc is)
+
+pub returns-clause-had_room : goal.returns-clause-had_room
+returns-clause-had_room g c = λ left none. refl

@@ -77,3 +77,102 @@ returns-clause-indexed g c =
     let written = updates-with_value_at c.rows.inside.indexes c.in-Some.at c.add_edge_indexed.new.row nat_eq_equiv c.get_index_mut.ensures.unique own was.row was.here in
     indexes_written t.spaces new.spaces vertices c.args.from c.requires.from c.add_edge_indexed.ensures.others before c.add_edge_indexed.new.self.remembered.places quieter c.rows.inside.indexes.entries indexed own refl
     (set_value_at c.rows.inside.indexes.entries c.in-Some.at c.add_edge_indexed.new.row) c.add_edge_indexed.new.row written.0 c.add_edge_indexed.ensures.index (c.add_edge_indexed.ensures.quiet was_quiet)
+
+pub young_place-requires-clause-graph : goal.young_place-requires-clause-graph
+young_place-requires-clause-graph g c = c.requires.graph
+
+pub young_place-requires-clause-from : goal.young_place-requires-clause-from
+young_place-requires-clause-from g c = c.requires.from
+
+pub young_place-requires-clause-indexed : goal.young_place-requires-clause-indexed
+young_place-requires-clause-indexed g c = c.requires.indexed
+
+pub add_edge-requires-clause-worker : goal.add_edge-requires-clause-worker
+add_edge-requires-clause-worker g c = c.requires.worker
+
+pub add_edge_indexed-requires-clause-worker : goal.add_edge_indexed-requires-clause-worker
+add_edge_indexed-requires-clause-worker g c = c.requires.worker
+
+pub add_edge-requires-clause-graph : goal.add_edge-requires-clause-graph
+add_edge-requires-clause-graph g c = c.requires.graph
+
+pub add_edge_indexed-requires-clause-graph : goal.add_edge_indexed-requires-clause-graph
+add_edge_indexed-requires-clause-graph g c = c.requires.graph
+
+pub add_edge-requires-clause-from : goal.add_edge-requires-clause-from
+add_edge-requires-clause-from g c = c.requires.from
+
+pub add_edge_indexed-requires-clause-from : goal.add_edge_indexed-requires-clause-from
+add_edge_indexed-requires-clause-from g c = c.requires.from
+
+pub add_edge-requires-clause-to : goal.add_edge-requires-clause-to
+add_edge-requires-clause-to g c = c.requires.to
+
+pub add_edge_indexed-requires-clause-to : goal.add_edge_indexed-requires-clause-to
+add_edge_indexed-requires-clause-to g c = c.requires.to
+
+pub add_edge-requires-clause-some : goal.add_edge-requires-clause-some
+add_edge-requires-clause-some g c = c.requires.some
+
+pub add_edge_indexed-requires-clause-some : goal.add_edge_indexed-requires-clause-some
+add_edge_indexed-requires-clause-some g c = c.requires.some
+
+pub returns-in_default-place-clause-added : goal.returns-in_default-place-clause-added
+returns-in_default-place-clause-added g c = c.add_edge.ensures.added
+
+pub returns-clause-added : goal.returns-clause-added
+returns-clause-added g c = c.add_edge_indexed.ensures.added
+
+pub returns-in_default-place-clause-payloads : goal.returns-in_default-place-clause-payloads
+returns-in_default-place-clause-payloads g c = c.add_edge.ensures.payloads
+
+pub returns-clause-payloads : goal.returns-clause-payloads
+returns-clause-payloads g c = c.add_edge_indexed.ensures.payloads
+
+pub returns-in_default-place-clause-refused : goal.returns-in_default-place-clause-refused
+returns-in_default-place-clause-refused g c = c.add_edge.ensures.refused
+
+pub returns-clause-refused : goal.returns-clause-refused
+returns-clause-refused g c = c.add_edge_indexed.ensures.refused
+
+pub returns-in_default-place-clause-full : goal.returns-in_default-place-clause-full
+returns-in_default-place-clause-full g c = c.add_edge.ensures.full
+
+pub returns-clause-full : goal.returns-clause-full
+returns-clause-full g c = c.add_edge_indexed.ensures.full
+
+pub returns-in_default-place-clause-placed : goal.returns-in_default-place-clause-placed
+returns-in_default-place-clause-placed g c = c.add_edge.ensures.placed
+
+pub returns-clause-placed : goal.returns-clause-placed
+returns-clause-placed g c = c.add_edge_indexed.ensures.placed
+
+pub returns-in_default-place-clause-remembered : goal.returns-in_default-place-clause-remembered
+returns-in_default-place-clause-remembered g c = c.add_edge.ensures.remembered
+
+pub returns-clause-remembered : goal.returns-clause-remembered
+returns-clause-remembered g c = c.add_edge_indexed.ensures.remembered
+
+pub returns-in_default-place-clause-places : goal.returns-in_default-place-clause-places
+returns-in_default-place-clause-places g c = c.add_edge.ensures.places
+
+pub returns-clause-places : goal.returns-clause-places
+returns-clause-places g c = c.add_edge_indexed.ensures.places
+
+pub returns-in_default-clause-payloads : goal.returns-in_default-clause-payloads
+returns-in_default-clause-payloads g c = refl
+
+pub returns-in_default-clause-refused : goal.returns-in_default-clause-refused
+returns-in_default-clause-refused g c = refl
+
+pub returns-in_default-clause-places : goal.returns-in_default-clause-places
+returns-in_default-clause-places g c = refl
+
+pub returns-in_default-clause-remembered : goal.returns-in_default-clause-remembered
+returns-in_default-clause-remembered g c = λ before. before
+
+pub returns-in_default-clause-full : goal.returns-in_default-clause-full
+returns-in_default-clause-full g c = λ is. absurd (cc is)
+
+pub returns-in_default-clause-indexed : goal.returns-in_default-clause-indexed
+returns-in_default-clause-indexed g c = c.young_place.ensures.indexed

@@ -1,9 +1,11 @@
-use Rattle.std.proofs.Common.{◌≡◌, ◌∙◌, ◌+◌, ℕ, List, Option, Err, arith, refl, ap, subst, sym}
+use Rattle.std.proofs.Common.{◌≡◌, ◌∙◌, ◌+◌, ◌<◌, ℕ, List, Option, Err, arith, refl, ap, subst, sym}
+use Rattle.std.specs.Prelude.{IfSome}
 use Rattle.tg_remember.specs.Notes.{Notes}
 use Rattle.tg_word.specs.declared.Place.{Place}
 use Rattle.tg_space.specs.SpaceTable.{SpaceTable}
 use Rattle.tg_space.specs.declared.allocate_fault.AllocateFault.{AllocateFault}
 use Rattle.tg_space.proofs.Tables.{table_list}
+use Rattle.tg_space.specs.Generations.{AreRemembered}
 use Rattle.tg_graph.specs.Heap.{IsOutOfCells}
 use Rattle.tg_graph.specs.Index.{IsRowIndex}
 use Rattle.tg_graph.specs.Spots.{with_note}
@@ -11,7 +13,7 @@ use Rattle.tg_graph.proofs.IndexMoved.{kept_rows_index}
 use Rattle.tg_graph.proofs.IndexOthers.{others_put}
 use Rattle.tg_graph.proofs.MadeVertices.{made_in_row}
 use Rattle.tg_graph.proofs.Growing.{found_placed, left_over, made_room, object_placed, grown_graph, placed_can, still_fresh, vertex_made, vertex_remembered}
-use Rattle.tg_graph.proofs.Remembering.{AreNoted}
+use Rattle.tg_graph.proofs.Remembering.{AreNoted, cells_few}
 use Rattle.tg_graph.proofs.cells.Cells.new_vertex.Goals as goal
 
 pub place_vertex-to-requires-clause-graph : goal.place_vertex-to-requires-clause-graph
@@ -114,3 +116,48 @@ returns-in-Err-clause-full g c =
       found = c.find_spot-spot.ensures.spot;
       out = subst (λ (n : ℕ). IsOutOfCells c.args.self.now.spaces (c.args.worker + 2) (1 + n)) c.cells.ensures (record { few_left = out.0; full = out.1 });
     }
+
+pub find_spot-spot-requires-clause-sound : goal.find_spot-spot-requires-clause-sound
+find_spot-spot-requires-clause-sound g c = c.requires.graph.sound
+
+pub find_spot-spot-requires-clause-row : goal.find_spot-spot-requires-clause-row
+find_spot-spot-requires-clause-row g c = record { object = c.requires.from; ends = c.requires.graph.ends c.args.from c.requires.from }
+
+pub make_vertex_room-requires-clause-few : goal.make_vertex_room-requires-clause-few
+make_vertex_room-requires-clause-few g c = let few = c.find_spot-spot.ensures.table.few in omega (arith, few, c.requires.worker)
+
+pub make_vertex_room-requires-clause-few_cells : goal.make_vertex_room-requires-clause-few_cells
+make_vertex_room-requires-clause-few_cells g c = omega (arith, cells_few c.find_spot-spot.result, c.cells.ensures)
+
+pub make_vertex_room-requires-clause-nursery : goal.make_vertex_room-requires-clause-nursery
+make_vertex_room-requires-clause-nursery g c = c.requires.worker
+
+pub place_vertex-to-requires-clause-table : goal.place_vertex-to-requires-clause-table
+place_vertex-to-requires-clause-table g c = c.in_default.ensures.table
+
+pub place_vertex-to-requires-clause-spare : goal.place_vertex-to-requires-clause-spare
+place_vertex-to-requires-clause-spare g c = c.in_default.ensures.spare
+
+pub remember-requires : goal.remember-requires
+remember-requires g c = subst (λ (n : Notes). IfSome c.note-note.result (λ _. 0 < n.spare)) (sym c.place_vertex-to.ensures.notes) c.in_default.ensures.note
+
+pub returns-in-Err-clause-handed_back : goal.returns-in-Err-clause-handed_back
+returns-in-Err-clause-handed_back g c = refl
+
+pub returns-in-Err-clause-spaces : goal.returns-in-Err-clause-spaces
+returns-in-Err-clause-spaces g c = c.in-Err.ensures.refused
+
+pub returns-in-Err-clause-payloads : goal.returns-in-Err-clause-payloads
+returns-in-Err-clause-payloads g c = c.make_vertex_room.ensures.payloads
+
+pub returns-in-Err-clause-places : goal.returns-in-Err-clause-places
+returns-in-Err-clause-places g c = c.make_vertex_room.ensures.remembered
+
+pub returns-in-Err-clause-remembered : goal.returns-in-Err-clause-remembered
+returns-in-Err-clause-remembered g c =
+    λ before.
+    subst (λ (t : SpaceTable). AreRemembered t.spaces c.make_vertex_room.new.self.remembered.places) (sym c.in-Err.ensures.refused)
+    (subst (λ (ps : List Place). AreRemembered c.args.self.now.spaces.spaces ps) (sym c.make_vertex_room.ensures.remembered) before)
+
+pub returns-in-Err-clause-others : goal.returns-in-Err-clause-others
+returns-in-Err-clause-others g c = λ r s places other at index. subst (λ (t : SpaceTable). IsRowIndex t.spaces r s places) (sym c.in-Err.ensures.refused) index

@@ -77,3 +77,111 @@ returns-clause-indexed g c =
     let written = updates-with_value_at c.rows.inside.indexes c.in-Some.at c.new_vertex_indexed.new.row nat_eq_equiv c.get_index_mut.ensures.unique own was.row was.here in
     indexes_written t.spaces new.spaces vertices c.args.from c.requires.from c.new_vertex_indexed.ensures.others before c.new_vertex_indexed.new.self.remembered.places quieter c.rows.inside.indexes.entries indexed own refl
     (set_value_at c.rows.inside.indexes.entries c.in-Some.at c.new_vertex_indexed.new.row) c.new_vertex_indexed.new.row written.0 c.new_vertex_indexed.ensures.index (c.new_vertex_indexed.ensures.quiet was_quiet)
+
+pub young_place-requires-clause-graph : goal.young_place-requires-clause-graph
+young_place-requires-clause-graph g c = c.requires.graph
+
+pub young_place-requires-clause-from : goal.young_place-requires-clause-from
+young_place-requires-clause-from g c = c.requires.from
+
+pub young_place-requires-clause-indexed : goal.young_place-requires-clause-indexed
+young_place-requires-clause-indexed g c = c.requires.indexed
+
+pub new_vertex-requires-clause-worker : goal.new_vertex-requires-clause-worker
+new_vertex-requires-clause-worker g c = c.requires.worker
+
+pub new_vertex_indexed-requires-clause-worker : goal.new_vertex_indexed-requires-clause-worker
+new_vertex_indexed-requires-clause-worker g c = c.requires.worker
+
+pub new_vertex-requires-clause-graph : goal.new_vertex-requires-clause-graph
+new_vertex-requires-clause-graph g c = c.requires.graph
+
+pub new_vertex_indexed-requires-clause-graph : goal.new_vertex_indexed-requires-clause-graph
+new_vertex_indexed-requires-clause-graph g c = c.requires.graph
+
+pub new_vertex-requires-clause-from : goal.new_vertex-requires-clause-from
+new_vertex-requires-clause-from g c = c.requires.from
+
+pub new_vertex_indexed-requires-clause-from : goal.new_vertex_indexed-requires-clause-from
+new_vertex_indexed-requires-clause-from g c = c.requires.from
+
+pub new_vertex-requires-clause-some : goal.new_vertex-requires-clause-some
+new_vertex-requires-clause-some g c = c.requires.some
+
+pub new_vertex_indexed-requires-clause-some : goal.new_vertex_indexed-requires-clause-some
+new_vertex_indexed-requires-clause-some g c = c.requires.some
+
+pub new_vertex-requires-clause-fresh : goal.new_vertex-requires-clause-fresh
+new_vertex-requires-clause-fresh g c = c.requires.fresh
+
+pub new_vertex_indexed-requires-clause-fresh : goal.new_vertex_indexed-requires-clause-fresh
+new_vertex_indexed-requires-clause-fresh g c = c.requires.fresh
+
+pub returns-in_default-place-clause-made : goal.returns-in_default-place-clause-made
+returns-in_default-place-clause-made g c = c.new_vertex.ensures.made
+
+pub returns-clause-made : goal.returns-clause-made
+returns-clause-made g c = c.new_vertex_indexed.ensures.made
+
+pub returns-in_default-place-clause-handed_back : goal.returns-in_default-place-clause-handed_back
+returns-in_default-place-clause-handed_back g c = c.new_vertex.ensures.handed_back
+
+pub returns-clause-handed_back : goal.returns-clause-handed_back
+returns-clause-handed_back g c = c.new_vertex_indexed.ensures.handed_back
+
+pub returns-in_default-place-clause-spaces : goal.returns-in_default-place-clause-spaces
+returns-in_default-place-clause-spaces g c = c.new_vertex.ensures.spaces
+
+pub returns-clause-spaces : goal.returns-clause-spaces
+returns-clause-spaces g c = c.new_vertex_indexed.ensures.spaces
+
+pub returns-in_default-place-clause-payloads : goal.returns-in_default-place-clause-payloads
+returns-in_default-place-clause-payloads g c = c.new_vertex.ensures.payloads
+
+pub returns-clause-payloads : goal.returns-clause-payloads
+returns-clause-payloads g c = c.new_vertex_indexed.ensures.payloads
+
+pub returns-in_default-place-clause-places : goal.returns-in_default-place-clause-places
+returns-in_default-place-clause-places g c = c.new_vertex.ensures.places
+
+pub returns-clause-places : goal.returns-clause-places
+returns-clause-places g c = c.new_vertex_indexed.ensures.places
+
+pub returns-in_default-place-clause-remembered : goal.returns-in_default-place-clause-remembered
+returns-in_default-place-clause-remembered g c = c.new_vertex.ensures.remembered
+
+pub returns-clause-remembered : goal.returns-clause-remembered
+returns-clause-remembered g c = c.new_vertex_indexed.ensures.remembered
+
+pub returns-in_default-place-clause-placed : goal.returns-in_default-place-clause-placed
+returns-in_default-place-clause-placed g c = c.new_vertex.ensures.placed
+
+pub returns-clause-placed : goal.returns-clause-placed
+returns-clause-placed g c = c.new_vertex_indexed.ensures.placed
+
+pub returns-in_default-place-clause-full : goal.returns-in_default-place-clause-full
+returns-in_default-place-clause-full g c = c.new_vertex.ensures.full
+
+pub returns-clause-full : goal.returns-clause-full
+returns-clause-full g c = c.new_vertex_indexed.ensures.full
+
+pub returns-in_default-clause-handed_back : goal.returns-in_default-clause-handed_back
+returns-in_default-clause-handed_back g c = refl
+
+pub returns-in_default-clause-spaces : goal.returns-in_default-clause-spaces
+returns-in_default-clause-spaces g c = refl
+
+pub returns-in_default-clause-payloads : goal.returns-in_default-clause-payloads
+returns-in_default-clause-payloads g c = refl
+
+pub returns-in_default-clause-places : goal.returns-in_default-clause-places
+returns-in_default-clause-places g c = refl
+
+pub returns-in_default-clause-remembered : goal.returns-in_default-clause-remembered
+returns-in_default-clause-remembered g c = λ before. before
+
+pub returns-in_default-clause-full : goal.returns-in_default-clause-full
+returns-in_default-clause-full g c = λ is. absurd (cc is)
+
+pub returns-in_default-clause-indexed : goal.returns-in_default-clause-indexed
+returns-in_default-clause-indexed g c = c.young_place.ensures.indexed

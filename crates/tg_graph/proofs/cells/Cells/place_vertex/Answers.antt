@@ -1,7 +1,7 @@
-use Rattle.std.proofs.Common.{◌∙◌, ◌<◌, ap, arith, length, subst, sym}
+use Rattle.std.proofs.Common.{◌≡◌, ◌∙◌, ◌<◌, ap, arith, length, refl, subst, sym}
 use Rattle.tg_word.specs.declared.Place.{Place}
-use Rattle.tg_space.specs.SpaceList.{with_cell_at}
-use Rattle.tg_space.specs.SpaceTable.{SpaceTable, IsHandedOut, with_spaces}
+use Rattle.tg_space.specs.SpaceList.{Holds, with_cell_at}
+use Rattle.tg_space.specs.SpaceTable.{SpaceTable, IsHandedOut, place_in_space, used_of, with_spaces}
 use Rattle.tg_nursery.specs.Allocation.{HasLeft}
 use Rattle.tg_graph.specs.Steps.{vertex_words}
 use Rattle.tg_graph.proofs.Growing.{VertexStep, vertex_step}
@@ -36,3 +36,18 @@ returns-clause-table g c = (step g c).table
 
 pub returns-clause-remembered : goal.returns-clause-remembered
 returns-clause-remembered g c = (step g c).remembered
+
+pub returns-clause-next : goal.returns-clause-next
+returns-clause-next g c = subst (λ s. c.hand_out-place.result ≡ place_in_space s (used_of c.args.self.now.spaces s)) c.nursery_of.ensures c.hand_out-place.ensures.place
+
+pub returns-clause-notes : goal.returns-clause-notes
+returns-clause-notes g c = refl
+
+pub returns-clause-spare_left : goal.returns-clause-spare_left
+returns-clause-spare_left g c = c.insert.ensures.spare
+
+pub write_cell-requires-clause-held : goal.write_cell-requires-clause-held
+write_cell-requires-clause-held g c = subst (λ (x : SpaceTable). Holds x.spaces c.hand_out-place.result) (sym c.hand_out-place.ensures.counted) c.hand_out-place.ensures.held
+
+pub write_cell-requires-clause-handed_out : goal.write_cell-requires-clause-handed_out
+write_cell-requires-clause-handed_out g c = c.hand_out-place.ensures.handed_out

@@ -1,18 +1,15 @@
 -- The heap that a nursery collection leaves.
-use Rattle.std.proofs.Common.{ℕ, List, IsSome, refl, sym, subst, ◌∙◌}
-use Rattle.std.specs.List.{All, Contains}
+use Rattle.std.proofs.Common.{refl, sym, subst, ◌∙◌}
 use Rattle.tg_space.specs.SpaceTable.{IsSpaceTable}
 use Rattle.tg_space.specs.declared.kind.Kind.TheVariants.{Nursery}
-use Rattle.tg_payload.specs.Table.{entry}
-use Rattle.tg_graph.specs.declared.settle.Rewritten.{Rewritten}
 use Rattle.tg_space.specs.Collection.{IsCollection}
 use Rattle.tg_graph.specs.Heap.{HeapState, roots_of}
-use Rattle.tg_graph.specs.Kept.{AreWritten, Drops, IsPrepared}
+use Rattle.tg_graph.specs.Kept.{IsPrepared}
 use Rattle.tg_graph.proofs.KeptBlocks.{nursery_written}
 use Rattle.tg_graph.proofs.KeptHeap.{IsLeft, indexed_beside}
 use Rattle.tg_graph.proofs.KeptSettled.{cells_there, nursery_left, payloads_there}
 use Rattle.tg_graph.proofs.heap.Heap.put_in_place.Given.{Over}
-use Rattle.tg_graph.proofs.heap.Heap.put_in_place.Goals.{After-drop-prepared-3}
+use Rattle.tg_graph.proofs.heap.Heap.put_in_place.Goals.{After-drop-self-inside-4}
 use Rattle.tg_graph.specs.Index.{AreFollowed}
 use Rattle.tg_space.proofs.Tables.{table_list}
 use Rattle.tg_graph.proofs.Finding.{row_is}
@@ -33,31 +30,30 @@ follow-requires-clause-indexed g c =
     subst (λ (heap : HeapState). IsCollection Nursery heap.table.spaces (roots_of Nursery heap) c.args.forward.now.words c.args.adoption.aged c.args.adoption.old c.args.noted.places) (sym c.self.view_is) c.requires.collection in
     indexed_beside s c.self.invariant.0 c.args.forward.now.words c.args.adoption.aged c.args.adoption.old c.args.noted.places collected inside.rows.entries c.self.invariant.1
 
-pub write_cells-requires : goal.write_cells-requires
-write_cells-requires g c =
+pub put_prepared-requires-clause-held : goal.put_prepared-requires-clause-held
+put_prepared-requires-clause-held g c =
     let inside = c.self.inside in
     let s : HeapState = record { table = inside.cells.spaces; payloads = inside.cells.payloads; workers = inside.workers.items; remembered = inside.cells.remembered.places } in
     let table : IsSpaceTable s.table = subst (λ (heap : HeapState). IsSpaceTable heap.table) (sym c.self.view_is) c.requires.table in
     let prepared : IsPrepared s c.args.forward.now.words c.args.prepared = subst (λ (heap : HeapState). IsPrepared heap c.args.forward.now.words c.args.prepared) (sym c.self.view_is) c.requires.prepared in
     cells_there s c.args.self.now c.self.view_is c.self.invariant.0 table c.args.forward.now.words c.args.adoption.aged c.args.adoption.old c.args.noted.places
-    c.adopt.new.self c.deref.result.now c.in-Ok.ensures.adopted (c.deref.ensures.value ∙ prepared.cells)
+    c.adopt.new.self c.args.prepared.cells.items c.in-Ok.ensures.adopted prepared.cells
 
-pub drop_payloads-requires-clause-there : goal.drop_payloads-requires-clause-there
-drop_payloads-requires-clause-there g c =
+pub put_prepared-requires-clause-there : goal.put_prepared-requires-clause-there
+put_prepared-requires-clause-there g c =
     let inside = c.self.inside in
     let s : HeapState = record { table = inside.cells.spaces; payloads = inside.cells.payloads; workers = inside.workers.items; remembered = inside.cells.remembered.places } in
     let table : IsSpaceTable s.table = subst (λ (heap : HeapState). IsSpaceTable heap.table) (sym c.self.view_is) c.requires.table in
     let prepared : IsPrepared s c.args.forward.now.words c.args.prepared = subst (λ (heap : HeapState). IsPrepared heap c.args.forward.now.words c.args.prepared) (sym c.self.view_is) c.requires.prepared in
-    subst (λ (keys : List ℕ). All (λ key. IsSome (entry inside.cells.payloads key)) keys) (sym c.deref-2.ensures.value)
-    (payloads_there s c.args.self.now c.self.view_is c.self.invariant.0 table c.args.forward.now.words c.args.adoption.aged c.args.adoption.old c.args.noted.places
-    c.args.prepared.dead.items prepared.keys)
+    payloads_there s c.args.self.now c.self.view_is c.self.invariant.0 table c.args.forward.now.words c.args.adoption.aged c.args.adoption.old c.args.noted.places
+    c.args.prepared.dead.items prepared.keys
 
 -- the heap as its parts are at the end
-abbrev now : (g : Over) → After-drop-prepared-3 g → HeapState
+abbrev now : (g : Over) → After-drop-self-inside-4 g → HeapState
 now g c =
-    record { table = c.write_cells.new.spaces; payloads = c.drop_payloads.new.payloads; workers = c.args.prepared.workers.items; remembered = c.args.noted.places }
+    record { table = c.put_prepared.new.cells.spaces; payloads = c.put_prepared.new.cells.payloads; workers = c.put_prepared.new.workers.items; remembered = c.args.noted.places }
 
-left : (g : Over) (c : After-drop-prepared-3 g) → IsLeft Nursery c.args.forward.now.words c.args.noted.places c.args.self.now (now g c)
+left : (g : Over) (c : After-drop-self-inside-4 g) → IsLeft Nursery c.args.forward.now.words c.args.noted.places c.args.self.now (now g c)
 left g c =
     let inside = c.self.inside in
     let forward = c.args.forward.now.words in
@@ -66,11 +62,10 @@ left g c =
     let prepared : IsPrepared s forward c.args.prepared = subst (λ (heap : HeapState). IsPrepared heap forward c.args.prepared) (sym c.self.view_is) c.requires.prepared in
     nursery_left s c.args.self.now c.self.view_is c.self.invariant.0 table forward c.args.adoption.aged c.args.adoption.old c.args.noted.places c.requires.collection (now g c)
     c.adopt.new.self c.args.prepared.cells.items c.args.prepared.dead.items c.in-Ok.ensures.adopted prepared.cells
-    (subst (λ (cells : List Rewritten). AreWritten c.adopt.new.self c.write_cells.new.spaces cells) c.deref.ensures.value c.write_cells.ensures.written)
-    c.write_cells.ensures.table
+    c.put_prepared.ensures.written c.put_prepared.ensures.table
     prepared.keys
-    (subst (λ (keys : List ℕ). Drops s.payloads c.drop_payloads.new.payloads (Contains keys)) c.deref-2.ensures.value c.drop_payloads.ensures)
-    prepared.workers
+    c.put_prepared.ensures.dropped
+    (c.put_prepared.ensures.workers ∙ prepared.workers)
     refl
 
 pub invariant_of-self-2 : goal.invariant_of-self-2
@@ -84,5 +79,5 @@ returns-clause-written g c =
     let inside = c.self.inside in
     let s : HeapState = record { table = inside.cells.spaces; payloads = inside.cells.payloads; workers = inside.workers.items; remembered = inside.cells.remembered.places } in
     let prepared : IsPrepared s c.args.forward.now.words c.args.prepared = subst (λ (heap : HeapState). IsPrepared heap c.args.forward.now.words c.args.prepared) (sym c.self.view_is) c.requires.prepared in
-    nursery_written s c.args.self.now c.args.forward.now.words c.args.adoption.aged c.args.adoption.old c.write_cells.new.spaces c.adopt.new.self c.args.prepared.cells.items c.self.view_is c.in-Ok.ensures.adopted prepared.cells
-    (subst (λ (cells : List Rewritten). AreWritten c.adopt.new.self c.write_cells.new.spaces cells) c.deref.ensures.value c.write_cells.ensures.written)
+    nursery_written s c.args.self.now c.args.forward.now.words c.args.adoption.aged c.args.adoption.old c.put_prepared.new.cells.spaces c.adopt.new.self c.args.prepared.cells.items c.self.view_is c.in-Ok.ensures.adopted prepared.cells
+    c.put_prepared.ensures.written

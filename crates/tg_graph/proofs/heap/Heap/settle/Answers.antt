@@ -1,4 +1,5 @@
-use Rattle.std.proofs.Common.{◌≡◌, ◌∙◌, length, map, refl, subst, sym}
+use Rattle.std.proofs.Common.{◌≡◌, ◌≢◌, ◌≤◌, ◌∙◌, ℕ, [], length, map, refl, subst, sym}
+use Rattle.tg_space.specs.SpaceList.{space_of}
 use Rattle.tg_space.specs.Generations.{AreNeeded}
 use Rattle.tg_space.specs.SpaceTable.{with_adopted}
 use Rattle.tg_space.specs.declared.kind.Kind.{Kind}
@@ -47,3 +48,57 @@ returns-clause-written g c =
       | in-Nursery+in_ok-keep_old_and_copied-in-Nursery w ↦ λ nursery.
           subst (λ (heap : HeapState). AreWritten (with_adopted old.table Nursery c.args.adoption.aged c.args.adoption.old) heap.table (map (rewritten_at old.table.spaces c.args.forward.words) old.remembered)) (sym w.self-is) w.in_ok-keep_old_and_copied-in-Nursery.ensures.written
     ]
+
+pub returns-clause-blocks : goal.returns-clause-blocks
+returns-clause-blocks g c =
+    let old : HeapState = c.args.self.now in
+    elim c.match-kind.branch [
+      | in-Full w ↦ λ full. subst (λ (heap : HeapState). heap.table ≡ with_adopted old.table Full c.args.adoption.aged c.args.adoption.old) (sym w.self-is) w.keep_copied.ensures.blocks
+      | in-Nursery+in_ok-keep_old_and_copied-in-Nursery w ↦ λ full. let no : ◌≡◌ {A = Kind} Nursery Full = sym w.in-Nursery.is ∙ full in absurd cc
+    ]
+
+pub returns-clause-only_old : goal.returns-clause-only_old
+returns-clause-only_old g c =
+    let old : HeapState = c.args.self.now in
+    elim c.match-kind.branch [
+      | in-Full w ↦ λ full. subst (λ (heap : HeapState). (space : ℕ) → space ≢ 0 → space_of heap.table.spaces space ≡ []) (sym w.self-is) (w.keep_copied.ensures.settled.only_old refl)
+      | in-Nursery+in_ok-keep_old_and_copied-in-Nursery w ↦ λ full. let no : ◌≡◌ {A = Kind} Nursery Full = sym w.in-Nursery.is ∙ full in absurd cc
+    ]
+
+pub returns-clause-no_nursery : goal.returns-clause-no_nursery
+returns-clause-no_nursery g c =
+    let old : HeapState = c.args.self.now in
+    elim c.match-kind.branch [
+      | in-Full w ↦ subst (λ (heap : HeapState). (space : ℕ) → 2 ≤ space → space_of heap.table.spaces space ≡ []) (sym w.self-is) w.keep_copied.ensures.settled.no_nursery
+      | in-Nursery+in_ok-keep_old_and_copied-in-Nursery w ↦ subst (λ (heap : HeapState). (space : ℕ) → 2 ≤ space → space_of heap.table.spaces space ≡ []) (sym w.self-is) w.in_ok-keep_old_and_copied-in-Nursery.ensures.settled.no_nursery
+    ]
+
+pub returns-clause-limits : goal.returns-clause-limits
+returns-clause-limits g c =
+    let old : HeapState = c.args.self.now in
+    elim c.match-kind.branch [
+      | in-Full w ↦ subst (λ (heap : HeapState). heap.table.limits ≡ old.table.limits) (sym w.self-is) w.keep_copied.ensures.settled.limits
+      | in-Nursery+in_ok-keep_old_and_copied-in-Nursery w ↦ subst (λ (heap : HeapState). heap.table.limits ≡ old.table.limits) (sym w.self-is) w.in_ok-keep_old_and_copied-in-Nursery.ensures.settled.limits
+    ]
+
+pub returns-clause-none_needed : goal.returns-clause-none_needed
+returns-clause-none_needed g c =
+    let old : HeapState = c.args.self.now in
+    elim c.match-kind.branch [
+      | in-Full w ↦ λ full. subst (λ (heap : HeapState). heap.remembered ≡ []) (sym w.self-is) (w.keep_copied.ensures.settled.none_needed refl)
+      | in-Nursery+in_ok-keep_old_and_copied-in-Nursery w ↦ λ full. let no : ◌≡◌ {A = Kind} Nursery Full = sym w.in-Nursery.is ∙ full in absurd cc
+    ]
+
+pub returns-clause-workers : goal.returns-clause-workers
+returns-clause-workers g c =
+    let old : HeapState = c.args.self.now in
+    elim c.match-kind.branch [
+      | in-Full w ↦ subst (λ (heap : HeapState). length heap.workers ≡ length old.workers) (sym w.self-is) w.keep_copied.ensures.settled.workers
+      | in-Nursery+in_ok-keep_old_and_copied-in-Nursery w ↦ subst (λ (heap : HeapState). length heap.workers ≡ length old.workers) (sym w.self-is) w.in_ok-keep_old_and_copied-in-Nursery.ensures.settled.workers
+    ]
+
+pub returns-clause-left : goal.returns-clause-left
+returns-clause-left g c = c.vertices.ensures.number
+
+pub returns-clause-full : goal.returns-clause-full
+returns-clause-full g c = λ full. refl

@@ -8,7 +8,7 @@ use Rattle.tg_shared.specs.Receipts.{receipt_of}
 use Rattle.std.proofs.lemmas.Result.{err_from_is_err_and}
 use Rattle.tg_rules.specs.Effect.{AddsEdge, LacksCellsToServe}
 use Rattle.tg_shared.specs.Sessions.{LockedState}
-use Rattle.tg_shared.proofs.Calls.{err_here, found, kept, refused_here}
+use Rattle.tg_shared.proofs.Calls.{err_here, found, kept, refused_as, refused_here}
 use Rattle.tg_shared.proofs.Replies.{answered}
 use Rattle.tg_shared.proofs.session.Session.call.Goals as goal
 
@@ -40,7 +40,7 @@ returns-in_err-apply g c =
       (refl, (λ _. tt), refused_here answer given.0 _ _ given.1 (kept c.args.self.now c.make_room.new.self c.apply.new.session c.in_ok-make_room.ensures.receipts keeps)),
       record {
         receipt = tt;
-        no_such_worker = err_here answer given.0 _ given.1 (λ why. (s, held.0, held.1, subst (λ (w : ℕ). ¬ IsSubject (graph_of_store s) w) worker ((c.in_err-apply.ensures.no_such_worker (graph_of_store s) refl).0 (cc (why, given.1, given.2)))));
-        full = err_here answer given.0 _ given.1 (λ why. (s, held.0, held.1, subst (λ (w : ℕ). Permits (graph_of_store s).label w c.args.command × AddsEdge c.args.command × LacksCellsToServe s.heap.table w c.args.command) worker (c.in_err-apply.ensures.full (graph_of_store s) refl (cc (why, given.1, given.2)))));
+        no_such_worker = err_here answer given.0 _ given.1 (λ why. (s, held.0, held.1, subst (λ (w : ℕ). ¬ IsSubject (graph_of_store s) w) worker ((c.in_err-apply.ensures.no_such_worker (graph_of_store s) refl).0 (refused_as given.2 why))));
+        full = err_here answer given.0 _ given.1 (λ why. (s, held.0, held.1, subst (λ (w : ℕ). Permits (graph_of_store s).label w c.args.command × AddsEdge c.args.command × LacksCellsToServe s.heap.table w c.args.command) worker (c.in_err-apply.ensures.full (graph_of_store s) refl (refused_as given.2 why))));
       },
     )

@@ -1,12 +1,41 @@
 use Rattle.std.proofs.Common.{◌≡◌, ◌<◌, ◌+◌, ◌∙◌, ℕ, refl, sym, subst}
 use Rattle.tg_model.specs.Graph.{IsSubject}
 use Rattle.tg_graph.specs.Spots.{LacksCellsFor}
+use Rattle.tg_store.specs.declared.fault.CreateFault.{CreateFault}
 use Rattle.tg_store.specs.Store.{StoreState, IsFaithful, graph_of_store}
 use Rattle.std.proofs.lemmas.Result.{IfErr-weaker, IfOk-weaker}
 use Rattle.tg_shared.specs.Sessions.{LockedState}
-use Rattle.tg_shared.proofs.Calls.{err_where, found}
+use Rattle.tg_shared.proofs.Calls.{err_where, found, kept}
 use Rattle.tg_shared.proofs.Replies.{answered}
 use Rattle.tg_shared.proofs.session.Session.create.Goals as goal
+
+not_vertices : CreateFault.OutOfMemory ≡ CreateFault.VerticesFull → ⊥
+not_vertices is = cc
+
+not_worker : CreateFault.OutOfMemory ≡ CreateFault.NoSuchWorker → ⊥
+not_worker is = cc
+
+not_heap : CreateFault.OutOfMemory ≡ CreateFault.HeapFull → ⊥
+not_heap is = cc
+
+pub returns-then-is_err : goal.returns-then-is_err
+returns-then-is_err g c = record {
+  receipt = tt;
+  full = λ is. absurd (not_vertices is);
+  refused = λ _. c.make_room.ensures.receipts;
+  no_such_worker = λ is. absurd (not_worker is);
+  heap_full = λ is. absurd (not_heap is);
+  handed_back = refl;
+}
+
+pub returns-clause-refused : goal.returns-clause-refused
+returns-clause-refused g c =
+    IfErr-weaker c.create-created.result _ _
+    (λ refused told why. kept c.args.self.now c.make_room.new.self c.create-created.new.session c.make_room.ensures.receipts (told why).1)
+    c.create-created.ensures.refused
+
+pub returns-clause-handed_back : goal.returns-clause-handed_back
+returns-clause-handed_back g c = c.create-created.ensures.handed_back
 
 pub returns-clause-receipt : goal.returns-clause-receipt
 returns-clause-receipt g c =
