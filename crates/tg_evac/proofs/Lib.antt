@@ -14,3 +14,4 @@ pub mod Young
 pub mod Behind
 pub mod OneCell
 pub mod Moved
+pub mod Passing

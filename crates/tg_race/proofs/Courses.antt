@@ -1,6 +1,7 @@
 -- Each event that can be keeps the rule, and no event changes a place that a cell has.
-use Rattle.std.proofs.Common.{◌≡◌, ◌≢◌, ℕ, zero, suc, ◌+◌, ◌-◌, ◌<◌, ◌==◌, ◌&&◌, ◌||◌, List, [], ◌∷◌, ◌++◌, length, get_or, set, slice_index_or, Bool, true, false, not, if◌then◌else◌, eqb-true, nat_lt, sym, refl, ap, ◌∙◌, subst, ⊎_elim, get_or-set_other, arith}
+use Rattle.std.proofs.Common.{◌≡◌, ◌≢◌, ℕ, zero, suc, ◌+◌, ◌-◌, ◌<◌, ◌≤◌, ◌==◌, ◌&&◌, ◌||◌, List, [], ◌∷◌, ◌++◌, length, get_or, set, slice_index_or, Bool, true, false, not, if◌then◌else◌, eqb-true, nat_lt, sym, refl, ap, ◌∙◌, subst, ⊎_elim, get_or-set_other, arith}
 use Rattle.std.specs.List.{list_any}
+use Rattle.std.proofs.lemmas.List.{set-get_or}
 use Rattle.std.proofs.lemmas.Bool.{and_parts, or_cases, or_left, or_right, ltb-true, eqb-false, false≢true, not-true}
 use mathlib.Core.Option.{some, some-ne-none}
 use lib.ListN.{get_elem?}
@@ -269,61 +270,109 @@ same_record (x ∷ l) (suc i) v h e = same_record l i v h e
 pub is_alive : (c : Course) (helper : ℕ) (e : Event) → can_happen c helper e ≡ true → 0 < (record_at c.race helper).share
 is_alive c helper e h = ltb-true 0 (record_at c.race helper).share (and_parts (nat_lt 0 (record_at c.race helper).share) (can c.net c.race helper (record_at c.race helper) e) h).0
 
--- an event, by what the code makes of the record
-pub keeps_claim : (c : Course) (helper : ℕ) (v : Record) (chunks : List ℕ) → KeepsRule c → can_happen c helper Claim ≡ true → v ≡ get_or c.race.records helper v → chunks ≡ v.chunks ++ c.race.next_chunk ∷ []
-    → KeepsRule (record c { race = record c.race { next_chunk = c.race.next_chunk + 1; records = set c.race.records helper (record v { chunks = chunks }) } })
-keeps_claim c helper v chunks kept h here is =
-    let same = same_record c.race.records helper v (is_alive c helper Claim h) here in
-    let e : record v { chunks = chunks } ≡ with_chunk (record_at c.race helper) c.race.next_chunk = ap (λ (l : List ℕ). record v { chunks = l }) is ∙ ap (λ (w : Record). with_chunk w c.race.next_chunk) same in
-    subst (λ (w : Record). KeepsRule (record c { race = record c.race { next_chunk = c.race.next_chunk + 1; records = set c.race.records helper w } })) (sym e) (keeps c helper Claim kept h)
+-- where the code reads the record of a live helper, or the word of a cell
+live_inside : (l : List Record) (i : ℕ) → 0 < (slice_index_or l i (empty 0)).share → i < length l
+live_inside [] i h = absurd (omega arith)
+live_inside (x ∷ l) zero h = omega arith
+live_inside (x ∷ l) (suc i) h = let below = live_inside l i h in omega arith
 
-pub keeps_seen : (c : Course) (helper cell : ℕ) (v : Record) (seen : List (ℕ × Place)) → KeepsRule c → can_happen c helper (Lose cell) ≡ true → v ≡ get_or c.race.records helper v
-    → seen ≡ v.seen ++ (cell, place_of (forwarding_word c.race cell)) ∷ []
-    → KeepsRule (record c { race = record c.race { records = set c.race.records helper (record v { seen = seen }) } })
-keeps_seen c helper cell v seen kept h here is =
-    let same = same_record c.race.records helper v (is_alive c helper (Lose cell) h) here in
-    let e : record v { seen = seen } ≡ with_seen (record_at c.race helper) (cell, place_of (forwarding_word c.race cell)) = ap (λ (l : List (ℕ × Place)). record v { seen = l }) is ∙ ap (λ (w : Record). with_seen w (cell, place_of (forwarding_word c.race cell))) same in
-    subst (λ (w : Record). KeepsRule (record c { race = record c.race { records = set c.race.records helper w } })) (sym e) (keeps c helper (Lose cell) kept h)
+pub record_inside : (c0 c : Course) (i n : ℕ) → c0 ≡ c → n ≡ length c0.race.records → 0 < (record_at c.race i).share → i < n
+record_inside c0 c i n same is alive =
+    let below = live_inside c.race.records i alive in
+    let long = ap (λ (x : Course). length x.race.records) same in
+    omega arith
 
-pub keeps_win : (c : Course) (helper cell : ℕ) (place : Place) (v : Record) (won : List (ℕ × Place)) → KeepsRule c → can_happen c helper (Win cell place) ≡ true → v ≡ get_or c.race.records helper v
-    → won ≡ v.won ++ (cell, place) ∷ []
-    → KeepsRule (record c { race = record c.race { words = set c.race.words cell (word_of place); records = set c.race.records helper (record v { won = won }) } })
-keeps_win c helper cell place v won kept h here is =
-    let same = same_record c.race.records helper v (is_alive c helper (Win cell place) h) here in
-    let e : record v { won = won } ≡ with_won (record_at c.race helper) (cell, place) = ap (λ (l : List (ℕ × Place)). record v { won = l }) is ∙ ap (λ (w : Record). with_won w (cell, place)) same in
-    subst (λ (w : Record). KeepsRule (record c { race = record c.race { words = set c.race.words cell (word_of place); records = set c.race.records helper w } })) (sym e) (keeps c helper (Win cell place) kept h)
+pub helper_inside : (c0 c : Course) (helper : ℕ) (e : Event) (n : ℕ) → c0 ≡ c → n ≡ length c0.race.records → can_happen c helper e ≡ true → helper < n
+helper_inside c0 c helper e n same is h = record_inside c0 c helper n same is (is_alive c helper e h)
+
+pub cell_inside : (c0 c : Course) (cell n : ℕ) → c0 ≡ c → n ≡ length c0.race.words → KeepsRule c0 → cell < length c.net.targets → cell < n
+cell_inside c0 c cell n same is kept inside =
+    let size = kept.rule.size in
+    let long = ap (λ (x : Course). length x.net.targets) same in
+    omega arith
+
+pub wins_inside : (c : Course) (helper cell : ℕ) (place : Place) → can_happen c helper (Win cell place) ≡ true → cell < length c.net.targets
+wins_inside c helper cell place h =
+    let v : Record = record_at c.race helper in
+    (win_parts c.net c.race v cell place (and_parts (nat_lt 0 v.share) (can_win c.net c.race v cell place) h).1).inside
 
 pub wins_in_range : (c : Course) (helper cell : ℕ) (place : Place) → can_happen c helper (Win cell place) ≡ true → IsPlace place
 wins_in_range c helper cell place h =
     let v : Record = record_at c.race helper in
     (win_parts c.net c.race v cell place (and_parts (nat_lt 0 v.share) (can_win c.net c.race v cell place) h).1).range
 
-pub keeps_aged : (c : Course) (helper : ℕ) (v : Record) (aged : List ℕ) → KeepsRule c → can_happen c helper (Block true) ≡ true → v ≡ get_or c.race.records helper v → aged ≡ v.aged_blocks ++ c.race.next_aged ∷ []
-    → KeepsRule (record c { race = record c.race { next_aged = c.race.next_aged + 1; records = set c.race.records helper (record v { aged_blocks = aged }) } })
-keeps_aged c helper v aged kept h here is =
-    let same = same_record c.race.records helper v (is_alive c helper (Block true) h) here in
-    let e : record v { aged_blocks = aged } ≡ with_claimed_block true (record_at c.race helper) c.race.next_aged = ap (λ (l : List ℕ). record v { aged_blocks = l }) is ∙ ap (λ (w : Record). with_claimed_block true w c.race.next_aged) same in
-    subst (λ (w : Record). KeepsRule (record c { race = record c.race { next_aged = c.race.next_aged + 1; records = set c.race.records helper w } })) (sym e) (keeps c helper (Block true) kept h)
-
-pub keeps_old : (c : Course) (helper : ℕ) (v : Record) (old : List ℕ) → KeepsRule c → can_happen c helper (Block false) ≡ true → v ≡ get_or c.race.records helper v → old ≡ v.old_blocks ++ c.race.next_old ∷ []
-    → KeepsRule (record c { race = record c.race { next_old = c.race.next_old + 1; records = set c.race.records helper (record v { old_blocks = old }) } })
-keeps_old c helper v old kept h here is =
-    let same = same_record c.race.records helper v (is_alive c helper (Block false) h) here in
-    let e : record v { old_blocks = old } ≡ with_claimed_block false (record_at c.race helper) c.race.next_old = ap (λ (l : List ℕ). record v { old_blocks = l }) is ∙ ap (λ (w : Record). with_claimed_block false w c.race.next_old) same in
-    subst (λ (w : Record). KeepsRule (record c { race = record c.race { next_old = c.race.next_old + 1; records = set c.race.records helper w } })) (sym e) (keeps c helper (Block false) kept h)
-
 pub loses_inside : (c : Course) (helper cell : ℕ) → can_happen c helper (Lose cell) ≡ true → cell < length c.net.targets
 loses_inside c helper cell h =
     let a = and_parts (nat_lt 0 (record_at c.race helper).share) (nat_lt cell (length c.net.targets) && not (forwarding_word c.race cell == 0)) h in
     ltb-true cell (length c.net.targets) (and_parts (nat_lt cell (length c.net.targets)) (not (forwarding_word c.race cell == 0)) a.1).0
 
-pub keeps_part : (c : Course) (helper : ℕ) (v : Record) (l : List Record) → KeepsRule c → can_happen c helper Part ≡ true → v ≡ get_or c.race.records helper v
-    → l ≡ set c.race.records helper (less_one v) ++ empty 1 ∷ []
-    → KeepsRule (record c { race = record c.race { records = l } })
-keeps_part c helper v l kept h here is =
-    let same = same_record c.race.records helper v (is_alive c helper Part h) here in
-    let e : l ≡ set c.race.records helper (less_one (record_at c.race helper)) ++ empty 1 ∷ [] = is ∙ ap (λ (w : Record). set c.race.records helper (less_one w) ++ empty 1 ∷ []) same in
-    subst (λ (m : List Record). KeepsRule (record c { race = record c.race { records = m } })) (sym e) (keeps c helper Part kept h)
+-- a course with the records that it had, and one in which a record was put back as it was
+pub same_records : (c : Course) (l : List Record) → l ≡ c.race.records → record c { race = record c.race { records = l } } ≡ c
+same_records c l is = ap (λ (m : List Record). record c { race = record c.race { records = m } }) is
+
+pub put_back : (c : Course) (helper : ℕ) (v w : Record) → v ≡ get_or c.race.records helper v → w ≡ v → record c { race = record c.race { records = set c.race.records helper w } } ≡ c
+put_back c helper v w here is =
+    same_records c _ (ap (λ (x : Record). set c.race.records helper x) (is ∙ here) ∙ set-get_or c.race.records helper v)
+
+-- d, which the code makes of c0, is what an event makes of c, where c0 is c
+pub kept_after : (c0 c d : Course) (helper : ℕ) (e : Event) → c0 ≡ c → KeepsRule c0 → can_happen c helper e ≡ true → d ≡ happens c helper e → KeepsRule d
+kept_after c0 c d helper e same kept h is = subst KeepsRule (sym is) (keeps c helper e (subst KeepsRule same kept) h)
+
+-- the record of a live helper, where the code's course c0 is c
+live_record : (c0 c : Course) (helper : ℕ) (e : Event) (v : Record) → c0 ≡ c → can_happen c helper e ≡ true → v ≡ get_or c0.race.records helper v → v ≡ record_at c0.race helper
+live_record c0 c helper e v same h here = same_record c0.race.records helper v (is_alive c0 helper e (ap (λ (x : Course). can_happen x helper e) same ∙ h)) here
+
+pub live_share : (c0 c : Course) (helper : ℕ) (e : Event) (v : Record) → c0 ≡ c → can_happen c helper e ≡ true → v ≡ get_or c0.race.records helper v → 1 ≤ v.share
+live_share c0 c helper e v same h here =
+    let alive = is_alive c0 helper e (ap (λ (x : Course). can_happen x helper e) same ∙ h) in
+    let share = ap (λ (w : Record). w.share) (live_record c0 c helper e v same h here) in
+    omega arith
+
+-- each event, by what the code makes of the record
+pub claim_is : (c0 c : Course) (helper : ℕ) (v : Record) (chunks : List ℕ) → c0 ≡ c → can_happen c helper Claim ≡ true → v ≡ get_or c0.race.records helper v → chunks ≡ v.chunks ++ c0.race.next_chunk ∷ []
+    → record c0 { race = record c0.race { next_chunk = c0.race.next_chunk + 1; records = set c0.race.records helper (record v { chunks = chunks }) } } ≡ happens c helper Claim
+claim_is c0 c helper v chunks same h here is =
+    let e : record v { chunks = chunks } ≡ with_chunk (record_at c0.race helper) c0.race.next_chunk =
+    ap (λ (l : List ℕ). record v { chunks = l }) is ∙ ap (λ (w : Record). with_chunk w c0.race.next_chunk) (live_record c0 c helper Claim v same h here) in
+    ap (λ (w : Record). record c0 { race = record c0.race { next_chunk = c0.race.next_chunk + 1; records = set c0.race.records helper w } }) e ∙ ap (λ (x : Course). happens x helper Claim) same
+
+pub lose_is : (c0 c : Course) (helper cell : ℕ) (v : Record) (seen : List (ℕ × Place)) → c0 ≡ c → can_happen c helper (Lose cell) ≡ true → v ≡ get_or c0.race.records helper v
+    → seen ≡ v.seen ++ (cell, place_of (forwarding_word c0.race cell)) ∷ []
+    → record c0 { race = record c0.race { records = set c0.race.records helper (record v { seen = seen }) } } ≡ happens c helper (Lose cell)
+lose_is c0 c helper cell v seen same h here is =
+    let e : record v { seen = seen } ≡ with_seen (record_at c0.race helper) (cell, place_of (forwarding_word c0.race cell)) =
+    ap (λ (l : List (ℕ × Place)). record v { seen = l }) is ∙ ap (λ (w : Record). with_seen w (cell, place_of (forwarding_word c0.race cell))) (live_record c0 c helper (Lose cell) v same h here) in
+    ap (λ (w : Record). record c0 { race = record c0.race { records = set c0.race.records helper w } }) e ∙ ap (λ (x : Course). happens x helper (Lose cell)) same
+
+pub win_is : (c0 c : Course) (helper cell : ℕ) (place : Place) (word : ℕ) (v : Record) (won : List (ℕ × Place)) → c0 ≡ c → can_happen c helper (Win cell place) ≡ true → word ≡ word_of place → v ≡ get_or c0.race.records helper v
+    → won ≡ v.won ++ (cell, place) ∷ []
+    → record c0 { race = record c0.race { words = set c0.race.words cell word; records = set c0.race.records helper (record v { won = won }) } } ≡ happens c helper (Win cell place)
+win_is c0 c helper cell place word v won same h word_is here is =
+    let e : record v { won = won } ≡ with_won (record_at c0.race helper) (cell, place) =
+    ap (λ (l : List (ℕ × Place)). record v { won = l }) is ∙ ap (λ (w : Record). with_won w (cell, place)) (live_record c0 c helper (Win cell place) v same h here) in
+    ap (λ (n : ℕ). record c0 { race = record c0.race { words = set c0.race.words cell n; records = set c0.race.records helper (record v { won = won }) } }) word_is
+    ∙ (ap (λ (w : Record). record c0 { race = record c0.race { words = set c0.race.words cell (word_of place); records = set c0.race.records helper w } }) e ∙ ap (λ (x : Course). happens x helper (Win cell place)) same)
+
+pub claim_aged_is : (c0 c : Course) (helper : ℕ) (v : Record) (aged : List ℕ) → c0 ≡ c → can_happen c helper (Block true) ≡ true → v ≡ get_or c0.race.records helper v → aged ≡ v.aged_blocks ++ c0.race.next_aged ∷ []
+    → record c0 { race = record c0.race { next_aged = c0.race.next_aged + 1; records = set c0.race.records helper (record v { aged_blocks = aged }) } } ≡ happens c helper (Block true)
+claim_aged_is c0 c helper v aged same h here is =
+    let e : record v { aged_blocks = aged } ≡ with_claimed_block true (record_at c0.race helper) c0.race.next_aged =
+    ap (λ (l : List ℕ). record v { aged_blocks = l }) is ∙ ap (λ (w : Record). with_claimed_block true w c0.race.next_aged) (live_record c0 c helper (Block true) v same h here) in
+    ap (λ (w : Record). record c0 { race = record c0.race { next_aged = c0.race.next_aged + 1; records = set c0.race.records helper w } }) e ∙ ap (λ (x : Course). happens x helper (Block true)) same
+
+pub claim_old_is : (c0 c : Course) (helper : ℕ) (v : Record) (old : List ℕ) → c0 ≡ c → can_happen c helper (Block false) ≡ true → v ≡ get_or c0.race.records helper v → old ≡ v.old_blocks ++ c0.race.next_old ∷ []
+    → record c0 { race = record c0.race { next_old = c0.race.next_old + 1; records = set c0.race.records helper (record v { old_blocks = old }) } } ≡ happens c helper (Block false)
+claim_old_is c0 c helper v old same h here is =
+    let e : record v { old_blocks = old } ≡ with_claimed_block false (record_at c0.race helper) c0.race.next_old =
+    ap (λ (l : List ℕ). record v { old_blocks = l }) is ∙ ap (λ (w : Record). with_claimed_block false w c0.race.next_old) (live_record c0 c helper (Block false) v same h here) in
+    ap (λ (w : Record). record c0 { race = record c0.race { next_old = c0.race.next_old + 1; records = set c0.race.records helper w } }) e ∙ ap (λ (x : Course). happens x helper (Block false)) same
+
+pub part_is : (c0 c : Course) (helper : ℕ) (v : Record) (l : List Record) → c0 ≡ c → can_happen c helper Part ≡ true → v ≡ get_or c0.race.records helper v → l ≡ set c0.race.records helper (less_one v) ++ empty 1 ∷ []
+    → record c0 { race = record c0.race { records = l } } ≡ happens c helper Part
+part_is c0 c helper v l same h here is =
+    let e : l ≡ set c0.race.records helper (less_one (record_at c0.race helper)) ++ empty 1 ∷ [] =
+    is ∙ ap (λ (w : Record). set c0.race.records helper (less_one w) ++ empty 1 ∷ []) (live_record c0 c helper Part v same h here) in
+    ap (λ (m : List Record). record c0 { race = record c0.race { records = m } }) e ∙ ap (λ (x : Course). happens x helper Part) same
 
 set_swap : (l : List Record) (i j : ℕ) (a b : Record) → j ≢ i → set (set l j b) i a ≡ set (set l i a) j b
 set_swap [] i j a b ne = refl

@@ -1,6 +1,8 @@
--- Two lists have one first difference at most.
-use Rattle.std.proofs.Common.{◌≡◌, ◌∙◌, sym, ap, refl, ℕ, zero, suc, ◌<◌, List, [], ◌∷◌, take, ◌⊎◌, inl, inr, arith}
+-- Two lists have one first difference at most. Where two that agree so far have it, and where they have none.
+use Rattle.std.proofs.Common.{◌≡◌, ◌≢◌, ◌∙◌, sym, ap, subst, refl, ℕ, zero, suc, ◌<◌, ◌≤◌, List, [], ◌∷◌, Some, None, length, get_or, take, ◌⊎◌, inl, inr, arith}
 use Rattle.std.specs.Prelude.{slice_get}
+use Rattle.std.proofs.lemmas.List.{take_all}
+use Rattle.std.proofs.lemmas.Option.{slice_get_past, slice_get_read}
 use Rattle.tg_model.specs.declared.value.Value.{Value}
 use Rattle.tg_store.specs.Faults.{IsFirstDifference}
 
@@ -33,3 +35,26 @@ one_first xs ys i j first other =
       | inr (inl above) ↦ absurd (not_below xs ys j i other first above)
       | inr (inr same) ↦ same
     ]
+
+some_there : (xs : List Value) (at : ℕ) → at < length xs → slice_get xs at ≡ None → ⊥
+some_there [] at below none = omega arith
+some_there (x ∷ xs) zero below none = cc none
+some_there (x ∷ xs) (suc at) below none = some_there xs at (omega arith) none
+
+pub past_the_end : (xs ys : List Value) (at : ℕ) → at < length xs → length ys ≤ at → take at xs ≡ take at ys → IsFirstDifference xs ys at
+past_the_end xs ys at below past same = record { before = same; here = λ e. some_there xs at below (e ∙ slice_get_past ys at past) }
+
+pub differs_at : (xs ys : List Value) (at : ℕ) (x y : Value) → at < length xs → at < length ys → x ≡ get_or xs at x → y ≡ get_or ys at y → y ≢ x → take at xs ≡ take at ys → IsFirstDifference xs ys at
+differs_at xs ys at x y here there x_is y_is other same = record {
+  before = same;
+  here = λ e. let both : Some y ≡ Some x = sym (slice_get_read ys (length ys) at y refl there y_is) ∙ sym e ∙ slice_get_read xs (length xs) at x refl here x_is in other (cc both);
+}
+
+pub longer : (xs ys : List Value) (at : ℕ) → length xs ≤ at → at ≤ length xs → length xs < length ys → take at xs ≡ take at ys → IsFirstDifference xs ys (length xs)
+longer xs ys at past room more same =
+    let is : at ≡ length xs = omega arith in
+    let below : at < length ys = omega arith in
+    subst (IsFirstDifference xs ys) is (record { before = same; here = λ e. some_there ys at below (sym e ∙ slice_get_past xs at past) })
+
+pub alike : (xs ys : List Value) (at : ℕ) → length xs ≤ at → length ys ≤ length xs → take at xs ≡ take at ys → ys ≡ xs
+alike xs ys at past no_more same = sym (take_all at ys (omega arith)) ∙ sym same ∙ take_all at xs past

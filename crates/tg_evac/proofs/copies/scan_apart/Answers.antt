@@ -1,8 +1,10 @@
-use Rattle.std.proofs.Common.{sym, subst}
+use Rattle.std.proofs.Common.{◌∙◌, ◌≡◌, sym, subst}
 use Rattle.tg_space.specs.declared.kind.Kind.{Kind}
 use Rattle.tg_evac.specs.declared.win.Win.{Win}
 use Rattle.tg_evac.specs.Claims.{AreTraced}
 use Rattle.tg_evac.proofs.Walking.{wins_none, wins_then}
+use Rattle.tg_evac.specs.declared.fault.CollectFault.TheVariants.{HeapFull}
+use Rattle.tg_evac.proofs.Passing.{kept_still, passed_on}
 use Rattle.tg_evac.proofs.copies.scan_apart.Goals as goal
 
 pub loop-copies-init : goal.loop-copies-init
@@ -35,3 +37,12 @@ pub scan_some-requires-clause-traced : goal.scan_some-requires-clause-traced
 scan_some-requires-clause-traced g c =
     let m = g.C.Claimer in let h = c.args.spaces.now.spaces in let roots = c.requires.traced.0 in
     (roots, subst (λ (k : Kind). AreTraced k h roots (m.walked c.loop-copies.claimer).won) (sym c.loop-copies.invariant.keeps.same_kind) (c.loop-copies.invariant.traced roots c.requires.traced.1))
+
+pub scan_some-requires-clause-whole : goal.scan_some-requires-clause-whole
+scan_some-requires-clause-whole g c = c.loop-copies.invariant.keeps.as_many ∙ c.requires.whole
+
+pub scan_some-requires-clause-kept : goal.scan_some-requires-clause-kept
+scan_some-requires-clause-kept g c = kept_still c.args.spaces.now.spaces c.loop-copies.invariant.keeps c.requires.kept
+
+pub returns-in_err-scan_some-clause-full : goal.returns-in_err-scan_some-clause-full
+returns-in_err-scan_some-clause-full g c = passed_on c.from_residual.result (λ fault. fault ≡ HeapFull → g.C.Claimer.is_full c.scan_some.new.claimer) _ c.from_residual.ensures.1 c.in_err-scan_some.ensures.full

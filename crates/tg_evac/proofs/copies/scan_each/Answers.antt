@@ -5,6 +5,8 @@ use Rattle.tg_evac.specs.declared.win.Win.{Win}
 use Rattle.tg_evac.specs.Claims.{AreTraced}
 use Rattle.tg_evac.specs.Claimers.{AreScanned}
 use Rattle.tg_evac.proofs.Walking.{wins_none, wins_then}
+use Rattle.tg_evac.specs.declared.fault.CollectFault.TheVariants.{HeapFull}
+use Rattle.tg_evac.proofs.Passing.{kept_still, passed_on}
 use Rattle.tg_evac.proofs.copies.scan_each.Goals as goal
 
 pub loop-copies-init : goal.loop-copies-init
@@ -41,3 +43,12 @@ scan_next-requires-clause-traced g c =
 
 pub scan_next-requires-clause-words : goal.scan_next-requires-clause-words
 scan_next-requires-clause-words g c = c.numbered_words.ensures.words ∙ ap (λ (w : Win). cell_numbered c.args.spaces.now.spaces w.cell) c.win-cell.ensures.win
+
+pub scan_next-requires-clause-whole : goal.scan_next-requires-clause-whole
+scan_next-requires-clause-whole g c = c.loop-copies.invariant.keeps.as_many ∙ c.requires.whole
+
+pub scan_next-requires-clause-kept : goal.scan_next-requires-clause-kept
+scan_next-requires-clause-kept g c = kept_still c.args.spaces.now.spaces c.loop-copies.invariant.keeps c.requires.kept
+
+pub returns-in_err-scan_next-clause-full : goal.returns-in_err-scan_next-clause-full
+returns-in_err-scan_next-clause-full g c = passed_on c.from_residual.result (λ fault. fault ≡ HeapFull → g.C.Claimer.is_full c.scan_next.new.claimer) _ c.from_residual.ensures.1 c.in_err-scan_next.ensures.full

@@ -1,4 +1,4 @@
-use Rattle.std.proofs.Common.{◌≡◌, ℕ, ◌+◌, ◌<◌, [], length, get_or, sym, ap, subst, arith}
+use Rattle.std.proofs.Common.{◌∙◌, ◌≡◌, ℕ, ◌+◌, ◌<◌, [], length, get_or, sym, ap, subst, arith}
 use Rattle.tg_space.specs.Targets.{cell_numbered}
 use Rattle.tg_space.specs.declared.kind.Kind.{Kind}
 use Rattle.tg_evac.specs.declared.win.Win.{Win}
@@ -6,6 +6,8 @@ use Rattle.tg_evac.specs.Claims.{AreTraced, win_at}
 use Rattle.tg_evac.specs.Claimers.{AreScanned}
 use Rattle.tg_evac.proofs.Reading.{still_inside, still_read}
 use Rattle.tg_evac.proofs.Walking.{wins_none, wins_then}
+use Rattle.tg_evac.specs.declared.fault.CollectFault.TheVariants.{HeapFull}
+use Rattle.tg_evac.proofs.Passing.{kept_still, passed_on}
 use Rattle.tg_evac.proofs.copies.scan_some.Goals as goal
 
 pub loop-i-init : goal.loop-i-init
@@ -58,3 +60,12 @@ loop-i-preserved g c =
       scanned = subst (λ (n : ℕ). AreScanned h (m.walked c.scan_next.new.claimer) (m.knows c.scan_next.new.claimer) n c.scan_next.new.copies.aged c.scan_next.new.copies.old) next c.in_ok-scan_next.ensures.scanned;
       at = omega (arith, c.scan_next.ensures.next, c.loop-i.invariant.at);
     }
+
+pub scan_next-requires-clause-whole : goal.scan_next-requires-clause-whole
+scan_next-requires-clause-whole g c = c.loop-i.invariant.keeps.as_many ∙ c.requires.whole
+
+pub scan_next-requires-clause-kept : goal.scan_next-requires-clause-kept
+scan_next-requires-clause-kept g c = kept_still c.args.spaces.now.spaces c.loop-i.invariant.keeps c.requires.kept
+
+pub returns-in_err-scan_next-clause-full : goal.returns-in_err-scan_next-clause-full
+returns-in_err-scan_next-clause-full g c = passed_on c.from_residual.result (λ fault. fault ≡ HeapFull → g.C.Claimer.is_full c.scan_next.new.claimer) _ c.from_residual.ensures.1 c.in_err-scan_next.ensures.full

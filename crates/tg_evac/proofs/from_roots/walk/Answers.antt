@@ -1,4 +1,4 @@
-use Rattle.std.proofs.Common.{List, sym, subst}
+use Rattle.std.proofs.Common.{◌≡◌, ◌∙◌, List, sym, subst}
 use Rattle.std.specs.List.{All, Contains}
 use Rattle.std.proofs.lemmas.List.{take_all}
 use Rattle.std.proofs.lemmas.List.Elements.{All-nil, Contains-get_or}
@@ -6,8 +6,10 @@ use Rattle.tg_space.specs.Targets.{from_space, all_root_targets}
 use Rattle.tg_space.specs.declared.kind.Kind.{Kind}
 use Rattle.tg_space.specs.declared.root.Root.{Root}
 use Rattle.tg_space.specs.declared.root.Root.TheVariants.{Row}
+use Rattle.tg_evac.specs.declared.fault.CollectFault.TheVariants.{HeapFull}
 use Rattle.tg_evac.specs.declared.win.Win.{Win}
 use Rattle.tg_evac.specs.Claims.{AreTraced}
+use Rattle.tg_evac.proofs.Passing.{kept_still, passed_on}
 use Rattle.tg_evac.proofs.Pieces.{met_root, ok_always}
 use Rattle.tg_evac.proofs.Walking.{still_met, wins_none, wins_then}
 use Rattle.tg_evac.proofs.from_roots.walk.Goals as goal
@@ -78,3 +80,18 @@ returns-clause-met g c =
     let kind = (m.walked c.args.claimer.now).kind in let h = c.args.spaces.now.spaces in
     let met = subst (λ (rs : List Root). All (Contains (m.walked c.loop-root.claimer).met) (all_root_targets (from_space kind) h rs)) all c.loop-root.invariant.met in
     ok_always c.scan.result (still_met c.scan.ensures.keeps (all_root_targets (from_space kind) h roots) met)
+
+pub walk_root-requires-clause-whole : goal.walk_root-requires-clause-whole
+walk_root-requires-clause-whole g c = c.loop-root.invariant.keeps.as_many ∙ c.requires.whole
+
+pub walk_root-requires-clause-kept : goal.walk_root-requires-clause-kept
+walk_root-requires-clause-kept g c = kept_still c.args.spaces.now.spaces c.loop-root.invariant.keeps c.requires.kept
+
+pub scan-requires-clause-whole : goal.scan-requires-clause-whole
+scan-requires-clause-whole g c = c.loop-root.invariant.keeps.as_many ∙ c.requires.whole
+
+pub scan-requires-clause-kept : goal.scan-requires-clause-kept
+scan-requires-clause-kept g c = kept_still c.args.spaces.now.spaces c.loop-root.invariant.keeps c.requires.kept
+
+pub returns-in_err-walk_root-clause-full : goal.returns-in_err-walk_root-clause-full
+returns-in_err-walk_root-clause-full g c = passed_on c.from_residual.result (λ fault. fault ≡ HeapFull → g.C.Claimer.is_full c.walk_root.new.claimer) _ c.from_residual.ensures.1 c.in_err-walk_root.ensures.full

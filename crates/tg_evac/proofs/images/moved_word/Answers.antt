@@ -1,4 +1,4 @@
-use Rattle.std.proofs.Common.{◌≡◌, ◌∙◌, ℕ, true, ap, subst, sym, ⊎_elim}
+use Rattle.std.proofs.Common.{arith, ◌≡◌, ◌∙◌, ℕ, true, ap, subst, sym, ⊎_elim}
 use Rattle.std.specs.List.{Contains}
 use Rattle.tg_word.specs.declared.Place.{Place}
 use Rattle.tg_word.specs.Word.{place_in}
@@ -8,6 +8,9 @@ use Rattle.tg_space.specs.Targets.{from_space, target_in}
 use Rattle.tg_space.specs.declared.kind.Kind.{Kind}
 use Rattle.tg_evac.specs.Claims.{space_for}
 use Rattle.tg_evac.proofs.OneCell.{claims_one, met_one, one_moved, one_target}
+use Rattle.tg_evac.proofs.Behind.{moved_behind}
+use Rattle.tg_evac.specs.declared.fault.CollectFault.TheVariants.{HeapFull}
+use Rattle.tg_evac.proofs.Passing.{passed_on}
 use Rattle.tg_evac.proofs.images.moved_word.Goals as goal
 
 pub returns-in_err-found-clause-added : goal.returns-in_err-found-clause-added
@@ -45,3 +48,17 @@ returns-clause-word g c =
     ap (λ (k : Kind). from_space k (place_in word).space) c.requires.kind ∙ ap (λ (p : Place). from_space c.args.kind p.space) (sym c.place_of-space.ensures) ∙ sym c.moves.ensures ∙ c.if-not-moves.false in
     let goes : to (flat_of h (place_in word)) ≡ place_in c.in_ok-found.found = ap to (sym c.target_of.ensures.flat) ∙ c.in_ok-found.ensures.known to knows in
     c.with_place.ensures ∙ one_moved (from_space kind) h to word (place_in c.in_ok-found.found) c.if-word-eq0.false moves goes
+
+pub claim-requires-clause-moved : goal.claim-requires-clause-moved
+claim-requires-clause-moved g c =
+    let h = c.args.spaces.now.spaces in let kind = (g.C.Claimer.walked c.args.claimer.now).kind in let word = c.args.word in
+    let moves : from_space kind (place_in word).space ≡ true =
+    ap (λ (k : Kind). from_space k (place_in word).space) c.requires.kind ∙ ap (λ (p : Place). from_space c.args.kind p.space) (sym c.place_of-space.ensures) ∙ sym c.moves.ensures ∙ c.if-not-moves.false in
+    let held : Holds h (place_in word) = ⊎_elim (λ none. absurd (c.if-word-eq0.false none)) (λ (names : NamesCell h word). names.held) c.requires.pointer in
+    let low = moved_behind kind h (place_in word) held moves in
+    let kept = c.requires.kept in
+    let flat = c.target_of.ensures.flat in
+    omega (arith, low, kept, flat)
+
+pub returns-in_err-found-clause-full : goal.returns-in_err-found-clause-full
+returns-in_err-found-clause-full g c = passed_on c.from_residual.result (λ fault. fault ≡ HeapFull → g.C.Claimer.is_full c.claim.new.self) _ c.from_residual.ensures.1 c.in_err-found.ensures.full

@@ -1,10 +1,25 @@
-use Rattle.std.proofs.Common.{rules, ◌≡◌, ◌∙◌, List, get_or, ap, sym, set, subst}
+use Rattle.std.proofs.Common.{rules, ◌≡◌, ◌∙◌, List, get_or, ap, refl, sym, set, subst}
 use Rattle.tg_race.specs.declared.record.Record.{Record}
 use Rattle.tg_race.specs.declared.event.Event.TheVariants.{Meet}
 use Rattle.tg_race.specs.Room.{FitOne}
 use Rattle.tg_race.specs.Course.{Course, KeepsRule, record_at}
-use Rattle.tg_race.proofs.Courses.{keeps, same_record, is_alive, met_mine, met_theirs, met_course}
+use Rattle.tg_race.proofs.Courses.{keeps, same_record, is_alive, met_alive, met_mine, met_theirs, met_course, record_inside, helper_inside}
 use Rattle.tg_race.proofs.world.World.meet.Goals as goal
+
+pub index-requires : goal.index-requires
+index-requires c = helper_inside _ _ c.args.helper (Meet c.args.other) _ c.self.view_is c.self.inside.records.ok.0 c.requires
+
+pub index-requires-2 : goal.index-requires-2
+index-requires-2 c = record_inside _ _ c.args.other _ c.self.view_is c.self.inside.records.ok.0 (met_alive c.args.self.now c.args.helper c.args.other c.requires)
+
+pub returns-then-not-fits_one : goal.returns-then-not-fits_one
+returns-then-not-fits_one c = refl
+
+pub index_mut-requires : goal.index_mut-requires
+index_mut-requires c = record_inside _ _ c.args.other _ c.self.view_is c.self.inside.records.ok.0 (met_alive c.args.self.now c.args.helper c.args.other c.requires)
+
+pub index_mut-requires-2 : goal.index_mut-requires-2
+index_mut-requires-2 c = helper_inside _ _ c.args.helper (Meet c.args.other) _ c.self.view_is c.self.inside.records.ok.0 c.requires
 
 pub take_in-requires : goal.take_in-requires
 take_in-requires c =

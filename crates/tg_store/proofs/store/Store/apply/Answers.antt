@@ -124,3 +124,75 @@ returns-clause-no_such_worker g c =
     λ graph stands.
     let here : StandsFor old graph = ap graph_of_store c.self.view_is ∙ stands in
     (λ same _. let f : ⊥ = cc same in f, λ none. absurd (none (subject_here old c.self.invariant.faithful graph c.args.worker here below)))
+
+pub returns-then-worker-workers-clause-entry : goal.returns-then-worker-workers-clause-entry
+returns-then-worker-workers-clause-entry g c = tt
+
+pub returns-then-worker-workers-clause-reply : goal.returns-then-worker-workers-clause-reply
+returns-then-worker-workers-clause-reply g c = λ _ _. tt
+
+pub returns-then-worker-workers-clause-step : goal.returns-then-worker-workers-clause-step
+returns-then-worker-workers-clause-step g c = λ _ _. tt
+
+pub returns-then-worker-workers-clause-denied : goal.returns-then-worker-workers-clause-denied
+returns-then-worker-workers-clause-denied g c = λ _ e. let f : ⊥ = cc e in absurd f
+
+pub returns-then-worker-workers-clause-full : goal.returns-then-worker-workers-clause-full
+returns-then-worker-workers-clause-full g c = λ _ _ e. let f : ⊥ = cc e in absurd f
+
+pub returns-then-worker-workers-clause-opening : goal.returns-then-worker-workers-clause-opening
+returns-then-worker-workers-clause-opening g c = refl
+
+pub returns-then-worker-workers-clause-limits : goal.returns-then-worker-workers-clause-limits
+returns-then-worker-workers-clause-limits g c = refl
+
+pub returns-in_err-reserve-clause-entry : goal.returns-in_err-reserve-clause-entry
+returns-in_err-reserve-clause-entry g c = let given = err_from_is_err_and c.from_residual.result c.from_residual.ensures.1 in rw given.1 tt
+
+pub returns-in_err-reserve-clause-reply : goal.returns-in_err-reserve-clause-reply
+returns-in_err-reserve-clause-reply g c = let given = err_from_is_err_and c.from_residual.result c.from_residual.ensures.1 in λ _ _. rw given.1 tt
+
+pub returns-in_err-reserve-clause-step : goal.returns-in_err-reserve-clause-step
+returns-in_err-reserve-clause-step g c = let given = err_from_is_err_and c.from_residual.result c.from_residual.ensures.1 in λ _ _. rw given.1 tt
+
+pub returns-in_err-reserve-clause-denied : goal.returns-in_err-reserve-clause-denied
+returns-in_err-reserve-clause-denied g c = let given = err_from_is_err_and c.from_residual.result c.from_residual.ensures.1 in λ _ e. let f : ⊥ = cc (e, given.1) in absurd f
+
+pub returns-in_err-reserve-clause-full : goal.returns-in_err-reserve-clause-full
+returns-in_err-reserve-clause-full g c = let given = err_from_is_err_and c.from_residual.result c.from_residual.ensures.1 in λ _ _ e. let f : ⊥ = cc (e, given.1, given.2) in absurd f
+
+pub returns-in_err-reserve-clause-opening : goal.returns-in_err-reserve-clause-opening
+returns-in_err-reserve-clause-opening g c = ap (λ (s : StoreState). s.opening) c.self.view_is
+
+pub returns-in_err-reserve-clause-limits : goal.returns-in_err-reserve-clause-limits
+returns-in_err-reserve-clause-limits g c = ap (λ (s : StoreState). s.heap.table.limits) c.self.view_is
+
+pub returns-in_err-reply-clause-entry : goal.returns-in_err-reply-clause-entry
+returns-in_err-reply-clause-entry g c = let given = err_from_is_err_and c.from_residual-in_err-reply.result c.from_residual-in_err-reply.ensures.1 in rw given.1 tt
+
+pub returns-in_err-reply-clause-reply : goal.returns-in_err-reply-clause-reply
+returns-in_err-reply-clause-reply g c = let given = err_from_is_err_and c.from_residual-in_err-reply.result c.from_residual-in_err-reply.ensures.1 in λ _ _. rw given.1 tt
+
+pub returns-in_err-reply-clause-step : goal.returns-in_err-reply-clause-step
+returns-in_err-reply-clause-step g c = let given = err_from_is_err_and c.from_residual-in_err-reply.result c.from_residual-in_err-reply.ensures.1 in λ _ _. rw given.1 tt
+
+pub returns-in_err-reply-clause-denied : goal.returns-in_err-reply-clause-denied
+returns-in_err-reply-clause-denied g c = let given = err_from_is_err_and c.from_residual-in_err-reply.result c.from_residual-in_err-reply.ensures.1 in λ _ e. let f : ⊥ = cc (e, given.1) in absurd f
+
+pub returns-in_err-reply-clause-opening : goal.returns-in_err-reply-clause-opening
+returns-in_err-reply-clause-opening g c = ap (λ (s : StoreState). s.opening) c.self.view_is
+
+pub returns-in_err-reply-clause-limits : goal.returns-in_err-reply-clause-limits
+returns-in_err-reply-clause-limits g c = c.answer_command.ensures.limits ∙ ap (λ (s : StoreState). s.heap.table.limits) c.self.view_is
+
+pub returns-clause-full : goal.returns-clause-full
+returns-clause-full g c = λ _ _ e. let f : ⊥ = cc e in absurd f
+
+pub returns-clause-refused : goal.returns-clause-refused
+returns-clause-refused g c = tt
+
+pub returns-clause-opening : goal.returns-clause-opening
+returns-clause-opening g c = ap (λ (s : StoreState). s.opening) c.self.view_is
+
+pub returns-clause-limits : goal.returns-clause-limits
+returns-clause-limits g c = c.answer_command.ensures.limits ∙ ap (λ (s : StoreState). s.heap.table.limits) c.self.view_is

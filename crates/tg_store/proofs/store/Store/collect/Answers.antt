@@ -1,5 +1,6 @@
 -- How few blocks are left, and which vertices stay: the spare blocks are none of the store that is seen.
 use Rattle.std.proofs.Common.{◌≡◌, subst}
+use Rattle.std.proofs.lemmas.Result.{err_from_is_err_and}
 use Rattle.tg_space.specs.declared.kind.Kind.TheVariants.{Nursery}
 use Rattle.tg_graph.specs.Kept.{VerticesOfOldStay}
 use Rattle.tg_store.specs.Store.{HasFewBlocks, StoreState}
@@ -19,3 +20,45 @@ returns-clause-blocks g c =
 pub returns-clause-stay : goal.returns-clause-stay
 returns-clause-stay g c =
     subst (λ (state : StoreState). c.args.kind ≡ Nursery → VerticesOfOldStay state.heap.table.spaces c.settle.new.self.heap.table.spaces) c.take_spare-spare.ensures c.in_ok-settle.ensures.stay
+
+pub returns-in_err-copied-clause-number : goal.returns-in_err-copied-clause-number
+returns-in_err-copied-clause-number g c = let given = err_from_is_err_and c.from_residual.result c.from_residual.ensures.1 in rw given.1 tt
+
+pub returns-in_err-copied-clause-only_old : goal.returns-in_err-copied-clause-only_old
+returns-in_err-copied-clause-only_old g c = let given = err_from_is_err_and c.from_residual.result c.from_residual.ensures.1 in rw given.1 tt
+
+pub returns-in_err-copied-clause-no_nursery : goal.returns-in_err-copied-clause-no_nursery
+returns-in_err-copied-clause-no_nursery g c = let given = err_from_is_err_and c.from_residual.result c.from_residual.ensures.1 in rw given.1 tt
+
+pub returns-in_err-copied-clause-blocks : goal.returns-in_err-copied-clause-blocks
+returns-in_err-copied-clause-blocks g c = let given = err_from_is_err_and c.from_residual.result c.from_residual.ensures.1 in rw given.1 tt
+
+pub returns-in_err-copied-clause-stay : goal.returns-in_err-copied-clause-stay
+returns-in_err-copied-clause-stay g c = let given = err_from_is_err_and c.from_residual.result c.from_residual.ensures.1 in rw given.1 tt
+
+pub returns-in_err-copied-clause-names : goal.returns-in_err-copied-clause-names
+returns-in_err-copied-clause-names g c = let given = err_from_is_err_and c.from_residual.result c.from_residual.ensures.1 in λ _ _. rw given.1 tt
+
+pub returns-in_err-copied-clause-reachable : goal.returns-in_err-copied-clause-reachable
+returns-in_err-copied-clause-reachable g c = let given = err_from_is_err_and c.from_residual.result c.from_residual.ensures.1 in λ _ _. rw given.1 tt
+
+pub returns-in_err-settle-clause-number : goal.returns-in_err-settle-clause-number
+returns-in_err-settle-clause-number g c = let given = err_from_is_err_and c.from_residual-in_err-settle.result c.from_residual-in_err-settle.ensures.1 in rw given.1 tt
+
+pub returns-in_err-settle-clause-only_old : goal.returns-in_err-settle-clause-only_old
+returns-in_err-settle-clause-only_old g c = let given = err_from_is_err_and c.from_residual-in_err-settle.result c.from_residual-in_err-settle.ensures.1 in rw given.1 tt
+
+pub returns-in_err-settle-clause-no_nursery : goal.returns-in_err-settle-clause-no_nursery
+returns-in_err-settle-clause-no_nursery g c = let given = err_from_is_err_and c.from_residual-in_err-settle.result c.from_residual-in_err-settle.ensures.1 in rw given.1 tt
+
+pub returns-in_err-settle-clause-blocks : goal.returns-in_err-settle-clause-blocks
+returns-in_err-settle-clause-blocks g c = let given = err_from_is_err_and c.from_residual-in_err-settle.result c.from_residual-in_err-settle.ensures.1 in rw given.1 tt
+
+pub returns-in_err-settle-clause-stay : goal.returns-in_err-settle-clause-stay
+returns-in_err-settle-clause-stay g c = let given = err_from_is_err_and c.from_residual-in_err-settle.result c.from_residual-in_err-settle.ensures.1 in rw given.1 tt
+
+pub returns-in_err-settle-clause-names : goal.returns-in_err-settle-clause-names
+returns-in_err-settle-clause-names g c = let given = err_from_is_err_and c.from_residual-in_err-settle.result c.from_residual-in_err-settle.ensures.1 in λ _ _. rw given.1 tt
+
+pub returns-in_err-settle-clause-reachable : goal.returns-in_err-settle-clause-reachable
+returns-in_err-settle-clause-reachable g c = let given = err_from_is_err_and c.from_residual-in_err-settle.result c.from_residual-in_err-settle.ensures.1 in λ _ _. rw given.1 tt

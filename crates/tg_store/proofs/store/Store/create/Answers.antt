@@ -197,3 +197,102 @@ returns-clause-exhausted g c =
     λ graph stands subject all.
     let here : StandsFor old graph = ap graph_of_store c.self.view_is ∙ stands in
     absurd (create.no_room old c.self.inside.made c.self.invariant c.args.worker below c.args.label c.args.draft graph here low all)
+
+pub returns-then-worker-workers-clause-entry : goal.returns-then-worker-workers-clause-entry
+returns-then-worker-workers-clause-entry g c = rw c.create_refused.ensures tt
+
+pub returns-then-worker-workers-clause-stored : goal.returns-then-worker-workers-clause-stored
+returns-then-worker-workers-clause-stored g c = rw c.create_refused.ensures tt
+
+pub returns-then-worker-workers-clause-placed : goal.returns-then-worker-workers-clause-placed
+returns-then-worker-workers-clause-placed g c = rw c.create_refused.ensures tt
+
+pub returns-then-worker-workers-clause-name : goal.returns-then-worker-workers-clause-name
+returns-then-worker-workers-clause-name g c = λ _ _. rw c.create_refused.ensures tt
+
+pub returns-then-worker-workers-clause-step : goal.returns-then-worker-workers-clause-step
+returns-then-worker-workers-clause-step g c = λ _ _. rw c.create_refused.ensures tt
+
+pub returns-then-worker-workers-clause-handed_back : goal.returns-then-worker-workers-clause-handed_back
+returns-then-worker-workers-clause-handed_back g c = rw c.create_refused.ensures refl
+
+pub returns-then-worker-workers-clause-opening : goal.returns-then-worker-workers-clause-opening
+returns-then-worker-workers-clause-opening g c = refl
+
+pub returns-then-worker-workers-clause-limits : goal.returns-then-worker-workers-clause-limits
+returns-then-worker-workers-clause-limits g c = refl
+
+pub returns-then-worker-workers-clause-no_more : goal.returns-then-worker-workers-clause-no_more
+returns-then-worker-workers-clause-no_more g c = λ _ _. rw c.create_refused.ensures (λ e. let f : ⊥ = cc e in absurd f)
+
+pub returns-then-worker-workers-clause-no_more_entry : goal.returns-then-worker-workers-clause-no_more_entry
+returns-then-worker-workers-clause-no_more_entry g c = rw c.create_refused.ensures (λ e. let f : ⊥ = cc e in absurd f)
+
+pub returns-then-worker-workers-clause-full : goal.returns-then-worker-workers-clause-full
+returns-then-worker-workers-clause-full g c = λ _ _. rw c.create_refused.ensures (λ e. let f : ⊥ = cc e in absurd f)
+
+pub returns-then-worker-workers-clause-same_graph : goal.returns-then-worker-workers-clause-same_graph
+returns-then-worker-workers-clause-same_graph g c = λ _ stands. rw c.create_refused.ensures stands
+
+pub returns-in_default-clause-entry : goal.returns-in_default-clause-entry
+returns-in_default-clause-entry g c = rw c.create_refused-in_default.ensures tt
+
+pub returns-in_default-clause-stored : goal.returns-in_default-clause-stored
+returns-in_default-clause-stored g c = rw c.create_refused-in_default.ensures tt
+
+pub returns-in_default-clause-placed : goal.returns-in_default-clause-placed
+returns-in_default-clause-placed g c = rw c.create_refused-in_default.ensures tt
+
+pub returns-in_default-clause-name : goal.returns-in_default-clause-name
+returns-in_default-clause-name g c = λ _ _. rw c.create_refused-in_default.ensures tt
+
+pub returns-in_default-clause-step : goal.returns-in_default-clause-step
+returns-in_default-clause-step g c = λ _ _. rw c.create_refused-in_default.ensures tt
+
+pub returns-in_default-clause-handed_back : goal.returns-in_default-clause-handed_back
+returns-in_default-clause-handed_back g c = rw c.create_refused-in_default.ensures refl
+
+pub returns-in_default-clause-opening : goal.returns-in_default-clause-opening
+returns-in_default-clause-opening g c = ap (λ (s : StoreState). s.opening) c.self.view_is
+
+pub returns-in_default-clause-limits : goal.returns-in_default-clause-limits
+returns-in_default-clause-limits g c = ap (λ (s : StoreState). s.heap.table.limits) c.self.view_is
+
+pub returns-in_default-clause-no_more : goal.returns-in_default-clause-no_more
+returns-in_default-clause-no_more g c = λ _ _. rw c.create_refused-in_default.ensures (λ e. let f : ⊥ = cc e in absurd f)
+
+pub returns-in_default-clause-no_more_entry : goal.returns-in_default-clause-no_more_entry
+returns-in_default-clause-no_more_entry g c = rw c.create_refused-in_default.ensures (λ e. let f : ⊥ = cc e in absurd f)
+
+pub returns-in_default-clause-full : goal.returns-in_default-clause-full
+returns-in_default-clause-full g c = λ _ _. rw c.create_refused-in_default.ensures (λ e. let f : ⊥ = cc e in absurd f)
+
+pub returns-then-name-max_vertices-clause-entry : goal.returns-then-name-max_vertices-clause-entry
+returns-then-name-max_vertices-clause-entry g c = rw c.create_refused-then-name-max_vertices.ensures tt
+
+pub returns-then-name-max_vertices-clause-stored : goal.returns-then-name-max_vertices-clause-stored
+returns-then-name-max_vertices-clause-stored g c = rw c.create_refused-then-name-max_vertices.ensures tt
+
+pub returns-then-name-max_vertices-clause-placed : goal.returns-then-name-max_vertices-clause-placed
+returns-then-name-max_vertices-clause-placed g c = rw c.create_refused-then-name-max_vertices.ensures tt
+
+pub returns-then-name-max_vertices-clause-name : goal.returns-then-name-max_vertices-clause-name
+returns-then-name-max_vertices-clause-name g c = λ _ _. rw c.create_refused-then-name-max_vertices.ensures tt
+
+pub returns-then-name-max_vertices-clause-step : goal.returns-then-name-max_vertices-clause-step
+returns-then-name-max_vertices-clause-step g c = λ _ _. rw c.create_refused-then-name-max_vertices.ensures tt
+
+pub returns-then-name-max_vertices-clause-handed_back : goal.returns-then-name-max_vertices-clause-handed_back
+returns-then-name-max_vertices-clause-handed_back g c = rw c.create_refused-then-name-max_vertices.ensures refl
+
+pub returns-then-name-max_vertices-clause-opening : goal.returns-then-name-max_vertices-clause-opening
+returns-then-name-max_vertices-clause-opening g c = ap (λ (s : StoreState). s.opening) c.self.view_is
+
+pub returns-then-name-max_vertices-clause-limits : goal.returns-then-name-max_vertices-clause-limits
+returns-then-name-max_vertices-clause-limits g c = ap (λ (s : StoreState). s.heap.table.limits) c.self.view_is
+
+pub returns-then-name-max_vertices-clause-refused : goal.returns-then-name-max_vertices-clause-refused
+returns-then-name-max_vertices-clause-refused g c = rw c.create_refused-then-name-max_vertices.ensures (λ differs. absurd (differs refl))
+
+pub returns-then-name-max_vertices-clause-full : goal.returns-then-name-max_vertices-clause-full
+returns-then-name-max_vertices-clause-full g c = λ _ _. rw c.create_refused-then-name-max_vertices.ensures (λ e. let f : ⊥ = cc e in absurd f)

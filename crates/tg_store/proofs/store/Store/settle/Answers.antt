@@ -1,5 +1,6 @@
 -- The heap then has what can be reached, and stands for the same graph.
 use Rattle.std.proofs.Common.{◌∙◌, length, refl, ap, subst}
+use Rattle.std.proofs.lemmas.Result.{err_from_is_err_and}
 use Rattle.tg_graph.specs.Heap.{content_of}
 use Rattle.tg_graph.specs.Kept.{VerticesOfOldStay}
 use Rattle.tg_store.specs.Store.{HasAdopted, StoreState, StandsFor, graph_of_store}
@@ -39,3 +40,27 @@ returns-clause-adopted g c =
     let made = c.args.copied in
     subst (λ (state : StoreState). HasAdopted c.args.kind state.heap c.settle.new.self made.forward.words made.adoption.aged made.adoption.old) c.self.view_is
     (record { full = c.in_ok-settle.ensures.blocks; nursery = c.in_ok-settle.ensures.written })
+
+pub returns-in_err-settle-clause-number : goal.returns-in_err-settle-clause-number
+returns-in_err-settle-clause-number g c = let given = err_from_is_err_and c.from_residual.result c.from_residual.ensures.1 in rw given.1 tt
+
+pub returns-in_err-settle-clause-only_old : goal.returns-in_err-settle-clause-only_old
+returns-in_err-settle-clause-only_old g c = let given = err_from_is_err_and c.from_residual.result c.from_residual.ensures.1 in rw given.1 tt
+
+pub returns-in_err-settle-clause-no_nursery : goal.returns-in_err-settle-clause-no_nursery
+returns-in_err-settle-clause-no_nursery g c = let given = err_from_is_err_and c.from_residual.result c.from_residual.ensures.1 in rw given.1 tt
+
+pub returns-in_err-settle-clause-stay : goal.returns-in_err-settle-clause-stay
+returns-in_err-settle-clause-stay g c = let given = err_from_is_err_and c.from_residual.result c.from_residual.ensures.1 in rw given.1 tt
+
+pub returns-in_err-settle-clause-adopted : goal.returns-in_err-settle-clause-adopted
+returns-in_err-settle-clause-adopted g c = let given = err_from_is_err_and c.from_residual.result c.from_residual.ensures.1 in rw given.1 tt
+
+pub returns-in_err-settle-clause-names : goal.returns-in_err-settle-clause-names
+returns-in_err-settle-clause-names g c = let given = err_from_is_err_and c.from_residual.result c.from_residual.ensures.1 in λ _ _. rw given.1 tt
+
+pub returns-in_err-settle-clause-reachable : goal.returns-in_err-settle-clause-reachable
+returns-in_err-settle-clause-reachable g c = let given = err_from_is_err_and c.from_residual.result c.from_residual.ensures.1 in λ _ _. rw given.1 tt
+
+pub returns-clause-refused : goal.returns-clause-refused
+returns-clause-refused g c = tt
