@@ -39,10 +39,10 @@ fn share<L: Round + Send + Sync, R: Threads + Wait + Sync>(
     requires parts { (blank.parts ≡ L.parts) × (blank.parts ≡ store.opening.limit + 1) }
     requires start { start_of_store store ≡ L.start }
 {
-    match SharedStore::<L, CellPayload>::new(alloc, blank, store) {
-        Ok(shared) => tell_and_close(rt, alloc, shared),
-        Err(_) => Err(RoundFault::Store(StoreFault::OutOfMemory)),
-    }
+    let Some(shared) = SharedStore::<L, CellPayload>::new(alloc, blank, store).ok() else {
+        return Err(RoundFault::Store(StoreFault::OutOfMemory));
+    };
+    tell_and_close(rt, alloc, shared)
 }
 
 // Tells the story, closes and audits.
@@ -65,10 +65,10 @@ fn close_and_audit<L: Round>(
     store: SharedStore<L, CellPayload>,
     sessions: Vec<Session<L>>,
 ) -> Result<u64, RoundFault> {
-    match close(store, sessions) {
-        Ok(store) => audited(alloc, store.journal()),
-        Err(refused) => Err(RoundFault::Close(refused.why)),
-    }
+    let store = close(store, sessions).map_err(|refused| refused.why)?;
+    let entries = audited(alloc, store.journal());
+    drop(store);
+    entries
 }
 
 // How many entries the journal has, which is a legal history of the opening that the program makes anew.
@@ -104,11 +104,41 @@ fn tell_of_three<L: Round + Send + Sync, R: Threads + Wait + Sync>(
     client: &mut Session<L>,
     hand: &mut Session<L>,
 ) -> Result<Ending, RoundFault> {
-    let rights = label("rw")?;
-    let ledger = make(rt, alloc, store, deputy, rights)?;
-    let paper = make(rt, alloc, store, client, rights)?;
-    let _granted = hand_on(rt, store, client, paper, label("w")?)?;
+    let ledger = make_own(rt, alloc, store, deputy)?;
+    let paper = make_and_hand_on(rt, alloc, store, client)?;
     let (errands, read) = work(rt, store, deputy, client, hand, ledger, paper);
+    Ok(ended(ledger, paper, errands, read)?)
+}
+
+// Makes a vertex that the session's subject may read and write.
+fn make_own<L: Round, R: Wait>(
+    rt: &R,
+    alloc: Global,
+    store: &SharedStore<L, CellPayload>,
+    session: &mut Session<L>,
+) -> Result<u64, RoundFault> {
+    Ok(make(rt, alloc, store, session, label("rw")?)?)
+}
+
+// Makes the client's paper, over which the client hands w on to the deputy's hand.
+fn make_and_hand_on<L: Round, R: Wait>(
+    rt: &R,
+    alloc: Global,
+    store: &SharedStore<L, CellPayload>,
+    client: &mut Session<L>,
+) -> Result<u64, RoundFault> {
+    let paper = make_own(rt, alloc, store, client)?;
+    let _granted = hand_on(rt, store, client, paper, label("w")?)?;
+    Ok(paper)
+}
+
+// How it ended, where both threads came to their ends.
+fn ended(
+    ledger: u64,
+    paper: u64,
+    errands: Result<Errands, StoreFault>,
+    read: Result<(), StoreFault>,
+) -> Result<Ending, StoreFault> {
     read?;
     Ok(Ending {
         ledger,
