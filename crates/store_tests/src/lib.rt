@@ -1,15 +1,14 @@
 //! Tests of the store and of all that is above it, and of the payloads that both name.
 //!
 //! They stand here and not beside what they test, since a crate with tests is proved twice. A test is named for what it
-//! shows; each file has one topic. Nothing here is called by any crate.
+//! shows; each file has one topic. Nothing here is called by any crate. What a whole script is answered is no test here: such
+//! scripts are rows of `rows/`, which the program is run on.
 #![tactic(auto)]
 
 #[cfg(test)]
 mod counting_payload;
 #[cfg(test)]
 mod help;
-#[cfg(test)]
-mod hostile;
 #[cfg(test)]
 mod lent;
 #[cfg(test)]
@@ -19,15 +18,11 @@ mod races;
 #[cfg(test)]
 mod rows;
 #[cfg(test)]
-mod rows_by_helpers;
-#[cfg(test)]
 mod scripts;
 #[cfg(test)]
 mod sessions;
 #[cfg(test)]
 mod shown;
-#[cfg(test)]
-mod stocks;
 #[cfg(test)]
 mod stores;
 #[cfg(test)]

@@ -1,5 +1,4 @@
 //! Scripts whose workers run their lines side by side.
 mod orders;
 mod raced;
-mod rows;
 mod turnstiles;

@@ -50,14 +50,12 @@ impl Turnstile for Meet {
 
 // A line of each of two workers.
 const AT_ONE_GATE: Row<'static> = Row {
-    name: "two workers at one gate",
     workers: 2,
     max_vertices: 1_000_000,
     blocks: 4096,
     stock: b"",
     script: b"0 list\n1 list\n",
     written: b"ok\nok\nentries 2 audit ok\n",
-    outcome: Ok(()),
 };
 
 // Two lines of one worker.
