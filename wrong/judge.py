@@ -1,0 +1,183 @@
+"""Checks functions of a crate with wrong bodies in them, and says what the checker made of each."""
+import os
+import re
+import resource
+import shutil
+import subprocess
+import tempfile
+
+from bodies import BadBody, planted
+
+# What an answer is told of where a name in it is gone: that says nothing of the clause.
+GONE = re.compile(r"has no field|is not a field|can be named from here|not in scope|is not defined|unknown name|has no `|arguments? but|no such")
+
+
+def crates(top):
+    """The crates of crates.txt: their libraries, and whether each is a static library."""
+    named = {}
+    with open(f"{top}/crates.txt", encoding="utf-8") as lines:
+        for line in lines:
+            head, _, below = line.partition("#")[0].partition(":")
+            if head.split():
+                named[head.split()[0]] = below.split(), "staticlib" in head.split()
+    return named
+
+
+def below(named, crate):
+    """The repository's libraries below a crate, each after those that it uses."""
+    found = []
+    for name in named[crate][0]:
+        if name in named:
+            found += [it for it in [*below(named, name), name] if it not in found]
+    return found
+
+
+class Checker:
+    """The kit's own check, over the libraries that 'rt ci' or 'rt all check' left."""
+
+    def __init__(self, top, libraries):
+        self.top, self.libraries = top, libraries
+        self.named = crates(top)
+        page = subprocess.run(["rt", "doc"], capture_output=True, text=True, check=True).stdout.strip()
+        self.kit = os.path.dirname(page)
+
+    def library(self, name):
+        if name not in self.named:
+            return f"{self.kit}/rlibs/{name}.rlib"
+        path = f"{self.libraries}/{name}/out/rlib/{name}.rlib"
+        if not os.path.isdir(path):
+            raise BadBody(f"{name} isn't built: 'rt ci' leaves its library, and so does 'rt all check'")
+        return path
+
+    def words(self, crate, root):
+        uses, is_static = self.named[crate]
+        words = ["--crate-name", crate, root, "--extern", f"std={self.kit}/rlibs/std.rlib"]
+        for name in uses:
+            words += ["--extern", f"{name}={self.library(name)}"]
+        words += ["-L", f"dependency={self.kit}/rlibs"]
+        for name in below(self.named, crate):
+            words += ["-L", f"dependency={os.path.dirname(self.library(name))}"]
+        words += ["--antt-project", f"{self.kit}/rattle/logic/antt-project.json", "--logic-built", f"{self.kit}/logic_built"]
+        words += ["--links", f"{crate}=", "--jobs", "1"]
+        return words + ["--crate-type", "staticlib"] * is_static
+
+    def run(self, crate, files, aside, functions):
+        """What the check of these functions says, with these texts in place of the crate's and without these answers, and its processor seconds."""
+        with tempfile.TemporaryDirectory(prefix="wrong-") as room:
+            folder = f"{room}/{crate}"
+            shutil.copytree(f"{self.top}/crates/{crate}", folder, ignore=shutil.ignore_patterns("out"))
+            for path in aside:
+                remove(f"{folder}/proofs/{path}")
+            for path, text in files.items():
+                with open(f"{folder}/{path}", "w", encoding="utf-8") as out:
+                    out.write(text)
+            root = "src/main.rt" if os.path.exists(f"{folder}/src/main.rt") else "src/lib.rt"
+            words = [f"{self.kit}/bin/rattle", "check", *self.words(crate, root), "--allow-holes"]
+            for name in functions:
+                words += ["--only", name]
+            before = seconds()
+            ran = subprocess.run(words, cwd=folder, stdin=subprocess.DEVNULL, stdout=subprocess.PIPE, stderr=subprocess.STDOUT, text=True, errors="replace", check=False)
+            return ran.stdout, seconds() - before
+
+    def text_of(self, crate):
+        """A reader of the crate's files."""
+        def read(file):
+            path = f"{self.top}/crates/{crate}/{file}"
+            if not os.path.isfile(path):
+                return None
+            with open(path, encoding="utf-8") as it:
+                return it.read()
+        return read
+
+    def check(self, bodies):
+        """What the check says with all these bodies of one crate planted, and its seconds."""
+        crate, files = bodies[0].crate, {}
+        for body in bodies:
+            read = self.text_of(crate)
+            files.update(planted(body, lambda file: files[file] if file in files else read(file)))
+        aside = [it for body in bodies for it in body.listed("aside")]
+        return self.run(crate, files, aside, [it for body in bodies for it in body.functions])
+
+
+def remove(path):
+    if os.path.isdir(path):
+        shutil.rmtree(path)
+    elif os.path.exists(path):
+        os.remove(path)
+    else:
+        raise BadBody(f"{path}: no answers to set aside")
+
+
+def seconds():
+    used = resource.getrusage(resource.RUSAGE_CHILDREN)
+    return used.ru_utime + used.ru_stime
+
+
+class Said:
+    """A check's output, read function by function."""
+
+    def __init__(self, output):
+        self.output = output
+        self.is_whole = bool(re.search(r"^only=\d+ holes=", output, re.M))
+        self.lines = dict(re.findall(r"^fn \w+::(\S+): (.*)$", output, re.M))
+        self.errors = re.findall(r"^\./proofs/(\S+)\.antt:\d+:\d+: error: `([^`]+)`: (.*)$", output, re.M)
+
+    def lines_of(self, function):
+        """The lines on a function, which may be named by the end of its path."""
+        return [(name, it) for name, it in self.lines.items() if name == function or name.endswith(f"::{function}")]
+
+    def goals(self, function):
+        """The goals of a function that weren't proved, and what was said of names that are gone."""
+        open_goals, gone = set(), []
+        for name, line in self.lines_of(function):
+            own = line.partition("`search` did not prove ")[2].partition(";")[0]
+            open_goals.update(re.findall(r"`([^`]+)`", own))
+            at = name.replace("::", "/")
+            for file, goal, text in self.errors:
+                if file == f"{at}/Answers" or file == f"{at}/Invariants":
+                    (gone.append(f"{goal}: {text}") if GONE.search(text) else open_goals.add(goal))
+            if re.search(r"could not tell|expected invariants", line):
+                gone.append(line)
+        return open_goals, gone
+
+    def is_proved(self, function):
+        """Whether the function's own goals all hold. That one which it calls doesn't is no matter of its own."""
+        lines = [line for _, line in self.lines_of(function)]
+        calls = r"no proof: it calls `[^;]*$"
+        return bool(lines) and all(it in ("no holes", "proved") or re.match(calls, it) for it in lines)
+
+
+def clause_of(goal):
+    """The clause that a goal is of: `returns-in-Ok-clause-fresh` is of `fresh`, and `returns-in-Ok` of the one that has no name."""
+    if "requires" in goal:
+        return "requires"
+    if "invariant" in goal:
+        return "invariant"
+    return goal.rpartition("-clause-")[2] if "-clause-" in goal else "ensures" if goal.startswith("returns") else goal
+
+
+def verdict(body, said):
+    """One of 'refused', 'proves', 'elsewhere' and 'not judged', with what there is to say of it."""
+    if not said.is_whole:
+        return "not judged", first_error(said.output)
+    open_goals, gone = set(), []
+    for function in body.functions:
+        if not said.lines_of(function):
+            return "not judged", f"the check says nothing of {function}"
+        goals, names = said.goals(function)
+        open_goals |= {(function, it) for it in goals}
+        gone += names
+    if not open_goals and not gone and all(said.is_proved(it) for it in body.functions):
+        return "proves", ""
+    function, clauses = body.refused
+    here = {clause_of(goal) for at, goal in open_goals if at == function or at.endswith(f"::{function}") or function.endswith(f"::{at}")}
+    if here & set(clauses):
+        return "refused", ", ".join(sorted(here & set(clauses)))
+    if open_goals:
+        return "elsewhere", ", ".join(sorted(f"{at}: {clause_of(goal)}" for at, goal in open_goals))
+    return "not judged", (gone or ["the check gives no goal"])[0][:200]
+
+
+def first_error(output):
+    errors = re.findall(r"^.*error.*$", output, re.M)
+    return next((it for it in errors if "thiserror" not in it), output[-200:])[:200]
