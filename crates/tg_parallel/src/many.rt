@@ -65,8 +65,8 @@ pub fn collect_seated(
 /// What they leave is a collection as that of `tg_evac::collect_one`, but that each space may have as many blocks more than
 /// its copies need as there are helpers. `HeapFull` is answered only where the cells in use that would be moved may not fit
 /// into the blocks that a space may have, if each helper leaves one open; `NoThread` where a thread couldn't be started, and
-/// never of one helper alone. Where several helpers fail, the fault is that of the least number. Those that were started
-/// end before the answer. Each helper has a like share of the spare blocks, and fills them first.
+/// never of one helper alone. Those that were started end before the answer. Each helper has a like share of the spare
+/// blocks, and fills them first.
 #[tactic(auto, using(tg_evac::proofs::Behind::kept_within))]
 pub fn collect_many<R: Threads + Wait + Sync, G: Gate>(
     rt: &R,

@@ -42,7 +42,7 @@
 //! where it nearly is.
 //!
 //! The layer above starts helpers on threads, and cites: the contracts of `Helper`, `RaceTable::close` (the words, and
-//! the one record under the rule), the laws of [`laws`], and `IsComplete`.
+//! the one record under the rule), the laws of [`laws`], and `IsCompleteRecord`.
 #![tactic(auto)]
 
 pub use event::Event;
