@@ -151,7 +151,7 @@ def clause_of(goal):
     """The clause that a goal is of: `returns-in-Ok-clause-fresh` is of `fresh`, and `returns-in-Ok` of the one that has no name."""
     if "requires" in goal:
         return "requires"
-    if "invariant" in goal:
+    if "invariant" in goal or goal.startswith("loop-"):
         return "invariant"
     return goal.rpartition("-clause-")[2] if "-clause-" in goal else "ensures" if goal.startswith("returns") else goal
 
