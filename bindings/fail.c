@@ -58,7 +58,8 @@ static void stop(int line, tg_status status) {
 
 static uint64_t tell_story(void) {
     static const tg_value workers[2] = { { TG_CELL, 0, 0 }, { TG_LOG, 3, 0 } };
-    static const tg_value kinds[4] = { { TG_CELL, 0, 1 }, { TG_SUM, 0, 2 }, { TG_MAX, 0, 3 }, { TG_LOG, 4, 0 } };
+    /* One of each dies: a max and a log in a full collection, a sum and a log in one of the nurseries. */
+    static const tg_value kinds[4] = { { TG_LOG, 2, 0 }, { TG_SUM, 0, 2 }, { TG_MAX, 0, 3 }, { TG_LOG, 4, 0 } };
     static const tg_edge edges[2] = { { 0, 1, TG_GRANT | TG_TAKE }, { 1, 0, TG_GRANT } };
     static const tg_limits limits = { 1000, 64, 64 };
     tg_store store = TG_STORE_INIT;

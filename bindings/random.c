@@ -1,209 +1,396 @@
-/* random SEED COMMANDS SCRIPT REPLIES: random commands on a store, written as a script, with the replies beside it.
+/* random SEED COMMANDS FOLDER: random commands by eight threads, each on a store of its own, written as scripts with the replies beside
+   them: FOLDER/0.script and FOLDER/0.replies are those of the first.
 
-   The script is one that the plain program bench/reference.rs takes, whose replies must be the same. Collections of the
-   nurseries run in between, of which the script says nothing, and at the end the journal is audited. */
+   A script is one that the plain program bench/reference.rs takes, whose replies must be the same. Some stores have tight limits, and of some
+   requests for memory are refused. A call that is refused for either changes nothing, so the script leaves it out. The stores move from place
+   to place, and what a call may not write to is looked at. Collections of the nurseries run in between, of which the script says nothing.
+   At the end the journal is audited, and each block of memory has to have been given back. It is linked with
+   --wrap=malloc,--wrap=realloc,--wrap=free. */
 #include "kovshenul.h"
 #include <inttypes.h>
+#include <pthread.h>
+#include <stdarg.h>
 #include <stdio.h>
 #include <stdlib.h>
+#include <string.h>
 
-enum { WORKERS = 3, MAX_VERTICES = 9000, ROW = MAX_VERTICES };
+enum { THREADS = 8, WORKERS = 3, MAX_VERTICES = 9000, ROW = MAX_VERTICES, NUMBERS = 64, PATH = 4096 };
 
-static tg_store store = TG_STORE_INIT;
-static FILE *script, *replies;
-static uint64_t state, made = WORKERS;
+#define UNTOUCHED UINT64_C(0xbbbbbbbbbbbbbbbb)
+
+/* What the store of a thread has to do with: how many blocks in all and in a space, and how many of 1,000 requests are refused. */
+static const struct {
+    uint64_t blocks, space_blocks, refused;
+} bounds[THREADS] = {
+    { 65536, 1048576, 0 },
+    { 65536, 1048576, 1 },
+    { 65536, 1048576, 50 },
+    { 3, 1048576, 0 },
+    { 4, 1048576, 10 },
+    { 20, 1048576, 0 },
+    { 65536, 2, 0 },
+    { 300, 40, 5 },
+};
+
+static const tg_denial no_denial = { 0xbbbbbbbb, 0xbbbbbbbb, UNTOUCHED, UNTOUCHED, UNTOUCHED };
+
+/* The commands of one thread. */
+struct run {
+    int number;
+    tg_store places[2];    /* the store is in one of them */
+    int place;
+    FILE *script, *replies;
+    char line[128];        /* of the command */
+    uint64_t state;        /* of the random numbers */
+    uint64_t made;
+    tg_denial why;
+    long answered, refused_memory, refused_heap;
+};
+
+static uint64_t seed, commands;
+static const char *folder;
+
+/* ---- memory */
+
+void *__real_malloc(size_t size);
+void *__real_realloc(void *at, size_t size);
+void __real_free(void *at);
+
+static _Thread_local uint64_t refusals;    /* how many of 1,000 requests are refused */
+static _Thread_local uint64_t drawn;
+static _Thread_local long refused, held;
 
 /* Numbers by a linear congruence, of which the upper bits are taken. */
-static uint64_t below(uint64_t bound) {
-    state = state * 6364136223846793005u + 1442695040888963407u;
-    return (state >> 33) % bound;
+static uint64_t next_below(uint64_t *state, uint64_t bound) {
+    *state = *state * 6364136223846793005u + 1442695040888963407u;
+    return (*state >> 33) % bound;
 }
 
-static void stop(const char *what, tg_status status) {
-    fprintf(stderr, "random: %s: status %" PRIu32 "\n", what, status);
-    exit(1);
+static int is_refused(void) {
+    int is = refusals > 0 && next_below(&drawn, 1000) < refusals;
+    refused += is;
+    return is;
 }
 
-static FILE *written(const char *path) {
-    FILE *file = fopen(path, "w");
-    if (file == NULL)
-        stop(path, 0);
-    return file;
+void *__wrap_malloc(size_t size) {
+    void *made_at = is_refused() ? NULL : __real_malloc(size);
+    held += made_at != NULL;
+    return made_at;
 }
 
-static void put_rights(FILE *file, uint64_t rights) {
-    for (int bit = 0; bit < 4; bit++)
-        if (rights >> bit & 1)
-            putc("rwtg"[bit], file);
+void *__wrap_realloc(void *at, size_t size) {
+    void *made_at = is_refused() ? NULL : __real_realloc(at, size);
+    held += at == NULL && made_at != NULL;
+    return made_at;
+}
+
+void __wrap_free(void *at) {
+    held -= at != NULL;
+    __real_free(at);
+}
+
+/* ---- what is random */
+
+static uint64_t below(struct run *run, uint64_t bound) {
+    return next_below(&run->state, bound);
 }
 
 /* One right mostly. */
-static uint64_t rights_of_some(void) {
-    return below(4) == 0 ? 1 + below(15) : UINT64_C(1) << below(4);
+static uint64_t rights_of_some(struct run *run) {
+    return below(run, 4) == 0 ? 1 + below(run, 15) : UINT64_C(1) << below(run, 4);
 }
 
-static uint64_t name_of_worker(void) {
-    return below(WORKERS);
+static uint64_t name_of_worker(struct run *run) {
+    return below(run, WORKERS);
 }
 
-static uint64_t name_of_vertex(void) {
-    return made - 1 - below(made - WORKERS < 9 ? made - WORKERS + 1 : 9);
+static uint64_t name_of_vertex(struct run *run) {
+    uint64_t vertices = run->made - WORKERS;
+    return run->made - 1 - below(run, vertices < 9 ? vertices + 1 : 9);
 }
 
-static uint64_t name_of_some(void) {
-    return below(6) == 0 ? name_of_worker() : name_of_vertex();
+static uint64_t name_of_some(struct run *run) {
+    return below(run, 6) == 0 ? name_of_worker(run) : name_of_vertex(run);
 }
 
-static uint64_t one_who_asks(void) {
-    return below(100) == 0 ? WORKERS + below(3) : name_of_worker();
+static uint64_t one_who_asks(struct run *run) {
+    return below(run, 100) == 0 ? WORKERS + below(run, 3) : name_of_worker(run);
 }
 
-/* Whether the command was done. Else its reply is written. */
-static int is_done(tg_status status, const tg_denial *why) {
-    static const char *const rules[] = { "take", "grant", "remove", "read", "write" };
-    if (status == TG_DONE)
-        return 1;
-    if (status == TG_NO_SUCH_WORKER)
-        fputs("refused worker\n", replies);
-    else if (status != TG_DENIED)
-        stop("command", status);
-    else if (why->cause == TG_NOT_DISTINCT)
-        fprintf(replies, "denied %s distinct\n", rules[why->rule]);
-    else {
-        fprintf(replies, "denied %s %" PRIu64 "->%" PRIu64 " ", rules[why->rule], why->from, why->to);
-        put_rights(replies, why->rights);
-        putc('\n', replies);
+/* ---- what is written */
+
+static void stop(const struct run *run, const char *what, tg_status status) {
+    fprintf(stderr, "random: store %d, %s: %s: status %" PRIu32 "\n", run->number, run->line, what, status);
+    exit(1);
+}
+
+static void want(const struct run *run, int it, const char *what) {
+    if (!it)
+        stop(run, what, 0);
+}
+
+/* The letters of the rights. */
+static const char *letters(uint64_t rights, char text[5]) {
+    int count = 0;
+    for (int bit = 0; bit < 4; bit++)
+        if (rights >> bit & 1)
+            text[count++] = "rwtg"[bit];
+    text[count] = '\0';
+    return text;
+}
+
+/* The line of the command that is made next. */
+static void say(struct run *run, const char *form, ...) {
+    va_list parts;
+    va_start(parts, form);
+    vsnprintf(run->line, sizeof run->line, form, parts);
+    va_end(parts);
+    run->why = no_denial;
+}
+
+/* The store, which moves first now and then. */
+static tg_store *store_of(struct run *run) {
+    if (below(run, 50) == 0) {
+        tg_store *from = &run->places[run->place];
+        run->place = 1 - run->place;
+        run->places[run->place] = *from;
+        memset(from, 0xbb, sizeof *from);
     }
+    return &run->places[run->place];
+}
+
+/* Whether the call was answered, and its line stands in the script. One that is refused has a reason. */
+static int is_answered(struct run *run, tg_status status, long refused_before) {
+    if (status == TG_OUT_OF_MEMORY) {
+        want(run, refused > refused_before, "out of memory with memory");
+        run->refused_memory++;
+        return 0;
+    }
+    if (status == TG_HEAP_FULL) {
+        want(run, bounds[run->number].blocks < 65536 || bounds[run->number].space_blocks < 65536, "heap full with room");
+        run->refused_heap++;
+        return 0;
+    }
+    fprintf(run->script, "%s\n", run->line);
+    run->answered++;
+    return 1;
+}
+
+/* The reply to a command that was denied. */
+static void put_denial(struct run *run) {
+    static const char *const rules[] = { "take", "grant", "remove", "read", "write" };
+    const tg_denial *why = &run->why;
+    char text[5];
+    if (why->cause == TG_NOT_DISTINCT)
+        fprintf(run->replies, "denied %s distinct\n", rules[why->rule]);
+    else
+        fprintf(run->replies, "denied %s %" PRIu64 "->%" PRIu64 " %s\n", rules[why->rule], why->from, why->to,
+                letters(why->rights, text));
+}
+
+/* Whether the command was done. Else its reply is written, where it has one. */
+static int is_done(struct run *run, tg_status status, long refused_before) {
+    int is_denied = status == TG_DENIED;
+    want(run, is_denied || memcmp(&run->why, &no_denial, sizeof no_denial) == 0, "a denial of what isn't denied");
+    if (!is_answered(run, status, refused_before) || status == TG_DONE)
+        return status == TG_DONE;
+    if (is_denied)
+        put_denial(run);
+    else if (status == TG_NO_SUCH_WORKER)
+        fputs("refused worker\n", run->replies);
+    else if (status == TG_VERTICES_FULL)
+        fputs("refused vertices\n", run->replies);
+    else
+        stop(run, "command", status);
     return 0;
 }
 
-static void done(tg_status status, const tg_denial *why) {
-    if (is_done(status, why))
-        fputs("ok\n", replies);
+/* ---- commands */
+
+static void take_or_grant(struct run *run, int grants) {
+    uint64_t x = one_who_asks(run), y = below(run, 3) == 0 ? name_of_some(run) : (x + 1) % WORKERS;
+    uint64_t z = name_of_some(run), rights = rights_of_some(run);
+    char text[5];
+    long before = refused;
+    say(run, "%" PRIu64 " %s %" PRIu64 " %" PRIu64 " %s", x, grants ? "grant" : "take", y, z, letters(rights, text));
+    tg_status status = grants ? tg_grant(store_of(run), x, y, z, rights, &run->why)
+                              : tg_take(store_of(run), x, y, z, rights, &run->why);
+    if (is_done(run, status, before))
+        fputs("ok\n", run->replies);
 }
 
-static void take_or_grant(int grants) {
-    uint64_t x = one_who_asks(), y = below(3) == 0 ? name_of_some() : (x + 1) % WORKERS;
-    uint64_t z = name_of_some(), rights = rights_of_some();
-    tg_denial why;
-    fprintf(script, "%" PRIu64 " %s %" PRIu64 " %" PRIu64 " ", x, grants ? "grant" : "take", y, z);
-    put_rights(script, rights);
-    putc('\n', script);
-    done(grants ? tg_grant(&store, x, y, z, rights, &why) : tg_take(&store, x, y, z, rights, &why), &why);
+static void give_up(struct run *run) {
+    uint64_t x = one_who_asks(run), y = name_of_vertex(run), rights = rights_of_some(run);
+    char text[5];
+    long before = refused;
+    say(run, "%" PRIu64 " remove %" PRIu64 " %s", x, y, letters(rights, text));
+    if (is_done(run, tg_remove(store_of(run), x, y, rights, &run->why), before))
+        fputs("ok\n", run->replies);
 }
 
-static void give_up(void) {
-    uint64_t x = one_who_asks(), y = name_of_vertex(), rights = rights_of_some();
-    tg_denial why;
-    fprintf(script, "%" PRIu64 " remove %" PRIu64 " ", x, y);
-    put_rights(script, rights);
-    putc('\n', script);
-    done(tg_remove(&store, x, y, rights, &why), &why);
+static void write_some(struct run *run) {
+    uint64_t x = one_who_asks(run), y = name_of_some(run), value = below(run, 1000);
+    long before = refused;
+    say(run, "%" PRIu64 " write %" PRIu64 " %" PRIu64, x, y, value);
+    if (is_done(run, tg_write(store_of(run), x, y, value, &run->why), before))
+        fputs("ok\n", run->replies);
 }
 
-static void write_some(void) {
-    uint64_t x = one_who_asks(), y = name_of_some(), value = below(1000);
-    tg_denial why;
-    fprintf(script, "%" PRIu64 " write %" PRIu64 " %" PRIu64 "\n", x, y, value);
-    done(tg_write(&store, x, y, value, &why), &why);
+static void read_some(struct run *run) {
+    uint64_t x = one_who_asks(run), y = name_of_some(run), numbers[NUMBERS], count = UNTOUCHED;
+    long before = refused;
+    memset(numbers, 0xbb, sizeof numbers);
+    say(run, "%" PRIu64 " read %" PRIu64, x, y);
+    int is = is_done(run, tg_read(store_of(run), x, y, numbers, NUMBERS, &count, &run->why), before);
+    want(run, is ? count <= NUMBERS : count == UNTOUCHED, "a count of what isn't read");
+    if (is)
+        fputs("ok", run->replies);
+    for (uint64_t i = 0; is && i < count; i++)
+        fprintf(run->replies, " %" PRIu64, numbers[i]);
+    if (is)
+        fputs("\n", run->replies);
+    for (uint64_t i = is ? count : 0; i < NUMBERS; i++)
+        want(run, numbers[i] == UNTOUCHED, "a number that isn't read");
 }
 
-static void read_some(void) {
-    uint64_t x = one_who_asks(), y = name_of_some(), numbers[64], count;
-    tg_denial why;
-    fprintf(script, "%" PRIu64 " read %" PRIu64 "\n", x, y);
-    if (!is_done(tg_read(&store, x, y, numbers, 64, &count, &why), &why))
-        return;
-    fputs("ok", replies);
-    for (uint64_t i = 0; i < count; i++)
-        fprintf(replies, " %" PRIu64, numbers[i]);
-    putc('\n', replies);
+static void list_some(struct run *run) {
+    static _Thread_local tg_target row[ROW];
+    uint64_t x = one_who_asks(run), count = UNTOUCHED;
+    char text[5];
+    long before = refused;
+    memset(row, 0xbb, sizeof row);
+    say(run, "%" PRIu64 " list", x);
+    int is = is_done(run, tg_list(store_of(run), x, row, ROW, &count), before);
+    want(run, is ? count <= ROW : count == UNTOUCHED, "a count of what isn't listed");
+    if (is)
+        fputs("ok", run->replies);
+    for (uint64_t i = 0; is && i < count; i++)
+        fprintf(run->replies, " %" PRIu64 ":%s", row[i].to, letters(row[i].rights, text));
+    if (is)
+        fputs("\n", run->replies);
+    for (uint64_t i = is ? count : 0; i < ROW; i++)
+        want(run, row[i].to == UNTOUCHED && row[i].rights == UNTOUCHED, "an edge that isn't listed");
 }
 
-static void list_some(void) {
-    static tg_target row[ROW];
-    uint64_t x = one_who_asks(), count;
-    fprintf(script, "%" PRIu64 " list\n", x);
-    if (!is_done(tg_list(&store, x, row, ROW, &count), NULL))
-        return;
-    fputs("ok", replies);
-    for (uint64_t i = 0; i < count; i++) {
-        fprintf(replies, " %" PRIu64 ":", row[i].to);
-        put_rights(replies, row[i].rights);
-    }
-    putc('\n', replies);
-}
-
-static void create(void) {
+static void create(struct run *run) {
     static const tg_value stock[4] = { { TG_CELL, 0, 0 }, { TG_SUM, 0, 0 }, { TG_MAX, 0, 0 }, { TG_LOG, 4, 0 } };
-    uint64_t x = one_who_asks(), rights = below(4) == 0 ? rights_of_some() : 15, name;
-    fprintf(script, "%" PRIu64 " create ", x);
-    put_rights(script, rights);
-    putc('\n', script);
-    tg_status status = tg_create(&store, x, rights, &stock[(made - WORKERS) % 4], &name);
-    if (status == TG_VERTICES_FULL)
-        fputs("refused vertices\n", replies);
-    else if (is_done(status, NULL)) {
-        made++;
-        fprintf(replies, "ok %" PRIu64 "\n", name);
-    }
+    uint64_t x = one_who_asks(run), rights = below(run, 4) == 0 ? rights_of_some(run) : 15, name = UNTOUCHED;
+    char text[5];
+    long before = refused;
+    say(run, "%" PRIu64 " create %s", x, letters(rights, text));
+    int is = is_done(run, tg_create(store_of(run), x, rights, &stock[(run->made - WORKERS) % 4], &name), before);
+    want(run, is == (name != UNTOUCHED), "a name of what isn't made");
+    if (is)
+        fprintf(run->replies, "ok %" PRIu64 "\n", name);
+    run->made += is;
 }
 
-static void collect(int tells) {
-    uint64_t left;
-    tg_status status = tg_collect(&store, tells ? TG_FULL : TG_NURSERY, &left);
-    if (status != TG_DONE)
-        stop("collection", status);
-    if (!tells)
+/* A collection of the nurseries stands in no script. */
+static void collect(struct run *run, uint32_t kind) {
+    uint64_t left = UNTOUCHED;
+    long before = refused;
+    say(run, "%s", kind == TG_FULL ? "full" : "minor");
+    tg_status status = tg_collect(store_of(run), kind, &left);
+    want(run, (status == TG_DONE) == (left != UNTOUCHED), "a count of what isn't collected");
+    if (status == TG_DONE && kind == TG_NURSERY)
         return;
-    fputs("full\n", script);
-    fprintf(replies, "ok %" PRIu64 "\n", left);
+    if (is_done(run, status, before))
+        fprintf(run->replies, "ok %" PRIu64 "\n", left);
 }
 
-static void command(void) {
-    uint64_t which = below(1000);
+static void command(struct run *run) {
+    uint64_t which = below(run, 1000);
     if (which < 2)
-        collect(which == 0);
-    if (which < 90)
-        create();
+        collect(run, which == 0 ? TG_FULL : TG_NURSERY);
+    else if (which < 90)
+        create(run);
     else if (which < 620)
-        take_or_grant(which % 2 == 0);
+        take_or_grant(run, which % 2 == 0);
     else if (which < 700)
-        give_up();
+        give_up(run);
     else if (which < 850)
-        write_some();
+        write_some(run);
     else if (which < 980)
-        read_some();
+        read_some(run);
     else
-        list_some();
+        list_some(run);
 }
 
-static void open_store(void) {
-    static tg_value workers[WORKERS];
-    static tg_edge edges[WORKERS];
-    const tg_limits limits = { MAX_VERTICES, 65536, 1048576 };
+/* ---- a run */
+
+static FILE *written(const struct run *run, const char *what) {
+    char path[PATH];
+    snprintf(path, sizeof path, "%s/%d.%s", folder, run->number, what);
+    FILE *file = fopen(path, "w");
+    want(run, file != NULL, path);
+    return file;
+}
+
+static void open_store(struct run *run) {
+    static const tg_value workers[WORKERS];
+    tg_edge edges[WORKERS];
+    const tg_limits limits = { MAX_VERTICES, bounds[run->number].blocks, bounds[run->number].space_blocks };
     for (uint64_t i = 0; i < WORKERS; i++) {
         edges[i] = (tg_edge){ i, (i + 1) % WORKERS, TG_TAKE | TG_GRANT };
-        fprintf(script, "edge %" PRIu64 " %" PRIu64 " tg\n", i, (i + 1) % WORKERS);
+        fprintf(run->script, "edge %" PRIu64 " %" PRIu64 " tg\n", i, (i + 1) % WORKERS);
     }
-    tg_status status = tg_open(&store, workers, WORKERS, edges, WORKERS, &limits);
+    tg_status status = TG_OUT_OF_MEMORY;
+    while (status == TG_OUT_OF_MEMORY) {
+        want(run, !run->places[0].is_open && held == 0, "a refused opening");
+        status = tg_open(&run->places[0], workers, WORKERS, edges, WORKERS, &limits);
+    }
     if (status != TG_DONE)
-        stop("opening", status);
+        stop(run, "opening", status);
+}
+
+static void audit_and_close(struct run *run) {
+    tg_store *store = &run->places[run->place];
+    uint64_t entries, audited;
+    tg_status status = tg_audit(store, &audited);
+    if (status != TG_DONE)
+        stop(run, "audit", status);
+    want(run, tg_entries(store, &entries) == TG_DONE && entries == audited, "entries");
+    want(run, tg_close(store) == TG_DONE && !store->is_open && held == 0, "memory is held by a closed store");
+    want(run, fclose(run->script) == 0 && fclose(run->replies) == 0, "files");
+}
+
+static void *run_all(void *at) {
+    struct run *run = at;
+    run->state = seed * THREADS + (uint64_t)run->number;
+    drawn = ~run->state;
+    refusals = bounds[run->number].refused;
+    run->made = WORKERS;
+    run->script = written(run, "script");
+    run->replies = written(run, "replies");
+    open_store(run);
+    for (uint64_t left = commands; left > 0; left--)
+        command(run);
+    refusals = 0;
+    audit_and_close(run);
+    return NULL;
 }
 
 int main(int count, char **words) {
-    uint64_t entries;
-    if (count != 5)
-        stop("usage: random SEED COMMANDS SCRIPT REPLIES", 0);
-    state = strtoull(words[1], NULL, 10);
-    script = written(words[3]);
-    replies = written(words[4]);
-    open_store();
-    for (uint64_t left = strtoull(words[2], NULL, 10); left > 0; left--)
-        command();
-    tg_status status = tg_audit(&store, &entries);
-    if (status != TG_DONE)
-        stop("audit", status);
-    tg_close(&store);
-    return fclose(script) != 0 || fclose(replies) != 0;
+    static struct run runs[THREADS];
+    pthread_t threads[THREADS];
+    long answered = 0, memory = 0, heap = 0;
+    if (count != 4) {
+        fputs("usage: random SEED COMMANDS FOLDER\n", stderr);
+        return 2;
+    }
+    seed = strtoull(words[1], NULL, 10);
+    commands = strtoull(words[2], NULL, 10);
+    folder = words[3];
+    for (int i = 0; i < THREADS; i++) {
+        runs[i].number = i;
+        want(&runs[i], pthread_create(&threads[i], NULL, run_all, &runs[i]) == 0, "a thread");
+    }
+    for (int i = 0; i < THREADS; i++) {
+        want(&runs[i], pthread_join(threads[i], NULL) == 0, "a thread");
+        answered += runs[i].answered;
+        memory += runs[i].refused_memory;
+        heap += runs[i].refused_heap;
+    }
+    printf("random: %ld calls answered, %ld refused for memory, %ld for the limits\n", answered, memory, heap);
+    return 0;
 }

@@ -174,6 +174,23 @@ static void full_heap(void) {
     WANT(tg_close(&store) == TG_DONE);
 }
 
+/* A log may keep 64 numbers, and then keeps the last 64. */
+static void longest_log(void) {
+    const tg_value longest = { TG_LOG, 64, 0 };
+    tg_store store = TG_STORE_INIT;
+    uint64_t name, count, entries;
+    WANT(tg_open(&store, workers, 1, edges, 0, &limits) == TG_DONE);
+    WANT(tg_create(&store, 0, TG_READ | TG_WRITE, &longest, &name) == TG_DONE);
+    for (uint64_t i = 0; i < 70; i++)
+        WANT(tg_write(&store, 0, name, i, &why) == TG_DONE);
+    WANT(tg_read(&store, 0, name, numbers, 64, &count, &why) == TG_DONE && count == 64);
+    for (uint64_t i = 0; i < 64; i++)
+        WANT(numbers[i] == i + 6);
+    WANT(tg_entries(&store, &entries) == TG_DONE && entries == 72);
+    WANT(tg_audit(&store, &count) == TG_DONE && count == entries);
+    WANT(tg_close(&store) == TG_DONE);
+}
+
 int main(void) {
     tg_store store = TG_STORE_INIT;
     WANT(tg_abi() == TG_ABI);
@@ -188,6 +205,7 @@ int main(void) {
     WANT(tg_close(&store) == TG_DONE && !store.is_open && store.handle.at == NULL);
     WANT(tg_close(&store) == TG_NOT_OPEN);
     full_heap();
+    longest_log();
     puts("statuses ok");
     return 0;
 }
