@@ -39,6 +39,12 @@ class Body:
         return function, [it.strip() for it in clauses.split(",")]
 
     @property
+    def aside(self):
+        """The answers that are set aside: pairs of a file and its goals, of which there are none where the whole file is meant."""
+        parts = [it.strip().partition(":") for it in self.words.get("aside", "").split(";") if it.strip()]
+        return [(file.strip(), [it.strip() for it in goals.split(",") if it.strip()]) for file, _, goals in parts]
+
+    @property
     def is_found_by_run(self):
         return "found" in self.words
 

@@ -1,4 +1,4 @@
-"""The table of all public clauses, with the wrong body that breaks each (`wrong/CLAUSES.md`)."""
+"""The table of all public clauses, with the wrong body that breaks each, and of the common wrong bodies (`wrong/CLAUSES.md`)."""
 import os
 import re
 
@@ -56,7 +56,27 @@ def table(top, crates, bodies):
                     rows += [row for function, clauses in public_clauses(it.read()) for row in rows_of(crate, function, clauses, broken)]
         if rows:
             lines += [f"## `{crate}`", "", "| Function | Clause | Wrong body |", "|---|---|---|", *rows, ""]
-    return "\n".join(lines)
+    return "\n".join([*lines, *kinds(bodies)])
+
+
+def kinds(bodies):
+    """The common kinds of wrong bodies, and those that stand for each."""
+    found = {}
+    for body in bodies:
+        if "kind" in body.words:
+            found.setdefault(body.words["kind"], []).append(body)
+    lines = ["## Common wrong bodies", "", "| Kind | Wrong body | Found by |", "|---|---|---|"]
+    for kind, of in sorted(found.items()):
+        lines += [f"| {kind} | {it.name} of `{it.crate}` | {finder(it)} |" for it in sorted(of, key=lambda it: (it.crate, it.name))]
+    return [*lines, ""]
+
+
+def finder(body):
+    """What finds the body: a test, or clauses of a function."""
+    if body.is_found_by_run:
+        return body.words["found"].replace("test ", "the test ", 1)
+    function, clauses = body.refused
+    return f"`{function}`: {', '.join('(no name)' if it == 'ensures' else it for it in clauses)}"
 
 
 def rows_of(crate, function, clauses, broken):

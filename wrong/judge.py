@@ -62,12 +62,14 @@ class Checker:
         return words + ["--crate-type", "staticlib"] * is_static
 
     def run(self, crate, files, aside, functions):
-        """What the check of these functions says, with these texts in place of the crate's and without these answers, and its processor seconds."""
+        """What the check of these functions says, with these texts in place of the crate's and without these answers, and its processor seconds.
+
+        `aside` has pairs: a file below proofs/, and the goals whose answers go, or none where the whole file goes."""
         with tempfile.TemporaryDirectory(prefix="wrong-") as room:
             folder = f"{room}/{crate}"
             shutil.copytree(f"{self.top}/crates/{crate}", folder, ignore=shutil.ignore_patterns("out"))
-            for path in aside:
-                remove(f"{folder}/proofs/{path}")
+            for path, goals in aside:
+                remove(f"{folder}/proofs/{path}", goals)
             for path, text in files.items():
                 with open(f"{folder}/{path}", "w", encoding="utf-8") as out:
                     out.write(text)
@@ -95,17 +97,25 @@ class Checker:
         for body in bodies:
             read = self.text_of(crate)
             files.update(planted(body, lambda file: files[file] if file in files else read(file)))
-        aside = [it for body in bodies for it in body.listed("aside")]
+        aside = [it for body in bodies for it in body.aside]
         return self.run(crate, files, aside, [it for body in bodies for it in body.functions])
 
 
-def remove(path):
-    if os.path.isdir(path):
-        shutil.rmtree(path)
-    elif os.path.exists(path):
-        os.remove(path)
-    else:
+def remove(path, goals):
+    """Takes these answers out of the file, or all of it where none is named."""
+    if not os.path.exists(path):
         raise BadBody(f"{path}: no answers to set aside")
+    if not goals:
+        os.remove(path)
+        return
+    with open(path, encoding="utf-8") as it:
+        parts = re.split(r"^(?=pub )", it.read(), flags=re.M)
+    answers = {part.split()[1]: part for part in parts[1:]}
+    missing = [it for it in goals if it not in answers]
+    if missing:
+        raise BadBody(f"{path}: no answer to {', '.join(missing)}")
+    with open(path, "w", encoding="utf-8") as out:
+        out.write(parts[0] + "".join(text for goal, text in answers.items() if goal not in goals))
 
 
 def seconds():
@@ -127,18 +137,18 @@ class Said:
         return [(name, it) for name, it in self.lines.items() if name == function or name.endswith(f"::{function}")]
 
     def goals(self, function):
-        """The goals of a function that weren't proved, and what was said of names that are gone."""
-        open_goals, gone = set(), []
+        """The goals of a function that weren't proved; the answers that don't show theirs, by file; and what was said of names that are gone."""
+        open_goals, unfit, gone = set(), [], []
         for name, line in self.lines_of(function):
             own = line.partition("`search` did not prove ")[2].partition(";")[0]
             open_goals.update(re.findall(r"`([^`]+)`", own))
             at = name.replace("::", "/")
             for file, goal, text in self.errors:
-                if file == f"{at}/Answers" or file == f"{at}/Invariants":
-                    (gone.append(f"{goal}: {text}") if GONE.search(text) else open_goals.add(goal))
+                if file in (f"{at}/Answers", f"{at}/Invariants"):
+                    (gone.append(f"{goal}: {text}") if GONE.search(text) else unfit.append((f"{file}.antt", goal)))
             if re.search(r"could not tell|expected invariants", line):
                 gone.append(line)
-        return open_goals, gone
+        return open_goals, unfit, gone
 
     def is_proved(self, function):
         """Whether the function's own goals all hold. That one which it calls doesn't is no matter of its own."""
@@ -160,22 +170,33 @@ def verdict(body, said):
     """One of 'refused', 'proves', 'elsewhere' and 'not judged', with what there is to say of it."""
     if not said.is_whole:
         return "not judged", first_error(said.output)
-    open_goals, gone = set(), []
+    open_goals, unfit, gone = set(), [], []
     for function in body.functions:
         if not said.lines_of(function):
             return "not judged", f"the check says nothing of {function}"
-        goals, names = said.goals(function)
+        goals, answers, names = said.goals(function)
         open_goals |= {(function, it) for it in goals}
+        unfit += answers
         gone += names
-    if not open_goals and not gone and all(said.is_proved(it) for it in body.functions):
+    if not open_goals and not unfit and not gone and all(said.is_proved(it) for it in body.functions):
         return "proves", ""
     function, clauses = body.refused
     here = {clause_of(goal) for at, goal in open_goals if at == function or at.endswith(f"::{function}") or function.endswith(f"::{at}")}
-    if here & set(clauses):
-        return "refused", ", ".join(sorted(here & set(clauses)))
+    if set(clauses) <= here:
+        return "refused", ", ".join(sorted(here))
+    if unfit:
+        return "not judged", f"set aside what doesn't show its goal any more: {told(unfit)}"
     if open_goals:
         return "elsewhere", ", ".join(sorted(f"{at}: {clause_of(goal)}" for at, goal in open_goals))
     return "not judged", (gone or ["the check gives no goal"])[0][:200]
+
+
+def told(answers):
+    """Answers in the form of a body's line `aside`."""
+    files = {}
+    for file, goal in answers:
+        files.setdefault(file, []).append(goal)
+    return "; ".join(f"{file}: {', '.join(dict.fromkeys(goals))}" for file, goals in files.items())
 
 
 def first_error(output):
