@@ -1,6 +1,6 @@
 #!/usr/bin/env python3
 """measure.py whole [LOG]                      what each crate takes of a whole `rt ci`
-measure.py everyday [CRATE FILE FUNCTION]   how long a changed body is on its way to green
+measure.py everyday                         how long a changed body is on its way to green
 measure.py functions CRATE                  which functions the last check of a crate from nothing took longest for
 
 All run at the top of the repository that the script stands in, and print Markdown.
@@ -10,9 +10,9 @@ given). The total is the processor time of the gate and of all that it started, 
 ended. The shares of the crates are sampled ten times a second, so a little is missing from each. It lists each edit that
 took more than 15 seconds of processor time, and its status is that of the gate.
 
-`everyday` puts a statement that does nothing in front of one body (`find_edge` in `src/heap.rt` of `tg_graph`, unless it
-is told otherwise), runs `rt check` there and in each crate above, with the tests where it has any, puts the file back and
-checks again. A round before these two isn't counted.
+`everyday` puts a statement that does nothing in front of one body of `tg_model`, of `tg_graph` and of `tg_store`, one after the other; runs `rt check`
+in that crate, and then in `tg_store`, which stands on the other two; and puts the file back. A round before these isn't counted: it proves all that
+stands below `tg_store`.
 
 `functions` checks nothing: it reads when each module of `out/incremental` was written. What stands between one and the
 one before it is the time of that module, by the clock; the part `Lts` of a function is what it owns and borrows at each
@@ -32,6 +32,8 @@ TOP = os.path.abspath(os.path.join(os.path.dirname(os.path.abspath(__file__)), "
 TICKS = os.sysconf("SC_CLK_TCK")
 STAGES = ("proofs", "tests", "edits")
 SLOW = 15
+SEEN_FROM = "tg_store"
+CHANGED = (("tg_model", "src/graph/denial.rt", "denial"), ("tg_graph", "src/heap.rt", "find_edge"), ("tg_store", "src/store.rt", "census"))
 
 
 def crates():
@@ -208,15 +210,6 @@ def print_slow(slow):
         print(f"- {used:.0f} s: `{crate}`, `{name}`{' (its first: the whole crate is proved with it)' if is_first else ''}")
 
 
-def above(crate):
-    """The crates that stand on one, lowest first."""
-    named, found = crates(), []
-    has = lambda name: crate in named[name] or any(has(it) for it in named[name])
-    depth = lambda name: 1 + max([depth(it) for it in named[name]], default=0)
-    found = [name for name in named if has(name)]
-    return sorted(found, key=depth)
-
-
 def check(crate):
     """Checks a crate as a developer would, and answers the seconds that passed and those of the processors."""
     began, before = time.time(), processor_seconds()
@@ -236,28 +229,29 @@ def with_statement(text, function):
     return f"{text[: opening.end()]}{opening[1]}    let _ = ();\n{text[opening.end() :]}"
 
 
-def everyday(crate, file, function):
-    place, path = where(), f"{TOP}/crates/{crate}/{file}"
+def everyday():
+    print(f"One body changed, {where()}. Seconds passed, and of processor time:\n")
+    check(SEEN_FROM)
+    print(f"| Body | `rt check` there: passed | processor | then in `{SEEN_FROM}`: passed | processor |\n|---|---|---|---|---|")
+    for crate, file, function in CHANGED:
+        check(crate)
+        took = check_changed(crate, f"{TOP}/crates/{crate}/{file}", function)
+        print(f"| `{function}` of `{crate}` | {' | '.join(f'{it:.0f}' for it in took)} |", flush=True)
+        check(SEEN_FROM)
+    return 0
+
+
+def check_changed(crate, path, function):
+    """What both checks take while one body is changed."""
     with open(path, encoding="utf-8") as it:
         text = it.read()
-    changed, order = with_statement(text, function), [crate, *above(crate)]
-    for name in order:
-        check(name)
-    print(f"`{function}` of `{crate}` changed and put back, {place}. Seconds:\n")
-    print("| `rt check` in | passed | processor | put back: passed | processor |\n|---|---|---|---|---|")
     try:
         with open(path, "w", encoding="utf-8") as it:
-            it.write(changed)
-        first = [check(name) for name in order]
+            it.write(with_statement(text, function))
+        return [*check(crate), *check(SEEN_FROM)]
     finally:
         with open(path, "w", encoding="utf-8") as it:
             it.write(text)
-    second = [check(name) for name in order]
-    for name, (passed, used), (passed_back, used_back) in zip(order, first, second):
-        print(f"| `{name}` | {passed:.0f} | {used:.0f} | {passed_back:.0f} | {used_back:.0f} |")
-    sums = [sum(it) for both in (first, second) for it in zip(*both)]
-    print(f"| all | {' | '.join(f'{it:.0f}' for it in sums)} |")
-    return 0
 
 
 def functions(crate):
@@ -284,8 +278,8 @@ def functions(crate):
 def main(words):
     if words[:1] == ["whole"] and len(words) <= 2:
         return whole(words[1] if len(words) == 2 else os.path.join(tempfile.mkdtemp(), "out.txt"))
-    if words[:1] == ["everyday"] and len(words) in (1, 4):
-        return everyday(*(words[1:] or ["tg_graph", "src/heap.rt", "find_edge"]))
+    if words == ["everyday"]:
+        return everyday()
     if words[:1] == ["functions"] and len(words) == 2:
         return functions(words[1])
     print(__doc__, file=sys.stderr)
