@@ -1,10 +1,11 @@
 -- What the steps of an opening make of its cells.
-use Rattle.std.proofs.Common.{◌≡◌, ◌≢◌, ◌↔◌, ℕ, suc, ◌+◌, ◌*◌, ◌<◌, ◌≤◌, ◌⊎◌, inl, inr, ◌==◌, ◌&&◌, Bool, true, false, cond, if◌then◌else◌, List, [], ◌∷◌, ◌++◌, length, get_or, set, take, drop, Option, Some, None, IsSome, refl, sym, ap, subst, arith, ◌∙◌, ⊎_elim, drop-cons, length-take, add-one}
+use Rattle.std.proofs.Common.{◌≡◌, ◌≢◌, ◌↔◌, ℕ, zero, suc, ◌+◌, ◌*◌, ◌<◌, ◌≤◌, ◌⊎◌, inl, inr, ◌==◌, ◌&&◌, Bool, true, false, cond, if◌then◌else◌, List, [], ◌∷◌, ◌++◌, length, get_or, set, take, drop, Option, Some, None, IsSome, refl, sym, ap, subst, arith, ◌∙◌, ⊎_elim, drop-cons, length-take, add-one}
 use Rattle.std.specs.Prelude.{nat_lt, slice_get, slice_index, slice_index_or}
 use Rattle.std.specs.List.{All}
 use Rattle.std.proofs.lemmas.Bool.{cases_Bool, cases_eq, cases_lt}
 use Rattle.std.proofs.lemmas.Bool.Decides.{nat_tests, eqb_tells}
 use Rattle.std.proofs.lemmas.List.{get_or-set_same, get_or-set_other, get_or-take, get_or_past, get_or_read, get_or_append_left, get_or_push, length-set, length_push}
+use Rattle.std.proofs.lemmas.List.Sums.{sum_by-cons}
 use Rattle.std.proofs.lemmas.Option.{get_or_from_slice_get, slice_get-get_or, slice_get_within}
 use Rattle.tg_rights.specs.RightSet.{RightSet, is_none_held, no_rights, union}
 use Rattle.tg_rights.specs.RightLaws.{none_held-same, union_assoc}
@@ -18,13 +19,14 @@ use Rattle.tg_model.proofs.ReachLaws.{lt-IsReachable}
 use Rattle.tg_model.proofs.SoundLaws.{IsSound-start_of, joined_in}
 use Rattle.tg_word.specs.declared.Place.{Place}
 use Rattle.tg_word.specs.Word.{link_to, word_at}
-use Rattle.tg_block.specs.Cells.{free_block, kind_of}
+use Rattle.tg_block.specs.Cells.{kind_of}
 use Rattle.tg_block.specs.declared.CellKind.TheVariants.{Free, Object}
-use Rattle.tg_space.specs.SpaceList.{BlockList, Holds, IsSpaceList, cell_at, space_of, with_block, with_cell_at}
+use Rattle.tg_space.specs.SpaceList.{SpaceList, BlockList, Holds, IsSpaceList, block_count, blocks_before, cell_at, space_of, with_block, with_cell_at}
 use Rattle.tg_space.specs.SpaceTable.{SpaceTable, BlockLimits, IsSpaceTable, place_in_space, used_of, with_spaces}
 use Rattle.tg_space.specs.Soundness.{AreSound, HasLayout, IsKindAt}
-use Rattle.tg_space.proofs.Tables.{holds_same, length-with_block, shape_cell, shape_written, table_list}
-use Rattle.tg_nursery.specs.Allocation.{room_made_for}
+use Rattle.tg_space.proofs.Flat.{before_le, before_more}
+use Rattle.tg_space.proofs.Tables.{holds_same, shape_cell, shape_written, table_list}
+use Rattle.tg_nursery.specs.Allocation.{HasLeft, room_made_for}
 use Rattle.tg_payload.specs.Table.{Payloads, entry}
 use Rattle.tg_graph.specs.Content.{IsNamed}
 use Rattle.tg_graph.specs.Heap.{AreAtHome, content_in}
@@ -85,45 +87,32 @@ row_step edges from k edge row after y inside is step before = by_step step
 -- ---- cells that are used
 
 -- one reference takes at most one cell
-pub takes_one_cell : (t grown : SpaceTable) (space cells : ℕ) (spot : Spot) (rights : RightSet) (to : Place) → space < length t.spaces → grown ≡ room_made_for t space cells → IsSpaceTable grown → 2 ≤ space → CanPut grown space spot → TakesOneCell t (table_put grown space spot rights to) space
-takes_one_cell t grown space cells spot rights to low made table young can =
+pub takes_one_cell : (t grown : SpaceTable) (space cells : ℕ) (spot : Spot) (rights : RightSet) (to : Place) → space < length t.spaces → cells ≤ 1 → grown ≡ room_made_for t space cells → IsSpaceTable grown → CanPut grown space spot → TakesOneCell t (table_put grown space spot rights to) space
+takes_one_cell t grown space cells spot rights to low few made table can =
     let first = made_room (nat_lt (64 * length (space_of t.spaces space)) (used_of t space + cells)) made in
-    let second = put spot can (subst (λ n. space < n) (sym first.2) low) in record {
-      here = let a = ap (λ (us : List ℕ). slice_index us space) first.0 in let b = second.here in omega (arith, a, b);
-      others = λ other ne. second.others other ne ∙ ap (λ (us : List ℕ). slice_index us other) first.0;
-      blocks = λ other. let a = first.1 other in let b = second.blocks other in omega arith;
-      old_space = second.old_space ∙ first.3;
+    let second = put spot can (subst (λ n. space < n) (sym first.1) low) in record {
+      here = let a = ap (λ (us : List ℕ). slice_index us space) first.0 in let b = second.0.here in omega (arith, a, b);
+      others = λ other ne. second.0.others other ne ∙ ap (λ (us : List ℕ). slice_index us other) first.0;
+      blocks = λ left other. second.1 other ∙ ap (λ (x : SpaceTable). length (space_of x.spaces other)) (no_room left);
     }
   where
-    made_room : (b : Bool) → grown ≡ cond b (with_spaces t (with_block t.spaces space)) t →
-        (grown.used ≡ t.used) × ((other : ℕ) → length (space_of t.spaces other) ≤ length (space_of grown.spaces other)) × (length grown.spaces ≡ length t.spaces) × (length (space_of grown.spaces 0) ≡ length (space_of t.spaces 0))
-    made_room false same = (
-      ap (λ (x : SpaceTable). x.used) same,
-      λ other. let e = ap (λ (x : SpaceTable). length (space_of x.spaces other)) same in omega (arith, e),
-      ap (λ (x : SpaceTable). length x.spaces) same,
-      ap (λ (x : SpaceTable). length (space_of x.spaces 0)) same,
-    )
-    made_room true same = (
-      ap (λ (x : SpaceTable). x.used) same,
-      λ other. let e = ap (λ (x : SpaceTable). length (space_of x.spaces other)) same in omega (arith, e, length-with_block t.spaces space low other),
-      ap (λ (x : SpaceTable). length x.spaces) same ∙ length-set t.spaces space _,
-      ap (λ (x : SpaceTable). length (space_of x.spaces 0)) same
-          ∙ ap (λ (b : BlockList). length b) (get_or-set_other t.spaces space 0 (space_of t.spaces space ++ free_block ∷ []) [] (λ none. omega (arith, young, none))),
-    )
+    made_room : (b : Bool) → grown ≡ cond b (with_spaces t (with_block t.spaces space)) t → (grown.used ≡ t.used) × (length grown.spaces ≡ length t.spaces)
+    made_room false same = (ap (λ (x : SpaceTable). x.used) same, ap (λ (x : SpaceTable). length x.spaces) same)
+    made_room true same = (ap (λ (x : SpaceTable). x.used) same, ap (λ (x : SpaceTable). length x.spaces) same ∙ length-set t.spaces space _)
 
-    put : (spot : Spot) → CanPut grown space spot → space < length grown.spaces → TakesOneCell grown (table_put grown space spot rights to) space
-    put (Reference q i) can inside = record {
-      here = omega arith;
-      others = λ other ne. refl;
-      blocks = λ other. omega (arith, (shape_written grown.spaces q i (widened (slice_index (cell_at grown.spaces q) i) rights) can.0.held).blocks other);
-      old_space = (shape_written grown.spaces q i (widened (slice_index (cell_at grown.spaces q) i) rights) can.0.held).blocks 0;
-    }
-    put (Empty q i) can inside = record {
-      here = omega arith;
-      others = λ other ne. refl;
-      blocks = λ other. omega (arith, (shape_written grown.spaces q i (word_at rights to) can.held).blocks other);
-      old_space = (shape_written grown.spaces q i (word_at rights to) can.held).blocks 0;
-    }
+    no_room : HasLeft t space 1 → grown ≡ t
+    no_room left =
+        let test : nat_lt (64 * length (space_of t.spaces space)) (used_of t space + cells) ≡ false = grind (arith, nat_tests) in
+        made ∙ ap (λ (b : Bool). cond b (with_spaces t (with_block t.spaces space)) t) test
+
+    put : (spot : Spot) → CanPut grown space spot → space < length grown.spaces →
+        TakesOneCell grown (table_put grown space spot rights to) space × ((other : ℕ) → length (space_of (table_put grown space spot rights to).spaces other) ≡ length (space_of grown.spaces other))
+    put (Reference q i) can inside =
+        let shape = shape_written grown.spaces q i (widened (slice_index (cell_at grown.spaces q) i) rights) can.0.held in
+        (record { here = omega arith; others = λ other ne. refl; blocks = λ left. shape.blocks }, shape.blocks)
+    put (Empty q i) can inside =
+        let shape = shape_written grown.spaces q i (word_at rights to) can.held in
+        (record { here = omega arith; others = λ other ne. refl; blocks = λ left. shape.blocks }, shape.blocks)
     put (Full last) can inside =
         let chunk = place_in_space space (used_of grown space) in
         let left = can.1 in
@@ -131,12 +120,37 @@ takes_one_cell t grown space cells spot rights to low made table young can =
         let placed = with_cell_at grown.spaces chunk (chunk_words (word_at rights to)) in
         let one = shape_cell grown.spaces chunk (chunk_words (word_at rights to)) held in
         let two = shape_written placed last 7 (link_to chunk) (holds_same grown.spaces placed one last can.0.held) in
-        record {
-          here = let e = get_or-set_same grown.used space (used_of grown space + 1) 0 (omega (arith, table.counted, inside)) in omega (arith, e);
-          others = λ other ne. get_or-set_other grown.used space other (used_of grown space + 1) 0 ne;
-          blocks = λ other. omega (arith, one.blocks other, two.blocks other);
-          old_space = two.blocks 0 ∙ one.blocks 0;
-        }
+        let same = λ (other : ℕ). two.blocks other ∙ one.blocks other in (
+          record {
+            here = let e = get_or-set_same grown.used space (used_of grown space + 1) 0 (omega (arith, table.counted, inside)) in omega (arith, e);
+            others = λ other ne. get_or-set_other grown.used space other (used_of grown space + 1) 0 ne;
+            blocks = λ left. same;
+          },
+          same,
+        )
+
+-- ---- blocks
+
+-- spaces with as many blocks each have as many in all
+same_count : (a b : SpaceList) → length b ≡ length a → ((space : ℕ) → length (space_of b space) ≡ length (space_of a space)) → block_count b ≡ block_count a
+same_count [] [] long same = refl
+same_count [] (y ∷ b) long same = absurd (omega arith)
+same_count (x ∷ a) [] long same = absurd (omega arith)
+same_count (x ∷ a) (y ∷ b) long same =
+    omega (arith, sum_by-cons (λ (blocks : BlockList). length blocks) x a, sum_by-cons (λ (blocks : BlockList). length blocks) y b, same 0, same_count a b (omega arith) (λ space. same (suc space)))
+
+-- nurseries with a block each have at least one for each worker, so at most as many is as many
+count_workers : (h : SpaceList) (workers : ℕ) → length h ≡ workers + 2 → ((x : ℕ) → x < workers → 1 ≤ length (space_of h (x + 2))) → (x : ℕ) → x ≤ workers → x ≤ blocks_before h (x + 2)
+count_workers h workers long some zero le = omega arith
+count_workers h workers long some (suc x) le =
+    let low : x + 2 < length h = omega arith in
+    let next : blocks_before h (suc x + 2) ≡ blocks_before h (x + 2 + 1) = ap (blocks_before h) (omega arith) in
+    omega (arith, count_workers h workers long some x (omega arith), before_more h (x + 2) low, some x (omega arith), next)
+
+count_exact : (h : SpaceList) (workers : ℕ) → length h ≡ workers + 2 → ((x : ℕ) → x < workers → 1 ≤ length (space_of h (x + 2))) → block_count h ≤ workers → block_count h ≡ workers
+count_exact h workers long some few =
+    let least = count_workers h workers long some workers (omega arith) in
+    omega (arith, least, before_le h (workers + 2))
 
 -- ---- one change after the other
 
@@ -253,6 +267,7 @@ nothing_opened t payloads workers limits has table empty = record {
   spaces = has.spaces;
   limits_kept = has.limits_kept;
   blocks = has.blocks;
+  all = count_exact t.spaces workers has.spaces has.blocks has.few;
   old = has.old;
 }
   where
@@ -297,6 +312,7 @@ one_more_placed t after payloads new places more workers limits values value p o
       spaces = to.spaces ∙ opened.spaces;
       limits_kept = to.limits ∙ opened.limits_kept;
       blocks = λ x low. let e = blocks (x + 2) in let b = opened.blocks x low in omega (arith, e, b);
+      all = same_count t.spaces after.spaces to.spaces blocks ∙ opened.all;
       old = blocks 0 ∙ opened.old;
     })
   where
@@ -357,8 +373,8 @@ used_more us i j = by_number (cases_eq j i) (cases_lt i (length us))
 -- ---- the edges of all workers
 
 pub edges_opened : (t after : SpaceTable) (payloads : Payloads) (places : List Place) (workers : ℕ) (limits : BlockLimits) (label : ℕ → ℕ → RightSet) (values : List Value) → IsOpened t payloads places workers limits no_labels values →
-    ChangesTo t after payloads (IsNamed (content_in t.spaces payloads)) label (content_in t.spaces payloads).value → ((space : ℕ) → length (space_of t.spaces space) ≤ length (space_of after.spaces space)) → length (space_of after.spaces 0) ≡ 0 → IsOpened after payloads places workers limits label values
-edges_opened t after payloads places workers limits label values opened to blocks old = record {
+    ChangesTo t after payloads (IsNamed (content_in t.spaces payloads)) label (content_in t.spaces payloads).value → ((space : ℕ) → length (space_of after.spaces space) ≡ length (space_of t.spaces space)) → IsOpened after payloads places workers limits label values
+edges_opened t after payloads places workers limits label values opened to blocks = record {
   graph = to.graph;
   content = record {
     names = λ x. (λ n. (opened.content.names x).0 ((to.content.names x).0 n), λ low. (to.content.names x).1 ((opened.content.names x).1 low));
@@ -369,7 +385,8 @@ edges_opened t after payloads places workers limits label values opened to block
   spaces = to.spaces ∙ opened.spaces;
   limits_kept = to.limits ∙ opened.limits_kept;
   blocks = λ x low. let a = blocks (x + 2) in let b = opened.blocks x low in omega arith;
-  old = old;
+  all = same_count t.spaces after.spaces to.spaces blocks ∙ opened.all;
+  old = blocks 0 ∙ opened.old;
 }
 
 pub opened_same : (t : SpaceTable) (payloads payloads' : Payloads) (places : List Place) (workers workers' : ℕ) (limits limits' : BlockLimits) (edges edges' : List Edge) (values values' : List Value) → payloads' ≡ payloads → workers ≡ workers' → limits ≡ limits' → edges ≡ edges' → values ≡ values' →

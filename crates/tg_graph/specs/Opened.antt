@@ -6,24 +6,26 @@ use Rattle.tg_model.specs.declared.value.Value.{Value}
 use Rattle.tg_model.specs.Opened.{label_in}
 use Rattle.tg_word.specs.declared.Place.{Place}
 use Rattle.tg_block.specs.Cells.{free_cell}
-use Rattle.tg_space.specs.SpaceList.{Holds, cell_at, space_of}
+use Rattle.tg_space.specs.SpaceList.{Holds, block_count, cell_at, space_of}
 use Rattle.tg_space.specs.SpaceTable.{SpaceTable, BlockLimits, used_of}
+use Rattle.tg_nursery.specs.Allocation.{HasLeft}
 use Rattle.tg_payload.specs.Table.{Payloads}
 use Rattle.tg_graph.specs.Content.{IsContent}
 use Rattle.tg_graph.specs.Rows.{IsVertexAt}
 use Rattle.tg_graph.specs.Heap.{IsGraph, content_in}
 
--- Each nursery has a block and Old has none, no cell was handed out, and all are free.
+-- Each nursery has a block, and no other space has one; no cell was handed out, and all are free.
 pub record HasBlocks (t : SpaceTable) (workers : ℕ) (limits : BlockLimits) : Type 0 where
   pub spaces : length t.spaces ≡ workers + 2
   pub limits_kept : t.limits ≡ limits
   pub blocks : (x : ℕ) → x < workers → 1 ≤ length (space_of t.spaces (x + 2))
+  pub few : block_count t.spaces ≤ workers
   pub old : length (space_of t.spaces 0) ≡ 0
   pub unused : (space : ℕ) → used_of t space ≡ 0
   pub free : (p : Place) → Holds t.spaces p → cell_at t.spaces p ≡ free_cell
 
 -- The first workers are at these places and have these values, and the labels between them are these. Each nursery has
--- a block, and Old has none.
+-- a block, and no other space has one.
 pub record IsOpened (t : SpaceTable) (payloads : Payloads) (places : List Place) (workers : ℕ) (limits : BlockLimits) (label : ℕ → ℕ → RightSet) (values : List Value) : Type 0 where
   pub graph : IsGraph t.spaces payloads
   pub content : IsContent (content_in t.spaces payloads) (λ x. x < length places) label (slice_get values)
@@ -31,6 +33,7 @@ pub record IsOpened (t : SpaceTable) (payloads : Payloads) (places : List Place)
   pub spaces : length t.spaces ≡ workers + 2
   pub limits_kept : t.limits ≡ limits
   pub blocks : (x : ℕ) → x < workers → 1 ≤ length (space_of t.spaces (x + 2))
+  pub all : block_count t.spaces ≡ workers
   pub old : length (space_of t.spaces 0) ≡ 0
 
 -- no rights of anyone over anyone
@@ -45,9 +48,8 @@ with_row label x row a b = if a == x then slice_index_or row b no_rights else la
 abbrev pub labels_before : List Edge → ℕ → ℕ → ℕ → RightSet
 labels_before edges n a b = if nat_lt a n then label_in edges a b else no_rights
 
--- at most one more cell of a nursery is used, no block is lost, and Old gets none
+-- At most one more cell of a nursery is used. Where the nursery has one left, no space gets a block.
 pub record TakesOneCell (old new : SpaceTable) (space : ℕ) : Type 0 where
   pub here : used_of new space ≤ used_of old space + 1
   pub others : (other : ℕ) → other ≢ space → used_of new other ≡ used_of old other
-  pub blocks : (other : ℕ) → length (space_of old.spaces other) ≤ length (space_of new.spaces other)
-  pub old_space : length (space_of new.spaces 0) ≡ length (space_of old.spaces 0)
+  pub blocks : HasLeft old space 1 → (other : ℕ) → length (space_of new.spaces other) ≡ length (space_of old.spaces other)

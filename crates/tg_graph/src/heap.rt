@@ -4,7 +4,7 @@ ghost use Rattle.std.specs.List.{All, IsDistinct};
 ghost use Rattle.tg_model.specs.Graph.{HasEdge, listing_of, with_rights, without_rights};
 ghost use Rattle.tg_model.specs.Opened.{start_of};
 ghost use Rattle.tg_model.specs.Rules.{state_of, with_value, written_at};
-ghost use Rattle.tg_space.specs.SpaceList.{space_of};
+ghost use Rattle.tg_space.specs.SpaceList.{block_count, space_of};
 ghost use Rattle.tg_space.specs.SpaceTable.{IsSpaceTable};
 ghost use Rattle.tg_graph.specs.Content.{IsContent, IsNamed};
 ghost use Rattle.tg_graph.specs.Heap.{AreAtHome, IsObject, IsUnchangedHeap, IsWellFormed, KeepsPlaces, content_of, name_of, rights_found};
@@ -72,7 +72,8 @@ impl<P: Payload> Model for Heap<P> {
 
 impl<P: Payload> Heap<P> {
     /// The heap of the graph that an opening starts from. The drafts are those of the workers, by rising name, with the
-    /// opening's values. Each worker's object lies in the nursery of that worker, and so do the chunks of its row.
+    /// opening's values. Each worker's object lies in the nursery of that worker, and so do the chunks of its row. The heap
+    /// takes a block for each worker and no more.
     ///
     /// It is refused where there may be fewer blocks than there are workers (`HeapFull`, exactly then), and where memory
     /// is (`OutOfMemory`). Then the drafts come back as they were.
@@ -87,6 +88,7 @@ impl<P: Payload> Heap<P> {
         ensures workers { IfOk result (λ heap. length heap.workers ≡ opening.now.workers) }
         ensures nurseries { IfOk result (λ heap. AreAtHome heap.workers) }
         ensures limits { IfOk result (λ heap. heap.table.limits ≡ limits) }
+        ensures blocks { IfOk result (λ heap. block_count heap.table.spaces ≡ opening.now.workers) }
         ensures handed_back { IfErr result (λ refused. refused.drafts.items ≡ drafts.items) }
         ensures full { IsErrAnd result (λ refused. refused.why ≡ AllocateFault.HeapFull) ↔ (limits.max_blocks < opening.now.workers) }
     {

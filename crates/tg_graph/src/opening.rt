@@ -196,8 +196,7 @@ fn add_edges<P: Payload>(cells: &mut Cells<P>, places: &[Place], row: &mut [Righ
     ensures added { let content = content_in cells.old.spaces.spaces cells.old.payloads in
         ChangesTo cells.old.spaces cells.new.spaces cells.old.payloads (IsNamed content) (label_in edges.now) content.value }
     ensures payloads { cells.new.payloads ≡ cells.old.payloads }
-    ensures block_counts { (space : ℕ) → length (space_of cells.old.spaces.spaces space) ≤ length (space_of cells.new.spaces.spaces space) }
-    ensures still_old { length (space_of cells.new.spaces.spaces 0) ≡ 0 }
+    ensures block_counts { (space : ℕ) → length (space_of cells.new.spaces.spaces space) ≡ length (space_of cells.old.spaces.spaces space) }
     ensures remembered { AreRemembered cells.old.spaces.spaces cells.old.remembered.places → AreRemembered cells.new.spaces.spaces cells.new.remembered.places }
 {
     for from in 0..places.len() as u64 {
@@ -245,8 +244,7 @@ fn add_row<P: Payload>(cells: &mut Cells<P>, from: u64, places: &[Place], row: &
         ChangesTo cells.old.spaces cells.new.spaces cells.old.payloads (IsNamed content) (with_row content.label from row.now) content.value }
     ensures payloads { cells.new.payloads ≡ cells.old.payloads }
     ensures others { (space : ℕ) → space ≢ from + 2 → used_of cells.new.spaces space ≡ used_of cells.old.spaces space }
-    ensures blocks { (space : ℕ) → length (space_of cells.old.spaces.spaces space) ≤ length (space_of cells.new.spaces.spaces space) }
-    ensures still_old { length (space_of cells.new.spaces.spaces 0) ≡ 0 }
+    ensures blocks { (space : ℕ) → length (space_of cells.new.spaces.spaces space) ≡ length (space_of cells.old.spaces.spaces space) }
     ensures remembered { AreRemembered cells.old.spaces.spaces cells.old.remembered.places → AreRemembered cells.new.spaces.spaces cells.new.remembered.places }
 {
     for (to, rights) in row.iter().enumerate() {
@@ -267,6 +265,7 @@ fn add_some<P: Payload>(cells: &mut Cells<P>, worker: u64, from: Place, to: Plac
         (with_rights content.label (name_at cells.old.spaces.spaces from) (name_at cells.old.spaces.spaces to) rights) content.value }
     ensures payloads { cells.new.payloads ≡ cells.old.payloads }
     ensures one_cell { TakesOneCell cells.old.spaces cells.new.spaces (worker + 2) }
+    ensures blocks { (space : ℕ) → length (space_of cells.new.spaces.spaces space) ≡ length (space_of cells.old.spaces.spaces space) }
     ensures remembered { AreRemembered cells.old.spaces.spaces cells.old.remembered.places → AreRemembered cells.new.spaces.spaces cells.new.remembered.places }
     ensures nothing { is_none_held rights ≡ true → cells.new.spaces ≡ cells.old.spaces }
 {

@@ -36,9 +36,8 @@ loop-from-preserved g c =
           let other : x + 2 ≢ from + 2 = λ e. omega arith in
           let same = step.others (x + 2) other in
           omega arith;
-      old = step.still_old;
       remembered = λ formed. step.remembered (before.remembered formed);
-      blocks = λ space. let a = before.blocks space in let b = step.blocks space in omega arith;
+      blocks = λ space. step.blocks space ∙ before.blocks space;
     }
 
 pub returns-clause-added : goal.returns-clause-added

@@ -16,7 +16,6 @@ invariant-loop-from g l =
       added : ChangesTo before.spaces l.cells.spaces before.payloads (IsNamed content) (labels_before l.edges l.from) content.value;
       payloads : l.cells.payloads ≡ before.payloads;
       unused : (x : ℕ) → l.from ≤ x → used_of l.cells.spaces (x + 2) ≤ 1;
-      old : length (space_of l.cells.spaces.spaces 0) ≡ 0;
       remembered : AreRemembered before.spaces.spaces before.remembered.places → AreRemembered l.cells.spaces.spaces l.cells.remembered.places;
-      blocks : (space : ℕ) → length (space_of before.spaces.spaces space) ≤ length (space_of l.cells.spaces.spaces space);
+      blocks : (space : ℕ) → length (space_of l.cells.spaces.spaces space) ≡ length (space_of before.spaces.spaces space);
     }

@@ -98,8 +98,7 @@ loop-to-preserved g c =
       added = changes_more t0 t1 t2 payloads (with_row content.label from (take to row)) (with_row content.label from (take (to + 1) row)) (λ l. with_rights l from to r) before.added here (with_row-more content.label from row to r inside c.index-row-to.is);
       payloads = step.payloads ∙ before.payloads;
       others = λ space ne. step.one_cell.others space ne ∙ before.others space ne;
-      blocks = λ space. let a = before.blocks space in let b = step.one_cell.blocks space in omega arith;
-      old = let a = before.old in let b = step.one_cell.old_space in omega arith;
+      blocks = λ space. step.blocks space ∙ before.blocks space;
       remembered = λ formed. step.remembered (before.remembered formed);
       used = omega arith;
       used_past = λ past.

@@ -16,8 +16,7 @@ invariant-loop-to g l =
       added : ChangesTo before.spaces l.cells.spaces before.payloads (IsNamed content) (with_row content.label l.from (take l.to l.row)) content.value;
       payloads : l.cells.payloads ≡ before.payloads;
       others : (space : ℕ) → space ≢ l.from + 2 → used_of l.cells.spaces space ≡ used_of before.spaces space;
-      blocks : (space : ℕ) → length (space_of before.spaces.spaces space) ≤ length (space_of l.cells.spaces.spaces space);
-      old : length (space_of l.cells.spaces.spaces 0) ≡ 0;
+      blocks : (space : ℕ) → length (space_of l.cells.spaces.spaces space) ≡ length (space_of before.spaces.spaces space);
       remembered : AreRemembered before.spaces.spaces before.remembered.places → AreRemembered l.cells.spaces.spaces l.cells.remembered.places;
       used : used_of l.cells.spaces (l.from + 2) ≤ l.to + 1;
       used_past : l.from < l.to → used_of l.cells.spaces (l.from + 2) ≤ l.to;

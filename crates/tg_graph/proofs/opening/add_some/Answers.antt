@@ -19,5 +19,10 @@ returns-clause-payloads g c = c.add_edge.ensures.payloads
 pub returns-clause-remembered : goal.returns-clause-remembered
 returns-clause-remembered g c = c.add_edge.ensures.remembered
 
+pub returns-clause-blocks : goal.returns-clause-blocks
+returns-clause-blocks g c =
+    let left = c.requires.room (sym c.is_empty.ensures ∙ c.if-is_empty.false) in
+    (rw c.unwrap.ensures at c.add_edge.ensures.one_cell).blocks left
+
 pub returns-then-is_empty-clause-one_cell : goal.returns-then-is_empty-clause-one_cell
-returns-then-is_empty-clause-one_cell g c = record { here = omega arith; others = λ other apart. refl; blocks = λ other. omega arith; old_space = refl }
+returns-then-is_empty-clause-one_cell g c = record { here = omega arith; others = λ other apart. refl; blocks = λ left other. refl }

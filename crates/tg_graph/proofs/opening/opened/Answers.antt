@@ -24,7 +24,7 @@ returns-clause-opened g c =
     let limits = c.in-Ok.room.cells.spaces.limits in
     let edges = c.edges.result.now in
     let values = c.args.drafts.items in
-    let opened = edges_opened placed.spaces added.spaces placed.payloads places workers limits (label_in edges) values c.place_workers.ensures.opened c.add_edges.ensures.added c.add_edges.ensures.block_counts c.add_edges.ensures.still_old in
+    let opened = edges_opened placed.spaces added.spaces placed.payloads places workers limits (label_in edges) values c.place_workers.ensures.opened c.add_edges.ensures.added c.add_edges.ensures.block_counts in
     opened_same added.spaces placed.payloads added.payloads places workers c.args.opening.now.workers limits c.args.limits edges c.args.opening.now.edges values c.args.opening.now.values
     c.add_edges.ensures.payloads (ap (λ (vs : List Value). length vs) c.requires ∙ c.workers.ensures.plan.values.0) c.in-Ok.ensures.ready.limits_kept c.edges.ensures c.requires opened
 

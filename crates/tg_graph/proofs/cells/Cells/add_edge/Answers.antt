@@ -29,7 +29,7 @@ returns-clause-one_cell g c =
     let can = added_can c.args.self.now.spaces c.make_room.new.self.spaces c.args.self.now.payloads c.find_spot-spot.ensures.table made.table c.requires.graph (c.args.worker + 2) c.cells.result c.requires.worker made.spaces
     c.args.from c.requires.from c.read-name.result c.find_spot-spot.result c.find_spot-spot.ensures.spot made.left c.cells.ensures in
     subst (λ (x : SpaceTable). TakesOneCell c.args.self.now.spaces x (c.args.worker + 2)) (sym c.put.ensures)
-    (takes_one_cell c.args.self.now.spaces c.make_room.new.self.spaces (c.args.worker + 2) c.cells.result c.find_spot-spot.result c.args.rights c.args.to c.requires.worker made.spaces made.table (omega arith) can)
+    (takes_one_cell c.args.self.now.spaces c.make_room.new.self.spaces (c.args.worker + 2) c.cells.result c.find_spot-spot.result c.args.rights c.args.to c.requires.worker (omega (arith, cells_few c.find_spot-spot.result, c.cells.ensures)) made.spaces made.table can)
 
 pub returns-clause-placed : goal.returns-clause-placed
 returns-clause-placed g c =
