@@ -3,5 +3,6 @@ pub mod BlockLaws
 mod CollectLaws
 mod CreateLaws
 mod DifferenceLaws
+mod HeldLaws
 mod ReadLaws
 pub mod StandLaws

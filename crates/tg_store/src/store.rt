@@ -58,6 +58,7 @@ impl<P: Payload> Store<P> {
     ghost use Rattle.tg_graph.specs.Spots.{IsMadeInRow, LacksCellsFor};
     ghost use Rattle.tg_graph.specs.Kept.{VerticesOfOldStay};
     ghost use Rattle.tg_rules.specs.Effect.{AddsEdge, LacksCellsToServe};
+    ghost use Rattle.tg_store.specs.Held.{IsHeldOver};
     ghost use Rattle.tg_store.specs.Store.{Enters, HasAdopted, HasFewBlocks, IsCountOf, IsFaithful, IsUnchanged, OnlyEnters, StandsFor};
 
     /// A store that starts from the opening, with the payloads of the drafts, one for each worker, and with no entry in
@@ -231,6 +232,21 @@ impl<P: Payload> Store<P> {
             return None;
         }
         readable(&self.heap, worker, name)
+    }
+
+    /// The rights that a worker holds over the vertex with a name: exactly the label between the two on the graph that the store
+    /// stands for. `None` where there is no edge, as from a worker to itself, to a name that was never made and to one that was
+    /// collected, and where no worker has the name. It changes nothing and makes no entry: no journal tells of what is asked this
+    /// way. Takes no memory.
+    pub fn label(&self, worker: u64, target: u64) -> Option<Label>
+        ensures held { (g : ProtectionGraph) → StandsFor self.now g → IsHeldOver g worker target result }
+    {
+        if worker >= self.heap.workers() {
+            return None;
+        }
+        let from = self.heap.worker_place(worker);
+        let found = self.heap.find_edge(from, target)?;
+        Label::new(found.rights)
     }
 
     /// Collects the heap with one thread, and answers how many vertices it then has. The journal stays as it is, and so
