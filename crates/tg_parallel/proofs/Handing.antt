@@ -1,4 +1,4 @@
--- What a helper hands over: its copies stand in its blocks, each block with its number.
+-- What a helper hands over: its copies stand in its blocks, each block with its number, which it has once.
 use Rattle.std.proofs.Common.{◌≡◌, ◌≢◌, ℕ, ◌+◌, ◌*◌, ◌/◌, ◌%◌, ◌^◌, ◌<◌, ◌≤◌, ◌==◌, ◌⊎◌, List, [], ◌∷◌, Bool, true, false, length, get_or, take, map, refl, sym, ap, subst, ◌∙◌, inl, inr, ⊎_elim, arith, nat_lt, Result, Ok, Err}
 use Rattle.std.specs.List.{All, Contains, list_all}
 use Rattle.std.specs.Result.{IfErr, IfOk, OnOk}
@@ -23,9 +23,10 @@ use Rattle.tg_evac.specs.Claims.{win_at, won_in}
 use Rattle.tg_evac.specs.Claimers.{copies_to, image_at}
 use Rattle.tg_evac.specs.Copies.{HoldCells}
 use Rattle.tg_evac.proofs.InOrder.{held_cell, held_count, held_rest}
-use Rattle.tg_parallel.specs.Parts.{HasClaimedPast, HasCopies, HasMetAll, IsPart, Numbered, cells_met, numbers_of, win_of, wins_of}
+use Rattle.tg_parallel.specs.Parts.{AreOnce, HasClaimedPast, HasCopies, HasMetAll, IsPart, Numbered, cells_met, numbers_of, win_of, wins_of}
 use Rattle.tg_parallel.specs.Seats.{AreFilled, AreLaidOut, HasCopied, Sitting, block_at, own_place, pair_at, pairs_in}
 use Rattle.tg_parallel.proofs.Filled.{has_index, rising_once, won_at}
+use Rattle.tg_parallel.proofs.Lists.{once_differ}
 use Rattle.tg_parallel.proofs.Seating.{wins_in}
 
 -- ---- blocks with their numbers
@@ -49,6 +50,15 @@ are_laid_out cells numbers blocks laid hold are same each = record {
   numbered = same;
   stand = λ i j low inside. ap (λ (b : List (List ℕ)). cell_of b j) (each i low) ∙ laid_cell cells blocks hold are i j inside;
 }
+
+-- the numbers of a helper's own blocks, which rise, stand once
+pub filled_once : (aged : Bool) (v : Record) (numbers : List ℕ) (used : ℕ) → AreFilled aged v numbers used → AreOnce (blocks_of aged v)
+filled_once aged v numbers used filled = subst (λ (l : List ℕ). AreOnce l) filled.same
+    (once_differ numbers (λ i j d lt low e. (
+    let rises = filled.rising i j lt low in
+    let left : get_or numbers i 0 ≡ get_or numbers i d = get_or_default numbers i 0 d (omega arith) in
+    let right : get_or numbers j 0 ≡ get_or numbers j d = get_or_default numbers j 0 d low in
+    omega arith)))
 
 -- ---- the copies of a space
 

@@ -28,8 +28,8 @@
 //! ([`laws::a_block_past_the_limit_tells_of_want_of_room`]).
 //!
 //! **Who may call.** `tg_helpers` calls [`collect_many`], which has the calling thread be one of the helpers. [`collect_seated`]
-//! has one helper and starts no thread: nothing of it waits, and only tests and a measurement call it. A gate is for tests, which make
-//! helpers meet; others pass [`NoGate`].
+//! is what that is with one helper, and needs no leave to start threads or to wait: only tests and a measurement call it. A gate is for
+//! tests, which make helpers meet; others pass [`NoGate`].
 #![tactic(auto)]
 
 pub use fault::HelpersFault;

@@ -36,7 +36,6 @@ use tg_space::{Forwarding, Kind, Root, Spaces};
 ///
 /// What it leaves is a collection as that of `tg_evac::collect_one`, and it is refused as that is, but that each space may
 /// have one block more than its copies need. The spare blocks are filled first; those that aren't needed are given back.
-#[tactic(auto, using(tg_evac::proofs::Behind::kept_within))]
 pub fn collect_seated(
     alloc: Global,
     spaces: &Spaces,
@@ -50,12 +49,29 @@ pub fn collect_seated(
     ensures few { IfOk result (λ copied. AreFewBlocks spaces.now.limits.space_blocks (kept_blocks kind spaces.now.spaces) 1 copied.forward.words copied.adoption.aged copied.adoption.old) }
     ensures full { IfErr result (λ fault. fault ≡ CollectFault.HeapFull → MayLackRoom spaces.now.limits.space_blocks 1 (kept_blocks kind spaces.now.spaces) (used_cells kind spaces.now.spaces)) }
 {
+    collect_alone(alloc, spaces, roots, kind, &NoGate, spare)
+}
+
+// A collection by one helper at a table of its own, on the calling thread, who passes the gate.
+#[tactic(auto, using(tg_evac::proofs::Behind::kept_within))]
+fn collect_alone<G: Gate>(
+    alloc: Global,
+    spaces: &Spaces,
+    roots: &[Root],
+    kind: Kind,
+    gate: &G,
+    spare: Vec<Block>,
+) -> Result<Copied, CollectFault>
+    requires { AreSound spaces.now.spaces roots.now }
+    ensures collected { IfOk result (λ copied. IsCollection kind spaces.now.spaces roots.now copied.forward.words copied.adoption.aged copied.adoption.old copied.remembered.places) }
+    ensures moved { IfOk result (λ copied. copies_in copied.forward.words 0 + copies_in copied.forward.words 1 ≤ used_cells kind spaces.now.spaces) }
+    ensures few { IfOk result (λ copied. AreFewBlocks spaces.now.limits.space_blocks (kept_blocks kind spaces.now.spaces) 1 copied.forward.words copied.adoption.aged copied.adoption.old) }
+    ensures full { IfErr result (λ fault. fault ≡ CollectFault.HeapFull → MayLackRoom spaces.now.limits.space_blocks 1 (kept_blocks kind spaces.now.spaces) (used_cells kind spaces.now.spaces)) }
+{
     let cells = spaces.cells();
     let plan = Plan::of(kind, spaces);
     let (table, helper) = RaceTable::open(alloc, cells, roots.len() as u64, plan.kept, 1)?;
-    let helped = help(
-        alloc, &table, helper, 0, spaces, roots, kind, &NoGate, spare,
-    );
+    let helped = help(alloc, &table, helper, 0, spaces, roots, kind, gate, spare);
     finish(alloc, table, spaces, roots, plan, helped)
 }
 
@@ -87,6 +103,9 @@ pub fn collect_many<R: Threads + Wait + Sync, G: Gate>(
     ensures full { IfErr result (λ fault. fault ≡ HelpersFault.HeapFull → MayLackRoom spaces.now.limits.space_blocks helpers (kept_blocks kind spaces.now.spaces) (used_cells kind spaces.now.spaces)) }
     ensures alone { helpers ≡ 1 → IfErr result (λ fault. fault ≢ HelpersFault.NoThread) }
 {
+    if helpers == 1 {
+        return Ok(collect_alone(alloc, spaces, roots, kind, gate, spare)?);
+    }
     let cells = spaces.cells();
     let plan = Plan::of(kind, spaces);
     let (table, helper) = RaceTable::open(alloc, cells, roots.len() as u64, plan.kept, helpers)?;

@@ -5,7 +5,7 @@ ghost use Rattle.std.specs.Vec.Iter.{into_iter_items};
 ghost use Rattle.tg_block.specs.Cells.{free_block};
 ghost use Rattle.tg_space.specs.Soundness.{AreSound};
 ghost use Rattle.tg_race.specs.Race.{empty};
-ghost use Rattle.tg_parallel.specs.Parts.{AreCountsOf, numbers_of};
+ghost use Rattle.tg_parallel.specs.Parts.{AreCountsOf, AreOnce, numbers_of};
 ghost use Rattle.tg_parallel.specs.Helping.{IsHelped};
 ghost use Rattle.tg_parallel.specs.Seats.{AreLaidOut, block_at};
 
@@ -106,8 +106,9 @@ fn next_block(alloc: Global, blocks: &mut IntoIter<Block>) -> Result<Block, Allo
 /// each to its place: one of several that collect together, as the collectors of Halstead's Multilisp do. No call of it
 /// waits, but that of the gate may. Copies go to the spare blocks first.
 ///
-/// The record of the helper tells what it has won and seen, and its part has the copies of what it has won. A helper that
-/// is refused memory, or room, says so and leaves what it has claimed claimed: the collection is then refused.
+/// The record of the helper tells what it has won and seen, and its part has the copies of what it has won. It claims no block
+/// number twice. A helper that is refused memory, or room, says so and leaves what it has claimed claimed: the collection is then
+/// refused.
 pub fn help<G: Gate>(
     alloc: Global,
     table: &RaceTable,
@@ -123,7 +124,8 @@ pub fn help<G: Gate>(
     requires counts { AreCountsOf kind spaces.now.spaces roots.now table.now.counts }
     requires own { helper.table ≡ table.now.table }
     requires fresh { helper.done ≡ empty 1 }
-    ensures { IsHelped kind spaces.now roots.now table.now 1 result }
+    ensures helped { IsHelped kind spaces.now roots.now table.now 1 result }
+    ensures once { AreOnce result.helper.done.aged_blocks × AreOnce result.helper.done.old_blocks }
 {
     let limit = spaces.limits().space_blocks();
     let mut seat = Seat::new(alloc, table, helper, kind, limit);

@@ -6,9 +6,9 @@ use Rattle.tg_race.specs.declared.record.Record.{Record}
 use Rattle.tg_race.specs.Race.{past}
 use Rattle.tg_race.specs.Seats.{Board}
 use Rattle.tg_evac.proofs.Sound.{have_pointers}
-use Rattle.tg_parallel.specs.Parts.{AreEarned, HasClaimedPast, IsPart}
+use Rattle.tg_parallel.specs.Parts.{AreEarned, AreOnce, HasClaimedPast, IsPart}
 use Rattle.tg_parallel.specs.Seats.{AreFilled, Sitting}
-use Rattle.tg_parallel.proofs.Handing.{aged_room, err_weaker, is_part, ok_always, old_room, parts_are, past_limit}
+use Rattle.tg_parallel.proofs.Handing.{aged_room, err_weaker, filled_once, is_part, ok_always, old_room, parts_are, past_limit}
 use Rattle.tg_parallel.proofs.part.help.Goals as goal
 
 pub work-worked-requires-clause-pointers : goal.work-worked-requires-clause-pointers
@@ -26,8 +26,8 @@ of-requires-clause-old_room g c =
     let kind = c.in-Ok.ensures.same.kind ∙ ap (λ (x : Sitting). x.kind) c.new-seat.ensures in
     old_room c.args.kind c.args.spaces.now c.args.roots.now s kind e.places c.in-Ok.ensures.copied c.into_parts-helper.result.1.items c.into_parts-helper.result.2.items e.aged.0 e.old.0 e.aged.1 e.old.1
 
-pub returns-in-Ok : goal.returns-in-Ok
-returns-in-Ok g c =
+pub returns-in-Ok-clause-helped : goal.returns-in-Ok-clause-helped
+returns-in-Ok-clause-helped g c =
     let s = c.work-worked.new.seat in let e = c.into_parts-helper.ensures in
     let t = c.args.spaces.now in let h = t.spaces in let roots = c.args.roots.now in let kind = c.args.kind in
     let same_kind : s.kind ≡ kind = c.in-Ok.ensures.same.kind ∙ ap (λ (x : Sitting). x.kind) c.new-seat.ensures in
@@ -51,3 +51,15 @@ returns-in-Ok g c =
           (subst (λ (n : ℕ). HasClaimedPast n s.done) limit (past_limit c.space_blocks-limit.result s.done aged old in_aged.same in_old.same (told is))))
           c.of.ensures.full;
     }
+
+pub returns-in-Ok-clause-once : goal.returns-in-Ok-clause-once
+returns-in-Ok-clause-once g c =
+    let v = c.work-worked.new.seat.done in let e = c.into_parts-helper.ensures in
+    subst (λ (w : Record). AreOnce w.aged_blocks × AreOnce w.old_blocks) (sym e.done)
+    (filled_once true v c.into_parts-helper.result.1.items e.aged.0 e.aged.1, filled_once false v c.into_parts-helper.result.2.items e.old.0 e.old.1)
+
+pub returns-clause-once : goal.returns-clause-once
+returns-clause-once g c =
+    let v = c.work-worked.new.seat.done in let e = c.into_parts-helper.ensures in
+    subst (λ (w : Record). AreOnce w.aged_blocks × AreOnce w.old_blocks) (sym e.done)
+    (filled_once true v c.into_parts-helper.result.1.items e.aged.0 e.aged.1, filled_once false v c.into_parts-helper.result.2.items e.old.0 e.old.1)
