@@ -17,8 +17,8 @@ ghost use Rattle.tg_store.specs.Store.{HasFewBlocks, IsCountOf, StandsFor};
 use std::alloc::Global;
 use std::sync::Wait;
 use std::thread::Threads;
-pub use tg_parallel::HelpersFault;
-use tg_parallel::{NoGate, collect_many};
+use tg_parallel::collect_many;
+pub use tg_parallel::{Gate, HelpersFault, NoGate};
 use tg_payload::Payload;
 use tg_space::Kind;
 use tg_store::Store;
@@ -26,17 +26,18 @@ use tg_store::Store;
 /// Collects as `Store::collect` does, with as many helpers, from 1 to 8: one on the calling thread, and each other on a thread of
 /// its own, as the collectors of Halstead's Multilisp did. All threads that were started have ended before the answer, which is
 /// the number of vertices that the heap then has. Each space may then have as many blocks more than after `Store::collect` as
-/// there are helpers, since each may leave one open.
+/// there are helpers, since each may leave one open. Each helper passes the gate before each claim of roots.
 ///
 /// `HeapFull` is answered only where the cells in use that would be moved may not fit into the blocks that a space may
 /// have, of which each helper may leave one open; `NoThread` where a thread couldn't be started, and never of one helper
 /// alone; else `OutOfMemory` alone. The store is then as it was.
-pub fn collect_with<P: Payload, R: Threads + Wait + Sync>(
+pub fn collect_with<P: Payload, R: Threads + Wait + Sync, G: Gate>(
     rt: &R,
     alloc: Global,
     store: &mut Store<P>,
     kind: Kind,
     helpers: u32,
+    gate: &G,
 ) -> Result<u64, HelpersFault>
     requires some { 1 ≤ helpers }
     requires few { helpers ≤ 8 }
@@ -64,7 +65,7 @@ pub fn collect_with<P: Payload, R: Threads + Wait + Sync>(
         &roots,
         kind,
         helpers,
-        &NoGate,
+        gate,
         spare,
     )?;
     Ok(store.settle(kind, copied)?)
