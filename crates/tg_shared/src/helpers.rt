@@ -17,19 +17,20 @@ use crate::shared::SharedStore;
 use std::alloc::Global;
 use std::sync::Wait;
 use std::thread::Threads;
-use tg_helpers::{HelpersFault, collect_with};
+use tg_helpers::{Gate, HelpersFault, collect_with};
 use tg_payload::Payload;
 use tg_store::Kind;
 
 impl<L: Round, P: Payload> Locked<L, P> {
     /// Collects the heap as [`collect`](Locked::collect) does, with as many helpers, from 1 to 8, by one call of
-    /// `tg_helpers::collect_with`. The journal stays as it is, and no session is touched.
-    pub fn collect_with<R: Threads + Wait + Sync>(
+    /// `tg_helpers::collect_with`, each of whom passes the gate. The journal stays as it is, and no session is touched.
+    pub fn collect_with<R: Threads + Wait + Sync, G: Gate>(
         &mut self,
         rt: &R,
         alloc: Global,
         kind: Kind,
         helpers: u32,
+        gate: &G,
     ) -> Result<u64, HelpersFault>
         requires some { 1 ≤ helpers }
         requires few { helpers ≤ 8 }
@@ -49,25 +50,26 @@ impl<L: Round, P: Payload> Locked<L, P> {
         ensures limits { self.new.store.heap.table.limits ≡ self.old.store.heap.table.limits }
         ensures sessions { self.new.sessions ≡ self.old.sessions }
     {
-        collect_with(rt, alloc, &mut self.store, kind, helpers)
+        collect_with(rt, alloc, &mut self.store, kind, helpers, gate)
     }
 }
 
 impl<L: Round> Session<L> {
     /// Collects the heap of the shared store as [`collect`](Session::collect) does, with as many helpers, from 1 to 8: one on
-    /// the calling thread, and each other on a thread of its own. It is one call of
+    /// the calling thread, and each other on a thread of its own. Each of them passes the gate. It is one call of
     /// [`Locked::collect_with`](crate::Locked::collect_with) under the lock, and all threads that were started have ended
     /// before the lock is let go. Answers how many vertices the heap then has.
     ///
     /// Of a store that may have been behind the lock `HeapFull` was due, where each helper may leave a block open; `NoThread`
     /// is answered where a thread couldn't be started, and never of one helper alone; else `OutOfMemory` alone. It makes no entry
     /// and no receipt.
-    pub fn collect_with<P: Payload, R: Threads + Wait + Sync>(
+    pub fn collect_with<P: Payload, R: Threads + Wait + Sync, G: Gate>(
         &self,
         rt: &R,
         store: &SharedStore<L, P>,
         kind: Kind,
         helpers: u32,
+        gate: &G,
     ) -> Result<u64, HelpersFault>
         requires some { 1 ≤ helpers }
         requires few { helpers ≤ 8 }
@@ -80,7 +82,7 @@ impl<L: Round> Session<L> {
         let mut locked = store.locked.lock(rt);
         // for what is told of it: the shared store, gone on
         let _ = locked.store();
-        let left = locked.collect_with(rt, self.alloc(), kind, helpers)?;
+        let left = locked.collect_with(rt, self.alloc(), kind, helpers, gate)?;
         // and of the one that is left
         let _ = locked.store();
         Ok(left)

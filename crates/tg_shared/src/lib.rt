@@ -46,4 +46,4 @@ pub use receipt::{Receipt, receipts_match};
 pub use round::Round;
 pub use session::Session;
 pub use shared::{CloseRefused, Shared, SharedRefused, SharedStore, close};
-pub use tg_helpers::HelpersFault;
+pub use tg_helpers::{Gate, HelpersFault, NoGate};
