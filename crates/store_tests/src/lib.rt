@@ -10,7 +10,11 @@ mod counting_payload;
 #[cfg(test)]
 mod help;
 #[cfg(test)]
+mod helpers;
+#[cfg(test)]
 mod lent;
+#[cfg(test)]
+mod meeting;
 #[cfg(test)]
 mod payloads;
 #[cfg(test)]

@@ -8,8 +8,8 @@ use std::test::Fail;
 use tg_payload::{CellPayload, Payload, PayloadBox};
 use tg_script::{Collector, Helpers, InMemory, OneThread, Settings, drafts_of, run_in_memory};
 
-// Runs the script with these payloads of the workers and in the stock.
-fn run_with<P: Payload, C: Collector>(
+/// Runs the script with these payloads of the workers and in the stock.
+pub(crate) fn run_with<P: Payload, C: Collector>(
     alloc: Global,
     collector: &C,
     settings: Settings,

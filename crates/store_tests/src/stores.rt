@@ -7,7 +7,7 @@ use std::sync::atomic::{AtomicU64, Ordering};
 use std::sync::{Arc, Wait};
 use std::test::Fail;
 use std::thread::Threads;
-use tg_helpers::collect_with;
+use tg_helpers::{NoGate, collect_with};
 use tg_model::{Command, Law, Numbers, Opening, Reply, Value};
 use tg_payload::{CellPayload, Draft, Payload, PayloadBox};
 use tg_rights::{Label, Right, Rights};
@@ -354,7 +354,7 @@ fn left_by<P: Payload, R: Threads + Wait + Sync>(
     requires { IfSome helpers (λ number. (1 ≤ number) × (number ≤ 8)) }
 {
     match helpers {
-        Some(helpers) => collect_with(rt, alloc, store, kind, helpers).ok(),
+        Some(helpers) => collect_with(rt, alloc, store, kind, helpers, &NoGate).ok(),
         None => store.collect(kind).ok(),
     }
 }

@@ -2,7 +2,7 @@
 //!
 //! [`run_race`] runs a whole script so. It reads all of its lines and opens its store, [`share_out`] gives each session its lines, and
 //! [`run_threads`] runs them on threads and brings the sessions back with what each line came to: the place of its entry in the
-//! journal, a collection, or a refusal. [`in_script_order`] puts these together again, the store is closed and audited, and
+//! journal, a collection ([`collect_by`]), or a refusal. [`in_script_order`] puts these together again, the store is closed and audited, and
 //! [`tell_all`] writes the reply to each line, and behind them the number of entries. [`runner`] says whose thread runs a line.
 //! What needs no thread of this stands in `tg_weave`, and is offered here again.
 //!
@@ -24,4 +24,4 @@ pub use race::run_race;
 pub use tg_weave::{Task, Told, in_script_order, runner, sessions_of, share_out, tell_all};
 pub use threads::{ThreadsFault, Work, run_threads};
 pub use turnstile::{NoTurnstile, Turnstile};
-pub use worker::Finished;
+pub use worker::{Finished, collect_by};

@@ -1,7 +1,13 @@
 //! The run of one worker's lines.
 ghost use Rattle.std.specs.Prelude.{◌≡◌, ◌<◌, ◌++◌, ◌∷◌, [], ℕ, length, map, List, IfErr, IfOk};
 ghost use Rattle.tg_model.specs.declared.command.Deed.TheVariants as Deed;
+ghost use Rattle.tg_model.specs.Graph.{IsReachable};
+ghost use Rattle.tg_space.specs.Collection.{MayLackRoom, used_cells};
+ghost use Rattle.tg_space.specs.SpaceTable.{kept_blocks};
+ghost use Rattle.tg_graph.specs.Heap.{content_of};
+ghost use Rattle.tg_store.specs.Store.{IsCountOf, graph_of_store};
 ghost use Rattle.tg_script.specs.Script.{MayWant};
+ghost use Rattle.tg_shared.specs.Sessions.{AtSome};
 ghost use Rattle.tg_shared.specs.declared.receipt.Receipt.{Receipt as ReceiptOf};
 ghost use Rattle.tg_threads.specs.Tasks.{Brings, HasAsked, HasCollected, HasMade, HasRun, IsRunBy};
 ghost use Rattle.tg_weave.specs.Boxes.{boxed_of};
@@ -15,7 +21,7 @@ use tg_payload::{Draft, Payload};
 use tg_refusals::apply_refusal;
 use tg_rights::Label;
 use tg_script::Helpers;
-use tg_shared::{HelpersFault, Round, Session, SharedStore};
+use tg_shared::{Gate, HelpersFault, NoGate, Round, Session, SharedStore};
 use tg_store::{CollectFault, CreateFault, Kind};
 use tg_text::{Line, Refusal};
 use tg_weave::{Task, Told};
@@ -117,22 +123,31 @@ fn collect<L: Round, P: Payload, R: Threads + Wait + Sync>(
 ) -> Told
     ensures { HasCollected helpers kind result }
 {
-    match (collect_by(rt, store, helpers, session, kind), kind) {
+    match (collect_by(rt, store, helpers, session, kind, &NoGate), kind) {
         (Ok(kept), Kind::Full) => Told::Collected(Some(kept)),
         (Ok(_), Kind::Nursery) => Told::Collected(None),
         (Err(refusal), _) => Told::Refused(refusal),
     }
 }
 
-// One helper is the session's thread, which collects alone.
-fn collect_by<L: Round, P: Payload, R: Threads + Wait + Sync>(
+/// A race's collection, which a worker's thread asks its session for: by so many helpers, each of whom passes the gate. One helper
+/// is that thread, which collects alone and passes no gate. Answers how many vertices the heap then has.
+///
+/// Of a store that may have been behind the lock `Heap` was due, where each of several helpers may leave a block open; `Threads` is
+/// answered of several helpers alone, where a thread couldn't be started; else `Memory` alone.
+pub fn collect_by<L: Round, P: Payload, R: Threads + Wait + Sync, G: Gate>(
     rt: &R,
     store: &SharedStore<L, P>,
     helpers: Helpers,
     session: &Session<L>,
     kind: Kind,
+    gate: &G,
 ) -> Result<u64, Refusal>
-    ensures { IfErr result (MayWant helpers) }
+    ensures number { IfOk result (λ number. AtSome L.start (λ s.
+        (number ≡ length (content_of s.heap).names) × (kind ≡ Kind.Full → IsCountOf (IsReachable (graph_of_store s)) number))) }
+    ensures refused { IfErr result (MayWant helpers) }
+    ensures full { IfErr result (λ why. why ≡ Refusal.Heap → AtSome L.start (λ s.
+        MayLackRoom s.heap.table.limits.space_blocks helpers (kept_blocks kind s.heap.table.spaces) (used_cells kind s.heap.table.spaces))) }
 {
     let number = helpers.number();
     if number == 1 {
@@ -142,7 +157,7 @@ fn collect_by<L: Round, P: Payload, R: Threads + Wait + Sync>(
             Err(CollectFault::HeapFull) => Err(Refusal::Heap),
         };
     }
-    match session.collect_with(rt, store, kind, number) {
+    match session.collect_with(rt, store, kind, number, gate) {
         Ok(kept) => Ok(kept),
         Err(HelpersFault::OutOfMemory) => Err(Refusal::Memory),
         Err(HelpersFault::HeapFull) => Err(Refusal::Heap),

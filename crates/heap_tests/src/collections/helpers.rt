@@ -3,7 +3,7 @@ ghost use Rattle.std.specs.Prelude.{◌≤◌};
 
 use super::sound::are_sound;
 use super::{CELLS, Content, heap_of, rows_of};
-use std::alloc::Global;
+use std::alloc::{AllocError, Global};
 use std::sync::Wait;
 use std::sync::atomic::{AtomicU64, Ordering};
 use std::test::Fail;
@@ -53,27 +53,55 @@ fn refusal<R: Threads + Wait + Sync, G: Gate>(
     refusal_of(rt, alloc, &spaces, &roots, helpers, gate)
 }
 
-// A gate at which each of two helpers waits at its first pass for the other's, for so many turns. A helper that comes a second
-// time lets the other one go first, which so has claimed a chunk before all are gone.
+// A gate at which each of so many helpers waits at its first pass for all others, for so many turns, until one was missed. A helper
+// that comes a second time lets the others go first, so that one of two has claimed a chunk before all are gone.
 #[derive(Drop)]
 struct Meet {
-    first: AtomicU64,
-    second: AtomicU64,
+    // How often each helper has passed.
+    passes: Vec<AtomicU64>,
     missed: AtomicU64,
+}
+
+impl Meet {
+    fn of(alloc: Global, helpers: u32) -> Result<Meet, AllocError> {
+        let mut passes = Vec::new(alloc);
+        for _ in 0..helpers {
+            passes.push(AtomicU64::new(0))?;
+        }
+        Ok(Meet {
+            passes,
+            missed: AtomicU64::new(0),
+        })
+    }
+
+    fn have_all_come(&self) -> bool {
+        self.passes
+            .iter()
+            .all(|passes| passes.load(Ordering::SeqCst) > 0)
+    }
+
+    fn is_missed(&self) -> bool {
+        self.missed.load(Ordering::SeqCst) > 0
+    }
+
+    fn passes(&self) -> u64 {
+        let mut all = 0u64;
+        for passes in &self.passes {
+            all = all.wrapping_add(passes.load(Ordering::SeqCst));
+        }
+        all
+    }
 }
 
 impl Gate for Meet {
     fn pass(&self, helper: u32) {
-        let (mine, other) = if helper == 0 {
-            (&self.first, &self.second)
-        } else {
-            (&self.second, &self.first)
-        };
-        if mine.fetch_add(1, Ordering::SeqCst) == 1 {
-            give_way();
+        if let Some(passes) = self.passes.get(helper as usize) {
+            if passes.fetch_add(1, Ordering::SeqCst) == 1 {
+                give_way();
+            }
         }
         for _ in 0..100_000_000u64 {
-            if other.load(Ordering::SeqCst) > 0 {
+            if self.have_all_come() || self.is_missed() {
                 return;
             }
             thread::yield_now();
@@ -89,42 +117,47 @@ fn give_way() {
     }
 }
 
-// What two helpers who met at a gate left: how often they passed it, whether one missed the other, and why they were refused.
+// What helpers who met at a gate left: how often they passed it, whether one missed another, and why they were refused.
 #[derive(Clone, Copy)]
 struct Met {
     passes: u64,
-    missed: u64,
+    is_missed: bool,
     refusal: Option<HelpersFault>,
 }
 
-// A full collection of the heap by two helpers who meet.
-fn met_on<R: Threads + Wait + Sync>(rt: &R, alloc: Global, heap: Heap) -> Result<Met, Fail> {
-    let gate = Meet {
-        first: AtomicU64::new(0),
-        second: AtomicU64::new(0),
-        missed: AtomicU64::new(0),
-    };
-    let refusal = refusal(rt, alloc, heap, 2, &gate)?;
-    let first = gate.first.load(Ordering::SeqCst);
-    let second = gate.second.load(Ordering::SeqCst);
+// A full collection of the heap by so many helpers who meet.
+fn met_on<R: Threads + Wait + Sync>(
+    rt: &R,
+    alloc: Global,
+    heap: Heap,
+    helpers: u32,
+) -> Result<Met, Fail>
+    requires { (1 ≤ helpers) × (helpers ≤ 8) }
+{
+    let gate = Meet::of(alloc, helpers)?;
+    let refusal = refusal(rt, alloc, heap, helpers, &gate)?;
     Ok(Met {
-        passes: first.wrapping_add(second),
-        missed: gate.missed.load(Ordering::SeqCst),
+        passes: gate.passes(),
+        is_missed: gate.is_missed(),
         refusal,
     })
 }
 
-// Each object is named by several, which the helpers copy side by side.
+// Each object is named by several, which the helpers copy side by side. The gate is passed for each of twelve chunks of roots, and
+// once more by each helper.
 #[test]
-fn two_helpers_at_one_gate(rt: HostRuntime) -> Result<(), Fail> {
+fn helpers_at_one_gate(rt: HostRuntime) -> Result<(), Fail> {
     let heap = Heap {
         content: Content::Linked,
         space_blocks: 16,
         rows: CELLS,
     };
-    let met = met_on(&rt, rt.alloc(), heap)?;
-    assert_eq!(rt; met.refusal, None);
-    assert_eq!(rt; met.missed, 0);
+    for helpers in [1, 2, 3, 8] {
+        let met = met_on(&rt, rt.alloc(), heap, helpers)?;
+        assert_eq!(rt; met.refusal, None);
+        assert!(rt; !met.is_missed, "with {helpers}");
+        assert_eq!(rt; met.passes, 12 + u64::from(helpers));
+    }
     Ok(())
 }
 
@@ -140,7 +173,7 @@ fn a_refused_helper_stops_no_other(rt: HostRuntime) -> Result<(), Fail> {
     };
     let mut refused = 0u64;
     for _ in 0..20 {
-        let met = met_on(&rt, rt.alloc(), heap)?;
+        let met = met_on(&rt, rt.alloc(), heap, 2)?;
         let is_refused = met.refusal == Some(HelpersFault::HeapFull);
         assert!(rt; is_refused || met.refusal.is_none());
         assert_eq!(rt; met.passes, if is_refused { 9 } else { 10 });

@@ -1,7 +1,8 @@
-//! Collections that sessions ask for.
-ghost use Rattle.std.specs.Prelude.{◌≡◌, ◌+◌, ◌≤◌};
+//! Collections that sessions ask for, and a race for one of its sessions.
+ghost use Rattle.std.specs.Prelude.{◌≡◌, ◌+◌};
 ghost use Rattle.tg_shared.specs.Sessions.{start_of_store};
 
+use crate::meeting::{MANY_TURNS, Meet};
 use crate::sessions::opened::{make, store_with};
 use std::alloc::Global;
 use std::marker::Brand;
@@ -12,8 +13,10 @@ use std::thread::Threads;
 use tg_model::Command;
 use tg_payload::CellPayload;
 use tg_rights::Label;
+use tg_script::Helpers;
 use tg_shared::{Round, Session, Shared, SharedStore};
 use tg_store::{Kind, Store};
+use tg_threads::collect_by;
 
 // Lets the session give up its rights over a vertex that it made.
 fn give_up<L: Round, R: Wait>(
@@ -29,20 +32,34 @@ fn give_up<L: Round, R: Wait>(
     Some(())
 }
 
+// Who collects.
+#[derive(Clone, Copy)]
+struct Collectors<'a> {
+    helpers: u32,
+    // what each of several helpers passes
+    gate: &'a Meet,
+    // whether a race asks the session for them
+    in_race: bool,
+}
+
 // A collection by one thread, or by several helpers. How many vertices the heap then has.
 fn collect<L: Round, R: Threads + Wait + Sync>(
     rt: &R,
     store: &SharedStore<L, CellPayload>,
     session: &Session<L>,
     kind: Kind,
-    helpers: u32,
-) -> Option<u64>
-    requires { (1 ≤ helpers) × (helpers ≤ 8) }
-{
-    if helpers == 1 {
+    by: Collectors<'_>,
+) -> Option<u64> {
+    let helpers = Helpers::new(by.helpers)?;
+    if by.in_race {
+        return collect_by(rt, store, helpers, session, kind, by.gate).ok();
+    }
+    if by.helpers == 1 {
         return session.collect(rt, store, kind).ok();
     }
-    session.collect_with(rt, store, kind, helpers).ok()
+    session
+        .collect_with(rt, store, kind, helpers.number(), by.gate)
+        .ok()
 }
 
 // A vertex is made and given up, and a nursery collection follows. Another one is made, and lies in Old after a full collection; it is
@@ -52,18 +69,16 @@ fn left_by_each<L: Round, R: Threads + Wait + Sync>(
     alloc: Global,
     store: &SharedStore<L, CellPayload>,
     session: &mut Session<L>,
-    helpers: u32,
-) -> Option<[u64; 4]>
-    requires { (1 ≤ helpers) × (helpers ≤ 8) }
-{
+    by: Collectors<'_>,
+) -> Option<[u64; 4]> {
     let young = make(rt, alloc, store, session)?.ok()?;
     give_up(rt, store, session, young)?;
-    let young_given_up = collect(rt, store, session, Kind::Nursery, helpers)?;
+    let young_given_up = collect(rt, store, session, Kind::Nursery, by)?;
     let old = make(rt, alloc, store, session)?.ok()?;
-    let kept = collect(rt, store, session, Kind::Full, helpers)?;
+    let kept = collect(rt, store, session, Kind::Full, by)?;
     give_up(rt, store, session, old)?;
-    let old_given_up = collect(rt, store, session, Kind::Nursery, helpers)?;
-    let collected_whole = collect(rt, store, session, Kind::Full, helpers)?;
+    let old_given_up = collect(rt, store, session, Kind::Nursery, by)?;
+    let collected_whole = collect(rt, store, session, Kind::Full, by)?;
     Some([young_given_up, kept, old_given_up, collected_whole])
 }
 
@@ -73,36 +88,57 @@ fn seen_of<L: Round, R: Threads + Wait + Sync>(
     alloc: Global,
     blank: Blank,
     store: Store<CellPayload>,
-    helpers: u32,
+    by: Collectors<'_>,
 ) -> Option<[u64; 4]>
     requires name { blank.name ≡ L.name }
     requires parts { (blank.parts ≡ L.parts) × (blank.parts ≡ store.opening.limit + 1) }
     requires start { start_of_store store ≡ L.start }
-    requires helpers { (1 ≤ helpers) × (helpers ≤ 8) }
 {
     let Shared {
         store,
         mut sessions,
     } = SharedStore::<L, CellPayload>::new(alloc, blank, store).ok()?;
     let session = sessions.first_mut()?;
-    left_by_each(rt, alloc, &store, session, helpers)
+    left_by_each(rt, alloc, &store, session, by)
 }
 
 // The same of a store of two workers.
-fn seen_of_two<R: Threads + Wait + Sync>(rt: &R, alloc: Global, helpers: u32) -> Option<[u64; 4]>
-    requires { (1 ≤ helpers) × (helpers ≤ 8) }
-{
+fn seen_of_two<R: Threads + Wait + Sync>(
+    rt: &R,
+    alloc: Global,
+    by: Collectors<'_>,
+) -> Option<[u64; 4]> {
     let store = store_with(alloc, "rw")?;
     let blank = Blank::new(store.opening().max_vertices() + 1);
-    seen_of::<Brand, R>(rt, alloc, blank, store, helpers)
+    seen_of::<Brand, R>(rt, alloc, blank, store, by)
 }
 
-// A nursery collection drops a young vertex that was given up, and none that lies in Old; a full one drops it.
+// The same, and how often the helpers passed a gate at which they met. None may miss another.
+fn met_on_two<R: Threads + Wait + Sync>(
+    rt: &R,
+    alloc: Global,
+    helpers: u32,
+    in_race: bool,
+) -> Option<([u64; 4], u64)> {
+    let gate = Meet::of(alloc, helpers, MANY_TURNS).ok()?;
+    let by = Collectors {
+        helpers,
+        gate: &gate,
+        in_race,
+    };
+    let left = seen_of_two(rt, alloc, by)?;
+    (!gate.is_missed()).then_some((left, gate.passes()))
+}
+
+// A nursery collection drops a young vertex that was given up, and none that lies in Old; a full one drops it. In each of the four
+// the gate is passed for the workers' rows, which are one chunk of roots, and once more by each of several helpers.
 #[test]
 fn collections_of_each_kind(rt: HostRuntime) -> Result<(), Fail> {
-    for helpers in [1, 2] {
-        let left = seen_of_two(&rt, rt.alloc(), helpers).ok_or("a refusal")?;
-        assert_eq!(rt; left, [2, 3, 3, 2], "with {helpers}");
+    for in_race in [false, true] {
+        for (helpers, passes) in [(1, 0), (2, 12), (3, 16), (8, 36)] {
+            let seen = met_on_two(&rt, rt.alloc(), helpers, in_race).ok_or("a refusal")?;
+            assert_eq!(rt; seen, ([2, 3, 3, 2], passes), "with {helpers}");
+        }
     }
     Ok(())
 }

@@ -13,7 +13,7 @@ use std::thread::{Threads, join};
 use tg_journal::{AuditFault, Journal, audit};
 use tg_model::{Command, Reply};
 use tg_payload::CellPayload;
-use tg_shared::{Round, Session, Shared, SharedStore};
+use tg_shared::{NoGate, Round, Session, Shared, SharedStore};
 use tg_store::{Kind, Store};
 
 // Whether the session may write the value to the target.
@@ -51,7 +51,9 @@ fn collect_twice<L: Round, R: Threads + Wait + Sync>(
     session: &Session<L>,
 ) -> u64 {
     let alone = session.collect(rt, store, Kind::Full).is_ok();
-    let helped = session.collect_with(rt, store, Kind::Full, 2).is_ok();
+    let helped = session
+        .collect_with(rt, store, Kind::Full, 2, &NoGate)
+        .is_ok();
     u64::from(alone).wrapping_add(u64::from(helped))
 }
 

@@ -1,0 +1,203 @@
+//! Helpers of a store's collections and of a script's: how many are asked for, and that each has a thread of its own.
+ghost use Rattle.std.specs.Prelude.{◌≡◌, ◌<◌, ◌≤◌};
+
+use crate::meeting::{MANY_TURNS, Meet};
+use crate::rows::{Row, settings_of};
+use crate::scripts::run_with;
+use crate::sessions::opened::store_with;
+use std::alloc::Global;
+use std::marker::Brand;
+use std::sync::Wait;
+use std::sync::atomic::{AtomicU64, Ordering};
+use std::sync::ledger::{Blank, Ledger};
+use std::test::Fail;
+use std::thread::Threads;
+use tg_helpers::collect_with;
+use tg_payload::{CellPayload, Payload};
+use tg_program::{OnThreads, RunPayloads, Start, serve};
+use tg_script::{Bytes, Collector, Count, Helpers, OneThread, Refusal, Settings, Written};
+use tg_store::{Kind, Store};
+
+// A collection of the nurseries and a full one, of two workers.
+const BOTH_KINDS: Row<'static> = Row {
+    workers: 2,
+    max_vertices: 2,
+    blocks: 4096,
+    stock: b"",
+    script: b"minor\nfull\n",
+    written: b"ok\nok 2\n",
+};
+
+// Collects a store of two workers in the same way. How often the helpers passed a gate at which they met, where none missed another.
+fn passes_of_a_store<R: Threads + Wait + Sync>(rt: &R, alloc: Global, helpers: u32) -> Option<u64>
+    requires { (1 ≤ helpers) × (helpers ≤ 8) }
+{
+    let gate = Meet::of(alloc, helpers, MANY_TURNS).ok()?;
+    let mut store = store_with(alloc, "rw")?;
+    for kind in [Kind::Nursery, Kind::Full] {
+        let _left = collect_with(rt, alloc, &mut store, kind, helpers, &gate).ok()?;
+    }
+    drop(store);
+    (!gate.is_missed()).then_some(gate.passes())
+}
+
+// In each collection the gate is passed for the workers' rows, which are one chunk of roots, and once more by each helper.
+#[test]
+fn helpers_of_a_store_at_one_gate(rt: HostRuntime) -> Result<(), Fail> {
+    for (helpers, passes) in [(1, 4), (2, 6), (3, 8), (8, 18)] {
+        let seen = passes_of_a_store(&rt, rt.alloc(), helpers);
+        assert_eq!(rt; seen, Some(passes), "with {helpers}");
+    }
+    Ok(())
+}
+
+// Runs the script of collections of both kinds with so many helpers.
+fn run_both_kinds<C: Collector>(alloc: Global, collector: &C, helpers: u32) -> Result<Vec<u8>, Fail>
+    requires { C.Ready }
+{
+    let settings = settings_of(&BOTH_KINDS, helpers)?;
+    let workers = vec![in alloc; CellPayload::new(0), CellPayload::new(0)]?;
+    let stock = Vec::new(alloc);
+    let ran = run_with(
+        alloc,
+        collector,
+        settings,
+        workers,
+        stock,
+        BOTH_KINDS.script,
+    )?;
+    Ok(ran.written)
+}
+
+// A script's helpers meet at a gate as a store's do. One alone is the thread that runs the script, and passes none.
+#[test]
+fn helpers_of_a_script_at_one_gate(rt: HostRuntime) -> Result<(), Fail> {
+    let alloc = rt.alloc();
+    for (helpers, passes) in [(1, 0), (2, 6), (3, 8), (8, 18)] {
+        let gate = Meet::of(alloc, helpers, MANY_TURNS)?;
+        let written = run_both_kinds(alloc, &OnThreads::new(&rt, alloc, &gate), helpers)?;
+        assert_eq!(rt; written.as_slice(), BOTH_KINDS.written);
+        assert_eq!(rt;
+            (gate.is_missed(), gate.passes()),
+            (false, passes),
+            "with {helpers}"
+        );
+    }
+    Ok(())
+}
+
+// Collects on the thread that runs the script, and keeps how many helpers it was last asked for, for a collection of each kind.
+#[derive(Drop)]
+struct Keeps {
+    nursery: AtomicU64,
+    full: AtomicU64,
+}
+
+impl Keeps {
+    fn none() -> Keeps {
+        Keeps {
+            nursery: AtomicU64::new(0),
+            full: AtomicU64::new(0),
+        }
+    }
+
+    // The numbers that were kept.
+    fn kept(&self) -> (u64, u64) {
+        (
+            self.nursery.load(Ordering::SeqCst),
+            self.full.load(Ordering::SeqCst),
+        )
+    }
+}
+
+impl Collector for Keeps {
+    ghost Ready = { Unit {0} };
+
+    fn collect<P: Payload>(
+        &self,
+        store: &mut Store<P>,
+        kind: Kind,
+        helpers: Helpers,
+    ) -> Result<u64, Refusal> {
+        let number = u64::from(helpers.number());
+        match kind {
+            Kind::Nursery => self.nursery.store(number, Ordering::SeqCst),
+            Kind::Full => self.full.store(number, Ordering::SeqCst),
+        }
+        OneThread.collect(store, kind, helpers)
+    }
+}
+
+// Serves the same script of one worker with so many helpers. The counts of the source and of the sink are those of the ledgers A and F.
+fn serve_counted<C: Collector, A: Ledger, F: Ledger, R: Threads + Wait + Sync>(
+    rt: &R,
+    alloc: Global,
+    collector: &C,
+    helpers: Helpers,
+    asked: Blank,
+    failures: Blank,
+) -> Result<Vec<u8>, Fail>
+    requires ready { C.Ready }
+    requires asked { (asked.name ≡ A.name) × (asked.parts ≡ A.parts) × (0 < asked.parts) }
+    requires failures { (failures.name ≡ F.name) × (failures.parts ≡ F.parts) × (0 < failures.parts) }
+{
+    let mut source = Bytes::new(BOTH_KINDS.script, Count::<A>::new(asked));
+    let mut sink = Written::new(alloc, Count::<F>::new(failures));
+    let start = Start {
+        settings: Settings {
+            workers: 1,
+            helpers,
+            max_vertices: 1,
+            limits: settings_of(&BOTH_KINDS, 1)?.limits,
+        },
+        race: false,
+        stock: Vec::new(alloc),
+    };
+    let payloads = RunPayloads {
+        workers: vec![in alloc; CellPayload::new(0)]?,
+        stock: Vec::new(alloc),
+    };
+    let served = serve(
+        rt,
+        alloc,
+        collector,
+        &mut source,
+        &mut sink,
+        &start,
+        payloads,
+    );
+    drop(start);
+    let Written { bytes, .. } = sink;
+    match served {
+        Ok(()) => Ok(bytes),
+        Err(_) => Err(Fail::from("a run that was stopped")),
+    }
+}
+
+// The same, with counts of its own.
+fn serve_both_kinds<C: Collector, R: Threads + Wait + Sync>(
+    rt: &R,
+    alloc: Global,
+    collector: &C,
+    helpers: Helpers,
+) -> Result<Vec<u8>, Fail>
+    requires { C.Ready }
+{
+    let (asked, failures) = (Blank::new(1), Blank::new(1));
+    serve_counted::<C, Brand, Brand, R>(rt, alloc, collector, helpers, asked, failures)
+}
+
+// The collector of a run is asked for as many helpers as the settings say, for each collection.
+#[test]
+fn as_many_helpers_as_the_settings_say(rt: HostRuntime) -> Result<(), Fail> {
+    let alloc = rt.alloc();
+    let (run, served) = (Keeps::none(), Keeps::none());
+    let written = run_both_kinds(alloc, &run, 3)?;
+    assert_eq!(rt; written.as_slice(), BOTH_KINDS.written);
+    assert_eq!(rt; run.kept(), (3, 3));
+    let three = Helpers::new(3).ok_or("no helpers")?;
+    let written = serve_both_kinds(&rt, alloc, &served, three)?;
+    assert_eq!(rt; written.as_slice(), b"ok\nok 1\n".as_slice());
+    assert_eq!(rt; served.kept(), (3, 3));
+    Ok(())
+}
