@@ -172,14 +172,25 @@ tg_status tg_read(tg_store *store, uint64_t worker, uint64_t target, uint64_t *n
                   tg_denial *denial);
 
 /* The worker's edges by rising name: the first `room` of them go to edges, and how many there are to *count. The journal
-   gets the whole list each time, so ask with room for as many as there may be. Never denied. */
+   gets the whole list each time, so ask with room for as many as there may be. Never denied. So a worker that may only list can
+   fill its host's memory: limit how often one that you don't trust may (docs/EMBEDDING.md has the numbers). */
 tg_status tg_list(tg_store *store, uint64_t worker, tg_target *edges, size_t room, uint64_t *count);
+
+/* The rights that the worker holds over the target go to *rights: 0 for none, as over itself, over a name that was never made,
+   and over one that was collected. The journal gets no entry, and no memory is taken: so a host asks by this what a worker may do,
+   and lets one that it doesn't trust list only so often. */
+tg_status tg_label(tg_store *store, uint64_t worker, uint64_t target, uint64_t *rights);
 
 /* Collects, by TG_FULL or TG_NURSERY. How many vertices the heap then has goes to *left. No reply and no right changes. */
 tg_status tg_collect(tg_store *store, uint32_t kind, uint64_t *left);
 
 /* Counts what the heap has. */
 tg_status tg_census(tg_store *store, tg_counts *counts);
+
+/* The names of the vertices that the heap has, each once, in an order that the next collection may change: the first `room` of them
+   go to names, and how many there are to *count. Those that nobody reaches are among them until a full collection. So a host finds
+   what it keeps beside vertices that are gone (docs/EMBEDDING.md). The journal gets no entry, and no memory is taken. */
+tg_status tg_names(tg_store *store, uint64_t *names, size_t room, uint64_t *count);
 
 /* Counts the journal's entries. Nothing trims the journal while the store is open. */
 tg_status tg_entries(tg_store *store, uint64_t *count);

@@ -159,8 +159,10 @@ def _load():
         "create": [store, number, number, pointer(_Value), pointer(number)],
         "read": [store, number, number, pointer(number), size, pointer(number), denial],
         "list": [store, number, pointer(_Target), size, pointer(number)],
+        "label": [store, number, number, pointer(number)],
         "collect": [store, ctypes.c_uint32, pointer(number)],
         "census": [store, pointer(_Counts)],
+        "names": [store, pointer(number), size, pointer(number)],
         "entries": [store, pointer(number)],
         "audit": [store, pointer(number)],
     }
@@ -251,6 +253,10 @@ class Store:
             return self.list(worker, count.value)
         return [(edge.to, edge.rights) for edge in edges[: count.value]]
 
+    def label(self, worker, target):
+        """The rights that the worker holds over the target, 0 for none. The journal gets no entry of it."""
+        return self._number(_library.tg_label, worker, target)
+
     def collect(self, kind=FULL):
         """Collects, and answers how many vertices the heap then has."""
         return self._number(_library.tg_collect, kind)
@@ -260,6 +266,13 @@ class Store:
         counts = _Counts()
         _served(_library.tg_census(self._store, counts))
         return Counts(counts.vertices, counts.payloads, counts.blocks)
+
+    def names(self):
+        """The names of the vertices that the heap has, as a set. Those that nobody reaches are among them until a full collection."""
+        room = self.census().vertices
+        names, count = (ctypes.c_uint64 * room)(), ctypes.c_uint64()
+        _served(_library.tg_names(self._store, names, room, count))
+        return set(names)
 
     def entries(self):
         """How many entries the journal has."""

@@ -24,6 +24,13 @@ impl Rights {
     pub const WRITE: Rights = Rights(2);
     pub const TAKE: Rights = Rights(4);
     pub const GRANT: Rights = Rights(8);
+    /// No right at all. It is answered, and never asked for.
+    pub const NONE: Rights = Rights(0);
+
+    /// Whether each right of the other set is in this one.
+    pub fn contains(self, other: Rights) -> bool {
+        self.0 & other.0 == other.0
+    }
 }
 
 impl BitOr for Rights {
@@ -260,6 +267,13 @@ impl Store {
         Ok(targets.collect())
     }
 
+    /// The rights that the worker holds over the target, which may be none. The journal gets no entry of it.
+    pub fn label(&mut self, worker: u64, target: u64) -> Result<Rights, Error> {
+        let mut rights = 0;
+        served(unsafe { tg_label(&mut self.0, worker, target, &mut rights) })?;
+        Ok(Rights(rights))
+    }
+
     /// Collects, and answers how many vertices the heap then has.
     pub fn collect(&mut self, kind: Kind) -> Result<u64, Error> {
         let mut left = 0;
@@ -272,6 +286,14 @@ impl Store {
         let mut counts = Counts::default();
         served(unsafe { tg_census(&mut self.0, &mut counts) })?;
         Ok(counts)
+    }
+
+    /// The names of the vertices that the heap has, each once. Those that nobody reaches are among them until a full collection.
+    pub fn names(&mut self) -> Result<Vec<u64>, Error> {
+        let mut names = vec![0; self.census()?.vertices as usize];
+        let mut count = 0;
+        served(unsafe { tg_names(&mut self.0, names.as_mut_ptr(), names.len(), &mut count) })?;
+        Ok(names)
     }
 
     /// How many entries the journal has.
@@ -425,8 +447,10 @@ unsafe extern "C" {
         why: &mut RawDenial,
     ) -> u32;
     fn tg_list(store: &mut RawStore, worker: u64, edges: *mut RawTarget, room: usize, count: &mut u64) -> u32;
+    fn tg_label(store: &mut RawStore, worker: u64, target: u64, rights: &mut u64) -> u32;
     fn tg_collect(store: &mut RawStore, kind: u32, left: &mut u64) -> u32;
     fn tg_census(store: &mut RawStore, counts: &mut Counts) -> u32;
+    fn tg_names(store: &mut RawStore, names: *mut u64, room: usize, count: &mut u64) -> u32;
     fn tg_entries(store: &mut RawStore, count: &mut u64) -> u32;
     fn tg_audit(store: &mut RawStore, count: &mut u64) -> u32;
 }

@@ -42,8 +42,10 @@ static void closed(void) {
     WANT(tg_create(&store, 0, TG_READ, &cell, &number) == TG_NOT_OPEN);
     WANT(tg_read(&store, 0, 1, numbers, 64, &number, &why) == TG_NOT_OPEN);
     WANT(tg_list(&store, 0, row, 1, &number) == TG_NOT_OPEN);
+    WANT(tg_label(&store, 0, 1, &number) == TG_NOT_OPEN);
     WANT(tg_collect(&store, TG_FULL, &number) == TG_NOT_OPEN);
     WANT(tg_census(&store, &counts) == TG_NOT_OPEN);
+    WANT(tg_names(&store, numbers, 64, &number) == TG_NOT_OPEN);
     WANT(tg_entries(&store, &number) == TG_NOT_OPEN);
     WANT(tg_audit(&store, &number) == TG_NOT_OPEN);
     WANT(is_untouched() && !store.is_open && store.handle.at == NULL);
@@ -103,6 +105,7 @@ static void bad_requests(tg_store *store) {
     WANT(tg_write(store, 5, 0, 2, &why) == TG_NO_SUCH_WORKER);
     WANT(tg_read(store, 5, 0, numbers, 64, &number, &why) == TG_NO_SUCH_WORKER);
     WANT(tg_list(store, 5, row, 1, &number) == TG_NO_SUCH_WORKER);
+    WANT(tg_label(store, 2, 1, &number) == TG_NO_SUCH_WORKER);
     WANT(tg_collect(store, 2, &number) == TG_BAD_KIND);
     WANT(is_untouched());
     WANT(tg_entries(store, &number) == TG_DONE && number == 0);
@@ -123,6 +126,20 @@ static void rules(tg_store *store) {
     WANT(tg_entries(store, &number) == TG_DONE && number == 9);
 }
 
+/* What a worker holds, which is asked without an entry: nothing over itself, over what was never made, or over a worker that only
+   the other one holds rights over. */
+static void labels(tg_store *store) {
+    uint64_t rights, entries, count;
+    WANT(tg_entries(store, &entries) == TG_DONE);
+    WANT(tg_label(store, 0, 2, &rights) == TG_DONE && rights == (TG_READ | TG_WRITE));
+    WANT(tg_label(store, 1, 2, &rights) == TG_DONE && rights == TG_READ);
+    WANT(tg_label(store, 0, 1, &rights) == TG_DONE && rights == (TG_TAKE | TG_GRANT));
+    WANT(tg_label(store, 1, 0, &rights) == TG_DONE && rights == TG_GRANT);
+    WANT(tg_label(store, 0, 0, &rights) == TG_DONE && rights == 0);
+    WANT(tg_label(store, 0, UINT64_MAX, &rights) == TG_DONE && rights == 0);
+    WANT(tg_entries(store, &count) == TG_DONE && count == entries);
+}
+
 static void laws(tg_store *store) {
     uint64_t log, most, count;
     WANT(tg_write(store, 0, 2, UINT64_MAX, &why) == TG_DONE);
@@ -139,6 +156,23 @@ static void laws(tg_store *store) {
     WANT(tg_read(store, 0, most, numbers, 64, &count, &why) == TG_DONE && numbers[0] == 5);
 }
 
+/* The heap has the vertices below this number, each of which is named once, in any order. Behind the names the room is as it was; with
+   too little room as many are named as fit, and all are counted. */
+static void names_below(tg_store *store, uint64_t vertices) {
+    uint64_t seen = 0, count;
+    numbers[vertices] = UNTOUCHED;
+    WANT(tg_names(store, numbers, 64, &count) == TG_DONE && count == vertices && numbers[vertices] == UNTOUCHED);
+    for (uint64_t i = 0; i < count; i++) {
+        WANT(numbers[i] < vertices && (seen >> numbers[i] & 1) == 0);
+        seen |= (uint64_t)1 << numbers[i];
+    }
+    numbers[0] = numbers[1] = UNTOUCHED;
+    WANT(tg_names(store, numbers, 1, &count) == TG_DONE && count == vertices);
+    WANT(numbers[0] < vertices && numbers[1] == UNTOUCHED);
+    numbers[0] = UNTOUCHED;
+    WANT(tg_names(store, numbers, 0, &count) == TG_DONE && count == vertices && numbers[0] == UNTOUCHED);
+}
+
 static void counts(tg_store *store) {
     tg_target row[4] = { { 0, 0 }, { 0, 0 }, { 0, 0 }, { UNTOUCHED, UNTOUCHED } };
     tg_counts has;
@@ -149,9 +183,12 @@ static void counts(tg_store *store) {
     WANT(row[2].to == 3 && row[3].to == UNTOUCHED && row[3].rights == UNTOUCHED);
     WANT(tg_remove(store, 0, 4, TG_READ | TG_WRITE, &why) == TG_DONE);
     WANT(tg_census(store, &has) == TG_DONE && has.vertices == 5 && has.payloads == 5);
+    names_below(store, 5);
     WANT(tg_collect(store, TG_NURSERY, &left) == TG_DONE && left >= 4);
     WANT(tg_collect(store, TG_FULL, &left) == TG_DONE && left == 4);
     WANT(tg_census(store, &has) == TG_DONE && has.vertices == 4 && has.payloads == 4 && has.blocks >= 1);
+    names_below(store, 4);
+    WANT(tg_label(store, 0, 4, &left) == TG_DONE && left == 0);
     for (uint64_t i = 5; i < limits.max_vertices; i++)
         WANT(tg_create(store, 1, TG_READ, &cell, &count) == TG_DONE && count == i);
     WANT(tg_entries(store, &entries) == TG_DONE);
@@ -200,6 +237,7 @@ int main(void) {
     WANT(tg_open(&store, workers, 2, edges, 2, &limits) == TG_DONE && store.is_open && store.handle.at != NULL);
     bad_requests(&store);
     rules(&store);
+    labels(&store);
     laws(&store);
     counts(&store);
     WANT(tg_close(&store) == TG_DONE && !store.is_open && store.handle.at == NULL);

@@ -1,5 +1,5 @@
 """The caretaker's story of story.c, in Python."""
-from kovshenul import GRANT, READ, WRITE, Cell, Denied, Edge, Limits, Store, Sum
+from kovshenul import GRANT, READ, WRITE, Cell, Denied, Edge, Limits, Refused, Store, Sum
 
 CARETAKER, VISITOR = 0, 1
 
@@ -25,6 +25,20 @@ def hand_on(store):
     return document
 
 
+def ask(store, document):
+    """What is held over the document, and what there is, is asked without an entry, and nothing is printed of it."""
+    assert store.label(VISITOR, document) == READ
+    assert store.label(CARETAKER, document) & WRITE
+    assert store.label(VISITOR, CARETAKER) == 0
+    assert store.names() == {CARETAKER, VISITOR, document}
+    try:
+        store.label(document, CARETAKER)
+    except Refused as refused:
+        assert refused.status == 48
+    else:
+        raise AssertionError("a document is no worker")
+
+
 def visit(store, document):
     tell("visitor reads", store.read, VISITOR, document)
     collect(store)
@@ -46,6 +60,7 @@ def take_back(store, document):
 
 with Store([Cell(0), Cell(0)], [Edge(CARETAKER, VISITOR, GRANT)], Limits(10, 8, 4)) as store:
     document = hand_on(store)
+    ask(store, document)
     visit(store, document)
     take_back(store, document)
     print(f"audit ok, {store.audit()} entries")

@@ -20,6 +20,7 @@ fn main() -> Result<(), Error> {
     };
     let mut store = Store::open(&[Value::Cell(0), Value::Cell(0)], &edges, &limits)?;
     let document = hand_on(&mut store)?;
+    ask(&mut store, document)?;
     visit(&mut store, document)?;
     take_back(&mut store, document)?;
     println!("audit ok, {} entries", store.audit()?);
@@ -57,6 +58,18 @@ fn hand_on(store: &mut Store) -> Result<u64, Error> {
     let granted = store.grant(CARETAKER, VISITOR, document, Rights::READ);
     tell("caretaker hands r on", granted)?;
     Ok(document)
+}
+
+// What is held over the document, and what there is, is asked without an entry, and nothing is printed of it.
+fn ask(store: &mut Store, document: u64) -> Result<(), Error> {
+    assert_eq!(store.label(VISITOR, document)?, Rights::READ);
+    assert!(store.label(CARETAKER, document)?.contains(Rights::WRITE));
+    assert_eq!(store.label(VISITOR, CARETAKER)?, Rights::NONE);
+    assert_eq!(store.label(document, CARETAKER), Err(Error::NoSuchWorker));
+    let mut names = store.names()?;
+    names.sort();
+    assert_eq!(names, [CARETAKER, VISITOR, document]);
+    Ok(())
 }
 
 fn visit(store: &mut Store, document: u64) -> Result<(), Error> {

@@ -1,5 +1,5 @@
 -- Calls on a place: what the store was found to answer, and what C is told of that.
-use Rattle.std.proofs.Common.{◌≡◌, ℕ, true, false, sym, subst, ap, ◌∙◌, Result, Err, Option, Some, None}
+use Rattle.std.proofs.Common.{◌≡◌, ℕ, true, false, sym, subst, ap, ◌∙◌, Result, Ok, Err, List, Option, Some, None}
 use Rattle.tg_model.specs.Graph.{ProtectionGraph}
 use Rattle.tg_model.specs.Rules.{answer_of, denial_of, denied_or, state_of}
 use Rattle.tg_model.specs.declared.command.Command.{Command}
@@ -12,8 +12,8 @@ use Rattle.tg_store.specs.Store.{StoreState}
 use Rattle.tg_c.specs.declared.place.StorePlace.{StorePlace}
 use Rattle.tg_c.specs.declared.refusal.CallRefusal.{CallRefusal}
 use Rattle.tg_c.specs.declared.refusal.CallRefusal.TheVariants.{NotOpen}
-use Rattle.tg_c.specs.Calls.{IsCall, IsDoneOrDenied, IsReadOrDenied, IsReplyTo, state_in}
-use Rattle.tg_c.specs.Statuses.{refused_as}
+use Rattle.tg_c.specs.Calls.{IsCall, IsDoneOrDenied, IsReadOrDenied, IsReplyTo, IsShown, state_in}
+use Rattle.tg_c.specs.Statuses.{TellsNames, TellsNumber, refused_as}
 
 -- a closed place: the call was refused
 pub not_open : {T E : Type 0} (name : E → CallRefusal) (holds : StoreState → StoreState → Result T E → Type 0) (old new : StorePlace) (result : Result T CallRefusal)
@@ -32,6 +32,34 @@ served name holds old new result before after answer was is first last told held
     told = told;
     stays_open = is;
     holds_of = subst (λ s. holds s (state_in new) answer) (sym first) (subst (λ s. holds before s answer) (sym last) held);
+  };
+}
+
+-- the same, where what is told is more than the answer
+pub served_as : {T E : Type 0} (name : E → CallRefusal) (holds : StoreState → StoreState → Result T E → Type 0) (old new : StorePlace) (tells : Result T CallRefusal → Type 0)
+    (before after : StoreState) (answer : Result T E)
+    → old.is_open ≡ true → new.is_open ≡ true → state_in old ≡ before → state_in new ≡ after → tells (refused_as name answer)
+    → holds before after answer → IsCall name holds old new tells
+served_as name holds old new tells before after answer was is first last told held = record {
+  not_open = λ closed. absurd (cc (closed, was));
+  served = λ _. record {
+    answer = answer;
+    told = told;
+    stays_open = is;
+    holds_of = subst (λ s. holds s (state_in new) answer) (sym first) (subst (λ s. holds before s answer) (sym last) held);
+  };
+}
+
+-- what the call told is what C is told
+pub hears_as : {T E : Type 0} (name : E → CallRefusal) (holds : StoreState → StoreState → Result T E → Type 0) (old new : StorePlace) (first second : Result T CallRefusal → Type 0)
+    → IsCall name holds old new first → ((told : Result T CallRefusal) → first told → second told) → IsCall name holds old new second
+hears_as name holds old new first second call next = record {
+  not_open = λ closed. (next (Err NotOpen) (call.not_open closed).0, (call.not_open closed).1);
+  served = λ is_open. record {
+    answer = (call.served is_open).answer;
+    told = next (refused_as name (call.served is_open).answer) (call.served is_open).told;
+    stays_open = (call.served is_open).stays_open;
+    holds_of = (call.served is_open).holds_of;
   };
 }
 
@@ -73,3 +101,11 @@ pub hears_at : {X T E : Type 0} (name : E → CallRefusal) (holds : X → StoreS
 unfolding or_else
 hears_at name holds o made asked old new result tells first second call told =
     subst (λ x. IsCall name (holds x) old new tells) (ap (or_else made) (sym first ∙ second)) (hears name (holds made) old new result tells call told)
+
+-- names that were put into a room are told with their number
+pub names_told : (status old new : ℕ) (room after : List ℕ) (answer : Result ℕ CallRefusal) (told : Result (List ℕ) CallRefusal) → TellsNumber status old new answer → IsShown room after answer told
+    → TellsNames status (record { count = old; names = room }) (record { count = new; names = after }) told
+names_told status old new room after answer (Ok names) number shown =
+    let both = subst (λ a. TellsNumber status old new a) shown.0 number in (both.0, λ i. record { count = both.1 i; names = shown.1 i })
+names_told status old new room after answer (Err why) number shown =
+    let both = subst (λ a. TellsNumber status old new a) shown.0 number in (both.0, λ i. record { count = both.1 i; names = shown.1 i })

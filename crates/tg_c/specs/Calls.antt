@@ -1,7 +1,8 @@
 -- What the calls of C do to a place and its store. Each but the opening is a call on a place: a closed one is refused
 -- as that, and on an open one the store's answer is told, of which the clauses of the store's own call hold.
-use Rattle.std.specs.Prelude.{◌≡◌, ◌≢◌, ◌↔◌, ◌⊎◌, ◌≤◌, ◌+◌, ℕ, true, false, List, [], ◌∷◌, Some, Result, Ok, Err, IfOk, IfErr, OnOk, OnErr, length}
-use Rattle.tg_rights.specs.RightSet.{RightSet}
+use Rattle.std.specs.Prelude.{◌≡◌, ◌≢◌, ◌↔◌, ◌⊎◌, ◌≤◌, ◌+◌, ◌==◌, ℕ, true, false, List, [], ◌∷◌, Some, Result, Ok, Err, IfOk, IfErr, OnOk, OnErr, length}
+use Rattle.std.specs.List.{IsDistinct}
+use Rattle.tg_rights.specs.RightSet.{RightSet, bits_of}
 use Rattle.tg_model.specs.Graph.{ProtectionGraph, IsSubject, IsReachable}
 use Rattle.tg_model.specs.Rules.{IsAllowed, step, answer_of}
 use Rattle.tg_model.specs.Opened.{HasLimits, HasWorkers, start_of}
@@ -21,6 +22,7 @@ use Rattle.tg_payload.specs.Table.{count}
 use Rattle.tg_graph.specs.Content.{IsNamed}
 use Rattle.tg_graph.specs.Heap.{content_of}
 use Rattle.tg_graph.specs.Kept.{VerticesOfOldStay}
+use Rattle.tg_graph.specs.Shown.{shown_in}
 use Rattle.tg_graph.specs.Spots.{IsMadeInRow, LacksCellsFor}
 use Rattle.tg_rules.specs.Effect.{AddsEdge, LacksCellsToServe}
 use Rattle.tg_evac.specs.declared.fault.CollectFault.{CollectFault}
@@ -176,6 +178,30 @@ Counts old new = IsCall (λ why. why) (Looks census_of) old new
 
 abbrev pub CountsEntries : StorePlace → StorePlace → (Result ℕ CallRefusal → Type 0) → Type 0
 CountsEntries old new = IsCall (λ why. why) (Looks (λ s. length s.entries)) old new
+
+-- the names of the vertices that the heap has, each once
+pub record AreNames (old new : StoreState) (answer : Result (List ℕ) CallRefusal) : Type 0 where
+  pub same : new ≡ old
+  pub names : answer ≡ Ok (content_of old.heap).names
+  pub once : IsDistinct (λ a b. a == b) (content_of old.heap).names
+
+abbrev pub AsksNames : StorePlace → StorePlace → (Result (List ℕ) CallRefusal → Type 0) → Type 0
+AsksNames old new = IsCall (λ why. why) AreNames old new
+
+-- names were put into a room as far as it goes, and how many there are was answered; or the call was refused, and the room is as it was
+abbrev pub IsShown : List ℕ → List ℕ → Result ℕ CallRefusal → Result (List ℕ) CallRefusal → Type 0
+IsShown old new answer (Ok names) = (answer ≡ Ok (length names)) × (new ≡ shown_in names old)
+IsShown old new answer (Err why) = (answer ≡ Err why) × (new ≡ old)
+
+-- The answer to a worker that asks what it holds over a vertex: the label as bits, 0 for none. It is refused exactly where no worker
+-- has the name.
+pub record IsHeldAt (worker target : ℕ) (old new : StoreState) (answer : Result ℕ CallRefusal) : Type 0 where
+  pub same : new ≡ old
+  pub held : (g : ProtectionGraph) → StandsFor old g → IsSubject g worker → answer ≡ Ok (bits_of (g.label worker target))
+  pub no_such_worker : (g : ProtectionGraph) → StandsFor old g → (answer ≡ Err refusal.NoSuchWorker) ↔ (¬ IsSubject g worker)
+
+abbrev pub AsksRights : StorePlace → StorePlace → ℕ → ℕ → (Result ℕ CallRefusal → Type 0) → Type 0
+AsksRights old new worker target = IsCall (λ why. why) (IsHeldAt worker target) old new
 
 -- an audit of the store's own journal can be refused for want of memory alone
 pub record IsAudited (old new : StoreState) (answer : Result ℕ AuditFault) : Type 0 where

@@ -91,16 +91,17 @@ denial_at rule (Missing rights from to) = record { rule = rule; cause = 1; from 
 abbrev pub denial_out : Denial → DenialOut
 denial_out denial = denial_at (rule_number denial.rule) denial.cause
 
--- the numbers that were read, as far as there is room, and behind them the room that is left
-abbrev pub shown_in : List ℕ → List ℕ → List ℕ
-shown_in numbers room = take (length room) numbers ++ drop (length numbers) room
-
 abbrev pub edge_out : ℕ × RightSet → EdgeOut
 edge_out e = record { to = e.0; rights = bits_of e.1 }
 
--- the edges that were listed, in the same way
+-- the edges that were listed, as far as there is room, and behind them the room that is left
 abbrev pub edges_shown_in : List (ℕ × RightSet) → List EdgeOut → List EdgeOut
 edges_shown_in edges room = take (length room) (map edge_out edges) ++ drop (length edges) room
+
+-- the rights of a label, as bits; 0 where there is none
+abbrev pub rights_out : Option RightSet → ℕ
+rights_out None = 0
+rights_out (Some label) = bits_of label
 
 abbrev pub census_out : Census → CensusOut
 census_out c = record { vertices = c.vertices; payloads = c.payloads; blocks = c.blocks }

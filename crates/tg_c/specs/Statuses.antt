@@ -20,7 +20,8 @@ use Rattle.tg_c.specs.declared.refusal.CallRefusal.TheVariants as refusal
 use Rattle.tg_c.specs.declared.forms.CensusOut.{CensusOut}
 use Rattle.tg_c.specs.declared.forms.DenialOut.{DenialOut}
 use Rattle.tg_c.specs.declared.forms.EdgeOut.{EdgeOut}
-use Rattle.tg_c.specs.Forms.{census_out, denial_out, edges_shown_in, shown_in}
+use Rattle.tg_graph.specs.Shown.{shown_in}
+use Rattle.tg_c.specs.Forms.{census_out, denial_out, edges_shown_in}
 
 -- ---- the numbers
 
@@ -125,6 +126,15 @@ TellsList status old new (Err why) = (status ≡ status_of why) × (new ≡ old)
 abbrev pub TellsNumber : ℕ → ℕ → ℕ → Result ℕ CallRefusal → Type 0
 TellsNumber status old new (Ok number) = (status ≡ 0) × (new ≡ number)
 TellsNumber status old new (Err why) = (status ≡ status_of why) × (new ≡ old)
+
+-- the out parameters of a call for names
+pub record NamesOut : Type 0 where
+  pub count : ℕ
+  pub names : List ℕ
+
+abbrev pub TellsNames : ℕ → NamesOut → NamesOut → Result (List ℕ) CallRefusal → Type 0
+TellsNames status old new (Ok names) = (status ≡ 0) × (new ≡ record { count = length names; names = shown_in names old.names })
+TellsNames status old new (Err why) = (status ≡ status_of why) × (new ≡ old)
 
 abbrev pub TellsCensus : ℕ → CensusOut → CensusOut → Result Census CallRefusal → Type 0
 TellsCensus status old new (Ok census) = (status ≡ 0) × (new ≡ census_out census)

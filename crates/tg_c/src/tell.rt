@@ -1,7 +1,8 @@
 //! How C is told an answer: the status, and what goes to the out parameters. A refusal writes to none of them.
 ghost use Rattle.std.specs.Prelude.{◌≡◌, IfOk};
 ghost use Rattle.tg_c.specs.Calls.{IsDoneOrDenied, IsListed, IsReadOrDenied};
-ghost use Rattle.tg_c.specs.Forms.{edges_shown_in, shown_in};
+ghost use Rattle.tg_graph.specs.Shown.{shown_in};
+ghost use Rattle.tg_c.specs.Forms.{edges_shown_in};
 ghost use Rattle.tg_c.specs.Statuses.{TellsCensus, TellsDone, TellsList, TellsNumber, TellsRead};
 
 use crate::forms::{CensusOut, DenialOut, EdgeOut, census_out, denial_out, edge_out};

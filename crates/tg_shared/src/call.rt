@@ -9,6 +9,7 @@ ghost use Rattle.tg_space.specs.SpaceTable.{kept_blocks};
 ghost use Rattle.tg_graph.specs.Heap.{content_of};
 ghost use Rattle.tg_graph.specs.Spots.{LacksCellsFor};
 ghost use Rattle.tg_rules.specs.Effect.{AddsEdge, LacksCellsToServe};
+ghost use Rattle.tg_store.specs.Held.{IsHeldOver};
 ghost use Rattle.tg_store.specs.Store.{IsCountOf, graph_of_store};
 ghost use Rattle.tg_shared.specs.Sessions.{AtSome, IsAnswered, KeepsReceipts};
 
@@ -88,6 +89,22 @@ impl<L: Round> Session<L> {
         // and of the one that is left
         let _ = locked.store();
         created
+    }
+
+    /// The rights that the session's subject holds over a vertex, by one call of [`Locked::label`](crate::Locked::label) under the
+    /// lock: the label of a store that may have been behind the lock, the shared one, gone on. It makes no entry and no receipt.
+    pub fn label<P: Payload, R: Wait>(
+        &self,
+        rt: &R,
+        store: &SharedStore<L, P>,
+        target: u64,
+    ) -> Option<Label>
+        ensures held { AtSome L.start (λ s. IsHeldOver (graph_of_store s) self.now.worker target result) }
+    {
+        let locked = store.locked.lock(rt);
+        // for what is told of it: the shared store, gone on
+        let _ = locked.store();
+        locked.label(self, target)
     }
 
     /// Collects the heap of the shared store, by one call of [`Locked::collect`](crate::Locked::collect) under the lock,

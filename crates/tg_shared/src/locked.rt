@@ -50,6 +50,7 @@ impl<L: Round, P: Payload> Locked<L, P> {
     ghost use Rattle.tg_graph.specs.Spots.{IsMadeInRow, LacksCellsFor};
     ghost use Rattle.tg_graph.specs.Kept.{VerticesOfOldStay};
     ghost use Rattle.tg_rules.specs.Effect.{AddsEdge, LacksCellsToServe};
+    ghost use Rattle.tg_store.specs.Held.{IsHeldOver};
     ghost use Rattle.tg_store.specs.Store.{HasFewBlocks, IsCountOf, IsFaithful, StandsFor};
     ghost use Rattle.tg_shared.specs.Sessions.{AreFresh, GoesOn, Records, RecordsNothing, sessions_made, start_of_store};
 
@@ -184,6 +185,14 @@ impl<L: Round, P: Payload> Locked<L, P> {
         };
         session.note(&mut self.book, at, entry);
         created
+    }
+
+    /// The rights that the session's subject holds over a vertex, by one call of the store. It changes nothing, and makes no entry
+    /// and no receipt.
+    pub fn label(&self, session: &Session<L>, target: u64) -> Option<Label>
+        ensures held { (g : ProtectionGraph) → StandsFor self.now.store g → IsHeldOver g session.now.worker target result }
+    {
+        self.store.label(session.worker(), target)
     }
 
     /// Collects the heap, by one call of the store. The journal stays as it is, and no session is touched.

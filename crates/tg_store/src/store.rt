@@ -55,6 +55,9 @@ impl<P: Payload> Store<P> {
     ghost use Rattle.tg_payload.specs.Table.{count};
     ghost use Rattle.tg_graph.specs.Content.{IsNamed};
     ghost use Rattle.tg_graph.specs.Heap.{CollectAlike, content_of, roots_of};
+    ghost use Rattle.tg_graph.specs.Shown.{shown_in};
+    ghost use Rattle.std.specs.Prelude.{◌==◌};
+    ghost use Rattle.std.specs.List.{IsDistinct};
     ghost use Rattle.tg_graph.specs.Spots.{IsMadeInRow, LacksCellsFor};
     ghost use Rattle.tg_graph.specs.Kept.{VerticesOfOldStay};
     ghost use Rattle.tg_rules.specs.Effect.{AddsEdge, LacksCellsToServe};
@@ -247,6 +250,17 @@ impl<P: Payload> Store<P> {
         let from = self.heap.worker_place(worker);
         let found = self.heap.find_edge(from, target)?;
         Label::new(found.rights)
+    }
+
+    /// The names of the vertices that the heap has, in the order of the places of their cells, each once: the first of them that
+    /// fit go to `into`, and what there is room for behind them stays as it is. Answers how many there are. A vertex that nobody
+    /// reaches is among them until it is collected. Takes no memory, and makes no entry.
+    pub fn names(&self, into: &mut [u64]) -> u64
+        ensures number { result ≡ length (content_of self.now.heap).names }
+        ensures shown { into.new ≡ shown_in (content_of self.now.heap).names into.old }
+        ensures once { IsDistinct (λ a b. a == b) (content_of self.now.heap).names }
+    {
+        self.heap.names(into)
     }
 
     /// Collects the heap with one thread, and answers how many vertices it then has. The journal stays as it is, and so

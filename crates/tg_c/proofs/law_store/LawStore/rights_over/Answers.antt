@@ -1,0 +1,25 @@
+use Rattle.std.proofs.Common.{Ok, refl, rules, sym, ap, subst, ◌∙◌}
+use Rattle.tg_model.specs.Graph.{ProtectionGraph, IsSubject}
+use Rattle.tg_store.specs.Store.{graph_of_store}
+use Rattle.tg_c.specs.Forms.{rights_out}
+use Rattle.tg_c.proofs.RightsLaws.{rights_same}
+use Rattle.tg_c.proofs.law_store.LawStore.rights_over.Goals as goal
+
+-- who isn't a worker is told so
+pub returns-then-not-has_worker : goal.returns-then-not-has_worker
+returns-then-not-has_worker c =
+    let none : IsSubject (graph_of_store c.args.self.now.store) c.args.worker → ⊥ = λ subject. let holds = c.has_worker.ensures.1 subject in cc (holds, c.if-not-has_worker.true) in
+    record {
+      same = refl;
+      held = λ g stands subject. absurd (none (subst (λ (h : ProtectionGraph). IsSubject h c.args.worker) (sym stands) subject));
+      no_such_worker = λ g stands. (λ _. subst (λ (h : ProtectionGraph). ¬ IsSubject h c.args.worker) stands none, λ _. refl);
+    }
+
+pub returns : goal.returns
+returns c =
+    let there : IsSubject (graph_of_store c.args.self.now.store) c.args.worker = c.has_worker.ensures.0 (search rules) in
+    record {
+      same = refl;
+      held = λ g stands subject. ap Ok (c.rights_out.ensures ∙ ap rights_out ((c.label.ensures.held g stands).subject subject) ∙ rights_same (g.label c.args.worker c.args.target));
+      no_such_worker = λ g stands. (λ is. absurd (cc is), λ none. absurd (none (subst (λ (h : ProtectionGraph). IsSubject h c.args.worker) stands there)));
+    }
