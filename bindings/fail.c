@@ -80,6 +80,11 @@ static uint64_t tell_story(void) {
             CALL(tg_collect(&store, i % 2, &count));
         }
     }
+    /* The heap keeps the blocks that a full collection emptied. One of the nurseries that nothing outlives fills none of them. */
+    CALL(tg_collect(&store, TG_FULL, &count));
+    CALL(tg_create(&store, 0, TG_READ, &kinds[1], &name));
+    CALL(tg_remove(&store, 0, name, TG_READ, &why));
+    CALL(tg_collect(&store, TG_NURSERY, &count));
     CALL(tg_entries(&store, &entries));
     CALL(tg_audit(&store, &count));
     if (tg_close(&store) != TG_DONE || count != entries || held != 0)

@@ -1,6 +1,7 @@
-/* Refuses one request of the program that it is loaded into (LD_PRELOAD): the one of the number that REFUSE_AT gives, from 1
-   on. A request is a call for memory, or for the start of a thread. What was met stands in the file that REFUSE_TELL names, which
-   is there before and has room for it, so that it can be read however the program ended. */
+/* Refuses requests of the program that it is loaded into (LD_PRELOAD): those of the numbers that REFUSE_AT gives, from 1 on, as
+   "7", "7,8,12", or "7-" for all from there on. A request is a call for memory, for the start of a thread, or for the attributes that
+   it is started with. What was met stands in the file that REFUSE_TELL names, which is there before and has room for it, so that it can
+   be read however the program ended. */
 #define _GNU_SOURCE
 #include <dlfcn.h>
 #include <errno.h>
@@ -21,26 +22,44 @@ void __libc_free(void *at);
 /* As many numbers as refused.py reads, in its order. */
 struct told {
     _Atomic long requests; /* how many there were */
-    _Atomic long refused;  /* whether one was refused */
-    _Atomic long starts;   /* whether that was the start of a thread */
-    _Atomic long beside;   /* whether it came from another thread than the first */
+    _Atomic long refused;  /* how many were refused */
+    _Atomic long starts;   /* how many of these were for a thread */
+    _Atomic long beside;   /* how many came from another thread than the first */
     _Atomic long held;     /* how many pieces of memory were taken and not given back */
     _Atomic long started;  /* how many threads were started */
     _Atomic long joined;   /* and how many of them were joined */
 };
 
-static struct told *told;
-static long refuse_at;
+enum { MOST = 8 };
 
+static struct told *told;
+static long refuse_at[MOST]; /* 0 from the first that isn't asked for on */
+static long refuse_from;     /* all from this one on, or 0 */
+
+static int (*real_attributes)(pthread_attr_t *);
+static int (*real_guard)(pthread_attr_t *, size_t);
 static int (*real_create)(pthread_t *, const pthread_attr_t *, void *(*)(void *), void *);
 static int (*real_join)(pthread_t, void **);
+
+/* Reads which requests are refused. */
+static void read_numbers(const char *at) {
+    for (int count = 0; *at && count < MOST; count++) {
+        char *end;
+        refuse_at[count] = strtol(at, &end, 10);
+        if (*end == '-')
+            refuse_from = refuse_at[count];
+        at = *end ? end + 1 : end;
+    }
+}
 
 __attribute__((constructor)) static void begin(void) {
     const char *at = getenv("REFUSE_AT"), *path = getenv("REFUSE_TELL");
     int file = path ? open(path, O_RDWR) : -1;
     if (!at || file < 0)
         _exit(70);
-    refuse_at = atol(at);
+    read_numbers(at);
+    real_attributes = dlsym(RTLD_NEXT, "pthread_attr_init");
+    real_guard = dlsym(RTLD_NEXT, "pthread_attr_setguardsize");
     real_create = dlsym(RTLD_NEXT, "pthread_create");
     real_join = dlsym(RTLD_NEXT, "pthread_join");
     void *room = mmap(NULL, sizeof *told, PROT_READ | PROT_WRITE, MAP_SHARED, file, 0);
@@ -50,12 +69,19 @@ __attribute__((constructor)) static void begin(void) {
     told = room;
 }
 
-static int is_refused(int is_start) {
-    if (!told || atomic_fetch_add(&told->requests, 1) + 1 != refuse_at)
+static int is_asked_for(long number) {
+    for (int i = 0; i < MOST && refuse_at[i]; i++)
+        if (refuse_at[i] == number)
+            return 1;
+    return refuse_from && refuse_from <= number;
+}
+
+static int is_refused(int is_for_thread) {
+    if (!told || !is_asked_for(atomic_fetch_add(&told->requests, 1) + 1))
         return 0;
-    told->refused = 1;
-    told->starts = is_start;
-    told->beside = gettid() != getpid();
+    atomic_fetch_add(&told->refused, 1);
+    atomic_fetch_add(&told->starts, is_for_thread);
+    atomic_fetch_add(&told->beside, gettid() != getpid());
     return 1;
 }
 
@@ -101,6 +127,14 @@ void free(void *at) {
     if (told && at)
         atomic_fetch_sub(&told->held, 1);
     __libc_free(at);
+}
+
+int pthread_attr_init(pthread_attr_t *how) {
+    return is_refused(1) ? ENOMEM : real_attributes(how);
+}
+
+int pthread_attr_setguardsize(pthread_attr_t *how, size_t size) {
+    return is_refused(1) ? EINVAL : real_guard(how, size);
 }
 
 int pthread_create(pthread_t *thread, const pthread_attr_t *how, void *(*run)(void *), void *with) {

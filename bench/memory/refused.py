@@ -1,12 +1,13 @@
 #!/usr/bin/env python3
-"""refused.py [--tests FILE] [--program FILE] [WORD ..]
+"""refused.py [--tests FILE] [--alone] [--program FILE] [WORD ..]
 
 Runs each test of bench/memory/tests that has each request refused in turn, and then the program on six small scripts: once
-for every request that it makes, with that one refused. A request is a call for memory, or for the start of a thread. A test must
+for every request that it makes, with that one refused. A request is a call for memory, for the start of a thread, or for its attributes. A test must
 pass; of the program what_is_wrong of runs.py is asked. Where nothing is refused each thread that was started must be joined;
-and with one thread as much memory must be given back as where nothing is refused. It prints how many requests there were, and
+and with one thread as much memory must be given back as where nothing is refused. Then the program is run with two requests refused, with three,
+and with all from one on, by each of its requests. It prints how many runs there were, and
 stops at the first run that is wrong. With words, only what has one of them in its name is run. It wants cc, and what `rt run`
-leaves; the tests are proved and built first (tests.sh), unless they are given as built."""
+leaves; the tests are proved and built first (tests.sh), unless they are given as built or --alone leaves them out."""
 import argparse
 import collections
 import itertools
@@ -23,6 +24,10 @@ from runs import refused_lines, rows, stop, ten_edges_and_a_hole, what_is_wrong
 # The numbers of refuse.c.
 TOLD = struct.Struct("7q")
 
+# Which requests are refused with the one of a number. Of a test it is one, since the call that was refused has to pass when it is made again.
+ONE = {"one": (0,)}
+PLANS = {**ONE, "two": (0, 1), "three": (0, 2, 7), "all from one on": None}
+
 SCRIPTS = [ten_edges_and_a_hole(), old_cell_stays_remembered(), log_and_sum_payloads(), rows(24), listings(12, 6), logs(18, 6)]
 
 
@@ -35,10 +40,12 @@ class Refuser:
         source = os.path.join(HERE, "refuse.c")
         subprocess.run(["cc", "-O2", "-fPIC", "-shared", "-o", self.library, source, "-ldl"], check=True)
 
-    def environment(self, at):
+    def environment(self, at, plan):
+        """That of a run in which the request of this number is refused, with those of the plan; none with 0."""
         with open(self.tell, "wb") as file:
             file.write(bytes(TOLD.size))
-        return {"LD_PRELOAD": self.library, "REFUSE_AT": str(at), "REFUSE_TELL": self.tell}
+        numbers = f"{at}-" if plan is None else ",".join(str(at + behind) for behind in plan)
+        return {"LD_PRELOAD": self.library, "REFUSE_AT": numbers if at else "0", "REFUSE_TELL": self.tell}
 
     def told(self):
         with open(self.tell, "rb") as file:
@@ -67,13 +74,13 @@ def what_is_left(told, whole):
     return None
 
 
-def try_each(name, refuser, run):
-    """Refuses each request of a run in turn; `run` answers what is wrong with it and how it ended, given the environment."""
+def try_each(name, refuser, run, plan):
+    """Refuses each request of a run in turn, with those of the plan; `run` answers what is wrong with it and how it ended, given the environment."""
     starts = beside = 0
     ends = collections.Counter()
     whole = None
     for at in itertools.count():
-        wrong, end = run(refuser.environment(at))
+        wrong, end = run(refuser.environment(at, plan))
         told = refuser.told()
         whole = whole or told
         wrong = wrong or what_is_left(told, whole)
@@ -86,7 +93,7 @@ def try_each(name, refuser, run):
         elif at:
             break
     ended = ", ".join(f"{count} {end}" for end, count in sorted(ends.items()))
-    print(f"{name}: {sum(ends.values())} requests ({starts} for a thread, {beside} from another thread than the first): {ended}", flush=True)
+    print(f"{name}: {sum(ends.values())} runs ({starts} requests for a thread, {beside} from another thread than the first): {ended}", flush=True)
 
 
 def of_test(tests, test):
@@ -114,30 +121,31 @@ def built_tests(folder):
 
 
 def all_runs(tests, program):
-    """Each run that has its requests refused, with its name."""
-    listed = subprocess.run([tests, "--list"], stdout=subprocess.PIPE, check=True).stdout.decode()
+    """Each run that has its requests refused, with its name and what is refused together."""
+    listed = subprocess.run([tests, "--list"], stdout=subprocess.PIPE, check=True).stdout.decode() if tests else ""
     for test in re.findall(r"[\w:]*refused\w*", listed):
-        yield test, of_test(tests, test)
+        yield test, of_test(tests, test), ONE
     for way in WAYS:
         if not knows(way, program):
             print(f"the program doesn't know {' '.join(way)}")
             continue
         for script in SCRIPTS:
-            yield " ".join(["tgstore", *way, "on", script.name]), of_program(program, script, way)
+            yield " ".join(["tgstore", *way, "on", script.name]), of_program(program, script, way), PLANS
 
 
 def main():
     words = argparse.ArgumentParser()
     words.add_argument("--tests")
+    words.add_argument("--alone", action="store_true")
     words.add_argument("--program", default=PROGRAM)
     words.add_argument("words", nargs="*")
     words = words.parse_args()
     with tempfile.TemporaryDirectory() as folder:
         refuser = Refuser(folder)
-        tests = words.tests or built_tests(folder)
-        for name, run in all_runs(tests, words.program):
-            if not words.words or any(word in name for word in words.words):
-                try_each(name, refuser, run)
+        tests = None if words.alone else words.tests or built_tests(folder)
+        for name, run, plans in all_runs(tests, words.program):
+            for how in plans if not words.words or any(word in name for word in words.words) else ():
+                try_each(f"{name}, {how} refused", refuser, run, plans[how])
 
 
 if __name__ == "__main__":

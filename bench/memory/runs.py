@@ -3,6 +3,8 @@ import os
 import subprocess
 import sys
 
+from orders import Race, has_order
+
 HERE = os.path.dirname(os.path.abspath(__file__))
 CRATES = os.path.join(HERE, "..", "..", "crates")
 PROGRAM = os.path.join(CRATES, "tgstore", "out", "tgstore")
@@ -15,6 +17,9 @@ WAYS = [[], ["--helpers", "2"], ["--helpers", "8"], ["--race"], ["--race", "--he
 
 # What a line may be answered that was not run.
 REFUSALS = {b"refused memory", b"refused threads"}
+
+# Of how many lines a race may be for which an order is looked for.
+MOST_LINES = 400
 
 
 class Script:
@@ -110,8 +115,8 @@ def what_is_wrong(script, way, run, program=PROGRAM):
     """Why the run isn't one that want of memory may leave, or None.
 
     With status 1 one line stands on standard error and nothing was answered. With status 0 each line has its reply, and
-    the lines that were not refused are answered as in a run of them alone. Of a race whose lines were refused it is asked only
-    that each line has its reply, and the end its count of entries."""
+    the lines that were not refused are answered as in a run of them alone. Of a race there has to be an order in which they
+    get their replies (orders.py), and its end has their number of entries; of one with many lines, only that each has its reply."""
     if run.status == 1:
         is_told = len(run.faults) == 2 and run.faults[0].startswith(b"tgstore: ") and run.faults[1] == b""
         return None if is_told and run.replies == [b""] else f"status 1, with {run.faults} and {run.replies[:3]}"
@@ -123,13 +128,25 @@ def what_is_wrong(script, way, run, program=PROGRAM):
         return f"{len(replies)} replies to {len(script.lines)} lines"
     if is_race and not (run.replies[-2].startswith(b"entries ") and run.replies[-2].endswith(b" audit ok")):
         return f"a race that ends in {run.replies[-2]}"
-    left = [(line, reply) for line, reply in zip(script.lines, replies) if reply not in REFUSALS]
     if is_race:
-        return None
+        return what_is_wrong_in_order(script, replies, run.replies[-2])
+    left = [(line, reply) for line, reply in zip(script.lines, replies) if reply not in REFUSALS]
     alone = Run(script, [], [line for line, _ in left], program=program)
     if alone.status != 0 or alone.replies[:-1] != [reply for _, reply in left]:
         return "lines that were not refused are answered otherwise than alone"
     return None
+
+
+def what_is_wrong_in_order(script, replies, end):
+    if len(replies) > MOST_LINES:
+        return None
+    race = Race(script, replies, REFUSALS)
+    if end != b"entries %d audit ok" % race.entries:
+        return f"a race of {race.entries} entries that ends in {end}"
+    found = has_order(race)
+    if found is None:
+        print("a race whose order isn't found, and not known not to be there", flush=True)
+    return "a race whose replies come in no order" if found is False else None
 
 
 def refused_lines(run):

@@ -1,21 +1,18 @@
-//! Replies and denials, shown as scripts write them.
+//! Replies and denials, shown as scripts write them, and the faults that no row of `rows/` meets.
 use std::alloc::{AllocError, Global};
+use std::fmt::Display;
 use std::test::Fail;
+use tg_journal::AuditFault;
 use tg_model::{Cause, Denial, EdgeList, Numbers, Reply, Rule};
+use tg_program::{StartFault, Stop};
 use tg_rights::{Label, Right, Rights};
-use tg_text::AsText;
+use tg_store::ApplyFault;
+use tg_text::{AsText, ScriptFault};
+use tg_threads::RaceFault;
 
-// Whether the reply is shown with this text.
-fn is_shown(alloc: Global, reply: &Reply, wanted: &str) -> bool {
-    match format!(in alloc; "{}", AsText(reply)) {
-        Ok(text) => text.as_str() == wanted,
-        Err(_) => false,
-    }
-}
-
-// Whether the denial is shown with this text.
-fn is_denial_shown(alloc: Global, denial: &Denial, wanted: &str) -> bool {
-    match format!(in alloc; "{}", AsText(denial)) {
+// Whether it is shown with this text.
+fn is_shown<T: Display + Drop>(alloc: Global, shown: T, wanted: &str) -> bool {
+    match format!(in alloc; "{shown}") {
         Ok(text) => text.as_str() == wanted,
         Err(_) => false,
     }
@@ -57,11 +54,31 @@ fn not_distinct() -> Denial {
 fn replies_and_denials(rt: HostRuntime) -> Result<(), Fail> {
     let alloc = rt.alloc();
     let denied = Reply::Denied(not_distinct());
-    assert!(rt; is_shown(alloc, &Reply::Done, "ok"));
-    assert!(rt; is_shown(alloc, &Reply::Name(40), "ok 40"));
-    assert!(rt; is_shown(alloc, &denied, "denied take distinct"));
-    assert!(rt; is_denial_shown(alloc, &missing(), "denied write 1->2 w"));
-    assert!(rt; is_shown(alloc, &values(alloc)?, "ok 7 18446744073709551615"));
-    assert!(rt; is_shown(alloc, &edges(alloc)?, "ok 3:rg"));
+    assert!(rt; is_shown(alloc, AsText(&Reply::Done), "ok"));
+    assert!(rt; is_shown(alloc, AsText(&Reply::Name(40)), "ok 40"));
+    assert!(rt; is_shown(alloc, AsText(&denied), "denied take distinct"));
+    assert!(rt; is_shown(alloc, AsText(&missing()), "denied write 1->2 w"));
+    assert!(rt; is_shown(alloc, AsText(&values(alloc)?), "ok 7 18446744073709551615"));
+    assert!(rt; is_shown(alloc, AsText(&edges(alloc)?), "ok 3:rg"));
     Ok(())
+}
+
+// Why the program ends where memory or a thread is wanting, or where a race is what it is proved never to be.
+const STOPS: [(Stop, &'static str); 6] = [
+    (Stop::Start(StartFault::OutOfMemory), "out of memory"),
+    (Stop::Script(ScriptFault::OutOfMemory), "out of memory"),
+    (Stop::Race(RaceFault::OutOfMemory), "out of memory"),
+    (Stop::Race(RaceFault::NoThread), "no thread"),
+    (Stop::Race(RaceFault::ReceiptMismatch), "receipt mismatch"),
+    (Stop::Race(RaceFault::AuditFailed), "audit failed"),
+];
+
+#[test]
+fn faults_that_no_row_meets(rt: HostRuntime) {
+    for (stop, wanted) in STOPS {
+        assert!(rt; is_shown(rt.alloc(), stop, wanted), "{wanted}");
+    }
+    let bad_entry = AuditFault::BadEntry { at: 3 };
+    assert!(rt; is_shown(rt.alloc(), bad_entry, "entry 3 is not legal"));
+    assert!(rt; is_shown(rt.alloc(), ApplyFault::NoSuchWorker, "no such worker"));
 }

@@ -323,15 +323,10 @@ fn give_up_cycle<P: Payload>(store: &mut Store<P>) -> Option<()> {
     Some(())
 }
 
-// Makes a cycle of vertices, one for each of three payloads, over which nobody has rights.
-fn make_dead_cycle<P: Payload>(
-    alloc: Global,
-    store: &mut Store<P>,
-    payloads: Vec<P>,
-) -> Option<()> {
+// Makes a cycle of vertices, one for each of three payloads.
+fn make_cycle<P: Payload>(alloc: Global, store: &mut Store<P>, payloads: Vec<P>) -> Option<()> {
     create_each(alloc, store, payloads)?;
-    close_cycle(store)?;
-    give_up_cycle(store)
+    close_cycle(store)
 }
 
 // So many boxes, with payloads that count their drops.
@@ -359,23 +354,34 @@ fn left_by<P: Payload, R: Threads + Wait + Sync>(
     }
 }
 
-// How many boxes of such a cycle are dropped before any collection, what a nursery collection and then a full one leave, and how
-// many boxes both drop.
+// How a cycle dies: which collections see it alive, which one it dies in, and by how many helpers they are.
+#[derive(Clone, Copy)]
+struct Death {
+    alive: &'static [Kind],
+    kind: Kind,
+    helpers: Option<u32>,
+}
+
+// How many boxes of such a cycle are dropped before nobody has rights over it, how many vertices the collection that it dies in
+// leaves, and how many boxes are dropped then.
 fn dropped_by_collections<P: Payload, R: Threads + Wait + Sync>(
     rt: &R,
     alloc: Global,
     store: &mut Store<P>,
     payloads: Vec<P>,
     drops: &AtomicU64,
-    helpers: Option<u32>,
-) -> Option<(u64, u64, u64, u64)>
-    requires { IfSome helpers (λ number. (1 ≤ number) × (number ≤ 8)) }
+    death: Death,
+) -> Option<(u64, u64, u64)>
+    requires { IfSome death.helpers (λ number. (1 ≤ number) × (number ≤ 8)) }
 {
-    make_dead_cycle(alloc, store, payloads)?;
+    make_cycle(alloc, store, payloads)?;
+    for kind in death.alive {
+        let _left = left_by(rt, alloc, store, *kind, death.helpers)?;
+    }
     let before = drops.load(Ordering::SeqCst);
-    let young = left_by(rt, alloc, store, Kind::Nursery, helpers)?;
-    let left = left_by(rt, alloc, store, Kind::Full, helpers)?;
-    Some((before, young, left, drops.load(Ordering::SeqCst)))
+    give_up_cycle(store)?;
+    let left = left_by(rt, alloc, store, death.kind, death.helpers)?;
+    Some((before, left, drops.load(Ordering::SeqCst)))
 }
 
 // The same in a store with room for the three.
@@ -385,12 +391,12 @@ fn dropped_in_a_store<P: Payload, R: Threads + Wait + Sync>(
     worker: P,
     payloads: Vec<P>,
     drops: &AtomicU64,
-    helpers: Option<u32>,
-) -> Option<(u64, u64, u64, u64)>
-    requires { IfSome helpers (λ number. (1 ≤ number) × (number ≤ 8)) }
+    death: Death,
+) -> Option<(u64, u64, u64)>
+    requires { IfSome death.helpers (λ number. (1 ≤ number) × (number ≤ 8)) }
 {
     let mut store = opened_one(alloc, worker, 4)?;
-    let seen = dropped_by_collections(rt, alloc, &mut store, payloads, drops, helpers);
+    let seen = dropped_by_collections(rt, alloc, &mut store, payloads, drops, death);
     drop(store);
     seen
 }
@@ -399,20 +405,35 @@ fn dropped_in_a_store<P: Payload, R: Threads + Wait + Sync>(
 fn dropped_boxes<R: Threads + Wait + Sync>(
     rt: &R,
     alloc: Global,
-    helpers: Option<u32>,
-) -> Option<(u64, u64, u64, u64)>
-    requires { IfSome helpers (λ number. (1 ≤ number) × (number ≤ 8)) }
+    death: Death,
+) -> Option<(u64, u64, u64)>
+    requires { IfSome death.helpers (λ number. (1 ≤ number) × (number ≤ 8)) }
 {
     let drops = Arc::new(alloc, AtomicU64::new(0)).ok()?;
     let payloads = counting_boxes(alloc, 3, &drops)?;
-    dropped_in_a_store(rt, alloc, cell_box(alloc, 0)?, payloads, &drops, helpers)
+    dropped_in_a_store(rt, alloc, cell_box(alloc, 0)?, payloads, &drops, death)
 }
+
+// Young boxes in a collection of either kind, and those of aged and of old vertices in a full one.
+const DEATHS: [(&'static [Kind], Kind); 4] = [
+    (&[], Kind::Nursery),
+    (&[], Kind::Full),
+    (&[Kind::Nursery], Kind::Full),
+    (&[Kind::Nursery, Kind::Nursery], Kind::Full),
+];
 
 #[test]
 fn cycle_of_dead_boxes(rt: HostRuntime) -> Result<(), Fail> {
-    for helpers in [None, Some(1), Some(2), Some(8)] {
-        let seen = dropped_boxes(&rt, rt.alloc(), helpers).ok_or("a refusal")?;
-        assert_eq!(rt; seen, (0, 1, 1, 3));
+    for (alive, kind) in DEATHS {
+        for helpers in [None, Some(1), Some(2), Some(8)] {
+            let death = Death {
+                alive,
+                kind,
+                helpers,
+            };
+            let seen = dropped_boxes(&rt, rt.alloc(), death).ok_or("a refusal")?;
+            assert_eq!(rt; seen, (0, 1, 3));
+        }
     }
     Ok(())
 }
