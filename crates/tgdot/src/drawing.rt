@@ -1,77 +1,77 @@
-//! The picture of a graph, as a text for `dot`.
+//! The picture of the last graph, as a text for `dot`.
 
 use crate::fault::DrawFault;
-use std::alloc::{AllocError, Global};
+use crate::options::DotOptions;
+use crate::run::{Run, Vertex};
+use crate::script::ScriptLine;
+use std::alloc::Global;
+use std::collections::BTreeSet;
 use std::io;
-use tg_model::Graph;
 use tg_rights::Label;
+use tg_text::{Line, StockItem};
 
-/// Prints the graph as a digraph: its vertices by rising name, then its edges.
-pub fn draw<R: Print>(rt: &R, alloc: Global, graph: &Graph, workers: u64) -> Result<(), DrawFault> {
-    let reached = reached_by_workers(alloc, graph, workers)?;
-    draw_digraph(rt, graph, workers, reached.as_slice())?;
+/// Prints the graph that the lines leave as a digraph: its vertices by rising name, then its edges. What a collection would take is there
+/// too.
+pub fn draw_last<R: Print>(
+    rt: &R,
+    alloc: Global,
+    options: DotOptions,
+    lines: &[ScriptLine],
+    stock: &[StockItem],
+) -> Result<(), DrawFault> {
+    let mut run = Run::start(alloc, options, lines, stock)?;
+    for line in lines {
+        match line.line {
+            Line::Full => (),
+            _ => take_line(&mut run, line)?,
+        }
+    }
+    let reached = run.reached()?;
+    draw_digraph(rt, &run, &reached)?;
     Ok(())
 }
 
-// Prints the digraph, in which true stands at the name of what is reached.
-fn draw_digraph<R: Print>(rt: &R, graph: &Graph, workers: u64, reached: &[bool]) -> io::Result<()> {
+// Runs a line. What it is answered is no matter of the last graph.
+fn take_line(run: &mut Run, line: &ScriptLine) -> Result<(), DrawFault> {
+    let _event = run.take(&line.line)?;
+    Ok(())
+}
+
+// Prints the digraph.
+fn draw_digraph<R: Print>(rt: &R, run: &Run, reached: &BTreeSet<u64>) -> io::Result<()> {
     println!(rt; "digraph store {{")?;
-    for (name, reached) in reached.iter().enumerate() {
-        draw_vertex(rt, name as u64, workers, *reached)?;
+    for (name, vertex) in run.vertices().iter() {
+        draw_vertex(rt, *name, vertex.is_subject, reached.contains(name))?;
     }
-    for (from, reached) in reached.iter().enumerate() {
-        draw_edges(rt, graph, from as u64, *reached)?;
-    }
+    draw_rows(rt, run, reached)?;
     println!(rt; "}}")
 }
 
-// Which vertices a subject reaches along edges: true at their names.
-fn reached_by_workers(alloc: Global, graph: &Graph, workers: u64) -> Result<Vec<bool>, AllocError> {
-    let mut reached = Vec::new(alloc);
-    let mut waiting = Vec::new(alloc);
-    for name in 0..graph.made() {
-        reached.push(name < workers)?;
-        if name < workers {
-            waiting.push(name)?;
-        }
-    }
-    // Each vertex waits once.
-    for _ in 0..graph.made() {
-        let Some(from) = waiting.pop() else {
-            break;
-        };
-        reach_targets(graph, from, &mut reached, &mut waiting)?;
-    }
-    Ok(reached)
-}
-
-// Marks the targets of the vertex, and lets those wait that weren't reached before.
-fn reach_targets(
-    graph: &Graph,
-    from: u64,
-    reached: &mut Vec<bool>,
-    waiting: &mut Vec<u64>,
-) -> Result<(), AllocError> {
-    for (to, mark) in reached.iter_mut().enumerate() {
-        if !*mark && !graph.label(from, to as u64).is_empty() {
-            *mark = true;
-            waiting.push(to as u64)?;
-        }
-    }
-    Ok(())
-}
-
-fn draw_vertex<R: Print>(rt: &R, name: u64, workers: u64, reached: bool) -> io::Result<()> {
-    let shape = if name < workers { "box" } else { "circle" };
+fn draw_vertex<R: Print>(rt: &R, name: u64, is_subject: bool, reached: bool) -> io::Result<()> {
+    let shape = if is_subject { "box" } else { "circle" };
     let colour = colour_of(reached);
     println!(rt; "    {name} [shape={shape} color={colour} fontcolor={colour}]")
 }
 
+// The edges of all vertices.
+fn draw_rows<R: Print>(rt: &R, run: &Run, reached: &BTreeSet<u64>) -> io::Result<()> {
+    for (name, vertex) in run.vertices().iter() {
+        draw_edges(rt, run, *name, vertex, reached.contains(name))?;
+    }
+    Ok(())
+}
+
 // The edges of a vertex, each with the letters of its rights.
-fn draw_edges<R: Print>(rt: &R, graph: &Graph, from: u64, reached: bool) -> io::Result<()> {
+fn draw_edges<R: Print>(
+    rt: &R,
+    run: &Run,
+    from: u64,
+    vertex: &Vertex,
+    reached: bool,
+) -> io::Result<()> {
     let colour = colour_of(reached);
-    for to in 0..graph.made() {
-        if let Some(label) = Label::new(graph.label(from, to)) {
+    for to in vertex.targets.iter() {
+        if let Some(label) = Label::new(run.label(from, *to)) {
             println!(rt;
                 "    {from} -> {to} [label=\"{label}\" color={colour} fontcolor={colour}]"
             )?;

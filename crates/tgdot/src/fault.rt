@@ -24,6 +24,12 @@ pub enum DrawFault {
     /// The line is none of the grammar, or an edge where it may not stand, or has no end.
     #[error("line {line}: bad line")]
     BadLine { line: u64 },
+    /// There are more steps than are drawn at once.
+    #[error("more than {most} steps: choose some of the lines by --from and --to")]
+    TooManySteps { most: u64 },
+    /// All steps together have more vertices than are drawn at once.
+    #[error("more than {most} vertices in all steps: choose some of the lines by --from and --to")]
+    TooManyVertices { most: u64 },
     /// Standard input or standard output failed.
     #[error(transparent)]
     Stream(#[from] io::Error),

@@ -1,25 +1,36 @@
-//! Draws the graph that a script leaves, in the language of GraphViz's `dot`.
+//! Draws the graph that a script leaves, or the graph after each line, in the language of GraphViz's `dot`.
 //!
 //! It reads the script that `tgstore` reads, with the same options `--workers`, `--vertices` and `--stock`, and runs it on
-//! the plain graph of `tg_model`: no heap, no journal, no collection. Then it prints a digraph: a box for each subject and a
+//! the plain graph of `tg_model`: no heap and no journal. Then it prints a digraph: a box for each subject and a
 //! circle for each object, an arrow with its rights for each edge, and grey for what no subject reaches any more, which is
-//! what a collection of the whole heap frees.
+//! what a collection of the whole heap frees. With `--steps` it prints a digraph for each line.
 //!
-//! The words of the command line are `options`' matter, lines `script`'s, and what is printed `drawing`'s. Each pair of
-//! vertices is asked for its edge, so the time grows with the square of their number: it is for graphs that a person looks at.
+//! The words of the command line are `options`' matter, and lines `script`'s. `run` runs them, and knows which edges there are, so that
+//! no pair of vertices is asked for its edge in vain. `drawing` prints the last graph. Of the steps, `shot` says what is shown at one and
+//! `told` what its line was answered, `look` how it looks, `frame` what all have in common, `picture` prints one, and `steps` all of them.
+//! A line of the grammar has a place in `run`, where it is taken and followed, and in `named` of `shot`.
 #![tactic(auto)]
 
 mod drawing;
 mod fault;
+mod frame;
+mod look;
 mod options;
+mod picture;
+mod run;
 mod script;
+mod shot;
+mod steps;
+mod told;
 
-use drawing::draw;
+use drawing::draw_last;
 use fault::DrawFault;
 use options::{DotOptions, read_words};
-use script::run_script;
+use script::read_script;
 use std::env;
 use std::process::ExitCode;
+use steps::draw_steps;
+use tg_text::read_stock;
 
 fn main(rt: HostRuntime) -> ExitCode {
     match obey(&rt) {
@@ -43,10 +54,20 @@ fn obey(rt: &HostRuntime) -> Result<u8, DrawFault> {
     }
 }
 
-// Draws the graph that the script leaves.
+// Draws what the script leaves, or its steps. A bad line ends the steps, and leaves nothing to be drawn else.
 fn draw_script(rt: &HostRuntime, options: DotOptions) -> Result<u8, DrawFault> {
-    let graph = run_script(rt, rt.alloc(), options)?;
-    draw(rt, rt.alloc(), &graph, options.workers)?;
+    let stock = read_stock(rt.alloc(), options.stock.as_bytes())?;
+    let script = read_script(rt, rt.alloc(), options.workers)?;
+    let lines = script.lines.as_slice();
+    if let Some(range) = options.steps {
+        draw_steps(rt, rt.alloc(), options, range, lines, stock.as_slice())?;
+    }
+    if let Some(line) = script.bad_line {
+        return Err(DrawFault::BadLine { line });
+    }
+    if options.steps.is_none() {
+        draw_last(rt, rt.alloc(), options, lines, stock.as_slice())?;
+    }
     Ok(0)
 }
 

@@ -7,7 +7,12 @@ use std::convert::AsStr;
 const ABOUT: &str = "Draws the graph that a script leaves, for GraphViz's dot
 
 Reads a script of tgstore's from standard input, runs it, and writes a digraph to standard output: subjects as boxes,
-objects as circles, an arrow with its rights for each edge, and grey what no subject reaches.";
+objects as circles, an arrow with its rights for each edge, and grey what no subject reaches.
+
+With --steps it writes a digraph for each line that is no edge line, and one before the first of them. Each names the same vertices and
+edges, and hides what isn't there, so that dot puts a vertex at one place in all of them. A vertex shows its law and its state. Bold are
+the vertices that the line names and the edge that it changed; of a denied line the edge that lacks the rights is red and dashed. Neither
+the heap nor memory refuses a line here.";
 
 const EXAMPLE: &str = "Example:
   printf '0 create rw\\n0 list\\n' | tgdot --workers 1 --stock c | dot -Tsvg > graph.svg";
@@ -18,6 +23,12 @@ const VERTICES: &str = "How many vertices may ever be made, from 1 to 16777216 [
 
 const STOCK: &str = "The boxes that creates take, as tgstore has them";
 
+const STEPS: &str = "A digraph for each line, of at most 400 lines, and 100000 vertices in all";
+
+const FROM: &str = "With --steps: the first line that is shown [default: the first of all]";
+
+const TO: &str = "With --steps: the last line that is shown [default: the last of all]";
+
 /// What the words ask for.
 #[derive(Clone, Copy, Drop)]
 pub struct DotOptions<'a> {
@@ -27,6 +38,24 @@ pub struct DotOptions<'a> {
     pub max_vertices: u64,
     /// The text of the stock, as it was written.
     pub stock: &'a str,
+    /// The lines whose steps are drawn, or `None` where only the last graph is.
+    pub steps: Option<LineRange>,
+}
+
+/// Lines of a script, by their numbers.
+#[derive(Clone, Copy, Drop)]
+pub struct LineRange {
+    /// The first line.
+    pub from: u64,
+    /// The last line.
+    pub to: u64,
+}
+
+impl LineRange {
+    /// Whether the line is one of these.
+    pub fn contains(self, line: u64) -> bool {
+        self.from <= line && line <= self.to
+    }
 }
 
 /// Reads the words, the first of which is the program's name. An `Err` is the text for the user, of the help as of a fault.
@@ -41,7 +70,19 @@ fn options_of<'a>(matches: &ArgMatches<'a>) -> DotOptions<'a> {
         workers: matches.get_one("workers").unwrap_or(2),
         max_vertices: matches.get_one("vertices").unwrap_or(1_000_000),
         stock: matches.get_str("stock").unwrap_or(""),
+        steps: steps_of(matches),
     }
+}
+
+// The lines whose steps are asked for, if steps are.
+fn steps_of(matches: &ArgMatches) -> Option<LineRange> {
+    if !matches.get_flag("steps") {
+        return None;
+    }
+    Some(LineRange {
+        from: matches.get_one("from").unwrap_or(0),
+        to: matches.get_one("to").unwrap_or(u64::MAX),
+    })
 }
 
 // The command line.
@@ -51,7 +92,23 @@ fn command<'a>(alloc: Global) -> Result<Command<'a>, AllocError> {
         .after_help(EXAMPLE)
         .arg(number(alloc, "workers", 64, WORKERS))?
         .arg(number(alloc, "vertices", 16_777_216, VERTICES))?
-        .arg(option(alloc, "stock", "TEXT", STOCK))
+        .arg(option(alloc, "stock", "TEXT", STOCK))?
+        .arg(steps(alloc))?
+        .arg(line(alloc, "from", FROM)?)?
+        .arg(line(alloc, "to", TO)?)
+}
+
+// The option that has no value.
+fn steps<'a>(alloc: Global) -> Arg<'a> {
+    Arg::new(alloc, "steps")
+        .long("steps")
+        .help(STEPS)
+        .action(ArgAction::SetTrue)
+}
+
+// An option whose value is the number of a line, and which goes with the steps.
+fn line<'a>(alloc: Global, name: &'a str, help: &'a str) -> Result<Arg<'a>, AllocError> {
+    number(alloc, name, i64::MAX, help).requires_arg("steps")
 }
 
 // An option whose value is a number from 1 to `most`.

@@ -1,0 +1,147 @@
+//! The picture of a step, as a text for `dot`.
+
+use crate::frame::{Frame, Room};
+use crate::shot::{EdgeView, Shot, VertexView};
+use std::fmt::{Display, Formatter};
+use std::{fmt, io};
+
+// The letters of all texts are equally wide, so that a text's columns tell its width.
+const FONT: &str = "Courier";
+
+// The width of a letter, the height of a vertex's text, and what stands round it, in hundredths of an inch.
+const LETTER: usize = 12;
+
+const HEIGHT: usize = 60;
+
+const BOX_MARGIN: usize = 20;
+
+const CIRCLE_MARGIN: usize = 34;
+
+/// Prints the step as a digraph with all that the frame has, by name. What the step doesn't have is invisible.
+pub fn draw_shot<R: Print>(rt: &R, frame: &Frame, shot: &Shot) -> io::Result<()> {
+    let number = shot.number;
+    println!(rt; "digraph step_{number} {{")?;
+    draw_heading(rt, frame, shot)?;
+    println!(rt; "    node [fontname={FONT} fixedsize=true]")?;
+    println!(rt; "    edge [fontname={FONT}]")?;
+    draw_vertices(rt, frame, shot)?;
+    draw_edges(rt, frame, shot)?;
+    println!(rt; "}}")
+}
+
+// The line and its answer, above the picture.
+fn draw_heading<R: Print>(rt: &R, frame: &Frame, shot: &Shot) -> io::Result<()> {
+    let heading = Padded {
+        text: shot.heading.as_str(),
+        columns: frame.columns,
+    };
+    let told = Padded {
+        text: shot.told.as_str(),
+        columns: frame.columns,
+    };
+    println!(rt;
+        "    graph [fontname={FONT} labelloc=t labeljust=l label=\"{heading}\\l{told}\\l\"]"
+    )
+}
+
+// All vertices of the frame.
+fn draw_vertices<R: Print>(rt: &R, frame: &Frame, shot: &Shot) -> io::Result<()> {
+    for (name, room) in frame.vertices.iter() {
+        draw_vertex(rt, *name, *room, shot.vertices.get(name))?;
+    }
+    Ok(())
+}
+
+// A vertex, in a shape of its own size for all steps.
+fn draw_vertex<R: Print>(
+    rt: &R,
+    name: u64,
+    room: Room,
+    view: Option<&VertexView>,
+) -> io::Result<()> {
+    match view {
+        Some(view) => {
+            let first = view.name.as_str();
+            let state = view.state.as_str();
+            let look = view.look;
+            println!(rt; "    {name} [{room} label=\"{first}\\n{state}\" {look}]")
+        }
+        None => println!(rt; "    {name} [{room} label=\"\" style=invis]"),
+    }
+}
+
+// All edges of the frame.
+fn draw_edges<R: Print>(rt: &R, frame: &Frame, shot: &Shot) -> io::Result<()> {
+    for (ends, columns) in frame.edges.iter() {
+        draw_edge(rt, *ends, *columns, shot.edges.get(ends))?;
+    }
+    Ok(())
+}
+
+// An edge, with a label of its own width for all steps.
+fn draw_edge<R: Print>(
+    rt: &R,
+    ends: (u64, u64),
+    columns: usize,
+    view: Option<&EdgeView>,
+) -> io::Result<()> {
+    let (from, to) = ends;
+    match view {
+        Some(view) => {
+            let label = Padded {
+                text: view.label.as_str(),
+                columns,
+            };
+            let look = view.look;
+            println!(rt; "    {from} -> {to} [label=\" {label} \" {look}]")
+        }
+        None => {
+            let label = Padded { text: "", columns };
+            println!(rt; "    {from} -> {to} [label=\" {label} \" style=invis]")
+        }
+    }
+}
+
+// A text with spaces behind it.
+#[derive(Clone, Copy)]
+struct Padded<'a> {
+    text: &'a str,
+    columns: usize,
+}
+
+impl Display for Padded<'_> {
+    fn fmt<W: fmt::Write>(&self, f: &mut Formatter<W>) -> fmt::Result {
+        f.write_str(self.text)?;
+        for _ in self.text.len()..self.columns {
+            f.write_char(' ')?;
+        }
+        Ok(())
+    }
+}
+
+impl Display for Room {
+    /// Writes the shape and the size.
+    fn fmt<W: fmt::Write>(&self, f: &mut Formatter<W>) -> fmt::Result {
+        let text = self.columns.saturating_mul(LETTER);
+        if self.is_subject {
+            let width = Inches(text.saturating_add(BOX_MARGIN));
+            let height = Inches(HEIGHT);
+            write!(f, "shape=box width={width} height={height}")
+        } else {
+            let across = Inches(text.saturating_add(CIRCLE_MARGIN));
+            write!(f, "shape=circle width={across} height={across}")
+        }
+    }
+}
+
+// Hundredths of an inch.
+#[derive(Clone, Copy)]
+struct Inches(usize);
+
+impl Display for Inches {
+    fn fmt<W: fmt::Write>(&self, f: &mut Formatter<W>) -> fmt::Result {
+        let whole = self.0 / 100;
+        let rest = self.0 % 100;
+        write!(f, "{whole}.{rest:02}")
+    }
+}
