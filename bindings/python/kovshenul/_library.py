@@ -1,0 +1,113 @@
+"""The shared library: where it is found, and its functions as ctypes calls them."""
+import ctypes
+import os
+from pathlib import Path
+
+ABI = 1
+NAME = f"libkovshenul.so.{ABI}"
+
+Number = ctypes.c_uint64
+
+
+class Value(ctypes.Structure):
+    """What a vertex stores at first."""
+
+    _fields_ = [("law", ctypes.c_uint32), ("most", ctypes.c_uint32), ("number", Number)]
+
+
+class Edge(ctypes.Structure):
+    """Rights of one worker over another, at the opening."""
+
+    _fields_ = [("source", Number), ("target", Number), ("rights", Number)]
+
+
+class Limits(ctypes.Structure):
+    """How many vertices and blocks there may be."""
+
+    _fields_ = [("max_vertices", Number), ("max_blocks", Number), ("max_space_blocks", Number)]
+
+
+class Denial(ctypes.Structure):
+    """Why a command was denied."""
+
+    _fields_ = [
+        ("rule", ctypes.c_uint32),
+        ("cause", ctypes.c_uint32),
+        ("source", Number),
+        ("target", Number),
+        ("rights", Number),
+    ]
+
+
+class Counts(ctypes.Structure):
+    """What the heap has."""
+
+    _fields_ = [("vertices", Number), ("payloads", Number), ("blocks", Number)]
+
+
+class Place(ctypes.Structure):
+    """A store, or none where all of it is zero."""
+
+    _fields_ = [("is_open", ctypes.c_bool), ("at", ctypes.c_void_p)]
+
+
+def _load() -> ctypes.CDLL:
+    """The library that the variable names, else the one beside this file, else the one that the system finds."""
+    beside = Path(__file__).with_name(NAME)
+    named = os.environ.get("KOVSHENUL_LIBRARY")
+    path = named or (str(beside) if beside.exists() else NAME)
+    try:
+        return ctypes.CDLL(path)
+    except OSError as error:
+        raise ImportError(
+            f"no library of Kovshenul: KOVSHENUL_LIBRARY is {named or 'not set'}, "
+            f"beside the module there is {'' if beside.exists() else 'no '}{beside}, and {path} did not load: {error}"
+        ) from error
+
+
+def _declare(library: ctypes.CDLL) -> None:
+    """Says what each function takes. The numbers must be in their range: ctypes takes any modulo 2^64."""
+    # An address is handed on as it is, so no object of a caller may become one.
+    address, size = ctypes.c_void_p, ctypes.c_size_t
+    takes = {
+        "abi": [],
+        "open": [address, address, size, address, size, address],
+        "close": [address],
+        "take": [address, Number, Number, Number, Number, address],
+        "grant": [address, Number, Number, Number, Number, address],
+        "remove": [address, Number, Number, Number, address],
+        "write": [address, Number, Number, Number, address],
+        "create": [address, Number, Number, address, address],
+        "read": [address, Number, Number, address, size, address, address],
+        "list": [address, Number, address, size, address],
+        "collect": [address, ctypes.c_uint32, address],
+        "census": [address, address],
+        "entries": [address, address],
+        "audit": [address, address],
+    }
+    for name, types in takes.items():
+        function = getattr(library, f"tg_{name}")
+        function.argtypes, function.restype = types, ctypes.c_uint32
+    library.tg_status_text.argtypes, library.tg_status_text.restype = [ctypes.c_uint32], ctypes.c_char_p
+    library.tg_version.argtypes, library.tg_version.restype = [], ctypes.c_char_p
+
+
+def _opened() -> ctypes.CDLL:
+    library = _load()
+    if library.tg_abi() != ABI:
+        raise ImportError(f"{library._name} has interface {library.tg_abi()}, and this module is for {ABI}")
+    _declare(library)
+    return library
+
+
+library = _opened()
+
+
+def text_of(status: int) -> str:
+    """What a status says."""
+    return library.tg_status_text(status).decode()
+
+
+def version() -> str:
+    """The version of the library."""
+    return library.tg_version().decode()
