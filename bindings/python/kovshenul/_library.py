@@ -2,6 +2,7 @@
 import ctypes
 import os
 from pathlib import Path
+from typing import Type
 
 ABI = 1
 NAME = f"libkovshenul.so.{ABI}"
@@ -51,18 +52,22 @@ class Place(ctypes.Structure):
     _fields_ = [("is_open", ctypes.c_bool), ("at", ctypes.c_void_p)]
 
 
-def _load() -> ctypes.CDLL:
+def _loaded(kind: Type[ctypes.CDLL]) -> ctypes.CDLL:
     """The library that the variable names, else the one beside this file, else the one that the system finds."""
     beside = Path(__file__).with_name(NAME)
     named = os.environ.get("KOVSHENUL_LIBRARY")
     path = named or (str(beside) if beside.exists() else NAME)
     try:
-        return ctypes.CDLL(path)
+        library = kind(path)
     except OSError as error:
         raise ImportError(
             f"no library of Kovshenul: KOVSHENUL_LIBRARY is {named or 'not set'}, "
             f"beside the module there is {'' if beside.exists() else 'no '}{beside}, and {path} did not load: {error}"
         ) from error
+    if library.tg_abi() != ABI:
+        raise ImportError(f"{path} has interface {library.tg_abi()}, and this module is for {ABI}")
+    _declare(library)
+    return library
 
 
 def _declare(library: ctypes.CDLL) -> None:
@@ -92,15 +97,10 @@ def _declare(library: ctypes.CDLL) -> None:
     library.tg_version.argtypes, library.tg_version.restype = [], ctypes.c_char_p
 
 
-def _opened() -> ctypes.CDLL:
-    library = _load()
-    if library.tg_abi() != ABI:
-        raise ImportError(f"{library._name} has interface {library.tg_abi()}, and this module is for {ABI}")
-    _declare(library)
-    return library
-
-
-library = _opened()
+# The same library twice. Calls by the first let other threads of the interpreter run, so those go by it that may take long. The second
+# keeps the interpreter's lock for the short ones, where giving it away and taking it back would cost as much as the call.
+library = _loaded(ctypes.CDLL)
+short = _loaded(ctypes.PyDLL)
 
 
 def text_of(status: int) -> str:

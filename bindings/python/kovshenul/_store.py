@@ -2,12 +2,13 @@
 from __future__ import annotations
 
 import ctypes
+from functools import partial
 from operator import index
 from threading import RLock
 from typing import Callable, Iterable, List, NoReturn, Tuple
 
 from . import _library
-from ._library import library
+from ._library import library, short
 from ._refusals import CAUSES, RULES, Denied, NotOpen, refusal
 from ._values import MOST_NUMBERS, RIGHTS, Counts, Kind, Limits, Target, Value, number_in
 
@@ -19,8 +20,9 @@ MISSING = 1
 MAX_VERTICES = 2**24
 FIRST_ROW = 64
 
-# A named tuple of a tuple, with no call in between; and the type that a method of Store hides.
-new = tuple.__new__
+# A target of a pair, and rights by their bits, with no call of Python's in between; and the type that a method of Store hides.
+target_of = partial(tuple.__new__, Target)
+rights_of = RIGHTS.__getitem__
 list_of = list
 
 
@@ -141,7 +143,7 @@ class Store:
             raise OverflowError(OUT_OF_RANGE)
         with self._lock:
             room, self._room = self._room or _Room(), None
-            status = library.tg_take(self._at, worker, via, target, rights, room.denial_at)
+            status = short.tg_take(self._at, worker, via, target, rights, room.denial_at)
             self._room = room
             if status:
                 _raise(status, room.denial)
@@ -153,7 +155,7 @@ class Store:
             raise OverflowError(OUT_OF_RANGE)
         with self._lock:
             room, self._room = self._room or _Room(), None
-            status = library.tg_grant(self._at, worker, via, target, rights, room.denial_at)
+            status = short.tg_grant(self._at, worker, via, target, rights, room.denial_at)
             self._room = room
             if status:
                 _raise(status, room.denial)
@@ -165,7 +167,7 @@ class Store:
             raise OverflowError(OUT_OF_RANGE)
         with self._lock:
             room, self._room = self._room or _Room(), None
-            status = library.tg_remove(self._at, worker, target, rights, room.denial_at)
+            status = short.tg_remove(self._at, worker, target, rights, room.denial_at)
             self._room = room
             if status:
                 _raise(status, room.denial)
@@ -177,7 +179,7 @@ class Store:
             raise OverflowError(OUT_OF_RANGE)
         with self._lock:
             room, self._room = self._room or _Room(), None
-            status = library.tg_write(self._at, worker, target, value, room.denial_at)
+            status = short.tg_write(self._at, worker, target, value, room.denial_at)
             self._room = room
             if status:
                 _raise(status, room.denial)
@@ -187,11 +189,13 @@ class Store:
         worker, rights = index(worker), index(rights)
         if (worker | rights) >> BITS:
             raise OverflowError(OUT_OF_RANGE)
-        if not isinstance(value, Value):
-            raise TypeError(NO_VALUE)
+        try:
+            value_at = value._value_at
+        except AttributeError:
+            raise TypeError(NO_VALUE) from None
         with self._lock:
             room, self._room = self._room or _Room(), None
-            status = library.tg_create(self._at, worker, rights, value._at, room.count_at)
+            status = short.tg_create(self._at, worker, rights, value_at, room.count_at)
             name = room.count.value
             self._room = room
         if status:
@@ -205,7 +209,7 @@ class Store:
             raise OverflowError(OUT_OF_RANGE)
         with self._lock:
             room, self._room = self._room or _Room(), None
-            status = library.tg_read(
+            status = short.tg_read(
                 self._at, worker, target, room.numbers_at, MOST_NUMBERS, room.count_at, room.denial_at
             )
             numbers = room.numbers[: room.count.value]
@@ -231,7 +235,8 @@ class Store:
             raise refusal(status)
         if 2 * count > len(numbers):
             return self.list(worker, count)
-        return [new(Target, (to, RIGHTS[rights])) for to, rights in zip(numbers[::2], numbers[1::2])]
+        each = iter(numbers)
+        return list_of(map(target_of, zip(each, map(rights_of, each))))
 
     def collect(self, kind: int = Kind.FULL) -> int:
         """Collects, and answers how many vertices the heap then has."""
@@ -260,7 +265,7 @@ class Store:
 
     def entries(self) -> int:
         """How many entries the journal has."""
-        return self._count(library.tg_entries)
+        return self._count(short.tg_entries)
 
     def audit(self) -> int:
         """Replays the journal, and answers how many entries it has."""

@@ -64,7 +64,7 @@ class Value:
         """Keeps it as the library takes it, and where that stands."""
         asked = _library.Value(law, most, first)
         object.__setattr__(self, "_asked", asked)
-        object.__setattr__(self, "_at", addressof(asked))
+        object.__setattr__(self, "_value_at", addressof(asked))
 
     def __reduce__(self) -> Tuple[type, Tuple[int, ...]]:
         # A copy is made anew, with a place of its own.
