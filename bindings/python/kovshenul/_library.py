@@ -61,8 +61,9 @@ def _loaded(kind: Type[ctypes.CDLL]) -> ctypes.CDLL:
         library = kind(path)
     except OSError as error:
         raise ImportError(
-            f"no library of Kovshenul: KOVSHENUL_LIBRARY is {named or 'not set'}, "
-            f"beside the module there is {'' if beside.exists() else 'no '}{beside}, and {path} did not load: {error}"
+            f"no library of Kovshenul. KOVSHENUL_LIBRARY is {named or 'not set'}, "
+            f"{beside} {'is there' if beside.exists() else 'is not there'}, "
+            f"and the system looks for {NAME}. {path} did not load: {error}"
         ) from error
     if library.tg_abi() != ABI:
         raise ImportError(f"{path} has interface {library.tg_abi()}, and this module is for {ABI}")

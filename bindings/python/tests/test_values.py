@@ -1,7 +1,10 @@
 """What users of Python expect of the module beside its answers."""
 import copy
 import gc
+import os
 import pickle
+import subprocess
+import sys
 import threading
 import unittest
 
@@ -72,6 +75,15 @@ class Values(unittest.TestCase):
 
     def test_version(self):
         self.assertRegex(kovshenul.__version__, r"^0\.\d+\.\d+$")
+
+
+    def test_without_a_library_all_places_are_named(self):
+        environment = {**os.environ, "KOVSHENUL_LIBRARY": "/nowhere/kovshenul.so"}
+        words = [sys.executable, "-c", "import kovshenul"]
+        told = subprocess.run(words, env=environment, capture_output=True, text=True).stderr
+        self.assertIn("ImportError", told)
+        for place in ("KOVSHENUL_LIBRARY is /nowhere/kovshenul.so", "kovshenul/libkovshenul.so.1 is", "looks for libkovshenul.so.1"):
+            self.assertIn(place, told)
 
 
 class Refusals(unittest.TestCase):
