@@ -57,7 +57,7 @@ def _raise(status: int, denial: _library.Denial) -> NoReturn:
 class Store:
     """An open store. `close`, or leaving its `with`, gives its memory back.
 
-    Any thread may call: the store's lock makes the calls come one after the other. A call whose number is out of its
+    The thread that opened it uses it. A lock makes all calls come one after the other, those of other threads too. A call whose number is out of its
     range raises OverflowError, and nothing happened; what isn't served raises Denied or a Refused.
     """
 
@@ -117,7 +117,7 @@ class Store:
         self.close()
 
     def __del__(self, close: Callable[[int], int] = library.tg_close) -> None:
-        # Nobody has the store any more, so the lock isn't needed. The thread may be any.
+        # Nobody has the store any more, so the lock isn't needed.
         close(self._at)
 
     def __reduce__(self) -> NoReturn:
