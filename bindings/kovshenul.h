@@ -3,18 +3,22 @@
    A store has workers and vertices, named 0, 1, 2, ..: first the workers, then each vertex that is made. Between two
    vertices stand rights. A worker asks for something, and is served exactly where the take-grant rules allow it.
 
-   Each function answers a status. What a status below 16 says, and which status comes when, is proved at the library's
-   exports (crates/tg_c/specs); what this header asks of its caller is not checked by anything.
+   Each call answers a status. What a status below 16 says, and which status comes when, is proved at the library's
+   exports (crates/tg_c/specs). Tested and not proved is what stands before them (kovshenul.c): NULL for no items, tg_status_text
+   and tg_version. What this header asks of its caller is not checked by anything.
 
    What C owes:
    - Each pointer is to memory of the stated type, which no other argument of the call overlaps, and which nobody else uses
-     while the call runs. It is never NULL, not for an array of 0 items either.
+     while the call runs. It is NULL for an array of 0 items alone.
    - A tg_store is all zero before tg_open, and its bytes are changed by these functions alone. It may be moved, and never
      copied: of two copies only one may be used from then on.
    - A bool in it is 0 or 1.
    - Calls on one store come one after the other, from the thread that opened it. Not from a signal handler, and not in
      the forked child of a process with threads. Two stores share nothing: each may have a thread of its own.
-   - An open store that isn't closed keeps its memory. */
+   - An open store that isn't closed keeps its memory.
+
+   Collections by several helpers and sessions on threads are for Rattle alone, since this library starts no thread and takes no
+   lock. Where threads share a store, let one of them own it, and send it what they ask for. */
 #ifndef KOVSHENUL_H
 #define KOVSHENUL_H
 
@@ -139,6 +143,12 @@ enum {
 
 /* The number of the library's interface. */
 uint32_t tg_abi(void);
+
+/* The version of the library, as "0.1.0". */
+const char *tg_version(void);
+
+/* What a status says, in words. It stays for as long as the program runs. */
+const char *tg_status_text(tg_status status);
 
 /* Opens a store: as many workers as values, and the edges between them. A refused *store is as it was.
 

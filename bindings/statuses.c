@@ -2,6 +2,7 @@
 #include "kovshenul.h"
 #include <stdio.h>
 #include <stdlib.h>
+#include <string.h>
 
 #define WANT(it)                                                                                                       \
     do {                                                                                                               \
@@ -49,6 +50,39 @@ static void closed(void) {
     WANT(tg_entries(&store, &number) == TG_NOT_OPEN);
     WANT(tg_audit(&store, &number) == TG_NOT_OPEN);
     WANT(is_untouched() && !store.is_open && store.handle.at == NULL);
+}
+
+/* No items may be NULL: of an opening, a read and a list. */
+static void no_items(void) {
+    tg_store store = TG_STORE_INIT;
+    uint64_t count = UNTOUCHED, name;
+    WANT(tg_open(&store, NULL, 0, NULL, 0, &limits) == TG_BAD_WORKERS && !store.is_open);
+    WANT(tg_open(&store, workers, 2, NULL, 0, &limits) == TG_DONE);
+    WANT(tg_list(&store, 0, NULL, 0, &count) == TG_DONE && count == 0);
+    WANT(tg_create(&store, 0, TG_READ, &cell, &name) == TG_DONE);
+    WANT(tg_list(&store, 0, NULL, 0, &count) == TG_DONE && count == 1);
+    WANT(tg_read(&store, 0, name, NULL, 0, &count, &why) == TG_DONE && count == 1);
+    WANT(tg_entries(&store, &count) == TG_DONE && count == 4);
+    WANT(tg_close(&store) == TG_DONE);
+    WANT(is_untouched());
+}
+
+/* Each status has a text of its own, and no other number has one. */
+static void texts(void) {
+    static const tg_status known[] = {
+        TG_DONE, TG_DENIED, TG_NOT_OPEN, TG_ALREADY_OPEN, TG_OUT_OF_MEMORY, TG_HEAP_FULL, TG_VERTICES_FULL, TG_NO_SUCH_WORKER,
+        TG_BAD_RIGHTS, TG_BAD_LAW, TG_BAD_KIND, TG_BAD_WORKERS, TG_BAD_LIMITS, TG_BAD_EDGE, TG_BAD_VALUES, TG_BAD_ENTRY
+    };
+    const size_t count = sizeof known / sizeof *known;
+    const char *unknown = tg_status_text(UINT32_MAX);
+    size_t told = 0;
+    for (tg_status status = 0; status < 1000; status++)
+        told += strcmp(tg_status_text(status), unknown) != 0;
+    WANT(told == count);
+    for (size_t i = 0; i < count; i++)
+        for (size_t k = 0; k < i; k++)
+            WANT(strcmp(tg_status_text(known[i]), tg_status_text(known[k])) != 0);
+    WANT(strlen(tg_version()) >= 5);
 }
 
 /* One opening that must be refused. */
@@ -231,6 +265,8 @@ static void longest_log(void) {
 int main(void) {
     tg_store store = TG_STORE_INIT;
     WANT(tg_abi() == TG_ABI);
+    no_items();
+    texts();
     closed();
     openings();
     first_faults();

@@ -1,6 +1,4 @@
 //! The caretaker's story of `story.c`, over the safe wrapper.
-mod kovshenul;
-
 use kovshenul::{Edge, Error, Kind, Limits, Rights, Store, Value};
 
 const CARETAKER: u64 = 0;

@@ -1,0 +1,39 @@
+"""Plays a small story, and writes the graph that it leaves as text for dot: graph.py | dot -Tsvg > graph.svg
+
+Workers are boxes, objects circles. An edge has the letters of its rights.
+"""
+from kovshenul import GRANT, READ, TAKE, WRITE, Denied, Log, Store, Sum
+
+ALICE, BOB, CAROL = range(3)
+NAMES = ("alice", "bob", "carol")
+
+
+def play(store):
+    """Alice keeps a document and a diary. Bob may read the one, and Carol takes that right from him."""
+    document = store.create(ALICE, READ | WRITE, Sum(40))
+    diary = store.create(ALICE, READ | WRITE, Log(3))
+    store.grant(ALICE, BOB, document, READ)
+    store.take(CAROL, BOB, document, READ)
+    try:
+        store.take(CAROL, BOB, diary, READ)
+    except Denied:
+        pass
+    return {document: "document", diary: "diary"}
+
+
+def lines_of(store, objects):
+    """The graph, line by line. Each worker's row is listed, which the journal tells."""
+    yield "digraph kovshenul {"
+    for worker, name in enumerate(NAMES):
+        yield f'    v{worker} [shape=box, label="{name}"];'
+    for vertex, name in objects.items():
+        yield f'    v{vertex} [shape=ellipse, label="{name}"];'
+    for worker in range(len(NAMES)):
+        for target, rights in store.list(worker):
+            yield f'    v{worker} -> v{target} [label="{rights.letters}"];'
+    yield "}"
+
+
+with Store([Sum(0)] * len(NAMES), [(ALICE, BOB, GRANT), (CAROL, BOB, TAKE)], (10, 8, 4)) as store:
+    objects = play(store)
+    print("\n".join(lines_of(store, objects)))

@@ -1,0 +1,81 @@
+"""Kovshenul for Python: an object store with take-grant access control, through its shared library.
+
+    with Store([Cell(0), Cell(0)], [(0, 1, GRANT)], Limits(10, 8, 4)) as store:
+        document = store.create(0, READ | WRITE, Sum(40))
+        store.grant(0, 1, document, READ)
+        print(store.read(1, document))
+
+A command that the rules don't allow raises Denied, and any other refusal raises a Refused. A number that isn't from 0 to
+2^64 - 1 raises OverflowError, and what is no number TypeError: nothing happened then.
+
+A store is used by the thread that opened it. A lock in it makes all calls come one after the other. The library is the one that the
+variable KOVSHENUL_LIBRARY names, else the one beside this module, else the one that the system finds.
+"""
+from ._library import version as _version
+from ._refusals import (
+    CAUSES,
+    RULES,
+    AlreadyOpen,
+    BadEdge,
+    BadEntry,
+    BadKind,
+    BadLaw,
+    BadLimits,
+    BadRights,
+    BadValues,
+    BadWorkers,
+    Denied,
+    HeapFull,
+    NoSuchWorker,
+    NotOpen,
+    OutOfMemory,
+    Refused,
+    VerticesFull,
+)
+from ._store import Store
+from ._values import MOST_NUMBERS, Cell, Counts, Edge, Kind, Limits, Log, Max, Rights, Sum, Target, Value
+
+READ, WRITE, TAKE, GRANT = Rights
+FULL, NURSERY = Kind
+
+__version__ = _version()
+
+__all__ = [
+    "AlreadyOpen",
+    "BadEdge",
+    "BadEntry",
+    "BadKind",
+    "BadLaw",
+    "BadLimits",
+    "BadRights",
+    "BadValues",
+    "BadWorkers",
+    "CAUSES",
+    "Cell",
+    "Counts",
+    "Denied",
+    "Edge",
+    "FULL",
+    "GRANT",
+    "HeapFull",
+    "Kind",
+    "Limits",
+    "Log",
+    "MOST_NUMBERS",
+    "Max",
+    "NURSERY",
+    "NoSuchWorker",
+    "NotOpen",
+    "OutOfMemory",
+    "READ",
+    "RULES",
+    "Refused",
+    "Rights",
+    "Store",
+    "Sum",
+    "TAKE",
+    "Target",
+    "Value",
+    "VerticesFull",
+    "WRITE",
+]

@@ -1,0 +1,136 @@
+"""What a call raises that wasn't served."""
+from __future__ import annotations
+
+from typing import Optional, Tuple
+
+from ._library import text_of
+from ._values import Rights
+
+RULES = ("take", "grant", "remove", "read", "write")
+CAUSES = ("not distinct", "missing")
+
+
+class Denied(Exception):
+    """The rules don't allow a command. Nothing changed but that the journal has it.
+
+    `rule` and `cause` are words of RULES and CAUSES. Where rights are missing, `rights` are those, on the edge from
+    `edge[0]` to `edge[1]`.
+    """
+
+    def __init__(
+        self, rule: str, cause: str, edge: Optional[Tuple[int, int]] = None, rights: Rights = Rights(0)
+    ) -> None:
+        super().__init__(rule, cause, edge, rights)
+        self.rule, self.cause, self.edge, self.rights = rule, cause, edge, rights
+
+    def __str__(self) -> str:
+        if self.edge is None:
+            return "two vertices that must differ are one"
+        return f"{self.rights.letters} is missing on {self.edge[0]}->{self.edge[1]}"
+
+
+class Refused(Exception):
+    """A call was refused. The store is as it was, but that VerticesFull has an entry in the journal."""
+
+    status: int = 0
+
+    def __init__(self, status: Optional[int] = None) -> None:
+        if status is not None:
+            self.status = status
+        super().__init__(self.status)
+
+    def __str__(self) -> str:
+        return text_of(self.status)
+
+
+class NotOpen(Refused, ValueError):
+    """The store is closed."""
+
+    status = 16
+
+
+class AlreadyOpen(Refused, ValueError):
+    """The store is open already."""
+
+    status = 17
+
+
+class OutOfMemory(Refused, MemoryError):
+    """There was no memory. The same call may be made again."""
+
+    status = 32
+
+
+class HeapFull(Refused):
+    """No cell or block is left, by the limits. After a collection there may be."""
+
+    status = 33
+
+
+class VerticesFull(Refused):
+    """As many vertices were made as may be."""
+
+    status = 34
+
+
+class NoSuchWorker(Refused, LookupError):
+    """No worker has the name."""
+
+    status = 48
+
+
+class BadRights(Refused, ValueError):
+    """No right, or a bit that is none."""
+
+    status = 64
+
+
+class BadLaw(Refused, ValueError):
+    """A log of 0 or of more than 64 numbers."""
+
+    status = 65
+
+
+class BadKind(Refused, ValueError):
+    """No such kind of collection."""
+
+    status = 66
+
+
+class BadWorkers(Refused, ValueError):
+    """Not from 1 to 64 workers."""
+
+    status = 80
+
+
+class BadLimits(Refused, ValueError):
+    """A limit is out of its range."""
+
+    status = 81
+
+
+class BadEdge(Refused, ValueError):
+    """An edge from a worker to itself, or with an end that is no worker."""
+
+    status = 82
+
+
+class BadValues(Refused, ValueError):
+    """Kept: no value gives it."""
+
+    status = 83
+
+
+class BadEntry(Refused):
+    """Kept: an audit of the store's own journal never answers it."""
+
+    status = 96
+
+
+BY_STATUS = {kind.status: kind for kind in Refused.__subclasses__()}
+
+
+def refusal(status: int) -> Refused:
+    """The refusal with this status."""
+    kind = BY_STATUS.get(status)
+    return Refused(status) if kind is None else kind()

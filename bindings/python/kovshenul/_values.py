@@ -1,0 +1,143 @@
+"""The numbers that a call takes and answers, under names."""
+from __future__ import annotations
+
+from ctypes import addressof
+from dataclasses import astuple, dataclass
+from enum import IntEnum, IntFlag
+from operator import index
+from typing import NamedTuple, Tuple
+
+from . import _library
+
+MOST_NUMBERS = 64
+
+
+def number_in(bits: int, it: int) -> int:
+    """The same number, which must be from 0 on and have at most so many bits."""
+    it = index(it)
+    if it >> bits:
+        raise OverflowError(f"a number is from 0 to 2^{bits} - 1")
+    return it
+
+
+class Rights(IntFlag):
+    """A set of rights over a vertex."""
+
+    READ = 1
+    WRITE = 2
+    TAKE = 4
+    GRANT = 8
+
+    @property
+    def letters(self) -> str:
+        """The letters of the rights, as `rw`."""
+        return "".join(letter for letter, right in BY_LETTER.items() if self & right)
+
+    @classmethod
+    def of(cls, letters: str) -> Rights:
+        """The rights of these letters, in any order."""
+        rights = cls(0)
+        for letter in letters:
+            if letter not in BY_LETTER:
+                raise ValueError(f"{letter!r} is no letter of a right")
+            rights |= BY_LETTER[letter]
+        return rights
+
+
+BY_LETTER = dict(zip("rwtg", Rights))
+
+# By their bits, since it takes long to make one anew.
+RIGHTS = [Rights(bits) for bits in range(1 << len(BY_LETTER))]
+
+
+class Kind(IntEnum):
+    """A kind of collection: FULL keeps exactly what can be reached, NURSERY looks at the young cells alone."""
+
+    FULL = 0
+    NURSERY = 1
+
+
+class Value:
+    """What a vertex stores at first, and the law by which a write changes it: a Cell, Sum, Max or Log."""
+
+    def _ask(self, law: int, most: int, first: int) -> None:
+        """Keeps it as the library takes it, and where that stands."""
+        asked = _library.Value(law, most, first)
+        object.__setattr__(self, "_asked", asked)
+        object.__setattr__(self, "_value_at", addressof(asked))
+
+    def __reduce__(self) -> Tuple[type, Tuple[int, ...]]:
+        # A copy is made anew, with a place of its own.
+        return type(self), astuple(self)
+
+
+@dataclass(frozen=True)
+class Cell(Value):
+    """Keeps the last number that was written."""
+
+    number: int
+
+    def __post_init__(self) -> None:
+        self._ask(0, 0, number_in(64, self.number))
+
+
+@dataclass(frozen=True)
+class Sum(Value):
+    """Adds, modulo 2^64."""
+
+    number: int
+
+    def __post_init__(self) -> None:
+        self._ask(1, 0, number_in(64, self.number))
+
+
+@dataclass(frozen=True)
+class Max(Value):
+    """Keeps the greatest number."""
+
+    number: int
+
+    def __post_init__(self) -> None:
+        self._ask(2, 0, number_in(64, self.number))
+
+
+@dataclass(frozen=True)
+class Log(Value):
+    """Keeps the last few numbers, from 1 to 64 of them. It begins with none."""
+
+    most: int
+
+    def __post_init__(self) -> None:
+        self._ask(3, number_in(32, self.most), 0)
+
+
+class Edge(NamedTuple):
+    """The rights of worker `source` over worker `target`, at the opening."""
+
+    source: int
+    target: int
+    rights: int
+
+
+class Limits(NamedTuple):
+    """How many vertices may ever be made (to 2^24), and how many blocks of 64 cells the heap (to 65,536) and one space
+    of it (to 2^20) may have."""
+
+    max_vertices: int
+    max_blocks: int
+    max_space_blocks: int
+
+
+class Target(NamedTuple):
+    """A vertex over which a worker has rights."""
+
+    to: int
+    rights: Rights
+
+
+class Counts(NamedTuple):
+    """What the heap has, those that nobody reaches included until a full collection."""
+
+    vertices: int
+    payloads: int
+    blocks: int

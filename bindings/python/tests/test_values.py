@@ -1,0 +1,218 @@
+"""What users of Python expect of the module beside its answers."""
+import copy
+import gc
+import os
+import pickle
+import subprocess
+import sys
+import threading
+import unittest
+
+import kovshenul
+from kovshenul import (
+    GRANT,
+    READ,
+    TAKE,
+    WRITE,
+    Cell,
+    Counts,
+    Denied,
+    Edge,
+    HeapFull,
+    Kind,
+    Limits,
+    Log,
+    Max,
+    NoSuchWorker,
+    NotOpen,
+    OutOfMemory,
+    Refused,
+    Rights,
+    Store,
+    Sum,
+)
+
+LIMITS = Limits(10, 8, 4)
+
+
+def opened():
+    return Store([Cell(0), Cell(0)], [(0, 1, GRANT)], LIMITS)
+
+
+class Values(unittest.TestCase):
+    def test_rights_are_a_set(self):
+        self.assertEqual(READ | WRITE, 3)
+        self.assertIn(READ, READ | WRITE)
+        self.assertEqual((READ | WRITE) - READ, WRITE)
+        self.assertEqual((READ | TAKE | GRANT).letters, "rtg")
+        self.assertEqual(Rights.of("gw"), GRANT | WRITE)
+        self.assertRaises(ValueError, Rights.of, "x")
+        for bits in range(16):
+            self.assertEqual(Rights.of(Rights(bits).letters), bits)
+
+    def test_values_compare_and_print(self):
+        self.assertEqual(Cell(3), Cell(3))
+        self.assertNotEqual(Cell(3), Max(3))
+        self.assertNotEqual(Cell(3), Cell(4))
+        self.assertEqual(repr(Sum(40)), "Sum(number=40)")
+        self.assertEqual(repr(Log(3)), "Log(most=3)")
+        self.assertEqual(len({Cell(3), Cell(3), Max(3)}), 2)
+        self.assertEqual(pickle.loads(pickle.dumps(Log(3))), Log(3))
+
+    def test_an_edge_is_a_tuple(self):
+        for edge in ((0, 1, GRANT), Edge(0, 1, GRANT), [0, 1, 8]):
+            with Store([Cell(0)] * 2, [edge], (10, 8, 4)) as store:
+                self.assertEqual(store.list(0), [(1, GRANT)])
+                self.assertIsInstance(store.list(0)[0].rights, Rights)
+                self.assertEqual(store.list(1), [])
+
+    def test_numbers_out_of_range_are_refused(self):
+        for wrong in (-1, 2**64, -(2**64), 2**64 + 1):
+            self.assertRaises(OverflowError, Cell, wrong)
+        self.assertRaises(OverflowError, Log, 2**32 + 3)
+        self.assertRaises(TypeError, Cell, None)
+        self.assertRaises(TypeError, Max, 1.0)
+
+    def test_version(self):
+        self.assertRegex(kovshenul.__version__, r"^0\.\d+\.\d+$")
+
+
+    def test_without_a_library_all_places_are_named(self):
+        environment = {**os.environ, "KOVSHENUL_LIBRARY": "/nowhere/kovshenul.so"}
+        words = [sys.executable, "-c", "import kovshenul"]
+        told = subprocess.run(words, env=environment, capture_output=True, text=True).stderr
+        self.assertIn("ImportError", told)
+        for place in ("KOVSHENUL_LIBRARY is /nowhere/kovshenul.so", "kovshenul/libkovshenul.so.1 is", "looks for libkovshenul.so.1"):
+            self.assertIn(place, told)
+
+
+class Refusals(unittest.TestCase):
+    def test_classes(self):
+        self.assertTrue(issubclass(OutOfMemory, MemoryError))
+        self.assertTrue(issubclass(NoSuchWorker, LookupError))
+        with opened() as store:
+            self.assertRaises(NoSuchWorker, store.read, 2, 0)
+            self.assertRaises(kovshenul.BadRights, store.grant, 0, 1, 1, 16)
+            self.assertRaises(kovshenul.BadLaw, store.create, 0, READ, Log(65))
+            self.assertRaises(kovshenul.BadKind, store.collect, 2)
+        self.assertRaises(kovshenul.BadWorkers, Store, [])
+        self.assertRaises(kovshenul.BadLimits, Store, [Cell(0)], [], (0, 8, 4))
+        self.assertRaises(kovshenul.BadEdge, Store, [Cell(0)], [(0, 1, READ)], LIMITS)
+        self.assertRaises(kovshenul.BadRights, Store, [Cell(0)] * 2, [(0, 1, 0)], LIMITS)
+        self.assertRaises(HeapFull, Store, [Cell(0)] * 2, [], (10, 1, 4))
+
+    def test_they_survive_pickle(self):
+        for kind in Refused.__subclasses__():
+            again = pickle.loads(pickle.dumps(kind()))
+            self.assertIs(type(again), kind)
+            self.assertEqual((again.status, str(again)), (kind.status, str(kind())))
+            self.assertNotEqual(str(again), "unknown status")
+        again = pickle.loads(pickle.dumps(Refused(99)))
+        self.assertEqual((again.status, str(again)), (99, "unknown status"))
+        with opened() as store:
+            with self.assertRaises(Denied) as caught:
+                store.write(1, 0, 5)
+        again = pickle.loads(pickle.dumps(caught.exception))
+        self.assertEqual((again.rule, again.cause, again.edge, again.rights), ("write", "missing", (1, 0), WRITE))
+        self.assertEqual(str(again), "w is missing on 1->0")
+
+    def test_a_denial_of_one_vertex(self):
+        with opened() as store:
+            with self.assertRaises(Denied) as caught:
+                store.write(1, 1, 5)
+        self.assertEqual((caught.exception.cause, caught.exception.edge), ("not distinct", None))
+
+
+class Stores(unittest.TestCase):
+    def assert_closed(self, store):
+        self.assertTrue(store.closed)
+        self.assertRaises(NotOpen, store.read, 0, 1)
+        self.assertRaises(NotOpen, store.list, 0)
+        self.assertRaises(NotOpen, store.create, 0, READ, Cell(0))
+        for call in (store.collect, store.census, store.entries, store.audit, store.__enter__):
+            self.assertRaises(NotOpen, call)
+        store.close()
+
+    def test_closed(self):
+        store = opened()
+        self.assertFalse(store.closed)
+        store.close()
+        self.assert_closed(store)
+        self.assert_closed(Store.__new__(Store))
+
+    def test_a_store_isnt_copied(self):
+        with opened() as store:
+            for copied in (copy.copy, copy.deepcopy, pickle.dumps):
+                self.assertRaises(TypeError, copied, store)
+            self.assertRaises(TypeError, Store)
+            self.assertRaises(kovshenul.AlreadyOpen, store.__init__, [Cell(0)])
+            self.assertEqual(store.entries(), 0)
+
+    def test_values_are_values(self):
+        with opened() as store:
+            for wrong in (None, 3, (0, 0, 3), "Cell", Cell, kovshenul.Value):
+                self.assertRaises(TypeError, store.create, 0, READ, wrong)
+                self.assertRaises(TypeError, Store, [wrong])
+            self.assertEqual(store.entries(), 0)
+
+    def test_laws(self):
+        with opened() as store:
+            for value, state in ((Cell(3), [2]), (Sum(3), [5]), (Max(3), [3]), (Log(2), [7, 2])):
+                name = store.create(0, READ | WRITE, value)
+                store.write(0, name, 7)
+                if isinstance(value, Sum):
+                    store.write(0, name, 2**64 - 7)
+                if isinstance(value, Max):
+                    self.assertEqual(store.read(0, name), [7])
+                    continue
+                store.write(0, name, 2)
+                self.assertEqual(store.read(0, name), state)
+
+    def test_a_long_row(self):
+        with Store([Cell(0)], limits=(1000, 64, 64)) as store:
+            names = [store.create(0, READ, Cell(0)) for _ in range(200)]
+            self.assertEqual(store.list(0), [(name, READ) for name in names])
+            self.assertEqual(store.entries(), 202)
+            self.assertEqual(store.list(0, room=200), store.list(0, room=0))
+            self.assertRaises(OverflowError, store.list, 0, -1)
+
+    def test_what_the_heap_has(self):
+        with opened() as store:
+            store.create(0, READ, Cell(0))
+            self.assertEqual(store.census()[:2], (3, 3))
+            self.assertIsInstance(store.census(), Counts)
+            store.remove(0, 2, READ)
+            self.assertEqual(store.collect(Kind.FULL), 2)
+            self.assertEqual(store.audit(), 2)
+
+    def test_another_thread_closes_it(self):
+        class Owner:
+            pass
+
+        owner = Owner()
+        owner.store, owner.itself = opened(), owner
+        del owner
+        thread = threading.Thread(target=gc.collect)
+        thread.start()
+        thread.join()
+
+    def test_a_finalizer_may_call(self):
+        with opened() as store:
+            cell = store.create(0, READ | WRITE, Sum(0))
+
+            class Counted:
+                def __index__(self):
+                    store.write(0, cell, 1)
+                    return cell
+
+                def __del__(self):
+                    store.write(0, cell, 1)
+
+            with store._lock:
+                del [Counted()][:]
+                self.assertEqual(store.read(0, Counted()), [3])
+            self.assertEqual(store.read(0, cell), [3])
+
+
+if __name__ == "__main__":
+    unittest.main()

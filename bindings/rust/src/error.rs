@@ -1,0 +1,133 @@
+//! What a call answers that wasn't served.
+use crate::raw::{self, RawDenial};
+use crate::Rights;
+use std::ffi::CStr;
+use std::fmt;
+
+/// What was asked for where it was denied.
+#[derive(Clone, Copy, PartialEq, Eq, Hash, Debug)]
+pub enum Rule {
+    Take,
+    Grant,
+    Remove,
+    Read,
+    Write,
+}
+
+// By their numbers.
+const RULES: [Rule; 5] = [Rule::Take, Rule::Grant, Rule::Remove, Rule::Read, Rule::Write];
+
+/// Why a command was denied: the first check that failed.
+#[derive(Clone, Copy, PartialEq, Eq, Hash, Debug)]
+pub enum Denial {
+    /// Two vertices that must differ are one.
+    NotDistinct { rule: Rule },
+    /// The rights are missing on the edge from `from` to `to`.
+    Missing { rule: Rule, from: u64, to: u64, rights: Rights },
+}
+
+impl fmt::Display for Denial {
+    fn fmt(&self, out: &mut fmt::Formatter<'_>) -> fmt::Result {
+        match self {
+            Denial::NotDistinct { .. } => write!(out, "two vertices that must differ are one"),
+            Denial::Missing { from, to, rights, .. } => write!(out, "{rights} is missing on {from}->{to}"),
+        }
+    }
+}
+
+impl From<&RawDenial> for Denial {
+    fn from(why: &RawDenial) -> Denial {
+        let rule = RULES[why.rule as usize];
+        if why.cause == raw::NOT_DISTINCT {
+            return Denial::NotDistinct { rule };
+        }
+        Denial::Missing {
+            rule,
+            from: why.from,
+            to: why.to,
+            rights: Rights::told(why.rights),
+        }
+    }
+}
+
+/// Why a call was not served. `Denied` has its entry in the journal, and changed nothing else; of the others the store is as it
+/// was, but that `VerticesFull` has an entry.
+#[derive(Clone, Copy, PartialEq, Eq, Hash, Debug)]
+pub enum Error {
+    /// The rules don't allow it.
+    Denied(Denial),
+    /// There was no memory. The same call may be made again.
+    OutOfMemory,
+    /// No cell or block is left, by the limits. After a collection there may be.
+    HeapFull,
+    /// As many vertices were made as may be.
+    VerticesFull,
+    /// No worker has the name.
+    NoSuchWorker,
+    /// No right.
+    BadRights,
+    /// A log of 0 or of more than 64 numbers.
+    BadLaw,
+    /// Not from 1 to 64 workers.
+    BadWorkers,
+    /// A limit is out of its range.
+    BadLimits,
+    /// An edge from a worker to itself, or with an end that is no worker.
+    BadEdge,
+    /// Any other status of the library.
+    Status(u32),
+}
+
+// The errors with a status of their own.
+const REFUSALS: [(Error, u32); 9] = [
+    (Error::OutOfMemory, 32),
+    (Error::HeapFull, 33),
+    (Error::VerticesFull, 34),
+    (Error::NoSuchWorker, 48),
+    (Error::BadRights, 64),
+    (Error::BadLaw, 65),
+    (Error::BadWorkers, 80),
+    (Error::BadLimits, 81),
+    (Error::BadEdge, 82),
+];
+
+impl Error {
+    /// The library's status.
+    pub fn status(&self) -> u32 {
+        match self {
+            Error::Denied(_) => raw::DENIED,
+            Error::Status(status) => *status,
+            other => REFUSALS.iter().find(|(error, _)| error == other).map_or(0, |(_, status)| *status),
+        }
+    }
+}
+
+impl fmt::Display for Error {
+    fn fmt(&self, out: &mut fmt::Formatter<'_>) -> fmt::Result {
+        if let Error::Denied(denial) = self {
+            return write!(out, "denied, {denial}");
+        }
+        // The library's own text, which stays for as long as the program runs.
+        let text = unsafe { CStr::from_ptr(raw::tg_status_text(self.status())) };
+        out.pad(&text.to_string_lossy())
+    }
+}
+
+impl std::error::Error for Error {}
+
+// What a status says.
+pub(crate) fn served(status: u32) -> Result<(), Error> {
+    if status == raw::DONE {
+        return Ok(());
+    }
+    let named = REFUSALS.iter().find(|(_, its)| *its == status);
+    Err(named.map_or(Error::Status(status), |(error, _)| *error))
+}
+
+// The same, of a command that may be denied.
+pub(crate) fn decided(status: u32, why: &RawDenial) -> Result<(), Error> {
+    if status == raw::DENIED {
+        return Err(Error::Denied(Denial::from(why)));
+    }
+    served(status)
+}

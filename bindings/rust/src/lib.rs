@@ -1,0 +1,29 @@
+//! Kovshenul for Rust: an object store with take-grant access control, over the C library, with no crates beside it.
+//!
+//! ```
+//! use kovshenul::{Edge, Error, Limits, Rights, Store, Value};
+//!
+//! let edges = [Edge { from: 0, to: 1, rights: Rights::GRANT }];
+//! let limits = Limits { max_vertices: 10, max_blocks: 8, max_space_blocks: 4 };
+//! let mut store = Store::open(&[Value::Cell(0), Value::Cell(0)], &edges, &limits)?;
+//! let document = store.create(0, Rights::READ | Rights::WRITE, Value::Sum(40))?;
+//! store.grant(0, 1, document, Rights::READ)?;
+//! assert_eq!(store.read(1, document)?, [40]);
+//! match store.write(1, document, 2) {
+//!     Err(Error::Denied(denial)) => assert_eq!(denial.to_string(), "w is missing on 1->2"),
+//!     other => other?,
+//! }
+//! # Ok::<(), Error>(())
+//! ```
+//!
+//! Where it is built, `KOVSHENUL_LIB_DIR` names the folder of `libkovshenul.a`, or pkg-config knows it.
+mod error;
+mod raw;
+mod rights;
+mod store;
+mod value;
+
+pub use error::{Denial, Error, Rule};
+pub use rights::{NoRights, Rights};
+pub use store::Store;
+pub use value::{Counts, Edge, Kind, Limits, Target, Value};

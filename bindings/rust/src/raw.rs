@@ -1,0 +1,109 @@
+//! The library's own functions, as `kovshenul.h` has them.
+use crate::{Counts, Edge, Limits, Value};
+use std::ffi::c_void;
+use std::os::raw::c_char;
+
+/// The interface that this crate was written for.
+pub const ABI: u32 = 1;
+
+pub const DONE: u32 = 0;
+
+pub const DENIED: u32 = 1;
+
+/// The cause of a denial that isn't of rights.
+pub const NOT_DISTINCT: u32 = 0;
+
+/// A store, or none where all of it is zero.
+#[repr(C)]
+pub struct RawStore {
+    pub is_open: bool,
+    pub at: *mut c_void,
+}
+
+#[repr(C)]
+pub struct RawValue {
+    law: u32,
+    most: u32,
+    number: u64,
+}
+
+impl From<&Value> for RawValue {
+    fn from(value: &Value) -> RawValue {
+        let (law, most, number) = match *value {
+            Value::Cell(number) => (0, 0, number),
+            Value::Sum(number) => (1, 0, number),
+            Value::Max(number) => (2, 0, number),
+            Value::Log(most) => (3, most, 0),
+        };
+        RawValue { law, most, number }
+    }
+}
+
+#[repr(C)]
+pub struct RawEdge {
+    from: u64,
+    to: u64,
+    rights: u64,
+}
+
+impl From<&Edge> for RawEdge {
+    fn from(edge: &Edge) -> RawEdge {
+        RawEdge {
+            from: edge.from,
+            to: edge.to,
+            rights: edge.rights.bits(),
+        }
+    }
+}
+
+#[repr(C)]
+#[derive(Clone, Default)]
+pub struct RawTarget {
+    pub to: u64,
+    pub rights: u64,
+}
+
+#[repr(C)]
+#[derive(Default)]
+pub struct RawDenial {
+    pub rule: u32,
+    pub cause: u32,
+    pub from: u64,
+    pub to: u64,
+    pub rights: u64,
+}
+
+extern "C" {
+    pub fn tg_abi() -> u32;
+    pub fn tg_status_text(status: u32) -> *const c_char;
+    pub fn tg_open(
+        store: &mut RawStore,
+        workers: *const RawValue,
+        worker_count: usize,
+        edges: *const RawEdge,
+        edge_count: usize,
+        limits: &Limits,
+    ) -> u32;
+    pub fn tg_close(store: &mut RawStore) -> u32;
+    pub fn tg_take(store: &mut RawStore, worker: u64, via: u64, target: u64, rights: u64, why: &mut RawDenial) -> u32;
+    pub fn tg_grant(store: &mut RawStore, worker: u64, via: u64, target: u64, rights: u64, why: &mut RawDenial) -> u32;
+    pub fn tg_remove(store: &mut RawStore, worker: u64, target: u64, rights: u64, why: &mut RawDenial) -> u32;
+    pub fn tg_write(store: &mut RawStore, worker: u64, target: u64, value: u64, why: &mut RawDenial) -> u32;
+    pub fn tg_create(store: &mut RawStore, worker: u64, rights: u64, value: &RawValue, name: &mut u64) -> u32;
+    pub fn tg_read(
+        store: &mut RawStore,
+        worker: u64,
+        target: u64,
+        numbers: *mut u64,
+        room: usize,
+        count: &mut u64,
+        why: &mut RawDenial,
+    ) -> u32;
+    pub fn tg_list(store: &mut RawStore, worker: u64, edges: *mut RawTarget, room: usize, count: &mut u64) -> u32;
+    pub fn tg_label(store: &mut RawStore, worker: u64, target: u64, rights: &mut u64) -> u32;
+    pub fn tg_collect(store: &mut RawStore, kind: u32, left: &mut u64) -> u32;
+    pub fn tg_census(store: &mut RawStore, counts: &mut Counts) -> u32;
+    pub fn tg_names(store: &mut RawStore, names: *mut u64, room: usize, count: &mut u64) -> u32;
+    pub fn tg_entries(store: &mut RawStore, count: &mut u64) -> u32;
+    pub fn tg_audit(store: &mut RawStore, count: &mut u64) -> u32;
+}

@@ -1,0 +1,222 @@
+//! An open store.
+use crate::error::{decided, served};
+use crate::raw::{self, RawDenial, RawEdge, RawStore, RawTarget, RawValue};
+use crate::{Counts, Edge, Error, Kind, Limits, Rights, Target, Value};
+use std::fmt;
+use std::ptr::null_mut;
+
+/// The most numbers that a vertex can store.
+const MOST_NUMBERS: usize = 64;
+
+/// As many edges as the first list of a store has room for.
+const FIRST_ROW: usize = 64;
+
+/// An open store. Dropping it closes it.
+///
+/// The thread that opened it keeps it: it is neither `Send` nor `Sync`. Where other threads want something of it, they send that thread
+/// what they ask for:
+///
+/// ```
+/// # use kovshenul::{Error, Limits, Rights, Store, Value};
+/// use std::sync::mpsc::{channel, Sender};
+/// use std::thread;
+///
+/// // A worker, and where the new name goes.
+/// type Asked = (u64, Sender<Result<u64, Error>>);
+///
+/// let (asks, asked) = channel::<Asked>();
+/// let owner = thread::spawn(move || {
+///     let limits = Limits { max_vertices: 10, max_blocks: 8, max_space_blocks: 4 };
+///     let mut store = Store::open(&[Value::Cell(0)], &[], &limits)?;
+///     for (worker, told) in asked {
+///         told.send(store.create(worker, Rights::READ, Value::Cell(0))).unwrap();
+///     }
+///     store.entries()
+/// });
+/// let (told, name) = channel();
+/// asks.send((0, told)).unwrap();
+/// assert_eq!(name.recv().unwrap(), Ok(1));
+/// drop(asks);
+/// assert_eq!(owner.join().unwrap(), Ok(1));
+/// ```
+///
+/// To hand it to another thread doesn't compile:
+///
+/// ```compile_fail,E0277
+/// fn is_send<T: Send>() {}
+/// is_send::<kovshenul::Store>();
+/// ```
+///
+/// ```compile_fail,E0277
+/// fn is_sync<T: Sync>() {}
+/// is_sync::<kovshenul::Store>();
+/// ```
+///
+/// Nor does a copy, or a store that was handed on:
+///
+/// ```compile_fail,E0382
+/// fn both(store: kovshenul::Store) {
+///     drop(store);
+///     drop(store);
+/// }
+/// ```
+pub struct Store {
+    raw: RawStore,
+    // As many edges as the next list has room for.
+    row: usize,
+}
+
+impl Store {
+    /// Opens a store with a worker for each value.
+    pub fn open(workers: &[Value], edges: &[Edge], limits: &Limits) -> Result<Store, Error> {
+        let abi = unsafe { raw::tg_abi() };
+        assert_eq!(abi, raw::ABI, "the library has another interface");
+        let workers: Vec<RawValue> = workers.iter().map(RawValue::from).collect();
+        let edges: Vec<RawEdge> = edges.iter().map(RawEdge::from).collect();
+        let mut place = RawStore {
+            is_open: false,
+            at: null_mut(),
+        };
+        let status = unsafe {
+            raw::tg_open(
+                &mut place,
+                workers.as_ptr(),
+                workers.len(),
+                edges.as_ptr(),
+                edges.len(),
+                limits,
+            )
+        };
+        served(status)?;
+        Ok(Store {
+            raw: place,
+            row: FIRST_ROW,
+        })
+    }
+
+    /// The worker takes rights over the target that `via` has.
+    pub fn take(&mut self, worker: u64, via: u64, target: u64, rights: Rights) -> Result<(), Error> {
+        let mut why = RawDenial::default();
+        let status = unsafe { raw::tg_take(&mut self.raw, worker, via, target, rights.bits(), &mut why) };
+        decided(status, &why)
+    }
+
+    /// The worker grants rights over the target to `via`.
+    pub fn grant(&mut self, worker: u64, via: u64, target: u64, rights: Rights) -> Result<(), Error> {
+        let mut why = RawDenial::default();
+        let status = unsafe { raw::tg_grant(&mut self.raw, worker, via, target, rights.bits(), &mut why) };
+        decided(status, &why)
+    }
+
+    /// The worker gives up its own rights over the target.
+    pub fn remove(&mut self, worker: u64, target: u64, rights: Rights) -> Result<(), Error> {
+        let mut why = RawDenial::default();
+        let status = unsafe { raw::tg_remove(&mut self.raw, worker, target, rights.bits(), &mut why) };
+        decided(status, &why)
+    }
+
+    /// The worker writes to the target.
+    pub fn write(&mut self, worker: u64, target: u64, value: u64) -> Result<(), Error> {
+        let mut why = RawDenial::default();
+        let status = unsafe { raw::tg_write(&mut self.raw, worker, target, value, &mut why) };
+        decided(status, &why)
+    }
+
+    /// Makes a vertex over which the worker has the rights, and answers its name.
+    pub fn create(&mut self, worker: u64, rights: Rights, value: Value) -> Result<u64, Error> {
+        let (value, mut name) = (RawValue::from(&value), 0);
+        served(unsafe { raw::tg_create(&mut self.raw, worker, rights.bits(), &value, &mut name) })?;
+        Ok(name)
+    }
+
+    /// The state of the target.
+    pub fn read(&mut self, worker: u64, target: u64) -> Result<Vec<u64>, Error> {
+        let (mut numbers, mut count) = ([0; MOST_NUMBERS], 0);
+        let mut why = RawDenial::default();
+        let status = unsafe {
+            raw::tg_read(
+                &mut self.raw,
+                worker,
+                target,
+                numbers.as_mut_ptr(),
+                numbers.len(),
+                &mut count,
+                &mut why,
+            )
+        };
+        decided(status, &why)?;
+        Ok(numbers[..count as usize].to_vec())
+    }
+
+    /// The worker's edges by rising name. A row with more edges than any before and than 64 is listed twice, which the journal
+    /// tells.
+    pub fn list(&mut self, worker: u64) -> Result<Vec<Target>, Error> {
+        let mut edges = vec![RawTarget::default(); self.row];
+        let mut count = 0;
+        served(unsafe { raw::tg_list(&mut self.raw, worker, edges.as_mut_ptr(), edges.len(), &mut count) })?;
+        if edges.len() < count as usize {
+            self.row = count as usize;
+            return self.list(worker);
+        }
+        let targets = edges[..count as usize].iter().map(|edge| Target {
+            to: edge.to,
+            rights: Rights::told(edge.rights),
+        });
+        Ok(targets.collect())
+    }
+
+    /// The rights that the worker holds over the target, which may be none. The journal gets no entry of it.
+    pub fn label(&mut self, worker: u64, target: u64) -> Result<Rights, Error> {
+        let mut rights = 0;
+        served(unsafe { raw::tg_label(&mut self.raw, worker, target, &mut rights) })?;
+        Ok(Rights::told(rights))
+    }
+
+    /// Collects, and answers how many vertices the heap then has.
+    pub fn collect(&mut self, kind: Kind) -> Result<u64, Error> {
+        let mut left = 0;
+        served(unsafe { raw::tg_collect(&mut self.raw, kind as u32, &mut left) })?;
+        Ok(left)
+    }
+
+    /// What the heap has.
+    pub fn census(&mut self) -> Result<Counts, Error> {
+        let mut counts = Counts::default();
+        served(unsafe { raw::tg_census(&mut self.raw, &mut counts) })?;
+        Ok(counts)
+    }
+
+    /// The names of the vertices that the heap has, each once. Those that nobody reaches are among them until a full collection.
+    pub fn names(&mut self) -> Result<Vec<u64>, Error> {
+        let mut names = vec![0; self.census()?.vertices as usize];
+        let mut count = 0;
+        served(unsafe { raw::tg_names(&mut self.raw, names.as_mut_ptr(), names.len(), &mut count) })?;
+        Ok(names)
+    }
+
+    /// How many entries the journal has.
+    pub fn entries(&mut self) -> Result<u64, Error> {
+        let mut count = 0;
+        served(unsafe { raw::tg_entries(&mut self.raw, &mut count) })?;
+        Ok(count)
+    }
+
+    /// Replays the journal, and answers how many entries it has.
+    pub fn audit(&mut self) -> Result<u64, Error> {
+        let mut count = 0;
+        served(unsafe { raw::tg_audit(&mut self.raw, &mut count) })?;
+        Ok(count)
+    }
+}
+
+impl Drop for Store {
+    fn drop(&mut self) {
+        unsafe { raw::tg_close(&mut self.raw) };
+    }
+}
+
+impl fmt::Debug for Store {
+    fn fmt(&self, out: &mut fmt::Formatter<'_>) -> fmt::Result {
+        out.debug_struct("Store").finish_non_exhaustive()
+    }
+}
