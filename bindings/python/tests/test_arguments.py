@@ -54,6 +54,7 @@ TAKES = {
     "create": (2, True),
     "read": (2, False),
     "list": (1, False),
+    "label": (2, False),
     "collect": (1, False),
 }
 
