@@ -65,11 +65,11 @@ static void live(uint64_t count) {
     tell("collected again");
 }
 
-/* Makes as many entries in a store as another had, each of a removal of rights that aren't held. */
+/* Makes as many entries in a store as another had, each of a write that is denied. */
 static void enter(uint64_t entries) {
     tg_denial why;
     for (uint64_t at = 0; at < entries; at++)
-        want(tg_remove(&store, 0, 1, TG_READ, &why) == TG_DONE);
+        want(tg_write(&store, 0, 1, 0, &why) == TG_DENIED);
     tell("entries alone");
 }
 
