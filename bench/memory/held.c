@@ -2,7 +2,8 @@
 
    held [VERTICES]: worker 0 makes the vertices (100,000 unless it is told otherwise), gives up its rights over each, and collects twice; then it
    makes, gives up and collects ten vertices. What stays beside the journal is what a peak leaves: blocks that are kept for the next collection,
-   the index of a row that shrank, the tables of payloads and of what is remembered.
+   the index of a row that shrank, the tables of payloads and of what is remembered. The last line is of a store that never had a vertex more, with
+   as many entries.
 
    Build, after bindings/check: cc -O2 -I bindings -o held bench/memory/held.c bindings/out/libkovshenul.a */
 #include "kovshenul.h"
@@ -64,6 +65,14 @@ static void live(uint64_t count) {
     tell("collected again");
 }
 
+/* Makes as many entries in a store as another had, each of a write that is denied. */
+static void enter(uint64_t entries) {
+    tg_denial why;
+    for (uint64_t at = 0; at < entries; at++)
+        want(tg_write(&store, 0, 1, 0, &why) == TG_DENIED);
+    tell("entries alone");
+}
+
 int main(int count, char **words) {
     static const tg_value worker = { TG_CELL, 0, 0 };
     static const tg_limits limits = { 16777216, 65536, 65536 };
@@ -74,6 +83,9 @@ int main(int count, char **words) {
     live(vertices);
     live(10);
     want(tg_close(&store) == TG_DONE);
-    printf("%-28s %12zu bytes\n", "closed", used() - before);
+    before = used();
+    want(tg_open(&store, &worker, 1, NULL, 0, &limits) == TG_DONE);
+    enter(2 * (vertices + 10));
+    want(tg_close(&store) == TG_DONE);
     return 0;
 }
