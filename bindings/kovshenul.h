@@ -13,12 +13,13 @@
    - A tg_store is all zero before tg_open, and its bytes are changed by these functions alone. It may be moved, and never
      copied: of two copies only one may be used from then on.
    - A bool in it is 0 or 1.
-   - Calls on one store come one after the other, from the thread that opened it. Not from a signal handler, and not in
-     the forked child of a process with threads. Two stores share nothing: each may have a thread of its own.
+   - Calls on one store come one after the other. It is used by one thread at a time, and handed over under a lock, by a
+     thread's start or by its join. Not from a signal handler, and not in the forked child of a process with threads. Two
+     stores share nothing: each may have a thread of its own.
    - An open store that isn't closed keeps its memory.
 
    Collections by several helpers and sessions on threads are for Rattle alone, since this library starts no thread and takes no
-   lock. Where threads share a store, let one of them own it, and send it what they ask for. */
+   lock. Where threads share a store, put a lock of your own around each call. */
 #ifndef KOVSHENUL_H
 #define KOVSHENUL_H
 

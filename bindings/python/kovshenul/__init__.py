@@ -8,7 +8,7 @@
 A command that the rules don't allow raises Denied, and any other refusal raises a Refused. A number that isn't from 0 to
 2^64 - 1 raises OverflowError, and what is no number TypeError: nothing happened then.
 
-A store is used by the thread that opened it. A lock in it makes all calls come one after the other. The library is the one that the
+Any thread may call a store: a lock in it makes the calls come one after the other. The library is the one that the
 variable KOVSHENUL_LIBRARY names, else the one beside this module, else the one that the system finds.
 """
 from ._library import version as _version

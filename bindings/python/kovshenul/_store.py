@@ -57,8 +57,8 @@ def _raise(status: int, denial: _library.Denial) -> NoReturn:
 class Store:
     """An open store. `close`, or leaving its `with`, gives its memory back.
 
-    The thread that opened it uses it. A lock makes all calls come one after the other, those of other threads too. A call
-    whose number is out of its range raises OverflowError, and nothing happened; what isn't served raises Denied or a Refused.
+    Any thread may call: the store's lock makes the calls come one after the other. A call whose number is out of its range
+    raises OverflowError, and nothing happened; what isn't served raises Denied or a Refused.
     """
 
     __slots__ = ("_lock", "_place", "_at", "_room", "__weakref__")
@@ -117,7 +117,7 @@ class Store:
         self.close()
 
     def __del__(self, close: Callable[[int], int] = library.tg_close) -> None:
-        # Nobody has the store any more, so the lock isn't needed.
+        # Nobody has the store any more, so the lock isn't needed. The thread may be any.
         close(self._at)
 
     def __reduce__(self) -> NoReturn:

@@ -13,39 +13,23 @@ const FIRST_ROW: usize = 64;
 
 /// An open store. Dropping it closes it.
 ///
-/// The thread that opened it keeps it: it is neither `Send` nor `Sync`. Where other threads want something of it, they send that thread
-/// what they ask for:
+/// Any thread may have it, and one at a time: it is `Send`. Behind a lock many threads call it in turn.
 ///
 /// ```
-/// # use kovshenul::{Error, Limits, Rights, Store, Value};
-/// use std::sync::mpsc::{channel, Sender};
+/// # use kovshenul::{Limits, Rights, Store, Value};
+/// use std::sync::Mutex;
 /// use std::thread;
 ///
-/// // A worker, and where the new name goes.
-/// type Asked = (u64, Sender<Result<u64, Error>>);
-///
-/// let (asks, asked) = channel::<Asked>();
-/// let owner = thread::spawn(move || {
-///     let limits = Limits { max_vertices: 10, max_blocks: 8, max_space_blocks: 4 };
-///     let mut store = Store::open(&[Value::Cell(0)], &[], &limits)?;
-///     for (worker, told) in asked {
-///         told.send(store.create(worker, Rights::READ, Value::Cell(0))).unwrap();
-///     }
-///     store.entries()
+/// let limits = Limits { max_vertices: 10, max_blocks: 8, max_space_blocks: 4 };
+/// let store = Mutex::new(Store::open(&[Value::Cell(0)], &[], &limits)?);
+/// thread::scope(|scope| {
+///     scope.spawn(|| store.lock().unwrap().create(0, Rights::READ, Value::Cell(0)));
 /// });
-/// let (told, name) = channel();
-/// asks.send((0, told)).unwrap();
-/// assert_eq!(name.recv().unwrap(), Ok(1));
-/// drop(asks);
-/// assert_eq!(owner.join().unwrap(), Ok(1));
+/// assert_eq!(store.lock().unwrap().entries()?, 1);
+/// # Ok::<(), kovshenul::Error>(())
 /// ```
 ///
-/// To hand it to another thread doesn't compile:
-///
-/// ```compile_fail,E0277
-/// fn is_send<T: Send>() {}
-/// is_send::<kovshenul::Store>();
-/// ```
+/// Two threads at once don't compile:
 ///
 /// ```compile_fail,E0277
 /// fn is_sync<T: Sync>() {}
@@ -65,6 +49,9 @@ pub struct Store {
     // As many edges as the next list has room for.
     row: usize,
 }
+
+// What the pointer leads to may go to another thread: the library has a function whose bound asks for it (crates/tg_c/src/place.rt).
+unsafe impl Send for Store {}
 
 impl Store {
     /// Opens a store with a worker for each value.

@@ -2,6 +2,7 @@
 use kovshenul::{Denial, Edge, Error, Kind, Limits, NoRights, Rights, Rule, Store, Target, Value};
 use std::collections::HashSet;
 use std::sync::mpsc;
+use std::sync::Mutex;
 use std::thread;
 
 const LIMITS: Limits = Limits {
@@ -92,42 +93,43 @@ fn a_long_row_is_listed() {
     assert_eq!(store.census().unwrap().vertices, 201);
 }
 
-// What the threads ask of the one that owns the store: a worker adds a number to its sum and reads it.
-type Asked = (u64, u64, mpsc::Sender<Result<Vec<u64>, Error>>);
-
-// Opens a store with a sum for each worker, and does what is asked. Answers how many entries it has at the end.
-fn own(asked: mpsc::Receiver<Asked>) -> Result<u64, Error> {
-    let mut store = opened(8);
-    let made = (0..8).map(|worker| store.create(worker, Rights::READ | Rights::WRITE, Value::Sum(0)));
-    let names = made.collect::<Result<Vec<u64>, Error>>()?;
-    for (worker, number, told) in asked {
-        let name = names[worker as usize];
-        let written = store.write(worker, name, number);
-        told.send(written.and_then(|()| store.read(worker, name))).unwrap();
-    }
-    store.collect(Kind::Full)?;
-    store.audit()
+#[test]
+fn a_store_goes_to_another_thread() {
+    let mut store = opened(1);
+    let name = store.create(0, Rights::READ | Rights::WRITE, Value::Sum(1)).unwrap();
+    let worked = thread::spawn(move || {
+        store.write(0, name, 4).unwrap();
+        store.collect(Kind::Full).unwrap();
+        store
+    });
+    let mut store = worked.join().unwrap();
+    assert_eq!(store.read(0, name), Ok(vec![5]));
+    let (sender, receiver) = mpsc::channel();
+    sender.send(store).unwrap();
+    thread::spawn(move || drop(receiver.recv())).join().unwrap();
 }
 
-// Adds up, and sees its own sum each time.
-fn add_up(asks: mpsc::Sender<Asked>, worker: u64) {
-    let (told, answers) = mpsc::channel();
+// Writes and reads back, as a worker with a sum of its own.
+fn add_up(store: &Mutex<Store>, worker: u64) {
+    let call = || store.lock().unwrap();
+    let name = call().create(worker, Rights::READ | Rights::WRITE, Value::Sum(0)).unwrap();
     for round in 1..=1000 {
-        asks.send((worker, round, told.clone())).unwrap();
-        assert_eq!(answers.recv().unwrap(), Ok(vec![round * (round + 1) / 2]));
+        call().write(worker, name, round).unwrap();
+        assert_eq!(call().read(worker, name), Ok(vec![round * (round + 1) / 2]));
     }
 }
 
 #[test]
-fn a_thread_owns_the_store() {
-    let (asks, asked) = mpsc::channel();
-    let owner = thread::spawn(move || own(asked));
+fn eight_threads_call_under_a_lock() {
+    let store = Mutex::new(opened(8));
     thread::scope(|scope| {
         for worker in 0..8 {
-            let asks = asks.clone();
-            scope.spawn(move || add_up(asks, worker));
+            let store = &store;
+            scope.spawn(move || add_up(store, worker));
         }
+        store.lock().unwrap().collect(Kind::Nursery).unwrap();
     });
-    drop(asks);
-    assert_eq!(owner.join().unwrap(), Ok(8 * 2001));
+    let mut store = store.into_inner().unwrap();
+    assert_eq!(store.entries(), Ok(8 * 2001));
+    assert_eq!(store.audit(), Ok(8 * 2001));
 }
