@@ -24,7 +24,7 @@ class Browser:
     """One page in a browser of its own. What it logs and asks for is kept in `events`."""
 
     def __init__(self, program):
-        self.room = tempfile.TemporaryDirectory(prefix="watch-browser-")
+        self.room = tempfile.TemporaryDirectory(prefix="watch-browser-", ignore_cleanup_errors=True)
         read_here, write_there = os.pipe()
         read_there, write_here = os.pipe()
         # The browser reads from its file 3 and writes to its file 4.
@@ -44,9 +44,14 @@ class Browser:
         return self
 
     def __exit__(self, *_):
+        try:
+            self.session = None
+            self.call("Browser.close")
+            self.process.wait(SECONDS)
+        except (OSError, EOFError, TimeoutError, subprocess.TimeoutExpired):
+            self.process.kill()
+            self.process.wait()
         os.close(self.write)
-        self.process.kill()
-        self.process.wait()
         os.close(self.read)
         self.room.cleanup()
 

@@ -30,17 +30,29 @@ pub fn draw_steps<R: Print>(
     if steps > MOST_STEPS {
         return Err(DrawFault::TooManySteps { most: MOST_STEPS });
     }
-    let run = Run::start(alloc, options, lines, stock)?;
+    let mut run = Run::start(alloc, options, lines, stock)?;
+    let album = album_of(alloc, &mut run, range, lines, steps)?;
+    for shot in album.shots.iter() {
+        draw_shot(rt, &album.frame, shot)?;
+    }
+    Ok(())
+}
+
+// The steps of the lines in the range.
+fn album_of(
+    alloc: Global,
+    run: &mut Run,
+    range: LineRange,
+    lines: &[ScriptLine],
+    steps: u64,
+) -> Result<Album, DrawFault> {
     let mut album = Album {
         steps,
         frame: Frame::new(alloc),
         shots: Vec::new(alloc),
     };
     album.fill(alloc, run, range, lines)?;
-    for shot in album.shots.iter() {
-        draw_shot(rt, &album.frame, shot)?;
-    }
-    Ok(())
+    Ok(album)
 }
 
 // The steps, of which there will be so many, and what they have in common.
@@ -56,23 +68,36 @@ impl Album {
     fn fill(
         &mut self,
         alloc: Global,
-        run: Run,
+        run: &mut Run,
         range: LineRange,
         lines: &[ScriptLine],
     ) -> Result<(), DrawFault> {
-        let mut run = run;
         let edges = count_edges(lines);
         if range.contains(edges) {
-            self.add(shot_of_start(alloc, &run, edges)?)?;
+            self.add(shot_of_start(alloc, run, edges)?)?;
         }
         for (number, line) in (1..u64::MAX).zip(lines.iter()) {
             if number > range.to {
                 break;
             }
-            let event = run.take(&line.line)?;
-            if number > edges && range.contains(number) {
-                self.add(shot_of_line(alloc, &run, number, line, &event)?)?;
-            }
+            let is_shown = number > edges && range.contains(number);
+            self.take(alloc, run, number, line, is_shown)?;
+        }
+        Ok(())
+    }
+
+    // Runs a line, and keeps its step if it is to be shown.
+    fn take(
+        &mut self,
+        alloc: Global,
+        run: &mut Run,
+        number: u64,
+        line: &ScriptLine,
+        is_shown: bool,
+    ) -> Result<(), DrawFault> {
+        let event = run.take(&line.line)?;
+        if is_shown {
+            self.add(shot_of_line(alloc, run, number, line, &event)?)?;
         }
         Ok(())
     }
