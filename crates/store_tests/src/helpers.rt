@@ -14,7 +14,7 @@ use std::test::Fail;
 use std::thread::Threads;
 use tg_helpers::collect_with;
 use tg_payload::{CellPayload, Payload};
-use tg_program::{OnThreads, RunPayloads, Start, serve};
+use tg_program::{RunPayloads, Start, serve};
 use tg_script::{Bytes, Collector, Count, Helpers, OneThread, Refusal, Settings, Written};
 use tg_store::{Kind, Store};
 
@@ -67,23 +67,6 @@ fn run_both_kinds<C: Collector>(alloc: Global, collector: &C, helpers: u32) -> R
         BOTH_KINDS.script,
     )?;
     Ok(ran.written)
-}
-
-// A script's helpers meet at a gate as a store's do. One alone is the thread that runs the script, and passes none.
-#[test]
-fn helpers_of_a_script_at_one_gate(rt: HostRuntime) -> Result<(), Fail> {
-    let alloc = rt.alloc();
-    for (helpers, passes) in [(1, 0), (2, 6), (3, 8), (8, 18)] {
-        let gate = Meet::of(alloc, helpers, MANY_TURNS)?;
-        let written = run_both_kinds(alloc, &OnThreads::new(&rt, alloc, &gate), helpers)?;
-        assert_eq!(rt; written.as_slice(), BOTH_KINDS.written);
-        assert_eq!(rt;
-            (gate.is_missed(), gate.passes()),
-            (false, passes),
-            "with {helpers}"
-        );
-    }
-    Ok(())
 }
 
 // Collects on the thread that runs the script, and keeps how many helpers it was last asked for, for a collection of each kind.

@@ -6,28 +6,27 @@ ghost use Rattle.tg_program.specs.Faults.{refusal_of};
 use std::alloc::Global;
 use std::sync::Wait;
 use std::thread::Threads;
-use tg_helpers::{Gate, HelpersFault, collect_with};
+use tg_helpers::{HelpersFault, NoGate, collect_with};
 use tg_payload::Payload;
 use tg_script::{Collector, Helpers, OneThread, Refusal};
 use tg_store::{Kind, Store};
 
-/// What makes a run's collections with helpers on threads, each of whom passes the gate. Where there is to be one helper alone,
-/// the thread that runs the script collects, none is started, and no gate is passed.
+/// What makes a run's collections with helpers on threads. Where there is to be one helper alone, the thread that runs the script
+/// collects, and none is started.
 #[derive(Clone, Copy)]
-pub struct OnThreads<'a, R: Threads + Wait + Sync, G: Gate> {
+pub struct OnThreads<'a, R: Threads + Wait + Sync> {
     rt: &'a R,
     alloc: Global,
-    gate: &'a G,
 }
 
-impl<'a, R: Threads + Wait + Sync, G: Gate> OnThreads<'a, R, G> {
-    /// Helpers on threads of this runtime, with tables in memory of this allocator, who pass this gate.
-    pub fn new(rt: &'a R, alloc: Global, gate: &'a G) -> OnThreads<'a, R, G> {
-        OnThreads { rt, alloc, gate }
+impl<'a, R: Threads + Wait + Sync> OnThreads<'a, R> {
+    /// Helpers on threads of this runtime, with tables in memory of this allocator.
+    pub fn new(rt: &'a R, alloc: Global) -> OnThreads<'a, R> {
+        OnThreads { rt, alloc }
     }
 }
 
-impl<R: Threads + Wait + Sync, G: Gate> Collector for OnThreads<'_, R, G> {
+impl<R: Threads + Wait + Sync> Collector for OnThreads<'_, R> {
     ghost Ready = { IsSync R.row };
 
     fn collect<P: Payload>(
@@ -40,7 +39,7 @@ impl<R: Threads + Wait + Sync, G: Gate> Collector for OnThreads<'_, R, G> {
         if number == 1 {
             return OneThread.collect(store, kind, helpers);
         }
-        match collect_with(self.rt, self.alloc, store, kind, number, self.gate) {
+        match collect_with(self.rt, self.alloc, store, kind, number, &NoGate) {
             Ok(kept) => Ok(kept),
             Err(fault) => Err(refusal_of(fault)),
         }

@@ -16,7 +16,6 @@ use std::rt::Env;
 use std::sync::Wait;
 use std::thread::Threads;
 use std::{env, io};
-use tg_helpers::NoGate;
 
 /// Does what the words of the command line ask for: runs the reader's script and writes the replies to the writer, or prints the
 /// help. What goes wrong is one line on standard error. The exit status.
@@ -98,7 +97,7 @@ where
     let Ended { outcome, .. } = serve_buffered(
         rt,
         alloc,
-        &OnThreads::new(rt, alloc, &NoGate),
+        &OnThreads::new(rt, alloc),
         reader,
         writer,
         &start,
