@@ -1,6 +1,5 @@
-//! Sessions of a shared store: on two threads, in turn, with collections that they ask for, and asked what they hold.
+//! Sessions of a shared store: on two threads, in turn, and with collections that they ask for.
 mod collections;
-mod held;
 mod in_turn;
 pub(crate) mod opened;
 mod two_threads;
