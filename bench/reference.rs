@@ -9,11 +9,13 @@ use std::collections::BTreeMap;
 use std::fmt::Write as _;
 use std::io::{self, BufRead, Write};
 
-const LETTERS: [u8; 4] = *b"rwtg";
+const LETTERS: [u8; 8] = *b"rwtgaluv";
 const READ: u8 = 1;
 const WRITE: u8 = 2;
 const TAKE: u8 = 4;
 const GRANT: u8 = 8;
+const APPEND: u8 = 16;
+const INSPECT: u8 = 32;
 
 #[derive(Clone, Copy)]
 enum Law {
@@ -203,15 +205,11 @@ impl Store {
         match (words[0], words.len()) {
             (b"create", 2) => self.create(out, known, x, rights(words[1])?),
             (b"list", 1) => {
-                out.push_str("ok");
-                for (to, set) in &self.vertices[x as usize].edges {
-                    let _ = write!(out, " {to}:");
-                    put_rights(out, *set);
-                }
-                self.keep(x, b'l', 0, [0; 2], |store| {
-                    Reply::Edges(store.vertices[x as usize].edges.iter().map(|(to, set)| (*to, *set)).collect())
-                });
+                self.put_edges(out, x);
+                self.keep(x, b'l', 0, [0; 2], |store| store.edges(x));
             }
+            (b"inspect", 2) => self.inspect(out, x, number(words[1])?),
+            (b"append", 3) => self.append(out, x, number(words[1])?, number(words[2])?),
             (b"read", 2) => {
                 let y = number(words[1])?;
                 let denied = self.denial(out, "read", &[x, y], &[(x, y, READ)]);
@@ -270,6 +268,40 @@ impl Store {
             _ => return None,
         }
         Some(())
+    }
+
+    fn put_edges(&self, out: &mut String, x: u64) {
+        out.push_str("ok");
+        for (to, set) in &self.vertices[x as usize].edges {
+            let _ = write!(out, " {to}:");
+            put_rights(out, *set);
+        }
+    }
+
+    fn edges(&self, x: u64) -> Reply {
+        Reply::Edges(self.vertices[x as usize].edges.iter().map(|(to, set)| (*to, *set)).collect())
+    }
+
+    fn inspect(&mut self, out: &mut String, x: u64, y: u64) {
+        let denied = self.denial(out, "inspect", &[x, y], &[(x, y, INSPECT)]);
+        if !denied {
+            self.put_edges(out, y);
+        }
+        self.keep(x, b'i', 0, [y, 0], |store| if denied { Reply::Denied } else { store.edges(y) });
+    }
+
+    /// The law is looked at last, so only where there is such a vertex.
+    fn append(&mut self, out: &mut String, x: u64, y: u64, value: u64) {
+        let mut denied = self.denial(out, "append", &[x, y], &[(x, y, APPEND)]);
+        if !denied && !matches!(self.vertices[y as usize].law, Law::Log) {
+            out.push_str("denied append law");
+            denied = true;
+        }
+        if !denied {
+            self.vertices[y as usize].write(value);
+            out.push_str("ok");
+        }
+        self.keep(x, b'a', 0, [y, value], |_| if denied { Reply::Denied } else { Reply::Done });
     }
 
     fn create(&mut self, out: &mut String, known: bool, x: u64, set: u8) {

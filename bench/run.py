@@ -35,6 +35,14 @@ def reads_and_writes():
     return ["--workers", "1", "--stock", "c2s2m2l2"], lines
 
 
+def appends_and_inspections():
+    """Appends over six logs and a cell, which are denied, and a look at the row of all seven after each seventh."""
+    lines = ["edge 0 1 l"] + ["1 create rwtgaluv"] * 7
+    for i in range(60_000):
+        lines.append(f"1 append {2 + i % 7} {i * 7919 % 1_000_003}" if i % 8 else "0 inspect 1")
+    return ["--workers", "2", "--stock", "l6c"], lines
+
+
 def takes():
     """A row of 2,000 edges is built by grants, and then 63 workers take from it, as often as a script has room for."""
     lines = [f"edge {k} 0 t" for k in range(1, 64)] + ["0 create tg"] + ["0 create r"] * 2_000
@@ -69,6 +77,7 @@ SCRIPTS = {
     "lists": lists,
     "creates": creates,
     "reads and writes": reads_and_writes,
+    "appends and inspections": appends_and_inspections,
     "takes": takes,
     "holes": holes,
     "collections": collections,
@@ -105,7 +114,7 @@ def measure(name, folder, program, reference, rounds):
     ours, plain, journal = (statistics.median(took[kind]) for kind, _ in runs)
     wrote = [read(os.path.join(folder, kind)) for kind, _ in runs]
     same = "yes" if wrote[0] == wrote[1] == wrote[2] else "NO"
-    print(f"{name:18} {len(lines):8} {ours:9.3f} {plain:9.3f} {journal:9.3f} {ours / plain:7.2f} {ours / journal:9.2f}  {same}", flush=True)
+    print(f"{name:24} {len(lines):8} {ours:9.3f} {plain:9.3f} {journal:9.3f} {ours / plain:7.2f} {ours / journal:9.2f}  {same}", flush=True)
 
 
 def main():
@@ -121,7 +130,7 @@ def main():
     with tempfile.TemporaryDirectory() as folder:
         reference = os.path.join(folder, "reference")
         subprocess.run(["rustc", "-O", "--edition", "2021", "-o", reference, os.path.join(HERE, "reference.rs")], check=True)
-        print(f"{'script':18} {'lines':>8} {'store s':>9} {'plain s':>9} {'journal s':>9} {'ratio':>7} {'of journal':>9}  same output")
+        print(f"{'script':24} {'lines':>8} {'store s':>9} {'plain s':>9} {'journal s':>9} {'ratio':>7} {'of journal':>9}  same output")
         for name in SCRIPTS:
             measure(name, folder, program, reference, rounds)
 

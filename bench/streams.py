@@ -26,6 +26,7 @@ HERE = os.path.dirname(os.path.abspath(__file__))
 BUILT = os.path.join(HERE, "..", "crates", "tgstore", "out", "tgstore")
 MOST_SECONDS = 60
 WAYS = [[], ["--helpers", "2"], ["--race"]]
+SMALL = ["0 write 3 7", "0 read 3", "0 append 3 7", "0 append 12 7", "0 inspect 3"]
 READ_FAILED, WRITE_FAILED = b"tgstore: read failed\n", b"tgstore: write failed\n"
 
 
@@ -224,9 +225,9 @@ def stopped_while_a_client_waits(script, way):
 def main():
     program = sys.argv[1] if len(sys.argv) > 1 else BUILT
     with tempfile.TemporaryDirectory() as room:
-        creates = ["0 create rwtg"] * 12_000
+        creates = ["0 create rwtgaluv"] * 12_000
         long = Script(program, room, "long", [*creates, "0 list", "full", "0 list"], "c12000")
-        short = Script(program, room, "short", [*creates[:12], "minor", "0 write 3 7", "0 read 3", "full", "0 list"], "c12")
+        short = Script(program, room, "short", [*creates[:12], "minor", *SMALL, "full", "0 list"], "c11l")
         calls_that_fail(long, short)
         for script in (short, long):
             for way in WAYS:

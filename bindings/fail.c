@@ -60,7 +60,7 @@ static uint64_t tell_story(void) {
     static const tg_value workers[2] = { { TG_CELL, 0, 0 }, { TG_LOG, 3, 0 } };
     /* One of each dies: a max and a log in a full collection, a sum and a log in one of the nurseries. */
     static const tg_value kinds[4] = { { TG_LOG, 2, 0 }, { TG_SUM, 0, 2 }, { TG_MAX, 0, 3 }, { TG_LOG, 4, 0 } };
-    static const tg_edge edges[2] = { { 0, 1, TG_GRANT | TG_TAKE }, { 1, 0, TG_GRANT } };
+    static const tg_edge edges[2] = { { 0, 1, TG_GRANT | TG_TAKE | TG_INSPECT }, { 1, 0, TG_GRANT } };
     static const tg_limits limits = { 1000, 64, 64 };
     tg_store store = TG_STORE_INIT;
     tg_target row[64];
@@ -68,14 +68,17 @@ static uint64_t tell_story(void) {
     uint64_t name, count, entries, numbers[64];
     CALL(tg_open(&store, workers, 2, edges, 2, &limits));
     for (uint32_t i = 0; i < 12; i++) {
-        CALL(tg_create(&store, 0, TG_READ | TG_WRITE, &kinds[i % 4], &name));
+        CALL(tg_create(&store, 0, TG_READ | TG_WRITE | TG_APPEND, &kinds[i % 4], &name));
         CALL(tg_grant(&store, 0, 1, name, TG_READ, &why));
         for (uint64_t k = 0; k < 6; k++)
             CALL(tg_write(&store, 0, name, k, &why));
+        if (kinds[i % 4].law == TG_LOG)
+            CALL(tg_append(&store, 0, name, i, &why));
         CALL(tg_read(&store, 1, name, numbers, 64, &count, &why));
         CALL(tg_list(&store, 1, row, 64, &count));
+        CALL(tg_inspect(&store, 0, 1, row, 64, &count, &why));
         if (i % 3 == 2) {
-            CALL(tg_remove(&store, 0, name, TG_READ | TG_WRITE, &why));
+            CALL(tg_remove(&store, 0, name, TG_READ | TG_WRITE | TG_APPEND, &why));
             CALL(tg_remove(&store, 1, name, TG_READ, &why));
             CALL(tg_collect(&store, i % 2, &count));
         }

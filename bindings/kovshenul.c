@@ -8,6 +8,8 @@ tg_status proved_tg_open(tg_store *store, const tg_value *workers, size_t worker
 tg_status proved_tg_read(tg_store *store, uint64_t worker, uint64_t target, uint64_t *numbers, size_t room, uint64_t *count,
                          tg_denial *denial);
 tg_status proved_tg_list(tg_store *store, uint64_t worker, tg_target *edges, size_t room, uint64_t *count);
+tg_status proved_tg_inspect(tg_store *store, uint64_t worker, uint64_t target, tg_target *edges, size_t room, uint64_t *count,
+                            tg_denial *denial);
 
 /* An address for an array of no items, at which nothing is read or written. */
 static const uint64_t nothing[1];
@@ -34,6 +36,14 @@ tg_status tg_list(tg_store *store, uint64_t worker, tg_target *edges, size_t roo
     if (edges == NULL && room == 0)
         edges = &none;
     return proved_tg_list(store, worker, edges, room, count);
+}
+
+tg_status tg_inspect(tg_store *store, uint64_t worker, uint64_t target, tg_target *edges, size_t room, uint64_t *count,
+                     tg_denial *denial) {
+    tg_target none;
+    if (edges == NULL && room == 0)
+        edges = &none;
+    return proved_tg_inspect(store, worker, target, edges, room, count, denial);
 }
 
 const char *tg_version(void) {

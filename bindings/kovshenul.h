@@ -32,7 +32,7 @@ extern "C" {
 #endif
 
 /* The number of the interface that this header tells of. tg_abi() answers that of the library. */
-#define TG_ABI 1
+#define TG_ABI 2
 
 /* A store: 16 bytes, all zero while it is closed. */
 typedef struct tg_store {
@@ -44,12 +44,17 @@ typedef struct tg_store {
 
 #define TG_STORE_INIT { false, { NULL } }
 
-/* Rights over a vertex: a set of bits. At least one, and no other bit, is what each call takes. */
+/* Rights over a vertex: a set of bits. At least one, and no other bit, is what each call takes. Their letters are r, w, t, g, a, l, u
+   and v. For u and v there is no command: they are taken, granted and removed like all others, and mean what the host wants. */
 enum {
     TG_READ = 1,
     TG_WRITE = 2,
     TG_TAKE = 4,
-    TG_GRANT = 8
+    TG_GRANT = 8,
+    TG_APPEND = 16,
+    TG_INSPECT = 32,
+    TG_FREE_U = 64,
+    TG_FREE_V = 128
 };
 
 /* From 16 on the call was refused. It wrote to none of its out parameters, and the store is as it was, with one exception
@@ -112,18 +117,21 @@ enum {
     TG_RULE_GRANT = 1,
     TG_RULE_REMOVE = 2,
     TG_RULE_READ = 3,
-    TG_RULE_WRITE = 4
+    TG_RULE_WRITE = 4,
+    TG_RULE_APPEND = 5,
+    TG_RULE_INSPECT = 6
 };
 
 enum {
     TG_NOT_DISTINCT = 0,      /* two vertices that must differ are one; from, to and rights are 0 */
-    TG_MISSING = 1            /* the rights are missing on the edge from `from` to `to` */
+    TG_MISSING = 1,           /* the rights are missing on the edge from `from` to `to` */
+    TG_NOT_LOG = 2            /* the target of an append stores no log; from, to and rights are 0 */
 };
 
 /* Why a command was denied, which is the first check that failed: 32 bytes. */
 typedef struct tg_denial {
-    uint32_t rule;            /* TG_RULE_TAKE .. TG_RULE_WRITE */
-    uint32_t cause;           /* TG_NOT_DISTINCT or TG_MISSING */
+    uint32_t rule;            /* TG_RULE_TAKE .. TG_RULE_INSPECT */
+    uint32_t cause;           /* TG_NOT_DISTINCT, TG_MISSING or TG_NOT_LOG */
     uint64_t from, to, rights;
 } tg_denial;
 
@@ -145,7 +153,7 @@ enum {
 /* The number of the library's interface. */
 uint32_t tg_abi(void);
 
-/* The version of the library, as "0.1.0". */
+/* The version of the library, as "0.2.0". */
 const char *tg_version(void);
 
 /* What a status says, in words. It stays for as long as the program runs. */
@@ -168,11 +176,13 @@ tg_status tg_close(tg_store *store);
    take: the worker takes rights over the target that `via` has, by its own t over `via`.
    grant: the worker grants rights over the target to `via`, by its g over `via` and its own rights over the target.
    remove: the worker gives up its own rights over the target.
-   write: the worker writes to the target, by its w over it. */
+   write: the worker writes to the target, by its w over it.
+   append: the worker writes to the target, by its a over it. The target has to store a log, which is looked at last. */
 tg_status tg_take(tg_store *store, uint64_t worker, uint64_t via, uint64_t target, uint64_t rights, tg_denial *denial);
 tg_status tg_grant(tg_store *store, uint64_t worker, uint64_t via, uint64_t target, uint64_t rights, tg_denial *denial);
 tg_status tg_remove(tg_store *store, uint64_t worker, uint64_t target, uint64_t rights, tg_denial *denial);
 tg_status tg_write(tg_store *store, uint64_t worker, uint64_t target, uint64_t value, tg_denial *denial);
+tg_status tg_append(tg_store *store, uint64_t worker, uint64_t target, uint64_t value, tg_denial *denial);
 
 /* Makes a vertex over which the worker has the rights. Its name goes to *name. */
 tg_status tg_create(tg_store *store, uint64_t worker, uint64_t rights, const tg_value *value, uint64_t *name);
@@ -186,6 +196,11 @@ tg_status tg_read(tg_store *store, uint64_t worker, uint64_t target, uint64_t *n
    gets the whole list each time, so ask with room for as many as there may be. Never denied. So a worker that may only list can
    fill its host's memory: limit how often one that you don't trust may (docs/EMBEDDING.md has the numbers). */
 tg_status tg_list(tg_store *store, uint64_t worker, tg_target *edges, size_t room, uint64_t *count);
+
+/* The target's edges by rising name, by the worker's l over it: the first `room` of them go to edges, and how many there are to *count.
+   The journal gets the whole list each time, as it does of tg_list. */
+tg_status tg_inspect(tg_store *store, uint64_t worker, uint64_t target, tg_target *edges, size_t room, uint64_t *count,
+                     tg_denial *denial);
 
 /* The rights that the worker holds over the target go to *rights: 0 for none, as over itself, over a name that was never made,
    and over one that was collected. The journal gets no entry, and no memory is taken: so a host asks by this what a worker may do,

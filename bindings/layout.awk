@@ -101,11 +101,22 @@ open {
 
 # ---- constants
 
-/^bits_of s = / {
-    split("READ WRITE TAKE GRANT", names, " ")
+# of the rights, whose sum stands on the lines up to an empty one
+/^bits_of s =/ {
+    count = split("r READ w WRITE t TAKE g GRANT a APPEND l INSPECT u FREE_U v FREE_V", words, " ")
+    for (i = 1; i < count; i += 2) right[words[i]] = words[i + 1]
+    sum = 1
+}
+
+sum && /^$/ { sum = 0 }
+
+sum {
     line = $0
-    for (i = 1; match(line, /s\.[rwtg] [0-9]+/); i++) {
-        same("TG_" names[i], substr(line, RSTART + 4, RLENGTH - 4))
+    while (match(line, /bit_if s\.[a-z] [0-9]+/)) {
+        split(substr(line, RSTART, RLENGTH), words, " ")
+        letter = substr(words[2], 3)
+        if (letter in right) same("TG_" right[letter], words[3])
+        else print "#error no name for the right " letter
         line = substr(line, RSTART + RLENGTH)
     }
 }
@@ -135,11 +146,15 @@ open {
     same("TG_RULE_" toupper(name), $4)
 }
 
+# of the causes, each by its own name in capitals
 /^denial_at rule / {
     number = $0
     sub(/^.*cause = /, "", number)
     sub(/;.*$/, "", number)
-    same(/NotDistinct/ ? "TG_NOT_DISTINCT" : "TG_MISSING", number)
+    name = $3
+    sub(/^\(/, "", name)
+    while (match(name, /[a-z][A-Z]/)) name = substr(name, 1, RSTART) "_" substr(name, RSTART + 1)
+    same("TG_" toupper(name), number)
 }
 
 END {

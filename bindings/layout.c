@@ -1,10 +1,10 @@
-/* The sizes, offsets and constants of interface 1, which a program built against it has in its code. It is compiled, and not run.
+/* The sizes, offsets and constants of interface 2, which a program built against it has in its code. It is compiled, and not run.
    That the library has the same is seen by layout.awk. */
 #include "kovshenul.h"
 
 #define SAME(is, wanted) _Static_assert((is) == (wanted), #is)
 
-SAME(TG_ABI, 1);
+SAME(TG_ABI, 2);
 
 SAME(sizeof(bool), 1);
 SAME(sizeof(void *), 8);
@@ -46,9 +46,11 @@ SAME(offsetof(tg_counts, payloads), 8);
 SAME(offsetof(tg_counts, blocks), 16);
 
 SAME(TG_READ | TG_WRITE << 8 | TG_TAKE << 16 | TG_GRANT << 24, 0x08040201);
+SAME(TG_APPEND | TG_INSPECT << 8 | TG_FREE_U << 16, 0x402010);
+SAME(TG_FREE_V, 0x80);
 SAME(TG_CELL | TG_SUM << 8 | TG_MAX << 16 | TG_LOG << 24, 0x03020100);
 SAME(TG_RULE_TAKE | TG_RULE_GRANT << 8 | TG_RULE_REMOVE << 16 | TG_RULE_READ << 24, 0x03020100);
-SAME(TG_RULE_WRITE, 4);
-SAME(TG_NOT_DISTINCT | TG_MISSING << 8, 0x0100);
+SAME(TG_RULE_WRITE | TG_RULE_APPEND << 8 | TG_RULE_INSPECT << 16, 0x060504);
+SAME(TG_NOT_DISTINCT | TG_MISSING << 8 | TG_NOT_LOG << 16, 0x020100);
 SAME(TG_FULL | TG_NURSERY << 8, 0x0100);
 SAME(TG_DONE | TG_DENIED << 8, 0x0100);

@@ -14,7 +14,8 @@
 #include <stdlib.h>
 #include <string.h>
 
-enum { THREADS = 8, WORKERS = 3, MAX_VERTICES = 9000, ROW = MAX_VERTICES, NUMBERS = 64, PATH = 4096 };
+enum { THREADS = 8, WORKERS = 3, MAX_VERTICES = 9000, ROW = MAX_VERTICES, NUMBERS = 64, PATH = 4096, RIGHTS = 8,
+       ALL_RIGHTS = (1 << RIGHTS) - 1 };
 
 #define UNTOUCHED UINT64_C(0xbbbbbbbbbbbbbbbb)
 
@@ -97,7 +98,7 @@ static uint64_t below(struct run *run, uint64_t bound) {
 
 /* One right mostly. */
 static uint64_t rights_of_some(struct run *run) {
-    return below(run, 4) == 0 ? 1 + below(run, 15) : UINT64_C(1) << below(run, 4);
+    return below(run, 4) == 0 ? 1 + below(run, ALL_RIGHTS) : UINT64_C(1) << below(run, RIGHTS);
 }
 
 static uint64_t name_of_worker(struct run *run) {
@@ -130,11 +131,11 @@ static void want(const struct run *run, int it, const char *what) {
 }
 
 /* The letters of the rights. */
-static const char *letters(uint64_t rights, char text[5]) {
+static const char *letters(uint64_t rights, char text[RIGHTS + 1]) {
     int count = 0;
-    for (int bit = 0; bit < 4; bit++)
+    for (int bit = 0; bit < RIGHTS; bit++)
         if (rights >> bit & 1)
-            text[count++] = "rwtg"[bit];
+            text[count++] = "rwtgaluv"[bit];
     text[count] = '\0';
     return text;
 }
@@ -178,11 +179,13 @@ static int is_answered(struct run *run, tg_status status, long refused_before) {
 
 /* The reply to a command that was denied. */
 static void put_denial(struct run *run) {
-    static const char *const rules[] = { "take", "grant", "remove", "read", "write" };
+    static const char *const rules[] = { "take", "grant", "remove", "read", "write", "append", "inspect" };
     const tg_denial *why = &run->why;
-    char text[5];
+    char text[RIGHTS + 1];
     if (why->cause == TG_NOT_DISTINCT)
         fprintf(run->replies, "denied %s distinct\n", rules[why->rule]);
+    else if (why->cause == TG_NOT_LOG)
+        fprintf(run->replies, "denied %s law\n", rules[why->rule]);
     else
         fprintf(run->replies, "denied %s %" PRIu64 "->%" PRIu64 " %s\n", rules[why->rule], why->from, why->to,
                 letters(why->rights, text));
@@ -210,7 +213,7 @@ static int is_done(struct run *run, tg_status status, long refused_before) {
 static void take_or_grant(struct run *run, int grants) {
     uint64_t x = one_who_asks(run), y = below(run, 3) == 0 ? name_of_some(run) : (x + 1) % WORKERS;
     uint64_t z = name_of_some(run), rights = rights_of_some(run);
-    char text[5];
+    char text[RIGHTS + 1];
     long before = refused;
     say(run, "%" PRIu64 " %s %" PRIu64 " %" PRIu64 " %s", x, grants ? "grant" : "take", y, z, letters(rights, text));
     tg_status status = grants ? tg_grant(store_of(run), x, y, z, rights, &run->why)
@@ -221,7 +224,7 @@ static void take_or_grant(struct run *run, int grants) {
 
 static void give_up(struct run *run) {
     uint64_t x = one_who_asks(run), y = name_of_vertex(run), rights = rights_of_some(run);
-    char text[5];
+    char text[RIGHTS + 1];
     long before = refused;
     say(run, "%" PRIu64 " remove %" PRIu64 " %s", x, y, letters(rights, text));
     if (is_done(run, tg_remove(store_of(run), x, y, rights, &run->why), before))
@@ -233,6 +236,14 @@ static void write_some(struct run *run) {
     long before = refused;
     say(run, "%" PRIu64 " write %" PRIu64 " %" PRIu64, x, y, value);
     if (is_done(run, tg_write(store_of(run), x, y, value, &run->why), before))
+        fputs("ok\n", run->replies);
+}
+
+static void append_some(struct run *run) {
+    uint64_t x = one_who_asks(run), y = name_of_some(run), value = below(run, 1000);
+    long before = refused;
+    say(run, "%" PRIu64 " append %" PRIu64 " %" PRIu64, x, y, value);
+    if (is_done(run, tg_append(store_of(run), x, y, value, &run->why), before))
         fputs("ok\n", run->replies);
 }
 
@@ -253,14 +264,9 @@ static void read_some(struct run *run) {
         want(run, numbers[i] == UNTOUCHED, "a number that isn't read");
 }
 
-static void list_some(struct run *run) {
-    static _Thread_local tg_target row[ROW];
-    uint64_t x = one_who_asks(run), count = UNTOUCHED;
-    char text[5];
-    long before = refused;
-    memset(row, 0xbb, sizeof row);
-    say(run, "%" PRIu64 " list", x);
-    int is = is_done(run, tg_list(store_of(run), x, row, ROW, &count), before);
+/* Edges that were listed, or none where it was denied or refused. */
+static void put_row(struct run *run, int is, const tg_target row[ROW], uint64_t count) {
+    char text[RIGHTS + 1];
     want(run, is ? count <= ROW : count == UNTOUCHED, "a count of what isn't listed");
     if (is)
         fputs("ok", run->replies);
@@ -272,10 +278,30 @@ static void list_some(struct run *run) {
         want(run, row[i].to == UNTOUCHED && row[i].rights == UNTOUCHED, "an edge that isn't listed");
 }
 
+static _Thread_local tg_target listed[ROW];
+
+static void list_some(struct run *run) {
+    uint64_t x = one_who_asks(run), count = UNTOUCHED;
+    long before = refused;
+    memset(listed, 0xbb, sizeof listed);
+    say(run, "%" PRIu64 " list", x);
+    int is = is_done(run, tg_list(store_of(run), x, listed, ROW, &count), before);
+    put_row(run, is, listed, count);
+}
+
+static void inspect_some(struct run *run) {
+    uint64_t x = one_who_asks(run), y = name_of_some(run), count = UNTOUCHED;
+    long before = refused;
+    memset(listed, 0xbb, sizeof listed);
+    say(run, "%" PRIu64 " inspect %" PRIu64, x, y);
+    int is = is_done(run, tg_inspect(store_of(run), x, y, listed, ROW, &count, &run->why), before);
+    put_row(run, is, listed, count);
+}
+
 static void create(struct run *run) {
     static const tg_value stock[4] = { { TG_CELL, 0, 0 }, { TG_SUM, 0, 0 }, { TG_MAX, 0, 0 }, { TG_LOG, 4, 0 } };
-    uint64_t x = one_who_asks(run), rights = below(run, 4) == 0 ? rights_of_some(run) : 15, name = UNTOUCHED;
-    char text[5];
+    uint64_t x = one_who_asks(run), rights = below(run, 4) == 0 ? rights_of_some(run) : ALL_RIGHTS, name = UNTOUCHED;
+    char text[RIGHTS + 1];
     long before = refused;
     say(run, "%" PRIu64 " create %s", x, letters(rights, text));
     int is = is_done(run, tg_create(store_of(run), x, rights, &stock[(run->made - WORKERS) % 4], &name), before);
@@ -308,10 +334,14 @@ static void command(struct run *run) {
         take_or_grant(run, which % 2 == 0);
     else if (which < 700)
         give_up(run);
-    else if (which < 850)
+    else if (which < 800)
         write_some(run);
-    else if (which < 980)
+    else if (which < 870)
+        append_some(run);
+    else if (which < 960)
         read_some(run);
+    else if (which < 985)
+        inspect_some(run);
     else
         list_some(run);
 }
@@ -331,8 +361,8 @@ static void open_store(struct run *run) {
     tg_edge edges[WORKERS];
     const tg_limits limits = { MAX_VERTICES, bounds[run->number].blocks, bounds[run->number].space_blocks };
     for (uint64_t i = 0; i < WORKERS; i++) {
-        edges[i] = (tg_edge){ i, (i + 1) % WORKERS, TG_TAKE | TG_GRANT };
-        fprintf(run->script, "edge %" PRIu64 " %" PRIu64 " tg\n", i, (i + 1) % WORKERS);
+        edges[i] = (tg_edge){ i, (i + 1) % WORKERS, TG_TAKE | TG_GRANT | TG_INSPECT };
+        fprintf(run->script, "edge %" PRIu64 " %" PRIu64 " tgl\n", i, (i + 1) % WORKERS);
     }
     tg_status status = TG_OUT_OF_MEMORY;
     while (status == TG_OUT_OF_MEMORY) {

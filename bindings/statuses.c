@@ -40,9 +40,11 @@ static void closed(void) {
     WANT(tg_grant(&store, 0, 1, 2, TG_READ, &why) == TG_NOT_OPEN);
     WANT(tg_remove(&store, 0, 1, TG_READ, &why) == TG_NOT_OPEN);
     WANT(tg_write(&store, 0, 1, 2, &why) == TG_NOT_OPEN);
+    WANT(tg_append(&store, 0, 1, 2, &why) == TG_NOT_OPEN);
     WANT(tg_create(&store, 0, TG_READ, &cell, &number) == TG_NOT_OPEN);
     WANT(tg_read(&store, 0, 1, numbers, 64, &number, &why) == TG_NOT_OPEN);
     WANT(tg_list(&store, 0, row, 1, &number) == TG_NOT_OPEN);
+    WANT(tg_inspect(&store, 0, 1, row, 1, &number, &why) == TG_NOT_OPEN);
     WANT(tg_label(&store, 0, 1, &number) == TG_NOT_OPEN);
     WANT(tg_collect(&store, TG_FULL, &number) == TG_NOT_OPEN);
     WANT(tg_census(&store, &counts) == TG_NOT_OPEN);
@@ -52,17 +54,18 @@ static void closed(void) {
     WANT(is_untouched() && !store.is_open && store.handle.at == NULL);
 }
 
-/* No items may be NULL: of an opening, a read and a list. */
+/* No items may be NULL: of an opening, a read, a list and an inspect. */
 static void no_items(void) {
     tg_store store = TG_STORE_INIT;
     uint64_t count = UNTOUCHED, name;
     WANT(tg_open(&store, NULL, 0, NULL, 0, &limits) == TG_BAD_WORKERS && !store.is_open);
     WANT(tg_open(&store, workers, 2, NULL, 0, &limits) == TG_DONE);
     WANT(tg_list(&store, 0, NULL, 0, &count) == TG_DONE && count == 0);
-    WANT(tg_create(&store, 0, TG_READ, &cell, &name) == TG_DONE);
+    WANT(tg_create(&store, 0, TG_READ | TG_INSPECT, &cell, &name) == TG_DONE);
     WANT(tg_list(&store, 0, NULL, 0, &count) == TG_DONE && count == 1);
     WANT(tg_read(&store, 0, name, NULL, 0, &count, &why) == TG_DONE && count == 1);
-    WANT(tg_entries(&store, &count) == TG_DONE && count == 4);
+    WANT(tg_inspect(&store, 0, name, NULL, 0, &count, &why) == TG_DONE && count == 0);
+    WANT(tg_entries(&store, &count) == TG_DONE && count == 5);
     WANT(tg_close(&store) == TG_DONE);
     WANT(is_untouched());
 }
@@ -101,7 +104,7 @@ static void openings(void) {
     refused(TG_BAD_LAW, bad, 2, edge, limits);
     refused(TG_BAD_LAW, none_kept, 2, edge, limits);
     refused(TG_BAD_LAW, most_kept, 2, edge, limits);
-    refused(TG_BAD_RIGHTS, workers, 2, (tg_edge){ 0, 1, 16 }, limits);
+    refused(TG_BAD_RIGHTS, workers, 2, (tg_edge){ 0, 1, 256 }, limits);
     refused(TG_BAD_RIGHTS, workers, 2, (tg_edge){ 0, 1, 0 }, limits);
     refused(TG_BAD_WORKERS, workers, 0, edge, limits);
     refused(TG_BAD_WORKERS, many, 65, edge, (tg_limits){ 100, 100, 100 });
@@ -117,8 +120,8 @@ static void openings(void) {
 static void first_faults(void) {
     const tg_value bad[2] = { { TG_CELL, 0, 0 }, { 4, 0, 0 } };
     const tg_limits none = { 0, 0, 0 };
-    refused(TG_BAD_LAW, bad, 2, (tg_edge){ 0, 0, 16 }, none);
-    refused(TG_BAD_RIGHTS, workers, 0, (tg_edge){ 0, 0, 16 }, none);
+    refused(TG_BAD_LAW, bad, 2, (tg_edge){ 0, 0, 256 }, none);
+    refused(TG_BAD_RIGHTS, workers, 0, (tg_edge){ 0, 0, 256 }, none);
     refused(TG_BAD_WORKERS, workers, 0, (tg_edge){ 0, 0, TG_READ }, none);
     refused(TG_BAD_LIMITS, workers, 2, (tg_edge){ 0, 0, TG_READ }, none);
     refused(TG_BAD_EDGE, workers, 2, (tg_edge){ 0, 0, TG_READ }, (tg_limits){ 12, 0, 0 });
@@ -133,12 +136,18 @@ static void bad_requests(tg_store *store) {
     WANT(tg_create(store, 0, 0, &sum, &number) == TG_BAD_RIGHTS);
     WANT(tg_create(store, 0, 1u << 30, &sum, &number) == TG_BAD_RIGHTS);
     WANT(tg_create(store, 2, TG_READ, &sum, &number) == TG_NO_SUCH_WORKER);
-    WANT(tg_take(store, 0, 1, 2, 16, &why) == TG_BAD_RIGHTS);
+    WANT(tg_create(store, 0, 256, &sum, &number) == TG_BAD_RIGHTS);
+    WANT(tg_take(store, 0, 1, 2, 256, &why) == TG_BAD_RIGHTS);
+    WANT(tg_take(store, 0, 1, 2, 0, &why) == TG_BAD_RIGHTS);
     WANT(tg_grant(store, 0, 1, 2, UINT64_MAX, &why) == TG_BAD_RIGHTS);
-    WANT(tg_remove(store, 0, 1, 256, &why) == TG_BAD_RIGHTS);
+    WANT(tg_grant(store, 0, 1, 2, 0, &why) == TG_BAD_RIGHTS);
+    WANT(tg_remove(store, 0, 1, 256 | TG_READ, &why) == TG_BAD_RIGHTS);
+    WANT(tg_remove(store, 0, 1, 0, &why) == TG_BAD_RIGHTS);
     WANT(tg_write(store, 5, 0, 2, &why) == TG_NO_SUCH_WORKER);
+    WANT(tg_append(store, 5, 0, 2, &why) == TG_NO_SUCH_WORKER);
     WANT(tg_read(store, 5, 0, numbers, 64, &number, &why) == TG_NO_SUCH_WORKER);
     WANT(tg_list(store, 5, row, 1, &number) == TG_NO_SUCH_WORKER);
+    WANT(tg_inspect(store, 5, 0, row, 1, &number, &why) == TG_NO_SUCH_WORKER);
     WANT(tg_label(store, 2, 1, &number) == TG_NO_SUCH_WORKER);
     WANT(tg_collect(store, 2, &number) == TG_BAD_KIND);
     WANT(is_untouched());
@@ -231,6 +240,78 @@ static void counts(tg_store *store) {
     WANT(tg_audit(store, &count) == TG_DONE && count == entries + 1);
 }
 
+/* Whether a command was denied by the rule, and for this. */
+static int is_denied(tg_status status, uint32_t rule, uint32_t cause, uint64_t from, uint64_t to, uint64_t rights) {
+    return status == TG_DENIED && why.rule == rule && why.cause == cause && why.from == from && why.to == to && why.rights == rights;
+}
+
+/* Appends: done, and denied for each of the causes. A worker is never told the law of what it has no right to append to, and a write
+   to a log wants its own right. */
+static void appends(tg_store *store, uint64_t log, uint64_t other) {
+    uint64_t count;
+    for (uint64_t i = 0; i < 3; i++)
+        WANT(tg_append(store, 1, log, i, &why) == TG_DONE);
+    WANT(tg_read(store, 1, log, numbers, 64, &count, &why) == TG_DONE && count == 2 && numbers[0] == 1 && numbers[1] == 2);
+    WANT(is_denied(tg_append(store, 1, 1, 9, &why), TG_RULE_APPEND, TG_NOT_DISTINCT, 0, 0, 0));
+    WANT(is_denied(tg_append(store, 0, log, 9, &why), TG_RULE_APPEND, TG_MISSING, 0, log, TG_APPEND));
+    WANT(is_denied(tg_append(store, 0, other, 9, &why), TG_RULE_APPEND, TG_MISSING, 0, other, TG_APPEND));
+    WANT(is_denied(tg_append(store, 1, 11, 9, &why), TG_RULE_APPEND, TG_MISSING, 1, 11, TG_APPEND));
+    WANT(is_denied(tg_append(store, 1, other, 9, &why), TG_RULE_APPEND, TG_NOT_LOG, 0, 0, 0));
+    WANT(is_denied(tg_write(store, 1, log, 9, &why), TG_RULE_WRITE, TG_MISSING, 1, log, TG_WRITE));
+    WANT(tg_read(store, 1, other, numbers, 64, &count, &why) == TG_DONE && count == 1 && numbers[0] == 40);
+}
+
+/* Inspects: the target's edges and not the worker's, as many as there is room for; and denied, which writes to the denial alone. */
+static void inspects(tg_store *store, uint64_t log, uint64_t other) {
+    tg_target row[4] = { { 0, 0 }, { 0, 0 }, { UNTOUCHED, UNTOUCHED }, { UNTOUCHED, UNTOUCHED } };
+    uint64_t count = UNTOUCHED;
+    WANT(is_denied(tg_inspect(store, 1, 0, row + 2, 2, &count, &why), TG_RULE_INSPECT, TG_MISSING, 1, 0, TG_INSPECT));
+    WANT(is_denied(tg_inspect(store, 0, 0, row + 2, 2, &count, &why), TG_RULE_INSPECT, TG_NOT_DISTINCT, 0, 0, 0));
+    WANT(count == UNTOUCHED && row[2].to == UNTOUCHED && row[2].rights == UNTOUCHED);
+    WANT(tg_inspect(store, 0, 1, row, 2, &count, &why) == TG_DONE && count == 3);
+    WANT(row[0].to == 0 && row[0].rights == (TG_FREE_U | TG_FREE_V));
+    WANT(row[1].to == log && row[1].rights == (TG_READ | TG_APPEND));
+    WANT(row[2].to == UNTOUCHED && row[2].rights == UNTOUCHED);
+    WANT(tg_inspect(store, 0, 1, row, 4, &count, &why) == TG_DONE && count == 3);
+    WANT(row[2].to == other && row[2].rights == (TG_READ | TG_APPEND) && row[3].to == UNTOUCHED);
+}
+
+static void appends_and_inspects(void) {
+    const tg_edge joined[2] = { { 0, 1, TG_INSPECT }, { 1, 0, TG_FREE_U | TG_FREE_V } };
+    tg_store store = TG_STORE_INIT;
+    uint64_t log, other, entries, count;
+    WANT(tg_open(&store, workers, 2, joined, 2, &limits) == TG_DONE);
+    WANT(tg_create(&store, 1, TG_READ | TG_APPEND, &last_two, &log) == TG_DONE);
+    WANT(tg_create(&store, 1, TG_READ | TG_APPEND, &sum, &other) == TG_DONE);
+    appends(&store, log, other);
+    inspects(&store, log, other);
+    WANT(tg_entries(&store, &entries) == TG_DONE && entries == 17);
+    WANT(tg_audit(&store, &count) == TG_DONE && count == entries);
+    WANT(tg_close(&store) == TG_DONE);
+}
+
+/* All eight rights make the greatest set. Each goes from worker to worker alone, and is given up alone. */
+static void all_rights(void) {
+    const tg_edge joined = { 0, 1, 255 };
+    tg_store store = TG_STORE_INIT;
+    uint64_t name, held;
+    WANT(tg_open(&store, workers, 2, &joined, 1, &limits) == TG_DONE);
+    WANT(tg_label(&store, 0, 1, &held) == TG_DONE && held == 255);
+    WANT(tg_create(&store, 0, 255, &cell, &name) == TG_DONE);
+    for (uint64_t right = 1; right <= TG_FREE_V; right *= 2) {
+        WANT(is_denied(tg_take(&store, 0, 1, name, right, &why), TG_RULE_TAKE, TG_MISSING, 1, name, right));
+        WANT(tg_grant(&store, 0, 1, name, right, &why) == TG_DONE);
+        WANT(tg_label(&store, 1, name, &held) == TG_DONE && held == 2 * right - 1);
+        WANT(tg_remove(&store, 0, name, right, &why) == TG_DONE);
+        WANT(tg_label(&store, 0, name, &held) == TG_DONE && held == 255 - right);
+        WANT(tg_take(&store, 0, 1, name, right, &why) == TG_DONE);
+    }
+    WANT(tg_remove(&store, 1, name, 255, &why) == TG_DONE);
+    WANT(is_denied(tg_remove(&store, 1, name, 255, &why), TG_RULE_REMOVE, TG_MISSING, 1, name, 255));
+    WANT(tg_label(&store, 0, name, &held) == TG_DONE && held == 255);
+    WANT(tg_close(&store) == TG_DONE);
+}
+
 /* A nursery of one block is used up: 64 cells, with one for the worker. */
 static void full_heap(void) {
     const tg_limits small = { 1000, 1, 1 };
@@ -280,6 +361,8 @@ int main(void) {
     WANT(tg_close(&store) == TG_NOT_OPEN);
     full_heap();
     longest_log();
+    appends_and_inspects();
+    all_rights();
     puts("statuses ok");
     return 0;
 }

@@ -20,8 +20,8 @@ static tg_status served(tg_status status) {
 }
 
 static void print_rights(uint64_t rights) {
-    static const char letters[] = "rwtg";
-    for (int bit = 0; bit < 4; bit++)
+    static const char letters[] = "rwtgaluv";
+    for (int bit = 0; bit < 8; bit++)
         if (rights >> bit & 1)
             putchar(letters[bit]);
 }
@@ -36,6 +36,10 @@ static void tell(const char *what, tg_status status, const tg_denial *why) {
     fputs("denied, ", stdout);
     if (why->cause == TG_NOT_DISTINCT) {
         puts("two vertices that must differ are one");
+        return;
+    }
+    if (why->cause == TG_NOT_LOG) {
+        puts("what the target stores is no log");
         return;
     }
     print_rights(why->rights);

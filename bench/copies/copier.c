@@ -36,7 +36,7 @@ static uint64_t move(uint64_t word, uint64_t *free) {
         *cell_at(to, *free) = *cell_at(from, number);
         ++*free;
     }
-    return forward[number] | (word & 15);
+    return forward[number] | rights_in(word);
 }
 
 // Copies what the root reaches, and gives the number of cells. The next one begins with the copies.

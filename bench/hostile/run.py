@@ -3,7 +3,7 @@
 
 Runs the store on scripts of 1 MiB that are made to be slow, one after the other, and prints for each how many lines it has, how
 many bytes are written for it and the processor time of the whole program. No script has a `list`, whose replies may come to
-gigabytes; but for the one that says so none has a collection. Exit status 1 where a script took over a second, or ended otherwise
+gigabytes, nor an `inspect` of a long row; but for the one that says so none has a collection. Exit status 1 where a script took over a second, or ended otherwise
 than it is to. PROGRAM is crates/tgstore/out/tgstore unless it is given; with --only those cases alone whose name has the word. The words behind --
 are handed to the program too, as --race."""
 import collections
@@ -160,6 +160,21 @@ def writes_of_the_greatest_number():
     return Case("--workers 1 --stock s8", ["0 create w"] * 8, (f"0 write {1 + i % 8} {GREATEST}" for i in itertools.count()))
 
 
+def appends_to_logs():
+    return Case("--workers 1 --stock l8", ["0 create a"] * 8, count_on("0 append {} 0", 1, 9))
+
+
+def appends_to_what_is_no_log():
+    size = 45_000
+    return Case("--workers 1 --stock c100000", creates(size, "a"), (f"0 append {1 + i * 7919 % size} 1" for i in itertools.count()))
+
+
+def inspections_of_a_long_row():
+    """What is inspected has a place in a long row, and no edges."""
+    size = 45_000
+    return Case("--workers 1 --stock c100000", creates(size, "l"), (f"0 inspect {1 + i * 7919 % size}" for i in itertools.count()))
+
+
 def denied_reads():
     return Case("--workers 1", [], ["0 read 1"])
 
@@ -213,17 +228,18 @@ def one_collection_and_old_rows():
 def a_mixture():
     """Commands drawn from all kinds, over 2,000 vertices and names near them."""
     def lines(seed=1):
-        forms = ["{} create rwtg", "{} take {} {} r", "{} grant {} {} w", "{} remove {} t", "{} read {}", "{} write {} {}"]
+        forms = ["{} create rwtgaluv", "{} take {} {} r", "{} grant {} {} wv", "{} remove {} t", "{} read {}"]
+        forms += ["{} append {} {}", "{} inspect {}", "{} write {} {}"]
         while True:
             drawn = []
             for _ in range(4):
                 seed = seed * 6_364_136_223_846_793_005 % (1 << 64) + 1_442_695_040_888_963_407 & GREATEST
                 drawn.append(seed >> 33)
-            form = forms[min(drawn[0] % 18, 5)] if drawn[0] % 3 else forms[drawn[0] // 3 % 6]
+            form = forms[min(drawn[0] % 20, 7)] if drawn[0] % 3 else forms[drawn[0] // 3 % 8]
             numbers = [drawn[1] % 8] + [number % 3_000 for number in drawn[2:]] + [drawn[0]]
             yield form.format(*numbers)
-    front = [f"edge {x} {y} tg" for x in range(8) for y in range(8) if x != y] + [f"{i % 8} create rwtg" for i in range(2_000)]
-    return Case("--workers 8 --stock c25000s25000m25000l25000", front, lines())
+    front = [f"edge {x} {y} tg" for x in range(8) for y in range(8) if x != y] + [f"{i % 8} create rwtgaluv" for i in range(2_000)]
+    return Case("--workers 8 --stock " + "csml" * 2_500, front, lines())
 
 
 CASES = [
@@ -231,7 +247,7 @@ CASES = [
     takes_of_what_is_missing, grants_to_one_row, grants_to_many_rows, rows_come_to_have_an_index, removes_from_the_front,
     holes_filled_from_the_front, one_hole_at_the_end, one_hole_at_the_front, given_up_and_granted_again, reads_of_logs,
     reads_of_a_long_row, writes_to_logs, writes_of_the_greatest_number, denied_reads, names_never_made,
-    names_never_made_in_a_long_row, names_that_collide, unknown_workers, one_vertex_twice, edge_lines_of_one_pair,
+    appends_to_logs, appends_to_what_is_no_log, inspections_of_a_long_row, names_never_made_in_a_long_row, names_that_collide, unknown_workers, one_vertex_twice, edge_lines_of_one_pair,
     edge_lines_of_all_pairs, a_bad_line_at_the_end, a_line_without_an_end, one_collection_and_old_rows, a_mixture,
 ]
 

@@ -2,7 +2,7 @@
 
 It shares no code with the program. Of a line that was refused memory or a thread it is taken that it wasn't made."""
 
-ORDER = "rwtg"
+ORDER = "rwtgaluv"
 
 # How many lines a search may try. A search that comes to its end before isn't decided.
 MOST_STEPS = 200_000
@@ -39,6 +39,11 @@ class World:
             seen |= new
             open_ += new
         return seen
+
+
+def shown(row):
+    """The reply that lists a row."""
+    return " ".join(["ok", *(f"{name}:{rights}" for name, rights in row)])
 
 
 def written(law, state, number):
@@ -79,7 +84,7 @@ class Race:
         if rule == "full":
             return f"ok {len(world.reached(self.workers))}", world
         if rule == "list":
-            return " ".join(["ok", *(f"{name}:{rights}" for name, rights in world.rows.get(x, ()))]), world
+            return shown(world.rows.get(x, ())), world
         if rule == "create":
             if box is None:
                 return "refused stock", world
@@ -91,15 +96,19 @@ class Race:
         y, held = int(rest[0]), world.held(x, int(rest[0]))
         if rule in ("take", "grant"):
             return self.after_passing(world, x, rule, y, int(rest[1]), rest[2])
-        needed = {"read": "r", "write": "w", "remove": rest[-1]}[rule]
+        needed = {"read": "r", "write": "w", "append": "a", "inspect": "l", "remove": rest[-1]}[rule]
         denied = f"denied {rule} distinct" if x == y else missing(rule, x, y, needed, held)
         if denied:
             return denied, world
         if rule == "remove":
             return "ok", world.with_edge(x, y, set(held) - set(needed))
+        if rule == "inspect":
+            return shown(world.rows.get(y, ())), world
         law, state = world.states[y]
         if rule == "read":
             return " ".join(["ok", *map(str, state)]), world
+        if rule == "append" and law != "l":
+            return "denied append law", world
         return "ok", world.with_state(y, (law, written(law, state, int(rest[1]))))
 
     def after_passing(self, world, x, rule, y, z, rights):

@@ -52,20 +52,20 @@ def rows(vertices, workers=4):
 
 
 def listings(vertices, lists):
-    """A row that is listed again and again, so that the journal grows."""
-    lines = ["0 create r"] * vertices + ["0 list", "1 list"] * lists + ["full", "0 list"]
-    return Script("listings", 2, f"s{vertices}", ["edge 1 0 tg"], lines)
+    """A row that is listed again and again, by its worker and by another, so that the journal grows."""
+    lines = ["0 create r"] * vertices + ["0 list", "1 list", "1 inspect 0", "0 inspect 1"] * (lists // 2) + ["full", "0 list"]
+    return Script("listings", 2, f"s{vertices}", ["edge 1 0 tgl"], lines)
 
 
 def logs(vertices, writes):
-    """Logs that grow, are read and are given up, with a collection behind each."""
+    """Logs that grow by writes and by appends in turn, are read and are given up, with a collection behind each."""
     lines = []
     for i in range(vertices):
-        lines.append("0 create rwg")
-        lines += [f"0 write {2 + i} {value}" for value in range(writes)]
+        lines.append("0 create rwga")
+        lines += [f"0 {'append' if value % 2 else 'write'} {2 + i} {value}" for value in range(writes)]
         lines += [f"0 grant 1 {2 + i} r", f"1 read {2 + i}", f"0 read {2 + i}"]
         lines += ["minor"] if i % 2 else []
-        lines += [f"1 remove {1 + i} r", f"0 remove {1 + i} rwg", "full"] if i % 16 == 15 else []
+        lines += [f"1 remove {1 + i} r", f"0 remove {1 + i} rwga", "full"] if i % 16 == 15 else []
     return Script("logs", 2, f"l{vertices}", ["edge 0 1 g", "edge 1 0 t"], lines)
 
 
@@ -86,6 +86,14 @@ def log_and_sum_payloads():
     lines = ["0 create rw", "0 create rw", "0 read 2", "0 write 2 1", "0 write 2 2", "1 write 2 9", "0 write 2 3"]
     lines += ["0 write 2 4", "0 write 2 5", "0 read 2", "0 write 3 18446744073709551615", "0 write 3 1", "0 read 3"]
     return Script("log_and_sum_payloads", 2, "ls", [], lines)
+
+
+def appends_and_inspections():
+    """Two workers add to one log and are shown each other's rows, with each way to deny that, and rights that have no command."""
+    lines = ["0 create rwa", "0 create rauv", "0 grant 1 3 rav", "1 append 3 5", "0 append 3 6", "1 append 3 7", "1 read 3"]
+    lines += ["0 append 2 5", "1 append 2 5", "0 inspect 1", "1 inspect 0", "1 inspect 3", "0 append 0 1", "minor", "0 inspect 0"]
+    lines += ["1 remove 3 av", "1 append 3 8", "0 inspect 1", "full", "1 inspect 0", "0 append 3 9", "0 read 3"]
+    return Script("appends_and_inspections", 2, "cl", ["edge 0 1 gl", "edge 1 0 l"], lines)
 
 
 class Run:

@@ -2,17 +2,20 @@
 
 Workers are boxes, objects circles. An edge has the letters of its rights.
 """
-from kovshenul import GRANT, READ, TAKE, WRITE, Denied, Log, Store, Sum
+from kovshenul import APPEND, GRANT, READ, TAKE, WRITE, Denied, Log, Store, Sum
 
 ALICE, BOB, CAROL = range(3)
 NAMES = ("alice", "bob", "carol")
 
 
 def play(store):
-    """Alice keeps a document and a diary. Bob may read the one, and Carol takes that right from him."""
+    """Alice keeps a document and a diary. Bob may read the one and add to the other, which he can't read; Carol takes from him
+    the right to read the document."""
     document = store.create(ALICE, READ | WRITE, Sum(40))
-    diary = store.create(ALICE, READ | WRITE, Log(3))
+    diary = store.create(ALICE, READ | APPEND, Log(3))
     store.grant(ALICE, BOB, document, READ)
+    store.grant(ALICE, BOB, diary, APPEND)
+    store.append(BOB, diary, 7)
     store.take(CAROL, BOB, document, READ)
     try:
         store.take(CAROL, BOB, diary, READ)

@@ -29,12 +29,12 @@ fn meddle(store: &mut Store, subject: u64, document: u64) -> Result<String, Erro
     Ok(format!("saw {seen:?} and overwrote it"))
 }
 
-/// Opens a store for the host and as many plug-ins, over each of which the host has the right to grant.
+/// Opens a store for the host and as many plug-ins, over each of which the host has the rights to grant and to inspect.
 fn open(plugins: u64) -> Result<Store, Error> {
     let edge = |to| Edge {
         from: HOST,
         to,
-        rights: Rights::GRANT,
+        rights: Rights::GRANT | Rights::INSPECT,
     };
     let edges: Vec<Edge> = (1..=plugins).map(edge).collect();
     let limits = Limits {
@@ -55,9 +55,9 @@ fn run(store: &mut Store, plugin: &Plugin, document: u64) -> Result<(), Error> {
     Ok(())
 }
 
-/// Gives up all that a plug-in holds, in its name.
+/// Looks at what a plug-in holds, and gives it all up in its name.
 fn unload(store: &mut Store, plugin: &Plugin) -> Result<(), Error> {
-    for target in store.list(plugin.subject)? {
+    for target in store.inspect(HOST, plugin.subject)? {
         store.remove(plugin.subject, target.to, target.rights)?;
     }
     println!("{}: unloaded", plugin.name);

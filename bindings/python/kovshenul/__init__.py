@@ -5,7 +5,7 @@
         store.grant(0, 1, document, READ)
         print(store.read(1, document))
 
-A command that the rules don't allow raises Denied, and any other refusal raises a Refused. A number that isn't from 0 to
+A command that the rules don't allow raises Denied, which says by its cause which check failed. Any other refusal raises a Refused. A number that isn't from 0 to
 2^64 - 1 raises OverflowError, and what is no number TypeError: nothing happened then.
 
 Any thread may call a store: a lock in it makes the calls come one after the other. The library is the one that the
@@ -35,12 +35,13 @@ from ._refusals import (
 from ._store import Store
 from ._values import MOST_NUMBERS, Cell, Counts, Edge, Kind, Limits, Log, Max, Rights, Sum, Target, Value
 
-READ, WRITE, TAKE, GRANT = Rights
+READ, WRITE, TAKE, GRANT, APPEND, INSPECT, FREE_U, FREE_V = Rights
 FULL, NURSERY = Kind
 
 __version__ = _version()
 
 __all__ = [
+    "APPEND",
     "AlreadyOpen",
     "BadEdge",
     "BadEntry",
@@ -55,9 +56,12 @@ __all__ = [
     "Counts",
     "Denied",
     "Edge",
+    "FREE_U",
+    "FREE_V",
     "FULL",
     "GRANT",
     "HeapFull",
+    "INSPECT",
     "Kind",
     "Limits",
     "Log",

@@ -4,7 +4,7 @@ import os
 from pathlib import Path
 from typing import Type
 
-ABI = 1
+ABI = 2
 NAME = f"libkovshenul.so.{ABI}"
 
 Number = ctypes.c_uint64
@@ -83,9 +83,11 @@ def _declare(library: ctypes.CDLL) -> None:
         "grant": [address, Number, Number, Number, Number, address],
         "remove": [address, Number, Number, Number, address],
         "write": [address, Number, Number, Number, address],
+        "append": [address, Number, Number, Number, address],
         "create": [address, Number, Number, address, address],
         "read": [address, Number, Number, address, size, address, address],
         "list": [address, Number, address, size, address],
+        "inspect": [address, Number, Number, address, size, address, address],
         "label": [address, Number, Number, address],
         "collect": [address, ctypes.c_uint32, address],
         "census": [address, address],

@@ -6,15 +6,18 @@ from typing import Optional, Tuple
 from ._library import text_of
 from ._values import Rights
 
-RULES = ("take", "grant", "remove", "read", "write")
-CAUSES = ("not distinct", "missing")
+RULES = ("take", "grant", "remove", "read", "write", "append", "inspect")
+CAUSES = ("not distinct", "missing", "not log")
+
+# What a denial says that is of no rights.
+SENTENCES = {"not distinct": "two vertices that must differ are one", "not log": "the target stores no log"}
 
 
 class Denied(Exception):
     """The rules don't allow a command. Nothing changed but that the journal has it.
 
-    `rule` and `cause` are words of RULES and CAUSES. Where rights are missing, `rights` are those, on the edge from
-    `edge[0]` to `edge[1]`.
+    `rule` and `cause` are words of RULES and CAUSES. Where the cause is `missing`, `rights` are those that are, on the edge from
+    `edge[0]` to `edge[1]`; else there is no edge. It is `not log` where the target of an append stores no log.
     """
 
     def __init__(
@@ -25,7 +28,7 @@ class Denied(Exception):
 
     def __str__(self) -> str:
         if self.edge is None:
-            return "two vertices that must differ are one"
+            return SENTENCES.get(self.cause, self.cause)
         return f"{self.rights.letters} is missing on {self.edge[0]}->{self.edge[1]}"
 
 

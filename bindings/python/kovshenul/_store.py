@@ -48,10 +48,10 @@ def _raise(status: int, denial: _library.Denial) -> NoReturn:
     """Raises what a status other than 0 says."""
     if status != DENIED:
         raise refusal(status)
-    rule = RULES[denial.rule]
+    rule, cause = RULES[denial.rule], CAUSES[denial.cause]
     if denial.cause == MISSING:
-        raise Denied(rule, CAUSES[MISSING], (denial.source, denial.target), RIGHTS[denial.rights])
-    raise Denied(rule, CAUSES[denial.cause])
+        raise Denied(rule, cause, (denial.source, denial.target), RIGHTS[denial.rights])
+    raise Denied(rule, cause)
 
 
 class Store:
@@ -184,6 +184,18 @@ class Store:
             if status:
                 _raise(status, room.denial)
 
+    def append(self, worker: int, target: int, value: int) -> None:
+        """The worker adds to the log of the target, by its right to append. What stores no log is left to `write`."""
+        worker, target, value = index(worker), index(target), index(value)
+        if (worker | target | value) >> BITS:
+            raise OverflowError(OUT_OF_RANGE)
+        with self._lock:
+            room, self._room = self._room or _Room(), None
+            status = short.tg_append(self._at, worker, target, value, room.denial_at)
+            self._room = room
+            if status:
+                _raise(status, room.denial)
+
     def create(self, worker: int, rights: int, value: Value) -> int:
         """Makes a vertex over which the worker has the rights, and answers its name."""
         worker, rights = index(worker), index(rights)
@@ -235,6 +247,28 @@ class Store:
             raise refusal(status)
         if 2 * count > len(numbers):
             return self.list(worker, count)
+        each = iter(numbers)
+        return list_of(map(target_of, zip(each, map(rights_of, each))))
+
+    def inspect(self, worker: int, target: int, room: int = FIRST_ROW) -> List[Target]:
+        """The target's edges by rising name, by the worker's right to inspect it. Room is made for them as by `list`."""
+        worker, target, row = index(worker), index(target), index(room)
+        if (worker | target | row) >> BITS:
+            raise OverflowError(OUT_OF_RANGE)
+        with self._lock:
+            place, self._room = self._room or _Room(), None
+            if place.row < row:
+                place = _Room(min(row, MAX_VERTICES))
+            status = library.tg_inspect(
+                self._at, worker, target, place.numbers_at, place.row, place.count_at, place.denial_at
+            )
+            count = place.count.value
+            numbers = place.numbers[: 2 * count]
+            self._room = place
+            if status:
+                _raise(status, place.denial)
+        if 2 * count > len(numbers):
+            return self.inspect(worker, target, count)
         each = iter(numbers)
         return list_of(map(target_of, zip(each, map(rights_of, each))))
 

@@ -21,16 +21,21 @@ def number_in(bits: int, it: int) -> int:
 
 
 class Rights(IntFlag):
-    """A set of rights over a vertex."""
+    """A set of rights over a vertex. APPEND adds to a log, INSPECT shows the vertex's edges. FREE_U and FREE_V are for the host
+    to use: they are taken, granted and removed like all others, and no command asks for them."""
 
     READ = 1
     WRITE = 2
     TAKE = 4
     GRANT = 8
+    APPEND = 16
+    INSPECT = 32
+    FREE_U = 64
+    FREE_V = 128
 
     @property
     def letters(self) -> str:
-        """The letters of the rights, as `rw`."""
+        """The letters of the rights, as `rw`, in the order `rwtgaluv`."""
         return "".join(letter for letter, right in BY_LETTER.items() if self & right)
 
     @classmethod
@@ -44,7 +49,7 @@ class Rights(IntFlag):
         return rights
 
 
-BY_LETTER = dict(zip("rwtg", Rights))
+BY_LETTER = dict(zip("rwtgaluv", Rights))
 
 # By their bits, since it takes long to make one anew.
 RIGHTS = [Rights(bits) for bits in range(1 << len(BY_LETTER))]

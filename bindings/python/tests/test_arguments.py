@@ -29,7 +29,7 @@ class Liar(int):
     __gt__ = __le__ = __ge__ = __lt__
 
 
-RIGHT = [0, 1, 2, 3, 4, 8, 15, 16, 63, 64, 65, 2**24, 2**32 - 1, 2**32, 2**63 - 1, 2**63, BIG - 1]
+RIGHT = [0, 1, 2, 3, 4, 8, 15, 16, 32, 63, 64, 65, 128, 255, 256, 2**24, 2**32 - 1, 2**32, 2**63 - 1, 2**63, BIG - 1]
 WRONG = [-1, -2, BIG, BIG + 1, BIG + 2, -BIG, 2 * BIG, 10**40, 10**5000, -(2**63)]
 NO_NUMBERS = [None, 1.0, float("nan"), "1", b"1", "", (), [1], {}, {1}, object(), int, Fraction(1), 1j, slice(0), print]
 NUMBERS = [
@@ -37,7 +37,7 @@ NUMBERS = [
     *WRONG,
     True,
     READ | WRITE,
-    Rights(16),
+    Rights(256),
     *(Index(number) for number in (0, 1, BIG, -1)),
     *(Liar(number) for number in (1, BIG + 1, -1)),
     Index(1.0),
@@ -51,9 +51,11 @@ TAKES = {
     "grant": (4, False),
     "remove": (3, False),
     "write": (3, False),
+    "append": (3, False),
     "create": (2, True),
     "read": (2, False),
     "list": (1, False),
+    "inspect": (2, False),
     "label": (2, False),
     "collect": (1, False),
 }
@@ -104,7 +106,7 @@ def outcome_of(call, arguments):
 
 
 def opened():
-    return Store([Cell(0), Sum(0), Log(3)], [(0, 1, GRANT), (1, 0, 15)], Limits(1000, 64, 64))
+    return Store([Cell(0), Sum(0), Log(3)], [(0, 1, GRANT), (1, 0, 255), (1, 2, 255)], Limits(1000, 64, 64))
 
 
 class Arguments(unittest.TestCase):

@@ -1,5 +1,6 @@
 """What users of Python expect of the module beside its answers."""
 import copy
+import ctypes
 import gc
 import os
 import pickle
@@ -10,7 +11,11 @@ import unittest
 
 import kovshenul
 from kovshenul import (
+    APPEND,
+    FREE_U,
+    FREE_V,
     GRANT,
+    INSPECT,
     READ,
     TAKE,
     WRITE,
@@ -30,6 +35,8 @@ from kovshenul import (
     Rights,
     Store,
     Sum,
+    Target,
+    _library,
 )
 
 LIMITS = Limits(10, 8, 4)
@@ -45,9 +52,11 @@ class Values(unittest.TestCase):
         self.assertIn(READ, READ | WRITE)
         self.assertEqual((READ | WRITE) - READ, WRITE)
         self.assertEqual((READ | TAKE | GRANT).letters, "rtg")
+        self.assertEqual([right.letters for right in Rights], list("rwtgaluv"))
+        self.assertEqual((READ | APPEND | FREE_V, INSPECT | FREE_U), (Rights.of("var"), Rights.of("lu")))
         self.assertEqual(Rights.of("gw"), GRANT | WRITE)
         self.assertRaises(ValueError, Rights.of, "x")
-        for bits in range(16):
+        for bits in range(256):
             self.assertEqual(Rights.of(Rights(bits).letters), bits)
 
     def test_values_compare_and_print(self):
@@ -82,8 +91,17 @@ class Values(unittest.TestCase):
         words = [sys.executable, "-c", "import kovshenul"]
         told = subprocess.run(words, env=environment, capture_output=True, text=True).stderr
         self.assertIn("ImportError", told)
-        for place in ("KOVSHENUL_LIBRARY is /nowhere/kovshenul.so", "kovshenul/libkovshenul.so.1 is", "looks for libkovshenul.so.1"):
+        name = f"libkovshenul.so.{_library.ABI}"
+        for place in ("KOVSHENUL_LIBRARY is /nowhere/kovshenul.so", f"kovshenul/{name} is", f"looks for {name}"):
             self.assertIn(place, told)
+
+    def test_a_library_of_another_interface_is_refused(self):
+        class Older(ctypes.CDLL):
+            def __init__(self, path):
+                super().__init__(path)
+                self.tg_abi = lambda: _library.ABI - 1
+
+        self.assertRaisesRegex(ImportError, f"has interface {_library.ABI - 1}, and", _library._loaded, Older)
 
 
 class Refusals(unittest.TestCase):
@@ -92,7 +110,7 @@ class Refusals(unittest.TestCase):
         self.assertTrue(issubclass(NoSuchWorker, LookupError))
         with opened() as store:
             self.assertRaises(NoSuchWorker, store.read, 2, 0)
-            self.assertRaises(kovshenul.BadRights, store.grant, 0, 1, 1, 16)
+            self.assertRaises(kovshenul.BadRights, store.grant, 0, 1, 1, 256)
             self.assertRaises(kovshenul.BadLaw, store.create, 0, READ, Log(65))
             self.assertRaises(kovshenul.BadKind, store.collect, 2)
         self.assertRaises(kovshenul.BadWorkers, Store, [])
@@ -121,6 +139,25 @@ class Refusals(unittest.TestCase):
             with self.assertRaises(Denied) as caught:
                 store.write(1, 1, 5)
         self.assertEqual((caught.exception.cause, caught.exception.edge), ("not distinct", None))
+        self.assertEqual(str(caught.exception), "two vertices that must differ are one")
+
+    def test_a_denial_of_a_law(self):
+        with opened() as store:
+            cell = store.create(0, APPEND, Cell(0))
+            with self.assertRaises(Denied) as caught:
+                store.append(0, cell, 5)
+        for denied in (caught.exception, pickle.loads(pickle.dumps(caught.exception))):
+            self.assertEqual((denied.rule, denied.cause, denied.edge, denied.rights), ("append", "not log", None, 0))
+            self.assertEqual(str(denied), "the target stores no log")
+
+    def test_each_denial_names_its_rule(self):
+        with opened() as store:
+            calls = [(store.take, 1, 1, READ), (store.grant, 1, 1, READ), (store.remove, 0, READ), (store.read, 0)]
+            calls += [(store.write, 0, 1), (store.append, 0, 1), (store.inspect, 0)]
+            for rule, (call, *rest) in zip(kovshenul.RULES, calls, strict=True):
+                with self.assertRaises(Denied) as caught:
+                    call(0, *rest)
+                self.assertEqual((caught.exception.rule, caught.exception.cause), (rule, "not distinct"))
 
 
 class Stores(unittest.TestCase):
@@ -128,6 +165,8 @@ class Stores(unittest.TestCase):
         self.assertTrue(store.closed)
         self.assertRaises(NotOpen, store.read, 0, 1)
         self.assertRaises(NotOpen, store.list, 0)
+        self.assertRaises(NotOpen, store.inspect, 0, 1)
+        self.assertRaises(NotOpen, store.append, 0, 1, 5)
         self.assertRaises(NotOpen, store.create, 0, READ, Cell(0))
         for call in (store.collect, store.census, store.entries, store.audit, store.__enter__):
             self.assertRaises(NotOpen, call)
@@ -167,6 +206,49 @@ class Stores(unittest.TestCase):
                     continue
                 store.write(0, name, 2)
                 self.assertEqual(store.read(0, name), state)
+
+    def assert_denied(self, text, call, *arguments):
+        with self.assertRaises(Denied) as caught:
+            call(*arguments)
+        self.assertEqual(str(caught.exception), text)
+
+    def test_logs_are_added_to_and_edges_shown(self):
+        with Store([Cell(0)] * 2, [(0, 1, INSPECT)], LIMITS) as store:
+            self.assertEqual(store.create(1, READ | WRITE | APPEND, Cell(0)), 2)
+            self.assertEqual(store.inspect(0, 1), [Target(2, Rights.of("rwa"))])
+            self.assertIsInstance(store.inspect(0, 1)[0].rights, Rights)
+            self.assert_denied("l is missing on 1->0", store.inspect, 1, 0)
+            self.assert_denied("the target stores no log", store.append, 1, 2, 5)
+            self.assertEqual(store.create(1, READ | APPEND, Log(4)), 3)
+            self.assertIsNone(store.append(1, 3, 5))
+            self.assertEqual(store.read(1, 3), [5])
+            self.assert_denied("w is missing on 1->3", store.write, 1, 3, 6)
+            self.assertEqual((store.entries(), store.audit()), (9, 9))
+
+    def test_the_law_is_looked_at_last(self):
+        with opened() as store:
+            self.assert_denied("a is missing on 0->7", store.append, 0, 7, 5)
+            log = store.create(0, READ | WRITE, Log(2))
+            self.assert_denied(f"a is missing on 0->{log}", store.append, 0, log, 5)
+            self.assert_denied("l is missing on 0->7", store.inspect, 0, 7)
+            for call, *arguments in ((store.append, 7, log, 5), (store.inspect, 7, 0)):
+                self.assertRaises(NoSuchWorker, call, *arguments)
+
+    def test_rights_without_a_command_are_handed_on(self):
+        with opened() as store:
+            name = store.create(0, FREE_U | FREE_V, Cell(0))
+            store.grant(0, 1, name, FREE_V)
+            self.assertEqual((store.label(0, name), store.label(1, name)), (FREE_U | FREE_V, FREE_V))
+            store.remove(1, name, FREE_V)
+            self.assert_denied(f"rwtgal is missing on 0->{name}", store.grant, 0, 1, name, 255)
+
+    def test_a_long_row_is_shown(self):
+        with Store([Cell(0)] * 2, [(1, 0, INSPECT)], (1000, 64, 64)) as store:
+            names = [store.create(0, FREE_U, Cell(0)) for _ in range(200)]
+            self.assertEqual(store.inspect(1, 0), [(name, FREE_U) for name in names])
+            self.assertEqual(store.entries(), 202)
+            self.assertEqual(store.inspect(1, 0, room=200), store.list(0, room=0))
+            self.assertRaises(OverflowError, store.inspect, 1, 0, -1)
 
     def test_a_long_row(self):
         with Store([Cell(0)], limits=(1000, 64, 64)) as store:

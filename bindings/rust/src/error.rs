@@ -12,10 +12,20 @@ pub enum Rule {
     Remove,
     Read,
     Write,
+    Append,
+    Inspect,
 }
 
 // By their numbers.
-const RULES: [Rule; 5] = [Rule::Take, Rule::Grant, Rule::Remove, Rule::Read, Rule::Write];
+const RULES: [Rule; 7] = [
+    Rule::Take,
+    Rule::Grant,
+    Rule::Remove,
+    Rule::Read,
+    Rule::Write,
+    Rule::Append,
+    Rule::Inspect,
+];
 
 /// Why a command was denied: the first check that failed.
 #[derive(Clone, Copy, PartialEq, Eq, Hash, Debug)]
@@ -24,6 +34,17 @@ pub enum Denial {
     NotDistinct { rule: Rule },
     /// The rights are missing on the edge from `from` to `to`.
     Missing { rule: Rule, from: u64, to: u64, rights: Rights },
+    /// The target of an append stores no log.
+    NotLog { rule: Rule },
+}
+
+impl Denial {
+    /// What was asked for.
+    pub fn rule(&self) -> Rule {
+        match *self {
+            Denial::NotDistinct { rule } | Denial::Missing { rule, .. } | Denial::NotLog { rule } => rule,
+        }
+    }
 }
 
 impl fmt::Display for Denial {
@@ -31,6 +52,7 @@ impl fmt::Display for Denial {
         match self {
             Denial::NotDistinct { .. } => write!(out, "two vertices that must differ are one"),
             Denial::Missing { from, to, rights, .. } => write!(out, "{rights} is missing on {from}->{to}"),
+            Denial::NotLog { .. } => write!(out, "the target stores no log"),
         }
     }
 }
@@ -38,14 +60,16 @@ impl fmt::Display for Denial {
 impl From<&RawDenial> for Denial {
     fn from(why: &RawDenial) -> Denial {
         let rule = RULES[why.rule as usize];
-        if why.cause == raw::NOT_DISTINCT {
-            return Denial::NotDistinct { rule };
-        }
-        Denial::Missing {
-            rule,
-            from: why.from,
-            to: why.to,
-            rights: Rights::told(why.rights),
+        match why.cause {
+            raw::NOT_DISTINCT => Denial::NotDistinct { rule },
+            raw::MISSING => Denial::Missing {
+                rule,
+                from: why.from,
+                to: why.to,
+                rights: Rights::told(why.rights),
+            },
+            raw::NOT_LOG => Denial::NotLog { rule },
+            cause => unreachable!("interface {} has no cause {cause}", raw::ABI),
         }
     }
 }

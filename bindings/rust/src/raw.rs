@@ -4,14 +4,20 @@ use std::ffi::c_void;
 use std::os::raw::c_char;
 
 /// The interface that this crate was written for.
-pub const ABI: u32 = 1;
+pub const ABI: u32 = 2;
 
 pub const DONE: u32 = 0;
 
 pub const DENIED: u32 = 1;
 
-/// The cause of a denial that isn't of rights.
+/// The cause of a denial where two vertices that must differ are one.
 pub const NOT_DISTINCT: u32 = 0;
+
+/// That where rights are missing.
+pub const MISSING: u32 = 1;
+
+/// That where the target of an append stores no log.
+pub const NOT_LOG: u32 = 2;
 
 /// A store, or none where all of it is zero.
 #[repr(C)]
@@ -89,6 +95,7 @@ extern "C" {
     pub fn tg_grant(store: &mut RawStore, worker: u64, via: u64, target: u64, rights: u64, why: &mut RawDenial) -> u32;
     pub fn tg_remove(store: &mut RawStore, worker: u64, target: u64, rights: u64, why: &mut RawDenial) -> u32;
     pub fn tg_write(store: &mut RawStore, worker: u64, target: u64, value: u64, why: &mut RawDenial) -> u32;
+    pub fn tg_append(store: &mut RawStore, worker: u64, target: u64, value: u64, why: &mut RawDenial) -> u32;
     pub fn tg_create(store: &mut RawStore, worker: u64, rights: u64, value: &RawValue, name: &mut u64) -> u32;
     pub fn tg_read(
         store: &mut RawStore,
@@ -100,6 +107,15 @@ extern "C" {
         why: &mut RawDenial,
     ) -> u32;
     pub fn tg_list(store: &mut RawStore, worker: u64, edges: *mut RawTarget, room: usize, count: &mut u64) -> u32;
+    pub fn tg_inspect(
+        store: &mut RawStore,
+        worker: u64,
+        target: u64,
+        edges: *mut RawTarget,
+        room: usize,
+        count: &mut u64,
+        why: &mut RawDenial,
+    ) -> u32;
     pub fn tg_label(store: &mut RawStore, worker: u64, target: u64, rights: &mut u64) -> u32;
     pub fn tg_collect(store: &mut RawStore, kind: u32, left: &mut u64) -> u32;
     pub fn tg_census(store: &mut RawStore, counts: &mut Counts) -> u32;

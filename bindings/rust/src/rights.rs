@@ -12,34 +12,52 @@ use std::str::FromStr;
 /// assert!(rights.contains(Rights::READ) && !rights.contains(Rights::GRANT));
 /// assert_eq!((rights - Rights::READ).to_string(), "w");
 /// assert_eq!(rights.iter().collect::<Vec<_>>(), [Rights::READ, Rights::WRITE]);
+/// assert_eq!(Rights::all().to_string(), "rwtgaluv");
 /// # Ok::<(), kovshenul::NoRights>(())
 /// ```
 #[derive(Clone, Copy, PartialEq, Eq, PartialOrd, Ord, Hash, Debug, Default)]
 pub struct Rights(u64);
 
 // Each right with its letter, by its bit.
-const LETTERS: [(Rights, char); 4] = [
+const LETTERS: [(Rights, char); 8] = [
     (Rights::READ, 'r'),
     (Rights::WRITE, 'w'),
     (Rights::TAKE, 't'),
     (Rights::GRANT, 'g'),
+    (Rights::APPEND, 'a'),
+    (Rights::INSPECT, 'l'),
+    (Rights::FREE_U, 'u'),
+    (Rights::FREE_V, 'v'),
 ];
 
 impl Rights {
     pub const NONE: Rights = Rights(0);
+    /// `r`: reads the state.
     pub const READ: Rights = Rights(1);
+    /// `w`: writes to the state.
     pub const WRITE: Rights = Rights(2);
+    /// `t`: takes what the vertex has.
     pub const TAKE: Rights = Rights(4);
+    /// `g`: grants to the vertex what one has.
     pub const GRANT: Rights = Rights(8);
+    /// `a`: adds to a log.
+    pub const APPEND: Rights = Rights(16);
+    /// `l`: is shown the edges of the vertex.
+    pub const INSPECT: Rights = Rights(32);
+    /// `u`: for the host to use. It is taken, granted and removed like all others, and no command asks for it.
+    pub const FREE_U: Rights = Rights(64);
+    /// `v`: another such.
+    pub const FREE_V: Rights = Rights(128);
 
-    /// The set with these bits, where each is a right.
+    /// The set with these bits, where each is a right: a number below 256.
     pub fn from_bits(bits: u64) -> Option<Rights> {
-        let all = LETTERS.iter().fold(0, |all, (right, _)| all | right.0);
-        if bits & !all == 0 {
-            Some(Rights(bits))
-        } else {
-            None
-        }
+        let rights = Rights(bits);
+        Rights::all().contains(rights).then_some(rights)
+    }
+
+    /// The set of all rights.
+    pub fn all() -> Rights {
+        LETTERS.iter().map(|(right, _)| *right).collect()
     }
 
     /// The bits, as the library takes them.
@@ -106,7 +124,7 @@ impl fmt::Display for Rights {
     }
 }
 
-/// A text that is no set of rights: a letter is none of `rwtg`.
+/// A text that is no set of rights: a letter is none of `rwtgaluv`.
 #[derive(Clone, Copy, PartialEq, Eq, Debug)]
 pub struct NoRights(pub char);
 

@@ -8,7 +8,7 @@ use std::ptr::null_mut;
 /// The most numbers that a vertex can store.
 const MOST_NUMBERS: usize = 64;
 
-/// As many edges as the first list of a store has room for.
+/// As many edges as the first list of a store has room for, or the first look at another's.
 const FIRST_ROW: usize = 64;
 
 /// An open store. Dropping it closes it.
@@ -46,7 +46,7 @@ const FIRST_ROW: usize = 64;
 /// ```
 pub struct Store {
     raw: RawStore,
-    // As many edges as the next list has room for.
+    // As many edges as the next list has room for, or the next look at another's.
     row: usize,
 }
 
@@ -109,6 +109,13 @@ impl Store {
         decided(status, &why)
     }
 
+    /// The worker adds to the log of the target, by its right to append. What stores no log is left to `write`.
+    pub fn append(&mut self, worker: u64, target: u64, value: u64) -> Result<(), Error> {
+        let mut why = RawDenial::default();
+        let status = unsafe { raw::tg_append(&mut self.raw, worker, target, value, &mut why) };
+        decided(status, &why)
+    }
+
     /// Makes a vertex over which the worker has the rights, and answers its name.
     pub fn create(&mut self, worker: u64, rights: Rights, value: Value) -> Result<u64, Error> {
         let (value, mut name) = (RawValue::from(&value), 0);
@@ -138,12 +145,33 @@ impl Store {
     /// The worker's edges by rising name. A row with more edges than any before and than 64 is listed twice, which the journal
     /// tells.
     pub fn list(&mut self, worker: u64) -> Result<Vec<Target>, Error> {
+        self.targets(|raw, edges, count| {
+            served(unsafe { raw::tg_list(raw, worker, edges.as_mut_ptr(), edges.len(), count) })
+        })
+    }
+
+    /// The target's edges by rising name, by the worker's right to inspect it. A row that is longer than any before is asked for
+    /// twice, as by `list`.
+    pub fn inspect(&mut self, worker: u64, target: u64) -> Result<Vec<Target>, Error> {
+        self.targets(|raw, edges, count| {
+            let mut why = RawDenial::default();
+            let room = edges.len();
+            let status = unsafe { raw::tg_inspect(raw, worker, target, edges.as_mut_ptr(), room, count, &mut why) };
+            decided(status, &why)
+        })
+    }
+
+    // The edges of a row, which the call writes and counts. Where they are more than it had room for, it is made again.
+    fn targets(
+        &mut self,
+        call: impl Fn(&mut RawStore, &mut [RawTarget], &mut u64) -> Result<(), Error>,
+    ) -> Result<Vec<Target>, Error> {
         let mut edges = vec![RawTarget::default(); self.row];
         let mut count = 0;
-        served(unsafe { raw::tg_list(&mut self.raw, worker, edges.as_mut_ptr(), edges.len(), &mut count) })?;
+        call(&mut self.raw, &mut edges, &mut count)?;
         if edges.len() < count as usize {
             self.row = count as usize;
-            return self.list(worker);
+            return self.targets(call);
         }
         let targets = edges[..count as usize].iter().map(|edge| Target {
             to: edge.to,

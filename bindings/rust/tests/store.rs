@@ -15,6 +15,15 @@ fn opened(workers: usize) -> Store {
     Store::open(&vec![Value::Cell(0); workers], &[], &LIMITS).unwrap()
 }
 
+// A store of two workers, one of which has the rights over the other.
+fn opened_with(from: u64, to: u64, rights: Rights) -> Store {
+    Store::open(&[Value::Cell(0), Value::Cell(0)], &[Edge { from, to, rights }], &LIMITS).unwrap()
+}
+
+fn missing<T>(rule: Rule, from: u64, to: u64, rights: Rights) -> Result<T, Error> {
+    Err(Error::Denied(Denial::Missing { rule, from, to, rights }))
+}
+
 #[test]
 fn rights_are_a_set() {
     let rights = Rights::READ | Rights::GRANT;
@@ -24,9 +33,24 @@ fn rights_are_a_set() {
     assert_eq!("gr".parse(), Ok(rights));
     assert_eq!("rx".parse::<Rights>(), Err(NoRights('x')));
     assert_eq!(rights.iter().collect::<Rights>(), rights);
-    assert_eq!((Rights::from_bits(9), Rights::from_bits(16)), (Some(rights), None));
+    assert_eq!((Rights::from_bits(9), Rights::from_bits(256)), (Some(rights), None));
     assert_eq!(HashSet::from([rights, rights, Rights::NONE]).len(), 2);
     assert!(Rights::NONE.is_empty() && !rights.is_empty());
+}
+
+#[test]
+fn each_byte_is_a_set_of_rights() {
+    let letters = Rights::all().to_string();
+    assert_eq!(letters, "rwtgaluv");
+    for (bit, letter) in letters.chars().enumerate() {
+        assert_eq!(letter.to_string().parse().map(Rights::bits), Ok(1 << bit));
+    }
+    for bits in 0..256 {
+        let rights = Rights::from_bits(bits).unwrap();
+        assert_eq!(rights.to_string().parse(), Ok(rights));
+        assert_eq!(rights.iter().count(), bits.count_ones() as usize);
+    }
+    assert_eq!(Rights::from_bits(u64::MAX), None);
 }
 
 #[test]
@@ -54,7 +78,7 @@ fn errors_are_sentences() {
 fn each_denial_names_its_rule() {
     let mut store = opened(3);
     let rule_of = |answer| match answer {
-        Err(Error::Denied(Denial::NotDistinct { rule })) => Some(rule),
+        Err(Error::Denied(denial @ Denial::NotDistinct { .. })) => Some(denial.rule()),
         _ => None,
     };
     assert_eq!(rule_of(store.take(0, 1, 1, Rights::READ)), Some(Rule::Take));
@@ -62,6 +86,49 @@ fn each_denial_names_its_rule() {
     assert_eq!(rule_of(store.remove(0, 0, Rights::READ)), Some(Rule::Remove));
     assert_eq!(rule_of(store.read(0, 0).map(drop)), Some(Rule::Read));
     assert_eq!(rule_of(store.write(0, 0, 1)), Some(Rule::Write));
+    assert_eq!(rule_of(store.append(0, 0, 1)), Some(Rule::Append));
+    assert_eq!(rule_of(store.inspect(0, 0).map(drop)), Some(Rule::Inspect));
+}
+
+#[test]
+fn logs_are_added_to_and_edges_shown() {
+    let mut store = opened_with(0, 1, Rights::INSPECT);
+    let (rwa, ra) = ("rwa".parse().unwrap(), "ra".parse().unwrap());
+    assert_eq!(store.create(1, rwa, Value::Cell(0)), Ok(2));
+    assert_eq!(store.inspect(0, 1), Ok(vec![Target { to: 2, rights: rwa }]));
+    assert_eq!(store.inspect(1, 0), missing(Rule::Inspect, 1, 0, Rights::INSPECT));
+    let denied = store.append(1, 2, 5).unwrap_err();
+    assert_eq!(denied, Error::Denied(Denial::NotLog { rule: Rule::Append }));
+    assert_eq!(denied.to_string(), "denied, the target stores no log");
+    assert_eq!(store.create(1, ra, Value::Log(4)), Ok(3));
+    assert_eq!(store.append(1, 3, 5), Ok(()));
+    assert_eq!(store.read(1, 3), Ok(vec![5]));
+    assert_eq!(store.write(1, 3, 6), missing(Rule::Write, 1, 3, Rights::WRITE));
+    assert_eq!((store.entries(), store.audit()), (Ok(8), Ok(8)));
+}
+
+#[test]
+fn the_law_is_looked_at_last() {
+    let mut store = opened(2);
+    let denied = missing(Rule::Append, 0, 7, Rights::APPEND);
+    assert_eq!(store.append(0, 7, 5), denied);
+    let log = store.create(0, Rights::WRITE, Value::Log(2)).unwrap();
+    assert_eq!(store.append(0, log, 5), missing(Rule::Append, 0, log, Rights::APPEND));
+    assert_eq!(store.append(7, log, 5), Err(Error::NoSuchWorker));
+    assert_eq!(store.inspect(0, 7), missing(Rule::Inspect, 0, 7, Rights::INSPECT));
+    assert_eq!(store.inspect(7, 0), Err(Error::NoSuchWorker));
+}
+
+#[test]
+fn rights_without_a_command_are_handed_on() {
+    let mut store = opened_with(0, 1, Rights::GRANT);
+    let free = Rights::FREE_U | Rights::FREE_V;
+    let name = store.create(0, free, Value::Cell(0)).unwrap();
+    store.grant(0, 1, name, Rights::FREE_V).unwrap();
+    assert_eq!((store.label(0, name), store.label(1, name)), (Ok(free), Ok(Rights::FREE_V)));
+    store.remove(1, name, Rights::FREE_V).unwrap();
+    let denied = missing(Rule::Grant, 0, name, Rights::all() - free);
+    assert_eq!(store.grant(0, 1, name, Rights::all()), denied);
 }
 
 #[test]
@@ -91,6 +158,19 @@ fn a_long_row_is_listed() {
     assert_eq!(store.entries(), Ok(203));
     assert_eq!(store.collect(Kind::Full), Ok(201));
     assert_eq!(store.census().unwrap().vertices, 201);
+}
+
+#[test]
+fn a_long_row_is_shown() {
+    let mut store = opened_with(1, 0, Rights::INSPECT);
+    let made = (0..200).map(|_| store.create(0, Rights::FREE_U, Value::Cell(0)));
+    assert_eq!(made.filter(Result::is_ok).count(), 200);
+    let shown = store.inspect(1, 0).unwrap();
+    assert_eq!(store.entries(), Ok(202));
+    assert_eq!(store.list(0), Ok(shown.clone()));
+    assert_eq!(store.inspect(1, 0), Ok(shown));
+    assert_eq!(store.entries(), Ok(204));
+    assert_eq!(store.audit(), Ok(204));
 }
 
 #[test]

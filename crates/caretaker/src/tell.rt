@@ -16,11 +16,13 @@ pub fn tell_reply<R: Print>(rt: &R, asked: &str, reply: &Reply) -> io::Result<()
     }
 }
 
-// Prints why what was asked for was denied: two vertices that are one, or the rights that are missing on an edge.
+// Prints why what was asked for was denied: two vertices that are one, rights that are missing on an edge, or a target that
+// stores no log.
 fn tell_denial<R: Print>(rt: &R, asked: &str, denial: &Denial) -> io::Result<()> {
     match denial.cause {
         Cause::NotDistinct => println!(rt; "{asked}: denied, its vertices have to differ"),
         Cause::Missing { from, to, rights } => tell_missing(rt, asked, from, to, rights),
+        Cause::NotLog => println!(rt; "{asked}: denied, its target has to be a log"),
     }
 }
 

@@ -1,9 +1,12 @@
-//! The journal of the script `grant_then_denied_write`, written by hand, as it is, altered and damaged.
+//! The journal of the script `grant_then_denied_write`, written by hand, as it is, altered and damaged; and journals of appends and
+//! inspections.
 
 use std::alloc::{AllocError, Global};
 use std::test::Fail;
 use tg_journal::{AuditFault, Entry, Journal, audit};
-use tg_model::{Cause, Command, Deed, Denial, Edge, Law, Numbers, Opening, Reply, Rule, Value};
+use tg_model::{
+    Cause, Command, Deed, Denial, Edge, EdgeList, Law, Numbers, Opening, Reply, Rule, Value,
+};
 use tg_rights::{Label, Right, Rights};
 
 fn label(letters: &str) -> Result<Label, Fail> {
@@ -49,36 +52,50 @@ enum Said {
     Read(u64),
     // this worker may not write it
     Denied(u64),
+    // worker 0 makes a cell of 0 that it may append to
+    Appendable,
+    // worker 0 makes a log that it may append to, inspect and grant to
+    Logged,
+    // worker 0 appends to it
+    Appended,
+    // worker 0 may not append to it, since it is no log
+    NotLog,
+    // worker 0 grants it the right to take from worker 1
+    Handed,
+    // worker 0 is told that it has these rights over worker 1, and nothing else
+    Inspected(&'static str),
 }
 
-fn entry(said: Said) -> Result<Entry, Fail> {
+fn entry(alloc: Global, said: Said) -> Result<Entry, Fail> {
     Ok(match said {
-        Said::Created => created(Numbers::one(0), label("rw")?),
-        Said::Misfit => created(Numbers::none(), label("rw")?),
-        Said::Granted => granted(label("r")?),
+        Said::Created => created(Law::Cell, Numbers::one(0), label("rw")?),
+        Said::Misfit => created(Law::Cell, Numbers::none(), label("rw")?),
+        Said::Granted => granted(1, 2, label("r")?),
         Said::Read(state) => read(state),
         Said::Denied(worker) => denied_write(worker),
+        Said::Appendable => created(Law::Cell, Numbers::one(0), label("a")?),
+        Said::Logged => created(Law::Log(4), Numbers::none(), label("gal")?),
+        Said::Appended => appended(Reply::Done),
+        Said::NotLog => appended(Reply::Denied(not_log())),
+        Said::Handed => granted(2, 1, label("t")?),
+        Said::Inspected(letters) => inspected(alloc, label(letters)?)?,
     })
 }
 
-// Worker 0 makes a cell.
-fn created(state: Numbers, label: Label) -> Entry {
+// Worker 0 makes a vertex.
+fn created(law: Law, state: Numbers, label: Label) -> Entry {
     Entry {
         worker: 0,
-        deed: Deed::Create {
-            label,
-            law: Law::Cell,
-            state,
-        },
+        deed: Deed::Create { label, law, state },
         reply: Reply::Name(2),
     }
 }
 
-// Worker 0 grants worker 1 rights over it.
-fn granted(rights: Label) -> Entry {
+// Worker 0 grants rights over the target.
+fn granted(via: u64, target: u64, rights: Label) -> Entry {
     let command = Command::Grant {
-        via: 1,
-        target: 2,
+        via,
+        target,
         rights,
     };
     Entry {
@@ -86,6 +103,37 @@ fn granted(rights: Label) -> Entry {
         deed: Deed::Plain(command),
         reply: Reply::Done,
     }
+}
+
+// Worker 0 asks to append to it.
+fn appended(reply: Reply) -> Entry {
+    let command = Command::Append {
+        target: 2,
+        value: 7,
+    };
+    Entry {
+        worker: 0,
+        deed: Deed::Plain(command),
+        reply,
+    }
+}
+
+fn not_log() -> Denial {
+    Denial {
+        rule: Rule::Append,
+        cause: Cause::NotLog,
+    }
+}
+
+// Worker 0 inspects it, and is told of one edge, to worker 1.
+fn inspected(alloc: Global, rights: Label) -> Result<Entry, AllocError> {
+    let mut edges = Vec::new(alloc);
+    edges.push((1, rights))?;
+    Ok(Entry {
+        worker: 0,
+        deed: Deed::Plain(Command::Inspect { target: 2 }),
+        reply: Reply::Edges(EdgeList::from_vec(edges)),
+    })
 }
 
 // Worker 1 reads it.
@@ -118,9 +166,9 @@ fn denied_write(worker: u64) -> Entry {
 }
 
 // Adds the entry.
-fn enter(journal: &mut Journal, said: Said) -> Result<(), Fail> {
+fn enter(alloc: Global, journal: &mut Journal, said: Said) -> Result<(), Fail> {
     journal.reserve()?;
-    journal.push(entry(said)?);
+    journal.push(entry(alloc, said)?);
     Ok(())
 }
 
@@ -137,13 +185,13 @@ fn found_in(alloc: Global, journal: &Journal) -> Result<Option<u64>, Fail> {
 fn audited(alloc: Global, entries: &[Said]) -> Result<Option<u64>, Fail> {
     let mut journal = Journal::new(alloc);
     for said in entries {
-        enter(&mut journal, *said)?;
+        enter(alloc, &mut journal, *said)?;
     }
     found_in(alloc, &journal)
 }
 
 // The journals, and which entry of each is blamed.
-static JOURNALS: [(&'static [Said], Option<u64>); 7] = [
+static JOURNALS: [(&'static [Said], Option<u64>); 12] = [
     (
         &[Said::Created, Said::Granted, Said::Read(0), Said::Denied(1)],
         None,
@@ -177,6 +225,28 @@ static JOURNALS: [(&'static [Said], Option<u64>); 7] = [
         &[Said::Misfit, Said::Granted, Said::Read(0), Said::Denied(1)],
         Some(0),
     ),
+    // appends and inspections; then what was inspected is altered, and so is what an append was answered
+    (
+        &[
+            Said::Logged,
+            Said::Handed,
+            Said::Appended,
+            Said::Inspected("t"),
+        ],
+        None,
+    ),
+    (
+        &[
+            Said::Logged,
+            Said::Handed,
+            Said::Appended,
+            Said::Inspected("g"),
+        ],
+        Some(3),
+    ),
+    (&[Said::Logged, Said::NotLog], Some(1)),
+    (&[Said::Appendable, Said::NotLog], None),
+    (&[Said::Appendable, Said::Appended], Some(1)),
 ];
 
 #[test]
@@ -190,12 +260,12 @@ fn altered_and_damaged_journals(rt: HostRuntime) -> Result<(), Fail> {
 // What the audit finds in a journal of 3,002 entries, the last of them by this worker.
 fn audited_long(alloc: Global, last: u64) -> Result<Option<u64>, Fail> {
     let mut journal = Journal::new(alloc);
-    enter(&mut journal, Said::Created)?;
-    enter(&mut journal, Said::Granted)?;
+    enter(alloc, &mut journal, Said::Created)?;
+    enter(alloc, &mut journal, Said::Granted)?;
     for _ in 0..2999 {
-        enter(&mut journal, Said::Denied(1))?;
+        enter(alloc, &mut journal, Said::Denied(1))?;
     }
-    enter(&mut journal, Said::Denied(last))?;
+    enter(alloc, &mut journal, Said::Denied(last))?;
     found_in(alloc, &journal)
 }
 

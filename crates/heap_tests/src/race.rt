@@ -3,7 +3,8 @@ use std::alloc::{AllocError, Global};
 use std::collections::LinkedList;
 use std::test::Fail;
 use tg_race::{Event, RaceTable, Record, Shape, World};
-use tg_word::{Place, place_of};
+use tg_rights::Rights;
+use tg_word::{Place, Slot, unpack};
 
 const FIRST: Place = Place {
     space: 1,
@@ -35,7 +36,8 @@ fn three_cells(alloc: Global) -> Result<World, AllocError> {
 
 // Whether the word is a reference with no rights to the place.
 fn leads_to(word: u64, place: Place) -> bool {
-    word >> 37 == 1 && word & 15 == 0 && place_of(word) == place
+    let rights = Rights::empty();
+    unpack(word) == Some(Slot::To { rights, place })
 }
 
 // Whether the cell is among the pairs with this place.

@@ -17,6 +17,8 @@ enum Ask {
     Remove(u64, &'static str),
     Read(u64),
     Write(u64, u64),
+    Append(u64, u64),
+    Inspect(u64),
     List,
 }
 
@@ -29,6 +31,7 @@ enum Want {
     Edges(&'static [(u64, &'static str)]),
     NotDistinct(Rule),
     Missing(Rule, u64, u64, &'static str),
+    NotLog(Rule),
     VerticesFull,
     NoSuchWorker,
 }
@@ -117,6 +120,11 @@ fn deed(ask: &Ask) -> Deed {
             target: *target,
             value: *value,
         },
+        Ask::Append(target, value) => Command::Append {
+            target: *target,
+            value: *value,
+        },
+        Ask::Inspect(target) => Command::Inspect { target: *target },
         Ask::List => Command::List,
     };
     Deed::Plain(command)
@@ -152,6 +160,12 @@ fn is_wanted(reply: &Reply, want: &Want) -> bool {
                     to: *to,
                     rights: rights(letters),
                 },
+            })
+        }
+        (Reply::Denied(denial), Want::NotLog(rule)) => {
+            denial.same(&Denial {
+                rule: *rule,
+                cause: Cause::NotLog,
             })
         }
         (Reply::VerticesFull, Want::VerticesFull) => true,
@@ -192,7 +206,7 @@ struct WorkedRun<'a> {
     lines: &'a [(u64, Ask, Want)],
 }
 
-static RUNS: [WorkedRun<'static>; 13] = [
+static RUNS: [WorkedRun<'static>; 16] = [
     WorkedRun {
         name: "grant_then_denied_write",
         workers: 2,
@@ -401,6 +415,54 @@ static RUNS: [WorkedRun<'static>; 13] = [
             (0, Ask::List, Want::Edges(&[(1, "rg")])),
             (1, Ask::Create("wt", Law::Cell), Want::Name(2)),
             (1, Ask::List, Want::Edges(&[(2, "wt")])),
+        ],
+    },
+    WorkedRun {
+        name: "append_and_inspect",
+        workers: 2,
+        max_vertices: 1000,
+        edges: &[(0, 1, "l")],
+        lines: &[
+            (1, Ask::Create("rwa", Law::Cell), Want::Name(2)),
+            (0, Ask::Inspect(1), Want::Edges(&[(2, "rwa")])),
+            (1, Ask::Inspect(0), Want::Missing(Rule::Inspect, 1, 0, "l")),
+            (1, Ask::Append(2, 5), Want::NotLog(Rule::Append)),
+            (1, Ask::Create("ra", Law::Log(4)), Want::Name(3)),
+            (1, Ask::Append(3, 5), Want::Done),
+            (1, Ask::Read(3), Want::Values(&[5])),
+            (1, Ask::Write(3, 6), Want::Missing(Rule::Write, 1, 3, "w")),
+        ],
+    },
+    WorkedRun {
+        name: "order_of_the_checks_of_append_and_inspect",
+        workers: 2,
+        max_vertices: 1000,
+        edges: &[(0, 1, "wl")],
+        lines: &[
+            (0, Ask::Append(0, 5), Want::NotDistinct(Rule::Append)),
+            (0, Ask::Append(1, 5), Want::Missing(Rule::Append, 0, 1, "a")),
+            (0, Ask::Append(9, 5), Want::Missing(Rule::Append, 0, 9, "a")),
+            (0, Ask::Inspect(0), Want::NotDistinct(Rule::Inspect)),
+            (0, Ask::Inspect(9), Want::Missing(Rule::Inspect, 0, 9, "l")),
+        ],
+    },
+    WorkedRun {
+        name: "free_rights_are_handed_on",
+        workers: 2,
+        max_vertices: 1000,
+        edges: &[(0, 1, "tg")],
+        lines: &[
+            (0, Ask::Create("rwtgaluv", Law::Cell), Want::Name(2)),
+            (0, Ask::Grant(1, 2, "uv"), Want::Done),
+            (0, Ask::Remove(2, "rwtgalv"), Want::Done),
+            (0, Ask::List, Want::Edges(&[(1, "tg"), (2, "u")])),
+            (
+                0,
+                Ask::Take(1, 2, "av"),
+                Want::Missing(Rule::Take, 1, 2, "a"),
+            ),
+            (0, Ask::Take(1, 2, "v"), Want::Done),
+            (0, Ask::List, Want::Edges(&[(1, "tg"), (2, "uv")])),
         ],
     },
 ];

@@ -55,9 +55,7 @@ fn reads_as(word: u64, slot: Slot) -> bool {
 #[test]
 fn word_vectors(rt: HostRuntime) {
     let read_and_grant = Rights::of(Right::R).union(Rights::of(Right::G));
-    let all = read_and_grant
-        .union(Rights::of(Right::W))
-        .union(Rights::of(Right::T));
+    let all = Rights::from_bits(255);
     let near = Slot::To {
         rights: read_and_grant,
         place: Place {
@@ -83,18 +81,21 @@ fn word_vectors(rt: HostRuntime) {
         },
     };
     assert!(rt; reads_as(0, Slot::Empty));
-    assert!(rt; reads_as(0x0000_0020_8000_0c59, near));
-    assert!(rt; reads_as(0x0000_0030_7fff_ffff, last));
-    assert!(rt; reads_as(0x0000_0020_0000_0000, first));
+    assert!(rt; reads_as(0x0000_0208_0000_c509, near));
+    assert!(rt; reads_as(0x0000_0307_ffff_ffff, last));
+    assert!(rt; reads_as(0x0000_0200_0000_0000, first));
 }
 
 #[test]
 fn words_off_the_layout(rt: HostRuntime) {
-    // Not present; space 66; a bit above the present one.
+    // Not present; space 66; a bit above the present one. Then three words of a layout with four rights.
     for word in [
         0x0000_0000_0000_0001,
-        0x0000_0030_8000_0000,
-        0x0000_0060_0000_0000,
+        0x0000_0308_0000_0000,
+        0x0000_0600_0000_0000,
+        0x0000_0020_8000_0c59,
+        0x0000_0030_7fff_ffff,
+        0x0000_0020_0000_0000,
     ] {
         assert_eq!(rt; unpack(word), None);
     }

@@ -1,5 +1,6 @@
-//! Sessions of a shared store: on two threads, in turn, and with collections that they ask for.
+//! Sessions of a shared store: on two threads, in turn, with collections that they ask for, and asked what they hold.
 mod collections;
+mod held;
 mod in_turn;
 pub(crate) mod opened;
 mod two_threads;

@@ -23,10 +23,10 @@ fn values(alloc: Global) -> Result<Reply, AllocError> {
     Ok(Reply::Values(Numbers::from_vec(alloc, numbers)?))
 }
 
-// One edge to 3, with the rights r and g.
-fn edges(alloc: Global) -> Result<Reply, AllocError> {
+// One edge to 3, with these rights.
+fn edges(alloc: Global, letters: &str) -> Result<Reply, AllocError> {
     let mut edges = Vec::new(alloc);
-    if let Some(label) = Label::read_text(b"rg") {
+    if let Some(label) = Label::read_text(letters.as_bytes()) {
         edges.push((3, label))?;
     }
     Ok(Reply::Edges(EdgeList::from_vec(edges)))
@@ -43,23 +43,39 @@ fn missing() -> Denial {
     }
 }
 
-fn not_distinct() -> Denial {
+fn not_distinct(rule: Rule) -> Denial {
     Denial {
-        rule: Rule::Take,
+        rule,
         cause: Cause::NotDistinct,
+    }
+}
+
+fn not_log() -> Denial {
+    Denial {
+        rule: Rule::Append,
+        cause: Cause::NotLog,
     }
 }
 
 #[test]
 fn replies_and_denials(rt: HostRuntime) -> Result<(), Fail> {
     let alloc = rt.alloc();
-    let denied = Reply::Denied(not_distinct());
+    let denied = Reply::Denied(not_distinct(Rule::Take));
     assert!(rt; is_shown(alloc, AsText(&Reply::Done), "ok"));
     assert!(rt; is_shown(alloc, AsText(&Reply::Name(40)), "ok 40"));
     assert!(rt; is_shown(alloc, AsText(&denied), "denied take distinct"));
     assert!(rt; is_shown(alloc, AsText(&missing()), "denied write 1->2 w"));
+    assert!(rt; is_shown(alloc, AsText(&not_log()), "denied append law"));
+    assert!(rt;
+        is_shown(
+            alloc,
+            AsText(&not_distinct(Rule::Inspect)),
+            "denied inspect distinct"
+        )
+    );
     assert!(rt; is_shown(alloc, AsText(&values(alloc)?), "ok 7 18446744073709551615"));
-    assert!(rt; is_shown(alloc, AsText(&edges(alloc)?), "ok 3:rg"));
+    assert!(rt; is_shown(alloc, AsText(&edges(alloc, "rg")?), "ok 3:rg"));
+    assert!(rt; is_shown(alloc, AsText(&edges(alloc, "rwtgaluv")?), "ok 3:rwtgaluv"));
     Ok(())
 }
 

@@ -8,8 +8,8 @@ use std::sync::{Arc, Wait};
 use std::test::Fail;
 use std::thread::Threads;
 use tg_helpers::{NoGate, collect_with};
-use tg_model::{Command, Law, Numbers, Opening, Reply, Value};
-use tg_payload::{CellPayload, Draft, Payload, PayloadBox};
+use tg_model::{Cause, Command, Denial, Law, Numbers, Opening, Reply, Rule, Value};
+use tg_payload::{CellPayload, Draft, LogPayload, Payload, PayloadBox};
 use tg_rights::{Label, Right, Rights};
 use tg_store::{
     ApplyFault, Census, CollectFault, CreateFault, CreateRefused, Kind, Limits, OpenFault,
@@ -513,5 +513,98 @@ fn seen_in_three(alloc: Global) -> Option<(Result<u64, CreateFault>, bool, bool,
 fn vertex_limit_and_unknown_worker(rt: HostRuntime) -> Result<(), Fail> {
     let seen = seen_in_three(rt.alloc()).ok_or("no vertex")?;
     assert_eq!(rt; seen, (Err(CreateFault::VerticesFull), true, true, 3));
+    Ok(())
+}
+
+// Makes vertex 1 for the first payload and vertex 2 for the second, over which the worker may append and inspect. The first may read
+// the second.
+fn make_appendable<P: Payload>(
+    alloc: Global,
+    store: &mut Store<P>,
+    first: P,
+    second: P,
+) -> Option<()> {
+    let rights = Rights::read_text(b"rgal")?;
+    let _first = create(alloc, store, 0, rights, first)?.ok()?;
+    let _second = create(alloc, store, 0, rights, second)?.ok()?;
+    let grant = Command::Grant {
+        via: 1,
+        target: 2,
+        rights: Label::read_text(b"r")?,
+    };
+    command(store, 0, grant)
+}
+
+// Whether the target takes in what the worker appends.
+fn is_taken_in<P: Payload>(store: &mut Store<P>, target: u64) -> bool {
+    matches!(
+        store.apply(0, Command::Append { target, value: 5 }),
+        Ok(Reply::Done)
+    )
+}
+
+// Whether the worker is told that the target is no log.
+fn is_no_log<P: Payload>(store: &mut Store<P>, target: u64) -> bool {
+    matches!(
+        store.apply(0, Command::Append { target, value: 5 }),
+        Ok(Reply::Denied(Denial {
+            rule: Rule::Append,
+            cause: Cause::NotLog,
+        }))
+    )
+}
+
+// The first vertex that the worker is told of who inspects the target.
+fn first_inspected<P: Payload>(store: &mut Store<P>, target: u64) -> Option<u64> {
+    let Ok(Reply::Edges(edges)) = store.apply(0, Command::Inspect { target }) else {
+        return None;
+    };
+    let (name, _) = edges.as_slice().first()?;
+    Some(*name)
+}
+
+// Whether vertex 1 takes in what is appended and shows its edge to vertex 2, and vertex 2 takes nothing in.
+fn are_served<P: Payload>(store: &mut Store<P>) -> bool {
+    is_taken_in(store, 1) && is_no_log(store, 2) && first_inspected(store, 1) == Some(2)
+}
+
+// Whether that is so before a full collection and behind it, how many numbers vertex 1 then has, and how many entries there are.
+fn served_twice<P: Payload>(
+    alloc: Global,
+    store: &mut Store<P>,
+    first: P,
+    second: P,
+) -> Option<([bool; 2], usize, u64)> {
+    make_appendable(alloc, store, first, second)?;
+    let before = are_served(store);
+    let _left = store.collect(Kind::Full).ok()?;
+    let behind = are_served(store);
+    let numbers = store.payload(0, 1)?.len();
+    Some(([before, behind], numbers, store.journal().len()))
+}
+
+// The same in a store of its own.
+fn served_in_a_store<P: Payload>(
+    alloc: Global,
+    worker: P,
+    first: P,
+    second: P,
+) -> Option<([bool; 2], usize, u64)> {
+    let mut store = opened_one(alloc, worker, 3)?;
+    let seen = served_twice(alloc, &mut store, first, second);
+    drop(store);
+    seen
+}
+
+// The same of a log and a cell.
+fn served_boxes(alloc: Global) -> Option<([bool; 2], usize, u64)> {
+    let log: PayloadBox = Box::new(alloc, LogPayload::new(alloc, 4)).ok()?;
+    served_in_a_store(alloc, cell_box(alloc, 0)?, log, cell_box(alloc, 0)?)
+}
+
+#[test]
+fn append_and_inspect(rt: HostRuntime) -> Result<(), Fail> {
+    let seen = served_boxes(rt.alloc()).ok_or("a refusal")?;
+    assert_eq!(rt; seen, ([true, true], 2, 9));
     Ok(())
 }

@@ -1,18 +1,18 @@
 -- Calls on a place: what the store was found to answer, and what C is told of that.
 use Rattle.std.proofs.Common.{◌≡◌, ℕ, true, false, sym, subst, ap, ◌∙◌, Result, Ok, Err, List, Option, Some, None}
-use Rattle.tg_model.specs.Graph.{ProtectionGraph}
+use Rattle.tg_model.specs.Graph.{ProtectionGraph, listing_of}
 use Rattle.tg_model.specs.Rules.{answer_of, denial_of, denied_or, state_of}
 use Rattle.tg_model.specs.declared.command.Command.{Command}
 use Rattle.tg_model.specs.declared.command.Command.TheVariants as command
 use Rattle.tg_model.specs.declared.command.Deed.TheVariants.{Plain}
 use Rattle.tg_model.specs.declared.reply.Denial.{Denial}
 use Rattle.tg_model.specs.declared.reply.Reply.{Reply}
-use Rattle.tg_model.specs.declared.reply.Reply.TheVariants.{Denied, Done, Values}
+use Rattle.tg_model.specs.declared.reply.Reply.TheVariants.{Denied, Done, Edges, Values}
 use Rattle.tg_store.specs.Store.{StoreState}
 use Rattle.tg_c.specs.declared.place.StorePlace.{StorePlace}
 use Rattle.tg_c.specs.declared.refusal.CallRefusal.{CallRefusal}
 use Rattle.tg_c.specs.declared.refusal.CallRefusal.TheVariants.{NotOpen}
-use Rattle.tg_c.specs.Calls.{IsCall, IsDoneOrDenied, IsReadOrDenied, IsReplyTo, IsShown, state_in}
+use Rattle.tg_c.specs.Calls.{IsCall, IsDoneOrDenied, IsListedOrDenied, IsReadOrDenied, IsReplyTo, IsShown, state_in}
 use Rattle.tg_c.specs.Statuses.{TellsNames, TellsNumber, refused_as}
 
 -- a closed place: the call was refused
@@ -83,11 +83,13 @@ denied_or_told P (Some denial) r may is = may denial
 
 -- the graph's answer to a command is one that the command can have
 pub reply_fits : (asked : Command) (g : ProtectionGraph) (x : ℕ) → IsReplyTo asked (answer_of g x (Plain asked))
-reply_fits (command.Take rights via target) g x = denied_or_told (λ r. IsDoneOrDenied r) (denial_of g.label x (command.Take rights via target)) Done (λ why. tt) tt
-reply_fits (command.Grant rights via target) g x = denied_or_told (λ r. IsDoneOrDenied r) (denial_of g.label x (command.Grant rights via target)) Done (λ why. tt) tt
-reply_fits (command.Remove rights target) g x = denied_or_told (λ r. IsDoneOrDenied r) (denial_of g.label x (command.Remove rights target)) Done (λ why. tt) tt
-reply_fits (command.Read target) g x = denied_or_told (λ r. IsReadOrDenied r) (denial_of g.label x (command.Read target)) (Values (state_of (g.value target))) (λ why. tt) tt
-reply_fits (command.Write target value) g x = denied_or_told (λ r. IsDoneOrDenied r) (denial_of g.label x (command.Write target value)) Done (λ why. tt) tt
+reply_fits (command.Take rights via target) g x = denied_or_told (λ r. IsDoneOrDenied r) (denial_of g.label g.value x (command.Take rights via target)) Done (λ why. tt) tt
+reply_fits (command.Grant rights via target) g x = denied_or_told (λ r. IsDoneOrDenied r) (denial_of g.label g.value x (command.Grant rights via target)) Done (λ why. tt) tt
+reply_fits (command.Remove rights target) g x = denied_or_told (λ r. IsDoneOrDenied r) (denial_of g.label g.value x (command.Remove rights target)) Done (λ why. tt) tt
+reply_fits (command.Read target) g x = denied_or_told (λ r. IsReadOrDenied r) (denial_of g.label g.value x (command.Read target)) (Values (state_of (g.value target))) (λ why. tt) tt
+reply_fits (command.Write target value) g x = denied_or_told (λ r. IsDoneOrDenied r) (denial_of g.label g.value x (command.Write target value)) Done (λ why. tt) tt
+reply_fits (command.Append target value) g x = denied_or_told (λ r. IsDoneOrDenied r) (denial_of g.label g.value x (command.Append target value)) Done (λ why. tt) tt
+reply_fits (command.Inspect target) g x = denied_or_told (λ r. IsListedOrDenied r) (denial_of g.label g.value x (command.Inspect target)) (Edges (listing_of g.label g.made target)) (λ why. tt) tt
 reply_fits command.List g x = tt
 
 or_else : {X : Type 0} → X → Option X → X

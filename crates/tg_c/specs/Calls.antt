@@ -111,12 +111,22 @@ IsListed (reply.Name name) = ⊥
 IsListed (reply.Values values) = ⊥
 IsListed reply.VerticesFull = ⊥
 
+abbrev pub IsListedOrDenied : Reply → Type 0
+IsListedOrDenied (reply.Edges edges) = Unit {0}
+IsListedOrDenied (reply.Denied denial) = Unit {0}
+IsListedOrDenied reply.Done = ⊥
+IsListedOrDenied (reply.Name name) = ⊥
+IsListedOrDenied (reply.Values values) = ⊥
+IsListedOrDenied reply.VerticesFull = ⊥
+
 abbrev pub IsReplyTo : Command → Reply → Type 0
 IsReplyTo (command.Take rights via target) r = IsDoneOrDenied r
 IsReplyTo (command.Grant rights via target) r = IsDoneOrDenied r
 IsReplyTo (command.Remove rights target) r = IsDoneOrDenied r
 IsReplyTo (command.Write target value) r = IsDoneOrDenied r
+IsReplyTo (command.Append target value) r = IsDoneOrDenied r
 IsReplyTo (command.Read target) r = IsReadOrDenied r
+IsReplyTo (command.Inspect target) r = IsListedOrDenied r
 IsReplyTo command.List r = IsListed r
 
 -- ---- creates

@@ -7,7 +7,7 @@ use Rattle.tg_model.specs.declared.reply.Denial.{Denial}
 use Rattle.tg_model.specs.declared.reply.Rule.{Rule}
 use Rattle.tg_model.specs.declared.reply.Rule.TheVariants as rule
 use Rattle.tg_model.specs.declared.reply.Cause.{Cause}
-use Rattle.tg_model.specs.declared.reply.Cause.TheVariants.{NotDistinct, Missing}
+use Rattle.tg_model.specs.declared.reply.Cause.TheVariants.{NotDistinct, Missing, NotLog}
 use Rattle.tg_model.specs.declared.edge.Edge.{Edge}
 use Rattle.tg_model.specs.declared.value.Value.{Value}
 use Rattle.tg_model.specs.declared.law.Law.TheVariants as law
@@ -83,10 +83,13 @@ rule_number rule.Grant = 1
 rule_number rule.Remove = 2
 rule_number rule.Read = 3
 rule_number rule.Write = 4
+rule_number rule.Append = 5
+rule_number rule.Inspect = 6
 
 abbrev pub denial_at : ℕ → Cause → DenialOut
 denial_at rule NotDistinct = record { rule = rule; cause = 0; from = 0; to = 0; rights = 0 }
 denial_at rule (Missing rights from to) = record { rule = rule; cause = 1; from = from; to = to; rights = bits_of rights }
+denial_at rule NotLog = record { rule = rule; cause = 2; from = 0; to = 0; rights = 0 }
 
 abbrev pub denial_out : Denial → DenialOut
 denial_out denial = denial_at (rule_number denial.rule) denial.cause

@@ -122,6 +122,23 @@ TellsList status old new (Ok (Values values)) = ⊥
 TellsList status old new (Ok VerticesFull) = ⊥
 TellsList status old new (Err why) = (status ≡ status_of why) × (new ≡ old)
 
+-- the out parameters of an inspect
+pub record InspectOut : Type 0 where
+  pub count : ℕ
+  pub edges : List EdgeOut
+  pub denial : DenialOut
+
+abbrev pub TellsInspect : ℕ → InspectOut → InspectOut → Result Reply CallRefusal → Type 0
+TellsInspect status old new (Ok (Edges edges)) = (status ≡ 0)
+    × (new ≡ record { count = length edges; edges = edges_shown_in edges old.edges; denial = old.denial })
+TellsInspect status old new (Ok (Denied denial)) = (status ≡ 1)
+    × (new ≡ record { count = old.count; edges = old.edges; denial = denial_out denial })
+TellsInspect status old new (Ok Done) = ⊥
+TellsInspect status old new (Ok (Name name)) = ⊥
+TellsInspect status old new (Ok (Values values)) = ⊥
+TellsInspect status old new (Ok VerticesFull) = ⊥
+TellsInspect status old new (Err why) = (status ≡ status_of why) × (new ≡ old)
+
 -- of a create, a collection, a count and an audit
 abbrev pub TellsNumber : ℕ → ℕ → ℕ → Result ℕ CallRefusal → Type 0
 TellsNumber status old new (Ok number) = (status ≡ 0) × (new ≡ number)

@@ -1,9 +1,9 @@
 //! How C is told an answer: the status, and what goes to the out parameters. A refusal writes to none of them.
 ghost use Rattle.std.specs.Prelude.{◌≡◌, IfOk};
-ghost use Rattle.tg_c.specs.Calls.{IsDoneOrDenied, IsListed, IsReadOrDenied};
+ghost use Rattle.tg_c.specs.Calls.{IsDoneOrDenied, IsListed, IsListedOrDenied, IsReadOrDenied};
 ghost use Rattle.tg_graph.specs.Shown.{shown_in};
 ghost use Rattle.tg_c.specs.Forms.{edges_shown_in};
-ghost use Rattle.tg_c.specs.Statuses.{TellsCensus, TellsDone, TellsList, TellsNumber, TellsRead};
+ghost use Rattle.tg_c.specs.Statuses.{TellsCensus, TellsDone, TellsInspect, TellsList, TellsNumber, TellsRead};
 
 use crate::forms::{CensusOut, DenialOut, EdgeOut, census_out, denial_out, edge_out};
 use crate::refusal::CallRefusal;
@@ -69,6 +69,32 @@ pub fn tell_list(answer: Result<Reply, CallRefusal>, edges: &mut [EdgeOut], coun
             *count = list.as_slice().len() as u64;
             put_edges(list.as_slice(), edges);
             DONE
+        }
+        Ok(_) => unreachable!(),
+        Err(refusal) => refusal.status(),
+    }
+}
+
+/// Tells the edges that were inspected, as many as there is room for, and how many there are; or why the command was denied.
+pub fn tell_inspect(
+    answer: Result<Reply, CallRefusal>,
+    edges: &mut [EdgeOut],
+    count: &mut u64,
+    denial: &mut DenialOut,
+) -> u32
+    requires { IfOk answer IsListedOrDenied }
+    ensures { TellsInspect result (record { count = count.old; edges = edges.old; denial = denial.old })
+        (record { count = count.new; edges = edges.new; denial = denial.new }) answer }
+{
+    match &answer {
+        Ok(Reply::Edges(list)) => {
+            *count = list.as_slice().len() as u64;
+            put_edges(list.as_slice(), edges);
+            DONE
+        }
+        Ok(Reply::Denied(why)) => {
+            *denial = denial_out(why);
+            DENIED
         }
         Ok(_) => unreachable!(),
         Err(refusal) => refusal.status(),

@@ -98,7 +98,7 @@ word_moved from h to word ne present inside = record {
     same = by_space (from (place_in word).space) refl
 
 empty_present : (word : ℕ) → IsTrue (is_present word) → word ≡ 0 → ⊥
-empty_present word present z = let high : word / 2 ^ 37 ≡ 1 = grind (arith, nat_tests) in omega arith
+empty_present word present z = let high : word / 2 ^ 41 ≡ 1 = grind (arith, nat_tests) in omega arith
 
 -- ---- kept cells
 

@@ -19,7 +19,7 @@ use Rattle.tg_graph.proofs.Places.{layout_at}
 
 -- a present word is that of its own rights and place
 present_fits : (word : ℕ) → IsTrue (is_present word) → word < 2 ^ 64
-present_fits word present = let high : word / 2 ^ 37 ≡ 1 = grind (arith, nat_tests) in omega arith
+present_fits word present = let high : word / 2 ^ 41 ≡ 1 = grind (arith, nat_tests) in omega arith
 
 module _ (word : ℕ) (present : IsTrue (is_present word)) where
   pub present_word : word_at (rights_in word) (place_in word) ≡ word

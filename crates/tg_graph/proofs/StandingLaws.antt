@@ -49,21 +49,21 @@ module _ (c : Content) (g : ProtectionGraph) (stands : IsContentOf c g) where
   pub StandsFor-values_near : (x : ℕ) → IsSubject g x → SameValuesNear g.label g.value c.value x
   StandsFor-values_near x subject y edge = stands.values y (stands.reachable y (goes (begins subject) edge))
 
-  pub denial_of-stands : (x : ℕ) (command : Command) → IsSubject g x → denial_of c.label x command ≡ denial_of g.label x command
-  denial_of-stands x command subject = denial_of-near g.label c.label x (StandsFor-near x subject) command
+  pub denial_of-stands : (x : ℕ) (command : Command) → IsSubject g x → denial_of c.label c.value x command ≡ denial_of g.label g.value x command
+  denial_of-stands x command subject = denial_of-near g.label c.label x g.value c.value (StandsFor-near x subject) (StandsFor-values_near x subject) command
 
-  permitted : (x : ℕ) (command : Command) → IsSubject g x → denial_of c.label x command ≡ None → Permits g.label x command
-  permitted x command subject none = permits-no_denial g.label x command (sym (denial_of-stands x command subject) ∙ none)
+  permitted : (x : ℕ) (command : Command) → IsSubject g x → denial_of c.label c.value x command ≡ None → Permits g.label g.value x command
+  permitted x command subject none = permits-no_denial g.label g.value x command (sym (denial_of-stands x command subject) ∙ none)
 
-  pub reply_of-stands : (x : ℕ) (command : Command) → IsSubject g x → denial_of c.label x command ≡ None → reply_of c.label c.value g.made x command ≡ reply_of g.label g.value g.made x command
+  pub reply_of-stands : (x : ℕ) (command : Command) → IsSubject g x → denial_of c.label c.value x command ≡ None → reply_of c.label c.value g.made x command ≡ reply_of g.label g.value g.made x command
   reply_of-stands x command subject none =
       reply_of-near g.label c.label x g.value c.value g.made command (StandsFor-near x subject) (StandsFor-values_near x subject)
       (permitted x command subject none)
 
   -- the graph's answer is what is computed on the content
-  pub answer_of-stands : (x : ℕ) (command : Command) → IsSubject g x → answer_of g x (Plain command) ≡ denied_or (denial_of c.label x command) (reply_of c.label c.value g.made x command)
+  pub answer_of-stands : (x : ℕ) (command : Command) → IsSubject g x → answer_of g x (Plain command) ≡ denied_or (denial_of c.label c.value x command) (reply_of c.label c.value g.made x command)
   answer_of-stands x command subject =
-      elim (denial_of c.label x command) as (λ d. denial_of c.label x command ≡ d → denied_or (denial_of g.label x command) (reply_of g.label g.value g.made x command) ≡ denied_or d (reply_of c.label c.value g.made x command)) [
+      elim (denial_of c.label c.value x command) as (λ d. denial_of c.label c.value x command ≡ d → denied_or (denial_of g.label g.value x command) (reply_of g.label g.value g.made x command) ≡ denied_or d (reply_of c.label c.value g.made x command)) [
         | None ↦ λ e.
             ap (λ d. denied_or d (reply_of g.label g.value g.made x command)) (sym (denial_of-stands x command subject) ∙ e)
             ∙ sym (reply_of-stands x command subject e)
@@ -87,7 +87,7 @@ StandsFor-same old new g stands same = record {
 
 module _ (c new : Content) (g : ProtectionGraph) (stands : IsContentOf c g) (x : ℕ) (subject : IsSubject g x) where
   -- where a command is served, the content that it changes stands for the next graph
-  pub StandsFor-served : (command : Command) → denial_of c.label x command ≡ None → IsContent new (IsNamed c) (labels_after c.label x command) (values_after c.value command) → IsContentOf new (step g x (Plain command))
+  pub StandsFor-served : (command : Command) → denial_of c.label c.value x command ≡ None → IsContent new (IsNamed c) (labels_after c.label x command) (values_after c.value command) → IsContentOf new (step g x (Plain command))
   StandsFor-served command none is =
       let allowed = permitted c g stands x command subject none in
       let next = step-allowed g x command allowed in
@@ -96,14 +96,14 @@ module _ (c new : Content) (g : ProtectionGraph) (stands : IsContentOf c g) (x :
       let after : IsContentOf new (effect g x command) = record {
         made = λ a named. stands.made a ((is.names a).0 named);
         reachable = λ a reachable. (is.names a).1 (stands.reachable a (reachable_before a reachable));
-        closed = λ a b named edge. (is.names b).1 (closed_after g.label (IsNamed c) stands.closed x command (stands.reachable x (begins subject)) allowed a b ((is.names a).0 named) edge);
+        closed = λ a b named edge. (is.names b).1 (closed_after g.label (IsNamed c) stands.closed g.value x command (stands.reachable x (begins subject)) allowed a b ((is.names a).0 named) edge);
         labels = λ a b named. is.labels a b ∙ labels_after-same g.label c.label x command a b (stands.labels a b ((is.names a).0 named));
         values = λ a named. is.values a ∙ values_after-same g.value c.value command a (stands.values a ((is.names a).0 named));
       } in
       subst (IsContentOf new) (sym next) after
 
   -- where it is denied, the content stays
-  pub StandsFor-denied : (command : Command) (denial : Denial) → denial_of c.label x command ≡ Some denial → IsSameContent c new → IsContentOf new (step g x (Plain command))
+  pub StandsFor-denied : (command : Command) (denial : Denial) → denial_of c.label c.value x command ≡ Some denial → IsSameContent c new → IsContentOf new (step g x (Plain command))
   StandsFor-denied command denial denied same =
       subst (IsContentOf new) (sym (step-denied g x command denial (sym (denial_of-stands c g stands x command subject) ∙ denied)))
       (StandsFor-same c new g stands same)

@@ -1,5 +1,5 @@
 //! The graph in the cells: what one change writes.
-ghost use Rattle.std.specs.Prelude.{◌≡◌, ◌+◌, ◌<◌, ◌≤◌, ◌⊎◌, ◌↔◌, ℕ, List, false, length, slice_index, slice_set, Err, IfErr, IfOk, IfSome, IsOk, None, OnErr, OnOk, Some};
+ghost use Rattle.std.specs.Prelude.{◌≡◌, ◌+◌, ◌<◌, ◌≤◌, ◌⊎◌, ◌↔◌, ℕ, List, false, length, slice_index, slice_set, Err, IfErr, IfOk, IfSome, IsOk, None, OnErr, OnOk, Some, option_map};
 ghost use Rattle.std.specs.List.{All, Contains};
 ghost use Rattle.tg_word.specs.declared.Place.{Place};
 ghost use Rattle.tg_rights.specs.RightSet.{is_none_held};
@@ -25,7 +25,7 @@ use crate::references::{narrow, put};
 use crate::rows::{Spot, edges_of, find_spot};
 use std::alloc::{AllocError, Global};
 use tg_block::{KEY, NAME, OBJECT_TAG};
-use tg_model::{EdgeList, Numbers};
+use tg_model::{EdgeList, Law, Numbers};
 use tg_nursery::{AllocateFault, reserve};
 use tg_payload::{Draft, Payload, PayloadTable};
 use tg_remember::Remembered;
@@ -126,6 +126,15 @@ impl<P: Payload> Cells<P> {
     {
         let cell = self.spaces.cell(at);
         self.payloads.payload(cell[KEY])
+    }
+
+    /// The law of what an object stores.
+    pub(crate) fn law(&self, at: Place) -> Law
+        requires graph { IsGraph self.now.spaces.spaces self.now.payloads }
+        requires at { IsKindAt self.now.spaces.spaces Object at }
+        ensures { option_map (λ value. value.law) ((content_in self.now.spaces.spaces self.now.payloads).value (name_at self.now.spaces.spaces at)) ≡ Some result }
+    {
+        self.payload(at).law()
     }
 
     /// Writes a number to what an object stores. Where it is refused, nothing is changed.

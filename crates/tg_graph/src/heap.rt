@@ -1,5 +1,5 @@
 //! The heap of one store.
-ghost use Rattle.std.specs.Prelude.{◌==◌, ◌≡◌, ◌↔◌, ◌+◌, ◌<◌, ◌⊎◌, ℕ, Err, IfOk, IfErr, IfSome, IsErrAnd, IsSome, OnOk, OnErr, length, slice_get, Some};
+ghost use Rattle.std.specs.Prelude.{◌==◌, ◌≡◌, ◌↔◌, ◌+◌, ◌<◌, ◌⊎◌, ℕ, Err, IfOk, IfErr, IfSome, IsErrAnd, IsSome, OnOk, OnErr, length, option_map, slice_get, Some};
 ghost use Rattle.std.specs.List.{All, IsDistinct};
 ghost use Rattle.tg_model.specs.Graph.{HasEdge, listing_of, with_rights, without_rights};
 ghost use Rattle.tg_model.specs.Opened.{start_of};
@@ -17,7 +17,7 @@ use crate::long_rows::LongRows;
 use crate::opening::opened;
 use std::alloc::{AllocError, Global};
 use std::marker::Model;
-use tg_model::{EdgeList, Numbers, Opening};
+use tg_model::{EdgeList, Law, Numbers, Opening};
 use tg_nursery::AllocateFault;
 use tg_payload::{Draft, Payload, PayloadTable};
 use tg_remember::Remembered;
@@ -188,6 +188,14 @@ impl<P: Payload> Heap<P> {
         ensures { (content_of self.now).value (name_of self.now at) ≡ Some (P.value result.now) }
     {
         self.cells.payload(at)
+    }
+
+    /// The law of what the vertex at a place stores. Takes no memory.
+    pub fn law(&self, at: Place) -> Law
+        requires { IsObject self.now at }
+        ensures { option_map (λ value. value.law) ((content_of self.now).value (name_of self.now at)) ≡ Some result }
+    {
+        self.cells.law(at)
     }
 
     /// Writes a number to the vertex at a place. It writes to no cell. Where it is refused, for want of memory alone,

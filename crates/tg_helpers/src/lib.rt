@@ -7,6 +7,7 @@
 ghost use Rattle.std.specs.Prelude.{◌≡◌, ◌≢◌, ◌↔◌, ◌≤◌, ℕ, [], Err, IfOk, OnErr, OnOk, length};
 ghost use Rattle.tg_model.specs.Graph.{ProtectionGraph, IsReachable};
 ghost use Rattle.tg_space.specs.Collection.{MayLackRoom, used_cells};
+ghost use Rattle.tg_space.specs.Generations.{AreNeeded};
 ghost use Rattle.tg_space.specs.SpaceList.{space_of};
 ghost use Rattle.tg_space.specs.SpaceTable.{kept_blocks};
 ghost use Rattle.tg_graph.specs.Content.{IsNamed};
@@ -47,6 +48,8 @@ pub fn collect_with<P: Payload, R: Threads + Wait + Sync, G: Gate>(
     ensures only_old { OnOk result (kind ≡ Kind.Full → (space : ℕ) → space ≢ 0 → space_of store.new.heap.table.spaces space ≡ []) }
     ensures no_nursery { OnOk result ((space : ℕ) → 2 ≤ space → space_of store.new.heap.table.spaces space ≡ []) }
     ensures blocks { OnOk result (HasFewBlocks kind helpers store.old.heap.table store.new.heap.table) }
+    ensures needed { OnOk result (AreNeeded store.new.heap.table.spaces store.new.heap.remembered) }
+    ensures none_needed { OnOk result (kind ≡ Kind.Full → store.new.heap.remembered ≡ []) }
     ensures stay { OnOk result (kind ≡ Kind.Nursery → VerticesOfOldStay store.old.heap.table.spaces store.new.heap.table.spaces) }
     ensures entries { store.new.entries ≡ store.old.entries }
     ensures full { result ≡ Err HelpersFault.HeapFull →

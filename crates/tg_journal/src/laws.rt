@@ -2,11 +2,13 @@
 //! the law.
 //!
 //! The proofs of the crates above cite the lemmas behind the laws, which stand in `proofs/HistoryLaws` (histories cut,
-//! joined and extended, what they keep and what they leave) and `proofs/Decided`.
-ghost use Rattle.std.specs.Prelude.{◌≡◌, ◌↔◌, ◌⊎◌, ◌<◌, ◌≤◌, ℕ, List, [], ◌∷◌, ◌++◌, take, slice_get, Some, IfSome};
+//! joined and extended, what they keep and what they leave), `proofs/Decided` and `proofs/Edition1Laws`.
+ghost use Rattle.std.specs.Prelude.{◌≡◌, ◌↔◌, ◌⊎◌, ◌<◌, ◌≤◌, ℕ, List, [], ◌∷◌, ◌++◌, map, take, slice_get, Some, IfSome};
 ghost use Rattle.tg_model.specs.Graph.{ProtectionGraph, IsSubject, IsReachable, IsSound};
 ghost use Rattle.tg_model.specs.Opened.{Plan, IsPlan, ValueFits, start_of};
 ghost use Rattle.tg_model.specs.Rules.{step};
+ghost use Rattle.tg_model.specs.Edition1.{Plan1, Entry1, IsLegal1, start_of1, plan_now};
+ghost use Rattle.tg_journal.specs.Edition1.{entry_today, IsFirstBad1};
 ghost use Rattle.tg_journal.specs.History.{IsLegalEntry, IsLegal, graph_after, IsFirstBad};
 ghost use Rattle.tg_journal.specs.declared.entry.Entry.{Entry};
 
@@ -90,4 +92,15 @@ pub fn legal_or_one_first_bad_place()
     ensures not_both { (g : ProtectionGraph) (es : List Entry) (at : ℕ) → IsFirstBad g es at → ¬ IsLegal g es }
     ensures only { (g : ProtectionGraph) (es : List Entry) (at other : ℕ) →
         IsFirstBad g es at → IsFirstBad g es other → at ≡ other }
+{}
+
+/// A journal that was made when there were four rights, and no append or inspect, is legal today exactly where it was
+/// legal then, and so is each front of it. Where it isn't, its first bad place is the same: an audit answers as it did.
+pub fn first_edition_is_judged_alike()
+    ensures legal { (plan : Plan1) (es : List Entry1) →
+        IsLegal (start_of (plan_now plan)) (map entry_today es) ↔ IsLegal1 (start_of1 plan) es }
+    ensures front { (plan : Plan1) (es : List Entry1) (at : ℕ) →
+        IsLegal (start_of (plan_now plan)) (take at (map entry_today es)) ↔ IsLegal1 (start_of1 plan) (take at es) }
+    ensures place { (plan : Plan1) (es : List Entry1) (at : ℕ) →
+        IsFirstBad (start_of (plan_now plan)) (map entry_today es) at ↔ IsFirstBad1 (start_of1 plan) es at }
 {}

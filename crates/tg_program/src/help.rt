@@ -31,7 +31,8 @@ the script's order, and behind them 'entries N audit ok'";
 
 pub const MANUAL: &str = "Script:
   One command a line, of at most 256 bytes, with one space between words; at most 1 MiB in all. X, Y and Z are names
-  of vertices, V is a number, and RIGHTS are letters out of r (read), w (write), t (take) and g (grant), in this order.
+  of vertices, V is a number, and RIGHTS are letters out of r (read), w (write), t (take), g (grant), a (append),
+  l (inspect), u and v (free), in this order.
 
   edge X Y RIGHTS      worker X starts with RIGHTS over worker Y; stands before all other lines
   X create RIGHTS      X makes an object, with the next box of the stock, and has RIGHTS over it
@@ -40,6 +41,8 @@ pub const MANUAL: &str = "Script:
   X remove Y RIGHTS    X gives up RIGHTS over Y
   X read Y             X, with r over Y, is shown what Y stores
   X write Y V          X, with w over Y, writes V to Y
+  X append Y V         X, with a over Y, adds V to the log Y
+  X inspect Y          X, with l over Y, is shown Y's edges
   X list               X is shown its edges
   full                 collects, and answers how many vertices can be reached
   minor                collects among the newest objects alone, and answers no number
@@ -51,7 +54,8 @@ Replies:
   One line for each command. What was written is shown before more input is waited for, on pipes too.
 
   ok                   with what was asked for after it: a name, values, edges as NAME:RIGHTS
-  denied ..            the rule, and the rights that were missing on an edge X->Y
+  denied ..            the rule, and the rights that were missing on an edge X->Y; or 'distinct', where two vertices are one;
+                       or 'law', where Y is no log
   refused ..           memory, heap, vertices or stock: what there was too little of; threads: a helper of a collection couldn't be
                        started; worker: there is no such worker
 

@@ -21,12 +21,12 @@ module _ (c : Content) (g : ProtectionGraph) (stands : IsContentOf c g) where
   names_below k d inside = stands.made _ (All-contains_itself c.names k d inside)
 
   module _ (x : ℕ) (command : Command) (subject : IsSubject g x) where
-    pub answer-denied : (denial : Denial) → denial_of c.label x command ≡ Some denial → answer_of g x (Plain command) ≡ reply.Denied denial
+    pub answer-denied : (denial : Denial) → denial_of c.label c.value x command ≡ Some denial → answer_of g x (Plain command) ≡ reply.Denied denial
     answer-denied denial denied =
         answer_of-stands c g stands x command subject
         ∙ ap (λ d. denied_or d (reply_of c.label c.value g.made x command)) denied
 
-    pub answer-served : (answer : Reply) → denial_of c.label x command ≡ None → IsReplyOn c x command answer → answer_of g x (Plain command) ≡ answer
+    pub answer-served : (answer : Reply) → denial_of c.label c.value x command ≡ None → IsReplyOn c x command answer → answer_of g x (Plain command) ≡ answer
     answer-served answer none is =
         answer_of-stands c g stands x command subject
         ∙ ap (λ d. denied_or d (reply_of c.label c.value g.made x command)) none

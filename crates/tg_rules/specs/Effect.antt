@@ -2,7 +2,7 @@
 use Rattle.std.specs.Prelude.{◌≡◌, ℕ, ◌+◌, ◌<◌}
 use Rattle.std.specs.List.{All}
 use Rattle.tg_model.specs.declared.command.Command.{Command}
-use Rattle.tg_model.specs.declared.command.Command.TheVariants.{Take, Grant, Remove, Read, Write, List as Listing}
+use Rattle.tg_model.specs.declared.command.Command.TheVariants.{Take, Grant, Remove, Read, Write, Append, Inspect, List as Listing}
 use Rattle.tg_model.specs.declared.reply.Reply.{Reply}
 use Rattle.tg_model.specs.Rules.{labels_after, values_after, reply_of}
 use Rattle.tg_space.specs.declared.allocate_fault.AllocateFault.{AllocateFault}
@@ -28,6 +28,8 @@ OnlyLooks (Grant rights y z) = ⊥
 OnlyLooks (Remove rights y) = ⊥
 OnlyLooks (Read y) = Unit {0}
 OnlyLooks (Write y v) = ⊥
+OnlyLooks (Append y v) = ⊥
+OnlyLooks (Inspect y) = Unit {0}
 OnlyLooks Listing = Unit {0}
 
 -- the command adds an edge, and so may need a cell for a reference
@@ -37,6 +39,8 @@ AddsEdge (Grant rights y z) = Unit {0}
 AddsEdge (Remove rights y) = ⊥
 AddsEdge (Read y) = ⊥
 AddsEdge (Write y v) = ⊥
+AddsEdge (Append y v) = ⊥
+AddsEdge (Inspect y) = ⊥
 AddsEdge Listing = ⊥
 
 -- the edge that the command of x adds goes where more cells are needed than the nursery of x has left and gets
@@ -46,6 +50,8 @@ LacksCellsToServe t x (Grant rights y z) = LacksCellsFor t (x + 2) 0 y z
 LacksCellsToServe t x (Remove rights y) = ⊥
 LacksCellsToServe t x (Read y) = ⊥
 LacksCellsToServe t x (Write y v) = ⊥
+LacksCellsToServe t x (Append y v) = ⊥
+LacksCellsToServe t x (Inspect y) = ⊥
 LacksCellsToServe t x Listing = ⊥
 
 abbrev pub perform_fault_of : AllocateFault → PerformFault

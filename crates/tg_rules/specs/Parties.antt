@@ -1,7 +1,7 @@
 -- The vertices that a command is about.
 use Rattle.std.specs.Prelude.{◌≡◌, ℕ}
 use Rattle.tg_model.specs.declared.command.Command.{Command}
-use Rattle.tg_model.specs.declared.command.Command.TheVariants.{Take, Grant, Remove, Read, Write, List as Listing}
+use Rattle.tg_model.specs.declared.command.Command.TheVariants.{Take, Grant, Remove, Read, Write, Append, Inspect, List as Listing}
 use Rattle.tg_graph.specs.Heap.{HeapState}
 use Rattle.tg_rules.specs.declared.vertex.Parties.{Parties}
 use Rattle.tg_rules.specs.Verdict.{HasVertex}
@@ -13,6 +13,8 @@ owner_of_row x (Grant rights y z) = y
 owner_of_row x (Remove rights y) = x
 owner_of_row x (Read y) = x
 owner_of_row x (Write y v) = x
+owner_of_row x (Append y v) = x
+owner_of_row x (Inspect y) = y
 owner_of_row x Listing = x
 
 -- the vertex that a command of x names last, or x where it names none
@@ -22,6 +24,8 @@ last_named x (Grant rights y z) = z
 last_named x (Remove rights y) = y
 last_named x (Read y) = y
 last_named x (Write y v) = y
+last_named x (Append y v) = y
+last_named x (Inspect y) = y
 last_named x Listing = x
 
 -- the two vertices of the heap that a command of x is about

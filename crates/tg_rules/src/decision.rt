@@ -3,7 +3,7 @@ ghost use Rattle.std.specs.Prelude.{◌≡◌, ◌<◌, ◌==◌, ◌||◌, fals
 ghost use Rattle.std.specs.Option.{option_or};
 ghost use Rattle.std.specs.Result.{result_err};
 ghost use Rattle.tg_rights.specs.RightSet.{is_none_held};
-ghost use Rattle.tg_model.specs.Rules.{unless_distinct, unless_held, denial_of};
+ghost use Rattle.tg_model.specs.Rules.{unless_distinct, unless_held, unless_log, denial_of};
 ghost use Rattle.tg_graph.specs.Heap.{content_of};
 ghost use Rattle.tg_rules.specs.Verdict.{verdict_of, HasVertex};
 ghost use Rattle.tg_rules.specs.Parties.{AreParties};
@@ -24,11 +24,11 @@ pub enum Verdict {
 }
 
 /// Decides a command of a worker by the rules, on what the heap has. The denial is the first check that fails, in the
-/// order distinctness, the right to use the rule, the rights that are taken or given. A name that no vertex has, or
-/// that was collected, is as good as one without an edge. Takes no memory.
+/// order distinctness, the right to use the rule, the rights that are taken or given, the law of what is appended to. A
+/// name that no vertex has, or that was collected, is as good as one without an edge. Takes no memory.
 pub fn decide<P: Payload>(heap: &Heap<P>, worker: u64, command: &Command) -> Verdict
     requires { worker < length heap.now.workers }
-    ensures { result ≡ verdict_of (denial_of (content_of heap.now).label worker command.now) }
+    ensures { result ≡ verdict_of (denial_of (content_of heap.now).label (content_of heap.now).value worker command.now) }
 {
     match find_parties(heap, worker, command) {
         Ok(_) => Verdict::Served,
@@ -47,7 +47,7 @@ pub fn find_parties<P: Payload>(
     command: &Command,
 ) -> Result<Parties, Denial>
     requires { worker < length heap.now.workers }
-    ensures denial { result_err result ≡ denial_of (content_of heap.now).label worker command.now }
+    ensures denial { result_err result ≡ denial_of (content_of heap.now).label (content_of heap.now).value worker command.now }
     ensures found { IfOk result (AreParties heap.now worker command.now) }
 {
     let worker = worker_of(heap, worker);
@@ -86,6 +86,18 @@ pub fn find_parties<P: Payload>(
         }
         Command::Write { target, .. } => {
             check_use(heap, Rule::Write, worker, target, Rights::of(Right::W))
+        }
+        Command::Append { target, .. } => {
+            let parties = check_use(heap, Rule::Append, worker, target, Rights::of(Right::A))?;
+            check_log(heap, Rule::Append, parties.target)?;
+            Ok(parties)
+        }
+        Command::Inspect { target } => {
+            let parties = check_use(heap, Rule::Inspect, worker, target, Rights::of(Right::L))?;
+            Ok(Parties {
+                from: parties.target,
+                target: parties.target,
+            })
         }
         Command::List => Ok(Parties {
             from: worker,
@@ -173,6 +185,21 @@ fn check_held<P: Payload>(
         Some(found) => Err(missing(rule, from.name, to, rights.minus(found.rights))),
         None => Err(missing(rule, from.name, to, rights)),
     }
+}
+
+// Denies a command that wants a log, where the vertex stores something else.
+#[inline(always)]
+fn check_log<P: Payload>(heap: &Heap<P>, rule: Rule, target: Vertex) -> Result<(), Denial>
+    requires { HasVertex heap.now target }
+    ensures { result_err result ≡ unless_log rule ((content_of heap.now).value target.name) }
+{
+    if heap.law(target.place).is_log() {
+        return Ok(());
+    }
+    Err(Denial {
+        rule,
+        cause: Cause::NotLog,
+    })
 }
 
 // The denial for want of these rights.

@@ -1,6 +1,7 @@
 //! What a command does that is served.
-ghost use Rattle.std.specs.Prelude.{◌≡◌, ◌≢◌, ◌<◌, ◌+◌, ◌↔◌, None, Some, Err, IfOk, IfSome, IsSome, OnOk, OnErr, length};
-ghost use Rattle.tg_model.specs.Graph.{with_rights, without_rights};
+ghost use Rattle.std.specs.Prelude.{◌≡◌, ◌≢◌, ◌<◌, ◌+◌, ◌↔◌, ℕ, None, Some, Err, IfOk, IfSome, IsSome, OnOk, OnErr, length};
+ghost use Rattle.std.specs.List.{All};
+ghost use Rattle.tg_model.specs.Graph.{with_rights, without_rights, listing_of};
 ghost use Rattle.tg_model.specs.Rules.{denial_of, state_of, written_at};
 ghost use Rattle.tg_graph.specs.Heap.{content_of, IsUnchangedHeap, KeepsPlaces};
 ghost use Rattle.tg_graph.specs.Content.{IsContent, IsNamed};
@@ -66,7 +67,7 @@ pub fn perform<P: Payload>(
     command: &Command,
 ) -> Result<Reply, PerformFault>
     requires worker { worker < length heap.old.workers }
-    requires served { denial_of (content_of heap.old).label worker command.now ≡ None }
+    requires served { denial_of (content_of heap.old).label (content_of heap.old).value worker command.now ≡ None }
     ensures reply { IfOk result (λ reply. IsReplyOn (content_of heap.old) worker command.now reply) }
     ensures content { OnOk result (IsContentAfter (content_of heap.old) (content_of heap.new) worker command.now) }
     ensures kept { OnOk result (KeepsPlaces heap.old heap.new) }
@@ -108,8 +109,8 @@ pub fn perform_between<P: Payload>(
             rights,
         } => Ok(remove(heap, from, name, rights)),
         Command::Read { .. } => read(heap, target),
-        Command::Write { value, .. } => write(heap, target, value),
-        Command::List => list(heap, from),
+        Command::Write { value, .. } | Command::Append { value, .. } => write(heap, target, value),
+        Command::List | Command::Inspect { .. } => list(heap, from),
     }
 }
 
@@ -117,7 +118,7 @@ pub fn perform_between<P: Payload>(
 /// be served. Takes no memory.
 pub fn readable<P: Payload>(heap: &Heap<P>, worker: u64, name: u64) -> Option<&P>
     requires { worker < length heap.now.workers }
-    ensures allowed { IsSome result ↔ (denial_of (content_of heap.now).label worker (Command.Read name) ≡ None) }
+    ensures allowed { IsSome result ↔ (denial_of (content_of heap.now).label (content_of heap.now).value worker (Command.Read name) ≡ None) }
     ensures stored { IfSome result (λ payload. (content_of heap.now).value name ≡ Some (P.value payload.now)) }
 {
     let read = Command::Read { target: name };
@@ -173,7 +174,7 @@ fn read<P: Payload>(heap: &Heap<P>, target: Vertex) -> Result<Reply, PerformFaul
     Ok(Reply::Values(heap.state(target.place)?))
 }
 
-// The state of a vertex becomes that after a number is written.
+// The state of a vertex becomes that after a number is written or appended.
 #[inline(always)]
 fn write<P: Payload>(heap: &mut Heap<P>, target: Vertex, number: u64) -> Result<Reply, PerformFault>
     requires { HasVertex heap.old target }
@@ -192,7 +193,7 @@ fn write<P: Payload>(heap: &mut Heap<P>, target: Vertex, number: u64) -> Result<
 #[inline(always)]
 fn list<P: Payload>(heap: &Heap<P>, from: Vertex) -> Result<Reply, PerformFault>
     requires { HasVertex heap.now from }
-    ensures reply { IfOk result (IsReplyOn (content_of heap.now) from.name Command.List) }
+    ensures reply { IfOk result (λ reply. (n : ℕ) → All (λ name. name < n) (content_of heap.now).names → reply ≡ Reply.Edges (listing_of (content_of heap.now).label n from.name)) }
     ensures room { result ≢ Err PerformFault.HeapFull }
 {
     Ok(Reply::Edges(heap.row(from.place)?))

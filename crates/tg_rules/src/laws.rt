@@ -22,16 +22,16 @@ ghost use Rattle.tg_rules.specs.Effect.{IsReplyOn, IsContentAfter};
 /// answer is that denial or else the reply, computed on the content with the graph's number of vertices ever made.
 pub fn decisions_on_a_content_are_its_graphs()
     ensures denial { (c : Content) (g : ProtectionGraph) (x : ℕ) (command : Command) →
-        IsContentOf c g → IsSubject g x → denial_of c.label x command ≡ denial_of g.label x command }
+        IsContentOf c g → IsSubject g x → denial_of c.label c.value x command ≡ denial_of g.label g.value x command }
     ensures answer { (c : Content) (g : ProtectionGraph) (x : ℕ) (command : Command) →
         IsContentOf c g → IsSubject g x →
         answer_of g x (Plain command)
-        ≡ denied_or (denial_of c.label x command) (reply_of c.label c.value g.made x command) }
+        ≡ denied_or (denial_of c.label c.value x command) (reply_of c.label c.value g.made x command) }
     ensures served { (c : Content) (g : ProtectionGraph) (x : ℕ) (command : Command) (reply : Reply) →
-        IsContentOf c g → IsSubject g x → denial_of c.label x command ≡ None → IsReplyOn c x command reply →
+        IsContentOf c g → IsSubject g x → denial_of c.label c.value x command ≡ None → IsReplyOn c x command reply →
         answer_of g x (Plain command) ≡ reply }
     ensures denied { (c : Content) (g : ProtectionGraph) (x : ℕ) (command : Command) (denial : Denial) →
-        IsContentOf c g → IsSubject g x → denial_of c.label x command ≡ Some denial →
+        IsContentOf c g → IsSubject g x → denial_of c.label c.value x command ≡ Some denial →
         answer_of g x (Plain command) ≡ Denied denial }
 {}
 
@@ -40,11 +40,11 @@ pub fn decisions_on_a_content_are_its_graphs()
 /// is one that the content doesn't have.
 pub fn steps_on_a_content_are_its_graphs()
     ensures served { (c new : Content) (g : ProtectionGraph) (x : ℕ) (command : Command) →
-        IsContentOf c g → IsSubject g x → denial_of c.label x command ≡ None →
+        IsContentOf c g → IsSubject g x → denial_of c.label c.value x command ≡ None →
         IsContentAfter c new x command →
         IsContentOf new (step g x (Plain command)) }
     ensures denied { (c new : Content) (g : ProtectionGraph) (x : ℕ) (command : Command) (denial : Denial) →
-        IsContentOf c g → IsSubject g x → denial_of c.label x command ≡ Some denial →
+        IsContentOf c g → IsSubject g x → denial_of c.label c.value x command ≡ Some denial →
         IsSameContent c new → IsContentOf new (step g x (Plain command)) }
     ensures created { (c new : Content) (g : ProtectionGraph) (x : ℕ) (label : RightSet) (law : Law) (state : List ℕ) →
         IsContentOf c g → OnlyNamedHold c → IsSound g → IsSubject g x → g.made < g.limit →

@@ -18,6 +18,10 @@
 //!   grant y z     x --g--> y                     both edges: the row of x
 //!                 x --rights--> z
 //!                 y --rights--> z                is added to the row of y
+//!
+//!   append y      x --a--> y                     the row of x, and then what y stores: a log, or it is denied
+//!
+//!   inspect y     x --l--> y                     the row of x, and then the row of y is listed
 //! ```
 //!
 //! So a name that was never made, one that was collected and one without an edge give the same denial.

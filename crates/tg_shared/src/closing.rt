@@ -6,7 +6,7 @@ ghost use Rattle.tg_shared.specs.Sessions.{MatchesSince, MayClose};
 use crate::locked::Locked;
 use crate::receipt::{Receipt, receipts_match};
 use crate::round::Round;
-use crate::session::Session;
+use crate::session::{Session, audit_all};
 use tg_journal::Journal;
 use tg_payload::Payload;
 use tg_store::Store;
@@ -41,7 +41,7 @@ impl<L: Round, P: Payload> Locked<L, P> {
     /// `SessionsMissing` is answered exactly where there are fewer sessions than were made, and looked for first;
     /// `ReceiptMismatch` exactly where there are as many, and they may not close. What was handed in then comes back. Takes
     /// no memory.
-    pub fn close(self, sessions: Vec<Session<L>>) -> Result<Store<P>, LockedRefused<L, P>>
+    pub fn close(mut self, mut sessions: Vec<Session<L>>) -> Result<Store<P>, LockedRefused<L, P>>
         ensures store { IfOk result (λ store. store ≡ self.store) }
         ensures matching { OnOk result (MayClose self.store.entries (length L.start.entries) sessions.items) }
         ensures all { OnOk result (length sessions.items ≡ self.sessions) }
@@ -51,6 +51,7 @@ impl<L: Round, P: Payload> Locked<L, P> {
         ensures missing { IsErrAnd result (λ refused. refused.why ≡ CloseFault.SessionsMissing) ↔ (length sessions.items < self.sessions) }
         ensures mismatch { IsErrAnd result (λ refused. refused.why ≡ CloseFault.ReceiptMismatch) ↔
             ((self.sessions ≤ length sessions.items) × (¬ MayClose self.store.entries (length L.start.entries) sessions.items)) }
+        ensures counted { IfErr result (λ refused. refused.why ≡ CloseFault.ReceiptMismatch → length L.start.entries + count_of sessions.items ≤ length self.store.entries) }
         ensures handed_back { IfErr result (λ refused. (refused.locked ≡ self) × (refused.sessions.items ≡ sessions.items)) }
     {
         if (sessions.len() as u64) < self.sessions {
@@ -61,6 +62,8 @@ impl<L: Round, P: Payload> Locked<L, P> {
             });
         }
         if !may_close(self.store.journal(), self.start, sessions.as_slice()) {
+            // It tells that each of their receipts was counted.
+            audit_all(&mut self.book, &mut self.rest, sessions.as_mut_slice());
             return Err(LockedRefused {
                 locked: self,
                 sessions,

@@ -2,6 +2,7 @@
 ghost use Rattle.std.specs.Prelude.{◌≡◌, ◌≢◌, ◌↔◌, ◌≤◌, ℕ, [], Err, IfOk, IfErr, OnErr, OnOk, length};
 ghost use Rattle.tg_model.specs.Graph.{ProtectionGraph, IsReachable};
 ghost use Rattle.tg_space.specs.Collection.{MayLackRoom, used_cells};
+ghost use Rattle.tg_space.specs.Generations.{AreNeeded};
 ghost use Rattle.tg_space.specs.SpaceList.{space_of};
 ghost use Rattle.tg_space.specs.SpaceTable.{kept_blocks};
 ghost use Rattle.tg_graph.specs.Content.{IsNamed};
@@ -40,6 +41,8 @@ impl<L: Round, P: Payload> Locked<L, P> {
         ensures only_old { OnOk result (kind ≡ Kind.Full → (space : ℕ) → space ≢ 0 → space_of self.new.store.heap.table.spaces space ≡ []) }
         ensures no_nursery { OnOk result ((space : ℕ) → 2 ≤ space → space_of self.new.store.heap.table.spaces space ≡ []) }
         ensures blocks { OnOk result (HasFewBlocks kind helpers self.old.store.heap.table self.new.store.heap.table) }
+        ensures needed { OnOk result (AreNeeded self.new.store.heap.table.spaces self.new.store.heap.remembered) }
+        ensures none_needed { OnOk result (kind ≡ Kind.Full → self.new.store.heap.remembered ≡ []) }
         ensures stay { OnOk result (kind ≡ Kind.Nursery → VerticesOfOldStay self.old.store.heap.table.spaces self.new.store.heap.table.spaces) }
         ensures entries { self.new.store.entries ≡ self.old.store.entries }
         ensures full { result ≡ Err HelpersFault.HeapFull →

@@ -70,10 +70,23 @@ fn same_command(command: &Command, other: &Command) -> bool
             Command::Read {
                 target: other_target,
             },
+        )
+        | (
+            Command::Inspect { target },
+            Command::Inspect {
+                target: other_target,
+            },
         ) => *target == *other_target,
         (
             Command::Write { target, value },
             Command::Write {
+                target: other_target,
+                value: other_value,
+            },
+        )
+        | (
+            Command::Append { target, value },
+            Command::Append {
                 target: other_target,
                 value: other_value,
             },

@@ -1,5 +1,5 @@
 //! The store behind its lock, from sharing it to closing it.
-ghost use Rattle.std.specs.Prelude.{◌≡◌, ◌↔◌, ◌<◌, ◌+◌, IfOk, IfErr, IsErrAnd, OnOk, drop, length};
+ghost use Rattle.std.specs.Prelude.{◌≡◌, ◌↔◌, ◌<◌, ◌≤◌, ◌+◌, IfOk, IfErr, IsErrAnd, OnOk, drop, length};
 ghost use Rattle.tg_store.specs.Store.{IsFaithful};
 ghost use Rattle.tg_shared.specs.Sessions.{AreFresh, AreSharedOut, AtSome, GoesOn, MayClose, count_of, sessions_made};
 
@@ -68,16 +68,31 @@ impl<L: Round, P: Payload> SharedStore<L, P> {
             Err(store) => Err(SharedRefused { store }),
         }
     }
+
+    /// What was behind the lock, for a caller who wants to name it: [`Locked::close`] then tells exactly whether the round
+    /// ends. It is the store that was shared, gone on. Takes no memory, and no lock is waited for.
+    pub fn into_locked(self) -> Locked<L, P>
+        ensures faithful { IsFaithful result.store }
+        ensures gone_on { GoesOn L.start result.store }
+        ensures sessions { result.sessions ≡ sessions_made L.start }
+    {
+        let SharedStore { locked } = self;
+        let locked = locked.into_inner();
+        // It tells what holds of all that is behind a lock.
+        let _ = locked.store();
+        locked
+    }
 }
 
 /// Ends a round: hands out the store, where all sessions are given back and their receipts are right. The store's journal
 /// has then grown by as many entries as there are receipts: each entry since the store was shared stands in exactly one of
 /// them, and the receipts of each session are all its entries, in their order. It is the store that was shared, with its
-/// opening, its limits and the entries that it had.
+/// opening, its limits and the entries that it had. It is [`SharedStore::into_locked`] and [`Locked::close`] in a row.
 ///
 /// `SessionsMissing` is answered exactly where there are fewer sessions than were made, and looked for first;
-/// `ReceiptMismatch` only where the sessions may not close with some journal that may have been behind the lock. Store and
-/// sessions then come back. Takes no memory, and no lock is waited for.
+/// `ReceiptMismatch` only where the sessions may not close with some journal that may have been behind the lock, and that has
+/// grown by as many entries at least as they have receipts; a caller who wants to know of the very journal takes the two
+/// calls. Store and sessions then come back. Takes no memory, and no lock is waited for.
 pub fn close<L: Round, P: Payload>(
     store: SharedStore<L, P>,
     sessions: Vec<Session<L>>,
@@ -89,13 +104,11 @@ pub fn close<L: Round, P: Payload>(
     ensures gone_on { IfOk result (GoesOn L.start) }
     ensures all { OnOk result (length sessions.items ≡ sessions_made L.start) }
     ensures missing { IsErrAnd result (λ refused. refused.why ≡ CloseFault.SessionsMissing) ↔ (length sessions.items < sessions_made L.start) }
-    ensures mismatch { IfErr result (λ refused. refused.why ≡ CloseFault.ReceiptMismatch → AtSome L.start (λ s. ¬ MayClose s.entries (length L.start.entries) sessions.items)) }
+    ensures mismatch { IfErr result (λ refused. refused.why ≡ CloseFault.ReceiptMismatch → AtSome L.start (λ s.
+        (length L.start.entries + count_of sessions.items ≤ length s.entries) × (¬ MayClose s.entries (length L.start.entries) sessions.items))) }
     ensures handed_back { IfErr result (λ refused. refused.sessions.items ≡ sessions.items) }
 {
-    let SharedStore { locked } = store;
-    let locked = locked.into_inner();
-    // for what is told of it: the shared store, gone on, and how many sessions were made
-    let _ = locked.store();
+    let locked = store.into_locked();
     match locked.close(sessions) {
         Ok(store) => {
             // It tells that the store is faithful.

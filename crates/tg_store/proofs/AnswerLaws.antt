@@ -6,7 +6,7 @@ use Rattle.tg_rights.specs.RightSet.{RightSet}
 use Rattle.tg_model.specs.declared.value.Value.{Value}
 use Rattle.std.specs.Prelude.{Option}
 use Rattle.tg_model.specs.declared.command.Command.{Command}
-use Rattle.tg_model.specs.declared.command.Command.TheVariants.{Take, Grant, Remove, Read, Write, List as Listing}
+use Rattle.tg_model.specs.declared.command.Command.TheVariants.{Take, Grant, Remove, Read, Write, Append, Inspect, List as Listing}
 use Rattle.tg_model.specs.declared.command.Deed.TheVariants.{Plain}
 use Rattle.tg_model.specs.declared.reply.Reply.{Reply}
 use Rattle.tg_model.specs.declared.reply.Reply.TheVariants.{Done, Denied}
@@ -26,9 +26,11 @@ reply_of-done label value n x (Grant rights y z) changes = refl
 reply_of-done label value n x (Remove rights y) changes = refl
 reply_of-done label value n x (Read y) changes = absurd (changes tt)
 reply_of-done label value n x (Write y v) changes = refl
+reply_of-done label value n x (Append y v) changes = refl
+reply_of-done label value n x (Inspect y) changes = absurd (changes tt)
 reply_of-done label value n x Listing changes = absurd (changes tt)
 
-module _ (c : Content) (g : ProtectionGraph) (stands : IsContentOf c g) (x : ℕ) (command : Command) (subject : IsSubject g x) (none : denial_of c.label x command ≡ None) where
+module _ (c : Content) (g : ProtectionGraph) (stands : IsContentOf c g) (x : ℕ) (command : Command) (subject : IsSubject g x) (none : denial_of c.label c.value x command ≡ None) where
   -- all names are below the number of vertices ever made
   below_made : All (λ name. name < g.made) c.names
   below_made k d low = stands.made (get_or c.names k d) (k, low, get_or_default c.names k (get_or c.names k d) d low)
@@ -39,15 +41,15 @@ module _ (c : Content) (g : ProtectionGraph) (stands : IsContentOf c g) (x : ℕ
   pub reply-served : (reply : Reply) → IsReplyOn c x command reply → reply ≡ answer_of g x (Plain command)
   reply-served reply is = is g.made below_made ∙ sym answered
 
-  pub permitted : Permits g.label x command
-  permitted = permits-no_denial g.label x command (sym (denial_of-stands c g stands x command subject) ∙ none)
+  pub permitted : Permits g.label g.value x command
+  permitted = permits-no_denial g.label g.value x command (sym (denial_of-stands c g stands x command subject) ∙ none)
 
   pub done-served : (OnlyLooks command → ⊥) → Done ≡ answer_of g x (Plain command)
   done-served changes = sym (answered ∙ reply_of-done c.label c.value g.made x command changes)
 
 -- ---- where a command is denied
 
-module _ (c : Content) (g : ProtectionGraph) (stands : IsContentOf c g) (x : ℕ) (command : Command) (subject : IsSubject g x) (denial : Denial) (denied : denial_of c.label x command ≡ Some denial) where
+module _ (c : Content) (g : ProtectionGraph) (stands : IsContentOf c g) (x : ℕ) (command : Command) (subject : IsSubject g x) (denial : Denial) (denied : denial_of c.label c.value x command ≡ Some denial) where
   pub reply-denied : Denied denial ≡ answer_of g x (Plain command)
   reply-denied = sym (answer_of-stands c g stands x command subject ∙ ap (λ d. denied_or d (reply_of c.label c.value g.made x command)) denied)
 
@@ -61,6 +63,8 @@ not_denied label value n x (Grant rights y z) denial e = cc
 not_denied label value n x (Remove rights y) denial e = cc
 not_denied label value n x (Read y) denial e = cc
 not_denied label value n x (Write y v) denial e = cc
+not_denied label value n x (Append y v) denial e = cc
+not_denied label value n x (Inspect y) denial e = cc
 not_denied label value n x Listing denial e = cc
 
 from_denied : (o : Option Denial) (reply : Reply) (denial : Denial) → (Denied denial ≡ reply → ⊥) → Denied denial ≡ denied_or o reply → o ≡ Some denial
@@ -68,10 +72,10 @@ from_denied None reply denial none e = absurd (none e)
 from_denied (Some d) reply denial none e = let same : denial ≡ d = cc e in ap Some (sym same)
 
 -- where a denial is answered, it is that of the content
-pub denial-answered : (c : Content) (g : ProtectionGraph) (x : ℕ) (command : Command) (denial : Denial) → IsContentOf c g → IsSubject g x → Denied denial ≡ answer_of g x (Plain command) → denial_of c.label x command ≡ Some denial
+pub denial-answered : (c : Content) (g : ProtectionGraph) (x : ℕ) (command : Command) (denial : Denial) → IsContentOf c g → IsSubject g x → Denied denial ≡ answer_of g x (Plain command) → denial_of c.label c.value x command ≡ Some denial
 denial-answered c g x command denial stands subject e =
     denial_of-stands c g stands x command subject
-    ∙ from_denied (denial_of g.label x command) (reply_of g.label g.value g.made x command) denial (not_denied g.label g.value g.made x command denial) e
+    ∙ from_denied (denial_of g.label g.value x command) (reply_of g.label g.value g.made x command) denial (not_denied g.label g.value g.made x command denial) e
 
 made_either : (o : Option Denial) (g : ProtectionGraph) (x : ℕ) (command : Command) → (unless_denied o g (effect g x command)).made ≡ g.made
 made_either None g x command = refl
@@ -79,4 +83,4 @@ made_either (Some denial) g x command = refl
 
 -- a command makes no vertex
 pub made-plain : (g : ProtectionGraph) (x : ℕ) (command : Command) → (step g x (Plain command)).made ≡ g.made
-made-plain g x command = made_either (denial_of g.label x command) g x command
+made-plain g x command = made_either (denial_of g.label g.value x command) g x command

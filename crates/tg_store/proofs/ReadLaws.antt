@@ -13,19 +13,19 @@ use Rattle.tg_graph.specs.Standing.{IsContentOf}
 use Rattle.tg_graph.proofs.StandingLaws.{StandsFor-values_near, denial_of-stands}
 
 module _ (c : Content) (g : ProtectionGraph) (stands : IsContentOf c g) (x y : ℕ) (subject : IsSubject g x) where
-  same_denial : denial_of c.label x (Read y) ≡ denial_of g.label x (Read y)
+  same_denial : denial_of c.label c.value x (Read y) ≡ denial_of g.label g.value x (Read y)
   same_denial = denial_of-stands c g stands x (Read y) subject
 
-  pub read-permitted : (denial_of c.label x (Read y) ≡ None) ↔ Permits g.label x (Read y)
+  pub read-permitted : (denial_of c.label c.value x (Read y) ≡ None) ↔ Permits g.label g.value x (Read y)
   read-permitted = (
-    λ none. permits-no_denial g.label x (Read y) (sym same_denial ∙ none),
-    λ allowed. same_denial ∙ no_denial-permits g.label x (Read y) allowed,
+    λ none. permits-no_denial g.label g.value x (Read y) (sym same_denial ∙ none),
+    λ allowed. same_denial ∙ no_denial-permits g.label g.value x (Read y) allowed,
   )
 
-  pub read-same : Permits g.label x (Read y) → c.value y ≡ g.value y
+  pub read-same : Permits g.label g.value x (Read y) → c.value y ≡ g.value y
   read-same allowed = StandsFor-values_near c g stands x subject y (HasEdge-holds g.label x y (only right.R) allowed.1 refl)
 
   -- what is lent is of the graph's value
-  pub read-lent : {X : Type 0} (lent : Option X) (value : X → Value) → (IsSome lent → denial_of c.label x (Read y) ≡ None) → IfSome lent (λ a. c.value y ≡ Some (value a)) → IfSome lent (λ a. g.value y ≡ Some (value a))
+  pub read-lent : {X : Type 0} (lent : Option X) (value : X → Value) → (IsSome lent → denial_of c.label c.value x (Read y) ≡ None) → IfSome lent (λ a. c.value y ≡ Some (value a)) → IfSome lent (λ a. g.value y ≡ Some (value a))
   read-lent None value served is = tt
   read-lent (Some a) value served is = sym (read-same (read-permitted.0 (served refl))) ∙ is

@@ -38,12 +38,12 @@ pub(crate) fn answer_command<P: Payload>(
         IfOk result (λ answer. answer.reply ≡ answer_of g worker (Plain command.now)) }
     ensures step { (g : ProtectionGraph) → IsContentOf (content_of heap.old) g → IsSubject g worker →
         OnOk result (IsContentOf (content_of heap.new) (step g worker (Plain command.now))) }
-    ensures denied { (denial : Denial) → denial_of (content_of heap.old).label worker command.now ≡ Some denial → heap.new ≡ heap.old }
+    ensures denied { (denial : Denial) → denial_of (content_of heap.old).label (content_of heap.old).value worker command.now ≡ Some denial → heap.new ≡ heap.old }
     ensures workers { heap.new.workers ≡ heap.old.workers }
     ensures limits { heap.new.table.limits ≡ heap.old.table.limits }
     ensures refused { OnErr result (IsUnchangedHeap heap.old heap.new) }
     ensures worker { result ≢ Err ApplyFault.NoSuchWorker }
-    ensures full { result ≡ Err ApplyFault.HeapFull → (denial_of (content_of heap.old).label worker command.now ≡ None)
+    ensures full { result ≡ Err ApplyFault.HeapFull → (denial_of (content_of heap.old).label (content_of heap.old).value worker command.now ≡ None)
         × AddsEdge command.now × LacksCellsToServe heap.old.table worker command.now }
 {
     match find_parties(heap, worker, command) {
@@ -81,7 +81,7 @@ fn look<P: Payload>(
 ) -> Result<Replies, ApplyFault>
     requires worker { worker < length heap.old.workers }
     requires parties { AreParties heap.old worker command.now parties }
-    requires served { denial_of (content_of heap.old).label worker command.now ≡ None }
+    requires served { denial_of (content_of heap.old).label (content_of heap.old).value worker command.now ≡ None }
     requires looks { OnlyLooks command.now }
     ensures copy { IfOk result (λ answer. answer.copy ≡ answer.reply) }
     ensures reply { (g : ProtectionGraph) → IsContentOf (content_of heap.old) g → IsSubject g worker →
@@ -109,7 +109,7 @@ fn change<P: Payload>(
 ) -> Result<Replies, ApplyFault>
     requires worker { worker < length heap.old.workers }
     requires parties { AreParties heap.old worker command.now parties }
-    requires served { denial_of (content_of heap.old).label worker command.now ≡ None }
+    requires served { denial_of (content_of heap.old).label (content_of heap.old).value worker command.now ≡ None }
     requires changes { ¬ OnlyLooks command.now }
     ensures copy { IfOk result (λ answer. answer.copy ≡ answer.reply) }
     ensures reply { (g : ProtectionGraph) → IsContentOf (content_of heap.old) g → IsSubject g worker →
@@ -134,5 +134,8 @@ fn change<P: Payload>(
 fn only_looks(command: &Command) -> bool
     ensures { IsTrue result ↔ OnlyLooks command.now }
 {
-    matches!(command, Command::Read { .. } | Command::List)
+    matches!(
+        command,
+        Command::Read { .. } | Command::Inspect { .. } | Command::List
+    )
 }

@@ -26,7 +26,7 @@
 //! command needs of the heap comes next: see 'Why the entry comes last' in docs/ARCHITECTURE.md.
 //!
 //! A store is generic in its payloads, and a box of a payload is a payload (`tg_payload`): so payloads of several kinds
-//! stand side by side in boxes, and the store makes none. Only a read or a write that the rules allow reaches one.
+//! stand side by side in boxes, and the store makes none. Only a read, a write or an append that the rules allow reaches one.
 #![tactic(auto)]
 
 mod answer;

@@ -49,6 +49,7 @@ impl<P: Payload> Store<P> {
     ghost use Rattle.tg_model.specs.Rules.{IsAllowed, step, answer_of};
     ghost use Rattle.tg_model.specs.declared.reply.Denial.{Denial};
     ghost use Rattle.tg_space.specs.Collection.{AreFewBlocks, copies_in, IsCollection, MayLackRoom, used_cells};
+    ghost use Rattle.tg_space.specs.Generations.{AreNeeded};
     ghost use Rattle.tg_space.specs.Soundness.{AreSound};
     ghost use Rattle.tg_space.specs.SpaceList.{block_count, space_of};
     ghost use Rattle.tg_space.specs.SpaceTable.{kept_blocks};
@@ -65,9 +66,10 @@ impl<P: Payload> Store<P> {
     ghost use Rattle.tg_store.specs.Store.{Enters, HasAdopted, HasFewBlocks, IsCountOf, IsFaithful, IsUnchanged, OnlyEnters, StandsFor};
 
     /// A store that starts from the opening, with the payloads of the drafts, one for each worker, and with no entry in
-    /// its journal. `PayloadMismatch` is answered exactly where the drafts' laws and states aren't the opening's, with
-    /// the first such place; `HeapFull` exactly where they are, and the heap may have fewer blocks than there are
-    /// workers; else `OutOfMemory` alone. The opening and the drafts are then handed back as they were.
+    /// its journal. Its heap takes a block for each worker and no more. `PayloadMismatch` is answered exactly where the
+    /// drafts' laws and states aren't the opening's, with the first such place; `HeapFull` exactly where they are, and the
+    /// heap may have fewer blocks than there are workers; else `OutOfMemory` alone. The opening and the drafts are then
+    /// handed back as they were.
     pub fn open(
         alloc: Global,
         opening: Opening,
@@ -78,6 +80,7 @@ impl<P: Payload> Store<P> {
         ensures opening { IfOk result (λ store. store.opening ≡ opening) }
         ensures no_entry { IfOk result (λ store. store.entries ≡ []) }
         ensures limits { IfOk result (λ store. store.heap.table.limits ≡ limits) }
+        ensures blocks { IfOk result (λ store. block_count store.heap.table.spaces ≡ opening.workers) }
         ensures mismatch { (at : ℕ) → IsErrAnd result (λ refused. refused.why ≡ OpenFault.PayloadMismatch at) ↔ IsFirstDifference opening.values drafts.items at }
         ensures full { IsErrAnd result (λ refused. refused.why ≡ OpenFault.HeapFull) ↔ ((drafts.items ≡ opening.values) × (limits.max_blocks < opening.workers)) }
         ensures handed_back { IfErr result (λ refused. (refused.opening ≡ opening) × (refused.drafts.items ≡ drafts.items)) }
@@ -270,13 +273,14 @@ impl<P: Payload> Store<P> {
     /// A full collection moves all cells that the workers' rows reach to Old, and keeps exactly the vertices that can be
     /// reached. A nursery collection moves the younger cells alone, to Aged or to Old, and keeps all cells of Old, of
     /// which it looks at the remembered ones and the workers' rows alone: it may keep vertices that nobody reaches. After
-    /// either no nursery has a block.
+    /// either no nursery has a block, and only those cells of Old are remembered that name a younger one, which after a full
+    /// collection are none.
     ///
     /// After a full collection there are no more blocks than the cells in use need, 64 in each. A nursery collection leaves
     /// the blocks of Old, and adds no more than the younger cells in use need, or one more, since it fills blocks of Old and of
     /// Aged. No space has more blocks than `Limits` gives it, or else no more than it had.
     ///
-    /// A nursery collection that finds no younger cells takes no memory.
+    /// A nursery collection that finds no younger cells, and none that are remembered, takes no memory.
     ///
     /// `HeapFull` is answered only where the cells in use that would be moved may not fit into the blocks that a space may
     /// have, and else `OutOfMemory` alone; the store is then as it was.
@@ -287,6 +291,8 @@ impl<P: Payload> Store<P> {
         ensures only_old { OnOk result (kind ≡ Kind.Full → (space : ℕ) → space ≢ 0 → space_of self.new.heap.table.spaces space ≡ []) }
         ensures no_nursery { OnOk result ((space : ℕ) → 2 ≤ space → space_of self.new.heap.table.spaces space ≡ []) }
         ensures blocks { OnOk result (HasFewBlocks kind 0 self.old.heap.table self.new.heap.table) }
+        ensures needed { OnOk result (AreNeeded self.new.heap.table.spaces self.new.heap.remembered) }
+        ensures none_needed { OnOk result (kind ≡ Kind.Full → self.new.heap.remembered ≡ []) }
         ensures stay { OnOk result (kind ≡ Kind.Nursery → VerticesOfOldStay self.old.heap.table.spaces self.new.heap.table.spaces) }
         ensures entries { self.new.entries ≡ self.old.entries }
         ensures full { result ≡ Err CollectFault.HeapFull →
@@ -303,12 +309,13 @@ impl<P: Payload> Store<P> {
         Ok(self.settle(kind, copied)?)
     }
 
-    // Whether no space but Old has a block, so that a nursery collection has nothing to move.
+    // Whether no space but Old has a block and no cell is remembered, so that a nursery collection changes nothing.
     fn is_all_old(&self) -> bool
-        ensures { IsTrue result ↔ (block_count self.now.heap.table.spaces ≡ length (space_of self.now.heap.table.spaces 0)) }
+        ensures { IsTrue result ↔ ((block_count self.now.heap.table.spaces ≡ length (space_of self.now.heap.table.spaces 0)) × (self.now.heap.remembered ≡ [])) }
     {
+        let noted = self.heap.remembered().len();
         let spaces = self.heap.spaces();
-        spaces.blocks() == spaces.len(OLD)
+        spaces.blocks() == spaces.len(OLD) && noted == 0
     }
 
     // Copies what a collection of this kind keeps, first into the spare blocks.
@@ -359,6 +366,8 @@ impl<P: Payload> Store<P> {
         ensures only_old { OnOk result (kind ≡ Kind.Full → (space : ℕ) → space ≢ 0 → space_of self.new.heap.table.spaces space ≡ []) }
         ensures no_nursery { OnOk result ((space : ℕ) → 2 ≤ space → space_of self.new.heap.table.spaces space ≡ []) }
         ensures stay { OnOk result (kind ≡ Kind.Nursery → VerticesOfOldStay self.old.heap.table.spaces self.new.heap.table.spaces) }
+        ensures needed { OnOk result (AreNeeded self.new.heap.table.spaces self.new.heap.remembered) }
+        ensures none_needed { OnOk result (kind ≡ Kind.Full → self.new.heap.remembered ≡ []) }
         ensures adopted { OnOk result (HasAdopted kind self.old.heap self.new.heap copied.forward.words copied.adoption.aged copied.adoption.old) }
         ensures entries { self.new.entries ≡ self.old.entries }
         ensures refused { OnErr result (self.new ≡ self.old) }

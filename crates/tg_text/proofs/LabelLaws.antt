@@ -1,24 +1,9 @@
 -- Labels and their texts.
-use Rattle.std.proofs.Common.{◌≡◌, ℕ, Bool, true, false, List, [], ◌∷◌, Option, option_and_then, Some, None, IfSome, if◌then◌else◌, refl, sym, ap, ◌∙◌}
+use Rattle.std.proofs.Common.{◌≡◌, ℕ, Bool, true, false, List, Option, option_and_then, Some, None, IfSome, if◌then◌else◌, refl, sym, ap, ◌∙◌}
 use Rattle.std.proofs.lemmas.Option.{option_and_then_some}
 use Rattle.tg_rights.specs.RightSet.{RightSet, text_of, is_none_held, label_of as some_label}
-use Rattle.tg_rights.specs.RightText.{strip_letter, finished, read_of, read_of-text_of, text_of-strips}
+use Rattle.tg_rights.specs.RightText.{read_of, read_of-text_of, text_of-read_of}
 use Rattle.tg_text.specs.Words.{label_read}
-
--- where flags are finished, no letter was left, and they are the set
-finished_some : (r w t g : Bool) (rest : List ℕ) (s : RightSet) → finished r w t g rest ≡ Some s → (rest ≡ []) × (record { r = r; w = w; t = t; g = g } ≡ s)
-finished_some r w t g [] s h = (refl, cc)
-finished_some r w t g (x ∷ xs) s h = let no : ⊥ = cc in absurd no
-
--- only the text of a set is read as that set
-pub text_of-read_of : (word : List ℕ) (s : RightSet) → read_of word ≡ Some s → word ≡ text_of s
-text_of-read_of word s h =
-    let a = strip_letter 114 word in
-    let b = strip_letter 119 a.1 in
-    let d = strip_letter 116 b.1 in
-    let e = strip_letter 103 d.1 in
-    let k = finished_some a.0 b.0 d.0 e.0 e.1 s h in
-    sym (text_of-strips word a b d e refl refl refl refl k.0) ∙ ap text_of k.1
 
 labelled : (s : RightSet) → is_none_held s ≡ false → some_label s ≡ Some s
 labelled s some = rw some refl
@@ -35,12 +20,12 @@ label_text word l h =
     option_and_then_some some_label (read_of word) l h
     (λ s is some.
     let k = labelled_some s l (is_none_held s) some in
-    (text_of-read_of word s is ∙ ap text_of k.1, ap is_none_held (sym k.1) ∙ k.0))
+    (sym (text_of-read_of word s is) ∙ ap text_of k.1, ap is_none_held (sym k.1) ∙ k.0))
 
 -- the two things that `read_text` promises of a word make what it answers
 pub read_same : (word : List ℕ) (found : Option RightSet) → ((s : RightSet) → text_of s ≡ word → found ≡ Some s) → IfSome found (λ s. text_of s ≡ word) → found ≡ read_of word
 read_same word (Some s) reads known = sym (read_of-text_of s) ∙ ap read_of known
-read_same word None reads known = no_read (read_of word) (λ s e. reads s (sym (text_of-read_of word s e)))
+read_same word None reads known = no_read (read_of word) (λ s e. reads s (text_of-read_of word s e))
   where
     no_read : (read : Option RightSet) → ((s : RightSet) → read ≡ Some s → ◌≡◌ {A = Option RightSet} None (Some s)) → None ≡ read
     no_read None none = refl

@@ -1,4 +1,4 @@
--- The texts of answers: one line each. Numbers are decimal without leading zeros, and rights stand in the order r w t g.
+-- The texts of answers: one line each. Numbers are decimal without leading zeros, and rights stand in the order r w t g a l u v.
 use Rattle.std.specs.Prelude.{ℕ, List, [], ◌∷◌, ◌++◌, Option, Some, None, codes, decimal}
 use Rattle.std.specs.List.{flat_map}
 use Rattle.tg_rights.specs.RightSet.{RightSet, text_of}
@@ -8,7 +8,7 @@ use Rattle.tg_model.specs.declared.reply.Denial.{Denial}
 use Rattle.tg_model.specs.declared.reply.Rule.{Rule}
 use Rattle.tg_model.specs.declared.reply.Rule.TheVariants as rule
 use Rattle.tg_model.specs.declared.reply.Cause.{Cause}
-use Rattle.tg_model.specs.declared.reply.Cause.TheVariants.{NotDistinct, Missing}
+use Rattle.tg_model.specs.declared.reply.Cause.TheVariants.{NotDistinct, Missing, NotLog}
 use Rattle.tg_text.specs.declared.answer.Answer.{Answer}
 use Rattle.tg_text.specs.declared.answer.Answer.TheVariants as answer
 use Rattle.tg_text.specs.declared.answer.Refusal.{Refusal}
@@ -20,10 +20,13 @@ rule_text rule.Grant = codes "grant"
 rule_text rule.Remove = codes "remove"
 rule_text rule.Read = codes "read"
 rule_text rule.Write = codes "write"
+rule_text rule.Append = codes "append"
+rule_text rule.Inspect = codes "inspect"
 
 abbrev pub cause_text : Cause → List ℕ
 cause_text NotDistinct = codes "distinct"
 cause_text (Missing rights from to) = decimal from ++ codes "->" ++ decimal to ++ codes " " ++ text_of rights
+cause_text NotLog = codes "law"
 
 -- ` V` for each value
 abbrev pub value_text : ℕ → List ℕ

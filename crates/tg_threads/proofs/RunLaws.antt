@@ -1,26 +1,34 @@
 -- What a session's calls come to, line by line.
-use Rattle.std.proofs.Common.{◌≡◌, ◌<◌, inl, inr, ℕ, List, [], ◌∷◌, ◌++◌, Option, Some, None, refl, sym, ap, ◌∙◌, subst, append-nil, append_assoc}
+use Rattle.std.proofs.Common.{◌≡◌, ◌≢◌, ◌<◌, arith, inl, inr, ℕ, List, [], ◌∷◌, ◌++◌, Option, Some, None, refl, sym, ap, ◌∙◌, subst, append-nil, append_assoc, length}
 use Rattle.std.specs.Prelude.{map}
 use Rattle.std.specs.List.{All}
+use Rattle.std.proofs.lemmas.List.{length_push}
 use Rattle.std.proofs.lemmas.List.Elements.{All-head, All-tail}
 use Rattle.tg_rights.specs.RightSet.{RightSet}
 use Rattle.tg_model.specs.declared.value.Value.{Value}
 use Rattle.tg_model.specs.declared.command.Command.{Command}
+use Rattle.tg_model.specs.declared.command.Deed.{Deed}
 use Rattle.tg_model.specs.declared.command.Deed.TheVariants as deed
+use Rattle.tg_model.specs.declared.reply.Reply.{Reply}
+use Rattle.tg_model.specs.declared.reply.Reply.TheVariants as reply
 use Rattle.tg_model.specs.Graph.{IsSubject}
 use Rattle.tg_journal.specs.declared.entry.Entry.{Entry}
 use Rattle.tg_journal.proofs.HistoryLaws.{workers-opened}
 use Rattle.tg_space.specs.declared.kind.Kind.TheVariants as kind
 use Rattle.tg_text.specs.declared.line.Line.TheVariants as line
 use Rattle.tg_text.specs.declared.answer.Answer.TheVariants as answer
+use Rattle.tg_text.specs.declared.answer.Refusal.{Refusal}
+use Rattle.tg_text.specs.declared.answer.Refusal.TheVariants as refusal
 use Rattle.tg_shared.specs.declared.receipt.Receipt.{Receipt}
 use Rattle.tg_shared.specs.Receipts.{receipt_of}
 use Rattle.tg_rules.specs.Effect.{AddsEdge}
 use Rattle.tg_store.specs.Store.{graph_of_store}
 use Rattle.tg_store.specs.declared.fault.ApplyFault.{ApplyFault}
 use Rattle.tg_store.specs.declared.fault.ApplyFault.TheVariants as apply
-use Rattle.tg_refusals.specs.Refusals.{apply_refusal}
-use Rattle.tg_shared.specs.Sessions.{AtSome, SessionState, SharedStart, KeepsReceipts}
+use Rattle.tg_store.specs.declared.fault.CreateFault.{CreateFault}
+use Rattle.tg_store.specs.declared.fault.CreateFault.TheVariants as create
+use Rattle.tg_refusals.specs.Refusals.{apply_refusal, create_answer}
+use Rattle.tg_shared.specs.Sessions.{AtSome, IsAnswered, SessionState, SharedStart, KeepsReceipts}
 use Rattle.tg_weave.specs.declared.task.Told.{Told}
 use Rattle.tg_weave.specs.declared.task.Told.TheVariants as came
 use Rattle.tg_weave.specs.Boxes.{Boxed}
@@ -40,6 +48,42 @@ pub refused_there : (start : SharedStart) (x : ℕ) (command : Command) (why : A
 refused_there start x command apply.NoSuchWorker low none full = absurd (is_there start x low (none refl))
 refused_there start x command apply.OutOfMemory low none full = tt
 refused_there start x command apply.HeapFull low none full = full refl
+
+-- only the answer that there may be no more vertices is a reply, and none is of a collection
+pub replied_full : (why : CreateFault) (r : Reply) → answer.Reply r ≡ create_answer why → why ≡ create.VerticesFull
+replied_full create.NoSuchWorker r is = absurd cc
+replied_full create.VerticesFull r is = refl
+replied_full create.OutOfMemory r is = absurd cc
+replied_full create.HeapFull r is = absurd cc
+
+pub never_collected : (why : CreateFault) (kept : Option ℕ) → answer.Collected kept ≡ create_answer why → ⊥
+never_collected create.NoSuchWorker kept is = cc
+never_collected create.VerticesFull kept is = cc
+never_collected create.OutOfMemory kept is = cc
+never_collected create.HeapFull kept is = cc
+
+-- an answer has left a receipt
+pub answered_some : (start : SharedStart) (old new : SessionState) (label : RightSet) (value : Value) → IsAnswered start old new (deed.Create label value.law value.state) reply.VerticesFull → 0 < length new.receipts
+answered_some start old new label value h =
+    let e : Entry = record { worker = old.worker; deed = deed.Create label value.law value.state; reply = reply.VerticesFull } in
+    let long = ap (λ (rs : List Receipt). length rs) h.3.0.1 in
+    omega (arith, long, length_push old.receipts (receipt_of (length h.0.entries) e))
+
+-- what a vertex comes to that wasn't made, for a worker who is there: what a script is told, and no receipt, or the entry
+pub vertex_not_made : (start : SharedStart) (x : ℕ) (label : RightSet) (value : Value) (why : CreateFault) (t : Told) (old new : SessionState) → x < start.opening.workers → (why ≡ create.NoSuchWorker → AtSome start (λ s. ¬ IsSubject (graph_of_store s) x)) →
+    (why ≡ create.VerticesFull → IsAnswered start old new (deed.Create label value.law value.state) reply.VerticesFull) → (why ≢ create.VerticesFull → KeepsReceipts old new) →
+    ((r : Refusal) → create_answer why ≡ answer.Refused r → t ≡ came.Refused r) → (why ≡ create.VerticesFull → (front : List Receipt) (last : Receipt) → new.receipts ≡ front ++ last ∷ [] → t ≡ came.Entered last.at) →
+    HasAsked (deed.Create label value.law value.state) t old new
+vertex_not_made start x label value create.NoSuchWorker t old new low none answered kept refused entered = absurd (is_there start x low (none refl))
+vertex_not_made start x label value create.VerticesFull t old new low none answered kept refused entered =
+    let d : Deed = deed.Create label value.law value.state in
+    let h = answered refl in
+    let e : Entry = record { worker = old.worker; deed = d; reply = reply.VerticesFull } in
+    subst (λ (a : Told). HasAsked d a old new) (sym (entered refl old.receipts (receipt_of (length h.0.entries) e) h.3.0.1)) (reply.VerticesFull, h.3.0)
+vertex_not_made start x label value create.OutOfMemory t old new low none answered kept refused entered =
+    subst (λ (a : Told). HasAsked (deed.Create label value.law value.state) a old new) (sym (refused refusal.Memory refl)) (tt, kept (λ e. let no : ⊥ = cc in no))
+vertex_not_made start x label value create.HeapFull t old new low none answered kept refused entered =
+    subst (λ (a : Told). HasAsked (deed.Create label value.law value.state) a old new) (sym (refused refusal.Heap refl)) (tt, kept (λ e. let no : ⊥ = cc in no))
 
 -- ---- one line
 

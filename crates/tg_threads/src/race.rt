@@ -2,10 +2,12 @@
 ghost use Rattle.std.specs.Prelude.{◌≡◌, ◌⊎◌, ◌+◌, ◌<◌, ◌≤◌, ℕ, List, [], Some, true, IfErr, IfOk, OnOk, length};
 ghost use Rattle.std.specs.List.{All, range_with_len};
 ghost use Rattle.tg_model.specs.declared.value.Value.{Value};
+ghost use Rattle.tg_model.specs.Opened.{start_of};
+ghost use Rattle.tg_journal.specs.History.{IsAuditFault, IsLegal};
 ghost use Rattle.tg_text.specs.Sinks.{KeepsBytes};
 ghost use Rattle.tg_script.specs.Opening.{IsCommand};
 ghost use Rattle.tg_script.specs.Script.{Start};
-ghost use Rattle.tg_shared.specs.Sessions.{AreFresh, AreSharedOut, AtSome, MayClose, sessions_made, start_of_store};
+ghost use Rattle.tg_shared.specs.Sessions.{AreFresh, AreSharedOut, AtSome, MayClose, count_of, sessions_made, start_of_store};
 ghost use Rattle.tg_threads.specs.Race.{EndsRace, HasRaced, IsBeforeWriting, IsRaceDue, OpensRace, race_read_failures, race_write_failures};
 ghost use Rattle.tg_threads.specs.Tasks.{AreRaced};
 ghost use Rattle.tg_weave.specs.Boxes.{boxed};
@@ -18,7 +20,8 @@ use std::marker::Brand;
 use std::sync::Wait;
 use std::sync::ledger::Blank;
 use std::thread::Threads;
-use tg_journal::audit;
+use tg_journal::{AuditFault, Entry, audit};
+use tg_model::Opening;
 use tg_payload::{Draft, Payload};
 use tg_script::{Helpers, Settings, open_store, read_script};
 use tg_shared::{Round, Session, Shared, SharedStore, close};
@@ -186,9 +189,19 @@ impl<P: Payload> Raced<P> {
         ensures told { (before : List ℕ) → K.taken sink.old ≡ Some before → TellsRace self.now.store self.now.told.items before result (K.taken sink.new) }
     {
         let journal = self.store.journal();
-        audit(alloc, self.store.opening(), journal.entries())?;
-        Ok(tell_all(sink, journal, self.told.as_slice())?)
+        let count = count_audited(alloc, self.store.opening(), journal.entries())?;
+        Ok(tell_all(sink, journal, self.told.as_slice(), count)?)
     }
+}
+
+// Replays entries from an opening, and answers how many there are. Refused at the first that isn't legal, or for want of
+// memory.
+fn count_audited(alloc: Global, opening: &Opening, entries: &[Entry]) -> Result<u64, AuditFault>
+    ensures count { IfOk result (λ count. (count ≡ length entries.now) × IsLegal (start_of opening.now) entries.now) }
+    ensures fault { IfErr result (IsAuditFault (start_of opening.now) entries.now) }
+{
+    audit(alloc, opening, entries)?;
+    Ok(entries.len() as u64)
 }
 
 // Runs the lines in a store with no entry.
@@ -273,7 +286,8 @@ fn closed<L: Round, P: Payload>(
     ensures matching { IfOk result (λ store. MayClose store.entries 0 sessions.items) }
     ensures shared_out { IfOk result (λ store. AreSharedOut store.entries sessions.items) }
     ensures due { IfErr result (λ why. (why ≡ RaceFault.ReceiptMismatch)
-        × ((length sessions.items < sessions_made L.start) ⊎ AtSome L.start (λ s. ¬ MayClose s.entries (length L.start.entries) sessions.items))) }
+        × ((length sessions.items < sessions_made L.start) ⊎ AtSome L.start (λ s.
+        (length L.start.entries + count_of sessions.items ≤ length s.entries) × (¬ MayClose s.entries (length L.start.entries) sessions.items)))) }
 {
     match close(store, sessions) {
         Ok(store) => Ok(store),

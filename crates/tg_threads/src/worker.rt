@@ -6,9 +6,11 @@ ghost use Rattle.tg_space.specs.Collection.{MayLackRoom, used_cells};
 ghost use Rattle.tg_space.specs.SpaceTable.{kept_blocks};
 ghost use Rattle.tg_graph.specs.Heap.{content_of};
 ghost use Rattle.tg_store.specs.Store.{IsCountOf, graph_of_store};
+ghost use Rattle.tg_refusals.specs.Refusals.{create_answer};
 ghost use Rattle.tg_script.specs.Script.{MayWant};
 ghost use Rattle.tg_shared.specs.Sessions.{AtSome};
 ghost use Rattle.tg_shared.specs.declared.receipt.Receipt.{Receipt as ReceiptOf};
+ghost use Rattle.tg_text.specs.declared.answer.Refusal.{Refusal as RefusalOf};
 ghost use Rattle.tg_threads.specs.Tasks.{Brings, HasAsked, HasCollected, HasMade, HasRun, IsRunBy};
 ghost use Rattle.tg_weave.specs.Boxes.{boxed_of};
 
@@ -18,12 +20,12 @@ use std::sync::Wait;
 use std::thread::Threads;
 use tg_model::Command;
 use tg_payload::{Draft, Payload};
-use tg_refusals::apply_refusal;
+use tg_refusals::{apply_refusal, create_answer};
 use tg_rights::Label;
 use tg_script::Helpers;
 use tg_shared::{Gate, HelpersFault, NoGate, Round, Session, SharedStore};
 use tg_store::{CollectFault, CreateFault, Kind};
-use tg_text::{Line, Refusal};
+use tg_text::{Answer, Line, Refusal};
 use tg_weave::{Task, Told};
 
 /// A worker's session after its lines, and what each of them came to, in their order.
@@ -105,11 +107,19 @@ fn create<L: Round, P: Payload, R: Wait>(
     };
     let why = refused.why;
     drop(refused);
-    match why {
-        CreateFault::VerticesFull => last_told(session),
-        CreateFault::NoSuchWorker => Told::Refused(Refusal::Worker),
-        CreateFault::OutOfMemory => Told::Refused(Refusal::Memory),
-        CreateFault::HeapFull => Told::Refused(Refusal::Heap),
+    not_made(session, why)
+}
+
+// What a create is told that made no vertex, as in a script; where it has an entry, that tells it.
+fn not_made<L: Round>(session: &Session<L>, why: CreateFault) -> Told
+    requires { why ≡ CreateFault.VerticesFull → 0 < length session.now.receipts }
+    ensures refused { (refusal : RefusalOf) → create_answer why ≡ Answer.Refused refusal → result ≡ Told.Refused refusal }
+    ensures entered { why ≡ CreateFault.VerticesFull → (front : List ReceiptOf) (last : ReceiptOf) → session.now.receipts ≡ front ++ last ∷ [] → result ≡ Told.Entered last.at }
+{
+    match create_answer(why) {
+        Answer::Refused(refusal) => Told::Refused(refusal),
+        Answer::Reply(_) => last_told(session),
+        Answer::Collected(_) => unreachable!(),
     }
 }
 

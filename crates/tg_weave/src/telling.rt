@@ -1,5 +1,5 @@
 //! What is written in the end.
-ghost use Rattle.std.specs.Prelude.{◌≡◌, ◌++◌, length};
+ghost use Rattle.std.specs.Prelude.{◌≡◌, ◌++◌};
 ghost use Rattle.std.specs.List.{All};
 ghost use Rattle.tg_text.specs.Sinks.{Writes};
 ghost use Rattle.tg_text.specs.Texts.{answer_text};
@@ -10,14 +10,19 @@ use itoa::Buffer;
 use tg_journal::Journal;
 use tg_text::{Answer, Sink, WriteFailed, put_texts, write_reply, write_reply_of};
 
-/// Writes the reply to each line, and behind them the line with the number of entries, or a front of that where the sink fails.
-/// Takes no memory.
-pub fn tell_all<K: Sink>(sink: &mut K, journal: &Journal, told: &[Told]) -> Result<(), WriteFailed>
+/// Writes the reply to each line, and behind them the line with the number of entries that were audited, or a front of that
+/// where the sink fails. Takes no memory.
+pub fn tell_all<K: Sink>(
+    sink: &mut K,
+    journal: &Journal,
+    told: &[Told],
+    audited: u64,
+) -> Result<(), WriteFailed>
     requires { All (IsThere journal.now.entries) told.now }
-    ensures { Writes (K.taken sink.old) (K.failures sink.old) (text_of_told journal.now.entries told.now ++ end_text (length journal.now.entries)) result (K.taken sink.new) (K.failures sink.new) }
+    ensures { Writes (K.taken sink.old) (K.failures sink.old) (text_of_told journal.now.entries told.now ++ end_text audited) result (K.taken sink.new) (K.failures sink.new) }
 {
     tell_lines(sink, journal, told)?;
-    tell_end(sink, journal.len())
+    tell_end(sink, audited)
 }
 
 // Writes the reply to each line.

@@ -11,8 +11,8 @@ objects as circles, an arrow with its rights for each edge, and grey what no sub
 
 With --steps it writes a digraph for each line that is no edge line, and one before the first of them. Each names the same vertices and
 edges, and hides what isn't there, so that dot puts a vertex at one place in all of them. A vertex shows its law and its state. Bold are
-the vertices that the line names and the edge that it changed; of a denied line the edge that lacks the rights is red and dashed. Neither
-the heap nor memory refuses a line here.";
+the vertices that the line names and the edge that it changed; of a denied line the edge that lacks the rights is red and dashed, and a
+vertex red that should store a log. Neither the heap nor memory refuses a line here.";
 
 const EXAMPLE: &str = "Example:
   printf '0 create rw\\n0 list\\n' | tgdot --workers 1 --stock c | dot -Tsvg > graph.svg";

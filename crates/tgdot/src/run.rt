@@ -169,11 +169,11 @@ impl<'a> Run<'a> {
             Command::Take { target, .. } => self.join(worker, target),
             Command::Grant { via, target, .. } => self.join(via, target),
             Command::Remove { target, .. } => Ok(self.part(worker, target)),
-            Command::Write { target, value } => {
+            Command::Write { target, value } | Command::Append { target, value } => {
                 self.store(target, value)?;
                 Ok(None)
             }
-            Command::Read { .. } | Command::List => Ok(None),
+            Command::Read { .. } | Command::Inspect { .. } | Command::List => Ok(None),
         }
     }
 
@@ -195,7 +195,7 @@ impl<'a> Run<'a> {
         Some((from, to))
     }
 
-    // Notes a number that was written.
+    // Notes a number that was written or added to a log.
     fn store(&mut self, target: u64, number: u64) -> Result<(), DrawFault> {
         if let Some(vertex) = self.vertices.get_mut(&target) {
             let law = vertex.value.law;

@@ -198,6 +198,7 @@ fn mark_cause(alloc: Global, shot: &mut Shot, line: &Line, cause: Cause) -> Resu
             Some(name) => mark_twice(alloc, shot, name),
             None => Ok(()),
         },
+        Cause::NotLog => mark_no_log(shot, line),
     }
 }
 
@@ -231,6 +232,16 @@ fn mark_twice(alloc: Global, shot: &mut Shot, name: u64) -> Result<(), DrawFault
     add_absent(alloc, shot, name)?;
     if let Some(view) = shot.vertices.get_mut(&name) {
         view.name.push_str(" twice")?;
+        view.look.colour = Colour::Red;
+    }
+    Ok(())
+}
+
+// Marks the vertex that should store a log.
+fn mark_no_log(shot: &mut Shot, line: &Line) -> Result<(), DrawFault> {
+    let [_, target, _] = named(line);
+    if let Some(view) = target.and_then(|name| shot.vertices.get_mut(&name)) {
+        view.state.push_str(" no log")?;
         view.look.colour = Colour::Red;
     }
     Ok(())
@@ -279,7 +290,9 @@ fn named(line: &Line) -> [Option<u64>; 3] {
             }
             Command::Remove { target, .. }
             | Command::Read { target }
-            | Command::Write { target, .. } => [Some(worker), Some(target), None],
+            | Command::Write { target, .. }
+            | Command::Append { target, .. }
+            | Command::Inspect { target } => [Some(worker), Some(target), None],
             Command::List => [Some(worker), None, None],
         },
         Line::Edge(_) | Line::Full | Line::Minor => [None, None, None],

@@ -144,7 +144,7 @@ fn is_link(spaces: &Spaces, word: u64) -> bool
     let place = place_of(word);
     word >> PRESENT_AT == 1
         && place.space < SPACES
-        && word % 16 == 0
+        && rights_of(word).is_empty()
         && has_tag(spaces, place, CHUNK_TAG)
 }
 

@@ -9,7 +9,7 @@ use std::sync::Wait;
 use std::sync::ledger::Blank;
 use std::test::Fail;
 use tg_journal::{Entry, Journal};
-use tg_model::{Command, Deed, Numbers, Reply};
+use tg_model::{Cause, Command, Deed, Denial, Numbers, Reply, Rule};
 use tg_payload::CellPayload;
 use tg_shared::{
     CloseFault, CloseRefused, Receipt, Round, Session, Shared, SharedStore, close, receipts_match,
@@ -23,6 +23,17 @@ const WRITE: Command = Command::Write {
 
 const READ: Command = Command::Read { target: 0 };
 
+const APPEND: Command = Command::Append {
+    target: 0,
+    value: 7,
+};
+
+// What an append to a cell is answered.
+const NOT_LOG: Denial = Denial {
+    rule: Rule::Append,
+    cause: Cause::NotLog,
+};
+
 // What is seen of two sessions in a store that has room for two more vertices.
 #[derive(Clone, Copy)]
 struct Seen {
@@ -32,22 +43,24 @@ struct Seen {
     why_not_closed: CloseFault,
     // how many entries it has when it is closed with both
     entries: u64,
-    // whether the second session's receipts of what it wrote and read match the journal, and whether they do with another reply
-    matches: [bool; 2],
+    // whether the second session's receipts of what it wrote, read and was denied match the journal, whether they do with another
+    // reply, and whether they do with a write in place of the append
+    matches: [bool; 3],
 }
 
-// Lets the session write 7 to the other worker's cell and read it back.
-fn write_and_read<L: Round, R: Wait>(
+// Lets the session write 7 to the other worker's cell, read it back, and ask to append to it.
+fn use_the_cell<L: Round, R: Wait>(
     rt: &R,
     store: &SharedStore<L, CellPayload>,
     session: &mut Session<L>,
 ) -> Option<()> {
     let _done = session.call(rt, store, WRITE).ok()?;
     let _read = session.call(rt, store, READ).ok()?;
+    let _denied = session.call(rt, store, APPEND).ok()?;
     Some(())
 }
 
-// Lets the first session make a vertex, the second one too, and the first once more, and then the second write and read.
+// Lets the first session make a vertex, the second one too, and the first once more, and then the second use the cell.
 fn use_in_turn<L: Round, R: Wait>(
     rt: &R,
     alloc: Global,
@@ -57,7 +70,7 @@ fn use_in_turn<L: Round, R: Wait>(
     let by_first = make(rt, alloc, store, sessions.get_mut(0)?)?;
     let by_second = make(rt, alloc, store, sessions.get_mut(1)?)?;
     let then_by_first = make(rt, alloc, store, sessions.get_mut(0)?)?;
-    write_and_read(rt, store, sessions.get_mut(1)?)?;
+    use_the_cell(rt, store, sessions.get_mut(1)?)?;
     Some([by_first, by_second, then_by_first])
 }
 
@@ -97,20 +110,24 @@ fn receipt(at: u64, command: Command, reply: Reply) -> Receipt {
     }
 }
 
-// Whether receipts of worker 1 match the journal that say that it wrote 7, and read this number.
-fn matches_with(alloc: Global, journal: &Journal, number: u64) -> Option<bool> {
+// Whether receipts of worker 1 match the journal that say that it wrote 7, read this number, and was denied this as an append.
+fn matches_with(alloc: Global, journal: &Journal, number: u64, denied: Command) -> Option<bool> {
     let read = Reply::Values(Numbers::one(number));
     let mut receipts = Vec::new(alloc);
     receipts.push(receipt(3, WRITE, Reply::Done)).ok()?;
     receipts.push(receipt(4, READ, read)).ok()?;
+    receipts
+        .push(receipt(5, denied, Reply::Denied(NOT_LOG)))
+        .ok()?;
     Some(receipts_match(journal, 1, &receipts))
 }
 
-// How many entries a journal has, and whether such receipts match it with the number that was read, and with another.
-fn seen_of_journal(alloc: Global, journal: &Journal) -> Option<(u64, [bool; 2])> {
-    let as_read = matches_with(alloc, journal, 7)?;
-    let altered = matches_with(alloc, journal, 8)?;
-    Some((journal.len(), [as_read, altered]))
+// How many entries a journal has, and whether such receipts match it as all was, with another number, and with a write that was denied.
+fn seen_of_journal(alloc: Global, journal: &Journal) -> Option<(u64, [bool; 3])> {
+    let as_it_was = matches_with(alloc, journal, 7, APPEND)?;
+    let altered = matches_with(alloc, journal, 8, APPEND)?;
+    let other_command = matches_with(alloc, journal, 7, WRITE)?;
+    Some((journal.len(), [as_it_was, altered, other_command]))
 }
 
 // Lets both sessions take turns, and closes twice.
@@ -163,7 +180,7 @@ fn seen_of<L: Round, R: Wait>(
 
 // The same of a store of two workers.
 fn seen_of_two<R: Wait>(rt: &R, alloc: Global) -> Option<Seen> {
-    let store = store_with(alloc, "rw")?;
+    let store = store_with(alloc, "rwa")?;
     let blank = Blank::new(store.opening().max_vertices() + 1);
     seen_of::<Brand, R>(rt, alloc, blank, store)
 }
@@ -176,7 +193,7 @@ fn sessions_in_turn(rt: HostRuntime) -> Result<(), Fail> {
     let full = Err(CreateFault::VerticesFull);
     assert_eq!(rt; seen.made, [Ok(2), Ok(3), full]);
     assert_eq!(rt; seen.why_not_closed, CloseFault::SessionsMissing);
-    assert_eq!(rt; seen.entries, 5);
-    assert_eq!(rt; seen.matches, [true, false]);
+    assert_eq!(rt; seen.entries, 6);
+    assert_eq!(rt; seen.matches, [true, false, false]);
     Ok(())
 }

@@ -1,5 +1,18 @@
-use Rattle.std.proofs.Common.{◌∙◌, refl, sym, arith}
+use Rattle.std.proofs.Common.{◌≡◌, ◌∙◌, ℕ, true, refl, sym, ap, arith}
+use Rattle.std.proofs.lemmas.Bool.{cond_both}
+use Rattle.tg_rights.specs.RightSet.{RightSet, is_none_held, union}
+use Rattle.tg_rights.specs.RightLaws.{none_held-same, union_none}
+use Rattle.tg_model.specs.Graph.{with_rights}
+use Rattle.tg_graph.specs.Heap.{content_in}
+use Rattle.tg_graph.specs.Rows.{name_at}
 use Rattle.tg_graph.proofs.opening.add_some.Goals as goal
+
+-- the empty set adds nothing
+with_none : (label : ℕ → ℕ → RightSet) (x y : ℕ) (rights : RightSet) → is_none_held rights ≡ true → (a b : ℕ) → label a b ≡ with_rights label x y rights a b
+with_none label x y rights none a b =
+    cond_both _ _ _ (λ (s : RightSet). label a b ≡ s)
+    (λ _. sym (ap (union (label a b)) (none_held-same rights none) ∙ union_none (label a b)))
+    (λ _. refl)
 
 pub add_edge-requires-clause-some : goal.add_edge-requires-clause-some
 add_edge-requires-clause-some g c = sym c.is_empty.ensures ∙ c.if-is_empty.false
@@ -26,3 +39,16 @@ returns-clause-blocks g c =
 
 pub returns-then-is_empty-clause-one_cell : goal.returns-then-is_empty-clause-one_cell
 returns-then-is_empty-clause-one_cell g c = record { here = omega arith; others = λ other apart. refl; blocks = λ left other. refl }
+
+pub returns-then-is_empty-clause-added : goal.returns-then-is_empty-clause-added
+returns-then-is_empty-clause-added g c =
+    let h = c.args.cells.now.spaces.spaces in
+    let content = content_in h c.args.cells.now.payloads in
+    let same = with_none content.label (name_at h c.args.from) (name_at h c.args.to) c.args.rights (sym c.is_empty.ensures ∙ c.if-is_empty.true) in
+    record {
+      graph = c.requires.graph;
+      content = record { names = λ x. (λ is. is, λ is. is); labels = same; values = λ x. refl };
+      vertices = λ x p is. is;
+      spaces = refl;
+      limits = refl;
+    }

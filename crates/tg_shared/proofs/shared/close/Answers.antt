@@ -8,15 +8,15 @@ pub returns-in-Ok : goal.returns-in-Ok
 returns-in-Ok g c =
     let items : List SessionState = c.args.sessions.items in
     let start : ℕ = length g.L.Round.start.entries in
-    let same : c.into_inner-locked.result.store ≡ c.in-Ok.store = sym c.in-Ok.ensures.store in
+    let same : c.into_locked-locked.result.store ≡ c.in-Ok.store = sym c.in-Ok.ensures.store in
     record {
       matching = subst (λ (s : StoreState). MayClose s.entries start items) same c.in-Ok.ensures.matching;
       count = subst (λ (s : StoreState). length s.entries ≡ start + count_of items) same c.in-Ok.ensures.count;
       shared_out = subst (λ (s : StoreState). AreSharedOut (drop start s.entries) items) same c.in-Ok.ensures.shared_out;
       faithful = c.journal.ensures.faithful;
       gone_on = subst (λ (s : StoreState). GoesOn g.L.Round.start s) same c.in-Ok.ensures.gone_on;
-      all = c.in-Ok.ensures.all ∙ c.store.ensures.sessions;
-      missing = subst (λ (made : ℕ). ⊥ ↔ (length items < made)) c.store.ensures.sessions c.in-Ok.ensures.missing;
+      all = c.in-Ok.ensures.all ∙ c.into_locked-locked.ensures.sessions;
+      missing = subst (λ (made : ℕ). ⊥ ↔ (length items < made)) c.into_locked-locked.ensures.sessions c.in-Ok.ensures.missing;
       mismatch = tt;
       handed_back = tt;
     }
@@ -29,7 +29,7 @@ returns-in-Err g c = record {
   faithful = tt;
   gone_on = tt;
   all = tt;
-  missing = subst (λ (made : ℕ). (c.in-Err.refused.why ≡ CloseFault.SessionsMissing) ↔ (length c.args.sessions.items < made)) c.store.ensures.sessions c.in-Err.ensures.missing;
-  mismatch = λ why. (c.into_inner-locked.result.store, c.store.ensures.gone_on, c.store.ensures.faithful, (c.in-Err.ensures.mismatch.0 why).1);
+  missing = subst (λ (made : ℕ). (c.in-Err.refused.why ≡ CloseFault.SessionsMissing) ↔ (length c.args.sessions.items < made)) c.into_locked-locked.ensures.sessions c.in-Err.ensures.missing;
+  mismatch = λ why. (c.into_locked-locked.result.store, c.into_locked-locked.ensures.gone_on, c.into_locked-locked.ensures.faithful, (c.in-Err.ensures.counted why, (c.in-Err.ensures.mismatch.0 why).1));
   handed_back = c.in-Err.ensures.handed_back.1;
 }

@@ -90,7 +90,7 @@ returns-in_err-reply-clause-full g c =
     λ graph stands same.
     let here : StandsFor c.self.inside.store graph = ap (λ (b : LockedState). graph_of_store b.store) c.self.view_is ∙ stands in
     let told = c.in_err-reply.ensures.full graph here (came_as given.1 given.2 same) in
-    let full : LockedState → ℕ → Type 0 = λ b w. Permits graph.label w c.args.command × AddsEdge c.args.command × LacksCellsToServe b.store.heap.table w c.args.command in
+    let full : LockedState → ℕ → Type 0 = λ b w. Permits graph.label graph.value w c.args.command × AddsEdge c.args.command × LacksCellsToServe b.store.heap.table w c.args.command in
     subst (λ (b : LockedState). full b c.args.session.now.worker) c.self.view_is
     (subst (λ (w : ℕ). full (record { store = c.self.inside.store; sessions = c.self.inside.sessions }) w) worker told)
 

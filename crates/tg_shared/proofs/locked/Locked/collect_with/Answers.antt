@@ -57,3 +57,9 @@ returns-clause-names g c =
 pub returns-clause-stay : goal.returns-clause-stay
 returns-clause-stay g c =
     subst (λ (b : LockedState). OnOk c.collect_with.result (c.args.kind ≡ Nursery → VerticesOfOldStay b.store.heap.table.spaces c.collect_with.new.store.heap.table.spaces)) c.self.view_is c.collect_with.ensures.stay
+
+pub returns-clause-needed : goal.returns-clause-needed
+returns-clause-needed g c = c.collect_with.ensures.needed
+
+pub returns-clause-none_needed : goal.returns-clause-none_needed
+returns-clause-none_needed g c = c.collect_with.ensures.none_needed

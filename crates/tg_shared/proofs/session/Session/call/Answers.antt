@@ -41,6 +41,6 @@ returns-in_err-apply g c =
       record {
         receipt = tt;
         no_such_worker = err_here answer given.0 _ given.1 (λ why. (s, held.0, held.1, subst (λ (w : ℕ). ¬ IsSubject (graph_of_store s) w) worker ((c.in_err-apply.ensures.no_such_worker (graph_of_store s) refl).0 (refused_as given.2 why))));
-        full = err_here answer given.0 _ given.1 (λ why. (s, held.0, held.1, subst (λ (w : ℕ). Permits (graph_of_store s).label w c.args.command × AddsEdge c.args.command × LacksCellsToServe s.heap.table w c.args.command) worker (c.in_err-apply.ensures.full (graph_of_store s) refl (refused_as given.2 why))));
+        full = err_here answer given.0 _ given.1 (λ why. (s, held.0, held.1, subst (λ (w : ℕ). Permits (graph_of_store s).label (graph_of_store s).value w c.args.command × AddsEdge c.args.command × LacksCellsToServe s.heap.table w c.args.command) worker (c.in_err-apply.ensures.full (graph_of_store s) refl (refused_as given.2 why))));
       },
     )

@@ -56,7 +56,7 @@ returns-in_err-reply-clause-full g c =
     let subject : IsSubject (graph_of_store old) c.args.worker = subject_here old c.self.invariant.faithful (graph_of_store old) c.args.worker refl below in
     let full = c.in_err-reply.ensures.full (cc (same, given.1, given.2)) in
     let allowed = permitted (content_of old.heap) (graph_of_store old) c.self.invariant.faithful.stands c.args.worker c.args.command subject full.0 in (
-      subst (λ (h : ProtectionGraph). Permits h.label c.args.worker c.args.command) here allowed,
+      subst (λ (h : ProtectionGraph). Permits h.label h.value c.args.worker c.args.command) here allowed,
       full.1,
       subst (λ (s : StoreState). LacksCellsToServe s.heap.table c.args.worker c.args.command) c.self.view_is full.2,
     )

@@ -62,3 +62,15 @@ returns-in_err-settle-clause-names g c = let given = err_from_is_err_and c.from_
 
 pub returns-in_err-settle-clause-reachable : goal.returns-in_err-settle-clause-reachable
 returns-in_err-settle-clause-reachable g c = let given = err_from_is_err_and c.from_residual-in_err-settle.result c.from_residual-in_err-settle.ensures.1 in λ _ _. rw given.1 tt
+
+pub returns-in_err-copied-clause-needed : goal.returns-in_err-copied-clause-needed
+returns-in_err-copied-clause-needed g c = let given = err_from_is_err_and c.from_residual.result c.from_residual.ensures.1 in rw given.1 tt
+
+pub returns-in_err-copied-clause-none_needed : goal.returns-in_err-copied-clause-none_needed
+returns-in_err-copied-clause-none_needed g c = let given = err_from_is_err_and c.from_residual.result c.from_residual.ensures.1 in rw given.1 tt
+
+pub returns-in_err-settle-clause-needed : goal.returns-in_err-settle-clause-needed
+returns-in_err-settle-clause-needed g c = let given = err_from_is_err_and c.from_residual-in_err-settle.result c.from_residual-in_err-settle.ensures.1 in rw given.1 tt
+
+pub returns-in_err-settle-clause-none_needed : goal.returns-in_err-settle-clause-none_needed
+returns-in_err-settle-clause-none_needed g c = let given = err_from_is_err_and c.from_residual-in_err-settle.result c.from_residual-in_err-settle.ensures.1 in rw given.1 tt

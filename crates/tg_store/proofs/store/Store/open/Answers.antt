@@ -47,3 +47,9 @@ returns-in-Err-clause-limits g c = rw c.open_refused-in-Err.ensures tt
 
 pub returns-in-Some-clause-handed_back : goal.returns-in-Some-clause-handed_back
 returns-in-Some-clause-handed_back g c = rw c.open_refused.ensures (refl, refl)
+
+pub returns-in-Some-clause-blocks : goal.returns-in-Some-clause-blocks
+returns-in-Some-clause-blocks g c = rw c.open_refused.ensures tt
+
+pub returns-in-Err-clause-blocks : goal.returns-in-Err-clause-blocks
+returns-in-Err-clause-blocks g c = rw c.open_refused-in-Err.ensures tt

@@ -26,7 +26,7 @@ returns-clause-allowed g c =
     let served = read-permitted (content_of store.heap) graph c.self.invariant.faithful.stands c.args.worker c.args.name subject in
     λ other stands.
     let here : StandsFor store other = ap graph_of_store c.self.view_is ∙ stands in
-    subst (λ (h : ProtectionGraph). IsSome c.readable.result ↔ (IsSubject h c.args.worker × Permits h.label c.args.worker (Read c.args.name))) here
+    subst (λ (h : ProtectionGraph). IsSome c.readable.result ↔ (IsSubject h c.args.worker × Permits h.label h.value c.args.worker (Read c.args.name))) here
     (λ some. (subject, served.0 (c.readable.ensures.allowed.0 some)), λ is. c.readable.ensures.allowed.1 (served.1 is.1))
 
 pub returns-clause-stored : goal.returns-clause-stored

@@ -64,3 +64,9 @@ returns-in_err-settle-clause-reachable g c = let given = err_from_is_err_and c.f
 
 pub returns-clause-refused : goal.returns-clause-refused
 returns-clause-refused g c = tt
+
+pub returns-in_err-settle-clause-needed : goal.returns-in_err-settle-clause-needed
+returns-in_err-settle-clause-needed g c = let given = err_from_is_err_and c.from_residual.result c.from_residual.ensures.1 in rw given.1 tt
+
+pub returns-in_err-settle-clause-none_needed : goal.returns-in_err-settle-clause-none_needed
+returns-in_err-settle-clause-none_needed g c = let given = err_from_is_err_and c.from_residual.result c.from_residual.ensures.1 in rw given.1 tt
