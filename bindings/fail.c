@@ -56,6 +56,17 @@ static void stop(int line, tg_status status) {
             stop(__LINE__, status);                                                                                    \
     } while (0)
 
+/* Reading the journal asks for no memory. */
+static void read_entries(tg_store *store, uint64_t entries) {
+    long before = made;
+    tg_record entry;
+    tg_target row[64];
+    uint64_t numbers[64];
+    for (uint64_t at = 0; at < entries; at++)
+        if (tg_entry(store, at, &entry, numbers, 64, row, 64) != TG_DONE || made != before)
+            stop(__LINE__, 0);
+}
+
 static uint64_t tell_story(void) {
     static const tg_value workers[2] = { { TG_CELL, 0, 0 }, { TG_LOG, 3, 0 } };
     /* One of each dies: a max and a log in a full collection, a sum and a log in one of the nurseries. */
@@ -89,6 +100,7 @@ static uint64_t tell_story(void) {
     CALL(tg_remove(&store, 0, name, TG_READ, &why));
     CALL(tg_collect(&store, TG_NURSERY, &count));
     CALL(tg_entries(&store, &entries));
+    read_entries(&store, entries);
     CALL(tg_audit(&store, &count));
     if (tg_close(&store) != TG_DONE || count != entries || held != 0)
         stop(__LINE__, 0);

@@ -10,6 +10,9 @@ tg_status proved_tg_read(tg_store *store, uint64_t worker, uint64_t target, uint
 tg_status proved_tg_list(tg_store *store, uint64_t worker, tg_target *edges, size_t room, uint64_t *count);
 tg_status proved_tg_inspect(tg_store *store, uint64_t worker, uint64_t target, tg_target *edges, size_t room, uint64_t *count,
                             tg_denial *denial);
+tg_status proved_tg_names(tg_store *store, uint64_t *names, size_t room, uint64_t *count);
+tg_status proved_tg_entry(tg_store *store, uint64_t at, tg_record *record, uint64_t *numbers, size_t number_room, tg_target *edges,
+                          size_t edge_room);
 
 /* An address for an array of no items, at which nothing is read or written. */
 static const uint64_t nothing[1];
@@ -46,6 +49,24 @@ tg_status tg_inspect(tg_store *store, uint64_t worker, uint64_t target, tg_targe
     return proved_tg_inspect(store, worker, target, edges, room, count, denial);
 }
 
+tg_status tg_names(tg_store *store, uint64_t *names, size_t room, uint64_t *count) {
+    uint64_t none;
+    if (names == NULL && room == 0)
+        names = &none;
+    return proved_tg_names(store, names, room, count);
+}
+
+tg_status tg_entry(tg_store *store, uint64_t at, tg_record *record, uint64_t *numbers, size_t number_room, tg_target *edges,
+                   size_t edge_room) {
+    uint64_t no_number;
+    tg_target no_edge;
+    if (numbers == NULL && number_room == 0)
+        numbers = &no_number;
+    if (edges == NULL && edge_room == 0)
+        edges = &no_edge;
+    return proved_tg_entry(store, at, record, numbers, number_room, edges, edge_room);
+}
+
 const char *tg_version(void) {
     return KOVSHENUL_VERSION;
 }
@@ -68,6 +89,7 @@ const char *tg_status_text(tg_status status) {
     case TG_BAD_EDGE: return "an edge from a worker to itself, or with an end that is no worker";
     case TG_BAD_VALUES: return "values that no opening takes";
     case TG_BAD_ENTRY: return "an entry of the journal is not legal";
+    case TG_BAD_PLACE: return "the journal has no entry at the place";
     default: return "unknown status";
     }
 }

@@ -82,7 +82,8 @@ enum {
     TG_BAD_EDGE = 82,         /* tg_open: an edge from a worker to itself, or with an end that is no worker */
     TG_BAD_VALUES = 83,       /* tg_open: kept; no value that a tg_value can say gives it */
 
-    TG_BAD_ENTRY = 96         /* tg_audit: never, while nobody but these functions wrote to the store's memory */
+    TG_BAD_ENTRY = 96,        /* tg_audit: never, while nobody but these functions wrote to the store's memory */
+    TG_BAD_PLACE = 97         /* tg_entry: exactly where the store is open, and its journal has no entry at the place */
 };
 
 /* What a write does to the state of a vertex. */
@@ -139,6 +140,46 @@ typedef struct tg_denial {
 typedef struct tg_target {
     uint64_t to, rights;
 } tg_target;
+
+/* What was asked for, of which the journal has an entry. Those up to TG_DEED_INSPECT have the numbers of their rules. Numbers that aren't
+   named are kept for later editions. */
+enum {
+    TG_DEED_TAKE = 0,
+    TG_DEED_GRANT = 1,
+    TG_DEED_REMOVE = 2,
+    TG_DEED_READ = 3,
+    TG_DEED_WRITE = 4,
+    TG_DEED_APPEND = 5,
+    TG_DEED_INSPECT = 6,
+    TG_DEED_LIST = 8,
+    TG_DEED_CREATE = 16
+};
+
+/* What was answered. */
+enum {
+    TG_REPLY_DONE = 0,        /* to a take, grant, remove, write or append */
+    TG_REPLY_DENIED = 1,      /* and denial says why */
+    TG_REPLY_NAME = 2,        /* to a create: the vertex that was made */
+    TG_REPLY_VALUES = 3,      /* to a read: numbers */
+    TG_REPLY_EDGES = 4,       /* to a list or an inspect: edges */
+    TG_REPLY_VERTICES_FULL = 16    /* to a create: none was made */
+};
+
+/* An entry of the journal. What its deed or its reply hasn't is 0: 112 bytes. */
+typedef struct tg_record {
+    uint64_t worker;          /* who asked */
+    uint32_t deed;            /* TG_DEED_TAKE .. */
+    uint32_t reply;           /* TG_REPLY_DONE .. */
+    uint32_t law, most;       /* of a create: as in its tg_value */
+    uint64_t via;             /* of a take or a grant */
+    uint64_t target;          /* of all but a list and a create */
+    uint64_t rights;          /* of a take, grant, remove or create */
+    uint64_t value;           /* of a write or an append */
+    uint64_t name;            /* of the vertex that was made */
+    tg_denial denial;
+    uint64_t number_count;    /* how many numbers: of a create those that the vertex stored at first, of a read those that it answered */
+    uint64_t edge_count;      /* how many edges a list or an inspect answered */
+} tg_record;
 
 /* What the heap has, those that nobody reaches included until a full collection: 24 bytes. */
 typedef struct tg_counts {
@@ -218,8 +259,13 @@ tg_status tg_census(tg_store *store, tg_counts *counts);
    what it keeps beside vertices that are gone (docs/EMBEDDING.md). The journal gets no entry, and no memory is taken. */
 tg_status tg_names(tg_store *store, uint64_t *names, size_t room, uint64_t *count);
 
-/* Counts the journal's entries. Nothing trims the journal while the store is open. */
+/* Counts the journal's entries, which tg_entry reads. Nothing trims the journal while the store is open. */
 tg_status tg_entries(tg_store *store, uint64_t *count);
+
+/* The journal's entry at this place, counted from 0: what it says goes to *record, the first `number_room` of its numbers to numbers, the
+   first `edge_room` of its edges to edges. No memory is taken, and no entry ever changes. */
+tg_status tg_entry(tg_store *store, uint64_t at, tg_record *record, uint64_t *numbers, size_t number_room, tg_target *edges,
+                   size_t edge_room);
 
 /* Replays the journal from the opening, on a plain graph that was never collected, and counts its entries. */
 tg_status tg_audit(tg_store *store, uint64_t *count);

@@ -1,7 +1,7 @@
 # Writes a C file that compiles exactly where kovshenul.h fits the library's text: each struct of numbers has the same
 # fields at the same offsets, each export the same parameters, each constant the number that the contracts give it.
 #
-# It reads crates/tg_c/src/forms.rt, handle.rt, place.rt and exports.rt, crates/tg_c/specs/Forms.antt and
+# It reads crates/tg_c/src/forms.rt, records.rt, handle.rt, place.rt and exports.rt, crates/tg_c/specs/Forms.antt and Records.antt, and
 # crates/tg_rights/specs/RightSet.antt.
 
 function same(is, wanted) {
@@ -19,6 +19,20 @@ function type_of(word) {
     if (word ~ /^\*mut /) return "void *"
     print "#error no C type for " word
     return "int"
+}
+
+# The name of a variant in capitals, with the words apart.
+function capitals(name) {
+    while (match(name, /[a-z][A-Z]/)) name = substr(name, 1, RSTART) "_" substr(name, RSTART + 1)
+    return toupper(name)
+}
+
+# The first number that stands behind the words.
+function number_after(words, line) {
+    match(line, words)
+    line = substr(line, RSTART + RLENGTH)
+    sub(/[^0-9].*$/, "", line)
+    return line
 }
 
 function prototype(text,    name, parts, count, i, given, list) {
@@ -45,6 +59,7 @@ BEGIN {
     types["u8"] = "uint8_t"; types["u32"] = "uint32_t"; types["u64"] = "uint64_t"; types["bool"] = "bool"
     types["EdgeIn"] = "tg_edge"; types["ValueIn"] = "tg_value"; types["LimitsIn"] = "tg_limits"
     types["DenialOut"] = "tg_denial"; types["EdgeOut"] = "tg_target"; types["CensusOut"] = "tg_counts"
+    types["RecordOut"] = "tg_record"
     types["StorePlace"] = "tg_store"; types["Handle"] = "twin_Handle"
     same("sizeof(void *)", 8)
     same("sizeof(bool)", 1)
@@ -153,8 +168,34 @@ sum {
     sub(/;.*$/, "", number)
     name = $3
     sub(/^\(/, "", name)
-    while (match(name, /[a-z][A-Z]/)) name = substr(name, 1, RSTART) "_" substr(name, RSTART + 1)
-    same("TG_" toupper(name), number)
+    same("TG_" capitals(name), number)
+}
+
+# of an entry's deed, a create's on the line behind its name
+/^command_out \(?command\.[A-Z]/ {
+    name = $0
+    sub(/^.*command\./, "", name)
+    sub(/[^A-Za-z].*$/, "", name)
+    same("TG_DEED_" capitals(name), number_after("= asked ", $0))
+}
+
+/^deed_out \(Create / { create = 1 }
+
+create && /kind = / {
+    same("TG_DEED_CREATE", number_after("kind = ", $0))
+    create = 0
+}
+
+/^reply_out \(?[A-Z][A-Za-z]* .*= / {
+    name = $2
+    sub(/^\(/, "", name)
+    same("TG_REPLY_" capitals(name), number_after("(= answered |kind = )", $0))
+}
+
+/^law_out \(?law\.[A-Z]/ {
+    name = $2
+    sub(/^\(?law\./, "", name)
+    same("TG_" capitals(name), number_after("= \\(", $0))
 }
 
 END {

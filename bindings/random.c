@@ -4,7 +4,8 @@
    A script is one that the plain program bench/reference.rs takes, whose replies must be the same. Some stores have tight limits, and of some
    requests for memory are refused. A call that is refused for either changes nothing, so the script leaves it out. The stores move from place
    to place, and what a call may not write to is looked at. Collections of the nurseries run in between, of which the script says nothing.
-   At the end the journal is audited, and each block of memory has to have been given back. It is linked with
+   At the end the journal is read, and written as a script with the replies that it has: FOLDER/0.journal.script and
+   FOLDER/0.journal.replies. It is audited, and each block of memory has to have been given back. It is linked with
    --wrap=malloc,--wrap=realloc,--wrap=free. */
 #include "kovshenul.h"
 #include <inttypes.h>
@@ -356,14 +357,19 @@ static FILE *written(const struct run *run, const char *what) {
     return file;
 }
 
+/* The edges of the opening. */
+static void put_opening(struct run *run) {
+    for (uint64_t i = 0; i < WORKERS; i++)
+        fprintf(run->script, "edge %" PRIu64 " %" PRIu64 " tgl\n", i, (i + 1) % WORKERS);
+}
+
 static void open_store(struct run *run) {
     static const tg_value workers[WORKERS];
     tg_edge edges[WORKERS];
     const tg_limits limits = { MAX_VERTICES, bounds[run->number].blocks, bounds[run->number].space_blocks };
-    for (uint64_t i = 0; i < WORKERS; i++) {
+    for (uint64_t i = 0; i < WORKERS; i++)
         edges[i] = (tg_edge){ i, (i + 1) % WORKERS, TG_TAKE | TG_GRANT | TG_INSPECT };
-        fprintf(run->script, "edge %" PRIu64 " %" PRIu64 " tgl\n", i, (i + 1) % WORKERS);
-    }
+    put_opening(run);
     tg_status status = TG_OUT_OF_MEMORY;
     while (status == TG_OUT_OF_MEMORY) {
         want(run, !run->places[0].is_open && held == 0, "a refused opening");
@@ -373,9 +379,79 @@ static void open_store(struct run *run) {
         stop(run, "opening", status);
 }
 
+/* ---- the journal */
+
+/* The line of an entry. */
+static void say_entry(struct run *run, const tg_record *entry) {
+    static const char *const words[] = { "take", "grant", "remove", "read", "write", "append", "inspect" };
+    char text[RIGHTS + 1];
+    uint64_t x = entry->worker, y = entry->target;
+    switch (entry->deed) {
+    case TG_DEED_TAKE:
+    case TG_DEED_GRANT:
+        say(run, "%" PRIu64 " %s %" PRIu64 " %" PRIu64 " %s", x, words[entry->deed], entry->via, y, letters(entry->rights, text));
+        break;
+    case TG_DEED_REMOVE: say(run, "%" PRIu64 " remove %" PRIu64 " %s", x, y, letters(entry->rights, text)); break;
+    case TG_DEED_WRITE:
+    case TG_DEED_APPEND: say(run, "%" PRIu64 " %s %" PRIu64 " %" PRIu64, x, words[entry->deed], y, entry->value); break;
+    case TG_DEED_READ:
+    case TG_DEED_INSPECT: say(run, "%" PRIu64 " %s %" PRIu64, x, words[entry->deed], y); break;
+    case TG_DEED_LIST: say(run, "%" PRIu64 " list", x); break;
+    case TG_DEED_CREATE: say(run, "%" PRIu64 " create %s", x, letters(entry->rights, text)); break;
+    default: stop(run, "a deed", entry->deed);
+    }
+    fprintf(run->script, "%s\n", run->line);
+}
+
+/* The reply of an entry, whose numbers are these. Its edges are listed. */
+static void put_reply(struct run *run, const tg_record *entry, const uint64_t numbers[NUMBERS]) {
+    switch (entry->reply) {
+    case TG_REPLY_DENIED:
+        run->why = entry->denial;
+        put_denial(run);
+        break;
+    case TG_REPLY_VERTICES_FULL: fputs("refused vertices\n", run->replies); break;
+    case TG_REPLY_EDGES: put_row(run, 1, listed, entry->edge_count); break;
+    case TG_REPLY_NAME: fprintf(run->replies, "ok %" PRIu64 "\n", entry->name); break;
+    case TG_REPLY_VALUES:
+        fputs("ok", run->replies);
+        for (uint64_t i = 0; i < entry->number_count; i++)
+            fprintf(run->replies, " %" PRIu64, numbers[i]);
+        fputs("\n", run->replies);
+        break;
+    case TG_REPLY_DONE: fputs("ok\n", run->replies); break;
+    default: stop(run, "a reply", entry->reply);
+    }
+}
+
+static void read_journal(struct run *run, tg_store *store) {
+    uint64_t entries, numbers[NUMBERS];
+    tg_record entry;
+    want(run, tg_entries(store, &entries) == TG_DONE, "entries");
+    memset(listed, 0xbb, sizeof listed);
+    for (uint64_t at = 0; at < entries; at++) {
+        want(run, tg_entry(store, at, &entry, numbers, NUMBERS, listed, ROW) == TG_DONE, "an entry");
+        want(run, entry.number_count <= NUMBERS && entry.edge_count <= ROW, "an entry's counts");
+        say_entry(run, &entry);
+        put_reply(run, &entry, numbers);
+        memset(listed, 0xbb, entry.edge_count * sizeof *listed);
+    }
+    want(run, tg_entry(store, entries, &entry, numbers, NUMBERS, listed, ROW) == TG_BAD_PLACE, "an entry too many");
+}
+
+/* Closes the files, and opens those of the journal. */
+static void turn_to_journal(struct run *run) {
+    want(run, fclose(run->script) == 0 && fclose(run->replies) == 0, "files");
+    run->script = written(run, "journal.script");
+    run->replies = written(run, "journal.replies");
+    put_opening(run);
+}
+
 static void audit_and_close(struct run *run) {
     tg_store *store = &run->places[run->place];
     uint64_t entries, audited;
+    turn_to_journal(run);
+    read_journal(run, store);
     tg_status status = tg_audit(store, &audited);
     if (status != TG_DONE)
         stop(run, "audit", status);

@@ -31,6 +31,17 @@ static int is_untouched(void) {
         && why.to == UNTOUCHED && why.rights == UNTOUCHED;
 }
 
+/* Whether the call for an entry is refused by this status, and writes nothing. */
+static int is_no_entry(tg_store *store, uint64_t at, tg_status status) {
+    tg_record entry, before;
+    uint64_t room[1] = { UNTOUCHED };
+    tg_target row[1] = { { UNTOUCHED, UNTOUCHED } };
+    memset(&entry, UNTOUCHED, sizeof entry);
+    before = entry;
+    return tg_entry(store, at, &entry, room, 1, row, 1) == status && memcmp(&entry, &before, sizeof entry) == 0
+        && room[0] == UNTOUCHED && row[0].to == UNTOUCHED && row[0].rights == UNTOUCHED;
+}
+
 static void closed(void) {
     tg_store store = TG_STORE_INIT;
     tg_target row[1];
@@ -50,14 +61,16 @@ static void closed(void) {
     WANT(tg_census(&store, &counts) == TG_NOT_OPEN);
     WANT(tg_names(&store, numbers, 64, &number) == TG_NOT_OPEN);
     WANT(tg_entries(&store, &number) == TG_NOT_OPEN);
+    WANT(is_no_entry(&store, 0, TG_NOT_OPEN));
     WANT(tg_audit(&store, &number) == TG_NOT_OPEN);
     WANT(is_untouched() && !store.is_open && store.handle.at == NULL);
 }
 
-/* No items may be NULL: of an opening, a read, a list and an inspect. */
+/* No items may be NULL: of an opening, a read, a list, an inspect, names and an entry. */
 static void no_items(void) {
     tg_store store = TG_STORE_INIT;
     uint64_t count = UNTOUCHED, name;
+    tg_record entry;
     WANT(tg_open(&store, NULL, 0, NULL, 0, &limits) == TG_BAD_WORKERS && !store.is_open);
     WANT(tg_open(&store, workers, 2, NULL, 0, &limits) == TG_DONE);
     WANT(tg_list(&store, 0, NULL, 0, &count) == TG_DONE && count == 0);
@@ -65,7 +78,10 @@ static void no_items(void) {
     WANT(tg_list(&store, 0, NULL, 0, &count) == TG_DONE && count == 1);
     WANT(tg_read(&store, 0, name, NULL, 0, &count, &why) == TG_DONE && count == 1);
     WANT(tg_inspect(&store, 0, name, NULL, 0, &count, &why) == TG_DONE && count == 0);
+    WANT(tg_names(&store, NULL, 0, &count) == TG_DONE && count == 3);
     WANT(tg_entries(&store, &count) == TG_DONE && count == 5);
+    WANT(tg_entry(&store, 2, &entry, NULL, 0, NULL, 0) == TG_DONE && entry.deed == TG_DEED_LIST && entry.edge_count == 1);
+    WANT(tg_entry(&store, 3, &entry, NULL, 0, NULL, 0) == TG_DONE && entry.deed == TG_DEED_READ && entry.number_count == 1);
     WANT(tg_close(&store) == TG_DONE);
     WANT(is_untouched());
 }
@@ -74,7 +90,8 @@ static void no_items(void) {
 static void texts(void) {
     static const tg_status known[] = {
         TG_DONE, TG_DENIED, TG_NOT_OPEN, TG_ALREADY_OPEN, TG_OUT_OF_MEMORY, TG_HEAP_FULL, TG_VERTICES_FULL, TG_NO_SUCH_WORKER,
-        TG_BAD_RIGHTS, TG_BAD_LAW, TG_BAD_KIND, TG_BAD_WORKERS, TG_BAD_LIMITS, TG_BAD_EDGE, TG_BAD_VALUES, TG_BAD_ENTRY
+        TG_BAD_RIGHTS, TG_BAD_LAW, TG_BAD_KIND, TG_BAD_WORKERS, TG_BAD_LIMITS, TG_BAD_EDGE, TG_BAD_VALUES, TG_BAD_ENTRY,
+        TG_BAD_PLACE
     };
     const size_t count = sizeof known / sizeof *known;
     const char *unknown = tg_status_text(UINT32_MAX);
@@ -312,6 +329,104 @@ static void all_rights(void) {
     WANT(tg_close(&store) == TG_DONE);
 }
 
+/* The opening, and one entry of each deed and of each reply; what they are stands in the journal below. */
+static void deeds(tg_store *store) {
+    static const tg_edge joined[2] = { { 0, 1, TG_TAKE | TG_GRANT | TG_INSPECT }, { 1, 0, TG_GRANT } };
+    static const tg_limits four = { 4, 8, 4 };
+    tg_target row[4];
+    uint64_t name, count;
+    WANT(tg_open(store, workers, 2, joined, 2, &four) == TG_DONE);
+    WANT(tg_create(store, 0, TG_READ | TG_WRITE | TG_APPEND, &last_two, &name) == TG_DONE && name == 2);
+    WANT(tg_create(store, 1, TG_READ | TG_APPEND, &sum, &name) == TG_DONE && name == 3);
+    WANT(tg_create(store, 0, 255, &cell, &name) == TG_VERTICES_FULL);
+    WANT(tg_take(store, 0, 1, 3, TG_READ, &why) == TG_DONE);
+    WANT(tg_grant(store, 0, 1, 2, TG_WRITE, &why) == TG_DONE);
+    WANT(tg_write(store, 0, 2, 8, &why) == TG_DONE);
+    WANT(tg_append(store, 0, 2, 9, &why) == TG_DONE);
+    WANT(tg_read(store, 0, 2, numbers, 64, &count, &why) == TG_DONE);
+    WANT(tg_list(store, 1, row, 4, &count) == TG_DONE);
+    WANT(tg_inspect(store, 0, 1, row, 4, &count, &why) == TG_DONE);
+    WANT(tg_remove(store, 0, 2, TG_WRITE, &why) == TG_DONE);
+    WANT(tg_write(store, 0, 2, 5, &why) == TG_DENIED);
+    WANT(tg_append(store, 1, 3, 6, &why) == TG_DENIED);
+    WANT(tg_take(store, 0, 0, 2, TG_READ, &why) == TG_DENIED);
+    WANT(tg_read(store, 1, 2, numbers, 64, &count, &why) == TG_DENIED);
+}
+
+static const tg_record journal[] = {
+    { .worker = 0, .deed = TG_DEED_CREATE, .reply = TG_REPLY_NAME, .law = TG_LOG, .most = 2,
+      .rights = TG_READ | TG_WRITE | TG_APPEND, .name = 2 },
+    { .worker = 1, .deed = TG_DEED_CREATE, .reply = TG_REPLY_NAME, .law = TG_SUM, .rights = TG_READ | TG_APPEND, .name = 3,
+      .number_count = 1 },
+    { .worker = 0, .deed = TG_DEED_CREATE, .reply = TG_REPLY_VERTICES_FULL, .law = TG_CELL, .rights = 255, .number_count = 1 },
+    { .worker = 0, .deed = TG_DEED_TAKE, .reply = TG_REPLY_DONE, .via = 1, .target = 3, .rights = TG_READ },
+    { .worker = 0, .deed = TG_DEED_GRANT, .reply = TG_REPLY_DONE, .via = 1, .target = 2, .rights = TG_WRITE },
+    { .worker = 0, .deed = TG_DEED_WRITE, .reply = TG_REPLY_DONE, .target = 2, .value = 8 },
+    { .worker = 0, .deed = TG_DEED_APPEND, .reply = TG_REPLY_DONE, .target = 2, .value = 9 },
+    { .worker = 0, .deed = TG_DEED_READ, .reply = TG_REPLY_VALUES, .target = 2, .number_count = 2 },
+    { .worker = 1, .deed = TG_DEED_LIST, .reply = TG_REPLY_EDGES, .edge_count = 3 },
+    { .worker = 0, .deed = TG_DEED_INSPECT, .reply = TG_REPLY_EDGES, .target = 1, .edge_count = 3 },
+    { .worker = 0, .deed = TG_DEED_REMOVE, .reply = TG_REPLY_DONE, .target = 2, .rights = TG_WRITE },
+    { .worker = 0, .deed = TG_DEED_WRITE, .reply = TG_REPLY_DENIED, .target = 2, .value = 5,
+      .denial = { TG_RULE_WRITE, TG_MISSING, 0, 2, TG_WRITE } },
+    { .worker = 1, .deed = TG_DEED_APPEND, .reply = TG_REPLY_DENIED, .target = 3, .value = 6,
+      .denial = { TG_RULE_APPEND, TG_NOT_LOG, 0, 0, 0 } },
+    { .worker = 0, .deed = TG_DEED_TAKE, .reply = TG_REPLY_DENIED, .via = 0, .target = 2, .rights = TG_READ,
+      .denial = { TG_RULE_TAKE, TG_NOT_DISTINCT, 0, 0, 0 } },
+    { .worker = 1, .deed = TG_DEED_READ, .reply = TG_REPLY_DENIED, .target = 2, .denial = { TG_RULE_READ, TG_MISSING, 1, 2, TG_READ } }
+};
+
+enum { ENTRIES = sizeof journal / sizeof *journal };
+
+/* The numbers and edges of those entries that have any. Behind them the rooms are as they were. */
+static void entry_lists(tg_store *store) {
+    static const uint64_t firsts[ENTRIES] = { [1] = 40, [2] = 7, [7] = 8 };
+    static const tg_target held[3] = { { 0, TG_GRANT }, { 2, TG_WRITE }, { 3, TG_READ | TG_APPEND } };
+    for (uint64_t at = 0; at < ENTRIES; at++) {
+        uint64_t room[3] = { UNTOUCHED, UNTOUCHED, UNTOUCHED };
+        tg_target row[4] = { { UNTOUCHED, 0 }, { UNTOUCHED, 0 }, { UNTOUCHED, 0 }, { UNTOUCHED, 0 } };
+        tg_record entry;
+        WANT(tg_entry(store, at, &entry, room, 3, row, 4) == TG_DONE);
+        WANT(room[0] == (entry.number_count > 0 ? firsts[at] : UNTOUCHED));
+        WANT(room[1] == (entry.number_count > 1 ? 9 : UNTOUCHED) && room[2] == UNTOUCHED);
+        WANT(entry.edge_count == 0 ? row[0].to == UNTOUCHED : memcmp(row, held, sizeof held) == 0);
+        WANT(row[3].to == UNTOUCHED);
+    }
+}
+
+/* With too little room as much is shown as fits, and all is counted. */
+static void small_rooms(tg_store *store) {
+    uint64_t room[2] = { UNTOUCHED, UNTOUCHED };
+    tg_target row[3] = { { UNTOUCHED, 0 }, { UNTOUCHED, 0 }, { UNTOUCHED, 0 } };
+    tg_record entry;
+    WANT(tg_entry(store, 7, &entry, room, 1, row, 0) == TG_DONE && entry.number_count == 2);
+    WANT(room[0] == 8 && room[1] == UNTOUCHED && row[0].to == UNTOUCHED);
+    WANT(tg_entry(store, 9, &entry, room, 0, row, 2) == TG_DONE && entry.edge_count == 3);
+    WANT(room[0] == 8 && row[0].to == 0 && row[1].to == 2 && row[2].to == UNTOUCHED);
+}
+
+/* Each entry is read back as it was made, before and after a collection, and there is none behind the last. Reading makes no entry. */
+static void entries_read(void) {
+    tg_store store = TG_STORE_INIT;
+    uint64_t count;
+    deeds(&store);
+    for (int round = 0; round < 2; round++) {
+        WANT(tg_entries(&store, &count) == TG_DONE && count == ENTRIES);
+        for (uint64_t at = 0; at < ENTRIES; at++) {
+            tg_record entry;
+            WANT(tg_entry(&store, at, &entry, NULL, 0, NULL, 0) == TG_DONE);
+            WANT(memcmp(&entry, &journal[at], sizeof entry) == 0);
+        }
+        entry_lists(&store);
+        small_rooms(&store);
+        WANT(is_no_entry(&store, ENTRIES, TG_BAD_PLACE));
+        WANT(is_no_entry(&store, UINT64_MAX, TG_BAD_PLACE));
+        WANT(tg_collect(&store, TG_FULL, &count) == TG_DONE);
+    }
+    WANT(tg_audit(&store, &count) == TG_DONE && count == ENTRIES);
+    WANT(tg_close(&store) == TG_DONE);
+}
+
 /* A nursery of one block is used up: 64 cells, with one for the worker. */
 static void full_heap(void) {
     const tg_limits small = { 1000, 1, 1 };
@@ -363,6 +478,7 @@ int main(void) {
     longest_log();
     appends_and_inspects();
     all_rights();
+    entries_read();
     puts("statuses ok");
     return 0;
 }

@@ -1,5 +1,5 @@
 -- Calls on a place: what the store was found to answer, and what C is told of that.
-use Rattle.std.proofs.Common.{◌≡◌, ℕ, true, false, sym, subst, ap, ◌∙◌, Result, Ok, Err, List, Option, Some, None}
+use Rattle.std.proofs.Common.{◌≡◌, ℕ, refl, true, false, sym, subst, ap, ◌∙◌, Result, Ok, Err, List, Option, Some, None}
 use Rattle.tg_model.specs.Graph.{ProtectionGraph, listing_of}
 use Rattle.tg_model.specs.Rules.{answer_of, denial_of, denied_or, state_of}
 use Rattle.tg_model.specs.declared.command.Command.{Command}
@@ -14,6 +14,11 @@ use Rattle.tg_c.specs.declared.refusal.CallRefusal.{CallRefusal}
 use Rattle.tg_c.specs.declared.refusal.CallRefusal.TheVariants.{NotOpen}
 use Rattle.tg_c.specs.Calls.{IsCall, IsDoneOrDenied, IsListedOrDenied, IsReadOrDenied, IsReplyTo, IsShown, state_in}
 use Rattle.tg_c.specs.Statuses.{TellsNames, TellsNumber, refused_as}
+
+-- a refusal that C knows already
+pub as_it_is : {T : Type 0} (answer : Result T CallRefusal) → refused_as (λ why. why) answer ≡ answer
+as_it_is (Ok value) = refl
+as_it_is (Err why) = refl
 
 -- a closed place: the call was refused
 pub not_open : {T E : Type 0} (name : E → CallRefusal) (holds : StoreState → StoreState → Result T E → Type 0) (old new : StorePlace) (result : Result T CallRefusal)

@@ -27,6 +27,7 @@ use Rattle.tg_graph.specs.Spots.{IsMadeInRow, LacksCellsFor}
 use Rattle.tg_rules.specs.Effect.{AddsEdge, LacksCellsToServe}
 use Rattle.tg_evac.specs.declared.fault.CollectFault.{CollectFault}
 use Rattle.tg_evac.specs.declared.fault.CollectFault.TheVariants as collect
+use Rattle.tg_journal.specs.declared.entry.Entry.{Entry}
 use Rattle.tg_journal.specs.declared.replay.AuditFault.{AuditFault}
 use Rattle.tg_journal.specs.declared.replay.AuditFault.TheVariants as audit
 use Rattle.tg_store.specs.Store.{StoreState, StandsFor, Enters, HasFewBlocks, OnlyEnters, IsCountOf, IsUnchanged}
@@ -42,6 +43,7 @@ use Rattle.tg_c.specs.declared.forms.EdgeIn.{EdgeIn}
 use Rattle.tg_c.specs.declared.forms.LimitsIn.{LimitsIn}
 use Rattle.tg_c.specs.declared.forms.ValueIn.{ValueIn}
 use Rattle.tg_c.specs.Forms.{AreValues, HaveLabels, JoinWorkers, plan_of}
+use Rattle.tg_c.specs.Records.{entry_at}
 use Rattle.tg_c.specs.Statuses.{of_apply, of_audit, of_collect, of_create, refused_as, status_of}
 
 -- what the store in an open place holds
@@ -202,6 +204,13 @@ AsksNames old new = IsCall (λ why. why) AreNames old new
 abbrev pub IsShown : List ℕ → List ℕ → Result ℕ CallRefusal → Result (List ℕ) CallRefusal → Type 0
 IsShown old new answer (Ok names) = (answer ≡ Ok (length names)) × (new ≡ shown_in names old)
 IsShown old new answer (Err why) = (answer ≡ Err why) × (new ≡ old)
+
+-- the journal's entry at a place
+abbrev pub IsEntryAt : ℕ → StoreState → StoreState → Result Entry CallRefusal → Type 0
+IsEntryAt at old new answer = (new ≡ old) × (answer ≡ entry_at old.entries at)
+
+abbrev pub AsksEntry : StorePlace → StorePlace → ℕ → (Result Entry CallRefusal → Type 0) → Type 0
+AsksEntry old new at = IsCall (λ why. why) (IsEntryAt at) old new
 
 -- The answer to a worker that asks what it holds over a vertex: the label as bits, 0 for none. It is refused exactly where no worker
 -- has the name.

@@ -13,6 +13,7 @@ use Rattle.tg_store.specs.declared.fault.CreateFault.{CreateFault}
 use Rattle.tg_store.specs.declared.fault.CreateFault.TheVariants as create
 use Rattle.tg_evac.specs.declared.fault.CollectFault.{CollectFault}
 use Rattle.tg_evac.specs.declared.fault.CollectFault.TheVariants as collect
+use Rattle.tg_journal.specs.declared.entry.Entry.{Entry}
 use Rattle.tg_journal.specs.declared.replay.AuditFault.{AuditFault}
 use Rattle.tg_journal.specs.declared.replay.AuditFault.TheVariants as audit
 use Rattle.tg_c.specs.declared.refusal.CallRefusal.{CallRefusal}
@@ -20,8 +21,10 @@ use Rattle.tg_c.specs.declared.refusal.CallRefusal.TheVariants as refusal
 use Rattle.tg_c.specs.declared.forms.CensusOut.{CensusOut}
 use Rattle.tg_c.specs.declared.forms.DenialOut.{DenialOut}
 use Rattle.tg_c.specs.declared.forms.EdgeOut.{EdgeOut}
+use Rattle.tg_c.specs.declared.records.RecordOut.{RecordOut}
 use Rattle.tg_graph.specs.Shown.{shown_in}
 use Rattle.tg_c.specs.Forms.{census_out, denial_out, edges_shown_in}
+use Rattle.tg_c.specs.Records.{edges_of, numbers_of, record_of}
 
 -- ---- the numbers
 
@@ -41,6 +44,7 @@ status_of refusal.BadLimits = 81
 status_of refusal.BadEdge = 82
 status_of refusal.BadValues = 83
 status_of refusal.BadEntry = 96
+status_of refusal.BadPlace = 97
 
 -- ---- how the store's refusals are told
 
@@ -152,6 +156,17 @@ pub record NamesOut : Type 0 where
 abbrev pub TellsNames : ℕ → NamesOut → NamesOut → Result (List ℕ) CallRefusal → Type 0
 TellsNames status old new (Ok names) = (status ≡ 0) × (new ≡ record { count = length names; names = shown_in names old.names })
 TellsNames status old new (Err why) = (status ≡ status_of why) × (new ≡ old)
+
+-- the out parameters of a call for an entry
+pub record EntryOut : Type 0 where
+  pub record_out : RecordOut
+  pub numbers : List ℕ
+  pub edges : List EdgeOut
+
+abbrev pub TellsEntry : ℕ → EntryOut → EntryOut → Result Entry CallRefusal → Type 0
+TellsEntry status old new (Ok entry) = (status ≡ 0)
+    × (new ≡ record { record_out = record_of entry; numbers = shown_in (numbers_of entry) old.numbers; edges = edges_shown_in (edges_of entry) old.edges })
+TellsEntry status old new (Err why) = (status ≡ status_of why) × (new ≡ old)
 
 abbrev pub TellsCensus : ℕ → CensusOut → CensusOut → Result Census CallRefusal → Type 0
 TellsCensus status old new (Ok census) = (status ≡ 0) × (new ≡ census_out census)

@@ -3,10 +3,13 @@ ghost use Rattle.std.specs.Prelude.{◌≡◌, IfOk};
 ghost use Rattle.tg_c.specs.Calls.{IsDoneOrDenied, IsListed, IsListedOrDenied, IsReadOrDenied};
 ghost use Rattle.tg_graph.specs.Shown.{shown_in};
 ghost use Rattle.tg_c.specs.Forms.{edges_shown_in};
-ghost use Rattle.tg_c.specs.Statuses.{TellsCensus, TellsDone, TellsInspect, TellsList, TellsNumber, TellsRead};
+ghost use Rattle.tg_c.specs.Statuses.{TellsCensus, TellsDone, TellsEntry, TellsInspect, TellsList, TellsNumber, TellsRead};
+ghost use Rattle.tg_c.specs.Records.{entry_at};
 
 use crate::forms::{CensusOut, DenialOut, EdgeOut, census_out, denial_out, edge_out};
+use crate::records::{RecordOut, edges_of, numbers_of, record_out};
 use crate::refusal::CallRefusal;
+use tg_journal::Journal;
 use tg_model::Reply;
 use tg_rights::Label;
 use tg_store::Census;
@@ -125,6 +128,27 @@ pub fn tell_census(answer: Result<Census, CallRefusal>, out: &mut CensusOut) -> 
         }
         Err(refusal) => refusal.status(),
     }
+}
+
+/// Tells the journal's entry at a place: what it says, and of its numbers and edges as many as there is room for.
+pub fn tell_entry(
+    journal: &Journal,
+    at: u64,
+    record: &mut RecordOut,
+    numbers: &mut [u64],
+    edges: &mut [EdgeOut],
+) -> u32
+    ensures { TellsEntry result (record { record_out = record.old; numbers = numbers.old; edges = edges.old })
+        (record { record_out = record.new; numbers = numbers.new; edges = edges.new }) (entry_at journal.now.entries at) }
+{
+    if journal.len() <= at {
+        return CallRefusal::BadPlace.status();
+    }
+    let entry = journal.entry(at);
+    *record = record_out(entry);
+    put_numbers(numbers_of(entry), numbers);
+    put_edges(edges_of(entry), edges);
+    DONE
 }
 
 // As many numbers as there is room for.

@@ -1,0 +1,120 @@
+-- What C reads of an entry of the journal. What a deed or a reply hasn't is 0.
+use Rattle.std.specs.Prelude.{ℕ, List, [], Result, length, slice_get, ok_or}
+use Rattle.tg_rights.specs.RightSet.{RightSet, bits_of}
+use Rattle.tg_model.specs.declared.command.Command.{Command}
+use Rattle.tg_model.specs.declared.command.Command.TheVariants as command
+use Rattle.tg_model.specs.declared.command.Deed.{Deed}
+use Rattle.tg_model.specs.declared.command.Deed.TheVariants.{Plain, Create}
+use Rattle.tg_model.specs.declared.law.Law.{Law}
+use Rattle.tg_model.specs.declared.law.Law.TheVariants as law
+use Rattle.tg_model.specs.declared.reply.Reply.{Reply}
+use Rattle.tg_model.specs.declared.reply.Reply.TheVariants.{Done, Denied, Name, Values, Edges, VerticesFull}
+use Rattle.tg_journal.specs.declared.entry.Entry.{Entry}
+use Rattle.tg_c.specs.declared.forms.DenialOut.{DenialOut}
+use Rattle.tg_c.specs.declared.records.DeedOut.{DeedOut}
+use Rattle.tg_c.specs.declared.records.RecordOut.{RecordOut}
+use Rattle.tg_c.specs.declared.records.ReplyOut.{ReplyOut}
+use Rattle.tg_c.specs.declared.refusal.CallRefusal.{CallRefusal}
+use Rattle.tg_c.specs.declared.refusal.CallRefusal.TheVariants as refusal
+use Rattle.tg_c.specs.Forms.{denial_out}
+
+-- ---- the deed
+
+-- the number of a law, and how many numbers a log keeps
+abbrev pub law_out : Law → ℕ × ℕ
+law_out law.Cell = (0, 0)
+law_out law.Sum = (1, 0)
+law_out law.Max = (2, 0)
+law_out (law.Log most) = (3, most)
+
+abbrev pub asked : ℕ → ℕ → ℕ → ℕ → ℕ → DeedOut
+asked kind via target rights value =
+    record { kind = kind; law = 0; most = 0; via = via; target = target; rights = rights; value = value }
+
+-- each command has its number, and what it is about: via, target, rights and value
+abbrev pub command_out : Command → DeedOut
+command_out (command.Take rights via target) = asked 0 via target (bits_of rights) 0
+command_out (command.Grant rights via target) = asked 1 via target (bits_of rights) 0
+command_out (command.Remove rights target) = asked 2 0 target (bits_of rights) 0
+command_out (command.Read target) = asked 3 0 target 0 0
+command_out (command.Write target value) = asked 4 0 target 0 value
+command_out (command.Append target value) = asked 5 0 target 0 value
+command_out (command.Inspect target) = asked 6 0 target 0 0
+command_out command.List = asked 8 0 0 0 0
+
+abbrev pub deed_out : Deed → DeedOut
+deed_out (Plain asked_for) = command_out asked_for
+deed_out (Create label law state) =
+    record { kind = 16; law = (law_out law).0; most = (law_out law).1; via = 0; target = 0; rights = bits_of label; value = 0 }
+
+-- ---- the reply
+
+abbrev pub no_denial : DenialOut
+no_denial = record { rule = 0; cause = 0; from = 0; to = 0; rights = 0 }
+
+abbrev pub answered : ℕ → ℕ → ReplyOut
+answered kind name = record { kind = kind; name = name; denial = no_denial }
+
+abbrev pub reply_out : Reply → ReplyOut
+reply_out Done = answered 0 0
+reply_out (Denied denial) = record { kind = 1; name = 0; denial = denial_out denial }
+reply_out (Name name) = answered 2 name
+reply_out (Values values) = answered 3 0
+reply_out (Edges edges) = answered 4 0
+reply_out VerticesFull = answered 16 0
+
+-- ---- the lists
+
+-- the numbers and the edges that were answered
+abbrev pub values_in : Reply → List ℕ
+values_in (Values values) = values
+values_in Done = []
+values_in (Denied denial) = []
+values_in (Name name) = []
+values_in (Edges edges) = []
+values_in VerticesFull = []
+
+abbrev pub edges_in : Reply → List (ℕ × RightSet)
+edges_in (Edges edges) = edges
+edges_in Done = []
+edges_in (Denied denial) = []
+edges_in (Name name) = []
+edges_in (Values values) = []
+edges_in VerticesFull = []
+
+-- the numbers of a create are those that the vertex stored at first
+abbrev pub numbers_in : Deed → Reply → List ℕ
+numbers_in (Create label law state) r = state
+numbers_in (Plain asked_for) r = values_in r
+
+abbrev pub numbers_of : Entry → List ℕ
+numbers_of e = numbers_in e.deed e.reply
+
+abbrev pub edges_of : Entry → List (ℕ × RightSet)
+edges_of e = edges_in e.reply
+
+-- ---- the entry
+
+abbrev pub record_with : ℕ → DeedOut → ReplyOut → ℕ → ℕ → RecordOut
+record_with worker d r number_count edge_count = record {
+  worker = worker;
+  deed = d.kind;
+  reply = r.kind;
+  law = d.law;
+  most = d.most;
+  via = d.via;
+  target = d.target;
+  rights = d.rights;
+  value = d.value;
+  name = r.name;
+  denial = r.denial;
+  number_count = number_count;
+  edge_count = edge_count;
+}
+
+abbrev pub record_of : Entry → RecordOut
+record_of e = record_with e.worker (deed_out e.deed) (reply_out e.reply) (length (numbers_of e)) (length (edges_of e))
+
+-- the entry at a place, counted from 0; there is none behind the last
+abbrev pub entry_at : List Entry → ℕ → Result Entry CallRefusal
+entry_at entries at = ok_or (slice_get entries at) refusal.BadPlace

@@ -1,0 +1,208 @@
+//! The journal's entries for C: a struct of numbers, and beside it the lists that an entry has.
+ghost use Rattle.std.specs.Prelude.{◌≡◌};
+ghost use Rattle.tg_c.specs.Records.{answered as answered_told, asked as asked_told, command_out as command_told, deed_out as deed_told, edges_of as edges_told, law_out as law_told, numbers_of as numbers_told, record_of, reply_out as reply_told};
+
+use crate::forms::{DenialOut, denial_out, rights_out};
+use tg_journal::Entry;
+use tg_model::{Command, Deed, Law, Reply};
+use tg_rights::Label;
+
+/// An entry of the journal. What its deed or its reply hasn't is 0. 112 bytes.
+#[repr(C)]
+#[derive(Clone, Copy, Drop)]
+pub struct RecordOut {
+    /// The worker that asked.
+    pub worker: u64,
+    /// What it asked for: 0 take, 1 grant, 2 remove, 3 read, 4 write, 5 append, 6 inspect, 8 list, 16 create.
+    pub deed: u32,
+    /// What was answered: 0 done, 1 denied, 2 a name, 3 values, 4 edges, 16 that no more vertices may be made.
+    pub reply: u32,
+    /// Of a create: what a write does, as in `ValueIn`.
+    pub law: u32,
+    /// Of a create of a log: how many numbers are kept.
+    pub most: u32,
+    /// Of a take or a grant: the vertex whose rights are taken, or that gets them.
+    pub via: u64,
+    /// The vertex that the command was about. A list and a create have none.
+    pub target: u64,
+    /// Of a take, grant, remove or create: the rights, as bits.
+    pub rights: u64,
+    /// What was written or appended.
+    pub value: u64,
+    /// The name of the vertex that was made.
+    pub name: u64,
+    /// Why the command was denied.
+    pub denial: DenialOut,
+    /// How many numbers the entry has: of a create those that the vertex stored at first, of a read those that were answered.
+    pub number_count: u64,
+    /// How many edges were listed.
+    pub edge_count: u64,
+}
+
+// What a deed says, in numbers.
+#[derive(Clone, Copy, Drop)]
+struct DeedOut {
+    kind: u32,
+    law: u32,
+    most: u32,
+    via: u64,
+    target: u64,
+    rights: u64,
+    value: u64,
+}
+
+// What a reply says, in numbers.
+#[derive(Clone, Copy, Drop)]
+struct ReplyOut {
+    kind: u32,
+    name: u64,
+    denial: DenialOut,
+}
+
+/// The entry, for C.
+pub fn record_out(entry: &Entry) -> RecordOut
+    ensures { result ≡ record_of entry.now }
+{
+    let deed = deed_out(&entry.deed);
+    let reply = reply_out(&entry.reply);
+    RecordOut {
+        worker: entry.worker,
+        deed: deed.kind,
+        reply: reply.kind,
+        law: deed.law,
+        most: deed.most,
+        via: deed.via,
+        target: deed.target,
+        rights: deed.rights,
+        value: deed.value,
+        name: reply.name,
+        denial: reply.denial,
+        number_count: numbers_of(entry).len() as u64,
+        edge_count: edges_of(entry).len() as u64,
+    }
+}
+
+/// The numbers of an entry: of a create those that the vertex stored at first, of a read those that were answered.
+pub fn numbers_of(entry: &Entry) -> &[u64]
+    ensures { result.now ≡ numbers_told entry.now }
+{
+    match (&entry.deed, &entry.reply) {
+        (Deed::Create { state, .. }, _) => state.as_slice(),
+        (_, Reply::Values(values)) => values.as_slice(),
+        _ => &[],
+    }
+}
+
+/// The edges of an entry, which were listed.
+pub fn edges_of(entry: &Entry) -> &[(u64, Label)]
+    ensures { result.now ≡ edges_told entry.now }
+{
+    match &entry.reply {
+        Reply::Edges(edges) => edges.as_slice(),
+        _ => &[],
+    }
+}
+
+// What a deed says.
+fn deed_out(deed: &Deed) -> DeedOut
+    ensures { result ≡ deed_told deed.now }
+{
+    match deed {
+        Deed::Create { label, law, .. } => {
+            let (law, most) = law_out(*law);
+            DeedOut {
+                kind: 16,
+                law,
+                most,
+                via: 0,
+                target: 0,
+                rights: rights_out(Some(*label)),
+                value: 0,
+            }
+        }
+        Deed::Plain(command) => command_out(*command),
+    }
+}
+
+// What a command says.
+fn command_out(command: Command) -> DeedOut
+    ensures { result ≡ command_told command }
+{
+    match command {
+        Command::Take {
+            rights,
+            via,
+            target,
+        } => asked(0, via, target, rights_out(Some(rights)), 0),
+        Command::Grant {
+            rights,
+            via,
+            target,
+        } => asked(1, via, target, rights_out(Some(rights)), 0),
+        Command::Remove { rights, target } => asked(2, 0, target, rights_out(Some(rights)), 0),
+        Command::Read { target } => asked(3, 0, target, 0, 0),
+        Command::Write { target, value } => asked(4, 0, target, 0, value),
+        Command::Append { target, value } => asked(5, 0, target, 0, value),
+        Command::Inspect { target } => asked(6, 0, target, 0, 0),
+        Command::List => asked(8, 0, 0, 0, 0),
+    }
+}
+
+// A command, which has no law.
+fn asked(kind: u32, via: u64, target: u64, rights: u64, value: u64) -> DeedOut
+    ensures { result ≡ asked_told kind via target rights value }
+{
+    DeedOut {
+        kind,
+        law: 0,
+        most: 0,
+        via,
+        target,
+        rights,
+        value,
+    }
+}
+
+// The number of a law, and how many numbers are kept, of a log alone.
+fn law_out(law: Law) -> (u32, u32)
+    ensures { result ≡ law_told law }
+{
+    match law {
+        Law::Cell => (0, 0),
+        Law::Sum => (1, 0),
+        Law::Max => (2, 0),
+        Law::Log(most) => (3, most),
+    }
+}
+
+// What a reply says.
+fn reply_out(reply: &Reply) -> ReplyOut
+    ensures { result ≡ reply_told reply.now }
+{
+    match reply {
+        Reply::Done => answered(0, 0),
+        Reply::Denied(why) => ReplyOut {
+            kind: 1,
+            name: 0,
+            denial: denial_out(why),
+        },
+        Reply::Name(name) => answered(2, *name),
+        Reply::Values(_) => answered(3, 0),
+        Reply::Edges(_) => answered(4, 0),
+        Reply::VerticesFull => answered(16, 0),
+    }
+}
+
+// A reply, which is no denial.
+fn answered(kind: u32, name: u64) -> ReplyOut
+    ensures { result ≡ answered_told kind name }
+{
+    let denial = DenialOut {
+        rule: 0,
+        cause: 0,
+        from: 0,
+        to: 0,
+        rights: 0,
+    };
+    ReplyOut { kind, name, denial }
+}
