@@ -8,9 +8,12 @@
 A command that the rules don't allow raises Denied, which says by its cause which check failed. Any other refusal raises a Refused. A number that isn't from 0 to
 2^64 - 1 raises OverflowError, and what is no number TypeError: nothing happened then.
 
+A store's journal is read by `entry` and `journal`. The types of what an entry says are those of `kovshenul.journal`.
+
 Any thread may call a store: a lock in it makes the calls come one after the other. The library is the one that the
 variable KOVSHENUL_LIBRARY names, else the one beside this module, else the one that the system finds.
 """
+from . import journal
 from ._library import version as _version
 from ._refusals import (
     CAUSES,
@@ -21,6 +24,7 @@ from ._refusals import (
     BadKind,
     BadLaw,
     BadLimits,
+    BadPlace,
     BadRights,
     BadValues,
     BadWorkers,
@@ -48,6 +52,7 @@ __all__ = [
     "BadKind",
     "BadLaw",
     "BadLimits",
+    "BadPlace",
     "BadRights",
     "BadValues",
     "BadWorkers",
@@ -82,4 +87,5 @@ __all__ = [
     "Value",
     "VerticesFull",
     "WRITE",
+    "journal",
 ]

@@ -40,6 +40,26 @@ class Denial(ctypes.Structure):
     ]
 
 
+class Record(ctypes.Structure):
+    """An entry of the journal, without its numbers and its edges."""
+
+    _fields_ = [
+        ("worker", Number),
+        ("deed", ctypes.c_uint32),
+        ("reply", ctypes.c_uint32),
+        ("law", ctypes.c_uint32),
+        ("most", ctypes.c_uint32),
+        ("via", Number),
+        ("target", Number),
+        ("rights", Number),
+        ("value", Number),
+        ("name", Number),
+        ("denial", Denial),
+        ("number_count", Number),
+        ("edge_count", Number),
+    ]
+
+
 class Counts(ctypes.Structure):
     """What the heap has."""
 
@@ -93,6 +113,7 @@ def _declare(library: ctypes.CDLL) -> None:
         "census": [address, address],
         "names": [address, address, size, address],
         "entries": [address, address],
+        "entry": [address, Number, address, address, size, address, size],
         "audit": [address, address],
     }
     for name, types in takes.items():

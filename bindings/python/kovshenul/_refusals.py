@@ -3,14 +3,23 @@ from __future__ import annotations
 
 from typing import Optional, Tuple
 
-from ._library import text_of
-from ._values import Rights
+from ._library import Denial, text_of
+from ._values import RIGHTS, Rights
 
 RULES = ("take", "grant", "remove", "read", "write", "append", "inspect")
 CAUSES = ("not distinct", "missing", "not log")
 
+MISSING = CAUSES.index("missing")
+
 # What a denial says that is of no rights.
 SENTENCES = {"not distinct": "two vertices that must differ are one", "not log": "the target stores no log"}
+
+
+def told_by(denial: Denial) -> Tuple[str, str, Optional[Tuple[int, int]], Rights]:
+    """What the library says of a denial: the rule, the cause, and where rights are missing the edge and those."""
+    rule, cause = RULES[denial.rule], CAUSES[denial.cause]
+    edge = (denial.source, denial.target) if denial.cause == MISSING else None
+    return rule, cause, edge, RIGHTS[denial.rights]
 
 
 class Denied(Exception):
@@ -128,6 +137,12 @@ class BadEntry(Refused):
     """Kept: an audit of the store's own journal never answers it."""
 
     status = 96
+
+
+class BadPlace(Refused, IndexError):
+    """The journal has no entry at the place."""
+
+    status = 97
 
 
 BY_STATUS = {kind.status: kind for kind in Refused.__subclasses__()}

@@ -3,20 +3,21 @@ from __future__ import annotations
 
 import ctypes
 from functools import partial
+from itertools import count as from_on
 from operator import index
 from threading import RLock
-from typing import Callable, Iterable, List, NoReturn, Set, Tuple
+from typing import Callable, Iterable, Iterator, List, NoReturn, Set, Tuple
 
 from . import _library
 from ._library import library, short
-from ._refusals import CAUSES, RULES, Denied, NotOpen, refusal
+from ._refusals import BadPlace, Denied, NotOpen, refusal, told_by
 from ._values import MOST_NUMBERS, RIGHTS, Counts, Kind, Limits, Rights, Target, Value, number_in
+from .journal import Entry, entry_of
 
 BITS = 64
 OUT_OF_RANGE = "a number is from 0 to 2^64 - 1"
 NO_VALUE = "a value is a Cell, a Sum, a Max or a Log"
 DENIED = 1
-MISSING = 1
 MAX_VERTICES = 2**24
 FIRST_ROW = 64
 
@@ -37,6 +38,13 @@ class _Room:
         self.count_at = ctypes.addressof(self.count)
         self.denial = _library.Denial()
         self.denial_at = ctypes.addressof(self.denial)
+        self.state = (_library.Number * MOST_NUMBERS)()
+        self.record = _library.Record()
+
+    def entry(self, store_at: int, at: int) -> int:
+        """Reads the entry at a place of the journal, and answers the status."""
+        record_at, state_at = ctypes.addressof(self.record), ctypes.addressof(self.state)
+        return short.tg_entry(store_at, at, record_at, state_at, MOST_NUMBERS, self.numbers_at, self.row)
 
 
 def _numbers(*numbers: int) -> Tuple[int, ...]:
@@ -48,10 +56,7 @@ def _raise(status: int, denial: _library.Denial) -> NoReturn:
     """Raises what a status other than 0 says."""
     if status != DENIED:
         raise refusal(status)
-    rule, cause = RULES[denial.rule], CAUSES[denial.cause]
-    if denial.cause == MISSING:
-        raise Denied(rule, cause, (denial.source, denial.target), RIGHTS[denial.rights])
-    raise Denied(rule, cause)
+    raise Denied(*told_by(denial))
 
 
 class Store:
@@ -315,6 +320,32 @@ class Store:
     def entries(self) -> int:
         """How many entries the journal has."""
         return self._count(short.tg_entries)
+
+    def entry(self, at: int) -> Entry:
+        """The journal's entry at this place, counted from 0. It never changes, and to read it makes none."""
+        at = index(at)
+        if at >> BITS:
+            raise OverflowError(OUT_OF_RANGE)
+        with self._lock:
+            room, self._room = self._room or _Room(), None
+            status = room.entry(self._at, at)
+            if not status and room.row < room.record.edge_count:
+                room = _Room(room.record.edge_count)
+                status = room.entry(self._at, at)
+            entry = None if status else entry_of(room.record, room.state, room.numbers)
+            self._room = room
+        if entry is None:
+            raise refusal(status)
+        return entry
+
+    def journal(self) -> Iterator[Entry]:
+        """The journal's entries, one after the other. What is called in between has its entries among them."""
+        for at in from_on():
+            try:
+                entry = self.entry(at)
+            except BadPlace:
+                return
+            yield entry
 
     def audit(self) -> int:
         """Replays the journal, and answers how many entries it has."""

@@ -98,12 +98,14 @@ pub enum Error {
     BadLimits,
     /// An edge from a worker to itself, or with an end that is no worker.
     BadEdge,
+    /// The journal has no entry at the place.
+    BadPlace,
     /// Any other status of the library.
     Status(u32),
 }
 
 // The errors with a status of their own.
-const REFUSALS: [(Error, u32); 9] = [
+const REFUSALS: [(Error, u32); 10] = [
     (Error::OutOfMemory, 32),
     (Error::HeapFull, 33),
     (Error::VerticesFull, 34),
@@ -113,6 +115,7 @@ const REFUSALS: [(Error, u32); 9] = [
     (Error::BadWorkers, 80),
     (Error::BadLimits, 81),
     (Error::BadEdge, 82),
+    (Error::BadPlace, 97),
 ];
 
 impl Error {

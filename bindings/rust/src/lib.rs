@@ -18,12 +18,14 @@
 //!
 //! Where it is built, `KOVSHENUL_LIB_DIR` names the folder of `libkovshenul.a`, or pkg-config knows it.
 mod error;
+mod journal;
 mod raw;
 mod rights;
 mod store;
 mod value;
 
 pub use error::{Denial, Error, Rule};
+pub use journal::{Deed, Entry, Journal, Reply};
 pub use rights::{NoRights, Rights};
 pub use store::Store;
 pub use value::{Counts, Edge, Kind, Limits, Target, Value};

@@ -19,6 +19,31 @@ pub const MISSING: u32 = 1;
 /// That where the target of an append stores no log.
 pub const NOT_LOG: u32 = 2;
 
+// The laws, by their numbers.
+pub const CELL: u32 = 0;
+pub const SUM: u32 = 1;
+pub const MAX: u32 = 2;
+pub const LOG: u32 = 3;
+
+// What an entry of the journal was asked for.
+pub const DEED_TAKE: u32 = 0;
+pub const DEED_GRANT: u32 = 1;
+pub const DEED_REMOVE: u32 = 2;
+pub const DEED_READ: u32 = 3;
+pub const DEED_WRITE: u32 = 4;
+pub const DEED_APPEND: u32 = 5;
+pub const DEED_INSPECT: u32 = 6;
+pub const DEED_LIST: u32 = 8;
+pub const DEED_CREATE: u32 = 16;
+
+// What was answered to it.
+pub const REPLY_DONE: u32 = 0;
+pub const REPLY_DENIED: u32 = 1;
+pub const REPLY_NAME: u32 = 2;
+pub const REPLY_VALUES: u32 = 3;
+pub const REPLY_EDGES: u32 = 4;
+pub const REPLY_VERTICES_FULL: u32 = 16;
+
 /// A store, or none where all of it is zero.
 #[repr(C)]
 pub struct RawStore {
@@ -36,10 +61,10 @@ pub struct RawValue {
 impl From<&Value> for RawValue {
     fn from(value: &Value) -> RawValue {
         let (law, most, number) = match *value {
-            Value::Cell(number) => (0, 0, number),
-            Value::Sum(number) => (1, 0, number),
-            Value::Max(number) => (2, 0, number),
-            Value::Log(most) => (3, most, 0),
+            Value::Cell(number) => (CELL, 0, number),
+            Value::Sum(number) => (SUM, 0, number),
+            Value::Max(number) => (MAX, 0, number),
+            Value::Log(most) => (LOG, most, 0),
         };
         RawValue { law, most, number }
     }
@@ -77,6 +102,24 @@ pub struct RawDenial {
     pub from: u64,
     pub to: u64,
     pub rights: u64,
+}
+
+#[repr(C)]
+#[derive(Default)]
+pub struct RawRecord {
+    pub worker: u64,
+    pub deed: u32,
+    pub reply: u32,
+    pub law: u32,
+    pub most: u32,
+    pub via: u64,
+    pub target: u64,
+    pub rights: u64,
+    pub value: u64,
+    pub name: u64,
+    pub denial: RawDenial,
+    pub number_count: u64,
+    pub edge_count: u64,
 }
 
 extern "C" {
@@ -121,5 +164,14 @@ extern "C" {
     pub fn tg_census(store: &mut RawStore, counts: &mut Counts) -> u32;
     pub fn tg_names(store: &mut RawStore, names: *mut u64, room: usize, count: &mut u64) -> u32;
     pub fn tg_entries(store: &mut RawStore, count: &mut u64) -> u32;
+    pub fn tg_entry(
+        store: &mut RawStore,
+        at: u64,
+        record: &mut RawRecord,
+        numbers: *mut u64,
+        number_room: usize,
+        edges: *mut RawTarget,
+        edge_room: usize,
+    ) -> u32;
     pub fn tg_audit(store: &mut RawStore, count: &mut u64) -> u32;
 }

@@ -1,7 +1,7 @@
 //! An open store.
 use crate::error::{decided, served};
-use crate::raw::{self, RawDenial, RawEdge, RawStore, RawTarget, RawValue};
-use crate::{Counts, Edge, Error, Kind, Limits, Rights, Target, Value};
+use crate::raw::{self, RawDenial, RawEdge, RawRecord, RawStore, RawTarget, RawValue};
+use crate::{Counts, Edge, Entry, Error, Journal, Kind, Limits, Rights, Target, Value};
 use std::fmt;
 use std::ptr::null_mut;
 
@@ -173,11 +173,7 @@ impl Store {
             self.row = count as usize;
             return self.targets(call);
         }
-        let targets = edges[..count as usize].iter().map(|edge| Target {
-            to: edge.to,
-            rights: Rights::told(edge.rights),
-        });
-        Ok(targets.collect())
+        Ok(edges[..count as usize].iter().map(Target::from).collect())
     }
 
     /// The rights that the worker holds over the target, which may be none. The journal gets no entry of it.
@@ -214,6 +210,65 @@ impl Store {
         let mut count = 0;
         served(unsafe { raw::tg_entries(&mut self.raw, &mut count) })?;
         Ok(count)
+    }
+
+    /// The journal's entry at this place, counted from 0. It never changes, and to read it makes none.
+    ///
+    /// ```
+    /// # use kovshenul::{Deed, Denial, Error, Limits, Reply, Rights, Rule, Store, Value};
+    /// # let limits = Limits { max_vertices: 10, max_blocks: 8, max_space_blocks: 4 };
+    /// let mut store = Store::open(&[Value::Cell(0)], &[], &limits)?;
+    /// let log = store.create(0, Rights::APPEND, Value::Log(3))?;
+    /// let _ = store.read(0, log);
+    /// let entry = store.entry(1)?;
+    /// assert_eq!((entry.worker, entry.deed), (0, Deed::Read { target: log }));
+    /// assert!(matches!(entry.reply, Reply::Denied(Denial::Missing { rule: Rule::Read, .. })));
+    /// assert_eq!(store.entry(2), Err(Error::BadPlace));
+    /// # Ok::<(), Error>(())
+    /// ```
+    pub fn entry(&mut self, at: u64) -> Result<Entry, Error> {
+        let mut numbers = [0; MOST_NUMBERS];
+        let mut record = self.record(at, &mut numbers, &mut [])?;
+        // Few entries have edges. How many these are was told.
+        let mut edges = vec![RawTarget::default(); record.edge_count as usize];
+        if !edges.is_empty() {
+            record = self.record(at, &mut numbers, &mut edges)?;
+        }
+        Ok(Entry::told(&record, &numbers[..record.number_count as usize], &edges))
+    }
+
+    // The same as the library tells it, with as many of its numbers and edges as there is room for.
+    fn record(&mut self, at: u64, numbers: &mut [u64], edges: &mut [RawTarget]) -> Result<RawRecord, Error> {
+        let mut record = RawRecord::default();
+        let status = unsafe {
+            raw::tg_entry(
+                &mut self.raw,
+                at,
+                &mut record,
+                numbers.as_mut_ptr(),
+                numbers.len(),
+                edges.as_mut_ptr(),
+                edges.len(),
+            )
+        };
+        served(status).map(|()| record)
+    }
+
+    /// The journal's entries, one after the other.
+    ///
+    /// ```
+    /// # use kovshenul::{Deed, Entry, Error, Limits, Reply, Rights, Store, Value};
+    /// # let limits = Limits { max_vertices: 10, max_blocks: 8, max_space_blocks: 4 };
+    /// let mut store = Store::open(&[Value::Cell(0)], &[], &limits)?;
+    /// let sum = store.create(0, Rights::READ | Rights::WRITE, Value::Sum(40))?;
+    /// store.write(0, sum, 2)?;
+    /// store.read(0, sum)?;
+    /// let replies: Vec<Reply> = store.journal().map(|entry| entry.reply).collect();
+    /// assert_eq!(replies, [Reply::Name(sum), Reply::Done, Reply::Values(vec![42])]);
+    /// # Ok::<(), Error>(())
+    /// ```
+    pub fn journal(&mut self) -> Journal<'_> {
+        Journal::new(self)
     }
 
     /// Replays the journal, and answers how many entries it has.

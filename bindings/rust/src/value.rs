@@ -1,4 +1,5 @@
 //! What a call takes and answers, beside rights and refusals.
+use crate::raw::RawTarget;
 use crate::Rights;
 
 /// What a vertex stores at first, and by which law a write changes it.
@@ -46,6 +47,15 @@ pub enum Kind {
 pub struct Target {
     pub to: u64,
     pub rights: Rights,
+}
+
+impl From<&RawTarget> for Target {
+    fn from(target: &RawTarget) -> Target {
+        Target {
+            to: target.to,
+            rights: Rights::told(target.rights),
+        }
+    }
 }
 
 /// What the heap has, those that nobody reaches included until a full collection.

@@ -15,9 +15,8 @@ use Rattle.tg_model.specs.declared.reply.Reply.TheVariants as reply
 use Rattle.tg_model.specs.declared.value.Value.{Value}
 use Rattle.tg_space.specs.declared.kind.Kind.{Kind}
 use Rattle.tg_space.specs.declared.kind.Kind.TheVariants.{Full, Nursery}
-use Rattle.tg_space.specs.Collection.{MayLackRoom, used_cells}
 use Rattle.tg_space.specs.SpaceList.{block_count, space_of}
-use Rattle.tg_space.specs.SpaceTable.{AreLimits, kept_blocks, limits_of}
+use Rattle.tg_space.specs.SpaceTable.{AreLimits, limits_of}
 use Rattle.tg_payload.specs.Table.{count}
 use Rattle.tg_graph.specs.Content.{IsNamed}
 use Rattle.tg_graph.specs.Heap.{content_of}
@@ -30,6 +29,7 @@ use Rattle.tg_evac.specs.declared.fault.CollectFault.TheVariants as collect
 use Rattle.tg_journal.specs.declared.entry.Entry.{Entry}
 use Rattle.tg_journal.specs.declared.replay.AuditFault.{AuditFault}
 use Rattle.tg_journal.specs.declared.replay.AuditFault.TheVariants as audit
+use Rattle.tg_store.specs.Room.{LacksRoomToCollect}
 use Rattle.tg_store.specs.Store.{StoreState, StandsFor, Enters, HasFewBlocks, OnlyEnters, IsCountOf, IsUnchanged}
 use Rattle.tg_store.specs.declared.census.Census.{Census}
 use Rattle.tg_store.specs.declared.fault.ApplyFault.{ApplyFault}
@@ -168,7 +168,7 @@ pub record Collects (kind : Kind) (old new : StoreState) (answer : Result ℕ Co
   pub stay : OnOk answer (kind ≡ Nursery → VerticesOfOldStay old.heap.table.spaces new.heap.table.spaces)
   pub entries : new.entries ≡ old.entries
   pub full : answer ≡ Err collect.HeapFull →
-      MayLackRoom old.heap.table.limits.space_blocks 1 (kept_blocks kind old.heap.table.spaces) (used_cells kind old.heap.table.spaces)
+      LacksRoomToCollect kind 1 old.heap
   pub refused : OnErr answer (new ≡ old)
   pub opening : new.opening ≡ old.opening
   pub limits : new.heap.table.limits ≡ old.heap.table.limits

@@ -16,7 +16,6 @@ use Rattle.tg_space.specs.Targets.{from_space}
 use Rattle.tg_space.specs.declared.kind.Kind.{Kind}
 use Rattle.tg_space.specs.declared.kind.Kind.TheVariants.{Full, Nursery}
 use Rattle.tg_space.proofs.Flat.{get_or-flat_of, flat_inside, length-cells_of, length-blocks, before_mono}
-use Rattle.tg_evac.specs.Claims.{Claimed, HasFilledRoom, cells_won}
 
 -- the cell with a number is one of from-space that isn't free
 pub record IsUsed (kind : Kind) (h : SpaceList) (c : ℕ) : Type 0 where
@@ -132,9 +131,3 @@ won_few kind h is won distinct used =
     list_any-from_Contains {eq = eqb} nat_eq_equiv q ys y in
     let le = length-le_from_is_member {eq = eqb} nat_eq_equiv won ys distinct held in
     omega (arith, le, length_numbers (first_moved kind h) (moved_cells kind h), used_is kind h)
-
--- where all the room is won, there is no more room than cells that are not free
-pub full_few : (kind : Kind) (h : SpaceList) → IsSpaceList h → (c : Claimed) → All (IsUsed kind h) (cells_won c.won) → HasFilledRoom c → c.plan.room ≤ 64 * c.plan.kept + used_cells kind h
-full_few kind h is c used full =
-    let few = won_few kind h is (cells_won c.won) full.distinct used in
-    omega (arith, few, full.all)

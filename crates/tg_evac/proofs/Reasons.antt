@@ -1,15 +1,14 @@
 -- What the reasons of won pairs say: which cells were won, and in which space their copies are.
-use Rattle.std.proofs.Common.{◌≡◌, ◌≢◌, ℕ, zero, suc, ◌<◌, ◌≤◌, ◌+◌, ◌-◌, ◌*◌, ◌⊎◌, ◌==◌, Bool, true, false, List, [], length, get_or, refl, sym, ap, subst, arith, ◌∙◌, inl, inr, ⊎_elim}
+use Rattle.std.proofs.Common.{◌≡◌, ◌≢◌, ℕ, zero, suc, ◌<◌, ◌≤◌, ◌+◌, ◌-◌, ◌⊎◌, ◌==◌, Bool, true, false, List, [], length, get_or, refl, sym, ap, subst, arith, ◌∙◌, inl, inr, ⊎_elim}
 use Rattle.std.specs.List.{All, Contains}
 use Rattle.std.proofs.lemmas.List.{get_or-map, length-map, length-append, get_or_append_left, get_or-append_right, get_or_default}
-use Rattle.std.proofs.lemmas.List.Elements.{All-map, All-get_or, All-contains, All-from_get_or, Contains-get_or}
+use Rattle.std.proofs.lemmas.List.Elements.{All-map, All-get_or, All-contains, All-contains_itself, All-from_get_or, All-weaker, Contains-get_or}
 use Rattle.std.proofs.lemmas.Bool.{cases_lt, cases_eq}
 use Rattle.std.proofs.lemmas.Bool.Decides.{eqb_tells}
 use Rattle.tg_model.specs.Walks.{Walk, begins, goes}
 use Rattle.tg_word.specs.declared.Place.{Place}
 use Rattle.tg_word.specs.Word.{place_in}
 use Rattle.tg_space.specs.Closure.{IsTraced}
-use Rattle.tg_space.specs.Collection.{used_cells}
 use Rattle.tg_space.specs.Generations.{AreSortedByAge, GoesTo, IsAgedCell, IsNextIn, IsNurseryCell, IsRememberedTarget, IsRowTarget}
 use Rattle.tg_space.specs.Soundness.{IsRootIn}
 use Rattle.tg_space.specs.SpaceList.{SpaceList, IsSpaceList, Holds, cells_of, flat_of}
@@ -20,12 +19,13 @@ use Rattle.tg_space.specs.declared.root.Root.{Root}
 use Rattle.tg_space.specs.declared.root.Root.TheVariants.{Row, Remembered}
 use Rattle.tg_space.proofs.Adding.{piece}
 use Rattle.tg_space.proofs.Flat.{same_place, flat_inside}
-use Rattle.tg_evac.specs.declared.plan.Plan.{Plan}
+use Rattle.tg_space.proofs.Tracing.{reached_from_won}
 use Rattle.tg_evac.specs.declared.win.Win.{Win}
-use Rattle.tg_evac.specs.Claims.{Claimed, HavePointers, HasFilledRoom, StandsIn, IsClaimOf, IsRootClaim, AreTraced, AreWordsOf, cells_won, is_in_old, is_straight, space_for, win_at}
+use Rattle.tg_evac.specs.Claims.{HavePointers, StandsIn, IsClaimOf, IsRootClaim, AreTraced, AreWordsOf, cells_won, is_in_old, is_straight, space_for, win_at}
 use Rattle.tg_evac.specs.Claimers.{AddsWins, Walked}
+use Rattle.tg_evac.specs.Room.{IsReachedFrom}
 use Rattle.tg_evac.proofs.Chunks.{used_root, used_targets, targets_from}
-use Rattle.tg_evac.proofs.Counting.{IsUsed, full_few}
+use Rattle.tg_evac.proofs.Counting.{IsUsed}
 
 -- ---- spaces of copies
 
@@ -104,6 +104,12 @@ module _ (kind : Kind) (h : SpaceList) (roots : List Root) (won : List Win) (tra
       inr (j, below, rw (cell_is k low, cell_is j jl) claim.one))
       (traced k low)
 
+  -- each won cell is reached
+  pub all_reached : All (IsReachedFrom kind h roots) (cells_won won)
+  all_reached =
+      let starts = all_root_targets (from_space kind) h roots in let targets = targets_of (from_space kind) h in
+      All-weaker (Contains (cells_won won)) (IsReachedFrom kind h roots) (reached_from_won starts targets (cells_won won) traced_cells) (cells_won won) (All-contains_itself (cells_won won))
+
   pub all_used : IsSpaceList h → HavePointers h → All (IsRootIn h) roots → All (IsUsed kind h) (cells_won won)
   all_used is pointers are = All-map (IsUsed kind h) (λ (w : Win). w.cell) won (All-from_get_or (λ (w : Win). IsUsed kind h w.cell) won (win_at [] 0) used)
     where
@@ -119,12 +125,6 @@ module _ (kind : Kind) (h : SpaceList) (roots : List Root) (won : List Win) (tra
           All-contains (IsUsed kind h) (targets_of (from_space kind) h (win_at won j).cell) (win_at won k).cell
           (subst (λ (ts : List ℕ). All (IsUsed kind h) ts) (targets_from (from_space kind) h is place.0 place.1 (win_at won j).cell place.2) (used_targets kind h is pointers place.0 place.1)) claim.one)
           (traced k low)
-
--- where all the room is won, there is no more room than cells that are not free
-pub full_from : (h : SpaceList) → IsSpaceList h → HavePointers h → (roots : List Root) → All (IsRootIn h) roots → (a c : Claimed) → c.plan ≡ a.plan →
-    AreTraced a.plan.kind h roots c.won → HasFilledRoom c → a.plan.room ≤ 64 * a.plan.kept + used_cells a.plan.kind h
-full_from h is pointers roots are a c same traced full =
-    subst (λ (p : Plan). p.room ≤ 64 * p.kept + used_cells a.plan.kind h) same (full_few a.plan.kind h is c (all_used a.plan.kind h roots c.won traced is pointers are) full)
 
 -- ---- generations
 

@@ -1,3 +1,4 @@
 pub mod Claims
 pub mod Claimers
 pub mod Copies
+pub mod Room

@@ -2,12 +2,13 @@
 ghost use Rattle.std.specs.Prelude.{◌≡◌, ℕ, ◌+◌, ◌*◌, ◌≤◌, [], length, IfErr, IfOk, OnOk};
 ghost use Rattle.std.specs.List.{All};
 ghost use Rattle.tg_word.specs.declared.Place.{Place as PlaceOf};
-ghost use Rattle.tg_space.specs.Collection.{AreFewBlocks, IsCollection, MayLackRoom, copies_in, used_cells};
+ghost use Rattle.tg_space.specs.Collection.{AreFewBlocks, IsCollection, copies_in, used_cells};
 ghost use Rattle.tg_space.specs.Soundness.{AreSound, IsRootIn};
 ghost use Rattle.tg_space.specs.SpaceList.{cells_of};
-ghost use Rattle.tg_space.specs.SpaceTable.{IsSpaceTable, kept_blocks};
-ghost use Rattle.tg_evac.specs.Claims.{HavePointers, IsTracedFrom};
+ghost use Rattle.tg_space.specs.SpaceTable.{kept_blocks};
+ghost use Rattle.tg_evac.specs.Claims.{HasFilledRoom, HavePointers, IsTracedFrom, cells_won};
 ghost use Rattle.tg_evac.specs.Claimers.{HasPlacesOf, copies_to};
+ghost use Rattle.tg_evac.specs.Room.{IsReachedFrom, LacksRoomFor};
 
 use crate::claims::Claims;
 use crate::copies::Copies;
@@ -44,7 +45,8 @@ pub struct Copied {
 /// emptied takes few from the allocator; those that aren't needed are given back.
 ///
 /// The refusals change nothing: `OutOfMemory` where memory was refused, and `HeapFull` where Aged or Old would need more
-/// than `space_blocks` blocks, so that at least as many cells of from-space aren't free as there is room for in Old.
+/// than `space_blocks` blocks, so that the roots reach at least as many cells of from-space as there is room for in Old.
+/// Cells that they don't reach take no room.
 pub fn collect_one(
     alloc: Global,
     spaces: &Spaces,
@@ -56,7 +58,7 @@ pub fn collect_one(
     ensures collected { IfOk result (λ copied. IsCollection kind spaces.now.spaces roots.now copied.forward.words copied.adoption.aged copied.adoption.old copied.remembered.places) }
     ensures moved { IfOk result (λ copied. copies_in copied.forward.words 0 + copies_in copied.forward.words 1 ≤ used_cells kind spaces.now.spaces) }
     ensures few { IfOk result (λ copied. AreFewBlocks spaces.now.limits.space_blocks (kept_blocks kind spaces.now.spaces) 0 copied.forward.words copied.adoption.aged copied.adoption.old) }
-    ensures full { IfErr result (λ fault. fault ≡ CollectFault.HeapFull → MayLackRoom spaces.now.limits.space_blocks 1 (kept_blocks kind spaces.now.spaces) (used_cells kind spaces.now.spaces)) }
+    ensures full { IfErr result (λ fault. fault ≡ CollectFault.HeapFull → LacksRoomFor spaces.now.limits.space_blocks 1 (kept_blocks kind spaces.now.spaces) (IsReachedFrom kind spaces.now.spaces roots.now)) }
 {
     match kind {
         Kind::Full => collect_kind(alloc, spaces, roots, Kind::Full, spare),
@@ -78,7 +80,7 @@ fn collect_kind(
     ensures collected { IfOk result (λ copied. IsCollection kind spaces.now.spaces roots.now copied.forward.words copied.adoption.aged copied.adoption.old copied.remembered.places) }
     ensures moved { IfOk result (λ copied. copies_in copied.forward.words 0 + copies_in copied.forward.words 1 ≤ used_cells kind spaces.now.spaces) }
     ensures few { IfOk result (λ copied. AreFewBlocks spaces.now.limits.space_blocks (kept_blocks kind spaces.now.spaces) 0 copied.forward.words copied.adoption.aged copied.adoption.old) }
-    ensures full { IfErr result (λ fault. fault ≡ CollectFault.HeapFull → MayLackRoom spaces.now.limits.space_blocks 1 (kept_blocks kind spaces.now.spaces) (used_cells kind spaces.now.spaces)) }
+    ensures full { IfErr result (λ fault. fault ≡ CollectFault.HeapFull → LacksRoomFor spaces.now.limits.space_blocks 1 (kept_blocks kind spaces.now.spaces) (IsReachedFrom kind spaces.now.spaces roots.now)) }
 {
     let cells = spaces.cells();
     let plan = Plan::of(kind, spaces);
@@ -113,7 +115,6 @@ fn trace(
     roots: &[Root],
     spare: Vec<Block>,
 ) -> Result<Copies, CollectFault>
-    requires table { IsSpaceTable spaces.now }
     requires pointers { HavePointers spaces.now.spaces }
     requires roots { All (IsRootIn spaces.now.spaces) roots.now }
     requires kind { claims.old.plan.kind ≡ kind }
@@ -124,7 +125,7 @@ fn trace(
     ensures plan { claims.new.plan ≡ claims.old.plan }
     ensures aged { IfOk result (λ copies. (to : ℕ → PlaceOf) → HasPlacesOf claims.new.won to → copies.aged ≡ copies_to 1 claims.old.plan.kind spaces.now.spaces to claims.new.won) }
     ensures old { IfOk result (λ copies. (to : ℕ → PlaceOf) → HasPlacesOf claims.new.won to → copies.old ≡ copies_to 0 claims.old.plan.kind spaces.now.spaces to claims.new.won) }
-    ensures full { IfErr result (λ fault. fault ≡ CollectFault.HeapFull → claims.old.plan.room ≤ 64 * claims.old.plan.kept + used_cells claims.old.plan.kind spaces.now.spaces) }
+    ensures full { IfErr result (λ fault. fault ≡ CollectFault.HeapFull → HasFilledRoom claims.new × All (IsReachedFrom claims.old.plan.kind spaces.now.spaces roots.now) (cells_won claims.new.won)) }
 {
     let mut copies = Copies::new(alloc, spare)?;
     walk(claims, spaces, kind, roots, &mut copies)?;

@@ -270,7 +270,7 @@ module _ (s : HeapState) (formed : IsWellFormed s) (starts : List Root) (are : A
     roots_held = All-append (IsRootIn spaces) starts cells (shorter_sound spaces s.workers starts are) (All-map (IsRootIn spaces) (λ p. Remembered p) s.remembered (remembered_cells s formed));
   }
 
-  all_same : all_root_targets young_spaces spaces (starts ++ cells) ≡ all_root_targets young_spaces spaces (roots_of Nursery s)
+  pub all_same : all_root_targets young_spaces spaces (starts ++ cells) ≡ all_root_targets young_spaces spaces (roots_of Nursery s)
   all_same =
       flat_map-append (root_targets_of young_spaces spaces) starts cells
       ∙ ap (λ (ts : List ℕ). ts ++ all_root_targets young_spaces spaces cells) (same_targets spaces s.workers starts are)

@@ -6,13 +6,12 @@
 
 ghost use Rattle.std.specs.Prelude.{◌≡◌, ◌≢◌, ◌↔◌, ◌≤◌, ℕ, [], Err, IfOk, OnErr, OnOk, length};
 ghost use Rattle.tg_model.specs.Graph.{ProtectionGraph, IsReachable};
-ghost use Rattle.tg_space.specs.Collection.{MayLackRoom, used_cells};
 ghost use Rattle.tg_space.specs.Generations.{AreNeeded};
 ghost use Rattle.tg_space.specs.SpaceList.{space_of};
-ghost use Rattle.tg_space.specs.SpaceTable.{kept_blocks};
 ghost use Rattle.tg_graph.specs.Content.{IsNamed};
 ghost use Rattle.tg_graph.specs.Heap.{content_of};
 ghost use Rattle.tg_graph.specs.Kept.{VerticesOfOldStay};
+ghost use Rattle.tg_store.specs.Room.{LacksRoomToCollect};
 ghost use Rattle.tg_store.specs.Store.{HasFewBlocks, IsCountOf, StandsFor};
 
 use std::alloc::Global;
@@ -29,8 +28,8 @@ use tg_store::Store;
 /// the number of vertices that the heap then has. Each space may then have as many blocks more than after `Store::collect` as
 /// there are helpers, since each may leave one open. Each helper passes the gate before each claim of roots.
 ///
-/// `HeapFull` is answered only where the cells in use that would be moved may not fit into the blocks that a space may
-/// have, of which each helper may leave one open; `NoThread` where a thread couldn't be started, and never of one helper
+/// `HeapFull` is answered only where the cells that are reached and would be moved may not fit into the blocks that a space
+/// may have, of which each helper may leave one open; `NoThread` where a thread couldn't be started, and never of one helper
 /// alone; else `OutOfMemory` alone. The store is then as it was.
 pub fn collect_with<P: Payload, R: Threads + Wait + Sync, G: Gate>(
     rt: &R,
@@ -53,7 +52,7 @@ pub fn collect_with<P: Payload, R: Threads + Wait + Sync, G: Gate>(
     ensures stay { OnOk result (kind ≡ Kind.Nursery → VerticesOfOldStay store.old.heap.table.spaces store.new.heap.table.spaces) }
     ensures entries { store.new.entries ≡ store.old.entries }
     ensures full { result ≡ Err HelpersFault.HeapFull →
-        MayLackRoom store.old.heap.table.limits.space_blocks helpers (kept_blocks kind store.old.heap.table.spaces) (used_cells kind store.old.heap.table.spaces) }
+        LacksRoomToCollect kind helpers store.old.heap }
     ensures alone { helpers ≡ 1 → result ≢ Err HelpersFault.NoThread }
     ensures refused { OnErr result (store.new ≡ store.old) }
     ensures opening { store.new.opening ≡ store.old.opening }

@@ -1,5 +1,5 @@
 -- How many blocks a closed table has given away: they are within the limit, and nearly as few as the copies need; and a block
--- past the limit tells of many cells in use.
+-- past the limit tells of many cells that are reached.
 use Rattle.std.proofs.Common.{◌≡◌, ◌≢◌, ℕ, suc, ◌+◌, ◌-◌, ◌<◌, ◌≤◌, ◌==◌, List, [], ◌∷◌, Bool, true, false, cond, if◌then◌else◌, length, refl, sym, ap, ◌∙◌, eq-eqb, eqb-true, ⊎_elim, arith}
 use Rattle.std.specs.List.{All, Contains}
 use Rattle.std.proofs.lemmas.Bool.{cases_eq}
@@ -25,8 +25,9 @@ use Rattle.tg_race.proofs.Closed.{consecutive}
 use Rattle.tg_race.proofs.Standing.{closed_aged_few, closed_aged_filled, closed_old_few, closed_old_filled}
 use Rattle.tg_race.proofs.Steps.{in_space}
 use Rattle.tg_evac.specs.Claims.{cells_won}
+use Rattle.tg_evac.specs.Room.{IsReachedFrom, LacksRoomFor}
 use Rattle.tg_evac.proofs.Counting.{won_few}
-use Rattle.tg_evac.proofs.Reasons.{all_used}
+use Rattle.tg_evac.proofs.Reasons.{all_reached, all_used}
 use Rattle.tg_evac.proofs.Sound.{have_pointers}
 use Rattle.tg_parallel.specs.Merged.{AreMerged}
 use Rattle.tg_parallel.specs.Whole.{IsWholePart}
@@ -69,7 +70,7 @@ two_spaces (q ∷ qs) = by_test (q.1.space == 0) refl (q.1.space == 1) refl (two
 copies_won : (k : Counts) (words : List ℕ) (done : Record) → IsClosedTable k words done → (s : ℕ) → in_space s done.won ≡ copies_in words s
 copies_won k words done closed s = let all = closed.rule.wins_once.won (λ q. if q.1.space == s then 1 else 0) in omega (arith, count_words s 0 words)
 
--- ---- a block past the limit
+-- ---- cells in use
 
 module _ (kind : Kind) (t : SpaceTable) (roots : List Root) (k : Counts) (words : List ℕ) (done : Record)
     (table : IsSpaceTable t) (sound : AreSound t.spaces roots) (counts : AreCountsOf kind t.spaces roots k) (closed : IsClosedTable k words done) (earned : AreEarned kind t.spaces roots done) where
@@ -83,16 +84,30 @@ module _ (kind : Kind) (t : SpaceTable) (roots : List Root) (k : Counts) (words 
   pub moved_few : copies_in words 0 + copies_in words 1 ≤ used_cells kind t.spaces
   moved_few = omega (arith, won_used, two_spaces done.won, copies_won k words done closed 0, copies_won k words done closed 1)
 
-  pub lacks : IsPastLimit t done → MayLackRoom t.limits.space_blocks k.helpers (kept_blocks kind t.spaces) (used_cells kind t.spaces)
+-- ---- a block past the limit
+
+module _ (kind : Kind) (t : SpaceTable) (roots : List Root) (k : Counts) (words : List ℕ) (done : Record)
+    (counts : AreCountsOf kind t.spaces roots k) (closed : IsClosedTable k words done) (earned : AreEarned kind t.spaces roots done) where
+  -- the cells that were won are all reached, and they are too many
+  pub lacks : IsPastLimit t done → LacksRoomFor t.limits.space_blocks k.helpers (kept_blocks kind t.spaces) (IsReachedFrom kind t.spaces roots)
   lacks past =
-      let b : ℕ = past.0 in
-      let over = past.2 in
-      let many = won_used in
-      let kept = counts.kept in
-      ⊎_elim
-      (λ (aged : Contains done.aged_blocks b). let low = closed_aged_few k words done closed b (any_has (λ (x : ℕ). x == b) done.aged_blocks b aged (eq-eqb b b refl)) in omega arith)
-      (λ (old : Contains done.old_blocks b). let low = closed_old_few k words done closed b (any_has (λ (x : ℕ). x == b) done.old_blocks b old (eq-eqb b b refl)) in omega arith)
-      past.1
+      record {
+        cells = cells_won (wins_of done.won);
+        once = cells_distinct k words done closed;
+        from = all_reached kind t.spaces roots (wins_of done.won) (traced_all kind t.spaces roots done earned);
+        many = many;
+      }
+    where
+      many : MayLackRoom t.limits.space_blocks k.helpers (kept_blocks kind t.spaces) (length (cells_won (wins_of done.won)))
+      many =
+          let b : ℕ = past.0 in
+          let over = past.2 in
+          let long = cells_long k words done closed in
+          let kept = counts.kept in
+          ⊎_elim
+          (λ (aged : Contains done.aged_blocks b). let low = closed_aged_few k words done closed b (any_has (λ (x : ℕ). x == b) done.aged_blocks b aged (eq-eqb b b refl)) in omega arith)
+          (λ (old : Contains done.old_blocks b). let low = closed_old_few k words done closed b (any_has (λ (x : ℕ). x == b) done.old_blocks b old (eq-eqb b b refl)) in omega arith)
+          past.1
 
 -- ---- blocks within the limit
 

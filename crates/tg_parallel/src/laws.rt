@@ -2,7 +2,7 @@
 ghost use Rattle.std.specs.Prelude.{ℕ, List, ◌+◌, ◌++◌, ◌<◌, ◌≤◌, ◌^◌, ◌↔◌, ◌⊎◌};
 ghost use Rattle.std.specs.List.{Contains};
 ghost use Rattle.tg_word.specs.declared.Place.{Place};
-ghost use Rattle.tg_space.specs.Collection.{AreFewBlocks, IsCollection, MayLackRoom, copies_in, used_cells};
+ghost use Rattle.tg_space.specs.Collection.{AreFewBlocks, IsCollection, copies_in, used_cells};
 ghost use Rattle.tg_space.specs.Generations.{NamesYoung};
 ghost use Rattle.tg_space.specs.Soundness.{AreSound};
 ghost use Rattle.tg_space.specs.SpaceList.{BlockList, SpaceList};
@@ -15,6 +15,7 @@ ghost use Rattle.tg_race.specs.declared.record.Record.{Record};
 ghost use Rattle.tg_race.specs.Board.{IsClosedTable};
 ghost use Rattle.tg_race.specs.Race.{both};
 ghost use Rattle.tg_evac.specs.Copies.{IsPlaceIn, moved_cell, new_cell};
+ghost use Rattle.tg_evac.specs.Room.{IsReachedFrom, LacksRoomFor};
 ghost use Rattle.tg_parallel.specs.Merged.{AreMerged};
 ghost use Rattle.tg_parallel.specs.Parts.{AreCountsOf, AreEarned, IsPart, IsPastLimit, Numbered};
 ghost use Rattle.tg_parallel.specs.Whole.{IsWholePart};
@@ -25,9 +26,10 @@ pub fn parts_become_one()
     ensures part { (kind : Kind) (t : SpaceTable) (roots : List Root) (v w : Record) (a c b d : Numbered) → IsPart kind t roots v a c → IsPart kind t roots w b d → IsPart kind t roots (both v w) (a ++ b) (c ++ d) }
 {}
 
-/// Where the record that stands for all has claimed a block past the limit, a collection by so many helpers may lack room.
+/// Where the record that stands for all has claimed a block past the limit, a collection by so many helpers may lack room for
+/// the cells that are reached.
 pub fn a_block_past_the_limit_tells_of_want_of_room()
-    ensures { (kind : Kind) (t : SpaceTable) (roots : List Root) (k : Counts) (words : List ℕ) (done : Record) → IsSpaceTable t → AreSound t.spaces roots → AreCountsOf kind t.spaces roots k → IsClosedTable k words done → AreEarned kind t.spaces roots done → IsPastLimit t done → MayLackRoom t.limits.space_blocks k.helpers (kept_blocks kind t.spaces) (used_cells kind t.spaces) }
+    ensures { (kind : Kind) (t : SpaceTable) (roots : List Root) (k : Counts) (words : List ℕ) (done : Record) → AreCountsOf kind t.spaces roots k → IsClosedTable k words done → AreEarned kind t.spaces roots done → IsPastLimit t done → LacksRoomFor t.limits.space_blocks k.helpers (kept_blocks kind t.spaces) (IsReachedFrom kind t.spaces roots) }
 {}
 
 /// Where one record stands for all helpers, the blocks that they have handed over are within the limit, and as many as the

@@ -24,7 +24,7 @@
 //! collection ([`laws::what_helpers_made_is_a_collection`]).
 //!
 //! *Room.* A block is claimed only where all of the helper's blocks of that space are full. So each helper leaves at most one
-//! open in a space, and a number past the limit tells of many cells in use
+//! open in a space, and a number past the limit tells of many cells that are reached
 //! ([`laws::a_block_past_the_limit_tells_of_want_of_room`]).
 //!
 //! **Who may call.** `tg_helpers` calls [`collect_many`], which has the calling thread be one of the helpers. [`collect_seated`]

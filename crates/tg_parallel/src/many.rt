@@ -1,7 +1,7 @@
 //! Collections by a helper at a table, and by several on threads.
 ghost use Rattle.std.specs.Prelude.{◌≡◌, ◌≢◌, ℕ, ◌+◌, ◌≤◌, ◌^◌, ◌↔◌, ◌⊎◌, All, Contains, IfErr, IfOk, List, OnOk, length};
 ghost use Rattle.tg_word.specs.declared.Place.{Place as PlaceOf};
-ghost use Rattle.tg_space.specs.Collection.{AreFewBlocks, IsCollection, MayLackRoom, copies_in, used_cells};
+ghost use Rattle.tg_space.specs.Collection.{AreFewBlocks, IsCollection, copies_in, used_cells};
 ghost use Rattle.tg_space.specs.Generations.{NamesYoung};
 ghost use Rattle.tg_space.specs.Soundness.{AreSound};
 ghost use Rattle.tg_space.specs.SpaceTable.{IsSpaceTable, SpaceTable, kept_blocks};
@@ -13,6 +13,7 @@ ghost use Rattle.tg_race.specs.declared.record.Record.{Record};
 ghost use Rattle.tg_race.specs.Race.{empty};
 ghost use Rattle.tg_evac.specs.Claims.{IsPlanFor};
 ghost use Rattle.tg_evac.specs.Copies.{IsPlaceIn, moved_cell, new_cell};
+ghost use Rattle.tg_evac.specs.Room.{IsReachedFrom, LacksRoomFor};
 ghost use Rattle.tg_parallel.specs.Faults.{IsNotStarted};
 ghost use Rattle.tg_parallel.specs.Helping.{AllHelped, IsHelped, IsNew};
 ghost use Rattle.tg_parallel.specs.Merged.{AreMerged};
@@ -47,7 +48,7 @@ pub fn collect_seated(
     ensures collected { IfOk result (λ copied. IsCollection kind spaces.now.spaces roots.now copied.forward.words copied.adoption.aged copied.adoption.old copied.remembered.places) }
     ensures moved { IfOk result (λ copied. copies_in copied.forward.words 0 + copies_in copied.forward.words 1 ≤ used_cells kind spaces.now.spaces) }
     ensures few { IfOk result (λ copied. AreFewBlocks spaces.now.limits.space_blocks (kept_blocks kind spaces.now.spaces) 1 copied.forward.words copied.adoption.aged copied.adoption.old) }
-    ensures full { IfErr result (λ fault. fault ≡ CollectFault.HeapFull → MayLackRoom spaces.now.limits.space_blocks 1 (kept_blocks kind spaces.now.spaces) (used_cells kind spaces.now.spaces)) }
+    ensures full { IfErr result (λ fault. fault ≡ CollectFault.HeapFull → LacksRoomFor spaces.now.limits.space_blocks 1 (kept_blocks kind spaces.now.spaces) (IsReachedFrom kind spaces.now.spaces roots.now)) }
 {
     collect_alone(alloc, spaces, roots, kind, &NoGate, spare)
 }
@@ -66,7 +67,7 @@ fn collect_alone<G: Gate>(
     ensures collected { IfOk result (λ copied. IsCollection kind spaces.now.spaces roots.now copied.forward.words copied.adoption.aged copied.adoption.old copied.remembered.places) }
     ensures moved { IfOk result (λ copied. copies_in copied.forward.words 0 + copies_in copied.forward.words 1 ≤ used_cells kind spaces.now.spaces) }
     ensures few { IfOk result (λ copied. AreFewBlocks spaces.now.limits.space_blocks (kept_blocks kind spaces.now.spaces) 1 copied.forward.words copied.adoption.aged copied.adoption.old) }
-    ensures full { IfErr result (λ fault. fault ≡ CollectFault.HeapFull → MayLackRoom spaces.now.limits.space_blocks 1 (kept_blocks kind spaces.now.spaces) (used_cells kind spaces.now.spaces)) }
+    ensures full { IfErr result (λ fault. fault ≡ CollectFault.HeapFull → LacksRoomFor spaces.now.limits.space_blocks 1 (kept_blocks kind spaces.now.spaces) (IsReachedFrom kind spaces.now.spaces roots.now)) }
 {
     let cells = spaces.cells();
     let plan = Plan::of(kind, spaces);
@@ -79,10 +80,10 @@ fn collect_alone<G: Gate>(
 /// on a thread of its own. All others are started before the one here begins.
 ///
 /// What they leave is a collection as that of `tg_evac::collect_one`, but that each space may have as many blocks more than
-/// its copies need as there are helpers. `HeapFull` is answered only where the cells in use that would be moved may not fit
-/// into the blocks that a space may have, if each helper leaves one open; `NoThread` where a thread couldn't be started, and
-/// never of one helper alone. Those that were started end before the answer. Each helper has a like share of the spare
-/// blocks, and fills them first.
+/// its copies need as there are helpers. `HeapFull` is answered only where the cells that the roots reach may not fit into
+/// the blocks that a space may have, if each helper leaves one open; cells that they don't reach take no room. `NoThread` is
+/// answered where a thread couldn't be started, and never of one helper alone. Those that were started end before the
+/// answer. Each helper has a like share of the spare blocks, and fills them first.
 #[tactic(auto, using(tg_evac::proofs::Behind::kept_within))]
 pub fn collect_many<R: Threads + Wait + Sync, G: Gate>(
     rt: &R,
@@ -100,7 +101,7 @@ pub fn collect_many<R: Threads + Wait + Sync, G: Gate>(
     ensures collected { IfOk result (λ copied. IsCollection kind spaces.now.spaces roots.now copied.forward.words copied.adoption.aged copied.adoption.old copied.remembered.places) }
     ensures moved { IfOk result (λ copied. copies_in copied.forward.words 0 + copies_in copied.forward.words 1 ≤ used_cells kind spaces.now.spaces) }
     ensures few { IfOk result (λ copied. AreFewBlocks spaces.now.limits.space_blocks (kept_blocks kind spaces.now.spaces) helpers copied.forward.words copied.adoption.aged copied.adoption.old) }
-    ensures full { IfErr result (λ fault. fault ≡ HelpersFault.HeapFull → MayLackRoom spaces.now.limits.space_blocks helpers (kept_blocks kind spaces.now.spaces) (used_cells kind spaces.now.spaces)) }
+    ensures full { IfErr result (λ fault. fault ≡ HelpersFault.HeapFull → LacksRoomFor spaces.now.limits.space_blocks helpers (kept_blocks kind spaces.now.spaces) (IsReachedFrom kind spaces.now.spaces roots.now)) }
     ensures alone { helpers ≡ 1 → IfErr result (λ fault. fault ≢ HelpersFault.NoThread) }
 {
     if helpers == 1 {
@@ -326,7 +327,7 @@ fn finish(
     ensures collected { IfOk result (λ copied. IsCollection plan.kind spaces.now.spaces roots.now copied.forward.words copied.adoption.aged copied.adoption.old copied.remembered.places) }
     ensures moved { IfOk result (λ copied. copies_in copied.forward.words 0 + copies_in copied.forward.words 1 ≤ used_cells plan.kind spaces.now.spaces) }
     ensures few { IfOk result (λ copied. AreFewBlocks spaces.now.limits.space_blocks (kept_blocks plan.kind spaces.now.spaces) table.counts.helpers copied.forward.words copied.adoption.aged copied.adoption.old) }
-    ensures full { IfErr result (λ fault. fault ≡ CollectFault.HeapFull → MayLackRoom spaces.now.limits.space_blocks table.counts.helpers (kept_blocks plan.kind spaces.now.spaces) (used_cells plan.kind spaces.now.spaces)) }
+    ensures full { IfErr result (λ fault. fault ≡ CollectFault.HeapFull → LacksRoomFor spaces.now.limits.space_blocks table.counts.helpers (kept_blocks plan.kind spaces.now.spaces) (IsReachedFrom plan.kind spaces.now.spaces roots.now)) }
 {
     let Helped { helper, part } = helped;
     let forward = Forwarding::of_closed(CELLS as u64 * plan.kept, table.close(helper));

@@ -4,12 +4,11 @@ ghost use Rattle.tg_model.specs.Graph.{IsReachable, IsSubject};
 ghost use Rattle.tg_model.specs.Rules.{IsAllowed};
 ghost use Rattle.tg_model.specs.declared.command.Deed.TheVariants.{Create, Plain};
 ghost use Rattle.tg_model.specs.declared.reply.Reply.TheVariants.{Name, VerticesFull};
-ghost use Rattle.tg_space.specs.Collection.{MayLackRoom, used_cells};
-ghost use Rattle.tg_space.specs.SpaceTable.{kept_blocks};
 ghost use Rattle.tg_graph.specs.Heap.{content_of};
 ghost use Rattle.tg_graph.specs.Spots.{LacksCellsFor};
 ghost use Rattle.tg_rules.specs.Effect.{AddsEdge, LacksCellsToServe};
 ghost use Rattle.tg_store.specs.Held.{IsHeldOver};
+ghost use Rattle.tg_store.specs.Room.{LacksRoomToCollect};
 ghost use Rattle.tg_store.specs.Store.{IsCountOf, graph_of_store};
 ghost use Rattle.tg_shared.specs.Sessions.{AtSome, IsAnswered, KeepsReceipts};
 
@@ -119,7 +118,7 @@ impl<L: Round> Session<L> {
         ensures number { IfOk result (λ number. AtSome L.start (λ s.
             (number ≡ length (content_of s.heap).names) × (kind ≡ Kind.Full → IsCountOf (IsReachable (graph_of_store s)) number))) }
         ensures full { IfErr result (λ why. why ≡ CollectFault.HeapFull → AtSome L.start (λ s.
-            MayLackRoom s.heap.table.limits.space_blocks 1 (kept_blocks kind s.heap.table.spaces) (used_cells kind s.heap.table.spaces))) }
+            LacksRoomToCollect kind 1 s.heap)) }
     {
         let mut locked = store.locked.lock(rt);
         // for what is told of it: the shared store, gone on

@@ -1,13 +1,12 @@
 //! Collections of the shared store by several helpers.
 ghost use Rattle.std.specs.Prelude.{◌≡◌, ◌≢◌, ◌↔◌, ◌≤◌, ℕ, [], Err, IfOk, IfErr, OnErr, OnOk, length};
 ghost use Rattle.tg_model.specs.Graph.{ProtectionGraph, IsReachable};
-ghost use Rattle.tg_space.specs.Collection.{MayLackRoom, used_cells};
 ghost use Rattle.tg_space.specs.Generations.{AreNeeded};
 ghost use Rattle.tg_space.specs.SpaceList.{space_of};
-ghost use Rattle.tg_space.specs.SpaceTable.{kept_blocks};
 ghost use Rattle.tg_graph.specs.Content.{IsNamed};
 ghost use Rattle.tg_graph.specs.Heap.{content_of};
 ghost use Rattle.tg_graph.specs.Kept.{VerticesOfOldStay};
+ghost use Rattle.tg_store.specs.Room.{LacksRoomToCollect};
 ghost use Rattle.tg_store.specs.Store.{HasFewBlocks, IsCountOf, StandsFor, graph_of_store};
 ghost use Rattle.tg_shared.specs.Sessions.{AtSome};
 
@@ -46,7 +45,7 @@ impl<L: Round, P: Payload> Locked<L, P> {
         ensures stay { OnOk result (kind ≡ Kind.Nursery → VerticesOfOldStay self.old.store.heap.table.spaces self.new.store.heap.table.spaces) }
         ensures entries { self.new.store.entries ≡ self.old.store.entries }
         ensures full { result ≡ Err HelpersFault.HeapFull →
-            MayLackRoom self.old.store.heap.table.limits.space_blocks helpers (kept_blocks kind self.old.store.heap.table.spaces) (used_cells kind self.old.store.heap.table.spaces) }
+            LacksRoomToCollect kind helpers self.old.store.heap }
         ensures alone { helpers ≡ 1 → result ≢ Err HelpersFault.NoThread }
         ensures refused { OnErr result (self.new ≡ self.old) }
         ensures opening { self.new.store.opening ≡ self.old.store.opening }
@@ -79,7 +78,7 @@ impl<L: Round> Session<L> {
         ensures number { IfOk result (λ number. AtSome L.start (λ s.
             (number ≡ length (content_of s.heap).names) × (kind ≡ Kind.Full → IsCountOf (IsReachable (graph_of_store s)) number))) }
         ensures full { IfErr result (λ why. why ≡ HelpersFault.HeapFull → AtSome L.start (λ s.
-            MayLackRoom s.heap.table.limits.space_blocks helpers (kept_blocks kind s.heap.table.spaces) (used_cells kind s.heap.table.spaces))) }
+            LacksRoomToCollect kind helpers s.heap)) }
         ensures alone { helpers ≡ 1 → result ≢ Err HelpersFault.NoThread }
     {
         let mut locked = store.locked.lock(rt);

@@ -42,16 +42,15 @@ impl<L: Round, P: Payload> Locked<L, P> {
     ghost use Rattle.tg_model.specs.Graph.{ProtectionGraph, IsSubject, IsReachable};
     ghost use Rattle.tg_model.specs.Rules.{IsAllowed, step, answer_of};
     ghost use Rattle.tg_model.specs.declared.reply.Denial.{Denial};
-    ghost use Rattle.tg_space.specs.Collection.{MayLackRoom, used_cells};
     ghost use Rattle.tg_space.specs.Generations.{AreNeeded};
     ghost use Rattle.tg_space.specs.SpaceList.{space_of};
-    ghost use Rattle.tg_space.specs.SpaceTable.{kept_blocks};
     ghost use Rattle.tg_graph.specs.Content.{IsNamed};
     ghost use Rattle.tg_graph.specs.Heap.{content_of};
     ghost use Rattle.tg_graph.specs.Spots.{IsMadeInRow, LacksCellsFor};
     ghost use Rattle.tg_graph.specs.Kept.{VerticesOfOldStay};
     ghost use Rattle.tg_rules.specs.Effect.{AddsEdge, LacksCellsToServe};
     ghost use Rattle.tg_store.specs.Held.{IsHeldOver};
+    ghost use Rattle.tg_store.specs.Room.{LacksRoomToCollect};
     ghost use Rattle.tg_store.specs.Store.{HasFewBlocks, IsCountOf, IsFaithful, StandsFor};
     ghost use Rattle.tg_shared.specs.Sessions.{AreFresh, GoesOn, Records, RecordsNothing, sessions_made, start_of_store};
 
@@ -209,7 +208,7 @@ impl<L: Round, P: Payload> Locked<L, P> {
         ensures stay { OnOk result (kind ≡ Kind.Nursery → VerticesOfOldStay self.old.store.heap.table.spaces self.new.store.heap.table.spaces) }
         ensures entries { self.new.store.entries ≡ self.old.store.entries }
         ensures full { result ≡ Err CollectFault.HeapFull →
-            MayLackRoom self.old.store.heap.table.limits.space_blocks 1 (kept_blocks kind self.old.store.heap.table.spaces) (used_cells kind self.old.store.heap.table.spaces) }
+            LacksRoomToCollect kind 1 self.old.store.heap }
         ensures refused { OnErr result (self.new ≡ self.old) }
         ensures opening { self.new.store.opening ≡ self.old.store.opening }
         ensures limits { self.new.store.heap.table.limits ≡ self.old.store.heap.table.limits }

@@ -5,4 +5,5 @@ mod CreateLaws
 mod DifferenceLaws
 mod HeldLaws
 mod ReadLaws
+pub mod RoomLaws
 pub mod StandLaws

@@ -1,3 +1,4 @@
 pub mod Store
 pub mod Faults
 pub mod Held
+pub mod Room

@@ -48,11 +48,12 @@ impl<P: Payload> Store<P> {
     ghost use Rattle.tg_model.specs.Opened.{start_of};
     ghost use Rattle.tg_model.specs.Rules.{IsAllowed, step, answer_of};
     ghost use Rattle.tg_model.specs.declared.reply.Denial.{Denial};
-    ghost use Rattle.tg_space.specs.Collection.{AreFewBlocks, copies_in, IsCollection, MayLackRoom, used_cells};
+    ghost use Rattle.tg_space.specs.Collection.{AreFewBlocks, copies_in, IsCollection, used_cells};
     ghost use Rattle.tg_space.specs.Generations.{AreNeeded};
     ghost use Rattle.tg_space.specs.Soundness.{AreSound};
     ghost use Rattle.tg_space.specs.SpaceList.{block_count, space_of};
     ghost use Rattle.tg_space.specs.SpaceTable.{kept_blocks};
+    ghost use Rattle.tg_space.specs.Targets.{all_root_targets, from_space};
     ghost use Rattle.tg_payload.specs.Table.{count};
     ghost use Rattle.tg_graph.specs.Content.{IsNamed};
     ghost use Rattle.tg_graph.specs.Heap.{CollectAlike, content_of, roots_of};
@@ -63,6 +64,7 @@ impl<P: Payload> Store<P> {
     ghost use Rattle.tg_graph.specs.Kept.{VerticesOfOldStay};
     ghost use Rattle.tg_rules.specs.Effect.{AddsEdge, LacksCellsToServe};
     ghost use Rattle.tg_store.specs.Held.{IsHeldOver};
+    ghost use Rattle.tg_store.specs.Room.{LacksRoomToCollect};
     ghost use Rattle.tg_store.specs.Store.{Enters, HasAdopted, HasFewBlocks, IsCountOf, IsFaithful, IsUnchanged, OnlyEnters, StandsFor};
 
     /// A store that starts from the opening, with the payloads of the drafts, one for each worker, and with no entry in
@@ -282,8 +284,8 @@ impl<P: Payload> Store<P> {
     ///
     /// A nursery collection that finds no younger cells, and none that are remembered, takes no memory.
     ///
-    /// `HeapFull` is answered only where the cells in use that would be moved may not fit into the blocks that a space may
-    /// have, and else `OutOfMemory` alone; the store is then as it was.
+    /// `HeapFull` is answered only where the cells that are reached and would be moved may not fit into the blocks that a space
+    /// may have, so never for what nobody reaches; else `OutOfMemory` alone. The store is then as it was.
     pub fn collect(&mut self, kind: Kind) -> Result<u64, CollectFault>
         ensures number { IfOk result (λ number. number ≡ length (content_of self.new.heap).names) }
         ensures names { (g : ProtectionGraph) → StandsFor self.old g → OnOk result (kind ≡ Kind.Full → (x : ℕ) → IsNamed (content_of self.new.heap) x ↔ IsReachable g x) }
@@ -296,7 +298,7 @@ impl<P: Payload> Store<P> {
         ensures stay { OnOk result (kind ≡ Kind.Nursery → VerticesOfOldStay self.old.heap.table.spaces self.new.heap.table.spaces) }
         ensures entries { self.new.entries ≡ self.old.entries }
         ensures full { result ≡ Err CollectFault.HeapFull →
-            MayLackRoom self.old.heap.table.limits.space_blocks 1 (kept_blocks kind self.old.heap.table.spaces) (used_cells kind self.old.heap.table.spaces) }
+            LacksRoomToCollect kind 1 self.old.heap }
         ensures refused { OnErr result (self.new ≡ self.old) }
         ensures opening { self.new.opening ≡ self.old.opening }
         ensures limits { self.new.heap.table.limits ≡ self.old.heap.table.limits }
@@ -323,7 +325,7 @@ impl<P: Payload> Store<P> {
         ensures collected { IfOk result (λ copied. IsCollection kind self.now.heap.table.spaces (roots_of kind self.now.heap) copied.forward.words copied.adoption.aged copied.adoption.old copied.remembered.places) }
         ensures moved { IfOk result (λ copied. copies_in copied.forward.words 0 + copies_in copied.forward.words 1 ≤ used_cells kind self.now.heap.table.spaces) }
         ensures few { IfOk result (λ copied. AreFewBlocks self.now.heap.table.limits.space_blocks (kept_blocks kind self.now.heap.table.spaces) 0 copied.forward.words copied.adoption.aged copied.adoption.old) }
-        ensures full { IfErr result (λ fault. fault ≡ CollectFault.HeapFull → MayLackRoom self.now.heap.table.limits.space_blocks 1 (kept_blocks kind self.now.heap.table.spaces) (used_cells kind self.now.heap.table.spaces)) }
+        ensures full { IfErr result (λ fault. fault ≡ CollectFault.HeapFull → LacksRoomToCollect kind 1 self.now.heap) }
     {
         let roots = self.heap.roots(self.alloc, kind)?;
         let copied = collect_one(self.alloc, self.heap.spaces(), &roots, kind, spare)?;
@@ -332,10 +334,11 @@ impl<P: Payload> Store<P> {
 
     /// What a collection of this kind starts from: the rows of the workers, by rising name; for a nursery collection the
     /// remembered cells too, and a row from the first cell on that may name a young one. The collections from it
-    /// are those from the whole rows. This, [`spaces`](Store::spaces) and [`settle`](Store::settle) are for collectors outside of this
+    /// are those from the whole rows, and it reaches the same cells. This, [`spaces`](Store::spaces) and [`settle`](Store::settle) are for collectors outside of this
     /// crate. Fails only when out of memory.
     pub fn roots(&self, kind: Kind) -> Result<Vec<Root>, AllocError>
         ensures roots { IfOk result (λ roots. CollectAlike kind self.now.heap.table.spaces (roots_of kind self.now.heap) roots.items) }
+        ensures targets { IfOk result (λ roots. all_root_targets (from_space kind) self.now.heap.table.spaces roots.items ≡ all_root_targets (from_space kind) self.now.heap.table.spaces (roots_of kind self.now.heap)) }
         ensures sound { IfOk result (λ roots. AreSound self.now.heap.table.spaces roots.items) }
     {
         self.heap.roots(self.alloc, kind)

@@ -2,9 +2,8 @@
 ghost use Rattle.std.specs.Prelude.{◌≡◌, ◌<◌, ◌++◌, ◌∷◌, [], ℕ, length, map, List, IfErr, IfOk};
 ghost use Rattle.tg_model.specs.declared.command.Deed.TheVariants as Deed;
 ghost use Rattle.tg_model.specs.Graph.{IsReachable};
-ghost use Rattle.tg_space.specs.Collection.{MayLackRoom, used_cells};
-ghost use Rattle.tg_space.specs.SpaceTable.{kept_blocks};
 ghost use Rattle.tg_graph.specs.Heap.{content_of};
+ghost use Rattle.tg_store.specs.Room.{LacksRoomToCollect};
 ghost use Rattle.tg_store.specs.Store.{IsCountOf, graph_of_store};
 ghost use Rattle.tg_refusals.specs.Refusals.{create_answer};
 ghost use Rattle.tg_script.specs.Script.{MayWant};
@@ -157,7 +156,7 @@ pub fn collect_by<L: Round, P: Payload, R: Threads + Wait + Sync, G: Gate>(
         (number ≡ length (content_of s.heap).names) × (kind ≡ Kind.Full → IsCountOf (IsReachable (graph_of_store s)) number))) }
     ensures refused { IfErr result (MayWant helpers) }
     ensures full { IfErr result (λ why. why ≡ Refusal.Heap → AtSome L.start (λ s.
-        MayLackRoom s.heap.table.limits.space_blocks helpers (kept_blocks kind s.heap.table.spaces) (used_cells kind s.heap.table.spaces))) }
+        LacksRoomToCollect kind helpers s.heap)) }
 {
     let number = helpers.number();
     if number == 1 {

@@ -1,12 +1,15 @@
 -- How few blocks are left, and what is settled.
 use Rattle.std.proofs.Common.{◌≡◌, ◌≤◌, ◌+◌, List, subst}
+use Rattle.std.proofs.lemmas.Result.{err_from_is_err_and}
 use Rattle.tg_space.specs.SpaceTable.{SpaceTable, kept_blocks}
 use Rattle.tg_space.specs.Collection.{AreFewBlocks, IsCollection, copies_in, used_cells}
 use Rattle.tg_space.specs.declared.root.Root.{Root}
 use Rattle.tg_space.specs.declared.kind.Kind.TheVariants.{Nursery}
 use Rattle.tg_graph.specs.Kept.{VerticesOfOldStay}
+use Rattle.tg_store.specs.Room.{LacksRoomToCollect}
 use Rattle.tg_store.specs.Store.{HasFewBlocks, StoreState}
 use Rattle.tg_store.proofs.BlockLaws.{few_left}
+use Rattle.tg_store.proofs.RoomLaws.{lacks_from}
 use Rattle.tg_helpers.proofs.collect_with.Goals as goal
 
 pub returns-clause-blocks : goal.returns-clause-blocks
@@ -35,3 +38,12 @@ settle-requires g c =
     let collected : IsCollection kind heap.table.spaces c.in_ok-roots.roots.items made.forward.words made.adoption.aged made.adoption.old made.remembered.places =
     subst (λ (roots : List Root). IsCollection kind heap.table.spaces roots made.forward.words made.adoption.aged made.adoption.old made.remembered.places) c.deref.ensures.value over_heap in
     (c.in_ok-roots.ensures.roots made.forward.words made.adoption.aged made.adoption.old made.remembered.places).1 collected
+
+pub returns-in_err-copied-clause-full : goal.returns-in_err-copied-clause-full
+returns-in_err-copied-clause-full g c is =
+    let kind = c.args.kind in
+    let heap = c.take_spare-spare.new.self.heap in
+    let p = err_from_is_err_and c.from_residual-in_err-copied.result c.from_residual-in_err-copied.ensures.1 in
+    let told = p.1 in let why = p.2 in
+    subst (λ (state : StoreState). LacksRoomToCollect kind c.args.helpers state.heap) c.take_spare-spare.ensures
+    (lacks_from kind c.args.helpers heap _ c.deref.result.now c.in_ok-roots.roots.items c.spaces.ensures c.deref.ensures.value c.in_ok-roots.ensures.targets (c.in_err-copied.ensures.full cc))

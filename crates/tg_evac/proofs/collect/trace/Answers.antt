@@ -5,12 +5,11 @@ use Rattle.std.proofs.lemmas.Result.{err_from_is_err_and}
 use Rattle.tg_space.specs.Closure.{IsClosed}
 use Rattle.tg_space.specs.Targets.{from_space, targets_of, all_root_targets}
 use Rattle.tg_space.specs.declared.kind.Kind.{Kind}
-use Rattle.tg_space.proofs.Tables.{table_list}
 use Rattle.tg_space.proofs.Tracing.{closure_is_won}
 use Rattle.tg_evac.specs.Claims.{AreTraced, cells_won}
 use Rattle.tg_evac.specs.Claimers.{HasPlacesOf, copies_to, walked_of}
 use Rattle.tg_evac.proofs.Pieces.{closed_from, none_scanned, plan_kept}
-use Rattle.tg_evac.proofs.Reasons.{full_from, traced_cells}
+use Rattle.tg_evac.proofs.Reasons.{all_reached, traced_cells}
 use Rattle.tg_evac.proofs.collect.trace.Goals as goal
 use Rattle.tg_evac.proofs.collect.trace.Goals.{After-walk, In_ok-copies}
 
@@ -35,8 +34,8 @@ returns-in_err-walk-clause-plan c = plan_kept c.args.claims.now c.walk.new.claim
 pub returns-in_err-walk-clause-full : goal.returns-in_err-walk-clause-full
 returns-in_err-walk-clause-full c =
     let p = err_from_is_err_and c.from_residual-in_err-walk.result c.from_residual-in_err-walk.ensures.1 in
-    rw (p.1, p.2) (λ is. full_from c.args.spaces.now.spaces (table_list c.args.spaces.now c.requires.table) c.requires.pointers c.args.roots.now c.requires.roots c.args.claims.now c.walk.new.claimer (plan_kept c.args.claims.now c.walk.new.claimer c.walk.ensures.keeps)
-    (all_traced (goal.at.returns-in_err-walk-clause-full c).After-walk) (c.in_err-walk.ensures.full is))
+    let kind = c.args.claims.now.plan.kind in let h = c.args.spaces.now.spaces in
+    rw (p.1, p.2) (λ is. (c.in_err-walk.ensures.full is, all_reached kind h c.args.roots.now c.walk.new.claimer.won (all_traced (goal.at.returns-in_err-walk-clause-full c).After-walk)))
 
 pub returns-clause-plan : goal.returns-clause-plan
 returns-clause-plan c = plan_kept c.args.claims.now c.walk.new.claimer c.walk.ensures.keeps

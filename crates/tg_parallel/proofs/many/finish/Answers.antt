@@ -53,4 +53,4 @@ returns-in_ok-put_together-in-Ok-clause-few c =
 pub returns-in-Err-clause-full : goal.returns-in-Err-clause-full
 returns-in-Err-clause-full c = λ is.
     let past = err_at (λ (fault : CollectFault). fault ≡ HeapFull → IsPastLimit c.args.spaces.now c.args.helped.helper.done) c.args.helped.part c.in-Err.fault c.in-Err.is c.requires.helped.full is in
-    lacks c.args.plan.kind c.args.spaces.now c.args.roots.now c.args.table.counts _ c.args.helped.helper.done c.requires.spaces c.requires.sound c.requires.counts c.close.ensures c.requires.helped.earned past
+    lacks c.args.plan.kind c.args.spaces.now c.args.roots.now c.args.table.counts _ c.args.helped.helper.done c.requires.counts c.close.ensures c.requires.helped.earned past

@@ -1,10 +1,11 @@
-use Rattle.std.proofs.Common.{List, map, ◌++◌, subst, sym}
+use Rattle.std.proofs.Common.{◌≡◌, List, map, ◌++◌, subst, sym}
 use Rattle.tg_space.specs.Soundness.{AreSound}
+use Rattle.tg_space.specs.Targets.{all_root_targets, young_spaces}
 use Rattle.tg_space.specs.declared.kind.Kind.TheVariants.{Nursery}
 use Rattle.tg_space.specs.declared.root.Root.{Root}
 use Rattle.tg_space.specs.declared.root.Root.TheVariants.{Remembered}
 use Rattle.tg_graph.specs.Heap.{AreShorter, CollectAlike, HeapState, roots_of}
-use Rattle.tg_graph.proofs.Starts.{starts_collect, starts_sound}
+use Rattle.tg_graph.proofs.Starts.{all_same, starts_collect, starts_sound}
 use Rattle.tg_graph.proofs.heap.Heap.nursery_roots.Goals as goal
 
 pub returns-clause-roots : goal.returns-clause-roots
@@ -24,3 +25,13 @@ returns-clause-sound g c =
     let are : AreShorter s.table.spaces s.workers rows = subst (λ (heap : HeapState). AreShorter heap.table.spaces heap.workers rows) (sym c.self.view_is) c.in_ok-roots.ensures in
     subst (λ (roots : List Root). AreSound c.args.self.now.table.spaces roots) (sym c.in_ok-add_remembered.ensures)
     (subst (λ (heap : HeapState). AreSound heap.table.spaces (rows ++ map (λ p. Remembered p) s.remembered)) c.self.view_is (starts_sound s c.self.invariant.0 rows are))
+
+pub returns-clause-targets : goal.returns-clause-targets
+returns-clause-targets g c =
+    let inside = c.self.inside in
+    let s : HeapState = record { table = inside.cells.spaces; payloads = inside.cells.payloads; workers = inside.workers.items; remembered = inside.cells.remembered.places } in
+    let rows = c.in_ok-roots.roots.items in
+    let are : AreShorter s.table.spaces s.workers rows = subst (λ (heap : HeapState). AreShorter heap.table.spaces heap.workers rows) (sym c.self.view_is) c.in_ok-roots.ensures in
+    let h = c.args.self.now.table.spaces in
+    subst (λ (roots : List Root). all_root_targets young_spaces h roots ≡ all_root_targets young_spaces h (roots_of Nursery c.args.self.now)) (sym c.in_ok-add_remembered.ensures)
+    (subst (λ (heap : HeapState). all_root_targets young_spaces heap.table.spaces (rows ++ map (λ p. Remembered p) s.remembered) ≡ all_root_targets young_spaces heap.table.spaces (roots_of Nursery heap)) c.self.view_is (all_same s c.self.invariant.0 rows are))

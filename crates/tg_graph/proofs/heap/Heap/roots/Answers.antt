@@ -4,6 +4,7 @@ use Rattle.std.proofs.lemmas.Result.{IfOk-weaker}
 use Rattle.tg_word.specs.declared.Place.{Place}
 use Rattle.tg_space.specs.Collection.{IsCollection}
 use Rattle.tg_space.specs.Soundness.{AreSound}
+use Rattle.tg_space.specs.Targets.{all_root_targets, from_space}
 use Rattle.tg_space.specs.declared.kind.Kind.{Kind}
 use Rattle.tg_space.specs.declared.kind.Kind.TheVariants.{Full}
 use Rattle.tg_space.specs.declared.root.Root.{Root}
@@ -38,3 +39,17 @@ pub returns-in-Nursery-clause-roots : goal.returns-in-Nursery-clause-roots
 returns-in-Nursery-clause-roots g c =
     let now = c.args.self.now in
     subst (λ (kind : Kind). IfOk c.nursery_roots.result (λ roots. CollectAlike kind now.table.spaces (roots_of kind now) roots.items)) (sym c.in-Nursery.is) c.nursery_roots.ensures.roots
+
+pub returns-in-Full-clause-targets : goal.returns-in-Full-clause-targets
+returns-in-Full-clause-targets g c =
+    let now = c.args.self.now in
+    let rows = map (λ (p : Place). Row p) in
+    let targets = all_root_targets (from_space c.args.kind) now.table.spaces in
+    let same : rows c.deref.result.now ≡ roots_of c.args.kind now = ap rows (c.deref.ensures.value ∙ ap (λ (heap : HeapState). heap.workers) c.self.view_is) ∙ ap (λ (kind : Kind). roots_of kind now) (sym c.in-Full.is) in
+    IfOk-weaker c.rows.result (λ roots. roots.items ≡ rows c.deref.result.now) (λ roots. targets roots.items ≡ targets (roots_of c.args.kind now))
+    (λ roots is. ap targets (is ∙ same)) c.rows.ensures
+
+pub returns-in-Nursery-clause-targets : goal.returns-in-Nursery-clause-targets
+returns-in-Nursery-clause-targets g c =
+    let now = c.args.self.now in
+    subst (λ (kind : Kind). IfOk c.nursery_roots.result (λ roots. all_root_targets (from_space kind) now.table.spaces roots.items ≡ all_root_targets (from_space kind) now.table.spaces (roots_of kind now))) (sym c.in-Nursery.is) c.nursery_roots.ensures.targets

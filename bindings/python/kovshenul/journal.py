@@ -1,0 +1,184 @@
+"""What an entry of the journal says: who asked, for what (a deed), and what was answered (a reply).
+
+    for at, entry in enumerate(store.journal()):
+        match entry:
+            case journal.Entry(worker, journal.Write(target, value), journal.Denied(edge=edge)):
+                print(f"{at}: {worker} may not write {value} to {target}: {edge}")
+
+They are values: they compare, print and can be kept, also when the store is closed.
+"""
+from __future__ import annotations
+
+from ctypes import Array
+from dataclasses import dataclass
+from typing import Optional, Tuple, Union
+
+from . import _library
+from ._refusals import told_by
+from ._values import RIGHTS, Cell, Log, Max, Rights, Sum, Target, Value
+
+# By their numbers. A log begins with none.
+LAWS = (Cell, Sum, Max, Log)
+
+
+@dataclass(frozen=True)
+class Take:
+    """To take rights over the target that `via` has."""
+
+    via: int
+    target: int
+    rights: Rights
+
+
+@dataclass(frozen=True)
+class Grant:
+    """To grant rights over the target to `via`."""
+
+    via: int
+    target: int
+    rights: Rights
+
+
+@dataclass(frozen=True)
+class Remove:
+    """To give up rights over the target."""
+
+    target: int
+    rights: Rights
+
+
+@dataclass(frozen=True)
+class Read:
+    """To be shown what the target stores."""
+
+    target: int
+
+
+@dataclass(frozen=True)
+class Write:
+    """To write to the target."""
+
+    target: int
+    value: int
+
+
+@dataclass(frozen=True)
+class Append:
+    """To add to the log of the target."""
+
+    target: int
+    value: int
+
+
+@dataclass(frozen=True)
+class Inspect:
+    """To be shown the target's edges."""
+
+    target: int
+
+
+@dataclass(frozen=True)
+class List:
+    """To be shown one's own edges."""
+
+
+@dataclass(frozen=True)
+class Create:
+    """To make a vertex that stores the value at first, and to have rights over it."""
+
+    rights: Rights
+    value: Value
+
+
+@dataclass(frozen=True)
+class Done:
+    """A take, grant, remove, write or append was done."""
+
+
+@dataclass(frozen=True)
+class Denied:
+    """The rules didn't allow it. What it says is what the exception of this name says."""
+
+    rule: str
+    cause: str
+    edge: Optional[Tuple[int, int]] = None
+    rights: Rights = Rights(0)
+
+
+@dataclass(frozen=True)
+class Name:
+    """A vertex was made, of this name."""
+
+    name: int
+
+
+@dataclass(frozen=True)
+class Values:
+    """What a vertex stored when it was read."""
+
+    numbers: Tuple[int, ...]
+
+
+@dataclass(frozen=True)
+class Edges:
+    """The edges that a list or an inspect showed, by rising name."""
+
+    edges: Tuple[Target, ...]
+
+
+@dataclass(frozen=True)
+class VerticesFull:
+    """None was made, since as many vertices were made as may be."""
+
+
+Deed = Union[Take, Grant, Remove, Read, Write, Append, Inspect, List, Create]
+Reply = Union[Done, Denied, Name, Values, Edges, VerticesFull]
+
+
+@dataclass(frozen=True)
+class Entry:
+    """An entry of the journal."""
+
+    worker: int
+    deed: Deed
+    reply: Reply
+
+
+# By their numbers.
+DEEDS = {0: Take, 1: Grant, 2: Remove, 3: Read, 4: Write, 5: Append, 6: Inspect, 8: List, 16: Create}
+REPLIES = {0: Done, 1: Denied, 2: Name, 3: Values, 4: Edges, 16: VerticesFull}
+
+
+def entry_of(record: _library.Record, numbers: Array, edges: Array) -> Entry:
+    """The entry that the library wrote, with its numbers, and its edges as pairs of numbers."""
+    return Entry(record.worker, _deed_of(record, numbers), _reply_of(record, numbers, edges))
+
+
+def _deed_of(record: _library.Record, numbers: Array) -> Deed:
+    kind, rights = DEEDS[record.deed], RIGHTS[record.rights]
+    if kind in (Take, Grant):
+        return kind(record.via, record.target, rights)
+    if kind is Remove:
+        return Remove(record.target, rights)
+    if kind in (Write, Append):
+        return kind(record.target, record.value)
+    if kind in (Read, Inspect):
+        return kind(record.target)
+    if kind is List:
+        return List()
+    law = LAWS[record.law]
+    return Create(rights, law(record.most if law is Log else numbers[0]))
+
+
+def _reply_of(record: _library.Record, numbers: Array, edges: Array) -> Reply:
+    kind = REPLIES[record.reply]
+    if kind is Denied:
+        return Denied(*told_by(record.denial))
+    if kind is Name:
+        return Name(record.name)
+    if kind is Values:
+        return Values(tuple(numbers[: record.number_count]))
+    if kind is Edges:
+        each = iter(edges[: 2 * record.edge_count])
+        return Edges(tuple(Target(to, RIGHTS[rights]) for to, rights in zip(each, each)))
+    return kind()

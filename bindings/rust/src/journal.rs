@@ -1,0 +1,136 @@
+//! What the entries of a journal say.
+use crate::raw::{self, RawRecord, RawTarget};
+use crate::{Denial, Rights, Store, Target, Value};
+
+/// What a worker asked for.
+#[derive(Clone, Copy, PartialEq, Eq, Hash, Debug)]
+pub enum Deed {
+    /// To take rights over the target that `via` has.
+    Take { via: u64, target: u64, rights: Rights },
+    /// To grant rights over the target to `via`.
+    Grant { via: u64, target: u64, rights: Rights },
+    /// To give up rights over the target.
+    Remove { target: u64, rights: Rights },
+    /// To be shown what the target stores.
+    Read { target: u64 },
+    /// To write to the target.
+    Write { target: u64, value: u64 },
+    /// To add to the log of the target.
+    Append { target: u64, value: u64 },
+    /// To be shown the target's edges.
+    Inspect { target: u64 },
+    /// To be shown one's own edges.
+    List,
+    /// To make a vertex that stores the value at first, and to have rights over it.
+    Create { rights: Rights, value: Value },
+}
+
+/// What was answered.
+#[derive(Clone, PartialEq, Eq, Hash, Debug)]
+pub enum Reply {
+    /// A take, grant, remove, write or append was done.
+    Done,
+    /// The rules didn't allow it.
+    Denied(Denial),
+    /// A vertex was made, of this name.
+    Name(u64),
+    /// What a vertex stored when it was read.
+    Values(Vec<u64>),
+    /// The edges that a list or an inspect showed, by rising name.
+    Edges(Vec<Target>),
+    /// None was made, since as many vertices were made as may be.
+    VerticesFull,
+}
+
+/// An entry of the journal.
+#[derive(Clone, PartialEq, Eq, Hash, Debug)]
+pub struct Entry {
+    /// Who asked.
+    pub worker: u64,
+    pub deed: Deed,
+    pub reply: Reply,
+}
+
+impl Entry {
+    // What the library told, with all numbers and edges.
+    pub(crate) fn told(record: &RawRecord, numbers: &[u64], edges: &[RawTarget]) -> Entry {
+        Entry {
+            worker: record.worker,
+            deed: Deed::told(record, numbers),
+            reply: Reply::told(record, numbers, edges),
+        }
+    }
+}
+
+impl Deed {
+    fn told(record: &RawRecord, numbers: &[u64]) -> Deed {
+        let rights = Rights::told(record.rights);
+        let RawRecord { via, target, value, .. } = *record;
+        match record.deed {
+            raw::DEED_TAKE => Deed::Take { via, target, rights },
+            raw::DEED_GRANT => Deed::Grant { via, target, rights },
+            raw::DEED_REMOVE => Deed::Remove { target, rights },
+            raw::DEED_READ => Deed::Read { target },
+            raw::DEED_WRITE => Deed::Write { target, value },
+            raw::DEED_APPEND => Deed::Append { target, value },
+            raw::DEED_INSPECT => Deed::Inspect { target },
+            raw::DEED_LIST => Deed::List,
+            raw::DEED_CREATE => Deed::Create {
+                rights,
+                value: Value::told(record, numbers),
+            },
+            deed => unreachable!("interface {} has no deed {deed}", raw::ABI),
+        }
+    }
+}
+
+impl Value {
+    // What a created vertex stored at first. A log begins with no number, and each other law with one.
+    fn told(record: &RawRecord, numbers: &[u64]) -> Value {
+        match record.law {
+            raw::CELL => Value::Cell(numbers[0]),
+            raw::SUM => Value::Sum(numbers[0]),
+            raw::MAX => Value::Max(numbers[0]),
+            raw::LOG => Value::Log(record.most),
+            law => unreachable!("interface {} has no law {law}", raw::ABI),
+        }
+    }
+}
+
+impl Reply {
+    fn told(record: &RawRecord, numbers: &[u64], edges: &[RawTarget]) -> Reply {
+        match record.reply {
+            raw::REPLY_DONE => Reply::Done,
+            raw::REPLY_DENIED => Reply::Denied(Denial::from(&record.denial)),
+            raw::REPLY_NAME => Reply::Name(record.name),
+            raw::REPLY_VALUES => Reply::Values(numbers.to_vec()),
+            raw::REPLY_EDGES => Reply::Edges(edges.iter().map(Target::from).collect()),
+            raw::REPLY_VERTICES_FULL => Reply::VerticesFull,
+            reply => unreachable!("interface {} has no reply {reply}", raw::ABI),
+        }
+    }
+}
+
+/// The entries of a store's journal, from the first on ([`Store::journal`]).
+#[derive(Debug)]
+pub struct Journal<'a> {
+    store: &'a mut Store,
+    at: u64,
+}
+
+impl<'a> Journal<'a> {
+    pub(crate) fn new(store: &'a mut Store) -> Journal<'a> {
+        Journal { store, at: 0 }
+    }
+}
+
+impl Iterator for Journal<'_> {
+    type Item = Entry;
+
+    fn next(&mut self) -> Option<Entry> {
+        // The store is open, so nothing but the end is refused.
+        let entry = self.store.entry(self.at).ok()?;
+        self.at += 1;
+        Some(entry)
+    }
+}
