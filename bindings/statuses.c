@@ -441,6 +441,40 @@ static void full_heap(void) {
     WANT(tg_close(&store) == TG_DONE);
 }
 
+/* Old has the one block that it may have. What is young goes to another space first, so a nursery collection has room. */
+static void old_at_its_limit(void) {
+    const tg_limits narrow = { 1000, 8, 1 };
+    tg_store store = TG_STORE_INIT;
+    uint64_t name, left, count;
+    WANT(tg_open(&store, workers, 1, edges, 0, &narrow) == TG_DONE);
+    for (int i = 0; i < 20; i++)
+        WANT(tg_create(&store, 0, TG_READ, &cell, &name) == TG_DONE);
+    WANT(tg_collect(&store, TG_FULL, &left) == TG_DONE && left == 21);
+    WANT(tg_create(&store, 0, TG_READ, &cell, &name) == TG_DONE);
+    WANT(tg_collect(&store, TG_NURSERY, &left) == TG_DONE && left == 22);
+    WANT(tg_audit(&store, &count) == TG_DONE && count == 21);
+    WANT(tg_close(&store) == TG_DONE);
+}
+
+/* Two full nurseries of one block each, of which next to nothing is reached any more: garbage takes no room in a collection. */
+static void heap_of_garbage(void) {
+    const tg_limits narrow = { 1000, 8, 1 };
+    tg_store store = TG_STORE_INIT;
+    uint64_t made[128], name, left;
+    size_t count = 0;
+    WANT(tg_open(&store, workers, 2, edges, 0, &narrow) == TG_DONE);
+    for (uint64_t worker = 0; worker < 2; worker++) {
+        size_t first = count;
+        while (tg_create(&store, worker, TG_READ, &cell, &name) == TG_DONE)
+            made[count++] = name;
+        for (size_t i = first; i < count; i++)
+            WANT(tg_remove(&store, worker, made[i], TG_READ, &why) == TG_DONE);
+    }
+    WANT(count > 64);
+    WANT(tg_collect(&store, TG_FULL, &left) == TG_DONE && left == 2);
+    WANT(tg_close(&store) == TG_DONE);
+}
+
 /* A log may keep 64 numbers, and then keeps the last 64. */
 static void longest_log(void) {
     const tg_value longest = { TG_LOG, 64, 0 };
@@ -475,6 +509,8 @@ int main(void) {
     WANT(tg_close(&store) == TG_DONE && !store.is_open && store.handle.at == NULL);
     WANT(tg_close(&store) == TG_NOT_OPEN);
     full_heap();
+    old_at_its_limit();
+    heap_of_garbage();
     longest_log();
     appends_and_inspects();
     all_rights();

@@ -58,6 +58,7 @@ TAKES = {
     "inspect": (2, False),
     "label": (2, False),
     "collect": (1, False),
+    "entry": (1, False),
 }
 
 

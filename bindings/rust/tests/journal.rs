@@ -1,0 +1,143 @@
+//! The journal of a store, read back: it says what was called and what was answered.
+use kovshenul::{Deed, Denial, Edge, Entry, Error, Limits, Reply, Rights, Rule, Store, Target, Value};
+
+fn opened(max_vertices: u64) -> Store {
+    let edge = |from, to| Edge {
+        from,
+        to,
+        rights: Rights::TAKE | Rights::GRANT | Rights::INSPECT,
+    };
+    let limits = Limits {
+        max_vertices,
+        max_blocks: 64,
+        max_space_blocks: 64,
+    };
+    Store::open(&[Value::Cell(0); 2], &[edge(0, 1), edge(1, 0)], &limits).unwrap()
+}
+
+// Makes the call that a deed stands for, and answers what is to stand in the journal.
+fn call(store: &mut Store, worker: u64, deed: Deed) -> Reply {
+    let answer = match deed {
+        Deed::Take { via, target, rights } => store.take(worker, via, target, rights).map(|()| Reply::Done),
+        Deed::Grant { via, target, rights } => store.grant(worker, via, target, rights).map(|()| Reply::Done),
+        Deed::Remove { target, rights } => store.remove(worker, target, rights).map(|()| Reply::Done),
+        Deed::Read { target } => store.read(worker, target).map(Reply::Values),
+        Deed::Write { target, value } => store.write(worker, target, value).map(|()| Reply::Done),
+        Deed::Append { target, value } => store.append(worker, target, value).map(|()| Reply::Done),
+        Deed::Inspect { target } => store.inspect(worker, target).map(Reply::Edges),
+        Deed::List => store.list(worker).map(Reply::Edges),
+        Deed::Create { rights, value } => store.create(worker, rights, value).map(Reply::Name),
+    };
+    match answer {
+        Err(Error::Denied(why)) => Reply::Denied(why),
+        Err(Error::VerticesFull) => Reply::VerticesFull,
+        other => other.unwrap(),
+    }
+}
+
+// The numbers of a linear congruence, each below the bound.
+struct Dice(u64);
+
+impl Dice {
+    fn below(&mut self, bound: u64) -> u64 {
+        self.0 = self.0.wrapping_mul(6364136223846793005).wrapping_add(1442695040888963407);
+        (self.0 >> 33) % bound
+    }
+
+    fn deed(&mut self) -> Deed {
+        let (via, target, value) = (self.below(2), self.below(22), self.below(3));
+        let rights = Rights::from_bits(1 << self.below(8)).unwrap();
+        match self.below(9) {
+            0 => Deed::Take { via, target, rights },
+            1 => Deed::Grant { via, target, rights },
+            2 => Deed::Remove { target, rights },
+            3 => Deed::Read { target },
+            4 => Deed::Write { target, value },
+            5 => Deed::Append { target, value },
+            6 => Deed::Inspect { target },
+            7 => Deed::List,
+            _ => Deed::Create {
+                rights: Rights::all(),
+                value: self.value(),
+            },
+        }
+    }
+
+    fn value(&mut self) -> Value {
+        match self.below(4) {
+            0 => Value::Cell(7),
+            1 => Value::Sum(u64::MAX),
+            2 => Value::Max(9),
+            _ => Value::Log(64),
+        }
+    }
+}
+
+#[test]
+fn a_run_is_read_back() {
+    let (mut store, mut dice) = (opened(20), Dice(1));
+    let mut wanted = Vec::new();
+    for _ in 0..4000 {
+        let (worker, deed) = (dice.below(2), dice.deed());
+        let reply = call(&mut store, worker, deed);
+        wanted.push(Entry { worker, deed, reply });
+    }
+    let told: Vec<Entry> = store.journal().collect();
+    assert_eq!(told, wanted);
+    assert_eq!(store.entries(), Ok(told.len() as u64));
+    assert_eq!(store.entry(told.len() as u64), Err(Error::BadPlace));
+    let is_told = |has: fn(&Reply) -> bool| told.iter().any(|entry| has(&entry.reply));
+    assert!(is_told(|it| matches!(it, Reply::Denied(Denial::NotDistinct { .. }))));
+    assert!(is_told(|it| matches!(it, Reply::Denied(Denial::Missing { .. }))));
+    assert!(is_told(|it| matches!(it, Reply::Denied(Denial::NotLog { .. }))));
+    assert!(is_told(|it| *it == Reply::VerticesFull));
+    assert!(is_told(|it| matches!(it, Reply::Values(numbers) if numbers.len() > 1)));
+    assert!(is_told(|it| matches!(it, Reply::Edges(edges) if edges.len() > 1)));
+}
+
+#[test]
+fn what_was_read_plays_again() {
+    let (mut store, mut other, mut dice) = (opened(20), opened(20), Dice(2));
+    for _ in 0..1000 {
+        let worker = dice.below(2);
+        call(&mut store, worker, dice.deed());
+    }
+    for entry in store.journal() {
+        assert_eq!(call(&mut other, entry.worker, entry.deed), entry.reply);
+    }
+    assert!(store.journal().eq(other.journal()));
+}
+
+#[test]
+fn past_the_end_is_refused() {
+    let mut store = opened(20);
+    assert_eq!((store.entry(0), store.journal().next()), (Err(Error::BadPlace), None));
+    let denied = store.write(0, 1, 5).unwrap_err();
+    let entry = store.entry(0).unwrap();
+    assert_eq!((entry.worker, entry.deed), (0, Deed::Write { target: 1, value: 5 }));
+    let denial = Denial::Missing {
+        rule: Rule::Write,
+        from: 0,
+        to: 1,
+        rights: Rights::WRITE,
+    };
+    assert_eq!((entry.reply, denied), (Reply::Denied(denial), Error::Denied(denial)));
+    for at in [1, u64::from(u32::MAX), u64::MAX] {
+        let error = store.entry(at).unwrap_err();
+        assert_eq!((error, error.status()), (Error::BadPlace, 97));
+        assert_eq!(error.to_string(), "the journal has no entry at the place");
+    }
+    assert_eq!(store.entries(), Ok(1));
+}
+
+#[test]
+fn long_rows_are_whole() {
+    let mut store = opened(1000);
+    let made = (0..300).map(|_| store.create(0, Rights::READ, Value::Log(64)));
+    let names = made.collect::<Result<Vec<u64>, Error>>().unwrap();
+    let shown = store.inspect(1, 0).unwrap();
+    assert_eq!(shown.len(), names.len() + 1);
+    let last = store.entries().unwrap() - 1;
+    assert_eq!(store.entry(last).unwrap().reply, Reply::Edges(shown.clone()));
+    assert_eq!(shown.last(), Some(&Target { to: names[299], rights: Rights::READ }));
+}
