@@ -1,6 +1,6 @@
 //! The plain program that the store is measured against: the same scripts and replies, written in plain Rust with no
-//! proof in mind. A vertex is a struct with an ordered map of its edges. A collection marks what is reached and empties
-//! the rest, and moves nothing; one of the younger cells does nothing. With `--journal` it keeps each command with its answer,
+//! proof in mind. A vertex is a struct with an ordered map of its edges, and knows whether it is a subject. A collection marks what
+//! is reached and empties the rest, and moves nothing; one of the younger cells does nothing. With `--journal` it keeps each command with its answer,
 //! as the store does.
 //!
 //! Build: rustc -O --edition 2021 reference.rs
@@ -17,6 +17,9 @@ const GRANT: u8 = 8;
 const APPEND: u8 = 16;
 const INSPECT: u8 = 32;
 
+/// How many subjects may be active at a time.
+const MOST_SUBJECTS: usize = 64;
+
 #[derive(Clone, Copy)]
 enum Law {
     Cell,
@@ -29,12 +32,13 @@ struct Vertex {
     edges: BTreeMap<u64, u8>,
     law: Law,
     state: Vec<u64>,
+    subject: bool,
 }
 
 impl Vertex {
-    fn new(law: Law) -> Vertex {
+    fn new(law: Law, subject: bool) -> Vertex {
         let state = if matches!(law, Law::Log) { vec![] } else { vec![0] };
-        Vertex { edges: BTreeMap::new(), law, state }
+        Vertex { edges: BTreeMap::new(), law, state, subject }
     }
 
     fn write(&mut self, value: u64) {
@@ -154,6 +158,8 @@ fn put_rights(out: &mut String, set: u8) {
 
 struct Store {
     vertices: Vec<Vertex>,
+    /// The names of the active subjects.
+    subjects: Vec<u64>,
     options: Options,
     next_box: usize,
     journal: Vec<Entry>,
@@ -197,13 +203,20 @@ impl Store {
 
     /// Runs a command of x and appends its reply without the line feed. `None` for a line of no rule.
     fn run(&mut self, out: &mut String, x: u64, words: &[&[u8]]) -> Option<()> {
-        let known = x < self.options.workers;
-        if !known && words[0] != b"create" {
+        let known = self.vertices.get(x as usize).is_some_and(|vertex| vertex.subject);
+        if !known && words[0] != b"create" && words[0] != b"spawn" {
             out.push_str("refused worker");
             return Some(());
         }
         match (words[0], words.len()) {
-            (b"create", 2) => self.create(out, known, x, rights(words[1])?),
+            (b"create", 2) => self.make(out, known, x, rights(words[1])?, false),
+            (b"spawn", 2) => self.make(out, known, x, rights(words[1])?, true),
+            (b"retire", 1) => {
+                self.vertices[x as usize].subject = false;
+                self.subjects.retain(|subject| *subject != x);
+                out.push_str("ok");
+                self.keep(x, b'q', 0, [0; 2], |_| Reply::Done);
+            }
             (b"list", 1) => {
                 self.put_edges(out, x);
                 self.keep(x, b'l', 0, [0; 2], |store| store.edges(x));
@@ -304,7 +317,8 @@ impl Store {
         self.keep(x, b'a', 0, [y, value], |_| if denied { Reply::Denied } else { Reply::Done });
     }
 
-    fn create(&mut self, out: &mut String, known: bool, x: u64, set: u8) {
+    /// Makes a vertex with the next box, a subject or an object.
+    fn make(&mut self, out: &mut String, known: bool, x: u64, set: u8, subject: bool) {
         let name = self.vertices.len() as u64;
         if self.next_box == self.options.stock.len() {
             out.push_str("refused stock");
@@ -312,21 +326,25 @@ impl Store {
             out.push_str("refused worker");
         } else if name >= self.options.vertices {
             out.push_str("refused vertices");
+        } else if subject && self.subjects.len() == MOST_SUBJECTS {
+            out.push_str("refused workers");
         } else {
-            self.vertices.push(Vertex::new(self.options.stock[self.next_box]));
+            self.vertices.push(Vertex::new(self.options.stock[self.next_box], subject));
             self.next_box += 1;
+            if subject {
+                self.subjects.push(name);
+            }
             self.add(x, name, set);
             let _ = write!(out, "ok {name}");
-            self.keep(x, b'c', set, [0; 2], |_| Reply::Name(name));
+            self.keep(x, if subject { b's' } else { b'c' }, set, [0; 2], |_| Reply::Name(name));
         }
     }
 
-    /// Empties the vertices to which no walk along edges leads from a worker. Answers how many are left.
+    /// Empties the vertices to which no walk along edges leads from a subject. Answers how many are left.
     fn collect(&mut self) -> u64 {
-        let workers = self.options.workers;
-        let mut reached: Vec<bool> = (0..self.vertices.len() as u64).map(|x| x < workers).collect();
-        let mut unseen: Vec<u64> = (0..workers).collect();
-        let mut count = workers;
+        let mut reached: Vec<bool> = self.vertices.iter().map(|vertex| vertex.subject).collect();
+        let mut unseen = self.subjects.clone();
+        let mut count = unseen.len() as u64;
         while let Some(x) = unseen.pop() {
             for to in self.vertices[x as usize].edges.keys() {
                 if !std::mem::replace(&mut reached[*to as usize], true) {
@@ -337,7 +355,7 @@ impl Store {
         }
         for (vertex, kept) in self.vertices.iter_mut().zip(reached) {
             if !kept {
-                *vertex = Vertex::new(Law::Cell);
+                *vertex = Vertex::new(Law::Cell, false);
             }
         }
         count
@@ -348,8 +366,9 @@ fn main() -> io::Result<()> {
     let Some(options) = options() else {
         std::process::exit(2);
     };
-    let vertices = (0..options.workers).map(|_| Vertex::new(Law::Cell)).collect();
-    let mut store = Store { vertices, options, next_box: 0, journal: vec![] };
+    let vertices = (0..options.workers).map(|_| Vertex::new(Law::Cell, true)).collect();
+    let subjects = (0..options.workers).collect();
+    let mut store = Store { vertices, subjects, options, next_box: 0, journal: vec![] };
     let mut input = io::stdin().lock();
     let mut output = io::BufWriter::with_capacity(1 << 16, io::stdout().lock());
     let mut line = vec![];

@@ -94,6 +94,15 @@ static uint64_t tell_story(void) {
             CALL(tg_collect(&store, i % 2, &count));
         }
     }
+    /* A worker is spawned, makes a vertex and retires. Asking who there is takes no memory. */
+    CALL(tg_spawn(&store, 0, TG_GRANT, &kinds[0], &name));
+    CALL(tg_create(&store, name, TG_READ, &kinds[3], &count));
+    long before = made;
+    CALL(tg_subjects(&store, numbers, 64, &count));
+    if (count != 3 || made != before)
+        stop(__LINE__, 0);
+    CALL(tg_retire(&store, name));
+    CALL(tg_remove(&store, 0, name, TG_GRANT, &why));
     /* The heap keeps the blocks that a full collection emptied. One of the nurseries that nothing outlives fills none of them. */
     CALL(tg_collect(&store, TG_FULL, &count));
     CALL(tg_create(&store, 0, TG_READ, &kinds[1], &name));

@@ -11,6 +11,7 @@ tg_status proved_tg_list(tg_store *store, uint64_t worker, tg_target *edges, siz
 tg_status proved_tg_inspect(tg_store *store, uint64_t worker, uint64_t target, tg_target *edges, size_t room, uint64_t *count,
                             tg_denial *denial);
 tg_status proved_tg_names(tg_store *store, uint64_t *names, size_t room, uint64_t *count);
+tg_status proved_tg_subjects(tg_store *store, uint64_t *names, size_t room, uint64_t *count);
 tg_status proved_tg_entry(tg_store *store, uint64_t at, tg_record *record, uint64_t *numbers, size_t number_room, tg_target *edges,
                           size_t edge_room);
 
@@ -56,6 +57,13 @@ tg_status tg_names(tg_store *store, uint64_t *names, size_t room, uint64_t *coun
     return proved_tg_names(store, names, room, count);
 }
 
+tg_status tg_subjects(tg_store *store, uint64_t *names, size_t room, uint64_t *count) {
+    uint64_t none;
+    if (names == NULL && room == 0)
+        names = &none;
+    return proved_tg_subjects(store, names, room, count);
+}
+
 tg_status tg_entry(tg_store *store, uint64_t at, tg_record *record, uint64_t *numbers, size_t number_room, tg_target *edges,
                    size_t edge_room) {
     uint64_t no_number;
@@ -80,6 +88,7 @@ const char *tg_status_text(tg_status status) {
     case TG_OUT_OF_MEMORY: return "out of memory";
     case TG_HEAP_FULL: return "the heap is full, by its limits";
     case TG_VERTICES_FULL: return "as many vertices were made as may be";
+    case TG_WORKERS_FULL: return "as many workers are active as may be";
     case TG_NO_SUCH_WORKER: return "no such worker";
     case TG_BAD_RIGHTS: return "no right, or a bit that is none";
     case TG_BAD_LAW: return "no such law, or a log of 0 or of more than 64 numbers";

@@ -1,7 +1,9 @@
 /* Kovshenul for C: an object store with take-grant access control.
 
-   A store has workers and vertices, named 0, 1, 2, ..: first the workers, then each vertex that is made. Between two
-   vertices stand rights. A worker asks for something, and is served exactly where the take-grant rules allow it.
+   A store has vertices, named 0, 1, 2, ..: first those of the opening, then each that is made. Between two vertices stand rights.
+   Some vertices are active subjects, which this header calls workers: those of the opening, and each that is spawned, until it
+   retires. A worker asks for something, and is served exactly where the take-grant rules allow it. At most 64 are active at a time.
+   A name is never used again.
 
    Each call answers a status. What a status below 16 says, and which status comes when, is proved at the library's
    exports (crates/tg_c/specs). Tested and not proved is what stands before them (kovshenul.c): NULL for no items, tg_status_text
@@ -32,7 +34,7 @@ extern "C" {
 #endif
 
 /* The number of the interface that this header tells of. tg_abi() answers that of the library. */
-#define TG_ABI 2
+#define TG_ABI 3
 
 /* A store: 16 bytes, all zero while it is closed. */
 typedef struct tg_store {
@@ -57,8 +59,8 @@ enum {
     TG_FREE_V = 128
 };
 
-/* From 16 on the call was refused. It wrote to none of its out parameters, and the store is as it was, with one exception
-   (TG_VERTICES_FULL). Numbers that aren't named are kept for later editions. */
+/* From 16 on the call was refused. It wrote to none of its out parameters, and the store is as it was, with two exceptions
+   (TG_VERTICES_FULL and TG_WORKERS_FULL). Numbers that aren't named are kept for later editions. */
 typedef uint32_t tg_status;
 enum {
     TG_DONE = 0,
@@ -69,7 +71,8 @@ enum {
 
     TG_OUT_OF_MEMORY = 32,    /* malloc or realloc gave none; the same call may be made again. Never in the place of a TG_BAD_.. */
     TG_HEAP_FULL = 33,        /* no cell or block is left, by the limits; after tg_collect there may be */
-    TG_VERTICES_FULL = 34,    /* tg_create: where as many vertices were made as may be; the journal has an entry of it */
+    TG_VERTICES_FULL = 34,    /* tg_create, tg_spawn: where as many vertices were made as may be; the journal has an entry of it */
+    TG_WORKERS_FULL = 35,     /* tg_spawn: where 64 workers are active, and a vertex may be made; the journal has an entry of it */
 
     TG_NO_SUCH_WORKER = 48,   /* exactly where no worker of an open store has the name, and nothing asked for is TG_BAD_.. */
 
@@ -108,7 +111,7 @@ typedef struct tg_edge {
 
 /* 24 bytes. */
 typedef struct tg_limits {
-    uint64_t max_vertices;        /* that may ever be made, workers included: from their number to 2^24 */
+    uint64_t max_vertices;        /* that may ever be made, workers included: from those of the opening to 2^24 */
     uint64_t max_blocks;          /* of 64 cells of 64 bytes, in all: from 1 to 65,536, and one a worker at least */
     uint64_t max_space_blocks;    /* in one space: from 1 to 2^20 */
 } tg_limits;
@@ -152,17 +155,20 @@ enum {
     TG_DEED_APPEND = 5,
     TG_DEED_INSPECT = 6,
     TG_DEED_LIST = 8,
-    TG_DEED_CREATE = 16
+    TG_DEED_RETIRE = 9,
+    TG_DEED_CREATE = 16,
+    TG_DEED_SPAWN = 17
 };
 
 /* What was answered. */
 enum {
-    TG_REPLY_DONE = 0,        /* to a take, grant, remove, write or append */
+    TG_REPLY_DONE = 0,        /* to a take, grant, remove, write, append or retire */
     TG_REPLY_DENIED = 1,      /* and denial says why */
-    TG_REPLY_NAME = 2,        /* to a create: the vertex that was made */
+    TG_REPLY_NAME = 2,        /* to a create or a spawn: the vertex that was made */
     TG_REPLY_VALUES = 3,      /* to a read: numbers */
     TG_REPLY_EDGES = 4,       /* to a list or an inspect: edges */
-    TG_REPLY_VERTICES_FULL = 16    /* to a create: none was made */
+    TG_REPLY_VERTICES_FULL = 16,    /* to a create or a spawn: none was made */
+    TG_REPLY_WORKERS_FULL = 17      /* to a spawn: none was made */
 };
 
 /* An entry of the journal. What its deed or its reply hasn't is 0: 112 bytes. */
@@ -170,14 +176,14 @@ typedef struct tg_record {
     uint64_t worker;          /* who asked */
     uint32_t deed;            /* TG_DEED_TAKE .. */
     uint32_t reply;           /* TG_REPLY_DONE .. */
-    uint32_t law, most;       /* of a create: as in its tg_value */
+    uint32_t law, most;       /* of a create or a spawn: as in its tg_value */
     uint64_t via;             /* of a take or a grant */
-    uint64_t target;          /* of all but a list and a create */
-    uint64_t rights;          /* of a take, grant, remove or create */
+    uint64_t target;          /* of all but a list, a retire, a create and a spawn */
+    uint64_t rights;          /* of a take, grant, remove, create or spawn */
     uint64_t value;           /* of a write or an append */
     uint64_t name;            /* of the vertex that was made */
     tg_denial denial;
-    uint64_t number_count;    /* how many numbers: of a create those that the vertex stored at first, of a read those that it answered */
+    uint64_t number_count;    /* how many numbers: of a create or a spawn those that the vertex stored at first, of a read those that it answered */
     uint64_t edge_count;      /* how many edges a list or an inspect answered */
 } tg_record;
 
@@ -194,7 +200,7 @@ enum {
 /* The number of the library's interface. */
 uint32_t tg_abi(void);
 
-/* The version of the library, as "0.2.0". */
+/* The version of the library, as "0.3.0". */
 const char *tg_version(void);
 
 /* What a status says, in words. It stays for as long as the program runs. */
@@ -227,6 +233,22 @@ tg_status tg_append(tg_store *store, uint64_t worker, uint64_t target, uint64_t 
 
 /* Makes a vertex over which the worker has the rights. Its name goes to *name. */
 tg_status tg_create(tg_store *store, uint64_t worker, uint64_t rights, const tg_value *value, uint64_t *name);
+
+/* Makes a vertex over which the worker has the rights, as tg_create does, and makes it a worker too: its name, which goes to *name, may
+   ask from then on. It holds nothing at first; what it is to have, its spawner grants to it, by a right to grant that it spawned it with.
+   After TG_BAD_RIGHTS, TG_BAD_LAW, TG_NOT_OPEN and TG_NO_SUCH_WORKER it is refused by TG_VERTICES_FULL as a create is, then by
+   TG_WORKERS_FULL where 64 workers are active. Both have an entry, and change nothing else. */
+tg_status tg_spawn(tg_store *store, uint64_t worker, uint64_t rights, const tg_value *value, uint64_t *name);
+
+/* The worker retires: it asks for nothing more, and each later call in its name is TG_NO_SUCH_WORKER. Its vertex, what that stores and its
+   edges stay as they are, for as long as a worker reaches them; what only it reached goes with the next full collection. A worker
+   that retires is owed nothing, so nothing is handed back. It is never denied, and the last worker may retire too. Its name is
+   never used again, and another may be spawned in its place. */
+tg_status tg_retire(tg_store *store, uint64_t worker);
+
+/* The names of the workers, by rising name: the first `room` of them go to names, and how many there are, at most 64, to *count. The
+   journal gets no entry, and no memory is taken. */
+tg_status tg_subjects(tg_store *store, uint64_t *names, size_t room, uint64_t *count);
 
 /* The state of the target, at most 64 numbers, by the worker's r over it: the first `room` of them go to numbers, and how
    many there are to *count. */

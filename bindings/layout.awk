@@ -171,7 +171,7 @@ sum {
     same("TG_" capitals(name), number)
 }
 
-# of an entry's deed, a create's on the line behind its name
+# of an entry's deed, those of a create and of a spawn by their own clauses
 /^command_out \(?command\.[A-Z]/ {
     name = $0
     sub(/^.*command\./, "", name)
@@ -179,11 +179,10 @@ sum {
     same("TG_DEED_" capitals(name), number_after("= asked ", $0))
 }
 
-/^deed_out \(Create / { create = 1 }
-
-create && /kind = / {
-    same("TG_DEED_CREATE", number_after("kind = ", $0))
-    create = 0
+/^deed_out \((Create|Spawn) / {
+    name = $2
+    sub(/^\(/, "", name)
+    same("TG_DEED_" capitals(name), number_after("= making_out ", $0))
 }
 
 /^reply_out \(?[A-Z][A-Za-z]* .*= / {

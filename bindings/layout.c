@@ -1,10 +1,10 @@
-/* The sizes, offsets and constants of interface 2, which a program built against it has in its code. It is compiled, and not run.
+/* The sizes, offsets and constants of interface 3, which a program built against it has in its code. It is compiled, and not run.
    That the library has the same is seen by layout.awk. */
 #include "kovshenul.h"
 
 #define SAME(is, wanted) _Static_assert((is) == (wanted), #is)
 
-SAME(TG_ABI, 2);
+SAME(TG_ABI, 3);
 
 SAME(sizeof(bool), 1);
 SAME(sizeof(void *), 8);
@@ -69,8 +69,8 @@ SAME(TG_RULE_WRITE | TG_RULE_APPEND << 8 | TG_RULE_INSPECT << 16, 0x060504);
 SAME(TG_NOT_DISTINCT | TG_MISSING << 8 | TG_NOT_LOG << 16, 0x020100);
 SAME(TG_DEED_TAKE | TG_DEED_GRANT << 8 | TG_DEED_REMOVE << 16 | TG_DEED_READ << 24, 0x03020100);
 SAME(TG_DEED_WRITE | TG_DEED_APPEND << 8 | TG_DEED_INSPECT << 16 | TG_DEED_LIST << 24, 0x08060504);
-SAME(TG_DEED_CREATE, 16);
+SAME(TG_DEED_RETIRE | TG_DEED_CREATE << 8 | TG_DEED_SPAWN << 16, 0x111009);
 SAME(TG_REPLY_DONE | TG_REPLY_DENIED << 8 | TG_REPLY_NAME << 16 | TG_REPLY_VALUES << 24, 0x03020100);
-SAME(TG_REPLY_EDGES | TG_REPLY_VERTICES_FULL << 8, 0x1004);
+SAME(TG_REPLY_EDGES | TG_REPLY_VERTICES_FULL << 8 | TG_REPLY_WORKERS_FULL << 16, 0x111004);
 SAME(TG_FULL | TG_NURSERY << 8, 0x0100);
 SAME(TG_DONE | TG_DENIED << 8, 0x0100);

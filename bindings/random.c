@@ -15,7 +15,7 @@
 #include <stdlib.h>
 #include <string.h>
 
-enum { THREADS = 8, WORKERS = 3, MAX_VERTICES = 9000, ROW = MAX_VERTICES, NUMBERS = 64, PATH = 4096, RIGHTS = 8,
+enum { THREADS = 8, WORKERS = 3, MOST_WORKERS = 64, MAX_VERTICES = 9000, ROW = MAX_VERTICES, NUMBERS = 64, PATH = 4096, RIGHTS = 8,
        ALL_RIGHTS = (1 << RIGHTS) - 1 };
 
 #define UNTOUCHED UINT64_C(0xbbbbbbbbbbbbbbbb)
@@ -36,6 +36,11 @@ static const struct {
 
 static const tg_denial no_denial = { 0xbbbbbbbb, 0xbbbbbbbb, UNTOUCHED, UNTOUCHED, UNTOUCHED };
 
+/* A worker, and one that it may have rights over. */
+struct worker {
+    uint64_t name, neighbour;
+};
+
 /* The commands of one thread. */
 struct run {
     int number;
@@ -45,6 +50,8 @@ struct run {
     char line[128];        /* of the command */
     uint64_t state;        /* of the random numbers */
     uint64_t made;
+    struct worker workers[MOST_WORKERS];    /* those that are active, by rising name */
+    uint64_t active;
     tg_denial why;
     long answered, refused_memory, refused_heap;
 };
@@ -102,8 +109,14 @@ static uint64_t rights_of_some(struct run *run) {
     return below(run, 4) == 0 ? 1 + below(run, ALL_RIGHTS) : UINT64_C(1) << below(run, RIGHTS);
 }
 
+/* One of the workers that are active, of the oldest mostly. */
+static const struct worker *worker_of_some(struct run *run) {
+    uint64_t few = below(run, 5) == 0 ? run->active : WORKERS;
+    return &run->workers[below(run, few)];
+}
+
 static uint64_t name_of_worker(struct run *run) {
-    return below(run, WORKERS);
+    return worker_of_some(run)->name;
 }
 
 static uint64_t name_of_vertex(struct run *run) {
@@ -116,7 +129,15 @@ static uint64_t name_of_some(struct run *run) {
 }
 
 static uint64_t one_who_asks(struct run *run) {
-    return below(run, 100) == 0 ? WORKERS + below(run, 3) : name_of_worker(run);
+    return below(run, 100) == 0 ? below(run, run->made + 3) : name_of_worker(run);
+}
+
+/* One whose rights are to be taken, or that is to get some, by this one who asks. */
+static uint64_t neighbour_of(struct run *run, uint64_t asks) {
+    for (uint64_t i = 0; i < run->active; i++)
+        if (run->workers[i].name == asks)
+            return run->workers[i].neighbour;
+    return name_of_worker(run);
 }
 
 /* ---- what is written */
@@ -204,6 +225,8 @@ static int is_done(struct run *run, tg_status status, long refused_before) {
         fputs("refused worker\n", run->replies);
     else if (status == TG_VERTICES_FULL)
         fputs("refused vertices\n", run->replies);
+    else if (status == TG_WORKERS_FULL)
+        fputs("refused workers\n", run->replies);
     else
         stop(run, "command", status);
     return 0;
@@ -212,7 +235,7 @@ static int is_done(struct run *run, tg_status status, long refused_before) {
 /* ---- commands */
 
 static void take_or_grant(struct run *run, int grants) {
-    uint64_t x = one_who_asks(run), y = below(run, 3) == 0 ? name_of_some(run) : (x + 1) % WORKERS;
+    uint64_t x = one_who_asks(run), y = below(run, 3) == 0 ? name_of_some(run) : neighbour_of(run, x);
     uint64_t z = name_of_some(run), rights = rights_of_some(run);
     char text[RIGHTS + 1];
     long before = refused;
@@ -299,17 +322,60 @@ static void inspect_some(struct run *run) {
     put_row(run, is, listed, count);
 }
 
-static void create(struct run *run) {
+/* A worker that was spawned, whose spawner has it for its neighbour from then on. */
+static void add_worker(struct run *run, uint64_t spawner, uint64_t name) {
+    for (uint64_t i = 0; i < run->active; i++)
+        if (run->workers[i].name == spawner)
+            run->workers[i].neighbour = name;
+    want(run, run->active < MOST_WORKERS, "a worker too many");
+    run->workers[run->active++] = (struct worker){ name, spawner };
+}
+
+static void make(struct run *run, int spawns) {
     static const tg_value stock[4] = { { TG_CELL, 0, 0 }, { TG_SUM, 0, 0 }, { TG_MAX, 0, 0 }, { TG_LOG, 4, 0 } };
     uint64_t x = one_who_asks(run), rights = below(run, 4) == 0 ? rights_of_some(run) : ALL_RIGHTS, name = UNTOUCHED;
+    const tg_value *value = &stock[(run->made - WORKERS) % 4];
     char text[RIGHTS + 1];
     long before = refused;
-    say(run, "%" PRIu64 " create %s", x, letters(rights, text));
-    int is = is_done(run, tg_create(store_of(run), x, rights, &stock[(run->made - WORKERS) % 4], &name), before);
+    say(run, "%" PRIu64 " %s %s", x, spawns ? "spawn" : "create", letters(rights, text));
+    tg_status status = spawns ? tg_spawn(store_of(run), x, rights, value, &name)
+                              : tg_create(store_of(run), x, rights, value, &name);
+    int is = is_done(run, status, before);
     want(run, is == (name != UNTOUCHED), "a name of what isn't made");
     if (is)
         fprintf(run->replies, "ok %" PRIu64 "\n", name);
+    if (is && spawns)
+        add_worker(run, x, name);
     run->made += is;
+}
+
+/* One of those behind the three oldest mostly. The last three stay. */
+static void retire(struct run *run) {
+    uint64_t kept = 0;
+    long before = refused;
+    if (run->active <= WORKERS)
+        return;
+    uint64_t younger = run->workers[WORKERS + below(run, run->active - WORKERS)].name;
+    uint64_t x = below(run, 50) == 0 ? one_who_asks(run) : younger;
+    say(run, "%" PRIu64 " retire", x);
+    if (!is_done(run, tg_retire(store_of(run), x), before))
+        return;
+    fputs("ok\n", run->replies);
+    for (uint64_t i = 0; i < run->active; i++)
+        if (run->workers[i].name != x)
+            run->workers[kept++] = run->workers[i];
+    want(run, kept + 1 == run->active, "one retires who was no worker");
+    run->active = kept;
+}
+
+/* The names of the workers, which stand in no script: those that were spawned and haven't retired, as many as there is room for. */
+static void look_at_workers(struct run *run) {
+    uint64_t names[MOST_WORKERS], count = UNTOUCHED, room = below(run, MOST_WORKERS + 1);
+    memset(names, 0xbb, sizeof names);
+    say(run, "subjects");
+    want(run, tg_subjects(store_of(run), names, room, &count) == TG_DONE && count == run->active, "a count of workers");
+    for (uint64_t i = 0; i < MOST_WORKERS; i++)
+        want(run, names[i] == (i < count && i < room ? run->workers[i].name : UNTOUCHED), "a worker's name");
 }
 
 /* A collection of the nurseries stands in no script. */
@@ -329,8 +395,14 @@ static void command(struct run *run) {
     uint64_t which = below(run, 1000);
     if (which < 2)
         collect(run, which == 0 ? TG_FULL : TG_NURSERY);
+    else if (which < 80)
+        make(run, 0);
     else if (which < 90)
-        create(run);
+        make(run, 1);
+    else if (which < 97)
+        retire(run);
+    else if (which < 100)
+        look_at_workers(run);
     else if (which < 620)
         take_or_grant(run, which % 2 == 0);
     else if (which < 700)
@@ -377,6 +449,9 @@ static void open_store(struct run *run) {
     }
     if (status != TG_DONE)
         stop(run, "opening", status);
+    for (uint64_t i = 0; i < WORKERS; i++)
+        run->workers[i] = (struct worker){ i, (i + 1) % WORKERS };
+    run->active = WORKERS;
 }
 
 /* ---- the journal */
@@ -397,7 +472,9 @@ static void say_entry(struct run *run, const tg_record *entry) {
     case TG_DEED_READ:
     case TG_DEED_INSPECT: say(run, "%" PRIu64 " %s %" PRIu64, x, words[entry->deed], y); break;
     case TG_DEED_LIST: say(run, "%" PRIu64 " list", x); break;
+    case TG_DEED_RETIRE: say(run, "%" PRIu64 " retire", x); break;
     case TG_DEED_CREATE: say(run, "%" PRIu64 " create %s", x, letters(entry->rights, text)); break;
+    case TG_DEED_SPAWN: say(run, "%" PRIu64 " spawn %s", x, letters(entry->rights, text)); break;
     default: stop(run, "a deed", entry->deed);
     }
     fprintf(run->script, "%s\n", run->line);
@@ -411,6 +488,7 @@ static void put_reply(struct run *run, const tg_record *entry, const uint64_t nu
         put_denial(run);
         break;
     case TG_REPLY_VERTICES_FULL: fputs("refused vertices\n", run->replies); break;
+    case TG_REPLY_WORKERS_FULL: fputs("refused workers\n", run->replies); break;
     case TG_REPLY_EDGES: put_row(run, 1, listed, entry->edge_count); break;
     case TG_REPLY_NAME: fprintf(run->replies, "ok %" PRIu64 "\n", entry->name); break;
     case TG_REPLY_VALUES:

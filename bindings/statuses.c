@@ -53,6 +53,9 @@ static void closed(void) {
     WANT(tg_write(&store, 0, 1, 2, &why) == TG_NOT_OPEN);
     WANT(tg_append(&store, 0, 1, 2, &why) == TG_NOT_OPEN);
     WANT(tg_create(&store, 0, TG_READ, &cell, &number) == TG_NOT_OPEN);
+    WANT(tg_spawn(&store, 0, TG_READ, &cell, &number) == TG_NOT_OPEN);
+    WANT(tg_retire(&store, 0) == TG_NOT_OPEN);
+    WANT(tg_subjects(&store, numbers, 64, &number) == TG_NOT_OPEN);
     WANT(tg_read(&store, 0, 1, numbers, 64, &number, &why) == TG_NOT_OPEN);
     WANT(tg_list(&store, 0, row, 1, &number) == TG_NOT_OPEN);
     WANT(tg_inspect(&store, 0, 1, row, 1, &number, &why) == TG_NOT_OPEN);
@@ -66,7 +69,7 @@ static void closed(void) {
     WANT(is_untouched() && !store.is_open && store.handle.at == NULL);
 }
 
-/* No items may be NULL: of an opening, a read, a list, an inspect, names and an entry. */
+/* No items may be NULL: of an opening, a read, a list, an inspect, names, subjects and an entry. */
 static void no_items(void) {
     tg_store store = TG_STORE_INIT;
     uint64_t count = UNTOUCHED, name;
@@ -79,6 +82,7 @@ static void no_items(void) {
     WANT(tg_read(&store, 0, name, NULL, 0, &count, &why) == TG_DONE && count == 1);
     WANT(tg_inspect(&store, 0, name, NULL, 0, &count, &why) == TG_DONE && count == 0);
     WANT(tg_names(&store, NULL, 0, &count) == TG_DONE && count == 3);
+    WANT(tg_subjects(&store, NULL, 0, &count) == TG_DONE && count == 2);
     WANT(tg_entries(&store, &count) == TG_DONE && count == 5);
     WANT(tg_entry(&store, 2, &entry, NULL, 0, NULL, 0) == TG_DONE && entry.deed == TG_DEED_LIST && entry.edge_count == 1);
     WANT(tg_entry(&store, 3, &entry, NULL, 0, NULL, 0) == TG_DONE && entry.deed == TG_DEED_READ && entry.number_count == 1);
@@ -89,7 +93,8 @@ static void no_items(void) {
 /* Each status has a text of its own, and no other number has one. */
 static void texts(void) {
     static const tg_status known[] = {
-        TG_DONE, TG_DENIED, TG_NOT_OPEN, TG_ALREADY_OPEN, TG_OUT_OF_MEMORY, TG_HEAP_FULL, TG_VERTICES_FULL, TG_NO_SUCH_WORKER,
+        TG_DONE, TG_DENIED, TG_NOT_OPEN, TG_ALREADY_OPEN, TG_OUT_OF_MEMORY, TG_HEAP_FULL, TG_VERTICES_FULL, TG_WORKERS_FULL,
+        TG_NO_SUCH_WORKER,
         TG_BAD_RIGHTS, TG_BAD_LAW, TG_BAD_KIND, TG_BAD_WORKERS, TG_BAD_LIMITS, TG_BAD_EDGE, TG_BAD_VALUES, TG_BAD_ENTRY,
         TG_BAD_PLACE
     };
@@ -154,6 +159,12 @@ static void bad_requests(tg_store *store) {
     WANT(tg_create(store, 0, 1u << 30, &sum, &number) == TG_BAD_RIGHTS);
     WANT(tg_create(store, 2, TG_READ, &sum, &number) == TG_NO_SUCH_WORKER);
     WANT(tg_create(store, 0, 256, &sum, &number) == TG_BAD_RIGHTS);
+    WANT(tg_spawn(store, 0, TG_READ, &bad, &number) == TG_BAD_LAW);
+    WANT(tg_spawn(store, 0, 0, &bad, &number) == TG_BAD_RIGHTS);
+    WANT(tg_spawn(store, 2, 256, &sum, &number) == TG_BAD_RIGHTS);
+    WANT(tg_spawn(store, 2, TG_READ, &sum, &number) == TG_NO_SUCH_WORKER);
+    WANT(tg_retire(store, 2) == TG_NO_SUCH_WORKER);
+    WANT(tg_retire(store, UINT64_MAX) == TG_NO_SUCH_WORKER);
     WANT(tg_take(store, 0, 1, 2, 256, &why) == TG_BAD_RIGHTS);
     WANT(tg_take(store, 0, 1, 2, 0, &why) == TG_BAD_RIGHTS);
     WANT(tg_grant(store, 0, 1, 2, UINT64_MAX, &why) == TG_BAD_RIGHTS);
@@ -254,7 +265,8 @@ static void counts(tg_store *store) {
     WANT(tg_entries(store, &entries) == TG_DONE);
     number = UNTOUCHED;
     WANT(tg_create(store, 1, TG_READ, &cell, &number) == TG_VERTICES_FULL && number == UNTOUCHED);
-    WANT(tg_audit(store, &count) == TG_DONE && count == entries + 1);
+    WANT(tg_spawn(store, 1, TG_READ, &cell, &number) == TG_VERTICES_FULL && number == UNTOUCHED);
+    WANT(tg_audit(store, &count) == TG_DONE && count == entries + 2);
 }
 
 /* Whether a command was denied by the rule, and for this. */
@@ -329,16 +341,91 @@ static void all_rights(void) {
     WANT(tg_close(&store) == TG_DONE);
 }
 
-/* The opening, and one entry of each deed and of each reply; what they are stands in the journal below. */
+/* The workers are these, by rising name. Behind them the room is as it was; with too little room as many are named as fit. */
+static void workers_are(tg_store *store, const uint64_t *wanted, uint64_t active) {
+    uint64_t room[65], count, entries, after;
+    memset(room, UNTOUCHED, sizeof room);
+    const uint64_t untouched = room[64];
+    WANT(tg_entries(store, &entries) == TG_DONE);
+    WANT(tg_subjects(store, room, active - 1, &count) == TG_DONE && count == active && room[active - 1] == untouched);
+    WANT(memcmp(room, wanted, (active - 1) * sizeof *room) == 0);
+    WANT(tg_subjects(store, room, 65, &count) == TG_DONE && count == active && room[active] == untouched);
+    WANT(memcmp(room, wanted, active * sizeof *room) == 0);
+    WANT(tg_entries(store, &after) == TG_DONE && after == entries);
+}
+
+/* A worker is spawned, is handed what it may read, and retires: then its name asks for nothing more, and what it holds stays while it is
+   reached. It is gone when its spawner gives it up, and its name isn't given again. */
+static void a_worker_comes_and_goes(void) {
+    static const uint64_t both[3] = { 0, 1, 3 }, left[2] = { 0, 3 }, last[2] = { 3, 5 };
+    tg_store store = TG_STORE_INIT;
+    tg_target row[2];
+    uint64_t document, name, count;
+    WANT(tg_open(&store, workers, 2, edges, 2, &limits) == TG_DONE);
+    WANT(tg_create(&store, 0, TG_READ, &sum, &document) == TG_DONE && document == 2);
+    WANT(tg_spawn(&store, 0, TG_GRANT | TG_INSPECT, &greatest, &name) == TG_DONE && name == 3);
+    workers_are(&store, both, 3);
+    WANT(tg_retire(&store, 1) == TG_DONE);
+    WANT(tg_retire(&store, 1) == TG_NO_SUCH_WORKER);
+    workers_are(&store, left, 2);
+    WANT(tg_grant(&store, 0, 3, document, TG_READ, &why) == TG_DONE);
+    WANT(tg_read(&store, 3, document, numbers, 64, &count, &why) == TG_DONE && count == 1 && numbers[0] == 40);
+    WANT(tg_spawn(&store, 3, TG_GRANT, &cell, &name) == TG_DONE && name == 4);
+    WANT(tg_retire(&store, 4) == TG_DONE);
+    WANT(tg_inspect(&store, 0, 3, row, 2, &count, &why) == TG_DONE && count == 2 && row[1].to == 4);
+    WANT(tg_collect(&store, TG_FULL, &count) == TG_DONE && count == 5);
+    WANT(tg_remove(&store, 3, 4, TG_GRANT, &why) == TG_DONE);
+    WANT(tg_collect(&store, TG_FULL, &count) == TG_DONE && count == 4);
+    WANT(tg_spawn(&store, 0, TG_GRANT, &cell, &name) == TG_DONE && name == 5);
+    WANT(tg_retire(&store, 0) == TG_DONE);
+    WANT(tg_label(&store, 0, document, &count) == TG_NO_SUCH_WORKER);
+    workers_are(&store, last, 2);
+    WANT(tg_audit(&store, &count) == TG_DONE && count == 11);
+    WANT(tg_close(&store) == TG_DONE);
+}
+
+/* With 64 workers none is spawned until one retires; the refusal has its entry. No worker is needed to count, collect or audit. */
+static void as_many_workers_as_may_be(void) {
+    const tg_limits many = { 200, 200, 100 };
+    tg_store store = TG_STORE_INIT;
+    tg_record entry;
+    uint64_t names[64], name, count;
+    WANT(tg_open(&store, workers, 1, NULL, 0, &many) == TG_DONE);
+    for (uint64_t i = 0; i < 63; i++)
+        WANT(tg_spawn(&store, i, TG_GRANT, &cell, &name) == TG_DONE && name == i + 1);
+    number = UNTOUCHED;
+    WANT(tg_spawn(&store, 63, TG_GRANT, &last_two, &number) == TG_WORKERS_FULL && number == UNTOUCHED);
+    WANT(tg_entry(&store, 63, &entry, NULL, 0, NULL, 0) == TG_DONE && entry.worker == 63 && entry.deed == TG_DEED_SPAWN);
+    WANT(entry.reply == TG_REPLY_WORKERS_FULL && entry.law == TG_LOG && entry.most == 2 && entry.rights == TG_GRANT);
+    WANT(tg_create(&store, 63, TG_READ, &cell, &name) == TG_DONE && name == 64);
+    WANT(tg_retire(&store, 5) == TG_DONE);
+    WANT(tg_spawn(&store, 63, TG_GRANT, &cell, &name) == TG_DONE && name == 65);
+    WANT(tg_subjects(&store, names, 64, &count) == TG_DONE && count == 64);
+    for (uint64_t i = 0; i < 64; i++)
+        WANT(names[i] == (i < 5 ? i : i < 63 ? i + 1 : 65));
+    for (uint64_t i = 0; i < 64; i++)
+        WANT(tg_retire(&store, names[i]) == TG_DONE);
+    WANT(tg_subjects(&store, names, 64, &count) == TG_DONE && count == 0);
+    WANT(tg_spawn(&store, 0, TG_GRANT, &cell, &name) == TG_NO_SUCH_WORKER);
+    WANT(tg_collect(&store, TG_FULL, &count) == TG_DONE && count == 0);
+    WANT(tg_audit(&store, &count) == TG_DONE && count == 131);
+    WANT(tg_close(&store) == TG_DONE);
+}
+
+/* The opening, and one entry of each deed and of each reply but TG_REPLY_WORKERS_FULL; what they are stands in the journal below. */
 static void deeds(tg_store *store) {
     static const tg_edge joined[2] = { { 0, 1, TG_TAKE | TG_GRANT | TG_INSPECT }, { 1, 0, TG_GRANT } };
-    static const tg_limits four = { 4, 8, 4 };
+    static const tg_limits five = { 5, 8, 4 };
     tg_target row[4];
     uint64_t name, count;
-    WANT(tg_open(store, workers, 2, joined, 2, &four) == TG_DONE);
+    WANT(tg_open(store, workers, 2, joined, 2, &five) == TG_DONE);
     WANT(tg_create(store, 0, TG_READ | TG_WRITE | TG_APPEND, &last_two, &name) == TG_DONE && name == 2);
     WANT(tg_create(store, 1, TG_READ | TG_APPEND, &sum, &name) == TG_DONE && name == 3);
+    WANT(tg_spawn(store, 1, TG_INSPECT, &last_two, &name) == TG_DONE && name == 4);
     WANT(tg_create(store, 0, 255, &cell, &name) == TG_VERTICES_FULL);
+    WANT(tg_spawn(store, 4, 255, &cell, &name) == TG_VERTICES_FULL);
+    WANT(tg_retire(store, 4) == TG_DONE);
+    WANT(tg_remove(store, 1, 4, TG_INSPECT, &why) == TG_DONE);
     WANT(tg_take(store, 0, 1, 3, TG_READ, &why) == TG_DONE);
     WANT(tg_grant(store, 0, 1, 2, TG_WRITE, &why) == TG_DONE);
     WANT(tg_write(store, 0, 2, 8, &why) == TG_DONE);
@@ -358,7 +445,11 @@ static const tg_record journal[] = {
       .rights = TG_READ | TG_WRITE | TG_APPEND, .name = 2 },
     { .worker = 1, .deed = TG_DEED_CREATE, .reply = TG_REPLY_NAME, .law = TG_SUM, .rights = TG_READ | TG_APPEND, .name = 3,
       .number_count = 1 },
+    { .worker = 1, .deed = TG_DEED_SPAWN, .reply = TG_REPLY_NAME, .law = TG_LOG, .most = 2, .rights = TG_INSPECT, .name = 4 },
     { .worker = 0, .deed = TG_DEED_CREATE, .reply = TG_REPLY_VERTICES_FULL, .law = TG_CELL, .rights = 255, .number_count = 1 },
+    { .worker = 4, .deed = TG_DEED_SPAWN, .reply = TG_REPLY_VERTICES_FULL, .law = TG_CELL, .rights = 255, .number_count = 1 },
+    { .worker = 4, .deed = TG_DEED_RETIRE, .reply = TG_REPLY_DONE },
+    { .worker = 1, .deed = TG_DEED_REMOVE, .reply = TG_REPLY_DONE, .target = 4, .rights = TG_INSPECT },
     { .worker = 0, .deed = TG_DEED_TAKE, .reply = TG_REPLY_DONE, .via = 1, .target = 3, .rights = TG_READ },
     { .worker = 0, .deed = TG_DEED_GRANT, .reply = TG_REPLY_DONE, .via = 1, .target = 2, .rights = TG_WRITE },
     { .worker = 0, .deed = TG_DEED_WRITE, .reply = TG_REPLY_DONE, .target = 2, .value = 8 },
@@ -380,7 +471,7 @@ enum { ENTRIES = sizeof journal / sizeof *journal };
 
 /* The numbers and edges of those entries that have any. Behind them the rooms are as they were. */
 static void entry_lists(tg_store *store) {
-    static const uint64_t firsts[ENTRIES] = { [1] = 40, [2] = 7, [7] = 8 };
+    static const uint64_t firsts[ENTRIES] = { [1] = 40, [3] = 7, [4] = 7, [11] = 8 };
     static const tg_target held[3] = { { 0, TG_GRANT }, { 2, TG_WRITE }, { 3, TG_READ | TG_APPEND } };
     for (uint64_t at = 0; at < ENTRIES; at++) {
         uint64_t room[3] = { UNTOUCHED, UNTOUCHED, UNTOUCHED };
@@ -399,9 +490,9 @@ static void small_rooms(tg_store *store) {
     uint64_t room[2] = { UNTOUCHED, UNTOUCHED };
     tg_target row[3] = { { UNTOUCHED, 0 }, { UNTOUCHED, 0 }, { UNTOUCHED, 0 } };
     tg_record entry;
-    WANT(tg_entry(store, 7, &entry, room, 1, row, 0) == TG_DONE && entry.number_count == 2);
+    WANT(tg_entry(store, 11, &entry, room, 1, row, 0) == TG_DONE && entry.number_count == 2);
     WANT(room[0] == 8 && room[1] == UNTOUCHED && row[0].to == UNTOUCHED);
-    WANT(tg_entry(store, 9, &entry, room, 0, row, 2) == TG_DONE && entry.edge_count == 3);
+    WANT(tg_entry(store, 13, &entry, room, 0, row, 2) == TG_DONE && entry.edge_count == 3);
     WANT(room[0] == 8 && row[0].to == 0 && row[1].to == 2 && row[2].to == UNTOUCHED);
 }
 
@@ -514,6 +605,8 @@ int main(void) {
     longest_log();
     appends_and_inspects();
     all_rights();
+    a_worker_comes_and_goes();
+    as_many_workers_as_may_be();
     entries_read();
     puts("statuses ok");
     return 0;

@@ -4,6 +4,9 @@ It shares no code with the program. Of a line that was refused memory or a threa
 
 ORDER = "rwtgaluv"
 
+# How many subjects may be active at a time.
+MOST_SUBJECTS = 64
+
 # How many lines a search may try. A search that comes to its end before isn't decided.
 MOST_STEPS = 200_000
 
@@ -14,11 +17,12 @@ def missing(rule, x, y, rights, held):
 
 
 class World:
-    """Who has which rights over whom, and what each vertex stores. It is never changed; a line that changes something makes another."""
+    """Who is a subject, who has which rights over whom, and what each vertex stores. It is never changed; a line that changes something
+    makes another."""
 
-    def __init__(self, rows, states, made):
-        self.rows, self.states, self.made = rows, states, made
-        self.key = made, frozenset(rows.items()), frozenset(states.items())
+    def __init__(self, rows, states, made, subjects):
+        self.rows, self.states, self.made, self.subjects = rows, states, made, subjects
+        self.key = made, frozenset(rows.items()), frozenset(states.items()), subjects
 
     def held(self, x, y):
         return dict(self.rows.get(x, ())).get(y, "")
@@ -27,13 +31,20 @@ class World:
         row = dict(self.rows.get(x, ()))
         row[y] = "".join(it for it in ORDER if it in rights)
         row = tuple(sorted((name, it) for name, it in row.items() if it))
-        return World({**self.rows, x: row}, self.states, self.made)
+        return World({**self.rows, x: row}, self.states, self.made, self.subjects)
 
     def with_state(self, y, state):
-        return World(self.rows, {**self.states, y: state}, self.made)
+        return World(self.rows, {**self.states, y: state}, self.made, self.subjects)
 
-    def reached(self, workers):
-        seen, open_ = set(workers), list(workers)
+    def with_vertex(self, box, is_subject):
+        subjects = self.subjects | {self.made} if is_subject else self.subjects
+        return World(self.rows, {**self.states, self.made: (box, () if box == "l" else (0,))}, self.made + 1, subjects)
+
+    def without_subject(self, x):
+        return World(self.rows, self.states, self.made, self.subjects - {x})
+
+    def reached(self):
+        seen, open_ = set(self.subjects), list(self.subjects)
         while open_:
             new = {name for name, _ in self.rows.get(open_.pop(), ())} - seen
             seen |= new
@@ -58,7 +69,7 @@ def written(law, state, number):
 
 
 class Race:
-    """The lines of a race's workers, what each was answered, and the box of each create."""
+    """The lines of a race's workers, what each was answered, and the box of each create and spawn."""
 
     def __init__(self, script, replies, refusals):
         self.workers = range(int(script.words[script.words.index("--workers") + 1]))
@@ -66,12 +77,12 @@ class Race:
         self.own = {x: [] for x in self.workers}
         self.entries = 0
         for line, reply in zip(script.lines, replies):
-            box = next(boxes, None) if " create " in line else None
+            box = next(boxes, None) if " create " in line or " spawn " in line else None
             x, *words = line.split() if " " in line else ("0", line)
             if reply not in refusals and int(x) in self.own:
                 self.own[int(x)].append((words, reply.decode(), box))
-                self.entries += words[0] not in ("full", "minor") and reply != b"refused stock"
-        self.first = World({}, {x: ("c", (0,)) for x in self.workers}, len(self.workers))
+                self.entries += words[0] not in ("full", "minor") and reply not in (b"refused stock", b"refused worker")
+        self.first = World({}, {x: ("c", (0,)) for x in self.workers}, len(self.workers), frozenset(self.workers))
         for edge in script.edges:
             _, x, y, rights = edge.split()
             self.first = self.first.with_edge(int(x), int(y), self.first.held(int(x), int(y)) + rights)
@@ -82,15 +93,23 @@ class Race:
         if rule == "minor":
             return "ok", world
         if rule == "full":
-            return f"ok {len(world.reached(self.workers))}", world
+            return f"ok {len(world.reached())}", world
+        if x not in world.subjects:
+            return "refused worker", world
         if rule == "list":
             return shown(world.rows.get(x, ())), world
-        if rule == "create":
-            if box is None:
-                return "refused stock", world
-            made = World(world.rows, {**world.states, world.made: (box, () if box == "l" else (0,))}, world.made + 1)
-            return f"ok {world.made}", made.with_edge(x, world.made, rest[0])
+        if rule == "retire":
+            return "ok", world.without_subject(x)
+        if rule in ("create", "spawn"):
+            return self.after_making(world, x, rule == "spawn", rest[0], box)
         return self.after_command(world, x, rule, rest)
+
+    def after_making(self, world, x, is_subject, rights, box):
+        if box is None:
+            return "refused stock", world
+        if is_subject and len(world.subjects) == MOST_SUBJECTS:
+            return "refused workers", world
+        return f"ok {world.made}", world.with_vertex(box, is_subject).with_edge(x, world.made, rights)
 
     def after_command(self, world, x, rule, rest):
         y, held = int(rest[0]), world.held(x, int(rest[0]))

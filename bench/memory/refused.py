@@ -1,7 +1,7 @@
 #!/usr/bin/env python3
 """refused.py [--tests FILE] [--alone] [--program FILE] [WORD ..]
 
-Runs each test of bench/memory/tests that has each request refused in turn, and then the program on seven small scripts: once
+Runs each test of bench/memory/tests that has each request refused in turn, and then the program on eight small scripts: once
 for every request that it makes, with that one refused. A request is a call for memory, for the start of a thread, or for its attributes. A test must
 pass; of the program what_is_wrong of runs.py is asked. Where nothing is refused each thread that was started must be joined;
 and with one thread as much memory must be given back as where nothing is refused. Then the program is run with two requests refused, with three,
@@ -19,7 +19,7 @@ import sys
 import tempfile
 
 from runs import HERE, MOST_SECONDS, PROGRAM, Run, WAYS, appends_and_inspections, knows, listings, log_and_sum_payloads, logs
-from runs import old_cell_stays_remembered, refused_lines, rows, stop, ten_edges_and_a_hole, what_is_wrong
+from runs import old_cell_stays_remembered, refused_lines, rows, stop, subjects_that_come_and_go, ten_edges_and_a_hole, what_is_wrong
 
 # The numbers of refuse.c.
 TOLD = struct.Struct("7q")
@@ -29,7 +29,7 @@ ONE = {"one": (0,)}
 PLANS = {**ONE, "two": (0, 1), "three": (0, 2, 7), "all from one on": None}
 
 SCRIPTS = [ten_edges_and_a_hole(), old_cell_stays_remembered(), log_and_sum_payloads(), appends_and_inspections()]
-SCRIPTS += [rows(24), listings(12, 6), logs(18, 6)]
+SCRIPTS += [subjects_that_come_and_go(), rows(24), listings(12, 6), logs(18, 6)]
 
 
 class Refuser:

@@ -96,6 +96,14 @@ def appends_and_inspections():
     return Script("appends_and_inspections", 2, "cl", ["edge 0 1 gl", "edge 1 0 l"], lines)
 
 
+def subjects_that_come_and_go():
+    """Subjects are made by each other and retire, others take from them and give to them then, and collections come between."""
+    lines = ["0 spawn rwtgl", "2 create rw", "2 create r", "2 spawn tg", "2 list", "0 take 2 3 rw", "0 write 3 5", "2 retire", "2 list", "2 create r"]
+    lines += ["minor", "0 inspect 2", "0 take 2 4 r", "0 grant 2 3 r", "0 inspect 2", "5 create r", "1 spawn r", "1 retire", "full", "1 list"]
+    lines += ["0 remove 2 rwtgl", "full", "6 spawn t", "6 retire", "7 create rw", "minor", "7 list", "0 retire", "full", "5 spawn r", "0 list"]
+    return Script("subjects_that_come_and_go", 2, "cl9", ["edge 0 1 tg", "edge 1 0 l"], lines)
+
+
 class Run:
     """A run of the program that has ended."""
 

@@ -1,88 +1,93 @@
-//! A host of plug-ins. Each plug-in is a subject of the opening, and has the rights that the host has granted to it, no more: it
-//! may hand on what it has where it was given a neighbour, and what it isn't allowed is denied.
-use kovshenul::{Edge, Error, Kind, Limits, Rights, Store, Value};
+//! A host of plug-ins. Each plug-in is a worker that the host spawns and grants rights to. It has no more than those: what it isn't
+//! allowed is denied. When it is unloaded it retires, and nothing is answered to its name any more.
+use kovshenul::{Error, Kind, Limits, Rights, Store, Value};
 
 const HOST: u64 = 0;
 
-/// A plug-in: its name, and what it does with the document.
+/// A kind of plug-in: its name, what the host lets it do with the document, and what it does.
 struct Plugin {
     name: &'static str,
-    subject: u64,
+    may: Rights,
     run: fn(&mut Store, u64, u64) -> Result<String, Error>,
 }
 
+/// A plug-in that was loaded, and the name of its worker.
+struct Loaded<'a> {
+    plugin: &'a Plugin,
+    worker: u64,
+}
+
+/// What the host has over a plug-in's worker.
+fn over_plugins() -> Rights {
+    Rights::GRANT | Rights::INSPECT
+}
+
 /// Reads the document.
-fn preview(store: &mut Store, subject: u64, document: u64) -> Result<String, Error> {
-    Ok(format!("shows {:?}", store.read(subject, document)?))
+fn preview(store: &mut Store, worker: u64, document: u64) -> Result<String, Error> {
+    Ok(format!("shows {:?}", store.read(worker, document)?))
 }
 
 /// Writes to the document, which adds up.
-fn edit(store: &mut Store, subject: u64, document: u64) -> Result<String, Error> {
-    store.write(subject, document, 2)?;
+fn edit(store: &mut Store, worker: u64, document: u64) -> Result<String, Error> {
+    store.write(worker, document, 2)?;
     Ok("added 2".to_string())
 }
 
 /// Reads, and then writes what it has no right to.
-fn meddle(store: &mut Store, subject: u64, document: u64) -> Result<String, Error> {
-    let seen = store.read(subject, document)?;
-    store.write(subject, document, 1000)?;
+fn meddle(store: &mut Store, worker: u64, document: u64) -> Result<String, Error> {
+    let seen = store.read(worker, document)?;
+    store.write(worker, document, 1000)?;
     Ok(format!("saw {seen:?} and overwrote it"))
 }
 
-/// Opens a store for the host and as many plug-ins, over each of which the host has the rights to grant and to inspect.
-fn open(plugins: u64) -> Result<Store, Error> {
-    let edge = |to| Edge {
-        from: HOST,
-        to,
-        rights: Rights::GRANT | Rights::INSPECT,
-    };
-    let edges: Vec<Edge> = (1..=plugins).map(edge).collect();
-    let limits = Limits {
-        max_vertices: 1000,
-        max_blocks: 64,
-        max_space_blocks: 64,
-    };
-    Store::open(&vec![Value::Cell(0); plugins as usize + 1], &edges, &limits)
+/// Spawns a worker for the plug-in, and grants to it what it may do.
+fn load<'a>(store: &mut Store, plugin: &'a Plugin, document: u64) -> Result<Loaded<'a>, Error> {
+    let worker = store.spawn(HOST, over_plugins(), Value::Cell(0))?;
+    store.grant(HOST, worker, document, plugin.may)?;
+    println!("{}: worker {worker}, may {}", plugin.name, plugin.may);
+    Ok(Loaded { plugin, worker })
 }
 
-/// Runs a plug-in, and tells what came of it. A denial ends the plug-in's work, and the host goes on.
-fn run(store: &mut Store, plugin: &Plugin, document: u64) -> Result<(), Error> {
-    match (plugin.run)(store, plugin.subject, document) {
-        Ok(told) => println!("{}: {told}", plugin.name),
-        Err(Error::Denied(denial)) => println!("{}: denied, {denial}", plugin.name),
+/// Runs a plug-in, and tells what came of it. What isn't served ends the plug-in's work, and the host goes on.
+fn run(store: &mut Store, loaded: &Loaded<'_>, document: u64) -> Result<(), Error> {
+    let name = loaded.plugin.name;
+    match (loaded.plugin.run)(store, loaded.worker, document) {
+        Ok(told) => println!("{name}: {told}"),
+        Err(Error::Denied(denial)) => println!("{name}: denied, {denial}"),
+        Err(Error::NoSuchWorker) => println!("{name}: refused, {}", Error::NoSuchWorker),
         Err(error) => return Err(error),
     }
     Ok(())
 }
 
-/// Looks at what a plug-in holds, and gives it all up in its name.
-fn unload(store: &mut Store, plugin: &Plugin) -> Result<(), Error> {
-    for target in store.inspect(HOST, plugin.subject)? {
-        store.remove(plugin.subject, target.to, target.rights)?;
-    }
-    println!("{}: unloaded", plugin.name);
+/// Retires the plug-in's worker, and gives up what the host has over it. What only the worker held goes with the next full collection.
+fn unload(store: &mut Store, loaded: &Loaded<'_>) -> Result<(), Error> {
+    store.retire(loaded.worker)?;
+    store.remove(HOST, loaded.worker, over_plugins())?;
+    println!("{}: unloaded, workers {:?} are left", loaded.plugin.name, store.subjects()?);
     Ok(())
 }
 
 fn main() -> Result<(), Error> {
+    let limits = Limits {
+        max_vertices: 1000,
+        max_blocks: 64,
+        max_space_blocks: 64,
+    };
     let plugins = [
-        (Plugin { name: "preview", subject: 1, run: preview }, "r"),
-        (Plugin { name: "editor", subject: 2, run: edit }, "rw"),
-        (Plugin { name: "meddler", subject: 3, run: meddle }, "r"),
+        Plugin { name: "preview", may: Rights::READ, run: preview },
+        Plugin { name: "editor", may: Rights::READ | Rights::WRITE, run: edit },
+        Plugin { name: "meddler", may: Rights::READ, run: meddle },
     ];
-    let mut store = open(plugins.len() as u64)?;
+    let mut store = Store::open(&[Value::Cell(0)], &[], &limits)?;
     let document = store.create(HOST, Rights::READ | Rights::WRITE, Value::Sum(40))?;
-    for (plugin, letters) in &plugins {
-        let rights: Rights = letters.parse().unwrap_or(Rights::NONE);
-        store.grant(HOST, plugin.subject, document, rights)?;
-        println!("{}: may {rights}", plugin.name);
-    }
-    for (plugin, _) in &plugins {
+    let loading = plugins.iter().map(|plugin| load(&mut store, plugin, document));
+    let loaded = loading.collect::<Result<Vec<Loaded<'_>>, Error>>()?;
+    for plugin in &loaded {
         run(&mut store, plugin, document)?;
     }
-    let [_, (editor, _), _] = &plugins;
-    unload(&mut store, editor)?;
-    for (plugin, _) in &plugins {
+    unload(&mut store, &loaded[1])?;
+    for plugin in &loaded {
         run(&mut store, plugin, document)?;
     }
     println!("collection: {} vertices are left", store.collect(Kind::Full)?);

@@ -35,6 +35,7 @@ from ._refusals import (
     OutOfMemory,
     Refused,
     VerticesFull,
+    WorkersFull,
 )
 from ._store import Store
 from ._values import MOST_NUMBERS, Cell, Counts, Edge, Kind, Limits, Log, Max, Rights, Sum, Target, Value
@@ -87,5 +88,6 @@ __all__ = [
     "Value",
     "VerticesFull",
     "WRITE",
+    "WorkersFull",
     "journal",
 ]

@@ -4,7 +4,7 @@ import os
 from pathlib import Path
 from typing import Type
 
-ABI = 2
+ABI = 3
 NAME = f"libkovshenul.so.{ABI}"
 
 Number = ctypes.c_uint64
@@ -105,6 +105,9 @@ def _declare(library: ctypes.CDLL) -> None:
         "write": [address, Number, Number, Number, address],
         "append": [address, Number, Number, Number, address],
         "create": [address, Number, Number, address, address],
+        "spawn": [address, Number, Number, address, address],
+        "retire": [address, Number],
+        "subjects": [address, address, size, address],
         "read": [address, Number, Number, address, size, address, address],
         "list": [address, Number, address, size, address],
         "inspect": [address, Number, Number, address, size, address, address],

@@ -42,7 +42,7 @@ class Denied(Exception):
 
 
 class Refused(Exception):
-    """A call was refused. The store is as it was, but that VerticesFull has an entry in the journal."""
+    """A call was refused. The store is as it was, but that VerticesFull and WorkersFull have an entry in the journal."""
 
     status: int = 0
 
@@ -83,6 +83,12 @@ class VerticesFull(Refused):
     """As many vertices were made as may be."""
 
     status = 34
+
+
+class WorkersFull(Refused):
+    """As many workers are active as may be, which is 64."""
+
+    status = 35
 
 
 class NoSuchWorker(Refused, LookupError):

@@ -20,6 +20,7 @@ NO_VALUE = "a value is a Cell, a Sum, a Max or a Log"
 DENIED = 1
 MAX_VERTICES = 2**24
 FIRST_ROW = 64
+MOST_WORKERS = 64
 
 # A target of a pair, and rights by their bits, with no call of Python's in between; and the type that a method of Store hides.
 target_of = partial(tuple.__new__, Target)
@@ -218,6 +219,35 @@ class Store:
         if status:
             raise refusal(status)
         return name
+
+    def spawn(self, worker: int, rights: int, value: Value) -> int:
+        """Makes a worker over which the one who asks has the rights, and answers its name.
+
+        It holds nothing until it is granted something. At most 64 workers are active at a time, and no name is used again.
+        """
+        worker, rights = index(worker), index(rights)
+        if (worker | rights) >> BITS:
+            raise OverflowError(OUT_OF_RANGE)
+        try:
+            value_at = value._value_at
+        except AttributeError:
+            raise TypeError(NO_VALUE) from None
+        return self._count(lambda at, name_at: short.tg_spawn(at, worker, rights, value_at, name_at))
+
+    def retire(self, worker: int) -> None:
+        """The worker retires, and asks for nothing more. Its vertex and its edges stay for as long as a worker reaches them."""
+        worker = number_in(BITS, worker)
+        with self._lock:
+            status = short.tg_retire(self._at, worker)
+        if status:
+            raise refusal(status)
+
+    def subjects(self) -> List[int]:
+        """The names of the active workers, rising. The journal gets no entry of it."""
+        names = (_library.Number * MOST_WORKERS)()
+        names_at = ctypes.addressof(names)
+        count = self._count(lambda at, count_at: short.tg_subjects(at, names_at, MOST_WORKERS, count_at))
+        return names[:count]
 
     def read(self, worker: int, target: int) -> List[int]:
         """The state of the target."""

@@ -83,6 +83,11 @@ class List:
 
 
 @dataclass(frozen=True)
+class Retire:
+    """To be a worker no more."""
+
+
+@dataclass(frozen=True)
 class Create:
     """To make a vertex that stores the value at first, and to have rights over it."""
 
@@ -91,8 +96,16 @@ class Create:
 
 
 @dataclass(frozen=True)
+class Spawn:
+    """To make a worker that stores the value at first, and to have rights over it."""
+
+    rights: Rights
+    value: Value
+
+
+@dataclass(frozen=True)
 class Done:
-    """A take, grant, remove, write or append was done."""
+    """A take, grant, remove, write, append or retire was done."""
 
 
 @dataclass(frozen=True)
@@ -131,8 +144,13 @@ class VerticesFull:
     """None was made, since as many vertices were made as may be."""
 
 
-Deed = Union[Take, Grant, Remove, Read, Write, Append, Inspect, List, Create]
-Reply = Union[Done, Denied, Name, Values, Edges, VerticesFull]
+@dataclass(frozen=True)
+class WorkersFull:
+    """No worker was made, since as many are active as may be."""
+
+
+Deed = Union[Take, Grant, Remove, Read, Write, Append, Inspect, List, Retire, Create, Spawn]
+Reply = Union[Done, Denied, Name, Values, Edges, VerticesFull, WorkersFull]
 
 
 @dataclass(frozen=True)
@@ -145,8 +163,8 @@ class Entry:
 
 
 # By their numbers.
-DEEDS = {0: Take, 1: Grant, 2: Remove, 3: Read, 4: Write, 5: Append, 6: Inspect, 8: List, 16: Create}
-REPLIES = {0: Done, 1: Denied, 2: Name, 3: Values, 4: Edges, 16: VerticesFull}
+DEEDS = {0: Take, 1: Grant, 2: Remove, 3: Read, 4: Write, 5: Append, 6: Inspect, 8: List, 9: Retire, 16: Create, 17: Spawn}
+REPLIES = {0: Done, 1: Denied, 2: Name, 3: Values, 4: Edges, 16: VerticesFull, 17: WorkersFull}
 
 
 def entry_of(record: _library.Record, numbers: Array, edges: Array) -> Entry:
@@ -164,10 +182,10 @@ def _deed_of(record: _library.Record, numbers: Array) -> Deed:
         return kind(record.target, record.value)
     if kind in (Read, Inspect):
         return kind(record.target)
-    if kind is List:
-        return List()
+    if kind in (List, Retire):
+        return kind()
     law = LAWS[record.law]
-    return Create(rights, law(record.most if law is Log else numbers[0]))
+    return kind(rights, law(record.most if law is Log else numbers[0]))
 
 
 def _reply_of(record: _library.Record, numbers: Array, edges: Array) -> Reply:

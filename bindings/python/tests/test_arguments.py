@@ -7,6 +7,8 @@ from fractions import Fraction
 from kovshenul import GRANT, READ, WRITE, Cell, Denied, Limits, Log, Max, Refused, Rights, Store, Sum, Value
 
 CALLS = 60_000
+# On one store, since workers retire.
+ROUND = 100
 BIG = 2**64
 
 
@@ -53,6 +55,8 @@ TAKES = {
     "write": (3, False),
     "append": (3, False),
     "create": (2, True),
+    "spawn": (2, True),
+    "retire": (1, False),
     "read": (2, False),
     "list": (1, False),
     "inspect": (2, False),
@@ -91,7 +95,7 @@ def arguments_of(rng, name):
 def are_right(name, arguments):
     bound = 2**32 if name in SHORT else BIG
     return all(isinstance(it, Value) or is_number(it, bound) for it in arguments[:2]) and all(
-        it in VALUES if name == "create" else is_number(it, bound) for it in arguments[2:]
+        it in VALUES if TAKES[name][1] else is_number(it, bound) for it in arguments[2:]
     )
 
 
@@ -113,8 +117,12 @@ def opened():
 class Arguments(unittest.TestCase):
     def test_each_call(self):
         rng = random.Random(7)
+        for _ in range(CALLS // ROUND):
+            self.assert_calls(rng)
+
+    def assert_calls(self, rng):
         with opened() as store:
-            for _ in range(CALLS):
+            for _ in range(ROUND):
                 name = rng.choice(list(TAKES))
                 arguments = arguments_of(rng, name)
                 before = store.entries()

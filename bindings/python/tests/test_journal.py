@@ -21,6 +21,7 @@ from kovshenul import (
     Sum,
     Target,
     VerticesFull,
+    WorkersFull,
     journal,
 )
 
@@ -66,6 +67,8 @@ def called(store, worker, deed):
         return journal.Denied(why.rule, why.cause, why.edge, why.rights)
     except VerticesFull:
         return journal.VerticesFull()
+    except WorkersFull:
+        return journal.WorkersFull()
     except Refused:
         return None
     kinds = {
@@ -73,6 +76,7 @@ def called(store, worker, deed):
         journal.List: lambda: journal.Edges(tuple(answer)),
         journal.Inspect: lambda: journal.Edges(tuple(answer)),
         journal.Create: lambda: journal.Name(answer),
+        journal.Spawn: lambda: journal.Name(answer),
     }
     return kinds.get(type(deed), journal.Done)()
 
@@ -93,7 +97,7 @@ class Journals(unittest.TestCase):
             self.assertEqual(told, wanted)
             self.assertEqual((store.entries(), store.audit()), (len(told), len(told)))
         self.assertEqual({type(entry.deed) for entry in told}, set(DEEDS))
-        self.assertEqual({type(entry.reply) for entry in told}, set(journal.REPLIES.values()))
+        self.assertEqual({type(entry.reply) for entry in told}, set(journal.REPLIES.values()) - {journal.WorkersFull})
         causes = {entry.reply.cause for entry in told if isinstance(entry.reply, journal.Denied)}
         self.assertEqual(causes, {"not distinct", "missing", "not log"})
         self.assertEqual(pickle.loads(pickle.dumps(told)), told)
@@ -107,6 +111,27 @@ class Journals(unittest.TestCase):
             for entry in store.journal():
                 self.assertEqual(called(other, entry.worker, entry.deed), entry.reply)
             self.assertEqual(list(store.journal()), list(other.journal()))
+
+    def test_workers_that_come_and_go_are_read_back(self):
+        spawn, wanted = journal.Spawn(GRANT | INSPECT, Log(2)), []
+        with opened(1_000) as store:
+
+            def ask(worker, deed):
+                wanted.append(journal.Entry(worker, deed, called(store, worker, deed)))
+
+            for _ in range(64 - WORKERS):
+                ask(0, spawn)
+            for leaver in range(1, 30):
+                ask(0, spawn)
+                ask(leaver, journal.Retire())
+                ask(0, spawn)
+            self.assertEqual(store.subjects(), [0, *range(30, 93)])
+            told = list(store.journal())
+            self.assertEqual(told, wanted)
+            self.assertEqual(store.audit(), len(told))
+        self.assertEqual(sum(entry.reply == journal.WorkersFull() for entry in told), 29)
+        self.assertEqual(told[0], journal.Entry(0, spawn, journal.Name(WORKERS)))
+        self.assertIn(journal.Entry(1, journal.Retire(), journal.Done()), told)
 
     def test_past_the_end_is_refused(self):
         with opened() as store:

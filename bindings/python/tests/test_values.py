@@ -168,6 +168,9 @@ class Stores(unittest.TestCase):
         self.assertRaises(NotOpen, store.inspect, 0, 1)
         self.assertRaises(NotOpen, store.append, 0, 1, 5)
         self.assertRaises(NotOpen, store.create, 0, READ, Cell(0))
+        self.assertRaises(NotOpen, store.spawn, 0, READ, Cell(0))
+        self.assertRaises(NotOpen, store.retire, 0)
+        self.assertRaises(NotOpen, store.subjects)
         for call in (store.collect, store.census, store.entries, store.audit, store.__enter__):
             self.assertRaises(NotOpen, call)
         store.close()
@@ -241,6 +244,34 @@ class Stores(unittest.TestCase):
             self.assertEqual((store.label(0, name), store.label(1, name)), (FREE_U | FREE_V, FREE_V))
             store.remove(1, name, FREE_V)
             self.assert_denied(f"rwtgal is missing on 0->{name}", store.grant, 0, 1, name, 255)
+
+    def test_a_worker_comes_and_goes(self):
+        with opened() as store:
+            document = store.create(0, READ, Sum(40))
+            client = store.spawn(0, GRANT | INSPECT, Cell(0))
+            store.grant(0, client, document, READ)
+            self.assertEqual((store.read(client, document), store.subjects()), ([40], [0, 1, client]))
+            self.assertIsNone(store.retire(client))
+            for call, *arguments in ((store.read, client, document), (store.retire, client), (store.list, client)):
+                self.assertRaises(NoSuchWorker, call, *arguments)
+            self.assertEqual((store.subjects(), store.inspect(0, client)), ([0, 1], [(document, READ)]))
+            store.remove(0, client, GRANT | INSPECT)
+            self.assertEqual(store.collect(), 3)
+            self.assertEqual(store.spawn(1, READ, Log(2)), client + 1)
+            for wrong in (-1, 2**64):
+                self.assertRaises(OverflowError, store.retire, wrong)
+                self.assertRaises(OverflowError, store.spawn, wrong, READ, Cell(0))
+            self.assertRaises(TypeError, store.retire, None)
+            self.assertRaises(TypeError, store.spawn, 0, READ, None)
+            self.assertEqual(store.audit(), store.entries())
+
+    def test_a_worker_too_many_is_refused(self):
+        with Store([Cell(0)] * 64, limits=(1000, 100, 64)) as store:
+            self.assertRaises(kovshenul.WorkersFull, store.spawn, 0, READ, Cell(0))
+            self.assertEqual(store.subjects(), list(range(64)))
+            store.retire(7)
+            self.assertEqual(store.spawn(0, READ, Cell(0)), 64)
+            self.assertEqual((store.entries(), store.audit()), (3, 3))
 
     def test_a_long_row_is_shown(self):
         with Store([Cell(0)] * 2, [(1, 0, INSPECT)], (1000, 64, 64)) as store:

@@ -75,7 +75,7 @@ impl From<&RawDenial> for Denial {
 }
 
 /// Why a call was not served. `Denied` has its entry in the journal, and changed nothing else; of the others the store is as it
-/// was, but that `VerticesFull` has an entry.
+/// was, but that `VerticesFull` and `WorkersFull` have an entry.
 #[derive(Clone, Copy, PartialEq, Eq, Hash, Debug)]
 pub enum Error {
     /// The rules don't allow it.
@@ -86,6 +86,8 @@ pub enum Error {
     HeapFull,
     /// As many vertices were made as may be.
     VerticesFull,
+    /// As many workers are active as may be, which is 64.
+    WorkersFull,
     /// No worker has the name.
     NoSuchWorker,
     /// No right.
@@ -105,10 +107,11 @@ pub enum Error {
 }
 
 // The errors with a status of their own.
-const REFUSALS: [(Error, u32); 10] = [
+const REFUSALS: [(Error, u32); 11] = [
     (Error::OutOfMemory, 32),
     (Error::HeapFull, 33),
     (Error::VerticesFull, 34),
+    (Error::WorkersFull, 35),
     (Error::NoSuchWorker, 48),
     (Error::BadRights, 64),
     (Error::BadLaw, 65),

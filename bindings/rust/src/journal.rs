@@ -21,14 +21,18 @@ pub enum Deed {
     Inspect { target: u64 },
     /// To be shown one's own edges.
     List,
+    /// To be a worker no more.
+    Retire,
     /// To make a vertex that stores the value at first, and to have rights over it.
     Create { rights: Rights, value: Value },
+    /// To make a worker that stores the value at first, and to have rights over it.
+    Spawn { rights: Rights, value: Value },
 }
 
 /// What was answered.
 #[derive(Clone, PartialEq, Eq, Hash, Debug)]
 pub enum Reply {
-    /// A take, grant, remove, write or append was done.
+    /// A take, grant, remove, write, append or retire was done.
     Done,
     /// The rules didn't allow it.
     Denied(Denial),
@@ -40,6 +44,8 @@ pub enum Reply {
     Edges(Vec<Target>),
     /// None was made, since as many vertices were made as may be.
     VerticesFull,
+    /// No worker was made, since as many are active as may be.
+    WorkersFull,
 }
 
 /// An entry of the journal.
@@ -75,7 +81,12 @@ impl Deed {
             raw::DEED_APPEND => Deed::Append { target, value },
             raw::DEED_INSPECT => Deed::Inspect { target },
             raw::DEED_LIST => Deed::List,
+            raw::DEED_RETIRE => Deed::Retire,
             raw::DEED_CREATE => Deed::Create {
+                rights,
+                value: Value::told(record, numbers),
+            },
+            raw::DEED_SPAWN => Deed::Spawn {
                 rights,
                 value: Value::told(record, numbers),
             },
@@ -85,7 +96,7 @@ impl Deed {
 }
 
 impl Value {
-    // What a created vertex stored at first. A log begins with no number, and each other law with one.
+    // What a vertex that was made stored at first. A log begins with no number, and each other law with one.
     fn told(record: &RawRecord, numbers: &[u64]) -> Value {
         match record.law {
             raw::CELL => Value::Cell(numbers[0]),
@@ -106,6 +117,7 @@ impl Reply {
             raw::REPLY_VALUES => Reply::Values(numbers.to_vec()),
             raw::REPLY_EDGES => Reply::Edges(edges.iter().map(Target::from).collect()),
             raw::REPLY_VERTICES_FULL => Reply::VerticesFull,
+            raw::REPLY_WORKERS_FULL => Reply::WorkersFull,
             reply => unreachable!("interface {} has no reply {reply}", raw::ABI),
         }
     }

@@ -4,7 +4,7 @@ use std::ffi::c_void;
 use std::os::raw::c_char;
 
 /// The interface that this crate was written for.
-pub const ABI: u32 = 2;
+pub const ABI: u32 = 3;
 
 pub const DONE: u32 = 0;
 
@@ -34,7 +34,9 @@ pub const DEED_WRITE: u32 = 4;
 pub const DEED_APPEND: u32 = 5;
 pub const DEED_INSPECT: u32 = 6;
 pub const DEED_LIST: u32 = 8;
+pub const DEED_RETIRE: u32 = 9;
 pub const DEED_CREATE: u32 = 16;
+pub const DEED_SPAWN: u32 = 17;
 
 // What was answered to it.
 pub const REPLY_DONE: u32 = 0;
@@ -43,6 +45,7 @@ pub const REPLY_NAME: u32 = 2;
 pub const REPLY_VALUES: u32 = 3;
 pub const REPLY_EDGES: u32 = 4;
 pub const REPLY_VERTICES_FULL: u32 = 16;
+pub const REPLY_WORKERS_FULL: u32 = 17;
 
 /// A store, or none where all of it is zero.
 #[repr(C)]
@@ -140,6 +143,9 @@ extern "C" {
     pub fn tg_write(store: &mut RawStore, worker: u64, target: u64, value: u64, why: &mut RawDenial) -> u32;
     pub fn tg_append(store: &mut RawStore, worker: u64, target: u64, value: u64, why: &mut RawDenial) -> u32;
     pub fn tg_create(store: &mut RawStore, worker: u64, rights: u64, value: &RawValue, name: &mut u64) -> u32;
+    pub fn tg_spawn(store: &mut RawStore, worker: u64, rights: u64, value: &RawValue, name: &mut u64) -> u32;
+    pub fn tg_retire(store: &mut RawStore, worker: u64) -> u32;
+    pub fn tg_subjects(store: &mut RawStore, names: *mut u64, room: usize, count: &mut u64) -> u32;
     pub fn tg_read(
         store: &mut RawStore,
         worker: u64,

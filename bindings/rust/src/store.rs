@@ -8,6 +8,9 @@ use std::ptr::null_mut;
 /// The most numbers that a vertex can store.
 const MOST_NUMBERS: usize = 64;
 
+/// The most workers that are active at a time.
+const MOST_WORKERS: usize = 64;
+
 /// As many edges as the first list of a store has room for, or the first look at another's.
 const FIRST_ROW: usize = 64;
 
@@ -121,6 +124,42 @@ impl Store {
         let (value, mut name) = (RawValue::from(&value), 0);
         served(unsafe { raw::tg_create(&mut self.raw, worker, rights.bits(), &value, &mut name) })?;
         Ok(name)
+    }
+
+    /// Makes a worker over which the one who asks has the rights, and answers its name. It holds nothing until it is granted something.
+    /// At most 64 workers are active at a time, and no name is used again.
+    ///
+    /// ```
+    /// # use kovshenul::{Error, Limits, Rights, Store, Value};
+    /// # let limits = Limits { max_vertices: 10, max_blocks: 8, max_space_blocks: 4 };
+    /// let mut store = Store::open(&[Value::Cell(0)], &[], &limits)?;
+    /// let document = store.create(0, Rights::READ, Value::Sum(40))?;
+    /// let client = store.spawn(0, Rights::GRANT, Value::Cell(0))?;
+    /// store.grant(0, client, document, Rights::READ)?;
+    /// assert_eq!(store.read(client, document)?, [40]);
+    /// assert_eq!(store.subjects()?, [0, client]);
+    /// store.retire(client)?;
+    /// assert_eq!(store.read(client, document), Err(Error::NoSuchWorker));
+    /// assert_eq!(store.subjects()?, [0]);
+    /// # Ok::<(), Error>(())
+    /// ```
+    pub fn spawn(&mut self, worker: u64, rights: Rights, value: Value) -> Result<u64, Error> {
+        let (value, mut name) = (RawValue::from(&value), 0);
+        served(unsafe { raw::tg_spawn(&mut self.raw, worker, rights.bits(), &value, &mut name) })?;
+        Ok(name)
+    }
+
+    /// The worker retires, and asks for nothing more. Its vertex and its edges stay for as long as a worker reaches them. It is never
+    /// denied.
+    pub fn retire(&mut self, worker: u64) -> Result<(), Error> {
+        served(unsafe { raw::tg_retire(&mut self.raw, worker) })
+    }
+
+    /// The names of the active workers, rising. The journal gets no entry of it.
+    pub fn subjects(&mut self) -> Result<Vec<u64>, Error> {
+        let (mut names, mut count) = ([0; MOST_WORKERS], 0);
+        served(unsafe { raw::tg_subjects(&mut self.raw, names.as_mut_ptr(), names.len(), &mut count) })?;
+        Ok(names[..count as usize].to_vec())
     }
 
     /// The state of the target.

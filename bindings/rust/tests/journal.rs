@@ -26,11 +26,14 @@ fn call(store: &mut Store, worker: u64, deed: Deed) -> Reply {
         Deed::Append { target, value } => store.append(worker, target, value).map(|()| Reply::Done),
         Deed::Inspect { target } => store.inspect(worker, target).map(Reply::Edges),
         Deed::List => store.list(worker).map(Reply::Edges),
+        Deed::Retire => store.retire(worker).map(|()| Reply::Done),
         Deed::Create { rights, value } => store.create(worker, rights, value).map(Reply::Name),
+        Deed::Spawn { rights, value } => store.spawn(worker, rights, value).map(Reply::Name),
     };
     match answer {
         Err(Error::Denied(why)) => Reply::Denied(why),
         Err(Error::VerticesFull) => Reply::VerticesFull,
+        Err(Error::WorkersFull) => Reply::WorkersFull,
         other => other.unwrap(),
     }
 }
@@ -128,6 +131,33 @@ fn past_the_end_is_refused() {
         assert_eq!(error.to_string(), "the journal has no entry at the place");
     }
     assert_eq!(store.entries(), Ok(1));
+}
+
+// Workers come and go in the order of their names: one retires for each that is spawned, but for the first 62.
+#[test]
+fn workers_that_come_and_go_are_read_back() {
+    let mut store = opened(1000);
+    let spawn = Deed::Spawn {
+        rights: Rights::GRANT,
+        value: Value::Log(2),
+    };
+    let mut wanted = Vec::new();
+    let mut ask = |store: &mut Store, worker, deed| {
+        let reply = call(store, worker, deed);
+        wanted.push(Entry { worker, deed, reply });
+    };
+    (0..62).for_each(|_| ask(&mut store, 0, spawn));
+    assert_eq!(store.subjects(), Ok((0..64).collect()));
+    for leaver in 1..30 {
+        ask(&mut store, 0, spawn);
+        ask(&mut store, leaver, Deed::Retire);
+        ask(&mut store, 0, spawn);
+    }
+    assert_eq!(store.subjects(), Ok([0].into_iter().chain(30..93).collect()));
+    assert_eq!(wanted.iter().filter(|entry| entry.reply == Reply::WorkersFull).count(), 29);
+    let told: Vec<Entry> = store.journal().collect();
+    assert_eq!(told, wanted);
+    assert_eq!(store.audit(), Ok(told.len() as u64));
 }
 
 #[test]

@@ -132,6 +132,36 @@ fn rights_without_a_command_are_handed_on() {
 }
 
 #[test]
+fn a_retired_worker_asks_no_more() {
+    let mut store = opened(1);
+    let grant = Rights::GRANT | Rights::INSPECT;
+    assert_eq!(store.spawn(0, Rights::NONE, Value::Cell(0)), Err(Error::BadRights));
+    assert_eq!(store.spawn(0, grant, Value::Log(65)), Err(Error::BadLaw));
+    assert_eq!(store.spawn(1, grant, Value::Cell(0)), Err(Error::NoSuchWorker));
+    assert_eq!(store.spawn(0, grant, Value::Cell(0)), Ok(1));
+    let own = store.create(1, Rights::READ, Value::Cell(7)).unwrap();
+    assert_eq!((store.read(1, own), store.subjects()), (Ok(vec![7]), Ok(vec![0, 1])));
+    assert_eq!(store.retire(1), Ok(()));
+    assert_eq!((store.retire(1), store.read(1, own)), (Err(Error::NoSuchWorker), Err(Error::NoSuchWorker)));
+    assert_eq!(store.inspect(0, 1).unwrap().len(), 1);
+    assert_eq!((store.collect(Kind::Full), store.spawn(0, grant, Value::Cell(0))), (Ok(3), Ok(3)));
+    assert_eq!(store.subjects(), Ok(vec![0, 3]));
+    assert_eq!((store.remove(0, 1, grant), store.collect(Kind::Full)), (Ok(()), Ok(2)));
+    assert_eq!(store.audit(), store.entries());
+}
+
+#[test]
+fn a_worker_too_many_is_refused() {
+    let mut store = opened(64);
+    let error = store.spawn(0, Rights::GRANT, Value::Cell(0)).unwrap_err();
+    assert_eq!((error, error.status()), (Error::WorkersFull, 35));
+    assert_eq!(error.to_string(), "as many workers are active as may be");
+    assert_eq!((store.entries(), store.subjects().unwrap().len()), (Ok(1), 64));
+    assert_eq!((store.retire(63), store.spawn(0, Rights::GRANT, Value::Cell(0))), (Ok(()), Ok(64)));
+    assert_eq!(store.audit(), Ok(3));
+}
+
+#[test]
 fn openings_are_looked_at() {
     let open = |workers: &[Value], edges: &[Edge], limits: Limits| Store::open(workers, edges, &limits).err();
     let edge = |to, rights| Edge { from: 0, to, rights };

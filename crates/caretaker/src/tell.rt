@@ -13,6 +13,7 @@ pub fn tell_reply<R: Print>(rt: &R, asked: &str, reply: &Reply) -> io::Result<()
         Reply::Edges(edges) => println!(rt; "{asked}: ok, {} edges", edges.as_slice().len()),
         Reply::Denied(denial) => tell_denial(rt, asked, denial),
         Reply::VerticesFull => println!(rt; "{asked}: no more vertices may be made"),
+        Reply::WorkersFull => println!(rt; "{asked}: no more subjects may be active"),
     }
 }
 

@@ -1,5 +1,5 @@
 //! The journal of the script `grant_then_denied_write`, written by hand, as it is, altered and damaged; and journals of appends and
-//! inspections.
+//! inspections, and of subjects that come and go.
 
 use std::alloc::{AllocError, Global};
 use std::test::Fail;
@@ -64,6 +64,12 @@ enum Said {
     Handed,
     // worker 0 is told that it has these rights over worker 1, and nothing else
     Inspected(&'static str),
+    // worker 0 makes a subject
+    Spawned,
+    // worker 0 is told that 64 subjects are active
+    Crowded,
+    // this worker retires
+    Retired(u64),
 }
 
 fn entry(alloc: Global, said: Said) -> Result<Entry, Fail> {
@@ -79,6 +85,9 @@ fn entry(alloc: Global, said: Said) -> Result<Entry, Fail> {
         Said::NotLog => appended(Reply::Denied(not_log())),
         Said::Handed => granted(2, 1, label("t")?),
         Said::Inspected(letters) => inspected(alloc, label(letters)?)?,
+        Said::Spawned => spawned(Reply::Name(2), label("r")?),
+        Said::Crowded => spawned(Reply::WorkersFull, label("r")?),
+        Said::Retired(worker) => retired(worker),
     })
 }
 
@@ -88,6 +97,28 @@ fn created(law: Law, state: Numbers, label: Label) -> Entry {
         worker: 0,
         deed: Deed::Create { label, law, state },
         reply: Reply::Name(2),
+    }
+}
+
+// Worker 0 asks for a subject.
+fn spawned(reply: Reply, label: Label) -> Entry {
+    Entry {
+        worker: 0,
+        deed: Deed::Spawn {
+            label,
+            law: Law::Cell,
+            state: Numbers::one(0),
+        },
+        reply,
+    }
+}
+
+// A worker retires.
+fn retired(worker: u64) -> Entry {
+    Entry {
+        worker,
+        deed: Deed::Plain(Command::Retire),
+        reply: Reply::Done,
     }
 }
 
@@ -191,7 +222,7 @@ fn audited(alloc: Global, entries: &[Said]) -> Result<Option<u64>, Fail> {
 }
 
 // The journals, and which entry of each is blamed.
-static JOURNALS: [(&'static [Said], Option<u64>); 12] = [
+static JOURNALS: [(&'static [Said], Option<u64>); 16] = [
     (
         &[Said::Created, Said::Granted, Said::Read(0), Said::Denied(1)],
         None,
@@ -247,6 +278,14 @@ static JOURNALS: [(&'static [Said], Option<u64>); 12] = [
     (&[Said::Logged, Said::NotLog], Some(1)),
     (&[Said::Appendable, Said::NotLog], None),
     (&[Said::Appendable, Said::Appended], Some(1)),
+    // a new subject retires; then it acts after that, an object acts, and a subject too many is told where there is room
+    (&[Said::Spawned, Said::Retired(2), Said::Retired(0)], None),
+    (
+        &[Said::Spawned, Said::Retired(2), Said::Retired(2)],
+        Some(2),
+    ),
+    (&[Said::Created, Said::Retired(2)], Some(1)),
+    (&[Said::Crowded], Some(0)),
 ];
 
 #[test]

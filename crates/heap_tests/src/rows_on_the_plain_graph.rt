@@ -12,6 +12,7 @@ use tg_rights::{Label, Right, Rights};
 #[derive(Clone, Copy)]
 enum Ask {
     Create(&'static str, Law),
+    Spawn(&'static str),
     Take(u64, u64, &'static str),
     Grant(u64, u64, &'static str),
     Remove(u64, &'static str),
@@ -20,6 +21,7 @@ enum Ask {
     Append(u64, u64),
     Inspect(u64),
     List,
+    Retire,
 }
 
 // What is to be answered.
@@ -33,6 +35,7 @@ enum Want {
     Missing(Rule, u64, u64, &'static str),
     NotLog(Rule),
     VerticesFull,
+    WorkersFull,
     NoSuchWorker,
 }
 
@@ -101,6 +104,13 @@ fn deed(ask: &Ask) -> Deed {
                 state: first_state(*law),
             };
         }
+        Ask::Spawn(letters) => {
+            return Deed::Spawn {
+                label: label(letters),
+                law: Law::Cell,
+                state: first_state(Law::Cell),
+            };
+        }
         Ask::Take(via, target, letters) => Command::Take {
             via: *via,
             target: *target,
@@ -126,6 +136,7 @@ fn deed(ask: &Ask) -> Deed {
         },
         Ask::Inspect(target) => Command::Inspect { target: *target },
         Ask::List => Command::List,
+        Ask::Retire => Command::Retire,
     };
     Deed::Plain(command)
 }
@@ -169,6 +180,7 @@ fn is_wanted(reply: &Reply, want: &Want) -> bool {
             })
         }
         (Reply::VerticesFull, Want::VerticesFull) => true,
+        (Reply::WorkersFull, Want::WorkersFull) => true,
         _ => false,
     }
 }
@@ -206,7 +218,7 @@ struct WorkedRun<'a> {
     lines: &'a [(u64, Ask, Want)],
 }
 
-static RUNS: [WorkedRun<'static>; 16] = [
+static RUNS: [WorkedRun<'static>; 20] = [
     WorkedRun {
         name: "grant_then_denied_write",
         workers: 2,
@@ -463,6 +475,59 @@ static RUNS: [WorkedRun<'static>; 16] = [
             ),
             (0, Ask::Take(1, 2, "v"), Want::Done),
             (0, Ask::List, Want::Edges(&[(1, "tg"), (2, "uv")])),
+        ],
+    },
+    WorkedRun {
+        name: "spawn_and_retire",
+        workers: 1,
+        max_vertices: 1000,
+        edges: &[],
+        lines: &[
+            (0, Ask::Spawn("g"), Want::Name(1)),
+            (1, Ask::Create("r", Law::Cell), Want::Name(2)),
+            (0, Ask::Remove(1, "g"), Want::Done),
+            (1, Ask::Retire, Want::Done),
+            (1, Ask::List, Want::NoSuchWorker),
+        ],
+    },
+    WorkedRun {
+        name: "sixty_four_subjects",
+        workers: 64,
+        max_vertices: 1000,
+        edges: &[],
+        lines: &[
+            (0, Ask::Spawn("r"), Want::WorkersFull),
+            (63, Ask::Retire, Want::Done),
+            (0, Ask::Spawn("r"), Want::Name(64)),
+            (64, Ask::List, Want::Edges(&[])),
+        ],
+    },
+    WorkedRun {
+        name: "the_limit_of_vertices_is_told_before_that_of_subjects",
+        workers: 64,
+        max_vertices: 64,
+        edges: &[],
+        lines: &[(0, Ask::Spawn("r"), Want::VerticesFull)],
+    },
+    WorkedRun {
+        name: "what_one_who_retired_leaves",
+        workers: 2,
+        max_vertices: 1000,
+        edges: &[(0, 1, "wtgl")],
+        lines: &[
+            (1, Ask::Create("rw", Law::Sum), Want::Name(2)),
+            (1, Ask::Retire, Want::Done),
+            (1, Ask::Retire, Want::NoSuchWorker),
+            (1, Ask::Spawn("r"), Want::NoSuchWorker),
+            (2, Ask::Create("r", Law::Cell), Want::NoSuchWorker),
+            (9, Ask::Spawn("r"), Want::NoSuchWorker),
+            (0, Ask::Inspect(1), Want::Edges(&[(2, "rw")])),
+            (0, Ask::Take(1, 2, "r"), Want::Done),
+            (0, Ask::Grant(1, 2, "r"), Want::Done),
+            (0, Ask::Write(1, 5), Want::Done),
+            (0, Ask::Spawn("rt"), Want::Name(3)),
+            (3, Ask::Retire, Want::Done),
+            (0, Ask::Read(3), Want::Values(&[0])),
         ],
     },
 ];

@@ -6,7 +6,7 @@ use tg_rights::{Right, Rights};
 use tg_space::{Adoption, Kind, Limits, Space, Spaces};
 use tg_word::{Place, Slot, pack, unpack};
 
-// The spaces of two workers, with two blocks of two: 64 cells were allocated for worker 0, and then one for worker 1.
+// The spaces of two nurseries, with two blocks of two: 64 cells were allocated in nursery 0, and then one in nursery 1.
 fn filled(alloc: Global) -> Result<Spaces, Fail> {
     let mut spaces = Spaces::new(alloc, 2, Limits::new(2, 2)?)?;
     if !is_filled(&mut spaces) {
@@ -25,22 +25,22 @@ fn is_filled(spaces: &mut Spaces) -> bool {
     is_next(spaces, 1, 0)
 }
 
-// Whether the next cell of the worker's nursery is this one of its first block.
-fn is_next(spaces: &mut Spaces, worker: u64, cell: u64) -> bool {
+// Whether the next cell of the nursery is this one of its first block.
+fn is_next(spaces: &mut Spaces, nursery: u64, cell: u64) -> bool {
     let wanted = Place {
-        space: worker.wrapping_add(2),
+        space: nursery.wrapping_add(2),
         block: 0,
         cell,
     };
-    next_cell(spaces, worker) == Some(Ok(wanted))
+    next_cell(spaces, nursery) == Some(Ok(wanted))
 }
 
-// The next cell of the worker's nursery, where there is one for it.
-fn next_cell(spaces: &mut Spaces, worker: u64) -> Option<Result<Place, AllocateFault>> {
-    if worker > 1 || spaces.nurseries() != 2 {
+// The next cell of the nursery, where there is such a nursery.
+fn next_cell(spaces: &mut Spaces, nursery: u64) -> Option<Result<Place, AllocateFault>> {
+    if nursery > 1 || spaces.nurseries() != 2 {
         return None;
     }
-    Some(allocate(spaces, worker))
+    Some(allocate(spaces, nursery))
 }
 
 // Whether the word reads as this slot, and what is read packs into the word.
@@ -112,7 +112,7 @@ fn nurseries_fill_and_refuse(rt: HostRuntime) -> Result<(), Fail> {
     Ok(())
 }
 
-// The first cell of worker 1, which stands behind the 64 of worker 0.
+// The first cell of nursery 1, which stands behind the 64 of nursery 0.
 #[test]
 fn flat_numbers(rt: HostRuntime) -> Result<(), Fail> {
     let spaces = filled(rt.alloc())?;

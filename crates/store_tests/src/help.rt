@@ -22,7 +22,11 @@ fn help_is_true(rt: HostRuntime) -> Result<(), Fail> {
     let alloc = rt.alloc();
     let text = help_text(alloc)?;
     let lines: [(&str, u64, &str); 11] = [
-        ("How many workers there are, from 1 to ", MAX_WORKERS, ". "),
+        (
+            "How many workers there are at first, from 1 to ",
+            MAX_WORKERS,
+            ". ",
+        ),
         ("[default: ", DEFAULT_WORKERS, "]"),
         (
             "How many threads a collection may use, from 1 to ",

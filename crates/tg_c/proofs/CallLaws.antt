@@ -96,6 +96,7 @@ reply_fits (command.Write target value) g x = denied_or_told (λ r. IsDoneOrDeni
 reply_fits (command.Append target value) g x = denied_or_told (λ r. IsDoneOrDenied r) (denial_of g.label g.value x (command.Append target value)) Done (λ why. tt) tt
 reply_fits (command.Inspect target) g x = denied_or_told (λ r. IsListedOrDenied r) (denial_of g.label g.value x (command.Inspect target)) (Edges (listing_of g.label g.made target)) (λ why. tt) tt
 reply_fits command.List g x = tt
+reply_fits command.Retire g x = tt
 
 or_else : {X : Type 0} → X → Option X → X
 or_else other None = other

@@ -1,6 +1,6 @@
 -- What the calls of C do to a place and its store. Each but the opening is a call on a place: a closed one is refused
 -- as that, and on an open one the store's answer is told, of which the clauses of the store's own call hold.
-use Rattle.std.specs.Prelude.{◌≡◌, ◌≢◌, ◌↔◌, ◌⊎◌, ◌≤◌, ◌+◌, ◌==◌, ℕ, true, false, List, [], ◌∷◌, Some, Result, Ok, Err, IfOk, IfErr, OnOk, OnErr, length}
+use Rattle.std.specs.Prelude.{◌≡◌, ◌≢◌, ◌↔◌, ◌⊎◌, ◌≤◌, ◌<◌, ◌==◌, ℕ, true, false, List, [], ◌∷◌, Some, Result, Ok, Err, IfOk, IfErr, OnOk, OnErr, length}
 use Rattle.std.specs.List.{IsDistinct}
 use Rattle.tg_rights.specs.RightSet.{RightSet, bits_of}
 use Rattle.tg_model.specs.Graph.{ProtectionGraph, IsSubject, IsReachable}
@@ -8,7 +8,8 @@ use Rattle.tg_model.specs.Rules.{IsAllowed, step, answer_of}
 use Rattle.tg_model.specs.Opened.{HasLimits, HasWorkers, start_of}
 use Rattle.tg_model.specs.declared.command.Command.{Command}
 use Rattle.tg_model.specs.declared.command.Command.TheVariants as command
-use Rattle.tg_model.specs.declared.command.Deed.TheVariants.{Plain, Create}
+use Rattle.tg_model.specs.declared.command.Deed.TheVariants.{Plain, Create, Spawn}
+use Rattle.tg_model.specs.declared.opening.TheConstants.{MAX_WORKERS}
 use Rattle.tg_model.specs.declared.reply.Denial.{Denial}
 use Rattle.tg_model.specs.declared.reply.Reply.{Reply}
 use Rattle.tg_model.specs.declared.reply.Reply.TheVariants as reply
@@ -19,7 +20,8 @@ use Rattle.tg_space.specs.SpaceList.{block_count, space_of}
 use Rattle.tg_space.specs.SpaceTable.{AreLimits, limits_of}
 use Rattle.tg_payload.specs.Table.{count}
 use Rattle.tg_graph.specs.Content.{IsNamed}
-use Rattle.tg_graph.specs.Heap.{content_of}
+use Rattle.tg_word.specs.Word.{nursery_space}
+use Rattle.tg_graph.specs.Heap.{content_of, nursery_of}
 use Rattle.tg_graph.specs.Kept.{VerticesOfOldStay}
 use Rattle.tg_graph.specs.Shown.{shown_in}
 use Rattle.tg_graph.specs.Spots.{IsMadeInRow, LacksCellsFor}
@@ -80,7 +82,7 @@ pub record Applies (worker : ℕ) (asked : Command) (old new : StoreState) (answ
   pub denied : (denial : Denial) → answer ≡ Ok (reply.Denied denial) → OnlyEnters old new worker (Plain asked) (reply.Denied denial)
   pub no_such_worker : (g : ProtectionGraph) → StandsFor old g → (answer ≡ Err apply.NoSuchWorker) ↔ (¬ IsSubject g worker)
   pub full : (g : ProtectionGraph) → StandsFor old g → answer ≡ Err apply.HeapFull →
-      IsAllowed g worker (Plain asked) × AddsEdge asked × LacksCellsToServe old.heap.table worker asked
+      IsAllowed g worker (Plain asked) × AddsEdge asked × LacksCellsToServe old.heap.table (nursery_of old.heap worker) worker asked
   pub refused : OnErr answer (IsUnchanged old new)
   pub opening : new.opening ≡ old.opening
   pub limits : new.heap.table.limits ≡ old.heap.table.limits
@@ -96,6 +98,7 @@ IsDoneOrDenied (reply.Name name) = ⊥
 IsDoneOrDenied (reply.Values values) = ⊥
 IsDoneOrDenied (reply.Edges edges) = ⊥
 IsDoneOrDenied reply.VerticesFull = ⊥
+IsDoneOrDenied reply.WorkersFull = ⊥
 
 abbrev pub IsReadOrDenied : Reply → Type 0
 IsReadOrDenied (reply.Values values) = Unit {0}
@@ -104,6 +107,7 @@ IsReadOrDenied reply.Done = ⊥
 IsReadOrDenied (reply.Name name) = ⊥
 IsReadOrDenied (reply.Edges edges) = ⊥
 IsReadOrDenied reply.VerticesFull = ⊥
+IsReadOrDenied reply.WorkersFull = ⊥
 
 abbrev pub IsListed : Reply → Type 0
 IsListed (reply.Edges edges) = Unit {0}
@@ -112,6 +116,7 @@ IsListed (reply.Denied denial) = ⊥
 IsListed (reply.Name name) = ⊥
 IsListed (reply.Values values) = ⊥
 IsListed reply.VerticesFull = ⊥
+IsListed reply.WorkersFull = ⊥
 
 abbrev pub IsListedOrDenied : Reply → Type 0
 IsListedOrDenied (reply.Edges edges) = Unit {0}
@@ -120,6 +125,16 @@ IsListedOrDenied reply.Done = ⊥
 IsListedOrDenied (reply.Name name) = ⊥
 IsListedOrDenied (reply.Values values) = ⊥
 IsListedOrDenied reply.VerticesFull = ⊥
+IsListedOrDenied reply.WorkersFull = ⊥
+
+abbrev pub IsDone : Reply → Type 0
+IsDone reply.Done = Unit {0}
+IsDone (reply.Denied denial) = ⊥
+IsDone (reply.Name name) = ⊥
+IsDone (reply.Values values) = ⊥
+IsDone (reply.Edges edges) = ⊥
+IsDone reply.VerticesFull = ⊥
+IsDone reply.WorkersFull = ⊥
 
 abbrev pub IsReplyTo : Command → Reply → Type 0
 IsReplyTo (command.Take rights via target) r = IsDoneOrDenied r
@@ -130,6 +145,7 @@ IsReplyTo (command.Append target value) r = IsDoneOrDenied r
 IsReplyTo (command.Read target) r = IsReadOrDenied r
 IsReplyTo (command.Inspect target) r = IsListedOrDenied r
 IsReplyTo command.List r = IsListed r
+IsReplyTo command.Retire r = IsDone r
 
 -- ---- creates
 
@@ -139,14 +155,15 @@ pub record Creates (worker : ℕ) (label : RightSet) (value : Value) (old new : 
   pub named : (g : ProtectionGraph) → StandsFor old g → IfOk answer (λ name. answer_of g worker (Create label value.law value.state) ≡ reply.Name name)
   pub next : (g : ProtectionGraph) → StandsFor old g → OnOk answer (StandsFor new (step g worker (Create label value.law value.state)))
   pub stored : IfOk answer (λ name. IsNamed (content_of new.heap) name × ((content_of new.heap).value name ≡ Some value))
-  pub placed : IfOk answer (λ name. IsMadeInRow old.heap.table new.heap.table old.heap.remembered new.heap.remembered (worker + 2) worker name label)
+  pub placed : IfOk answer (λ name. IsMadeInRow old.heap.table new.heap.table old.heap.remembered new.heap.remembered (nursery_space (nursery_of old.heap worker)) worker name label)
   pub no_such_worker : (g : ProtectionGraph) → StandsFor old g → (answer ≡ Err create.NoSuchWorker) ↔ (¬ IsSubject g worker)
   pub no_more : (g : ProtectionGraph) → StandsFor old g → answer ≡ Err create.VerticesFull → IsSubject g worker × (g.limit ≤ g.made)
   pub exhausted : (g : ProtectionGraph) → StandsFor old g → IsSubject g worker → g.limit ≤ g.made →
       (answer ≡ Err create.VerticesFull) ⊎ (answer ≡ Err create.OutOfMemory)
   pub no_more_entry : answer ≡ Err create.VerticesFull → OnlyEnters old new worker (Create label value.law value.state) reply.VerticesFull
   pub full : (g : ProtectionGraph) → StandsFor old g → answer ≡ Err create.HeapFull →
-      IsAllowed g worker (Create label value.law value.state) × LacksCellsFor old.heap.table (worker + 2) 1 worker g.made
+      IsAllowed g worker (Create label value.law value.state) × LacksCellsFor old.heap.table (nursery_space (nursery_of old.heap worker)) 1 worker g.made
+  pub no_workers_full : answer ≢ Err create.WorkersFull
   pub refused : IfErr answer (λ why. why ≢ create.VerticesFull → IsUnchanged old new)
   pub same_graph : (g : ProtectionGraph) → StandsFor old g → OnErr answer (StandsFor new g)
   pub opening : new.opening ≡ old.opening
@@ -154,6 +171,32 @@ pub record Creates (worker : ℕ) (label : RightSet) (value : Value) (old new : 
 
 abbrev pub Makes : StorePlace → StorePlace → ℕ → RightSet → Value → (Result ℕ CallRefusal → Type 0) → Type 0
 Makes old new worker label value = IsCall of_create (Creates worker label value) old new
+
+-- the answer to a spawn of a worker: the clauses of the store's `spawn`
+pub record Spawns (worker : ℕ) (label : RightSet) (value : Value) (old new : StoreState) (answer : Result ℕ CreateFault) : Type 0 where
+  pub entry : IfOk answer (λ name. Enters old new worker (Spawn label value.law value.state) (reply.Name name))
+  pub named : (g : ProtectionGraph) → StandsFor old g → IfOk answer (λ name. answer_of g worker (Spawn label value.law value.state) ≡ reply.Name name)
+  pub next : (g : ProtectionGraph) → StandsFor old g → OnOk answer (StandsFor new (step g worker (Spawn label value.law value.state)))
+  pub stored : IfOk answer (λ name. IsNamed (content_of new.heap) name × ((content_of new.heap).value name ≡ Some value))
+  pub placed : IfOk answer (λ name. IsMadeInRow old.heap.table new.heap.table old.heap.remembered new.heap.remembered (nursery_space (nursery_of old.heap worker)) worker name label)
+  pub no_such_worker : (g : ProtectionGraph) → StandsFor old g → (answer ≡ Err create.NoSuchWorker) ↔ (¬ IsSubject g worker)
+  pub no_more : (g : ProtectionGraph) → StandsFor old g → answer ≡ Err create.VerticesFull → IsSubject g worker × (g.limit ≤ g.made)
+  pub exhausted : (g : ProtectionGraph) → StandsFor old g → IsSubject g worker → g.limit ≤ g.made →
+      (answer ≡ Err create.VerticesFull) ⊎ (answer ≡ Err create.OutOfMemory)
+  pub no_more_entry : answer ≡ Err create.VerticesFull → OnlyEnters old new worker (Spawn label value.law value.state) reply.VerticesFull
+  pub full : (g : ProtectionGraph) → StandsFor old g → answer ≡ Err create.HeapFull →
+      IsAllowed g worker (Spawn label value.law value.state) × LacksCellsFor old.heap.table (nursery_space (nursery_of old.heap worker)) 1 worker g.made
+  pub too_many : (g : ProtectionGraph) → StandsFor old g → answer ≡ Err create.WorkersFull → IsSubject g worker × (g.made < g.limit) × (MAX_WORKERS ≤ length g.subjects)
+  pub crowded : (g : ProtectionGraph) → StandsFor old g → IsSubject g worker → g.made < g.limit → MAX_WORKERS ≤ length g.subjects →
+      (answer ≡ Err create.WorkersFull) ⊎ (answer ≡ Err create.OutOfMemory)
+  pub too_many_entry : answer ≡ Err create.WorkersFull → OnlyEnters old new worker (Spawn label value.law value.state) reply.WorkersFull
+  pub refused : IfErr answer (λ why. why ≢ create.VerticesFull → why ≢ create.WorkersFull → IsUnchanged old new)
+  pub same_graph : (g : ProtectionGraph) → StandsFor old g → OnErr answer (StandsFor new g)
+  pub opening : new.opening ≡ old.opening
+  pub limits : new.heap.table.limits ≡ old.heap.table.limits
+
+abbrev pub MakesSubject : StorePlace → StorePlace → ℕ → RightSet → Value → (Result ℕ CallRefusal → Type 0) → Type 0
+MakesSubject old new worker label value = IsCall of_create (Spawns worker label value) old new
 
 -- ---- collections
 
@@ -199,6 +242,14 @@ pub record AreNames (old new : StoreState) (answer : Result (List ℕ) CallRefus
 
 abbrev pub AsksNames : StorePlace → StorePlace → (Result (List ℕ) CallRefusal → Type 0) → Type 0
 AsksNames old new = IsCall (λ why. why) AreNames old new
+
+-- the names of the active subjects, rising
+pub record AreSubjectNames (old new : StoreState) (answer : Result (List ℕ) CallRefusal) : Type 0 where
+  pub same : new ≡ old
+  pub names : (g : ProtectionGraph) → StandsFor old g → answer ≡ Ok g.subjects
+
+abbrev pub AsksSubjects : StorePlace → StorePlace → (Result (List ℕ) CallRefusal → Type 0) → Type 0
+AsksSubjects old new = IsCall (λ why. why) AreSubjectNames old new
 
 -- names were put into a room as far as it goes, and how many there are was answered; or the call was refused, and the room is as it was
 abbrev pub IsShown : List ℕ → List ℕ → Result ℕ CallRefusal → Result (List ℕ) CallRefusal → Type 0

@@ -4,11 +4,11 @@ use Rattle.tg_rights.specs.RightSet.{RightSet, bits_of}
 use Rattle.tg_model.specs.declared.command.Command.{Command}
 use Rattle.tg_model.specs.declared.command.Command.TheVariants as command
 use Rattle.tg_model.specs.declared.command.Deed.{Deed}
-use Rattle.tg_model.specs.declared.command.Deed.TheVariants.{Plain, Create}
+use Rattle.tg_model.specs.declared.command.Deed.TheVariants.{Plain, Create, Spawn}
 use Rattle.tg_model.specs.declared.law.Law.{Law}
 use Rattle.tg_model.specs.declared.law.Law.TheVariants as law
 use Rattle.tg_model.specs.declared.reply.Reply.{Reply}
-use Rattle.tg_model.specs.declared.reply.Reply.TheVariants.{Done, Denied, Name, Values, Edges, VerticesFull}
+use Rattle.tg_model.specs.declared.reply.Reply.TheVariants.{Done, Denied, Name, Values, Edges, VerticesFull, WorkersFull}
 use Rattle.tg_journal.specs.declared.entry.Entry.{Entry}
 use Rattle.tg_c.specs.declared.forms.DenialOut.{DenialOut}
 use Rattle.tg_c.specs.declared.records.DeedOut.{DeedOut}
@@ -41,11 +41,17 @@ command_out (command.Write target value) = asked 4 0 target 0 value
 command_out (command.Append target value) = asked 5 0 target 0 value
 command_out (command.Inspect target) = asked 6 0 target 0 0
 command_out command.List = asked 8 0 0 0 0
+command_out command.Retire = asked 9 0 0 0 0
+
+-- the making of a vertex, an object or a subject
+abbrev pub making_out : ℕ → RightSet → Law → DeedOut
+making_out kind label law =
+    record { kind = kind; law = (law_out law).0; most = (law_out law).1; via = 0; target = 0; rights = bits_of label; value = 0 }
 
 abbrev pub deed_out : Deed → DeedOut
 deed_out (Plain asked_for) = command_out asked_for
-deed_out (Create label law state) =
-    record { kind = 16; law = (law_out law).0; most = (law_out law).1; via = 0; target = 0; rights = bits_of label; value = 0 }
+deed_out (Create label law state) = making_out 16 label law
+deed_out (Spawn label law state) = making_out 17 label law
 
 -- ---- the reply
 
@@ -62,6 +68,7 @@ reply_out (Name name) = answered 2 name
 reply_out (Values values) = answered 3 0
 reply_out (Edges edges) = answered 4 0
 reply_out VerticesFull = answered 16 0
+reply_out WorkersFull = answered 17 0
 
 -- ---- the lists
 
@@ -73,6 +80,7 @@ values_in (Denied denial) = []
 values_in (Name name) = []
 values_in (Edges edges) = []
 values_in VerticesFull = []
+values_in WorkersFull = []
 
 abbrev pub edges_in : Reply → List (ℕ × RightSet)
 edges_in (Edges edges) = edges
@@ -81,10 +89,12 @@ edges_in (Denied denial) = []
 edges_in (Name name) = []
 edges_in (Values values) = []
 edges_in VerticesFull = []
+edges_in WorkersFull = []
 
--- the numbers of a create are those that the vertex stored at first
+-- the numbers of a create or a spawn are those that the vertex stored at first
 abbrev pub numbers_in : Deed → Reply → List ℕ
 numbers_in (Create label law state) r = state
+numbers_in (Spawn label law state) r = state
 numbers_in (Plain asked_for) r = values_in r
 
 abbrev pub numbers_of : Entry → List ℕ

@@ -3,7 +3,7 @@ use Rattle.std.specs.Prelude.{◌≡◌, ℕ, List, Result, Ok, Err, length}
 use Rattle.tg_model.specs.declared.opening.OpeningFault.{OpeningFault}
 use Rattle.tg_model.specs.declared.opening.OpeningFault.TheVariants as opening
 use Rattle.tg_model.specs.declared.reply.Reply.{Reply}
-use Rattle.tg_model.specs.declared.reply.Reply.TheVariants.{Done, Name, Values, Edges, Denied, VerticesFull}
+use Rattle.tg_model.specs.declared.reply.Reply.TheVariants.{Done, Name, Values, Edges, Denied, VerticesFull, WorkersFull}
 use Rattle.tg_store.specs.declared.census.Census.{Census}
 use Rattle.tg_store.specs.declared.fault.OpenFault.{OpenFault}
 use Rattle.tg_store.specs.declared.fault.OpenFault.TheVariants as opened
@@ -35,6 +35,7 @@ status_of refusal.AlreadyOpen = 17
 status_of refusal.OutOfMemory = 32
 status_of refusal.HeapFull = 33
 status_of refusal.VerticesFull = 34
+status_of refusal.WorkersFull = 35
 status_of refusal.NoSuchWorker = 48
 status_of refusal.BadRights = 64
 status_of refusal.BadLaw = 65
@@ -67,6 +68,7 @@ of_apply apply.HeapFull = refusal.HeapFull
 abbrev pub of_create : CreateFault → CallRefusal
 of_create create.NoSuchWorker = refusal.NoSuchWorker
 of_create create.VerticesFull = refusal.VerticesFull
+of_create create.WorkersFull = refusal.WorkersFull
 of_create create.OutOfMemory = refusal.OutOfMemory
 of_create create.HeapFull = refusal.HeapFull
 
@@ -93,7 +95,19 @@ TellsDone status old new (Ok (Name name)) = ⊥
 TellsDone status old new (Ok (Values values)) = ⊥
 TellsDone status old new (Ok (Edges edges)) = ⊥
 TellsDone status old new (Ok VerticesFull) = ⊥
+TellsDone status old new (Ok WorkersFull) = ⊥
 TellsDone status old new (Err why) = (status ≡ status_of why) × (new ≡ old)
+
+-- of a retire, which is answered by no more than that it was done
+abbrev pub TellsRetired : ℕ → Result Reply CallRefusal → Type 0
+TellsRetired status (Ok Done) = status ≡ 0
+TellsRetired status (Ok (Denied denial)) = ⊥
+TellsRetired status (Ok (Name name)) = ⊥
+TellsRetired status (Ok (Values values)) = ⊥
+TellsRetired status (Ok (Edges edges)) = ⊥
+TellsRetired status (Ok VerticesFull) = ⊥
+TellsRetired status (Ok WorkersFull) = ⊥
+TellsRetired status (Err why) = status ≡ status_of why
 
 -- the out parameters of a read
 pub record ReadOut : Type 0 where
@@ -110,6 +124,7 @@ TellsRead status old new (Ok Done) = ⊥
 TellsRead status old new (Ok (Name name)) = ⊥
 TellsRead status old new (Ok (Edges edges)) = ⊥
 TellsRead status old new (Ok VerticesFull) = ⊥
+TellsRead status old new (Ok WorkersFull) = ⊥
 TellsRead status old new (Err why) = (status ≡ status_of why) × (new ≡ old)
 
 -- the out parameters of a list, which is never denied
@@ -124,6 +139,7 @@ TellsList status old new (Ok (Denied denial)) = ⊥
 TellsList status old new (Ok (Name name)) = ⊥
 TellsList status old new (Ok (Values values)) = ⊥
 TellsList status old new (Ok VerticesFull) = ⊥
+TellsList status old new (Ok WorkersFull) = ⊥
 TellsList status old new (Err why) = (status ≡ status_of why) × (new ≡ old)
 
 -- the out parameters of an inspect
@@ -141,6 +157,7 @@ TellsInspect status old new (Ok Done) = ⊥
 TellsInspect status old new (Ok (Name name)) = ⊥
 TellsInspect status old new (Ok (Values values)) = ⊥
 TellsInspect status old new (Ok VerticesFull) = ⊥
+TellsInspect status old new (Ok WorkersFull) = ⊥
 TellsInspect status old new (Err why) = (status ≡ status_of why) × (new ≡ old)
 
 -- of a create, a collection, a count and an audit

@@ -62,7 +62,7 @@ fn check_rights(edges: &[EdgeIn]) -> Result<(), CallRefusal>
     Ok(())
 }
 
-// Whether each edge joins two different workers, of which there are so many.
+// Whether each edge joins two different workers below `workers`.
 fn check_ends(workers: u64, edges: &[EdgeIn]) -> Result<(), CallRefusal>
     ensures { MatchResult result (λ _. JoinWorkers workers edges.now) (λ why. (¬ JoinWorkers workers edges.now) × (why ≡ CallRefusal.BadEdge)) }
 {

@@ -1,6 +1,6 @@
 //! The journal's entries for C: a struct of numbers, and beside it the lists that an entry has.
 ghost use Rattle.std.specs.Prelude.{◌≡◌};
-ghost use Rattle.tg_c.specs.Records.{answered as answered_told, asked as asked_told, command_out as command_told, deed_out as deed_told, edges_of as edges_told, law_out as law_told, numbers_of as numbers_told, record_of, reply_out as reply_told};
+ghost use Rattle.tg_c.specs.Records.{answered as answered_told, asked as asked_told, command_out as command_told, deed_out as deed_told, making_out as making_told, edges_of as edges_told, law_out as law_told, numbers_of as numbers_told, record_of, reply_out as reply_told};
 
 use crate::forms::{DenialOut, denial_out, rights_out};
 use tg_journal::Entry;
@@ -13,19 +13,20 @@ use tg_rights::Label;
 pub struct RecordOut {
     /// The worker that asked.
     pub worker: u64,
-    /// What it asked for: 0 take, 1 grant, 2 remove, 3 read, 4 write, 5 append, 6 inspect, 8 list, 16 create.
+    /// What it asked for: 0 take, 1 grant, 2 remove, 3 read, 4 write, 5 append, 6 inspect, 8 list, 9 retire, 16 create, 17 spawn.
     pub deed: u32,
-    /// What was answered: 0 done, 1 denied, 2 a name, 3 values, 4 edges, 16 that no more vertices may be made.
+    /// What was answered: 0 done, 1 denied, 2 a name, 3 values, 4 edges, 16 that no more vertices may be made, 17 that no
+    /// more subjects may be active.
     pub reply: u32,
-    /// Of a create: what a write does, as in `ValueIn`.
+    /// Of a create or a spawn: what a write does, as in `ValueIn`.
     pub law: u32,
-    /// Of a create of a log: how many numbers are kept.
+    /// Of a create or a spawn of a log: how many numbers are kept.
     pub most: u32,
     /// Of a take or a grant: the vertex whose rights are taken, or that gets them.
     pub via: u64,
-    /// The vertex that the command was about. A list and a create have none.
+    /// The vertex that the command was about. A list, a retire, a create and a spawn have none.
     pub target: u64,
-    /// Of a take, grant, remove or create: the rights, as bits.
+    /// Of a take, grant, remove, create or spawn: the rights, as bits.
     pub rights: u64,
     /// What was written or appended.
     pub value: u64,
@@ -33,7 +34,8 @@ pub struct RecordOut {
     pub name: u64,
     /// Why the command was denied.
     pub denial: DenialOut,
-    /// How many numbers the entry has: of a create those that the vertex stored at first, of a read those that were answered.
+    /// How many numbers the entry has: of a create or a spawn those that the vertex stored at first, of a read those
+    /// that were answered.
     pub number_count: u64,
     /// How many edges were listed.
     pub edge_count: u64,
@@ -82,12 +84,13 @@ pub fn record_out(entry: &Entry) -> RecordOut
     }
 }
 
-/// The numbers of an entry: of a create those that the vertex stored at first, of a read those that were answered.
+/// The numbers of an entry: of a create or a spawn those that the vertex stored at first, of a read those
+/// that were answered.
 pub fn numbers_of(entry: &Entry) -> &[u64]
     ensures { result.now ≡ numbers_told entry.now }
 {
     match (&entry.deed, &entry.reply) {
-        (Deed::Create { state, .. }, _) => state.as_slice(),
+        (Deed::Create { state, .. } | Deed::Spawn { state, .. }, _) => state.as_slice(),
         (_, Reply::Values(values)) => values.as_slice(),
         _ => &[],
     }
@@ -108,19 +111,25 @@ fn deed_out(deed: &Deed) -> DeedOut
     ensures { result ≡ deed_told deed.now }
 {
     match deed {
-        Deed::Create { label, law, .. } => {
-            let (law, most) = law_out(*law);
-            DeedOut {
-                kind: 16,
-                law,
-                most,
-                via: 0,
-                target: 0,
-                rights: rights_out(Some(*label)),
-                value: 0,
-            }
-        }
+        Deed::Create { label, law, .. } => made(16, *label, *law),
+        Deed::Spawn { label, law, .. } => made(17, *label, *law),
         Deed::Plain(command) => command_out(*command),
+    }
+}
+
+// The making of a vertex, an object or a subject.
+fn made(kind: u32, label: Label, law: Law) -> DeedOut
+    ensures { result ≡ making_told kind label law }
+{
+    let (law, most) = law_out(law);
+    DeedOut {
+        kind,
+        law,
+        most,
+        via: 0,
+        target: 0,
+        rights: rights_out(Some(label)),
+        value: 0,
     }
 }
 
@@ -145,6 +154,7 @@ fn command_out(command: Command) -> DeedOut
         Command::Append { target, value } => asked(5, 0, target, 0, value),
         Command::Inspect { target } => asked(6, 0, target, 0, 0),
         Command::List => asked(8, 0, 0, 0, 0),
+        Command::Retire => asked(9, 0, 0, 0, 0),
     }
 }
 
@@ -190,6 +200,7 @@ fn reply_out(reply: &Reply) -> ReplyOut
         Reply::Values(_) => answered(3, 0),
         Reply::Edges(_) => answered(4, 0),
         Reply::VerticesFull => answered(16, 0),
+        Reply::WorkersFull => answered(17, 0),
     }
 }
 

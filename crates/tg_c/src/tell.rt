@@ -1,10 +1,11 @@
 //! How C is told an answer: the status, and what goes to the out parameters. A refusal writes to none of them.
 ghost use Rattle.std.specs.Prelude.{◌≡◌, IfOk};
-ghost use Rattle.tg_c.specs.Calls.{IsDoneOrDenied, IsListed, IsListedOrDenied, IsReadOrDenied};
+ghost use Rattle.tg_c.specs.Calls.{IsDone, IsDoneOrDenied, IsListed, IsListedOrDenied, IsReadOrDenied};
 ghost use Rattle.tg_graph.specs.Shown.{shown_in};
 ghost use Rattle.tg_c.specs.Forms.{edges_shown_in};
-ghost use Rattle.tg_c.specs.Statuses.{TellsCensus, TellsDone, TellsEntry, TellsInspect, TellsList, TellsNumber, TellsRead};
+ghost use Rattle.tg_c.specs.Statuses.{TellsCensus, TellsDone, TellsEntry, TellsInspect, TellsList, TellsNumber, TellsRead, TellsRetired};
 ghost use Rattle.tg_c.specs.Records.{entry_at};
+ghost use Rattle.tg_subjects.specs.Subjects.{names_of};
 
 use crate::forms::{CensusOut, DenialOut, EdgeOut, census_out, denial_out, edge_out};
 use crate::records::{RecordOut, edges_of, numbers_of, record_out};
@@ -13,6 +14,7 @@ use tg_journal::Journal;
 use tg_model::Reply;
 use tg_rights::Label;
 use tg_store::Census;
+use tg_subjects::Subject;
 
 /// The status of what was done.
 pub const DONE: u32 = 0;
@@ -104,6 +106,18 @@ pub fn tell_inspect(
     }
 }
 
+/// Tells that a subject retired.
+pub fn tell_retired(answer: Result<Reply, CallRefusal>) -> u32
+    requires { IfOk answer IsDone }
+    ensures { TellsRetired result answer }
+{
+    match &answer {
+        Ok(Reply::Done) => DONE,
+        Ok(_) => unreachable!(),
+        Err(refusal) => refusal.status(),
+    }
+}
+
 /// Tells a number.
 pub fn tell_number(answer: Result<u64, CallRefusal>, out: &mut u64) -> u32
     ensures { TellsNumber result out.old out.new answer }
@@ -157,6 +171,16 @@ fn put_numbers(numbers: &[u64], out: &mut [u64])
 {
     let count = numbers.len().min(out.len());
     out[..count].copy_from_slice(&numbers[..count]);
+}
+
+/// The names of as many subjects as there is room for.
+pub fn put_names(subjects: &[Subject], out: &mut [u64])
+    ensures { out.new ≡ shown_in (names_of subjects.now) out.old }
+{
+    let count = subjects.len().min(out.len());
+    for i in 0..count {
+        out[i] = subjects[i].name;
+    }
 }
 
 // As many edges as there is room for.

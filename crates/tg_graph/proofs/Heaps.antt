@@ -1,10 +1,16 @@
 -- What a step makes of a heap.
-use Rattle.std.proofs.Common.{◌≡◌, ℕ, ◌<◌, List, length, get_or, Option, Some, Result, Ok, Err, refl, sym, ap, subst, ◌∙◌}
-use Rattle.std.proofs.lemmas.Option.{slice_get-get_or}
-use Rattle.std.specs.Prelude.{OnOk, OnErr}
+use Rattle.std.proofs.Common.{arith, ◌≡◌, ◌<◌, ◌≤◌, ◌==◌, ℕ, List, [], ◌∷◌, ◌++◌, length, get_or, Option, Some, None, Result, Ok, Err, refl, sym, subst}
+use Rattle.std.specs.List.{All, Contains}
+use Rattle.std.proofs.lemmas.List.{get_or-map, length-map}
+use Rattle.std.proofs.lemmas.List.Elements.{All-contains, All-filter, All-push}
+use Rattle.std.specs.Prelude.{IfSome, OnOk, OnErr, not}
 use Rattle.tg_rights.specs.RightSet.{RightSet}
 use Rattle.tg_model.specs.declared.value.Value.{Value}
+use Rattle.tg_word.specs.Word.{nursery_space}
 use Rattle.tg_word.specs.declared.Place.{Place}
+use Rattle.tg_word.specs.declared.TheConstants.{MAX_NURSERIES, SPACES}
+use Rattle.tg_subjects.specs.Subjects.{AreSubjects, IsSubjectNamed, names_of, without}
+use Rattle.tg_subjects.specs.declared.subject.Subject.{Subject}
 use Rattle.tg_space.specs.SpaceTable.{SpaceTable}
 use Rattle.tg_space.specs.Generations.{AreRemembered}
 use Rattle.tg_payload.specs.Table.{Payloads}
@@ -22,16 +28,33 @@ pub both_errors : {T E : Type 0} (A B : Type 0) (r : Result T E) → OnErr r A �
 both_errors A B (Ok x) one two = tt
 both_errors A B (Err e) one two = (one, two)
 
--- the place of a worker is that of the vertex with its number
-pub worker_vertex : (s : HeapState) → IsWellFormed s → (x : ℕ) (p : Place) → x < length s.workers → p ≡ get_or s.workers x p → IsVertexAt s.table.spaces x p
-worker_vertex s formed x p low read = formed.workers x p (slice_get-get_or s.workers x p low ∙ ap Some (sym read))
+-- an active subject is the vertex with its name
+pub subject_vertex : (s : HeapState) → IsWellFormed s → (x : ℕ) (subject : Subject) → IsSubjectNamed s.subjects x subject → IsVertexAt s.table.spaces x subject.place
+subject_vertex s formed x subject is =
+    subst (λ (name : ℕ). IsVertexAt s.table.spaces name subject.place) is.named (All-contains (λ (y : Subject). IsVertexAt s.table.spaces y.name y.place) s.subjects subject formed.vertices is.there)
+
+-- what follows from what is known of a value, if there is one
+pub if_some : {T : Type 0} (o : Option T) (P Q : T → Type 0) → ((x : T) → P x → Q x) → IfSome o P → IfSome o Q
+if_some (Some x) P Q gives is = gives x is
+if_some None P Q gives is = tt
+
+pub worker_there : (s seen : HeapState) → s ≡ seen → IsWellFormed s → (subject : Subject) → Contains seen.subjects subject → IsVertexAt s.table.spaces subject.name subject.place
+worker_there s seen same formed subject there =
+    subject_vertex s formed subject.name subject (record { there = subst (λ (x : HeapState). Contains x.subjects subject) (sym same) there; named = refl })
+
+-- the nursery of an active subject is one of the spaces
+pub nursery_inside : (s : HeapState) → IsWellFormed s → (subject : Subject) → Contains s.subjects subject → nursery_space subject.nursery < length s.table.spaces
+nursery_inside s formed subject there =
+    let low : subject.nursery < MAX_NURSERIES = All-contains (λ (y : Subject). y.nursery < MAX_NURSERIES) s.subjects subject formed.subjects.nurseries there in
+    let many : SPACES ≤ length s.table.spaces = formed.nurseries in
+    omega (arith, low, many)
 
 -- the heap with other cells and payloads
 abbrev pub heap_with : HeapState → SpaceTable → Payloads → List Place → HeapState
-heap_with s table payloads places = record { table = table; payloads = payloads; workers = s.workers; remembered = places }
+heap_with s table payloads places = record { table = table; payloads = payloads; subjects = s.subjects; remembered = places }
 
 pub heap_same : (s : HeapState) (table : SpaceTable) (payloads : Payloads) (places : List Place) → table ≡ s.table → payloads ≡ s.payloads → places ≡ s.remembered → heap_with s table payloads places ≡ s
-heap_same s table payloads places cells stored noted = λ i. record { table = cells i; payloads = stored i; workers = s.workers; remembered = noted i }
+heap_same s table payloads places cells stored noted = λ i. record { table = cells i; payloads = stored i; subjects = s.subjects; remembered = noted i }
 
 pub well_formed_same : (s : HeapState) (table : SpaceTable) (payloads : Payloads) (places : List Place) → IsWellFormed s → table ≡ s.table → payloads ≡ s.payloads → places ≡ s.remembered → IsWellFormed (heap_with s table payloads places)
 well_formed_same s table payloads places formed cells stored noted = subst IsWellFormed (sym (heap_same s table payloads places cells stored noted)) formed
@@ -40,20 +63,49 @@ well_formed_same s table payloads places formed cells stored noted = subst IsWel
 pub well_formed_roomy : (s : HeapState) (table : SpaceTable) (payloads : Payloads) (places : List Place) → IsWellFormed s → table ≡ s.table → payloads.entries ≡ s.payloads.entries → places ≡ s.remembered → IsWellFormed (heap_with s table payloads places)
 well_formed_roomy s table payloads places formed cells stored noted =
     let here : IsWellFormed (heap_with s s.table payloads s.remembered) =
-    record { graph = graph_entries s.table.spaces s.payloads payloads stored formed.graph; workers = formed.workers; nurseries = formed.nurseries; remembered = formed.remembered } in
+    record { graph = graph_entries s.table.spaces s.payloads payloads stored formed.graph; subjects = formed.subjects; vertices = formed.vertices; nurseries = formed.nurseries; remembered = formed.remembered } in
     subst (λ (ps : List Place). IsWellFormed (heap_with s table payloads ps)) (sym noted) (subst (λ (t : SpaceTable). IsWellFormed (heap_with s t payloads s.remembered)) (sym cells) here)
 
 module _ (s : HeapState) (after : SpaceTable) (payloads : Payloads) (places : List Place) (named : ℕ → Type 0) (label : ℕ → ℕ → RightSet) (value : ℕ → Option Value) (to : ChangesTo s.table after payloads named label value) where
   pub well_formed_after : AreRemembered after.spaces places → IsWellFormed s → IsWellFormed (heap_with s after payloads places)
   well_formed_after remembered formed = record {
     graph = to.graph;
-    workers = λ x p at. to.vertices x p (formed.workers x p at);
-    nurseries = formed.nurseries ∙ sym to.spaces;
+    subjects = formed.subjects;
+    vertices = λ k d low. to.vertices (get_or s.subjects k d).name (get_or s.subjects k d).place (formed.vertices k d low);
+    nurseries = let many = formed.nurseries in let same = to.spaces in omega (arith, many, same);
     remembered = remembered;
   }
 
   pub places_kept : KeepsPlaces s (heap_with s after payloads places)
-  places_kept = record { workers = refl; limits = to.limits; vertices = to.vertices }
+  places_kept = record { subjects = refl; limits = to.limits; vertices = to.vertices }
 
   pub content_after : IsContent (content_of (heap_with s after payloads places)) named label value
   content_after = to.content
+
+-- ---- subjects that come and go
+
+-- a name above all names is above that of each subject
+pub names_above : (subjects : List Subject) (name : ℕ) → All (λ x. x < name) (names_of subjects) → All (λ x. x.name < name) subjects
+names_above subjects name above k d low =
+    let within : k < length (names_of subjects) = let same = length-map subjects (λ (x : Subject). x.name) in omega (arith, same, low) in
+    subst (λ (x : ℕ). x < name) (get_or-map (λ (x : Subject). x.name) subjects k d 0 low) (above k 0 within)
+
+-- with one more subject, where a vertex is
+pub well_formed_more : (s : HeapState) → IsWellFormed s → (x : Subject) → AreSubjects (s.subjects ++ x ∷ []) → IsVertexAt s.table.spaces x.name x.place → IsWellFormed (record { table = s.table; payloads = s.payloads; subjects = s.subjects ++ x ∷ []; remembered = s.remembered })
+well_formed_more s formed x are vertex = record {
+  graph = formed.graph;
+  subjects = are;
+  vertices = All-push (λ (y : Subject). IsVertexAt s.table.spaces y.name y.place) s.subjects x formed.vertices vertex;
+  nurseries = formed.nurseries;
+  remembered = formed.remembered;
+}
+
+-- with one less
+pub well_formed_without : (s : HeapState) → IsWellFormed s → (name : ℕ) → AreSubjects (without s.subjects name) → IsWellFormed (record { table = s.table; payloads = s.payloads; subjects = without s.subjects name; remembered = s.remembered })
+well_formed_without s formed name are = record {
+  graph = formed.graph;
+  subjects = are;
+  vertices = All-filter (λ (y : Subject). not (y.name == name)) (λ (y : Subject). IsVertexAt s.table.spaces y.name y.place) s.subjects formed.vertices;
+  nurseries = formed.nurseries;
+  remembered = formed.remembered;
+}

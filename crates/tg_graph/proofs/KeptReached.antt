@@ -1,14 +1,15 @@
--- What a collection keeps is what walks along edges reach from the workers: all of it, and after a full collection nothing else.
-use Rattle.std.proofs.Common.{◌≡◌, ◌≢◌, ℕ, ◌<◌, ◌≤◌, ◌+◌, ◌-◌, ◌⊎◌, ◌++◌, Bool, true, false, List, [], ◌∷◌, length, get_or, map, Option, Some, refl, sym, ap, subst, arith, ◌∙◌, inl, inr, ⊎_elim}
-use Rattle.std.specs.List.{All, Contains, slice_get}
+-- What a collection keeps is what walks along edges reach from the active subjects: all of it, and after a full collection nothing else.
+use Rattle.std.proofs.Common.{◌≡◌, ◌≢◌, ℕ, ◌≤◌, ◌+◌, ◌-◌, ◌⊎◌, ◌++◌, Bool, true, false, List, [], ◌∷◌, length, get_or, map, Option, refl, sym, ap, subst, arith, ◌∙◌, inl, inr, ⊎_elim}
+use Rattle.std.specs.List.{All, Contains}
 use Rattle.std.proofs.lemmas.Bool.{cases_Bool}
-use Rattle.std.proofs.lemmas.Option.{slice_get-get_or}
-use Rattle.std.proofs.lemmas.List.Elements.{All-contains, Contains-append_cases}
+use Rattle.std.proofs.lemmas.List.Elements.{All-contains, All-map, Contains-append_cases}
 use Rattle.tg_rights.specs.RightSet.{is_none_held}
 use Rattle.tg_model.specs.Graph.{HasEdge}
 use Rattle.tg_model.specs.Walks.{Walk-within, begins, goes}
 use Rattle.tg_word.specs.declared.Place.{Place}
 use Rattle.tg_word.specs.Word.{place_in}
+use Rattle.tg_subjects.specs.Subjects.{names_of, places_of}
+use Rattle.tg_subjects.specs.declared.subject.Subject.{Subject}
 use Rattle.tg_block.specs.declared.CellKind.TheVariants.{Object, Chunk}
 use Rattle.tg_space.specs.SpaceList.{SpaceList, IsSpaceList, Holds, cell_at, cells_of, flat_of}
 use Rattle.tg_space.specs.Targets.{every_space, first_pointer, pointers_of, root_targets_of, targets_of, all_root_targets}
@@ -23,7 +24,7 @@ use Rattle.tg_payload.specs.Table.{Payloads}
 use Rattle.tg_graph.specs.Standing.{IsReached}
 use Rattle.tg_graph.specs.Rows.{IsChain, IsVertexAt, name_at, name_in, object_named, references_of, rights_to, row_words}
 use Rattle.tg_graph.specs.Heap.{IsGraph, content_in, label_from}
-use Rattle.tg_graph.proofs.Members.{Contains-cases, Contains-here, Contains-more, Contains-none, Contains-flat_map, Contains-from_flat_map, Contains-from_map, option_cases}
+use Rattle.tg_graph.proofs.Members.{Contains-cases, Contains-here, Contains-more, Contains-none, Contains-flat_map, Contains-from_flat_map, Contains-from_map, Contains-map, option_cases}
 use Rattle.tg_graph.proofs.Places.{cell_long}
 use Rattle.tg_graph.proofs.Layouts.{object_tagged, chunk_tagged, apart_kinds, references_at}
 use Rattle.tg_graph.proofs.Lookups.{label_at, vertex_from_named}
@@ -36,30 +37,46 @@ use Rattle.tg_graph.proofs.KeptTargets.{NamesNumber, next_of}
 
 -- ---- edges and pointers
 
--- each worker's place is that of the vertex with its number
-pub record AreWorkers (h : SpaceList) (workers : List Place) : Type 0 where
-  pub at : (x : ℕ) (p : Place) → slice_get workers x ≡ Some p → IsVertexAt h x p
+-- each subject is the vertex with its name, at its place
+abbrev pub AreVertices : SpaceList → List Subject → Type 0
+AreVertices h subjects = All (λ x. IsVertexAt h x.name x.place) subjects
 
-pub worker_objects : (h : SpaceList) (workers : List Place) → AreWorkers h workers → All (IsKindAt h Object) workers
-worker_objects h workers are k d low = (are.at k (get_or workers k d) (slice_get-get_or workers k d low)).object
+pub subject_objects : (h : SpaceList) (subjects : List Subject) → AreVertices h subjects → All (IsKindAt h Object) (places_of subjects)
+subject_objects h subjects are =
+    All-map (IsKindAt h Object) (λ (x : Subject). x.place) subjects (λ k d low. (are k d low).object)
 
-pub worker_numbered : (h : SpaceList) (workers : List Place) (p : Place) → AreWorkers h workers → Contains workers p → (x : ℕ) × (x < length workers) × IsVertexAt h x p
-worker_numbered h workers p are (k, low, e) = (k, low, are.at k p (slice_get-get_or workers k p low ∙ ap Some e))
+-- the subject at a place
+pub subject_at : (h : SpaceList) (subjects : List Subject) (p : Place) → AreVertices h subjects → Contains (places_of subjects) p → (x : ℕ) × Contains (names_of subjects) x × IsVertexAt h x p
+subject_at h subjects p are has =
+    let found = Contains-from_map (λ (x : Subject). x.place) subjects p has in (
+      found.0.name,
+      Contains-map (λ (x : Subject). x.name) subjects found.0 found.1,
+      subst (IsVertexAt h found.0.name) found.2 (All-contains (λ (x : Subject). IsVertexAt h x.name x.place) subjects found.0 are found.1),
+    )
+
+-- the place of the subject with a name
+pub subject_named : (h : SpaceList) (subjects : List Subject) (x : ℕ) → AreVertices h subjects → Contains (names_of subjects) x → (p : Place) × Contains (places_of subjects) p × IsVertexAt h x p
+subject_named h subjects x are has =
+    let found = Contains-from_map (λ (s : Subject). s.name) subjects x has in (
+      found.0.place,
+      Contains-map (λ (s : Subject). s.place) subjects found.0 found.1,
+      subst (λ (name : ℕ). IsVertexAt h name found.0.place) found.2 (All-contains (λ (s : Subject). IsVertexAt h s.name s.place) subjects found.0 are found.1),
+    )
 
 -- the rows at these places, as roots
 abbrev pub rows_at : List Place → List Root
-rows_at workers = map (λ p. Row p) workers
+rows_at places = map (λ p. Row p) places
 
-module _ (h : SpaceList) (workers : List Place) where
-  worker_of_root : (number : ℕ) → Contains (all_root_targets every_space h (rows_at workers)) number → (p : Place) × Contains workers p × (flat_of h p ≡ number)
-  worker_of_root number has =
-      let piece = Contains-from_flat_map (root_targets_of every_space h) (rows_at workers) number has in
-      let row = Contains-from_map (λ (p : Place). Row p) workers piece.0 piece.1 in
+module _ (h : SpaceList) (places : List Place) where
+  place_of_root : (number : ℕ) → Contains (all_root_targets every_space h (rows_at places)) number → (p : Place) × Contains places p × (flat_of h p ≡ number)
+  place_of_root number has =
+      let piece = Contains-from_flat_map (root_targets_of every_space h) (rows_at places) number has in
+      let row = Contains-from_map (λ (p : Place). Row p) places piece.0 piece.1 in
       let one : Contains (flat_of h row.0 ∷ []) number = subst (λ (root : Root). Contains (root_targets_of every_space h root) number) (sym row.2) piece.2 in
       (row.0, row.1, ⊎_elim (λ e. e) (λ none. absurd (Contains-none number none)) (Contains-cases (flat_of h row.0) [] number one))
 
   abbrev pub IsInRows : ℕ → Type 0
-  IsInRows = IsInClosure (all_root_targets every_space h (rows_at workers)) (targets_of every_space h)
+  IsInRows = IsInClosure (all_root_targets every_space h (rows_at places)) (targets_of every_space h)
 
 -- the next chunk of a row is in it
 row_next : (h : SpaceList) (o : Place) (ps : List Place) → IsChain h (link_at h o) ps → (p : Place) → Contains (o ∷ ps) p → link_at h p ≢ 0 → Contains ps (place_in (link_at h p))
@@ -121,9 +138,9 @@ module _ (h : SpaceList) (payloads : Payloads) (whole : IsSpaceList h) (graph : 
       (λ link. inr (⊎_elim (λ e. e) (λ none. absurd (Contains-none word none)) (Contains-cases (link_of words) [] word link)))
       (Contains-append_cases (references_of words) (link_of words ∷ []) word (subst (λ (ws : List ℕ). Contains ws word) split among))
 
-  module _ (workers : List Place) (are : AreWorkers h workers) where
+  module _ (subjects : List Subject) (are : AreVertices h subjects) where
     abbrev pub IsReachedName : ℕ → Type 0
-    IsReachedName = IsReached (content_in h payloads) (length workers)
+    IsReachedName = IsReached (content_in h payloads) (names_of subjects)
 
     -- the cell with a number is in the row of a reached vertex
     pub record IsInReachedRow (number : ℕ) : Type 0 where
@@ -134,17 +151,17 @@ module _ (h : SpaceList) (payloads : Payloads) (whole : IsSpaceList h) (graph : 
       pub among : Contains (row_of h vertex) cell
       pub at : flat_of h cell ≡ number
 
-    pub in_reached_row : (number : ℕ) → IsInRows h workers number → IsInReachedRow number
+    pub in_reached_row : (number : ℕ) → IsInRows h (places_of subjects) number → IsInReachedRow number
     in_reached_row = Walk-within IsInReachedRow first next
       where
-        first : (number : ℕ) → Contains (all_root_targets every_space h (rows_at workers)) number → IsInReachedRow number
+        first : (number : ℕ) → Contains (all_root_targets every_space h (rows_at (places_of subjects))) number → IsInReachedRow number
         first number has =
-            let root = worker_of_root h workers number has in
-            let worker = worker_numbered h workers root.0 are root.1 in
+            let root = place_of_root h (places_of subjects) number has in
+            let subject = subject_at h subjects root.0 are root.1 in
             record {
               vertex = root.0;
-              object = worker.2.object;
-              reached = subst (λ (x : ℕ). IsReachedName x) (sym worker.2.named) (begins worker.1);
+              object = subject.2.object;
+              reached = subst (λ (x : ℕ). IsReachedName x) (sym subject.2.named) (begins subject.1);
               cell = root.0;
               among = Contains-here root.0 (chunks_from h (length (cells_of h)) (link_at h root.0));
               at = root.2;
@@ -180,8 +197,8 @@ module _ (h : SpaceList) (payloads : Payloads) (whole : IsSpaceList h) (graph : 
             let named : NamesNumber every_space h (pointers_of (cell_at h row.cell)) target = next_of every_space h whole graph.sound row.cell (row_cell_held row.vertex row.cell row.object row.among) target (subst (λ (n : ℕ). Contains (targets_of every_space h n) target) (sym row.at) has) in
             by_pointer (number, row) target named (pointer_cases row.vertex row.cell row.object row.among named.word named.among)
 
-    -- an object that the rows of the workers reach is a reached vertex
-    pub vertex_reached : (x : ℕ) (p : Place) → IsVertexAt h x p → IsInRows h workers (flat_of h p) → IsReachedName x
+    -- an object that the rows of the subjects reach is a reached vertex
+    pub vertex_reached : (x : ℕ) (p : Place) → IsVertexAt h x p → IsInRows h (places_of subjects) (flat_of h p) → IsReachedName x
     vertex_reached x p vertex in_rows =
         let row = in_reached_row (flat_of h p) in_rows in
         let one : row.cell ≡ p = same_place h whole.spaces row.cell p (row_cell_held row.vertex row.cell row.object row.among) vertex.object.held row.at in
@@ -190,15 +207,15 @@ module _ (h : SpaceList) (payloads : Payloads) (whole : IsSpaceList h) (graph : 
         (λ later. absurd (apart_kinds h p vertex.object (subst (λ (q : Place). IsKindAt h Chunk q) one (All-contains (IsKindAt h Chunk) (chunks_from h (length (cells_of h)) (link_at h row.vertex)) row.cell (chain_chunks h (chunks_from h (length (cells_of h)) (link_at h row.vertex)) (link_at h row.vertex) (graph.ends row.vertex row.object)) later))))
         (Contains-cases row.vertex (chunks_from h (length (cells_of h)) (link_at h row.vertex)) row.cell row.among)
 
--- what is reached is kept, where the workers are
-module _ {from : ℕ → Bool} {h after : SpaceList} {to : ℕ → Place} {kept : Place → Type 0} (move : Moves from h after to kept) (payloads : Payloads) (graph : IsGraph h payloads) (workers : List Place) (are : AreWorkers h workers) (keep : All kept workers) where
-  pub reached_kept : (x : ℕ) → IsReached (content_in h payloads) (length workers) x → (p : Place) → IsVertexAt h x p → kept p
+-- what is reached is kept, where the subjects are
+module _ {from : ℕ → Bool} {h after : SpaceList} {to : ℕ → Place} {kept : Place → Type 0} (move : Moves from h after to kept) (payloads : Payloads) (graph : IsGraph h payloads) (subjects : List Subject) (are : AreVertices h subjects) (keep : All kept (places_of subjects)) where
+  pub reached_kept : (x : ℕ) → IsReached (content_in h payloads) (names_of subjects) x → (p : Place) → IsVertexAt h x p → kept p
   reached_kept = Walk-within (λ x. (p : Place) → IsVertexAt h x p → kept p) first next
     where
-      first : (x : ℕ) → x < length workers → (p : Place) → IsVertexAt h x p → kept p
-      first x low p vertex =
-          let worker = are.at x (get_or workers x p) (slice_get-get_or workers x p low) in
-          subst kept (graph.names (get_or workers x p) p worker.object vertex.object (worker.named ∙ sym vertex.named)) (keep x p low)
+      first : (x : ℕ) → Contains (names_of subjects) x → (p : Place) → IsVertexAt h x p → kept p
+      first x has p vertex =
+          let subject = subject_named h subjects x are has in
+          subst kept (graph.names subject.0 p subject.2.object vertex.object (subject.2.named ∙ sym vertex.named)) (All-contains kept (places_of subjects) subject.0 keep subject.1)
 
       next : (x y : ℕ) → ((p : Place) → IsVertexAt h x p → kept p) → HasEdge (content_in h payloads).label x y → (p : Place) → IsVertexAt h y p → kept p
       next x y before edge p vertex =

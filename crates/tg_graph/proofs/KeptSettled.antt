@@ -7,6 +7,7 @@ use Rattle.std.proofs.lemmas.List.{length-map, with_items_is}
 use Rattle.std.proofs.lemmas.List.Elements.{Contains-get_or}
 use Rattle.tg_word.specs.declared.Place.{Place}
 use Rattle.tg_word.specs.Word.{IsPlace, place_in}
+use Rattle.tg_subjects.specs.Subjects.{places_of}
 use Rattle.tg_space.specs.SpaceList.{SpaceList, BlockList}
 use Rattle.tg_space.specs.SpaceTable.{SpaceTable, IsSpaceTable, with_adopted}
 use Rattle.tg_space.specs.Soundness.{IsOldCell}
@@ -21,7 +22,7 @@ use Rattle.tg_graph.specs.Heap.{HeapState, IsWellFormed, roots_of}
 use Rattle.tg_graph.specs.Kept.{AreWritten, Drops, IsDeadKey, moved_place, rewritten_at}
 use Rattle.tg_graph.proofs.KeptAdopted.{adopted_length}
 use Rattle.tg_graph.proofs.KeptDropped.{dead_some, dropped_keeps, drops_same}
-use Rattle.tg_graph.proofs.KeptHeap.{IsLeft, forward_in_range, left_by}
+use Rattle.tg_graph.proofs.KeptHeap.{ArePlaced, IsLeft, forward_in_range, left_by}
 use Rattle.tg_graph.proofs.KeptWritten.{after_adopted, after_written, cells_held}
 
 -- the items of a list that were mapped in place
@@ -42,8 +43,8 @@ module _ (s seen : HeapState) (same : s ≡ seen) (is : IsWellFormed s) (table :
 
   -- a full collection
   pub full_left : IsCollection Full seen.table.spaces (roots_of Full seen) forward aged old notes → (now : HeapState) → now.table ≡ with_adopted s.table Full aged old → IsSpaceTable now.table →
-      Drops s.payloads now.payloads (IsDeadKey Full h forward) → now.workers ≡ map (moved_place (from_space Full) h (new_place forward)) s.workers → now.remembered ≡ notes → IsLeft Full forward notes seen now
-  full_left collected now adopted_as table_now drops workers remembered =
+      Drops s.payloads now.payloads (IsDeadKey Full h forward) → ArePlaced s.subjects now.subjects (map (moved_place (from_space Full) h (new_place forward)) (places_of s.subjects)) → now.remembered ≡ notes → IsLeft Full forward notes seen now
+  full_left collected now adopted_as table_now drops placed remembered =
       subst (λ (before : HeapState). IsLeft Full forward notes before now) same
       (left_by Full s now is table forward aged old notes (collected_here Full collected)
       (record {
@@ -52,7 +53,7 @@ module _ (s seen : HeapState) (same : s ≡ seen) (is : IsWellFormed s) (table :
         long = ap (λ (t : SpaceTable). length t.spaces) adopted_as ∙ adopted_length h aged old Full some;
         others = λ space young. ap (λ (t : SpaceTable). get_or t.spaces space []) adopted_as;
         payloads = dropped_keeps h (table_list s.table table) forward s.payloads is.graph Full now.payloads drops;
-        workers = workers;
+        placed = placed;
         remembered = remembered;
       }))
 
@@ -73,8 +74,8 @@ module _ (s seen : HeapState) (same : s ≡ seen) (is : IsWellFormed s) (table :
 
   -- a nursery collection
   pub nursery_left : IsCollection Nursery seen.table.spaces (roots_of Nursery seen) forward aged old notes → (now : HeapState) (t : SpaceTable) (cells : List Rewritten) (keys : List ℕ) → t ≡ with_adopted s.table Nursery aged old → cells ≡ map (rewritten_at h forward) s.remembered → AreWritten t now.table cells → IsSpaceTable now.table →
-      ((key : ℕ) → Contains keys key ↔ IsDeadKey Nursery h forward key) → Drops s.payloads now.payloads (Contains keys) → now.workers ≡ map (moved_place (from_space Nursery) h (new_place forward)) s.workers → now.remembered ≡ notes → IsLeft Nursery forward notes seen now
-  nursery_left collected now t cells keys adopted_as are written table_now dead drops workers remembered =
+      ((key : ℕ) → Contains keys key ↔ IsDeadKey Nursery h forward key) → Drops s.payloads now.payloads (Contains keys) → ArePlaced s.subjects now.subjects (map (moved_place (from_space Nursery) h (new_place forward)) (places_of s.subjects)) → now.remembered ≡ notes → IsLeft Nursery forward notes seen now
+  nursery_left collected now t cells keys adopted_as are written table_now dead drops placed remembered =
       let all_written : AreWritten (with_adopted s.table Nursery aged old) now.table (map (rewritten_at h forward) s.remembered) = subst (λ (cs : List Rewritten). AreWritten (with_adopted s.table Nursery aged old) now.table cs) are (subst (λ (u : SpaceTable). AreWritten u now.table cells) adopted_as written) in
       subst (λ (before : HeapState). IsLeft Nursery forward notes before now) same
       (left_by Nursery s now is table forward aged old notes (collected_here Nursery collected)
@@ -84,6 +85,6 @@ module _ (s seen : HeapState) (same : s ≡ seen) (is : IsWellFormed s) (table :
         long = all_written.long ∙ adopted_length h aged old Nursery some;
         others = all_written.others;
         payloads = dropped_keeps h (table_list s.table table) forward s.payloads is.graph Nursery now.payloads (drops_same s.payloads now.payloads (Contains keys) (IsDeadKey Nursery h forward) drops dead);
-        workers = workers;
+        placed = placed;
         remembered = remembered;
       }))

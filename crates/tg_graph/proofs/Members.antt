@@ -1,8 +1,8 @@
 -- Members of lists that were mapped, filtered, joined or searched.
-use Rattle.std.proofs.Common.{◌≡◌, ℕ, zero, suc, ◌<◌, ◌⊎◌, ◌+◌, Bool, true, false, List, [], ◌∷◌, ◌++◌, length, get_or, map, Option, Some, None, refl, sym, ap, subst, arith, ◌∙◌, inl, inr, ⊎_elim}
+use Rattle.std.proofs.Common.{◌≡◌, ℕ, zero, suc, ◌<◌, ◌⊎◌, ◌+◌, ◌-◌, Bool, true, false, List, [], ◌∷◌, ◌++◌, length, get_or, map, take, drop, Option, Some, None, refl, sym, ap, subst, arith, ◌∙◌, inl, inr, ⊎_elim}
 use Rattle.std.specs.List.{All, Contains, filter, find, flat_map}
 use Rattle.std.proofs.lemmas.Bool.{cases_Bool}
-use Rattle.std.proofs.lemmas.List.{get_or_append_left, get_or-append-add, length-append}
+use Rattle.std.proofs.lemmas.List.{get_or_append_left, get_or-append-add, get_or-append_right, get_or-drop, length-append, length-map, length-take-le}
 use Rattle.std.proofs.lemmas.List.Elements.{Contains-append_left, Contains-append_right, Contains-append_cases}
 
 module _ {X : Type 0} where
@@ -111,3 +111,13 @@ module _ {X Y : Type 0} where
       (λ first. (y, Contains-here y ys, first))
       (λ rest. let all = Contains-from_flat_map f ys z rest in (all.0, Contains-more y ys all.0 all.1, all.2))
       (Contains-append_cases (f y) (flat_map f ys) z has)
+
+-- what is still as it was, where the elements before it were mapped
+pub still_at : (X : Type 0) (f : X → X) (xs ys : List X) (i : ℕ) (d : X) → ys ≡ map f (take i xs) ++ drop i xs → i < length xs → get_or ys i d ≡ get_or xs i d
+still_at X f xs ys i d is low =
+    let long : length (map f (take i xs)) ≡ i = length-map (take i xs) f ∙ length-take-le i xs (omega arith) in
+    let back : i + (i - i) ≡ i = omega arith in
+    ap (λ (zs : List X). get_or zs i d) is
+    ∙ get_or-append_right (map f (take i xs)) (drop i xs) i i d long (omega arith)
+    ∙ get_or-drop i xs (i - i) d
+    ∙ ap (λ (k : ℕ). get_or xs k d) back

@@ -1,10 +1,10 @@
 -- What the steps of an opening make of its cells.
-use Rattle.std.proofs.Common.{◌≡◌, ◌≢◌, ◌↔◌, ℕ, zero, suc, ◌+◌, ◌*◌, ◌<◌, ◌≤◌, ◌⊎◌, inl, inr, ◌==◌, ◌&&◌, Bool, true, false, cond, if◌then◌else◌, List, [], ◌∷◌, ◌++◌, length, get_or, set, take, drop, Option, Some, None, IsSome, refl, sym, ap, subst, arith, ◌∙◌, ⊎_elim, drop-cons, length-take, add-one}
+use Rattle.std.proofs.Common.{◌≡◌, ◌≢◌, ◌↔◌, ℕ, zero, suc, ◌+◌, ◌*◌, ◌<◌, ◌≤◌, ◌⊎◌, inl, inr, ◌==◌, ◌&&◌, Bool, true, false, cond, if◌then◌else◌, List, [], ◌∷◌, ◌++◌, length, get_or, replicate, set, take, drop, Option, Some, None, IsSome, refl, sym, ap, subst, arith, ◌∙◌, ⊎_elim, drop-cons, length-take, add-one}
 use Rattle.std.specs.Prelude.{nat_lt, slice_get, slice_index, slice_index_or}
 use Rattle.std.specs.List.{All}
 use Rattle.std.proofs.lemmas.Bool.{cases_Bool, cases_eq, cases_lt}
 use Rattle.std.proofs.lemmas.Bool.Decides.{nat_tests, eqb_tells}
-use Rattle.std.proofs.lemmas.List.{get_or-set_same, get_or-set_other, get_or-take, get_or_past, get_or_read, get_or_append_left, get_or_push, length-set, length_push}
+use Rattle.std.proofs.lemmas.List.{get_or-replicate, get_or-set_same, get_or-set_other, get_or-take, get_or_past, get_or_read, get_or_append_left, get_or_push, length-replicate, length-set, length_push}
 use Rattle.std.proofs.lemmas.List.Sums.{sum_by-cons}
 use Rattle.std.proofs.lemmas.Option.{get_or_from_slice_get, slice_get-get_or, slice_get_within}
 use Rattle.tg_rights.specs.RightSet.{RightSet, is_none_held, no_rights, union}
@@ -18,19 +18,20 @@ use Rattle.tg_model.proofs.PlainLaws.{slice_get-push}
 use Rattle.tg_model.proofs.ReachLaws.{lt-IsReachable}
 use Rattle.tg_model.proofs.SoundLaws.{IsSound-start_of, joined_in}
 use Rattle.tg_word.specs.declared.Place.{Place}
-use Rattle.tg_word.specs.Word.{link_to, word_at}
+use Rattle.tg_word.specs.Word.{link_to, nursery_space, word_at}
+use Rattle.tg_word.specs.declared.TheConstants.{MAX_NURSERIES}
 use Rattle.tg_block.specs.Cells.{kind_of}
 use Rattle.tg_block.specs.declared.CellKind.TheVariants.{Free, Object}
 use Rattle.tg_space.specs.SpaceList.{SpaceList, BlockList, Holds, IsSpaceList, block_count, blocks_before, cell_at, space_of, with_block, with_cell_at}
-use Rattle.tg_space.specs.SpaceTable.{SpaceTable, BlockLimits, IsSpaceTable, place_in_space, used_of, with_spaces}
+use Rattle.tg_space.specs.SpaceTable.{SpaceTable, BlockLimits, IsSpaceTable, no_blocks, place_in_space, used_of, with_spaces}
 use Rattle.tg_space.specs.Soundness.{AreSound, HasLayout, IsKindAt}
 use Rattle.tg_space.proofs.Flat.{before_le, before_more}
 use Rattle.tg_space.proofs.Tables.{holds_same, shape_cell, shape_written, table_list}
 use Rattle.tg_nursery.specs.Allocation.{HasLeft, room_made_for}
 use Rattle.tg_payload.specs.Table.{Payloads, entry}
 use Rattle.tg_graph.specs.Content.{IsNamed}
-use Rattle.tg_graph.specs.Heap.{AreAtHome, content_in}
-use Rattle.tg_graph.specs.Opened.{HasBlocks, IsOpened, TakesOneCell, labels_before, no_labels, with_row}
+use Rattle.tg_graph.specs.Heap.{content_in}
+use Rattle.tg_graph.specs.Opened.{HasBlocks, HasNoBlocks, IsOpened, TakesOneCell, labels_before, no_labels, with_row}
 use Rattle.tg_graph.specs.Rows.{IsVertexAt}
 use Rattle.tg_graph.specs.Spots.{CanPut, chunk_words, table_put, widened}
 use Rattle.tg_graph.specs.Standing.{IsContentOf}
@@ -131,6 +132,30 @@ takes_one_cell t grown space cells spot rights to low few made table can =
 
 -- ---- blocks
 
+-- where no space has a block, there is none
+pub no_count : (h : SpaceList) → ((space : ℕ) → space_of h space ≡ []) → block_count h ≡ 0
+no_count [] none = refl
+no_count (x ∷ h) none =
+    let here : length x ≡ 0 = ap (λ (blocks : BlockList). length blocks) (none 0) in
+    omega (arith, sum_by-cons (λ (blocks : BlockList). length blocks) x h, here, no_count h (λ space. none (suc space)))
+
+-- nor a cell
+pub no_cell : (h : SpaceList) → ((space : ℕ) → space_of h space ≡ []) → (p : Place) → Holds h p → ⊥
+no_cell h none p held =
+    let low : p.block < length {A = List (List ℕ)} [] = subst (λ (blocks : BlockList). p.block < length blocks) (none p.space) held.block in
+    omega (arith, low)
+
+-- spaces as they are made have none
+pub none_made : (nurseries : ℕ) (limits : BlockLimits) → HasNoBlocks (no_blocks nurseries limits)
+none_made nurseries limits = record {
+  blocks = λ space. at {X = BlockList} [] space (cases_lt space (nursery_space nurseries));
+  unused = λ space. at {X = ℕ} 0 space (cases_lt space (nursery_space nurseries));
+}
+  where
+    at : {X : Type 0} (x : X) (space : ℕ) → (space < nursery_space nurseries) ⊎ (nursery_space nurseries ≤ space) → get_or (replicate (nursery_space nurseries) x) space x ≡ x
+    at x space (inl low) = get_or-replicate (nursery_space nurseries) space x x low
+    at x space (inr high) = get_or_past (replicate (nursery_space nurseries) x) space x (omega (arith, length-replicate (nursery_space nurseries) x, high))
+
 -- spaces with as many blocks each have as many in all
 same_count : (a b : SpaceList) → length b ≡ length a → ((space : ℕ) → length (space_of b space) ≡ length (space_of a space)) → block_count b ≡ block_count a
 same_count [] [] long same = refl
@@ -140,14 +165,14 @@ same_count (x ∷ a) (y ∷ b) long same =
     omega (arith, sum_by-cons (λ (blocks : BlockList). length blocks) x a, sum_by-cons (λ (blocks : BlockList). length blocks) y b, same 0, same_count a b (omega arith) (λ space. same (suc space)))
 
 -- nurseries with a block each have at least one for each worker, so at most as many is as many
-count_workers : (h : SpaceList) (workers : ℕ) → length h ≡ workers + 2 → ((x : ℕ) → x < workers → 1 ≤ length (space_of h (x + 2))) → (x : ℕ) → x ≤ workers → x ≤ blocks_before h (x + 2)
+count_workers : (h : SpaceList) (workers : ℕ) → workers + 2 ≤ length h → ((x : ℕ) → x < workers → 1 ≤ length (space_of h (x + 2))) → (x : ℕ) → x ≤ workers → x ≤ blocks_before h (x + 2)
 count_workers h workers long some zero le = omega arith
 count_workers h workers long some (suc x) le =
     let low : x + 2 < length h = omega arith in
     let next : blocks_before h (suc x + 2) ≡ blocks_before h (x + 2 + 1) = ap (blocks_before h) (omega arith) in
     omega (arith, count_workers h workers long some x (omega arith), before_more h (x + 2) low, some x (omega arith), next)
 
-count_exact : (h : SpaceList) (workers : ℕ) → length h ≡ workers + 2 → ((x : ℕ) → x < workers → 1 ≤ length (space_of h (x + 2))) → block_count h ≤ workers → block_count h ≡ workers
+count_exact : (h : SpaceList) (workers : ℕ) → workers + 2 ≤ length h → ((x : ℕ) → x < workers → 1 ≤ length (space_of h (x + 2))) → block_count h ≤ workers → block_count h ≡ workers
 count_exact h workers long some few =
     let least = count_workers h workers long some workers (omega arith) in
     omega (arith, least, before_le h (workers + 2))
@@ -244,8 +269,8 @@ row_no_loop edges n x all = (joined_in n edges all).no_loop x
 
 -- ---- cells with no vertex
 
-pub nothing_opened : (t : SpaceTable) (payloads : Payloads) (workers : ℕ) (limits : BlockLimits) → HasBlocks t workers limits → IsSpaceTable t → payloads.entries ≡ [] → IsOpened t payloads [] workers limits no_labels []
-nothing_opened t payloads workers limits has table empty = record {
+pub nothing_opened : (t : SpaceTable) (payloads : Payloads) (workers : ℕ) (limits : BlockLimits) → workers ≤ MAX_NURSERIES → HasBlocks t workers limits → IsSpaceTable t → payloads.entries ≡ [] → IsOpened t payloads [] workers limits no_labels []
+nothing_opened t payloads workers limits few has table empty = record {
   graph = record {
     sound = sound;
     ends = λ p object. absurd (no_object p object);
@@ -267,7 +292,7 @@ nothing_opened t payloads workers limits has table empty = record {
   spaces = has.spaces;
   limits_kept = has.limits_kept;
   blocks = has.blocks;
-  all = count_exact t.spaces workers has.spaces has.blocks has.few;
+  all = count_exact t.spaces workers (let many = has.spaces in omega (arith, few, many)) has.blocks has.few;
   old = has.old;
 }
   where
@@ -309,9 +334,9 @@ one_more_placed t after payloads new places more workers limits values value p o
             ∙ ap (λ n. with_value (slice_get values) n value x) long ∙ sym (slice_get-push values value x);
       };
       vertices = λ x q at. by_place x q at (cases_lt x (length places));
-      spaces = to.spaces ∙ opened.spaces;
+      spaces = let many = opened.spaces in let same = to.spaces in omega (arith, many, same);
       limits_kept = to.limits ∙ opened.limits_kept;
-      blocks = λ x low. let e = blocks (x + 2) in let b = opened.blocks x low in omega (arith, e, b);
+      blocks = λ x low. let e = blocks (nursery_space x) in let b = opened.blocks x low in omega (arith, e, b);
       all = same_count t.spaces after.spaces to.spaces blocks ∙ opened.all;
       old = blocks 0 ∙ opened.old;
     })
@@ -342,21 +367,6 @@ one_more_opened t after payloads new places more workers limits values value p n
     (subst (λ n. ChangesTo t after new (λ x. IsNamed (content_in t.spaces payloads) x ⊎ (x ≡ n)) (content_in t.spaces payloads).label (with_value (content_in t.spaces payloads).value n value)) named to)
     (subst (λ n. IsVertexAt after.spaces n p) named vertex) blocks same
 
--- the next worker is in its own nursery too
-pub more_at_home : (places more : List Place) (p : Place) → AreAtHome places → p.space ≡ length places + 2 → more ≡ places ++ p ∷ [] → AreAtHome more
-more_at_home places more p home there same = subst AreAtHome (sym same) (λ x q at. by_place x q at (cases_lt x (length places)))
-  where
-    by_place : (x : ℕ) (q : Place) → slice_get (places ++ p ∷ []) x ≡ Some q → (x < length places) ⊎ (length places ≤ x) → q.space ≡ x + 2
-    by_place x q at (inl low) =
-        let read : get_or places x q ≡ q = sym (get_or_append_left places (p ∷ []) q x low) ∙ get_or_from_slice_get (places ++ p ∷ []) x q q at in
-        home x q (slice_get-get_or places x q low ∙ ap Some read)
-    by_place x q at (inr high) =
-        let inside = slice_get_within (places ++ p ∷ []) x q at in
-        let e = length_push places p in
-        let last : x ≡ length places = omega (arith, inside, e, high) in
-        let here : q ≡ p = sym (get_or_from_slice_get (places ++ p ∷ []) x q q at) ∙ get_or_push places p q x (sym last) in
-        ap (λ (r : Place). r.space) here ∙ there ∙ ap (λ n. n + 2) (sym last)
-
 -- one more cell is counted
 pub used_more : (us : List ℕ) (i j : ℕ) → get_or (set us i (get_or us i 0 + 1)) j 0 ≤ get_or us j 0 + 1
 used_more us i j = by_number (cases_eq j i) (cases_lt i (length us))
@@ -382,9 +392,9 @@ edges_opened t after payloads places workers limits label values opened to block
     values = λ x. to.content.values x ∙ opened.content.values x;
   };
   vertices = λ x p at. to.vertices x p (opened.vertices x p at);
-  spaces = to.spaces ∙ opened.spaces;
+  spaces = let many = opened.spaces in let same = to.spaces in omega (arith, many, same);
   limits_kept = to.limits ∙ opened.limits_kept;
-  blocks = λ x low. let a = blocks (x + 2) in let b = opened.blocks x low in omega arith;
+  blocks = λ x low. let a = blocks (nursery_space x) in let b = opened.blocks x low in omega arith;
   all = same_count t.spaces after.spaces to.spaces blocks ∙ opened.all;
   old = blocks 0 ∙ opened.old;
 }

@@ -1,22 +1,22 @@
 -- What is decided and changed on a content, and what a collection keeps of it, against the graph that it stands for.
-use Rattle.std.proofs.Common.{◌≡◌, ◌↔◌, ◌⊎◌, inl, inr, ⊎_elim, ℕ, ◌<◌, ◌≤◌, ◌==◌, ◌&&◌, Bool, true, false, cond, map, List, Some, None, refl, sym, ap, ◌∙◌, subst, arith}
+use Rattle.std.proofs.Common.{◌≡◌, ◌↔◌, ◌⊎◌, inl, inr, ⊎_elim, ℕ, ◌<◌, ◌≤◌, ◌==◌, ◌&&◌, Bool, true, false, cond, map, List, [], ◌∷◌, ◌++◌, length, Some, None, refl, sym, ap, ◌∙◌, subst, arith}
 use Rattle.std.proofs.lemmas.Bool.{cond-true, eq-eqb, eqb-true}
-use Rattle.std.specs.List.{Contains, range_with_len}
+use Rattle.std.specs.List.{Contains}
 use Rattle.tg_rights.specs.RightSet.{RightSet, no_rights, union, is_none_held}
 use Rattle.tg_rights.specs.RightLaws.{none_held-same}
 use Rattle.tg_model.specs.declared.value.Value.{Value}
 use Rattle.tg_model.specs.declared.law.Law.{Law}
 use Rattle.tg_model.specs.declared.command.Command.{Command}
-use Rattle.tg_model.specs.declared.command.Deed.TheVariants.{Create, Plain}
+use Rattle.tg_model.specs.declared.command.Deed.TheVariants.{Create, Spawn, Plain}
 use Rattle.tg_model.specs.declared.reply.Denial.{Denial}
+use Rattle.tg_model.specs.declared.opening.TheConstants.{MAX_WORKERS}
 use Rattle.tg_model.specs.Walks.{begins, goes, Walk-within}
 use Rattle.tg_model.specs.Graph.{ProtectionGraph, IsSubject, HasEdge, IsReachable, IsSound, with_rights}
 use Rattle.tg_model.specs.Near.{SameNear, SameValuesNear}
 use Rattle.tg_model.specs.Rules.{Permits, denial_of, denied_or, reply_of, labels_after, values_after, with_value, effect, with_vertex, step, answer_of}
-use Rattle.tg_model.proofs.AllowedLaws.{permits-no_denial, step-allowed, step-denied, step-created, step-not_allowed}
+use Rattle.tg_model.proofs.AllowedLaws.{permits-no_denial, step-allowed, step-denied, step-created, step-spawned, step-not_allowed}
 use Rattle.tg_model.proofs.NearLaws.{denial_of-near, reply_of-near, labels_after-same, values_after-same}
 use Rattle.tg_model.proofs.ReachLaws.{HasEdge-with_rights, closed_after, IsReachable-plain, IsReachable-step}
-use Rattle.tg_model.proofs.PlainLaws.{is_subject, is_worker}
 use Rattle.tg_word.specs.declared.Place.{Place}
 use Rattle.tg_graph.specs.Rows.{name_at, object_named, objects_of}
 use Rattle.tg_graph.specs.Heap.{HeapState, IsUnchangedHeap, content_in, content_of}
@@ -25,12 +25,6 @@ use Rattle.tg_graph.specs.Content.{Content, IsNamed, IsContent, IsSameContent, O
 use Rattle.tg_graph.specs.Standing.{IsContentOf, IsReached, Keeps, KeepsReached}
 use Rattle.tg_space.specs.declared.kind.Kind.{Kind}
 use Rattle.tg_space.specs.declared.kind.Kind.TheVariants.{Full, Nursery}
-
--- where the subjects are the workers
-pub IsSubject-workers : (g : ProtectionGraph) (workers : ℕ) → g.subjects ≡ range_with_len 0 workers → (x : ℕ) → IsSubject g x ↔ (x < workers)
-IsSubject-workers g workers same x =
-    let P : List ℕ → Type 0 = λ xs. Contains xs x ↔ (x < workers) in
-    subst P (sym same) (is_worker workers x, is_subject workers x)
 
 -- edges from where the labels are the same
 edge_along : (label other : ℕ → ℕ → RightSet) (x y : ℕ) → other x y ≡ label x y → HasEdge other x y → HasEdge label x y
@@ -126,35 +120,53 @@ module _ (c new : Content) (g : ProtectionGraph) (stands : IsContentOf c g) (x :
   more : (a b : ℕ) → c.label a b ≡ g.label a b → with_rights c.label x g.made label a b ≡ with_rights g.label x g.made label a b
   more a b same = ap (λ s. cond ((a == x) && (b == g.made)) (union s label) s) same
 
-  -- the content with a vertex of the next name stands for the graph with it
-  pub StandsFor-created : (law : Law) (state : List ℕ) → OnlyNamedHold c → IsSound g → IsSubject g x → g.made < g.limit → IsContent new (λ y. IsNamed c y ⊎ (y ≡ g.made)) (with_rights c.label x g.made label) (with_value c.value g.made (record { law = law; state = state })) → IsContentOf new (step g x (Create label law state))
-  StandsFor-created law state only sound subject room is =
-      let value : Value = record { law = law; state = state } in
-      let next = step-created g x label law state room in
-      let after : IsContentOf new (with_vertex g x label value) = record {
-        made = λ a named. ⊎_elim (λ old. omega (arith, stands.made a old)) (λ at. omega (arith, at)) ((is.names a).0 named);
-        reachable = λ a reachable.
-            (is.names a).1 (⊎_elim (λ k. inl (stands.reachable a k)) (λ at. inr at)
-            (IsReachable-step g x subject sound (Create label law state) a (subst (λ k. IsReachable k a) (sym next) reachable)));
-        closed = λ a b named edge.
-            (is.names b).1 (⊎_elim
-            (λ old_edge. ⊎_elim (λ old. inl (stands.closed a b old old_edge)) (λ at. absurd (omega (arith, at, (sound.ends_made a b old_edge).0))) ((is.names a).0 named))
-            (λ (at_x, at_made, some). inr at_made)
-            (HasEdge-with_rights g.label x g.made label a b edge));
-        labels = λ a b named.
-            is.labels a b ∙ more a b (⊎_elim (stands.labels a b) (λ at. subst (λ k. c.label k b ≡ g.label k b) (sym at) (no_row only sound b)) ((is.names a).0 named));
-        values = λ a named.
-            is.values a ∙ ⊎_elim
-            (λ old. ap (λ o. cond (a == g.made) (Some value) o) (stands.values a old))
-            (λ at. given_at a at)
-            ((is.names a).0 named);
-      } in
-      subst (IsContentOf new) (sym next) after
+  -- the content with a vertex of the next name
+  abbrev IsMadeIn : Value → Type 0
+  IsMadeIn value = IsContent new (λ y. IsNamed c y ⊎ (y ≡ g.made)) (with_rights c.label x g.made label) (with_value c.value g.made value)
+
+  -- the graph with it, and with these subjects
+  abbrev made_with : Value → List ℕ → ProtectionGraph
+  made_with value subjects = record (with_vertex g x label value) { subjects = subjects }
+
+  -- that content stands for that graph, where nothing else is reached there than before
+  content_made : (value : Value) (subjects : List ℕ) → OnlyNamedHold c → IsSound g → IsMadeIn value → ((a : ℕ) → IsReachable (made_with value subjects) a → IsReachable g a ⊎ (a ≡ g.made)) → IsContentOf new (made_with value subjects)
+  content_made value subjects only sound is before = record {
+    made = λ a named. ⊎_elim (λ old. omega (arith, stands.made a old)) (λ at. omega (arith, at)) ((is.names a).0 named);
+    reachable = λ a reachable. (is.names a).1 (⊎_elim (λ k. inl (stands.reachable a k)) (λ at. inr at) (before a reachable));
+    closed = λ a b named edge.
+        (is.names b).1 (⊎_elim
+        (λ old_edge. ⊎_elim (λ old. inl (stands.closed a b old old_edge)) (λ at. absurd (omega (arith, at, (sound.ends_made a b old_edge).0))) ((is.names a).0 named))
+        (λ (at_x, at_made, some). inr at_made)
+        (HasEdge-with_rights g.label x g.made label a b edge));
+    labels = λ a b named.
+        is.labels a b ∙ more a b (⊎_elim (stands.labels a b) (λ at. subst (λ k. c.label k b ≡ g.label k b) (sym at) (no_row only sound b)) ((is.names a).0 named));
+    values = λ a named.
+        is.values a ∙ ⊎_elim
+        (λ old. ap (λ o. cond (a == g.made) (Some value) o) (stands.values a old))
+        (λ at. given_at a at)
+        ((is.names a).0 named);
+  }
     where
-      given_at : (a : ℕ) → a ≡ g.made → with_value c.value g.made (record { law = law; state = state }) a ≡ with_value g.value g.made (record { law = law; state = state }) a
+      given_at : (a : ℕ) → a ≡ g.made → with_value c.value g.made value a ≡ with_value g.value g.made value a
       given_at a at =
           let is_it = eq-eqb a g.made at in
           cond-true (a == g.made) _ (c.value a) is_it ∙ sym (cond-true (a == g.made) _ (g.value a) is_it)
+
+  -- so it stands for the graph after a create
+  pub StandsFor-created : (law : Law) (state : List ℕ) → OnlyNamedHold c → IsSound g → IsSubject g x → g.made < g.limit → IsMadeIn (record { law = law; state = state }) → IsContentOf new (step g x (Create label law state))
+  StandsFor-created law state only sound subject room is =
+      let next = step-created g x label law state room in
+      subst (IsContentOf new) (sym next)
+      (content_made (record { law = law; state = state }) g.subjects only sound is
+      (λ a reachable. IsReachable-step g x subject sound (Create label law state) a (subst (λ k. IsReachable k a) (sym next) reachable)))
+
+  -- and after a spawn
+  pub StandsFor-spawned : (law : Law) (state : List ℕ) → OnlyNamedHold c → IsSound g → IsSubject g x → g.made < g.limit → length g.subjects < MAX_WORKERS → IsMadeIn (record { law = law; state = state }) → IsContentOf new (step g x (Spawn label law state))
+  StandsFor-spawned law state only sound subject room few is =
+      let next = step-spawned g x label law state room few in
+      subst (IsContentOf new) (sym next)
+      (content_made (record { law = law; state = state }) (g.subjects ++ g.made ∷ []) only sound is
+      (λ a reachable. IsReachable-step g x subject sound (Spawn label law state) a (subst (λ k. IsReachable k a) (sym next) reachable)))
 
   -- where no more may be made, the content stays
   pub StandsFor-full : (law : Law) (state : List ℕ) → g.limit ≤ g.made → IsSameContent c new → IsContentOf new (step g x (Create label law state))
@@ -191,17 +203,17 @@ StandsFor-unchanged old new g stands unchanged =
 
 -- ---- what is kept
 
-module _ (c : Content) (g : ProtectionGraph) (stands : IsContentOf c g) (workers : ℕ) (subjects : g.subjects ≡ range_with_len 0 workers) where
+module _ (c : Content) (g : ProtectionGraph) (stands : IsContentOf c g) (subjects : List ℕ) (same : g.subjects ≡ subjects) where
   -- walks on the content are walks on the graph
-  pub IsReachable-IsReached : (x : ℕ) → IsReached c workers x → IsReachable g x
+  pub IsReachable-IsReached : (x : ℕ) → IsReached c subjects x → IsReachable g x
   IsReachable-IsReached =
-      Walk-within (IsReachable g) (λ x below. begins ((IsSubject-workers g workers subjects x).1 below))
+      Walk-within (IsReachable g) (λ x active. begins (subst (λ (names : List ℕ). Contains names x) (sym same) active))
       (λ a b reachable edge. goes reachable (edge_along g.label c.label a b (stands.labels a b (stands.reachable a reachable)) edge))
 
   -- and back
-  pub IsReached-IsReachable : (x : ℕ) → IsReachable g x → IsReached c workers x
+  pub IsReached-IsReachable : (x : ℕ) → IsReachable g x → IsReached c subjects x
   IsReached-IsReachable =
-      Walk-within (IsReached c workers) (λ x subject. begins ((IsSubject-workers g workers subjects x).0 subject))
+      Walk-within (IsReached c subjects) (λ x subject. begins (subst (λ (names : List ℕ). Contains names x) same subject))
       (λ a b reached edge. goes reached (edge_along c.label g.label a b (sym (stands.labels a b (stands.reachable a (IsReachable-IsReached a reached)))) edge))
 
 module _ (old new : Content) (g : ProtectionGraph) (stands : IsContentOf old g) where
@@ -217,19 +229,19 @@ module _ (old new : Content) (g : ProtectionGraph) (stands : IsContentOf old g) 
         values = λ x named. keeps.values x named ∙ stands.values x (before x named);
       }
 
-  module _ (workers : ℕ) (subjects : g.subjects ≡ range_with_len 0 workers) (keeps : Keeps old new (IsReached old workers)) where
+  module _ (subjects : List ℕ) (same : g.subjects ≡ subjects) (keeps : Keeps old new (IsReached old subjects)) where
     pub StandsFor-full_collection : IsContentOf new g
-    StandsFor-full_collection = StandsFor-kept (IsReached old workers) keeps (IsReached-IsReachable old g stands workers subjects)
+    StandsFor-full_collection = StandsFor-kept (IsReached old subjects) keeps (IsReached-IsReachable old g stands subjects same)
 
     -- a full collection keeps exactly the names that can be reached
     pub names-full_collection : (x : ℕ) → IsNamed new x ↔ IsReachable g x
     names-full_collection x = (
-      λ named. IsReachable-IsReached old g stands workers subjects x ((keeps.names x).0 named).1,
-      λ reachable. (keeps.names x).1 (stands.reachable x reachable, IsReached-IsReachable old g stands workers subjects x reachable),
+      λ named. IsReachable-IsReached old g stands subjects same x ((keeps.names x).0 named).1,
+      λ reachable. (keeps.names x).1 (stands.reachable x reachable, IsReached-IsReachable old g stands subjects same x reachable),
     )
 
 -- what a collection of either kind keeps
-pub StandsFor-collected : (kind : Kind) (old new : Content) (g : ProtectionGraph) (workers : ℕ) → IsContentOf old g → g.subjects ≡ range_with_len 0 workers → KeepsReached kind old new workers → IsContentOf new g
-StandsFor-collected Full old new g workers stands subjects keeps = StandsFor-full_collection old new g stands workers subjects keeps
-StandsFor-collected Nursery old new g workers stands subjects keeps =
-    StandsFor-kept old new g stands (IsNamed new) keeps.0 (λ x reachable. keeps.1 x (IsReached-IsReachable old g stands workers subjects x reachable))
+pub StandsFor-collected : (kind : Kind) (old new : Content) (g : ProtectionGraph) (subjects : List ℕ) → IsContentOf old g → g.subjects ≡ subjects → KeepsReached kind old new subjects → IsContentOf new g
+StandsFor-collected Full old new g subjects stands same keeps = StandsFor-full_collection old new g stands subjects same keeps
+StandsFor-collected Nursery old new g subjects stands same keeps =
+    StandsFor-kept old new g stands (IsNamed new) keeps.0 (λ x reachable. keeps.1 x (IsReached-IsReachable old g stands subjects same x reachable))

@@ -10,6 +10,7 @@ use Rattle.std.proofs.lemmas.Option.{slice_get_within}
 use Rattle.tg_model.specs.Walks.{Walk-map}
 use Rattle.tg_word.specs.declared.Place.{Place}
 use Rattle.tg_word.specs.Word.{place_in}
+use Rattle.tg_subjects.specs.Subjects.{places_of}
 use Rattle.tg_block.specs.declared.CellKind.TheVariants.{Object, Chunk}
 use Rattle.tg_space.specs.SpaceList.{SpaceList, IsSpaceList, BlockList, Holds, cell_at, cells_of, flat_of}
 use Rattle.tg_space.specs.Soundness.{AreSound, IsKindAt, IsRootIn}
@@ -253,7 +254,7 @@ collected_from h roots others same to back forward aged old notes is = record {
 
 -- ---- a collection from them
 
-module _ (s : HeapState) (formed : IsWellFormed s) (starts : List Root) (are : AreShorter s.table.spaces s.workers starts) where
+module _ (s : HeapState) (formed : IsWellFormed s) (starts : List Root) (are : AreShorter s.table.spaces (places_of s.subjects) starts) where
   abbrev spaces : SpaceList
   spaces = s.table.spaces
 
@@ -261,19 +262,19 @@ module _ (s : HeapState) (formed : IsWellFormed s) (starts : List Root) (are : A
   cells = map (λ p. Remembered p) s.remembered
 
   abbrev wholes : List Root
-  wholes = map (λ p. Row p) s.workers
+  wholes = map (λ p. Row p) (places_of s.subjects)
 
   pub starts_sound : AreSound spaces (starts ++ cells)
   starts_sound = record {
     cells = formed.graph.sound.cells;
     links = formed.graph.sound.links;
-    roots_held = All-append (IsRootIn spaces) starts cells (shorter_sound spaces s.workers starts are) (All-map (IsRootIn spaces) (λ p. Remembered p) s.remembered (remembered_cells s formed));
+    roots_held = All-append (IsRootIn spaces) starts cells (shorter_sound spaces (places_of s.subjects) starts are) (All-map (IsRootIn spaces) (λ p. Remembered p) s.remembered (remembered_cells s formed));
   }
 
   pub all_same : all_root_targets young_spaces spaces (starts ++ cells) ≡ all_root_targets young_spaces spaces (roots_of Nursery s)
   all_same =
       flat_map-append (root_targets_of young_spaces spaces) starts cells
-      ∙ ap (λ (ts : List ℕ). ts ++ all_root_targets young_spaces spaces cells) (same_targets spaces s.workers starts are)
+      ∙ ap (λ (ts : List ℕ). ts ++ all_root_targets young_spaces spaces cells) (same_targets spaces (places_of s.subjects) starts are)
       ∙ sym (flat_map-append (root_targets_of young_spaces spaces) wholes cells)
 
   -- a row is none of the remembered cells
@@ -285,7 +286,7 @@ module _ (s : HeapState) (formed : IsWellFormed s) (starts : List Root) (are : A
 
   no_start : (p : Place) → Contains starts (Remembered p) → ⊥
   no_start p has =
-      let found = shorter_of spaces s.workers starts are (Remembered p) has in
+      let found = shorter_of spaces (places_of s.subjects) starts are (Remembered p) has in
       let no : Remembered p ≡ Row found.2.cell = found.2.is in
       absurd cc
 
@@ -293,8 +294,8 @@ module _ (s : HeapState) (formed : IsWellFormed s) (starts : List Root) (are : A
   start_targets = record {
     rows = λ c target.
         let start : Contains starts (Row target.0) = ⊎_elim (λ here. here) (λ cell. absurd (no_cell target.0 cell)) (Contains-append_cases starts cells (Row target.0) target.1) in
-        let found = shorter_of spaces s.workers starts are (Row target.0) start in
-        (found.0, Contains-append_left wholes cells (Row found.0) (Contains-map (λ (p : Place). Row p) s.workers found.0 found.1), subst (λ (ts : List ℕ). Contains ts c) found.2.targets target.2);
+        let found = shorter_of spaces (places_of s.subjects) starts are (Row target.0) start in
+        (found.0, Contains-append_left wholes cells (Row found.0) (Contains-map (λ (p : Place). Row p) (places_of s.subjects) found.0 found.1), subst (λ (ts : List ℕ). Contains ts c) found.2.targets target.2);
     cells = λ p has.
         ⊎_elim (λ start. absurd (no_start p start)) (λ cell. Contains-append_right wholes cells (Remembered p) cell) (Contains-append_cases starts cells (Remembered p) has);
   }
@@ -303,8 +304,8 @@ module _ (s : HeapState) (formed : IsWellFormed s) (starts : List Root) (are : A
   whole_targets = record {
     rows = λ c target.
         let whole : Contains wholes (Row target.0) = ⊎_elim (λ here. here) (λ cell. absurd (no_cell target.0 cell)) (Contains-append_cases wholes cells (Row target.0) target.1) in
-        let row = Contains-from_map (λ (p : Place). Row p) s.workers (Row target.0) whole in
-        let found = shorter_in spaces s.workers starts are row.0 row.1 in
+        let row = Contains-from_map (λ (p : Place). Row p) (places_of s.subjects) (Row target.0) whole in
+        let found = shorter_in spaces (places_of s.subjects) starts are row.0 row.1 in
         let same : root_targets_of young_spaces spaces (Row target.0) ≡ root_targets_of young_spaces spaces found.0 = ap (root_targets_of young_spaces spaces) (sym row.2) ∙ sym found.2.targets in
         let is : found.0 ≡ Row found.2.cell = found.2.is in (
           found.2.cell,

@@ -1,9 +1,13 @@
 -- What contracts see of a `Heap`, when it is well formed, and its content.
-use Rattle.std.specs.Prelude.{◌≡◌, ◌↔◌, ℕ, ◌+◌, ◌==◌, ◌++◌, List, [], ◌∷◌, Option, Some, None, IsSome, length, map, slice_get}
-use Rattle.std.specs.List.{IsDistinct}
+use Rattle.std.specs.Prelude.{◌≡◌, ◌↔◌, ℕ, ◌≤◌, ◌==◌, ◌++◌, List, [], ◌∷◌, Option, Some, None, IsSome, length, map}
+use Rattle.std.specs.List.{All, Contains, IsDistinct}
 use Rattle.tg_rights.specs.RightSet.{RightSet, no_rights}
 use Rattle.tg_model.specs.declared.value.Value.{Value}
+use Rattle.tg_word.specs.Word.{nursery_space}
 use Rattle.tg_word.specs.declared.Place.{Place}
+use Rattle.tg_word.specs.declared.TheConstants.{SPACES}
+use Rattle.tg_subjects.specs.Subjects.{AreSubjects, IsLeastFree, names_of, nursery_held, places_of}
+use Rattle.tg_subjects.specs.declared.subject.Subject.{Subject}
 use Rattle.tg_block.specs.declared.CellKind.TheVariants.{Object}
 use Rattle.tg_space.specs.SpaceList.{SpaceList, BlockList, cells_of}
 use Rattle.tg_space.specs.SpaceTable.{SpaceTable, IsFull}
@@ -22,13 +26,27 @@ use Rattle.tg_graph.specs.Content.{Content}
 use Rattle.tg_graph.specs.Rows.{IsChain, IsVertexAt, key_at, name_at, names_in, object_named, objects_of, rights_to, row_words}
 use Rattle.tg_space.specs.Rows.{chunks_from, link_at}
 
--- The cells of all spaces, the table of payloads, where the vertex of each worker is, and which cells of Old are
+-- The cells of all spaces, the table of payloads, the active subjects by rising name, and which cells of Old are
 -- remembered, in the order in which they were noted.
 pub record HeapState : Type 0 where
   pub table : SpaceTable
   pub payloads : Payloads
-  pub workers : List Place
+  pub subjects : List Subject
   pub remembered : List Place
+
+-- ---- active subjects
+
+-- the names of the active subjects, rising
+abbrev pub subject_names : HeapState → List ℕ
+subject_names s = names_of s.subjects
+
+-- an active subject has this name
+abbrev pub IsActive : HeapState → ℕ → Type 0
+IsActive s x = Contains (subject_names s) x
+
+-- the number of the nursery that the active subject with a name holds
+abbrev pub nursery_of : HeapState → ℕ → ℕ
+nursery_of s x = nursery_held s.subjects x
 
 -- ---- content
 
@@ -69,11 +87,11 @@ pub record IsGraph (h : SpaceList) (payloads : Payloads) : Type 0 where
   -- there is a payload under exactly the keys of the objects
   pub payloads_used : (key : ℕ) → IsSome (entry payloads key) ↔ ((p : Place) × IsKindAt h Object p × (key_at h p ≡ key))
 
--- What a collection starts from: the rows of the workers, by rising name; for a nursery collection the remembered cells
--- too, in the order in which they were noted.
+-- What a collection starts from: the rows of the active subjects, by rising name; for a nursery collection the remembered
+-- cells too, in the order in which they were noted.
 abbrev pub roots_of : Kind → HeapState → List Root
-roots_of Full s = map (λ p. Row p) s.workers
-roots_of Nursery s = map (λ p. Row p) s.workers ++ map (λ p. Remembered p) s.remembered
+roots_of Full s = map (λ p. Row p) (places_of s.subjects)
+roots_of Nursery s = map (λ p. Row p) (places_of s.subjects) ++ map (λ p. Remembered p) s.remembered
 
 -- the collections from these roots are those from the others
 abbrev pub CollectAlike : Kind → SpaceList → List Root → List Root → Type 0
@@ -94,19 +112,23 @@ AreShorter h [] (root ∷ roots) = ⊥
 AreShorter h (p ∷ ps) [] = ⊥
 AreShorter h (p ∷ ps) (root ∷ roots) = IsShorter h p root × AreShorter h ps roots
 
--- The cells are those of a graph; each worker is the vertex with its number, and has a nursery; and each cell of Old that
--- names a young one is remembered.
+-- A heap's cells are those of a graph with its active subjects.
 pub record IsWellFormed (s : HeapState) : Type 0 where
   pub graph : IsGraph s.table.spaces s.payloads
-  pub workers : (x : ℕ) (p : Place) → slice_get s.workers x ≡ Some p → IsVertexAt s.table.spaces x p
-  pub nurseries : length s.workers + 2 ≡ length s.table.spaces
+  -- names rise, and each active subject has a nursery of its own
+  pub subjects : AreSubjects s.subjects
+  -- each active subject is the vertex with its name, at its place
+  pub vertices : All (λ x. IsVertexAt s.table.spaces x.name x.place) s.subjects
+  -- there are Old, Aged and all nurseries, held or not
+  pub nurseries : SPACES ≤ length s.table.spaces
+  -- each cell of Old that names a young one is remembered
   pub remembered : AreRemembered s.table.spaces s.remembered
 
 -- two heaps are the same but for room for more payloads and notes
 pub record IsUnchangedHeap (old new : HeapState) : Type 0 where
   pub table : new.table ≡ old.table
   pub entries : new.payloads.entries ≡ old.payloads.entries
-  pub workers : new.workers ≡ old.workers
+  pub subjects : new.subjects ≡ old.subjects
   pub remembered : new.remembered ≡ old.remembered
 
 -- ---- what a call finds, and what it keeps
@@ -123,13 +145,24 @@ abbrev pub rights_found : Option Found → RightSet
 rights_found None = no_rights
 rights_found (Some found) = found.rights
 
--- each worker's object lies in the nursery of that worker
-abbrev pub AreAtHome : List Place → Type 0
-AreAtHome workers = (x : ℕ) (p : Place) → slice_get workers x ≡ Some p → p.space ≡ x + 2
+-- the object of each of these subjects lies in the nursery that the subject holds
+abbrev pub AreAtHome : List Subject → Type 0
+AreAtHome subjects = All (λ x. x.place.space ≡ nursery_space x.nursery) subjects
 
--- workers, limits and the places of vertices are as they were
+-- active subjects, limits and the places of vertices are as they were
 pub record KeepsPlaces (old new : HeapState) : Type 0 where
-  pub workers : new.workers ≡ old.workers
+  pub subjects : new.subjects ≡ old.subjects
+  pub limits : new.table.limits ≡ old.table.limits
+  pub vertices : (x : ℕ) (p : Place) → IsVertexAt old.table.spaces x p → IsVertexAt new.table.spaces x p
+
+-- The vertex with a name is an active subject now, the last one, and holds the least nursery number that none held. Limits and
+-- the places of vertices are as they were.
+pub record AddsSubject (old new : HeapState) (name : ℕ) : Type 0 where
+  pub subject : Subject
+  pub named : subject.name ≡ name
+  pub nursery : IsLeastFree old.subjects subject.nursery
+  pub vertex : IsVertexAt new.table.spaces name subject.place
+  pub subjects : new.subjects ≡ old.subjects ++ subject ∷ []
   pub limits : new.table.limits ≡ old.table.limits
   pub vertices : (x : ℕ) (p : Place) → IsVertexAt old.table.spaces x p → IsVertexAt new.table.spaces x p
 

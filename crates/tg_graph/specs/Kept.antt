@@ -15,7 +15,8 @@ use Rattle.tg_graph.specs.declared.settle.Prepared.{Prepared}
 use Rattle.tg_graph.specs.declared.settle.Rewritten.{Rewritten}
 use Rattle.tg_space.specs.Generations.{AreNeeded}
 use Rattle.tg_graph.specs.Rows.{IsVertexAt, key_at}
-use Rattle.tg_graph.specs.Heap.{HeapState, content_of}
+use Rattle.tg_subjects.specs.Subjects.{nurseries_of, places_of}
+use Rattle.tg_graph.specs.Heap.{HeapState, content_of, subject_names}
 use Rattle.tg_graph.specs.Standing.{KeepsReached}
 
 -- ---- cells
@@ -90,12 +91,12 @@ Drops payloads left dead =
 -- ---- the heap
 
 -- What a nursery collection leaves of a heap was made ready: the keys whose payloads go, each once, the words that the
--- remembered cells are to have, and where the workers are then.
+-- remembered cells are to have, and where the active subjects are then.
 pub record IsPrepared (s : HeapState) (forward : List ℕ) (prepared : Prepared) : Type 0 where
   pub keys : (key : ℕ) → Contains prepared.dead.items key ↔ IsDeadKey Nursery s.table.spaces forward key
   pub each_once : AllPairs (λ a b. a ≢ b) prepared.dead.items
   pub cells : prepared.cells.items ≡ map (rewritten_at s.table.spaces forward) s.remembered
-  pub workers : prepared.workers.items ≡ map (moved_place young_spaces s.table.spaces (new_place forward)) s.workers
+  pub places : prepared.places.items ≡ map (moved_place young_spaces s.table.spaces (new_place forward)) (places_of s.subjects)
 
 -- each vertex in Old is where it was
 abbrev pub VerticesOfOldStay : SpaceList → SpaceList → Type 0
@@ -104,11 +105,12 @@ VerticesOfOldStay h after =
 
 -- what a collection of a kind leaves of a heap
 pub record IsSettled (kind : Kind) (old new : HeapState) : Type 0 where
-  pub keeps : KeepsReached kind (content_of old) (content_of new) (length old.workers)
+  pub keeps : KeepsReached kind (content_of old) (content_of new) (subject_names old)
   pub only_old : kind ≡ Full → (space : ℕ) → space ≢ 0 → space_of new.table.spaces space ≡ []
   pub no_nursery : (space : ℕ) → 2 ≤ space → space_of new.table.spaces space ≡ []
   pub limits : new.table.limits ≡ old.table.limits
   pub needed : AreNeeded new.table.spaces new.remembered
   pub none_needed : kind ≡ Full → new.remembered ≡ []
   pub stay : kind ≡ Nursery → VerticesOfOldStay old.table.spaces new.table.spaces
-  pub workers : length new.workers ≡ length old.workers
+  pub subjects : subject_names new ≡ subject_names old
+  pub nurseries : nurseries_of new.subjects ≡ nurseries_of old.subjects

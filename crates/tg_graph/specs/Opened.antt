@@ -1,10 +1,12 @@
 -- What an opening has made of its cells on the way.
-use Rattle.std.specs.Prelude.{◌≡◌, ◌≢◌, ℕ, ◌+◌, ◌<◌, ◌≤◌, ◌==◌, nat_lt, if◌then◌else◌, List, length, slice_get, slice_index_or, Some}
+use Rattle.std.specs.Prelude.{◌≡◌, ◌≢◌, ℕ, ◌+◌, ◌<◌, ◌≤◌, ◌==◌, nat_lt, if◌then◌else◌, List, [], length, slice_get, slice_index_or, Some}
 use Rattle.tg_rights.specs.RightSet.{RightSet, no_rights}
 use Rattle.tg_model.specs.declared.edge.Edge.{Edge}
 use Rattle.tg_model.specs.declared.value.Value.{Value}
 use Rattle.tg_model.specs.Opened.{label_in}
+use Rattle.tg_word.specs.Word.{nursery_space}
 use Rattle.tg_word.specs.declared.Place.{Place}
+use Rattle.tg_word.specs.declared.TheConstants.{SPACES}
 use Rattle.tg_block.specs.Cells.{free_cell}
 use Rattle.tg_space.specs.SpaceList.{Holds, block_count, cell_at, space_of}
 use Rattle.tg_space.specs.SpaceTable.{SpaceTable, BlockLimits, used_of}
@@ -14,25 +16,30 @@ use Rattle.tg_graph.specs.Content.{IsContent}
 use Rattle.tg_graph.specs.Rows.{IsVertexAt}
 use Rattle.tg_graph.specs.Heap.{IsGraph, content_in}
 
--- Each nursery has a block, and no other space has one; no cell was handed out, and all are free.
+-- no space has a block, and no cell was handed out
+pub record HasNoBlocks (t : SpaceTable) : Type 0 where
+  pub blocks : (space : ℕ) → space_of t.spaces space ≡ []
+  pub unused : (space : ℕ) → used_of t space ≡ 0
+
+-- The nursery of each worker has a block, and no other space has one; no cell was handed out, and all are free.
 pub record HasBlocks (t : SpaceTable) (workers : ℕ) (limits : BlockLimits) : Type 0 where
-  pub spaces : length t.spaces ≡ workers + 2
+  pub spaces : SPACES ≤ length t.spaces
   pub limits_kept : t.limits ≡ limits
-  pub blocks : (x : ℕ) → x < workers → 1 ≤ length (space_of t.spaces (x + 2))
+  pub blocks : (x : ℕ) → x < workers → 1 ≤ length (space_of t.spaces (nursery_space x))
   pub few : block_count t.spaces ≤ workers
   pub old : length (space_of t.spaces 0) ≡ 0
   pub unused : (space : ℕ) → used_of t space ≡ 0
   pub free : (p : Place) → Holds t.spaces p → cell_at t.spaces p ≡ free_cell
 
--- The first workers are at these places and have these values, and the labels between them are these. Each nursery has
--- a block, and no other space has one.
+-- The first workers are at these places and have these values, and the labels between them are these. The nursery of each
+-- worker has a block, and no other space has one.
 pub record IsOpened (t : SpaceTable) (payloads : Payloads) (places : List Place) (workers : ℕ) (limits : BlockLimits) (label : ℕ → ℕ → RightSet) (values : List Value) : Type 0 where
   pub graph : IsGraph t.spaces payloads
   pub content : IsContent (content_in t.spaces payloads) (λ x. x < length places) label (slice_get values)
   pub vertices : (x : ℕ) (p : Place) → slice_get places x ≡ Some p → IsVertexAt t.spaces x p
-  pub spaces : length t.spaces ≡ workers + 2
+  pub spaces : SPACES ≤ length t.spaces
   pub limits_kept : t.limits ≡ limits
-  pub blocks : (x : ℕ) → x < workers → 1 ≤ length (space_of t.spaces (x + 2))
+  pub blocks : (x : ℕ) → x < workers → 1 ≤ length (space_of t.spaces (nursery_space x))
   pub all : block_count t.spaces ≡ workers
   pub old : length (space_of t.spaces 0) ≡ 0
 

@@ -1,5 +1,6 @@
 -- When a heap's content stands for a graph, and what a collection may drop.
-use Rattle.std.specs.Prelude.{◌≡◌, ◌↔◌, ℕ, ◌<◌}
+use Rattle.std.specs.Prelude.{◌≡◌, ◌↔◌, ℕ, ◌<◌, List}
+use Rattle.std.specs.List.{Contains}
 use Rattle.tg_model.specs.Graph.{ProtectionGraph, HasEdge, IsReachable}
 use Rattle.tg_model.specs.Walks.{Walk}
 use Rattle.tg_space.specs.declared.kind.Kind.{Kind}
@@ -14,9 +15,9 @@ pub record IsContentOf (c : Content) (g : ProtectionGraph) : Type 0 where
   pub labels : (x y : ℕ) → IsNamed c x → c.label x y ≡ g.label x y
   pub values : (x : ℕ) → IsNamed c x → c.value x ≡ g.value x
 
--- walks along the content's edges lead to the name from a worker's
-abbrev pub IsReached : Content → ℕ → ℕ → Type 0
-IsReached c workers = Walk (λ x. x < workers) (HasEdge c.label)
+-- walks along the content's edges lead to the name from one of these names of subjects
+abbrev pub IsReached : Content → List ℕ → ℕ → Type 0
+IsReached c subjects = Walk (Contains subjects) (HasEdge c.label)
 
 -- The new content is the old one with these names alone, and what it has edges to is among them.
 pub record Keeps (old new : Content) (kept : ℕ → Type 0) : Type 0 where
@@ -25,8 +26,8 @@ pub record Keeps (old new : Content) (kept : ℕ → Type 0) : Type 0 where
   pub labels : (x y : ℕ) → IsNamed new x → new.label x y ≡ old.label x y
   pub values : (x : ℕ) → IsNamed new x → new.value x ≡ old.value x
 
--- What a collection of a kind keeps: a full one exactly what is reached from the workers, a nursery collection all that
--- is reached, and maybe more.
-abbrev pub KeepsReached : Kind → Content → Content → ℕ → Type 0
-KeepsReached Full old new workers = Keeps old new (IsReached old workers)
-KeepsReached Nursery old new workers = Keeps old new (IsNamed new) × ((x : ℕ) → IsReached old workers x → IsNamed new x)
+-- What a collection of a kind keeps: a full one exactly what is reached from the subjects with these names, a nursery
+-- collection all that is reached, and maybe more.
+abbrev pub KeepsReached : Kind → Content → Content → List ℕ → Type 0
+KeepsReached Full old new subjects = Keeps old new (IsReached old subjects)
+KeepsReached Nursery old new subjects = Keeps old new (IsNamed new) × ((x : ℕ) → IsReached old subjects x → IsNamed new x)

@@ -3,7 +3,8 @@ ghost use Rattle.std.specs.Prelude.{◌≡◌, ◌+◌, ◌<◌, ◌≤◌, ◌�
 ghost use Rattle.std.specs.List.{All, Contains};
 ghost use Rattle.tg_word.specs.declared.Place.{Place};
 ghost use Rattle.tg_rights.specs.RightSet.{is_none_held};
-ghost use Rattle.tg_word.specs.Word.{place_in, rights_in};
+ghost use Rattle.tg_word.specs.Word.{nursery_space, place_in, rights_in};
+ghost use Rattle.tg_word.specs.declared.TheConstants.{MAX_NURSERIES};
 ghost use Rattle.tg_model.specs.Graph.{listing_of, with_rights, without_rights};
 ghost use Rattle.tg_model.specs.Rules.{state_of, with_value, written_at};
 ghost use Rattle.tg_block.specs.declared.CellKind.TheVariants.{Object};
@@ -31,7 +32,7 @@ use tg_payload::{Draft, Payload, PayloadTable};
 use tg_remember::Remembered;
 use tg_rights::Rights;
 use tg_space::{Kind, Spaces};
-use tg_word::{Place, nursery_of, place_of, rights_of};
+use tg_word::{Place, nursery_space, place_of, rights_of};
 
 /// The cells of all spaces, what the objects among them store, and which cells of Old are remembered.
 #[derive(Drop)]
@@ -156,12 +157,12 @@ impl<P: Payload> Cells<P> {
     /// that of the spaces last: where it is refused, there may be room for one more note, and else nothing is changed.
     pub(crate) fn add_edge(
         &mut self,
-        worker: u64,
+        nursery: u64,
         from: Place,
         to: Place,
         rights: Rights,
     ) -> Result<(), AllocateFault>
-        requires worker { worker + 2 < length self.old.spaces.spaces }
+        requires nursery { nursery_space nursery < length self.old.spaces.spaces }
         requires graph { IsGraph self.old.spaces.spaces self.old.payloads }
         requires from { IsKindAt self.old.spaces.spaces Object from }
         requires to { IsKindAt self.old.spaces.spaces Object to }
@@ -172,19 +173,19 @@ impl<P: Payload> Cells<P> {
         ensures payloads { self.new.payloads ≡ self.old.payloads }
         ensures refused { OnErr result (self.new.spaces ≡ self.old.spaces) }
         ensures full { result ≡ Err AllocateFault.HeapFull →
-            LacksCellsFor self.old.spaces (worker + 2) 0 (name_at self.old.spaces.spaces from) (name_at self.old.spaces.spaces to) }
-        ensures had_room { HasLeft self.old.spaces (worker + 2) 1 → length (space_of self.old.spaces.spaces 0) ≡ 0 → IsOk result }
-        ensures placed { OnOk result (IsPutInRow self.old.spaces self.new.spaces self.old.remembered.places self.new.remembered.places (worker + 2) from to rights) }
+            LacksCellsFor self.old.spaces (nursery_space nursery) 0 (name_at self.old.spaces.spaces from) (name_at self.old.spaces.spaces to) }
+        ensures had_room { HasLeft self.old.spaces (nursery_space nursery) 1 → length (space_of self.old.spaces.spaces 0) ≡ 0 → IsOk result }
+        ensures placed { OnOk result (IsPutInRow self.old.spaces self.new.spaces self.old.remembered.places self.new.remembered.places (nursery_space nursery) from to rights) }
         ensures others { KeepsOtherIndexes self.old.spaces.spaces self.new.spaces.spaces from }
-        ensures one_cell { OnOk result (TakesOneCell self.old.spaces self.new.spaces (worker + 2)) }
+        ensures one_cell { OnOk result (TakesOneCell self.old.spaces self.new.spaces (nursery_space nursery)) }
         ensures remembered { AreRemembered self.old.spaces.spaces self.old.remembered.places → AreRemembered self.new.spaces.spaces self.new.remembered.places }
         ensures places { OnErr result (self.new.remembered.places ≡ self.old.remembered.places) }
     {
         let name = self.spaces.read(to, NAME);
         let spot = find_spot(&self.spaces, from, name);
         let note = spot.note(Kind::Nursery.moves(to.space));
-        self.make_room(worker, note, spot.cells())?;
-        put(&mut self.spaces, worker, spot, to, rights);
+        self.make_room(nursery, note, spot.cells())?;
+        put(&mut self.spaces, nursery, spot, to, rights);
         remember(&mut self.remembered, note);
         Ok(())
     }
@@ -237,17 +238,17 @@ impl<P: Payload> Cells<P> {
     }
 
     /// Makes an object with a name that none has, gives another one rights over it, and notes the written cell if it has
-    /// to be remembered. Growth comes first, that of the spaces last: where it is refused, there may be room for one more
-    /// payload and one more note, and else nothing is changed.
+    /// to be remembered. The answer is where the object is. Growth comes first, that of the spaces last: where it is refused,
+    /// there may be room for one more payload and one more note, and else nothing is changed.
     pub(crate) fn new_vertex(
         &mut self,
-        worker: u64,
+        nursery: u64,
         from: Place,
         name: u64,
         rights: Rights,
         draft: Draft<P>,
-    ) -> Result<(), VertexRefused<P>>
-        requires worker { worker + 2 < length self.old.spaces.spaces }
+    ) -> Result<Place, VertexRefused<P>>
+        requires nursery { nursery_space nursery < length self.old.spaces.spaces }
         requires graph { IsGraph self.old.spaces.spaces self.old.payloads }
         requires from { IsKindAt self.old.spaces.spaces Object from }
         requires some { is_none_held rights ≡ false }
@@ -255,97 +256,98 @@ impl<P: Payload> Cells<P> {
         ensures made { let content = content_in self.old.spaces.spaces self.old.payloads in
             OnOk result (ChangesTo self.old.spaces self.new.spaces self.new.payloads (λ x. IsNamed content x ⊎ (x ≡ name))
             (with_rights content.label (name_at self.old.spaces.spaces from) name rights) (with_value content.value name draft)) }
+        ensures vertex { IfOk result (IsVertexAt self.new.spaces.spaces name) }
         ensures handed_back { IfErr result (λ refused. refused.draft ≡ draft) }
         ensures spaces { OnErr result (self.new.spaces ≡ self.old.spaces) }
         ensures payloads { OnErr result (self.new.payloads.entries ≡ self.old.payloads.entries) }
         ensures places { OnErr result (self.new.remembered.places ≡ self.old.remembered.places) }
         ensures remembered { AreRemembered self.old.spaces.spaces self.old.remembered.places → AreRemembered self.new.spaces.spaces self.new.remembered.places }
-        ensures placed { OnOk result (IsMadeInRow self.old.spaces self.new.spaces self.old.remembered.places self.new.remembered.places (worker + 2)
+        ensures placed { OnOk result (IsMadeInRow self.old.spaces self.new.spaces self.old.remembered.places self.new.remembered.places (nursery_space nursery)
             (name_at self.old.spaces.spaces from) name rights) }
         ensures others { KeepsOtherIndexes self.old.spaces.spaces self.new.spaces.spaces from }
         ensures full { IfErr result (λ refused. refused.why ≡ AllocateFault.HeapFull →
-            LacksCellsFor self.old.spaces (worker + 2) 1 (name_at self.old.spaces.spaces from) name) }
+            LacksCellsFor self.old.spaces (nursery_space nursery) 1 (name_at self.old.spaces.spaces from) name) }
     {
         let spot = find_spot(&self.spaces, from, name);
         let note = spot.note(true);
-        if let Err(why) = self.make_vertex_room(worker, note, 1 + spot.cells()) {
+        if let Err(why) = self.make_vertex_room(nursery, note, 1 + spot.cells()) {
             return Err(VertexRefused { draft, why });
         }
-        let to = self.place_vertex(worker, name, draft);
-        put(&mut self.spaces, worker, spot, to, rights);
+        let to = self.place_vertex(nursery, name, draft);
+        put(&mut self.spaces, nursery, spot, to, rights);
         remember(&mut self.remembered, note);
-        Ok(())
+        Ok(to)
     }
 
     /// Makes room for one payload, then for a note, and then for so many cells of a nursery.
     pub(crate) fn make_vertex_room(
         &mut self,
-        worker: u64,
+        nursery: u64,
         note: Option<Place>,
         cells: u64,
     ) -> Result<(), AllocateFault>
-        requires few { worker < 64 }
+        requires few { nursery < MAX_NURSERIES }
         requires few_cells { cells ≤ 64 }
-        requires nursery { worker + 2 < length self.old.spaces.spaces }
+        requires nursery { nursery_space nursery < length self.old.spaces.spaces }
         ensures payloads { self.new.payloads.entries ≡ self.old.payloads.entries }
         ensures remembered { self.new.remembered.places ≡ self.old.remembered.places }
         ensures spare { OnOk result (0 < self.new.payloads.spare) }
         ensures note { OnOk result (IfSome note (λ _. 0 < self.new.remembered.spare)) }
-        ensures spaces { OnOk result (self.new.spaces ≡ room_made_for self.old.spaces (worker + 2) cells) }
+        ensures spaces { OnOk result (self.new.spaces ≡ room_made_for self.old.spaces (nursery_space nursery) cells) }
         ensures table { OnOk result (IsSpaceTable self.new.spaces) }
-        ensures left { OnOk result (HasLeft self.new.spaces (worker + 2) cells) }
+        ensures left { OnOk result (HasLeft self.new.spaces (nursery_space nursery) cells) }
         ensures refused { OnErr result (self.new.spaces ≡ self.old.spaces) }
-        ensures full { result ≡ Err AllocateFault.HeapFull → HasFewerLeft self.old.spaces (worker + 2) cells × IsFull self.old.spaces (worker + 2) }
+        ensures full { result ≡ Err AllocateFault.HeapFull → HasFewerLeft self.old.spaces (nursery_space nursery) cells × IsFull self.old.spaces (nursery_space nursery) }
     {
         let Ok(()) = self.payloads.reserve(1) else {
             return Err(AllocateFault::OutOfMemory);
         };
-        self.make_room(worker, note, cells)
+        self.make_room(nursery, note, cells)
     }
 
     /// Makes room for a note, if there is one, and then for so many cells of a nursery.
     pub(crate) fn make_room(
         &mut self,
-        worker: u64,
+        nursery: u64,
         note: Option<Place>,
         cells: u64,
     ) -> Result<(), AllocateFault>
-        requires few { worker < 64 }
+        requires few { nursery < MAX_NURSERIES }
         requires few_cells { cells ≤ 64 }
-        requires nursery { worker + 2 < length self.old.spaces.spaces }
+        requires nursery { nursery_space nursery < length self.old.spaces.spaces }
         ensures payloads { self.new.payloads ≡ self.old.payloads }
         ensures remembered { self.new.remembered.places ≡ self.old.remembered.places }
         ensures note { OnOk result (IfSome note (λ _. 0 < self.new.remembered.spare)) }
-        ensures spaces { OnOk result (self.new.spaces ≡ room_made_for self.old.spaces (worker + 2) cells) }
+        ensures spaces { OnOk result (self.new.spaces ≡ room_made_for self.old.spaces (nursery_space nursery) cells) }
         ensures table { OnOk result (IsSpaceTable self.new.spaces) }
-        ensures left { OnOk result (HasLeft self.new.spaces (worker + 2) cells) }
-        ensures had_room { HasLeft self.old.spaces (worker + 2) cells → note ≡ None → IsOk result }
+        ensures left { OnOk result (HasLeft self.new.spaces (nursery_space nursery) cells) }
+        ensures had_room { HasLeft self.old.spaces (nursery_space nursery) cells → note ≡ None → IsOk result }
         ensures refused { OnErr result (self.new.spaces ≡ self.old.spaces) }
-        ensures full { result ≡ Err AllocateFault.HeapFull → HasFewerLeft self.old.spaces (worker + 2) cells × IsFull self.old.spaces (worker + 2) }
+        ensures full { result ≡ Err AllocateFault.HeapFull → HasFewerLeft self.old.spaces (nursery_space nursery) cells × IsFull self.old.spaces (nursery_space nursery) }
     {
         let Ok(()) = reserve_note(&mut self.remembered, note) else {
             return Err(AllocateFault::OutOfMemory);
         };
-        reserve(&mut self.spaces, worker, cells)
+        reserve(&mut self.spaces, nursery, cells)
     }
 
     /// Puts an object with a name that none has into the next cell of a nursery. There is room for it.
-    pub(crate) fn place_vertex(&mut self, worker: u64, name: u64, draft: Draft<P>) -> Place
-        requires few { worker < 64 }
-        requires nursery { worker + 2 < length self.old.spaces.spaces }
+    pub(crate) fn place_vertex(&mut self, nursery: u64, name: u64, draft: Draft<P>) -> Place
+        requires few { nursery < MAX_NURSERIES }
+        requires nursery { nursery_space nursery < length self.old.spaces.spaces }
         requires table { IsSpaceTable self.old.spaces }
         requires graph { IsGraph self.old.spaces.spaces self.old.payloads }
         requires fresh { ¬ IsNamed (content_in self.old.spaces.spaces self.old.payloads) name }
         requires spare { 0 < self.old.payloads.spare }
-        requires left { HasLeft self.old.spaces (worker + 2) 1 }
+        requires left { HasLeft self.old.spaces (nursery_space nursery) 1 }
         ensures placed { let content = content_in self.old.spaces.spaces self.old.payloads in
             ChangesTo self.old.spaces self.new.spaces self.new.payloads (λ x. IsNamed content x ⊎ (x ≡ name)) content.label (with_value content.value name draft) }
         ensures vertex { IsVertexAt self.new.spaces.spaces name result }
-        ensures next { result ≡ place_in_space (worker + 2) (used_of self.old.spaces (worker + 2)) }
-        ensures written { (key : ℕ) × (self.new.spaces ≡ vertex_put self.old.spaces (worker + 2) name key) }
+        ensures next { result ≡ place_in_space (nursery_space nursery) (used_of self.old.spaces (nursery_space nursery)) }
+        ensures written { (key : ℕ) × (self.new.spaces ≡ vertex_put self.old.spaces (nursery_space nursery) name key) }
         ensures rows { KeepsRows self.old.spaces.spaces self.new.spaces.spaces }
         ensures table { IsSpaceTable self.new.spaces }
-        ensures used { self.new.spaces.used ≡ slice_set self.old.spaces.used (worker + 2) (used_of self.old.spaces (worker + 2) + 1) }
+        ensures used { self.new.spaces.used ≡ slice_set self.old.spaces.used (nursery_space nursery) (used_of self.old.spaces (nursery_space nursery) + 1) }
         ensures blocks { (space : ℕ) → length (space_of self.new.spaces.spaces space) ≡ length (space_of self.old.spaces.spaces space) }
         ensures spare_left { self.old.payloads.spare ≤ self.new.payloads.spare + 1 }
         ensures remembered { (places : List Place) → AreRemembered self.old.spaces.spaces places → AreRemembered self.new.spaces.spaces places }
@@ -355,7 +357,7 @@ impl<P: Payload> Cells<P> {
             Ok(key) => key,
             Err(_) => unreachable!(),
         };
-        let place = self.spaces.hand_out(nursery_of(worker));
+        let place = self.spaces.hand_out(nursery_space(nursery));
         self.spaces
             .write_cell(place, [OBJECT_TAG, name, key, 0, 0, 0, 0, 0]);
         place

@@ -1,13 +1,17 @@
 //! The heap of one store.
-ghost use Rattle.std.specs.Prelude.{◌==◌, ◌≡◌, ◌↔◌, ◌+◌, ◌<◌, ◌⊎◌, ℕ, Err, IfOk, IfErr, IfSome, IsErrAnd, IsSome, OnOk, OnErr, length, option_map, slice_get, Some};
-ghost use Rattle.std.specs.List.{All, IsDistinct};
+ghost use Rattle.std.specs.Prelude.{◌==◌, ◌≡◌, ◌↔◌, ◌<◌, ◌⊎◌, ℕ, Err, IfOk, IfErr, IfSome, IsErrAnd, IsSome, OnOk, OnErr, length, option_map, Some};
+ghost use Rattle.std.specs.List.{All, Contains, IsDistinct, range_with_len};
 ghost use Rattle.tg_model.specs.Graph.{HasEdge, listing_of, with_rights, without_rights};
 ghost use Rattle.tg_model.specs.Opened.{start_of};
 ghost use Rattle.tg_model.specs.Rules.{state_of, with_value, written_at};
+ghost use Rattle.tg_word.specs.Word.{nursery_space};
+ghost use Rattle.tg_word.specs.declared.TheConstants.{MAX_NURSERIES};
+ghost use Rattle.tg_subjects.specs.Subjects.{IsSubjectNamed, nurseries_of, without};
+ghost use Rattle.tg_subjects.specs.declared.subject.Subject.{Subject as SubjectOf};
 ghost use Rattle.tg_space.specs.SpaceList.{block_count, space_of};
 ghost use Rattle.tg_space.specs.SpaceTable.{IsSpaceTable};
 ghost use Rattle.tg_graph.specs.Content.{IsContent, IsNamed};
-ghost use Rattle.tg_graph.specs.Heap.{AreAtHome, IsObject, IsUnchangedHeap, IsWellFormed, KeepsPlaces, content_of, name_of, rights_found};
+ghost use Rattle.tg_graph.specs.Heap.{AddsSubject, AreAtHome, IsActive, IsObject, IsUnchangedHeap, IsWellFormed, KeepsPlaces, content_of, name_of, nursery_of, rights_found, subject_names};
 ghost use Rattle.tg_graph.specs.Rows.{IsVertexAt};
 ghost use Rattle.tg_graph.specs.Spots.{IsMadeInRow, IsPutInRow, LacksCellsFor};
 ghost use Rattle.tg_graph.specs.Standing.{IsContentOf};
@@ -23,6 +27,7 @@ use tg_payload::{Draft, Payload, PayloadTable};
 use tg_remember::Remembered;
 use tg_rights::{Label, Rights};
 use tg_space::{Limits, Spaces};
+use tg_subjects::{Subject, Subjects};
 use tg_word::Place;
 
 /// A reference that was found in a row.
@@ -48,14 +53,14 @@ pub struct VertexRefused<P: Payload> {
     pub why: AllocateFault,
 }
 
-/// The cells of a graph, what its vertices store, and where its workers are.
+/// The cells of a graph, what its vertices store, and its active subjects.
 ///
 /// Contracts see it as a `HeapState`, and speak of its content: the names of the vertices that it has, the labels
 /// between them and their values. A vertex is named to most calls by the place of its object.
 #[derive(Drop)]
 pub struct Heap<P: Payload> {
     pub(crate) cells: Cells<P>,
-    pub(crate) workers: Vec<Place>,
+    pub(crate) subjects: Subjects,
     pub(crate) rows: LongRows,
 }
 
@@ -65,15 +70,15 @@ impl<P: Payload> Model for Heap<P> {
 
     ghost Value = { HeapState };
 
-    ghost view = { λ a. record { table = a.cells.spaces; payloads = a.cells.payloads; workers = a.workers.items; remembered = a.cells.remembered.places } };
+    ghost view = { λ a. record { table = a.cells.spaces; payloads = a.cells.payloads; subjects = a.subjects; remembered = a.cells.remembered.places } };
 
-    ghost invariant = { λ a. IsWellFormed (record { table = a.cells.spaces; payloads = a.cells.payloads; workers = a.workers.items; remembered = a.cells.remembered.places }) × AreIndexed a.cells.spaces.spaces a.cells.remembered.places a.rows.entries };
+    ghost invariant = { λ a. IsWellFormed (record { table = a.cells.spaces; payloads = a.cells.payloads; subjects = a.subjects; remembered = a.cells.remembered.places }) × AreIndexed a.cells.spaces.spaces a.cells.remembered.places a.rows.entries };
 }
 
 impl<P: Payload> Heap<P> {
     /// The heap of the graph that an opening starts from. The drafts are those of the workers, by rising name, with the
-    /// opening's values. Each worker's object lies in the nursery of that worker, and so do the chunks of its row. The heap
-    /// takes a block for each worker and no more.
+    /// opening's values. The active subjects are the workers, and each holds the nursery whose number is its name. Its object
+    /// lies there, and so do the chunks of its row. The heap takes a block for each worker and no more.
     ///
     /// It is refused where there may be fewer blocks than there are workers (`HeapFull`, exactly then), and where memory
     /// is (`OutOfMemory`). Then the drafts come back as they were.
@@ -85,39 +90,66 @@ impl<P: Payload> Heap<P> {
     ) -> Result<Heap<P>, HeapRefused<P>>
         requires { drafts.items ≡ opening.now.values }
         ensures stands { IfOk result (λ heap. IsContentOf (content_of heap) (start_of opening.now)) }
-        ensures workers { IfOk result (λ heap. length heap.workers ≡ opening.now.workers) }
-        ensures nurseries { IfOk result (λ heap. AreAtHome heap.workers) }
+        ensures subjects { IfOk result (λ heap. subject_names heap ≡ range_with_len 0 opening.now.workers) }
+        ensures numbers { IfOk result (λ heap. nurseries_of heap.subjects ≡ range_with_len 0 opening.now.workers) }
+        ensures nurseries { IfOk result (λ heap. AreAtHome heap.subjects) }
         ensures limits { IfOk result (λ heap. heap.table.limits ≡ limits) }
         ensures blocks { IfOk result (λ heap. block_count heap.table.spaces ≡ opening.now.workers) }
         ensures handed_back { IfErr result (λ refused. refused.drafts.items ≡ drafts.items) }
         ensures full { IsErrAnd result (λ refused. refused.why ≡ AllocateFault.HeapFull) ↔ (limits.max_blocks < opening.now.workers) }
     {
-        let (cells, workers) = opened(alloc, opening, limits, drafts)?;
+        let (cells, subjects) = opened(alloc, opening, limits, drafts)?;
         Ok(Heap {
             cells,
-            workers,
+            subjects,
             rows: LongRows::new(alloc),
         })
     }
 
-    /// How many workers there are. They are named 0, 1, 2, .. What holds of every heap is told here. Takes no memory.
-    pub fn workers(&self) -> u64
-        ensures number { result ≡ length self.now.workers }
+    /// The active subjects, by rising name. What holds of every heap is told here. Takes no memory.
+    pub fn subjects(&self) -> &[Subject]
+        ensures subjects { result.now ≡ self.now.subjects }
         ensures well_formed { IsWellFormed self.now }
         ensures table { IsSpaceTable self.now.table }
     {
         // It tells what holds of all spaces (`IsSpaceTable`).
         let _ = self.cells.spaces.blocks();
-        self.workers.len() as u64
+        self.subjects.as_slice()
     }
 
-    /// Where the object of a worker is. Takes no memory.
+    /// The active subject with a name, if there is one. Takes no memory.
+    #[inline(always)]
+    pub fn subject(&self, name: u64) -> Option<Subject>
+        ensures active { IsSome result ↔ IsActive self.now name }
+        ensures there { IfSome result (IsSubjectNamed self.now.subjects name) }
+        ensures nursery { IfSome result (λ subject. subject.nursery ≡ nursery_of self.now name) }
+        ensures vertex { IfSome result (λ subject. IsVertexAt self.now.table.spaces name subject.place) }
+    {
+        self.subjects.find(name)
+    }
+
+    /// Where the object of an active subject is. Takes no memory.
+    #[inline(always)]
     pub fn worker_place(&self, worker: u64) -> Place
-        requires { worker < length self.now.workers }
-        ensures place { slice_get self.now.workers worker ≡ Some result }
+        requires { IsActive self.now worker }
+        ensures place { (subject : SubjectOf) × IsSubjectNamed self.now.subjects worker subject × (subject.place ≡ result) }
         ensures vertex { IsVertexAt self.now.table.spaces worker result }
     {
-        self.workers[worker as usize]
+        self.active(worker).place
+    }
+
+    // The active subject with a name, which there is.
+    #[inline(always)]
+    pub(crate) fn active(&self, name: u64) -> Subject
+        requires { IsActive self.now name }
+        ensures there { IsSubjectNamed self.now.subjects name result }
+        ensures nursery { result.nursery ≡ nursery_of self.now name }
+        ensures vertex { IsVertexAt self.now.table.spaces name result.place }
+    {
+        match self.subject(name) {
+            Some(subject) => subject,
+            None => unreachable!(),
+        }
     }
 
     /// How many vertices the heap has. No name is counted twice. Takes no memory.
@@ -163,8 +195,8 @@ impl<P: Payload> Heap<P> {
         self.cells.find_edge_in(&self.rows, from, name)
     }
 
-    /// The edges of the vertex at a place, by rising name of the target. Sorts once. Answers only want of memory
-    /// otherwise.
+    /// The edges of the vertex at a place, by rising name of the target. Sorts once. Fails only when out of
+    /// memory.
     #[inline(always)]
     pub fn row(&self, from: Place) -> Result<EdgeList, AllocError>
         requires { IsObject self.now from }
@@ -173,7 +205,7 @@ impl<P: Payload> Heap<P> {
         self.cells.row(from)
     }
 
-    /// The state of the vertex at a place. Answers only want of memory otherwise.
+    /// The state of the vertex at a place. Fails only when out of memory.
     #[inline(always)]
     pub fn state(&self, at: Place) -> Result<Numbers, AllocError>
         requires { IsObject self.now at }
@@ -214,8 +246,8 @@ impl<P: Payload> Heap<P> {
     }
 
     /// Gives the vertex at one place rights over the vertex at another. Where the row has a reference to it, that gets
-    /// the rights too; else the first empty place of the row gets a new reference, or a new chunk from the nursery of
-    /// a worker. A cell of Old that names a young one then is remembered.
+    /// the rights too; else the first empty place of the row gets a new reference, or else a new chunk from the nursery that
+    /// the worker holds, an active subject. A cell of Old that names a young one then is remembered.
     ///
     /// It is refused where memory for the block of a chunk, for the note of a cell or for the index of the row was refused
     /// (`OutOfMemory`), or where a chunk is needed and the nursery is used up and gets no more blocks (`HeapFull`). Then
@@ -227,18 +259,41 @@ impl<P: Payload> Heap<P> {
         to: Place,
         label: Label,
     ) -> Result<(), AllocateFault>
-        requires worker { worker < length self.old.workers }
+        requires worker { IsActive self.old worker }
         requires from { IsObject self.old from }
         requires to { IsObject self.old to }
         ensures added { OnOk result (IsContent (content_of self.new) (IsNamed (content_of self.old))
             (with_rights (content_of self.old).label (name_of self.old from) (name_of self.old to) label) (content_of self.old).value) }
-        ensures placed { OnOk result (IsPutInRow self.old.table self.new.table self.old.remembered self.new.remembered (worker + 2) from to label) }
+        ensures placed { OnOk result (IsPutInRow self.old.table self.new.table self.old.remembered self.new.remembered (nursery_space (nursery_of self.old worker)) from to label) }
         ensures kept { OnOk result (KeepsPlaces self.old self.new) }
         ensures refused { OnErr result (self.new ≡ self.old) }
-        ensures full { result ≡ Err AllocateFault.HeapFull → LacksCellsFor self.old.table (worker + 2) 0 (name_of self.old from) (name_of self.old to) }
+        ensures full { result ≡ Err AllocateFault.HeapFull → LacksCellsFor self.old.table (nursery_space (nursery_of self.old worker)) 0 (name_of self.old from) (name_of self.old to) }
+    {
+        let subject = self.active(worker);
+        self.add_edge_as(subject, from, to, label)
+    }
+
+    /// What [`Heap::add_edge`] does for a worker that was looked up.
+    #[inline(always)]
+    pub fn add_edge_as(
+        &mut self,
+        worker: Subject,
+        from: Place,
+        to: Place,
+        label: Label,
+    ) -> Result<(), AllocateFault>
+        requires worker { Contains self.old.subjects worker }
+        requires from { IsObject self.old from }
+        requires to { IsObject self.old to }
+        ensures added { OnOk result (IsContent (content_of self.new) (IsNamed (content_of self.old))
+            (with_rights (content_of self.old).label (name_of self.old from) (name_of self.old to) label) (content_of self.old).value) }
+        ensures placed { OnOk result (IsPutInRow self.old.table self.new.table self.old.remembered self.new.remembered (nursery_space worker.nursery) from to label) }
+        ensures kept { OnOk result (KeepsPlaces self.old self.new) }
+        ensures refused { OnErr result (self.new ≡ self.old) }
+        ensures full { result ≡ Err AllocateFault.HeapFull → LacksCellsFor self.old.table (nursery_space worker.nursery) 0 (name_of self.old from) (name_of self.old to) }
     {
         self.cells
-            .add_edge_in(&mut self.rows, worker, from, to, label.rights())
+            .add_edge_in(&mut self.rows, worker.nursery, from, to, label.rights())
     }
 
     /// Takes rights over the vertex with a name from the vertex at a place. A reference that has none left leaves an
@@ -256,14 +311,14 @@ impl<P: Payload> Heap<P> {
             .drop_rights_in(&mut self.rows, from, name, label.rights());
     }
 
-    /// Makes a vertex with a name that none has, which stores the draft's payload, and gives a worker rights over it.
-    /// All growth comes before any change, that of the blocks last. The vertex is the next cell of the worker's nursery, and
-    /// the reference to it goes where `add_edge` would put it. A cell of Old that names the vertex, or a new chunk, is
-    /// remembered.
+    /// Makes a vertex with a name that none has, which stores the draft's payload, and gives the worker, an active subject,
+    /// rights over it. All growth comes before any change, that of the blocks last. The vertex is the next cell of the nursery
+    /// that the worker holds, and the reference to it goes where `add_edge` would put it. A cell of Old that names the vertex, or
+    /// a new chunk, is remembered.
     ///
     /// It is refused where memory was (`OutOfMemory`), and where the vertex and its reference need more cells than the
-    /// nursery of the worker has left, and it gets no more blocks (`HeapFull`). Then the draft comes back, and nothing is changed but that there may be room
-    /// for one more payload and one more note.
+    /// nursery of the worker has left, and it gets no more blocks (`HeapFull`). Then the draft comes back, and nothing is changed
+    /// but that there may be room for one more payload and one more note.
     pub fn new_vertex(
         &mut self,
         worker: u64,
@@ -271,18 +326,90 @@ impl<P: Payload> Heap<P> {
         label: Label,
         draft: Draft<P>,
     ) -> Result<(), VertexRefused<P>>
-        requires worker { worker < length self.old.workers }
+        requires worker { IsActive self.old worker }
         requires fresh { ¬ IsNamed (content_of self.old) name }
         ensures made { OnOk result (IsContent (content_of self.new) (λ x. IsNamed (content_of self.old) x ⊎ (x ≡ name))
             (with_rights (content_of self.old).label worker name label) (with_value (content_of self.old).value name draft)) }
-        ensures placed { OnOk result (IsMadeInRow self.old.table self.new.table self.old.remembered self.new.remembered (worker + 2) worker name label) }
+        ensures placed { OnOk result (IsMadeInRow self.old.table self.new.table self.old.remembered self.new.remembered (nursery_space (nursery_of self.old worker)) worker name label) }
         ensures kept { OnOk result (KeepsPlaces self.old self.new) }
         ensures handed_back { IfErr result (λ refused. refused.draft ≡ draft) }
         ensures refused { OnErr result (IsUnchangedHeap self.old self.new) }
-        ensures full { IfErr result (λ refused. refused.why ≡ AllocateFault.HeapFull → LacksCellsFor self.old.table (worker + 2) 1 worker name) }
+        ensures full { IfErr result (λ refused. refused.why ≡ AllocateFault.HeapFull → LacksCellsFor self.old.table (nursery_space (nursery_of self.old worker)) 1 worker name) }
     {
-        let from = self.worker_place(worker);
-        self.cells
-            .new_vertex_in(&mut self.rows, worker, from, name, label.rights(), draft)
+        let subject = self.active(worker);
+        self.new_vertex_as(subject, name, label, draft)?;
+        Ok(())
+    }
+
+    /// What [`Heap::new_vertex`] does for a worker that was looked up. It answers where the vertex is.
+    #[inline(always)]
+    pub fn new_vertex_as(
+        &mut self,
+        worker: Subject,
+        name: u64,
+        label: Label,
+        draft: Draft<P>,
+    ) -> Result<Place, VertexRefused<P>>
+        requires worker { Contains self.old.subjects worker }
+        requires fresh { ¬ IsNamed (content_of self.old) name }
+        ensures made { OnOk result (IsContent (content_of self.new) (λ x. IsNamed (content_of self.old) x ⊎ (x ≡ name))
+            (with_rights (content_of self.old).label worker.name name label) (with_value (content_of self.old).value name draft)) }
+        ensures placed { OnOk result (IsMadeInRow self.old.table self.new.table self.old.remembered self.new.remembered (nursery_space worker.nursery) worker.name name label) }
+        ensures vertex { IfOk result (IsVertexAt self.new.table.spaces name) }
+        ensures kept { OnOk result (KeepsPlaces self.old self.new) }
+        ensures handed_back { IfErr result (λ refused. refused.draft ≡ draft) }
+        ensures refused { OnErr result (IsUnchangedHeap self.old self.new) }
+        ensures full { IfErr result (λ refused. refused.why ≡ AllocateFault.HeapFull → LacksCellsFor self.old.table (nursery_space worker.nursery) 1 worker.name name) }
+    {
+        self.cells.new_vertex_in(
+            &mut self.rows,
+            worker.nursery,
+            worker.place,
+            name,
+            label.rights(),
+            draft,
+        )
+    }
+
+    /// Makes a vertex as `new_vertex` does, which is an active subject then. It holds the nursery with the least number that
+    /// no active subject holds. Its own cell lies in the nursery of the worker, and where a retired subject left cells in the
+    /// nursery that it holds, its cells come behind them. It asks for no more memory than `new_vertex`.
+    ///
+    /// Its name is above those of all active subjects, of which there are fewer than there may be. It is refused as
+    /// `new_vertex` is, and leaves the same.
+    pub fn new_subject(
+        &mut self,
+        worker: u64,
+        name: u64,
+        label: Label,
+        draft: Draft<P>,
+    ) -> Result<(), VertexRefused<P>>
+        requires worker { IsActive self.old worker }
+        requires fresh { ¬ IsNamed (content_of self.old) name }
+        requires few { length self.old.subjects < MAX_NURSERIES }
+        requires above { All (λ x. x < name) (subject_names self.old) }
+        ensures made { OnOk result (IsContent (content_of self.new) (λ x. IsNamed (content_of self.old) x ⊎ (x ≡ name))
+            (with_rights (content_of self.old).label worker name label) (with_value (content_of self.old).value name draft)) }
+        ensures placed { OnOk result (IsMadeInRow self.old.table self.new.table self.old.remembered self.new.remembered (nursery_space (nursery_of self.old worker)) worker name label) }
+        ensures added { OnOk result (AddsSubject self.old self.new name) }
+        ensures handed_back { IfErr result (λ refused. refused.draft ≡ draft) }
+        ensures refused { OnErr result (IsUnchangedHeap self.old self.new) }
+        ensures full { IfErr result (λ refused. refused.why ≡ AllocateFault.HeapFull → LacksCellsFor self.old.table (nursery_space (nursery_of self.old worker)) 1 worker name) }
+    {
+        let subject = self.active(worker);
+        let place = self.new_vertex_as(subject, name, label, draft)?;
+        self.subjects.add(name, place);
+        Ok(())
+    }
+
+    /// The active subject with a name is one no more, if there is one. Its vertex stays, with its edges and what it stores.
+    /// Its nursery keeps its cells until the next collection, and may be given to a new subject before. Takes no memory.
+    pub fn retire(&mut self, name: u64)
+        ensures subjects { self.new.subjects ≡ without self.old.subjects name }
+        ensures table { self.new.table ≡ self.old.table }
+        ensures payloads { self.new.payloads ≡ self.old.payloads }
+        ensures remembered { self.new.remembered ≡ self.old.remembered }
+    {
+        self.subjects.retire(name);
     }
 }

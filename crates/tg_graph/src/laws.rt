@@ -2,7 +2,6 @@
 //!
 //! The proofs of the crates above cite the lemmas behind them, which stand in `proofs/StandingLaws.antt`.
 ghost use Rattle.std.specs.Prelude.{◌≡◌, ◌↔◌, ℕ};
-ghost use Rattle.std.specs.List.{range_with_len};
 ghost use Rattle.tg_model.specs.Graph.{ProtectionGraph, IsReachable};
 ghost use Rattle.tg_space.specs.declared.kind.Kind.{Kind};
 ghost use Rattle.tg_graph.specs.Content.{Content, IsNamed, IsSameContent, OnlyNamedHold};
@@ -10,26 +9,26 @@ ghost use Rattle.tg_graph.specs.Heap.{HeapState, IsUnchangedHeap, content_of};
 ghost use Rattle.tg_graph.specs.Standing.{IsContentOf, IsReached, Keeps, KeepsReached};
 
 /// What a collection keeps stands for the graph that the old content stood for, where all that can be reached is
-/// kept. A full collection keeps what can be reached on the content, from the workers: this is what can be reached on
+/// kept. A full collection keeps what can be reached on the content, from the graph's subjects: this is what can be reached on
 /// the graph, so it stands for the graph too, and its names are exactly those that can be reached.
 pub fn what_is_kept_stands_for_the_same_graph()
     ensures kept { (old new : Content) (g : ProtectionGraph) →
         IsContentOf old g → Keeps old new (IsNamed new) → ((x : ℕ) → IsReachable g x → IsNamed new x) →
         IsContentOf new g }
-    ensures reached { (old : Content) (g : ProtectionGraph) (workers x : ℕ) →
-        IsContentOf old g → g.subjects ≡ range_with_len 0 workers → IsReached old workers x ↔ IsReachable g x }
-    ensures full { (old new : Content) (g : ProtectionGraph) (workers : ℕ) →
-        IsContentOf old g → g.subjects ≡ range_with_len 0 workers → Keeps old new (IsReached old workers) →
+    ensures reached { (old : Content) (g : ProtectionGraph) (x : ℕ) →
+        IsContentOf old g → IsReached old g.subjects x ↔ IsReachable g x }
+    ensures full { (old new : Content) (g : ProtectionGraph) →
+        IsContentOf old g → Keeps old new (IsReached old g.subjects) →
         IsContentOf new g }
-    ensures names { (old new : Content) (g : ProtectionGraph) (workers x : ℕ) →
-        IsContentOf old g → g.subjects ≡ range_with_len 0 workers → Keeps old new (IsReached old workers) →
+    ensures names { (old new : Content) (g : ProtectionGraph) (x : ℕ) →
+        IsContentOf old g → Keeps old new (IsReached old g.subjects) →
         IsNamed new x ↔ IsReachable g x }
 {}
 
 /// What a collection of either kind keeps stands for the graph that the old content stood for.
 pub fn a_collected_heap_stands_for_the_same_graph()
-    ensures { (kind : Kind) (old new : Content) (g : ProtectionGraph) (workers : ℕ) →
-        IsContentOf old g → g.subjects ≡ range_with_len 0 workers → KeepsReached kind old new workers →
+    ensures { (kind : Kind) (old new : Content) (g : ProtectionGraph) →
+        IsContentOf old g → KeepsReached kind old new g.subjects →
         IsContentOf new g }
 {}
 

@@ -1,10 +1,13 @@
 //! Opening a heap.
-ghost use Rattle.std.specs.Prelude.{◌≡◌, ◌≢◌, ◌↔◌, ◌+◌, ◌<◌, ◌≤◌, ℕ, Some, false, true, [], length, slice_get, slice_index_or, slice_set, Err, IfErr, IfOk, IsErrAnd, OnOk, vec_capacity};
-ghost use Rattle.std.specs.List.{All};
+ghost use Rattle.std.specs.Prelude.{◌≡◌, ◌≢◌, ◌↔◌, ◌+◌, ◌<◌, ◌≤◌, ℕ, Some, false, true, [], length, slice_get, slice_index_or, slice_set, Err, IfErr, IfOk, IsErrAnd, OnOk};
+ghost use Rattle.std.specs.List.{All, range_with_len};
 ghost use Rattle.tg_rights.specs.RightSet.{is_none_held, no_rights, union};
 ghost use Rattle.tg_model.specs.Graph.{with_rights};
 ghost use Rattle.tg_model.specs.Opened.{IsPlan, JoinsWorkers, label_in};
+ghost use Rattle.tg_word.specs.Word.{nursery_space};
 ghost use Rattle.tg_word.specs.declared.Place.{Place};
+ghost use Rattle.tg_word.specs.declared.TheConstants.{MAX_NURSERIES, SPACES};
+ghost use Rattle.tg_subjects.specs.Subjects.{AreSubjects, names_of, nurseries_of, places_of};
 ghost use Rattle.tg_block.specs.declared.CellKind.TheVariants.{Object};
 ghost use Rattle.tg_space.specs.SpaceList.{space_of};
 ghost use Rattle.tg_space.specs.SpaceTable.{AreLimits, IsSpaceTable, no_blocks, used_of};
@@ -15,7 +18,7 @@ ghost use Rattle.tg_graph.specs.Content.{IsNamed};
 ghost use Rattle.tg_graph.specs.Heap.{AreAtHome, IsGraph, content_in};
 ghost use Rattle.tg_graph.specs.Rows.{IsVertexAt, name_at};
 ghost use Rattle.tg_graph.specs.Steps.{ChangesTo};
-ghost use Rattle.tg_graph.specs.Opened.{HasBlocks, IsOpened, TakesOneCell, no_labels, with_row};
+ghost use Rattle.tg_graph.specs.Opened.{HasBlocks, HasNoBlocks, IsOpened, TakesOneCell, no_labels, with_row};
 
 use crate::cells::Cells;
 use crate::heap::HeapRefused;
@@ -26,29 +29,32 @@ use tg_payload::{Draft, Payload, PayloadTable};
 use tg_remember::Remembered;
 use tg_rights::Rights;
 use tg_space::{Limits, Spaces};
-use tg_word::{Place, nursery_of};
+use tg_subjects::{Subject, Subjects};
+use tg_word::{MAX_NURSERIES, Place, nursery_space};
 
 // What an opening fills, with room for all of it.
 #[derive(Drop)]
 struct Room<P: Payload> {
     cells: Cells<P>,
-    places: Vec<Place>,
+    subjects: Subjects,
     // The rights of one worker over each.
     row: Vec<Rights>,
 }
 
-/// The cells of the graph that an opening starts from, and where its workers are. See 'Growth comes first' in
+/// The cells of the graph that an opening starts from, and its workers as the active subjects. See 'Growth comes first' in
 /// docs/ARCHITECTURE.md.
 pub(crate) fn opened<P: Payload>(
     alloc: Global,
     opening: &Opening,
     limits: Limits,
     drafts: Vec<Draft<P>>,
-) -> Result<(Cells<P>, Vec<Place>), HeapRefused<P>>
+) -> Result<(Cells<P>, Subjects), HeapRefused<P>>
     requires { drafts.items ≡ opening.now.values }
-    ensures opened { IfOk result (λ parts. IsOpened parts.0.spaces parts.0.payloads parts.1.items opening.now.workers limits (label_in opening.now.edges) opening.now.values) }
-    ensures workers { IfOk result (λ parts. length parts.1.items ≡ opening.now.workers) }
-    ensures nurseries { IfOk result (λ parts. AreAtHome parts.1.items) }
+    ensures opened { IfOk result (λ parts. IsOpened parts.0.spaces parts.0.payloads (places_of parts.1) opening.now.workers limits (label_in opening.now.edges) opening.now.values) }
+    ensures names { IfOk result (λ parts. names_of parts.1 ≡ range_with_len 0 opening.now.workers) }
+    ensures numbers { IfOk result (λ parts. nurseries_of parts.1 ≡ range_with_len 0 opening.now.workers) }
+    ensures subjects { IfOk result (λ parts. AreSubjects parts.1) }
+    ensures nurseries { IfOk result (λ parts. AreAtHome parts.1) }
     ensures remembered { IfOk result (λ parts. AreRemembered parts.0.spaces.spaces parts.0.remembered.places) }
     ensures plan { IsPlan opening.now }
     ensures handed_back { IfErr result (λ refused. refused.drafts.items ≡ drafts.items) }
@@ -58,30 +64,29 @@ pub(crate) fn opened<P: Payload>(
         Ok(room) => room,
         Err(why) => return Err(HeapRefused { drafts, why }),
     };
-    place_workers(&mut room.cells, &mut room.places, drafts);
+    place_workers(&mut room.cells, &mut room.subjects, drafts);
     add_edges(
         &mut room.cells,
-        &room.places,
+        room.subjects.as_slice(),
         &mut room.row,
         opening.edges(),
     );
-    Ok((room.cells, room.places))
+    Ok((room.cells, room.subjects))
 }
 
-// Room for the graph of so many workers: cells with no vertex, where each nursery has a block.
+// Room for the graph of so many workers: cells with no vertex, where the nursery of each has a block.
 fn with_room<P: Payload>(
     alloc: Global,
     workers: u64,
     limits: Limits,
 ) -> Result<Room<P>, AllocateFault>
     requires some { 1 ≤ workers }
-    requires few { workers ≤ 64 }
+    requires few { workers ≤ MAX_NURSERIES }
     ensures ready { IfOk result (λ room. HasBlocks room.cells.spaces workers limits) }
     ensures table { IfOk result (λ room. IsSpaceTable room.cells.spaces) }
     ensures payloads { IfOk result (λ room. room.cells.payloads.entries ≡ []) }
     ensures spare { IfOk result (λ room. workers ≤ room.cells.payloads.spare) }
-    ensures places { IfOk result (λ room. room.places.items ≡ []) }
-    ensures capacity { IfOk result (λ room. workers ≤ vec_capacity room.places) }
+    ensures subjects { IfOk result (λ room. room.subjects ≡ []) }
     ensures row { IfOk result (λ room. length room.row.items ≡ workers) }
     ensures remembered { IfOk result (λ room. room.cells.remembered.places ≡ []) }
     ensures full { IsErrAnd result (λ why. why ≡ AllocateFault.HeapFull) ↔ (limits.max_blocks < workers) }
@@ -96,26 +101,29 @@ fn with_room<P: Payload>(
     Ok(room)
 }
 
-// Room for so many payloads, places and rights, and spaces with no block.
+// Room for so many payloads and rights and for all subjects that there may be, and spaces with no block.
 fn empty_room<P: Payload>(
     alloc: Global,
     workers: u64,
     limits: Limits,
 ) -> Result<Room<P>, AllocError>
     requires some { 1 ≤ workers }
-    requires few { workers ≤ 64 }
-    ensures spaces { IfOk result (λ room. room.cells.spaces ≡ no_blocks workers limits) }
+    requires few { workers ≤ MAX_NURSERIES }
+    ensures spaces { IfOk result (λ room. room.cells.spaces ≡ no_blocks MAX_NURSERIES limits) }
     ensures payloads { IfOk result (λ room. room.cells.payloads.entries ≡ []) }
     ensures spare { IfOk result (λ room. workers ≤ room.cells.payloads.spare) }
-    ensures places { IfOk result (λ room. room.places.items ≡ []) }
-    ensures capacity { IfOk result (λ room. workers ≤ vec_capacity room.places) }
+    ensures subjects { IfOk result (λ room. room.subjects ≡ []) }
     ensures row { IfOk result (λ room. length room.row.items ≡ workers) }
     ensures remembered { IfOk result (λ room. room.cells.remembered.places ≡ []) }
 {
-    let places = Vec::with_capacity(alloc, workers as usize)?;
+    let subjects = Subjects::new(alloc)?;
     let row = vec![in alloc; Rights::empty(); workers as usize]?;
     let cells = empty_cells(alloc, workers, limits)?;
-    Ok(Room { cells, places, row })
+    Ok(Room {
+        cells,
+        subjects,
+        row,
+    })
 }
 
 // Cells with no block, and room for so many payloads.
@@ -125,13 +133,13 @@ fn empty_cells<P: Payload>(
     limits: Limits,
 ) -> Result<Cells<P>, AllocError>
     requires some { 1 ≤ workers }
-    requires few { workers ≤ 64 }
-    ensures spaces { IfOk result (λ cells. cells.spaces ≡ no_blocks workers limits) }
+    requires few { workers ≤ MAX_NURSERIES }
+    ensures spaces { IfOk result (λ cells. cells.spaces ≡ no_blocks MAX_NURSERIES limits) }
     ensures payloads { IfOk result (λ cells. cells.payloads.entries ≡ []) }
     ensures spare { IfOk result (λ cells. workers ≤ cells.payloads.spare) }
     ensures remembered { IfOk result (λ cells. cells.remembered.places ≡ []) }
 {
-    let spaces = Spaces::new(alloc, workers, limits)?;
+    let spaces = Spaces::new(alloc, MAX_NURSERIES, limits)?;
     let mut payloads = PayloadTable::new(alloc);
     payloads.reserve(workers)?;
     Ok(Cells {
@@ -142,56 +150,62 @@ fn empty_cells<P: Payload>(
     })
 }
 
-// Gives each nursery its first block.
+// Gives the nursery of each worker its first block.
 fn add_blocks(spaces: &mut Spaces, workers: u64) -> Result<(), AllocateFault>
     requires some { 1 ≤ workers }
-    requires few { workers ≤ 64 }
+    requires few { workers ≤ MAX_NURSERIES }
     requires limits { AreLimits spaces.old.limits }
-    requires empty { spaces.old ≡ no_blocks workers spaces.old.limits }
+    requires empty { HasNoBlocks spaces.old }
+    requires spaces { SPACES ≤ length spaces.old.spaces }
     requires allowed { workers ≤ spaces.old.limits.max_blocks }
     ensures blocks { OnOk result (HasBlocks spaces.new workers spaces.old.limits) }
     ensures table { OnOk result (IsSpaceTable spaces.new) }
     ensures full { result ≢ Err AllocateFault.HeapFull }
 {
     for worker in 0..workers {
-        spaces.add_block(nursery_of(worker))?;
+        spaces.add_block(nursery_space(worker))?;
     }
     Ok(())
 }
 
-// Puts the object of each worker into its nursery.
-fn place_workers<P: Payload>(cells: &mut Cells<P>, places: &mut Vec<Place>, drafts: Vec<Draft<P>>)
+// Puts the object of each worker into the nursery with its number, and makes it a subject.
+fn place_workers<P: Payload>(cells: &mut Cells<P>, subjects: &mut Subjects, drafts: Vec<Draft<P>>)
     requires blocks { HasBlocks cells.old.spaces (length drafts.items) cells.old.spaces.limits }
     requires table { IsSpaceTable cells.old.spaces }
-    requires few { length drafts.items ≤ 64 }
+    requires few { length drafts.items ≤ MAX_NURSERIES }
     requires payloads { cells.old.payloads.entries ≡ [] }
     requires spare { length drafts.items ≤ cells.old.payloads.spare }
-    requires places { places.old.items ≡ [] }
-    requires capacity { length drafts.items ≤ vec_capacity places.old }
-    ensures opened { IsOpened cells.new.spaces cells.new.payloads places.new.items (length drafts.items) cells.old.spaces.limits no_labels drafts.items }
-    ensures count { length places.new.items ≡ length drafts.items }
-    ensures nurseries { AreAtHome places.new.items }
-    ensures unused { (x : ℕ) → used_of cells.new.spaces (x + 2) ≤ 1 }
+    requires subjects { subjects.old ≡ [] }
+    ensures opened { IsOpened cells.new.spaces cells.new.payloads (places_of subjects.new) (length drafts.items) cells.old.spaces.limits no_labels drafts.items }
+    ensures names { names_of subjects.new ≡ range_with_len 0 (length drafts.items) }
+    ensures numbers { nurseries_of subjects.new ≡ range_with_len 0 (length drafts.items) }
+    ensures nurseries { AreAtHome subjects.new }
+    ensures unused { (x : ℕ) → used_of cells.new.spaces (nursery_space x) ≤ 1 }
     ensures remembered { cells.new.remembered ≡ cells.old.remembered }
 {
     for draft in drafts {
-        let name = places.len() as u64;
+        let name = subjects.len() as u64;
         let place = cells.place_vertex(name, name, draft);
-        places.push(place).unwrap();
+        subjects.add(name, place);
     }
 }
 
 // Adds these edges, worker by worker: two of one pair make one reference.
-fn add_edges<P: Payload>(cells: &mut Cells<P>, places: &[Place], row: &mut [Rights], edges: &[Edge])
-    requires few { length places.now ≤ 64 }
-    requires row { length row.old ≡ length places.now }
-    requires edges { All (JoinsWorkers (length places.now)) edges.now }
+fn add_edges<P: Payload>(
+    cells: &mut Cells<P>,
+    subjects: &[Subject],
+    row: &mut [Rights],
+    edges: &[Edge],
+)
+    requires few { length subjects.now ≤ MAX_NURSERIES }
+    requires row { length row.old ≡ length subjects.now }
+    requires edges { All (JoinsWorkers (length subjects.now)) edges.now }
     requires graph { IsGraph cells.old.spaces.spaces cells.old.payloads }
-    requires spaces { length cells.old.spaces.spaces ≡ length places.now + 2 }
-    requires vertices { (x : ℕ) (p : Place) → slice_get places.now x ≡ Some p → IsVertexAt cells.old.spaces.spaces x p }
+    requires spaces { SPACES ≤ length cells.old.spaces.spaces }
+    requires vertices { (x : ℕ) (p : Place) → slice_get (places_of subjects.now) x ≡ Some p → IsVertexAt cells.old.spaces.spaces x p }
     requires labels { (x y : ℕ) → (content_in cells.old.spaces.spaces cells.old.payloads).label x y ≡ no_rights }
-    requires unused { (x : ℕ) → used_of cells.old.spaces (x + 2) ≤ 1 }
-    requires blocks { (x : ℕ) → x < length places.now → 1 ≤ length (space_of cells.old.spaces.spaces (x + 2)) }
+    requires unused { (x : ℕ) → used_of cells.old.spaces (nursery_space x) ≤ 1 }
+    requires blocks { (x : ℕ) → x < length subjects.now → 1 ≤ length (space_of cells.old.spaces.spaces (nursery_space x)) }
     requires old { length (space_of cells.old.spaces.spaces 0) ≡ 0 }
     ensures added { let content = content_in cells.old.spaces.spaces cells.old.payloads in
         ChangesTo cells.old.spaces cells.new.spaces cells.old.payloads (IsNamed content) (label_in edges.now) content.value }
@@ -199,9 +213,9 @@ fn add_edges<P: Payload>(cells: &mut Cells<P>, places: &[Place], row: &mut [Righ
     ensures block_counts { (space : ℕ) → length (space_of cells.new.spaces.spaces space) ≡ length (space_of cells.old.spaces.spaces space) }
     ensures remembered { AreRemembered cells.old.spaces.spaces cells.old.remembered.places → AreRemembered cells.new.spaces.spaces cells.new.remembered.places }
 {
-    for from in 0..places.len() as u64 {
+    for from in 0..subjects.len() as u64 {
         read_row(edges, from, row);
-        add_row(cells, from, places, row);
+        add_row(cells, from, subjects, row);
     }
 }
 
@@ -228,43 +242,44 @@ fn unite(row: &mut [Rights], to: u64, rights: Rights)
 }
 
 // Adds the edges of one worker, in whose nursery only its object is.
-fn add_row<P: Payload>(cells: &mut Cells<P>, from: u64, places: &[Place], row: &[Rights])
-    requires from { from < length places.now }
-    requires few { length places.now ≤ 64 }
-    requires row { length row.now ≡ length places.now }
+fn add_row<P: Payload>(cells: &mut Cells<P>, from: u64, subjects: &[Subject], row: &[Rights])
+    requires from { from < length subjects.now }
+    requires few { length subjects.now ≤ MAX_NURSERIES }
+    requires row { length row.now ≡ length subjects.now }
     requires no_loop { slice_index_or row.now from no_rights ≡ no_rights }
     requires graph { IsGraph cells.old.spaces.spaces cells.old.payloads }
-    requires spaces { length cells.old.spaces.spaces ≡ length places.now + 2 }
-    requires vertices { (x : ℕ) (p : Place) → slice_get places.now x ≡ Some p → IsVertexAt cells.old.spaces.spaces x p }
+    requires spaces { SPACES ≤ length cells.old.spaces.spaces }
+    requires vertices { (x : ℕ) (p : Place) → slice_get (places_of subjects.now) x ≡ Some p → IsVertexAt cells.old.spaces.spaces x p }
     requires labels { (y : ℕ) → (content_in cells.old.spaces.spaces cells.old.payloads).label from y ≡ no_rights }
-    requires unused { used_of cells.old.spaces (from + 2) ≤ 1 }
-    requires block { 1 ≤ length (space_of cells.old.spaces.spaces (from + 2)) }
+    requires unused { used_of cells.old.spaces (nursery_space from) ≤ 1 }
+    requires block { 1 ≤ length (space_of cells.old.spaces.spaces (nursery_space from)) }
     requires old { length (space_of cells.old.spaces.spaces 0) ≡ 0 }
     ensures added { let content = content_in cells.old.spaces.spaces cells.old.payloads in
         ChangesTo cells.old.spaces cells.new.spaces cells.old.payloads (IsNamed content) (with_row content.label from row.now) content.value }
     ensures payloads { cells.new.payloads ≡ cells.old.payloads }
-    ensures others { (space : ℕ) → space ≢ from + 2 → used_of cells.new.spaces space ≡ used_of cells.old.spaces space }
+    ensures others { (space : ℕ) → space ≢ nursery_space from → used_of cells.new.spaces space ≡ used_of cells.old.spaces space }
     ensures blocks { (space : ℕ) → length (space_of cells.new.spaces.spaces space) ≡ length (space_of cells.old.spaces.spaces space) }
     ensures remembered { AreRemembered cells.old.spaces.spaces cells.old.remembered.places → AreRemembered cells.new.spaces.spaces cells.new.remembered.places }
 {
     for (to, rights) in row.iter().enumerate() {
-        add_some(cells, from, places[from as usize], places[to], *rights);
+        let holder = subjects[from as usize].place;
+        add_some(cells, from, holder, subjects[to].place, *rights);
     }
 }
 
 // Gives one object rights over another, if there are any. There is room for them.
-fn add_some<P: Payload>(cells: &mut Cells<P>, worker: u64, from: Place, to: Place, rights: Rights)
-    requires worker { worker + 2 < length cells.old.spaces.spaces }
+fn add_some<P: Payload>(cells: &mut Cells<P>, nursery: u64, from: Place, to: Place, rights: Rights)
+    requires nursery { nursery_space nursery < length cells.old.spaces.spaces }
     requires graph { IsGraph cells.old.spaces.spaces cells.old.payloads }
     requires from { IsKindAt cells.old.spaces.spaces Object from }
     requires to { IsKindAt cells.old.spaces.spaces Object to }
-    requires room { is_none_held rights ≡ false → HasLeft cells.old.spaces (worker + 2) 1 }
+    requires room { is_none_held rights ≡ false → HasLeft cells.old.spaces (nursery_space nursery) 1 }
     requires old { length (space_of cells.old.spaces.spaces 0) ≡ 0 }
     ensures added { let content = content_in cells.old.spaces.spaces cells.old.payloads in
         ChangesTo cells.old.spaces cells.new.spaces cells.old.payloads (IsNamed content)
         (with_rights content.label (name_at cells.old.spaces.spaces from) (name_at cells.old.spaces.spaces to) rights) content.value }
     ensures payloads { cells.new.payloads ≡ cells.old.payloads }
-    ensures one_cell { TakesOneCell cells.old.spaces cells.new.spaces (worker + 2) }
+    ensures one_cell { TakesOneCell cells.old.spaces cells.new.spaces (nursery_space nursery) }
     ensures blocks { (space : ℕ) → length (space_of cells.new.spaces.spaces space) ≡ length (space_of cells.old.spaces.spaces space) }
     ensures remembered { AreRemembered cells.old.spaces.spaces cells.old.remembered.places → AreRemembered cells.new.spaces.spaces cells.new.remembered.places }
     ensures nothing { is_none_held rights ≡ true → cells.new.spaces ≡ cells.old.spaces }
@@ -272,5 +287,5 @@ fn add_some<P: Payload>(cells: &mut Cells<P>, worker: u64, from: Place, to: Plac
     if rights.is_empty() {
         return;
     }
-    cells.add_edge(worker, from, to, rights).unwrap();
+    cells.add_edge(nursery, from, to, rights).unwrap();
 }

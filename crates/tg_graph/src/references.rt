@@ -1,7 +1,8 @@
 //! What a change of a row writes.
 ghost use Rattle.std.specs.Prelude.{◌≡◌, ◌+◌, ◌<◌, length, slice_index};
 ghost use Rattle.tg_rights.specs.RightSet.{is_none_held};
-ghost use Rattle.tg_word.specs.Word.{IsPlace, place_in, word_at};
+ghost use Rattle.tg_word.specs.Word.{IsPlace, nursery_space, place_in, word_at};
+ghost use Rattle.tg_word.specs.declared.TheConstants.{MAX_NURSERIES};
 ghost use Rattle.tg_space.specs.SpaceList.{cell_at};
 ghost use Rattle.tg_nursery.specs.Allocation.{HasLeft};
 ghost use Rattle.tg_graph.specs.Spots.{CanPut, CanWrite, chunk_put, narrowed, table_put, widened, word_put};
@@ -10,22 +11,22 @@ use crate::rows::Spot;
 use tg_block::{CHUNK_TAG, LINK};
 use tg_rights::Rights;
 use tg_space::Spaces;
-use tg_word::{Place, Slot, nursery_of, pack, place_of, rights_of};
+use tg_word::{Place, Slot, nursery_space, pack, place_of, rights_of};
 
 /// Puts rights over the object at a place where they go in a row: the reference gets them too, or else the empty place
-/// gets a reference with them, or else a new chunk from the nursery of a worker, which has a cell left for it.
-pub(crate) fn put(spaces: &mut Spaces, worker: u64, spot: Spot, to: Place, rights: Rights)
-    requires few { worker < 64 }
-    requires nursery { worker + 2 < length spaces.old.spaces }
-    requires can { CanPut spaces.old (worker + 2) spot }
+/// gets a reference with them, or else a new chunk from a nursery, which has a cell left for it.
+pub(crate) fn put(spaces: &mut Spaces, nursery: u64, spot: Spot, to: Place, rights: Rights)
+    requires few { nursery < MAX_NURSERIES }
+    requires nursery { nursery_space nursery < length spaces.old.spaces }
+    requires can { CanPut spaces.old (nursery_space nursery) spot }
     requires to { IsPlace to }
-    ensures { spaces.new ≡ table_put spaces.old (worker + 2) spot rights to }
+    ensures { spaces.new ≡ table_put spaces.old (nursery_space nursery) spot rights to }
 {
     let word = reference_to(to, rights);
     match spot {
         Spot::Reference { cell, index } => widen(spaces, cell, index, rights),
         Spot::Empty { cell, index } => spaces.write(cell, index, word),
-        Spot::Full { last } => extend(spaces, worker, last, word),
+        Spot::Full { last } => extend(spaces, nursery, last, word),
     }
 }
 
@@ -57,14 +58,14 @@ pub(crate) fn narrow(spaces: &mut Spaces, cell: Place, index: usize, rights: Rig
 }
 
 // Links the last cell of a row to a new chunk with this reference.
-fn extend(spaces: &mut Spaces, worker: u64, last: Place, word: u64)
-    requires few { worker < 64 }
-    requires nursery { worker + 2 < length spaces.old.spaces }
+fn extend(spaces: &mut Spaces, nursery: u64, last: Place, word: u64)
+    requires few { nursery < MAX_NURSERIES }
+    requires nursery { nursery_space nursery < length spaces.old.spaces }
     requires last { CanWrite spaces.old last 7 }
-    requires left { HasLeft spaces.old (worker + 2) 1 }
-    ensures { spaces.new ≡ chunk_put spaces.old (worker + 2) last word }
+    requires left { HasLeft spaces.old (nursery_space nursery) 1 }
+    ensures { spaces.new ≡ chunk_put spaces.old (nursery_space nursery) last word }
 {
-    let chunk = spaces.hand_out(nursery_of(worker));
+    let chunk = spaces.hand_out(nursery_space(nursery));
     spaces.write_cell(chunk, [CHUNK_TAG, word, 0, 0, 0, 0, 0, 0]);
     spaces.write(last, LINK, reference_to(chunk, Rights::empty()));
 }

@@ -2,6 +2,7 @@
 //! walks.
 ghost use Rattle.std.specs.Prelude.{◌≡◌, ◌+◌, ◌<◌, ◌≤◌, ◌⊎◌, ℕ, List, None, false, length, nat_eq, Err, IfErr, IfOk, IfSome, OnErr, OnOk};
 ghost use Rattle.tg_rights.specs.RightSet.{is_none_held};
+ghost use Rattle.tg_word.specs.Word.{nursery_space};
 ghost use Rattle.tg_word.specs.declared.Place.{Place as PlaceOf};
 ghost use Rattle.tg_model.specs.Graph.{with_rights, without_rights};
 ghost use Rattle.tg_model.specs.Rules.{with_value};
@@ -30,7 +31,7 @@ use tg_rights::Rights;
 use tg_word::Place;
 
 impl<P: Payload> Cells<P> {
-    /// The index of the row of an object, along which it walks once. Answers only want of memory otherwise.
+    /// The index of the row of an object, along which it walks once. Fails only when out of memory.
     pub(crate) fn index_of(&self, from: Place) -> Result<IndexedRow, AllocError>
         requires graph { IsGraph self.now.spaces.spaces self.now.payloads }
         requires from { IsKindAt self.now.spaces.spaces Object from }
@@ -93,12 +94,12 @@ impl<P: Payload> Cells<P> {
     pub(crate) fn add_edge_in(
         &mut self,
         rows: &mut LongRows,
-        worker: u64,
+        nursery: u64,
         from: Place,
         to: Place,
         rights: Rights,
     ) -> Result<(), AllocateFault>
-        requires worker { worker + 2 < length self.old.spaces.spaces }
+        requires nursery { nursery_space nursery < length self.old.spaces.spaces }
         requires graph { IsGraph self.old.spaces.spaces self.old.payloads }
         requires from { IsKindAt self.old.spaces.spaces Object from }
         requires to { IsKindAt self.old.spaces.spaces Object to }
@@ -110,8 +111,8 @@ impl<P: Payload> Cells<P> {
         ensures payloads { self.new.payloads ≡ self.old.payloads }
         ensures refused { OnErr result (self.new.spaces ≡ self.old.spaces) }
         ensures full { result ≡ Err AllocateFault.HeapFull →
-            LacksCellsFor self.old.spaces (worker + 2) 0 (name_at self.old.spaces.spaces from) (name_at self.old.spaces.spaces to) }
-        ensures placed { OnOk result (IsPutInRow self.old.spaces self.new.spaces self.old.remembered.places self.new.remembered.places (worker + 2) from to rights) }
+            LacksCellsFor self.old.spaces (nursery_space nursery) 0 (name_at self.old.spaces.spaces from) (name_at self.old.spaces.spaces to) }
+        ensures placed { OnOk result (IsPutInRow self.old.spaces self.new.spaces self.old.remembered.places self.new.remembered.places (nursery_space nursery) from to rights) }
         ensures remembered { AreRemembered self.old.spaces.spaces self.old.remembered.places → AreRemembered self.new.spaces.spaces self.new.remembered.places }
         ensures places { OnErr result (self.new.remembered.places ≡ self.old.remembered.places) }
         ensures indexed { AreIndexed self.new.spaces.spaces self.new.remembered.places rows.new.entries }
@@ -122,10 +123,10 @@ impl<P: Payload> Cells<P> {
             return Err(AllocateFault::OutOfMemory);
         };
         let Some(at) = place else {
-            return self.add_edge(worker, from, to, rights);
+            return self.add_edge(nursery, from, to, rights);
         };
         match rows.indexes.get_index_mut(at) {
-            Some(row) => self.add_edge_indexed(row, worker, from, to, rights),
+            Some(row) => self.add_edge_indexed(row, nursery, from, to, rights),
             None => unreachable!(),
         }
     }
@@ -162,18 +163,18 @@ impl<P: Payload> Cells<P> {
     }
 
     /// Makes an object with a name that none has, gives another one rights over it, and notes the written cell if it has
-    /// to be remembered. Growth comes first, that of the spaces last: where it is refused, there may be room for one more
-    /// payload and one more note, and else nothing is changed.
+    /// to be remembered. The answer is where the object is. Growth comes first, that of the spaces last: where it is refused,
+    /// there may be room for one more payload and one more note, and else nothing is changed.
     pub(crate) fn new_vertex_in(
         &mut self,
         rows: &mut LongRows,
-        worker: u64,
+        nursery: u64,
         from: Place,
         name: u64,
         rights: Rights,
         draft: Draft<P>,
-    ) -> Result<(), VertexRefused<P>>
-        requires worker { worker + 2 < length self.old.spaces.spaces }
+    ) -> Result<Place, VertexRefused<P>>
+        requires nursery { nursery_space nursery < length self.old.spaces.spaces }
         requires graph { IsGraph self.old.spaces.spaces self.old.payloads }
         requires from { IsKindAt self.old.spaces.spaces Object from }
         requires some { is_none_held rights ≡ false }
@@ -182,15 +183,16 @@ impl<P: Payload> Cells<P> {
         ensures made { let content = content_in self.old.spaces.spaces self.old.payloads in
             OnOk result (ChangesTo self.old.spaces self.new.spaces self.new.payloads (λ x. IsNamed content x ⊎ (x ≡ name))
             (with_rights content.label (name_at self.old.spaces.spaces from) name rights) (with_value content.value name draft)) }
+        ensures vertex { IfOk result (IsVertexAt self.new.spaces.spaces name) }
         ensures handed_back { IfErr result (λ refused. refused.draft ≡ draft) }
         ensures spaces { OnErr result (self.new.spaces ≡ self.old.spaces) }
         ensures payloads { OnErr result (self.new.payloads.entries ≡ self.old.payloads.entries) }
         ensures places { OnErr result (self.new.remembered.places ≡ self.old.remembered.places) }
         ensures remembered { AreRemembered self.old.spaces.spaces self.old.remembered.places → AreRemembered self.new.spaces.spaces self.new.remembered.places }
-        ensures placed { OnOk result (IsMadeInRow self.old.spaces self.new.spaces self.old.remembered.places self.new.remembered.places (worker + 2)
+        ensures placed { OnOk result (IsMadeInRow self.old.spaces self.new.spaces self.old.remembered.places self.new.remembered.places (nursery_space nursery)
             (name_at self.old.spaces.spaces from) name rights) }
         ensures full { IfErr result (λ refused. refused.why ≡ AllocateFault.HeapFull →
-            LacksCellsFor self.old.spaces (worker + 2) 1 (name_at self.old.spaces.spaces from) name) }
+            LacksCellsFor self.old.spaces (nursery_space nursery) 1 (name_at self.old.spaces.spaces from) name) }
         ensures indexed { AreIndexed self.new.spaces.spaces self.new.remembered.places rows.new.entries }
     {
         // It tells what holds of all spaces (`IsSpaceTable`).
@@ -200,10 +202,10 @@ impl<P: Payload> Cells<P> {
             return Err(VertexRefused { draft, why });
         };
         let Some(at) = place else {
-            return self.new_vertex(worker, from, name, rights, draft);
+            return self.new_vertex(nursery, from, name, rights, draft);
         };
         match rows.indexes.get_index_mut(at) {
-            Some(row) => self.new_vertex_indexed(row, worker, from, name, rights, draft),
+            Some(row) => self.new_vertex_indexed(row, nursery, from, name, rights, draft),
             None => unreachable!(),
         }
     }

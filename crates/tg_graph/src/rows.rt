@@ -160,8 +160,8 @@ fn spot_for_new(empty: Option<(Place, usize)>, last: Place) -> Spot
     }
 }
 
-/// The references of the row of an object: the name of each target with the label, in chain order. Answers only want
-/// of memory otherwise.
+/// The references of the row of an object: the name of each target with the label, in chain order. Fails only when
+/// out of memory.
 #[inline(always)]
 pub(crate) fn edges_of(
     alloc: Global,
@@ -206,8 +206,8 @@ fn push_edges(
     Ok(())
 }
 
-/// The name at each place of the row of an object, in chain order, and the cells of the row. Answers only want of memory
-/// otherwise.
+/// The name at each place of the row of an object, in chain order, and the cells of the row. Fails only when out of
+/// memory.
 pub(crate) fn places_of(
     alloc: Global,
     spaces: &Spaces,

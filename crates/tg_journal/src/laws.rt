@@ -2,7 +2,7 @@
 //! the law.
 //!
 //! The proofs of the crates above cite the lemmas behind the laws, which stand in `proofs/HistoryLaws` (histories cut,
-//! joined and extended, what they keep and what they leave), `proofs/Decided` and `proofs/Edition1Laws`.
+//! joined and extended, what they keep and what they leave), `proofs/NameLaws`, `proofs/Decided` and `proofs/Edition1Laws`.
 ghost use Rattle.std.specs.Prelude.{◌≡◌, ◌↔◌, ◌⊎◌, ◌<◌, ◌≤◌, ℕ, List, [], ◌∷◌, ◌++◌, map, take, slice_get, Some, IfSome};
 ghost use Rattle.tg_model.specs.Graph.{ProtectionGraph, IsSubject, IsReachable, IsSound};
 ghost use Rattle.tg_model.specs.Opened.{Plan, IsPlan, ValueFits, start_of};
@@ -11,6 +11,7 @@ ghost use Rattle.tg_model.specs.Edition1.{Plan1, Entry1, IsLegal1, start_of1, pl
 ghost use Rattle.tg_journal.specs.Edition1.{entry_today, IsFirstBad1};
 ghost use Rattle.tg_journal.specs.History.{IsLegalEntry, IsLegal, graph_after, IsFirstBad};
 ghost use Rattle.tg_journal.specs.declared.entry.Entry.{Entry};
+ghost use Rattle.tg_model.specs.declared.reply.Reply.TheVariants.{Name};
 
 /// A history is legal exactly where each of its entries is legal on the graph after those before it.
 pub fn legal_where_each_entry_is()
@@ -57,14 +58,22 @@ pub fn legal_histories_stay_sound()
         IfSome ((graph_after (start_of plan) es).value y) ValueFits }
 {}
 
-/// No history changes who the subjects are, which after an opening are its workers, nor how many vertices there may be.
-/// The number of vertices never falls.
-pub fn subjects_stay_and_made_never_falls()
-    ensures subjects { (g : ProtectionGraph) (es : List Entry) → (graph_after g es).subjects ≡ g.subjects }
-    ensures workers { (plan : Plan) (es : List Entry) (x : ℕ) →
-        IsSubject (graph_after (start_of plan) es) x ↔ (x < plan.workers) }
+/// Who is a subject after a history was one before it, or was made in it; who was made and is no subject never is one
+/// again. No history changes how many vertices there may be, and the number of vertices never falls.
+pub fn who_retired_stays_so_and_made_never_falls()
+    ensures subjects { (g : ProtectionGraph) (es : List Entry) (x : ℕ) →
+        IsSubject (graph_after g es) x → IsSubject g x ⊎ (g.made ≤ x) }
+    ensures retired { (g : ProtectionGraph) (es : List Entry) (x : ℕ) →
+        x < g.made → ¬ IsSubject g x → ¬ IsSubject (graph_after g es) x }
     ensures limit { (g : ProtectionGraph) (es : List Entry) → (graph_after g es).limit ≡ g.limit }
     ensures made { (g : ProtectionGraph) (es : List Entry) → g.made ≤ (graph_after g es).made }
+{}
+
+/// In a legal history no name is answered twice, that of one who retired included.
+pub fn no_name_is_given_twice()
+    ensures { (g : ProtectionGraph) (es : List Entry) (at other : ℕ) (e f : Entry) (name : ℕ) →
+        IsLegal g es → slice_get es at ≡ Some e → slice_get es other ≡ Some f →
+        e.reply ≡ Name name → f.reply ≡ Name name → at ≡ other }
 {}
 
 /// What can be reached after a legal history could be reached before it, or was made in it.
@@ -94,8 +103,8 @@ pub fn legal_or_one_first_bad_place()
         IsFirstBad g es at → IsFirstBad g es other → at ≡ other }
 {}
 
-/// A journal that was made when there were four rights, and no append or inspect, is legal today exactly where it was
-/// legal then, and so is each front of it. Where it isn't, its first bad place is the same: an audit answers as it did.
+/// A journal that was made when there were four rights, and no append, inspect, spawn or retire, is legal today exactly
+/// where it was legal then, and so is each front of it. Where it isn't, its first bad place is the same: an audit answers as it did.
 pub fn first_edition_is_judged_alike()
     ensures legal { (plan : Plan1) (es : List Entry1) →
         IsLegal (start_of (plan_now plan)) (map entry_today es) ↔ IsLegal1 (start_of1 plan) es }

@@ -1,4 +1,4 @@
-//! Which line some bytes are, and whether it may stand where it stands: edges between workers stand in front of all others.
+//! Which line some bytes are, and whether it may stand where it stands: edges between the opening's workers stand in front of all others.
 ghost use Rattle.std.specs.Prelude.{◌≡◌, ◌↔◌, IsTrue, IfSome, IfNone};
 ghost use Rattle.tg_text.specs.Grammar.{LineFits, line_text};
 ghost use Rattle.tg_text.specs.Reading.{MayStand, IsBadText, opening_after};
@@ -25,7 +25,8 @@ fn may_stand(line: &Line, workers: u64, opening: bool) -> bool
 {
     match line {
         Line::Edge(edge) => opening && edge.joins_workers(workers),
-        Line::Create { .. } | Line::Plain { .. } | Line::Full | Line::Minor => true,
+        Line::Create { .. } | Line::Spawn { .. } | Line::Plain { .. } | Line::Full | Line::Minor =>
+            true,
     }
 }
 
@@ -36,6 +37,7 @@ pub fn is_opening_after(opening: bool, line: &Line) -> bool
 {
     match line {
         Line::Edge(_) => opening,
-        Line::Create { .. } | Line::Plain { .. } | Line::Full | Line::Minor => false,
+        Line::Create { .. } | Line::Spawn { .. } | Line::Plain { .. } | Line::Full | Line::Minor =>
+            false,
     }
 }

@@ -1,7 +1,7 @@
 //! Allocation in nurseries.
 //!
-//! A new cell comes from the nursery of the worker whose command asks for it. The nursery hands out its cells one
-//! after the other; when its last block is used up, it gets one more block, of free cells:
+//! A new cell comes from the nursery that the worker whose command asks for it holds. The nursery hands out its cells
+//! one after the other; when its last block is used up, it gets one more block, of free cells:
 //!
 //! ```text
 //!   before   [xxxx][xxxx]            `used` is 64 times the number of blocks
@@ -16,7 +16,9 @@
 //! left, and that a fresh cell was allocated.
 #![tactic(auto)]
 
-ghost use Rattle.std.specs.Prelude.{◌≡◌, ◌<◌, ◌≤◌, ◌+◌, ◌*◌, ◌↔◌, Err, IfOk, IsOk, OnOk, OnErr, length};
+ghost use Rattle.std.specs.Prelude.{◌≡◌, ◌<◌, ◌≤◌, ◌*◌, ◌↔◌, Err, IfOk, IsOk, OnOk, OnErr, length};
+ghost use Rattle.tg_word.specs.Word.{nursery_space};
+ghost use Rattle.tg_word.specs.declared.TheConstants.{MAX_NURSERIES};
 ghost use Rattle.tg_space.specs.SpaceList.{space_of};
 ghost use Rattle.tg_space.specs.SpaceTable.{IsFull, IsSpaceTable, place_in_space, used_of, with_one_used};
 ghost use Rattle.tg_nursery.specs.Allocation.{Allocates, HasFewerLeft, HasLeft, IsUsedUp, room_made, room_made_for};
@@ -24,48 +26,48 @@ ghost use Rattle.tg_nursery.specs.Allocation.{Allocates, HasFewerLeft, HasLeft, 
 use tg_block::CELLS;
 pub use tg_space::AllocateFault;
 use tg_space::Spaces;
-use tg_word::{Place, nursery_of};
+use tg_word::{Place, nursery_space};
 
-/// Allocates a cell in a worker's nursery.
+/// Allocates a cell in the nursery with a number.
 ///
 /// The cell is free, and nothing else changes but that the nursery may have one more block. The refusals change
 /// nothing: `HeapFull` where every cell of the nursery was handed out, and all spaces together have `max_blocks` or
 /// more or the nursery has `space_blocks`; `OutOfMemory` where memory for a block was refused.
-pub fn allocate(spaces: &mut Spaces, worker: u64) -> Result<Place, AllocateFault>
-    requires few { worker < 64 }
-    requires nursery { worker + 2 < length spaces.old.spaces }
-    ensures place { IfOk result (λ place. place ≡ place_in_space (worker + 2) (used_of spaces.old (worker + 2))) }
-    ensures exact { OnOk result (spaces.new ≡ with_one_used (room_made spaces.old (worker + 2)) (worker + 2)) }
-    ensures fresh { IfOk result (Allocates spaces.old spaces.new (worker + 2)) }
+pub fn allocate(spaces: &mut Spaces, nursery: u64) -> Result<Place, AllocateFault>
+    requires few { nursery < MAX_NURSERIES }
+    requires nursery { nursery_space nursery < length spaces.old.spaces }
+    ensures place { IfOk result (λ place. place ≡ place_in_space (nursery_space nursery) (used_of spaces.old (nursery_space nursery))) }
+    ensures exact { OnOk result (spaces.new ≡ with_one_used (room_made spaces.old (nursery_space nursery)) (nursery_space nursery)) }
+    ensures fresh { IfOk result (Allocates spaces.old spaces.new (nursery_space nursery)) }
     ensures refused { OnErr result (spaces.new ≡ spaces.old) }
-    ensures full { (result ≡ Err AllocateFault.HeapFull) ↔ (IsUsedUp spaces.old (worker + 2) × IsFull spaces.old (worker + 2)) }
+    ensures full { (result ≡ Err AllocateFault.HeapFull) ↔ (IsUsedUp spaces.old (nursery_space nursery) × IsFull spaces.old (nursery_space nursery)) }
 {
-    let space = nursery_of(worker);
+    let space = nursery_space(nursery);
     make_room(spaces, space)?;
     Ok(spaces.hand_out(space))
 }
 
-/// Makes room for so many cells in a worker's nursery, at most 64, which `Spaces::hand_out` then gives one by one.
+/// Makes room for so many cells, at most 64, in the nursery with a number, which `Spaces::hand_out` then gives one by one.
 ///
 /// The nursery gets one more block where it has fewer cells left, and nothing else changes. The refusals change
 /// nothing: `HeapFull` where a block is needed, and all spaces together have `max_blocks` or more or the nursery has
 /// `space_blocks`; `OutOfMemory` where memory for it was refused.
-pub fn reserve(spaces: &mut Spaces, worker: u64, cells: u64) -> Result<(), AllocateFault>
-    requires few { worker < 64 }
+pub fn reserve(spaces: &mut Spaces, nursery: u64, cells: u64) -> Result<(), AllocateFault>
+    requires few { nursery < MAX_NURSERIES }
     requires few_cells { cells ≤ 64 }
-    requires nursery { worker + 2 < length spaces.old.spaces }
-    ensures exact { OnOk result (spaces.new ≡ room_made_for spaces.old (worker + 2) cells) }
+    requires nursery { nursery_space nursery < length spaces.old.spaces }
+    ensures exact { OnOk result (spaces.new ≡ room_made_for spaces.old (nursery_space nursery) cells) }
     ensures table { OnOk result (IsSpaceTable spaces.new) }
-    ensures room { OnOk result (HasLeft spaces.new (worker + 2) cells) }
-    ensures had_room { HasLeft spaces.old (worker + 2) cells → IsOk result }
+    ensures room { OnOk result (HasLeft spaces.new (nursery_space nursery) cells) }
+    ensures had_room { HasLeft spaces.old (nursery_space nursery) cells → IsOk result }
     ensures refused { OnErr result (spaces.new ≡ spaces.old) }
-    ensures full { (result ≡ Err AllocateFault.HeapFull) ↔ (HasFewerLeft spaces.old (worker + 2) cells × IsFull spaces.old (worker + 2)) }
+    ensures full { (result ≡ Err AllocateFault.HeapFull) ↔ (HasFewerLeft spaces.old (nursery_space nursery) cells × IsFull spaces.old (nursery_space nursery)) }
 {
-    let nursery = nursery_of(worker);
-    if spaces.used(nursery) + cells <= CELLS as u64 * spaces.len(nursery) {
+    let space = nursery_space(nursery);
+    if spaces.used(space) + cells <= CELLS as u64 * spaces.len(space) {
         return Ok(());
     }
-    spaces.add_block(nursery)
+    spaces.add_block(space)
 }
 
 // Adds a block where every cell of the nursery was handed out.

@@ -7,6 +7,7 @@ use mathlib.Core.Option.{some, some-ne-none}
 use lib.ListN.{get_elem?}
 use Rattle.atomic_table.proofs.Lists.{at_set, at_snoc, set_else}
 use Rattle.tg_word.specs.declared.Place.{Place}
+use Rattle.tg_word.specs.declared.TheConstants.{SPACES}
 use Rattle.tg_word.specs.Word.{IsPlace}
 use Rattle.tg_race.specs.Words.{word_of, place_of}
 use Rattle.tg_race.specs.declared.record.Counts.{Counts}
@@ -94,7 +95,7 @@ record CanWin (net : Net) (r : Race) (v : Record) (cell : ℕ) (place : Place) :
 within_range : (net : Net) (p : Place) → is_within net p ≡ true → IsPlace p
 within_range net p h =
     let a = and_parts _ _ h in let b = and_parts _ _ a.0 in let d = and_parts _ _ b.0 in
-    record { space = ltb-true p.space 66 d.0; block = ltb-true p.block 1048576 d.1; cell = ltb-true p.cell 64 b.1 }
+    record { space = ltb-true p.space SPACES d.0; block = ltb-true p.block 1048576 d.1; cell = ltb-true p.cell 64 b.1 }
 
 win_parts : (net : Net) (r : Race) (v : Record) (cell : ℕ) (place : Place) → can_win net r v cell place ≡ true → CanWin net r v cell place
 win_parts net r v cell place h =

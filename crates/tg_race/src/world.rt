@@ -11,7 +11,7 @@ use crate::shape::Shape;
 use std::alloc::{AllocError, Global};
 use std::marker::Model;
 use std::mem;
-use tg_word::Place;
+use tg_word::{Place, SPACES};
 
 /// The race as a state machine: its words, and a record for each helper that was made. A clause sees its course.
 #[derive(Drop)]
@@ -124,7 +124,7 @@ impl World {
     fn is_within(&self, place: Place) -> bool
         ensures { result ≡ is_within self.now.net place }
     {
-        place.space < 66
+        place.space < SPACES
             && place.block < 1_048_576
             && place.cell < 64
             && place.block < self.shape.space_blocks

@@ -19,6 +19,7 @@ apply_refusal apply.HeapFull = refusal.Heap
 abbrev pub create_answer : CreateFault → Answer
 create_answer create.NoSuchWorker = told.Refused refusal.Worker
 create_answer create.VerticesFull = told.Reply reply.VerticesFull
+create_answer create.WorkersFull = told.Reply reply.WorkersFull
 create_answer create.OutOfMemory = told.Refused refusal.Memory
 create_answer create.HeapFull = told.Refused refusal.Heap
 

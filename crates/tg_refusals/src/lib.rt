@@ -21,13 +21,15 @@ pub fn apply_refusal(fault: ApplyFault) -> Refusal
     }
 }
 
-/// What a create is told that made no vertex: where there are as many as there may be, that is a reply.
+/// What a create or a spawn is told that made no vertex. That there are as many vertices as there may be, or as many active subjects,
+/// is a reply.
 pub fn create_answer(fault: CreateFault) -> Answer
     ensures { result ≡ create_answer fault }
 {
     match fault {
         CreateFault::NoSuchWorker => Answer::Refused(Refusal::Worker),
         CreateFault::VerticesFull => Answer::Reply(Reply::VerticesFull),
+        CreateFault::WorkersFull => Answer::Reply(Reply::WorkersFull),
         CreateFault::OutOfMemory => Answer::Refused(Refusal::Memory),
         CreateFault::HeapFull => Answer::Refused(Refusal::Heap),
     }

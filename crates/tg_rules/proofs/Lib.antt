@@ -1,2 +1,3 @@
 pub mod DecisionLaws
 mod FaultLaws
+mod SubjectNames

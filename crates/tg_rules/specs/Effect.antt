@@ -1,15 +1,19 @@
 -- What a command does that is served, and how a refused growth is told.
-use Rattle.std.specs.Prelude.{◌≡◌, ℕ, ◌+◌, ◌<◌}
+use Rattle.std.specs.Prelude.{◌≡◌, ℕ, ◌<◌}
 use Rattle.std.specs.List.{All}
 use Rattle.tg_model.specs.declared.command.Command.{Command}
-use Rattle.tg_model.specs.declared.command.Command.TheVariants.{Take, Grant, Remove, Read, Write, Append, Inspect, List as Listing}
+use Rattle.tg_model.specs.declared.command.Command.TheVariants.{Take, Grant, Remove, Read, Write, Append, Inspect, List as Listing, Retire}
 use Rattle.tg_model.specs.declared.reply.Reply.{Reply}
 use Rattle.tg_model.specs.Rules.{labels_after, values_after, reply_of}
+use Rattle.tg_word.specs.Word.{nursery_space}
 use Rattle.tg_space.specs.declared.allocate_fault.AllocateFault.{AllocateFault}
 use Rattle.tg_space.specs.declared.allocate_fault.AllocateFault.TheVariants as allocate
 use Rattle.tg_space.specs.SpaceTable.{SpaceTable}
 use Rattle.tg_graph.specs.Content.{Content, IsNamed, IsContent}
+use Rattle.tg_graph.specs.Heap.{HeapState}
+use Rattle.tg_graph.specs.Rows.{IsVertexAt}
 use Rattle.tg_graph.specs.Spots.{LacksCellsFor}
+use Rattle.tg_word.specs.declared.Place.{Place}
 use Rattle.tg_rules.specs.declared.effect.PerformFault.{PerformFault}
 use Rattle.tg_rules.specs.declared.effect.PerformFault.TheVariants as perform
 
@@ -21,6 +25,11 @@ IsReplyOn c x command reply = (n : ℕ) → All (λ name. name < n) c.names → 
 abbrev pub IsContentAfter : Content → Content → ℕ → Command → Type 0
 IsContentAfter old new x command = IsContent new (IsNamed old) (labels_after old.label x command) (values_after old.value command)
 
+-- limits and the places of vertices are as they were
+pub record KeepsVertices (old new : HeapState) : Type 0 where
+  pub limits : new.table.limits ≡ old.table.limits
+  pub vertices : (x : ℕ) (p : Place) → IsVertexAt old.table.spaces x p → IsVertexAt new.table.spaces x p
+
 -- the command changes nothing where it is served
 abbrev pub OnlyLooks : Command → Type 0
 OnlyLooks (Take rights y z) = ⊥
@@ -31,6 +40,7 @@ OnlyLooks (Write y v) = ⊥
 OnlyLooks (Append y v) = ⊥
 OnlyLooks (Inspect y) = Unit {0}
 OnlyLooks Listing = Unit {0}
+OnlyLooks Retire = ⊥
 
 -- the command adds an edge, and so may need a cell for a reference
 abbrev pub AddsEdge : Command → Type 0
@@ -42,17 +52,20 @@ AddsEdge (Write y v) = ⊥
 AddsEdge (Append y v) = ⊥
 AddsEdge (Inspect y) = ⊥
 AddsEdge Listing = ⊥
+AddsEdge Retire = ⊥
 
--- the edge that the command of x adds goes where more cells are needed than the nursery of x has left and gets
-abbrev pub LacksCellsToServe : SpaceTable → ℕ → Command → Type 0
-LacksCellsToServe t x (Take rights y z) = LacksCellsFor t (x + 2) 0 x z
-LacksCellsToServe t x (Grant rights y z) = LacksCellsFor t (x + 2) 0 y z
-LacksCellsToServe t x (Remove rights y) = ⊥
-LacksCellsToServe t x (Read y) = ⊥
-LacksCellsToServe t x (Write y v) = ⊥
-LacksCellsToServe t x (Append y v) = ⊥
-LacksCellsToServe t x (Inspect y) = ⊥
-LacksCellsToServe t x Listing = ⊥
+-- the edge that the command of x adds goes where more cells are needed than the nursery with this number, which x holds, has left
+-- and gets
+abbrev pub LacksCellsToServe : SpaceTable → ℕ → ℕ → Command → Type 0
+LacksCellsToServe t nursery x (Take rights y z) = LacksCellsFor t (nursery_space nursery) 0 x z
+LacksCellsToServe t nursery x (Grant rights y z) = LacksCellsFor t (nursery_space nursery) 0 y z
+LacksCellsToServe t nursery x (Remove rights y) = ⊥
+LacksCellsToServe t nursery x (Read y) = ⊥
+LacksCellsToServe t nursery x (Write y v) = ⊥
+LacksCellsToServe t nursery x (Append y v) = ⊥
+LacksCellsToServe t nursery x (Inspect y) = ⊥
+LacksCellsToServe t nursery x Listing = ⊥
+LacksCellsToServe t nursery x Retire = ⊥
 
 abbrev pub perform_fault_of : AllocateFault → PerformFault
 perform_fault_of allocate.OutOfMemory = perform.OutOfMemory

@@ -1,7 +1,7 @@
 -- The vertices that a command is about.
 use Rattle.std.specs.Prelude.{◌≡◌, ℕ}
 use Rattle.tg_model.specs.declared.command.Command.{Command}
-use Rattle.tg_model.specs.declared.command.Command.TheVariants.{Take, Grant, Remove, Read, Write, Append, Inspect, List as Listing}
+use Rattle.tg_model.specs.declared.command.Command.TheVariants.{Take, Grant, Remove, Read, Write, Append, Inspect, List as Listing, Retire}
 use Rattle.tg_graph.specs.Heap.{HeapState}
 use Rattle.tg_rules.specs.declared.vertex.Parties.{Parties}
 use Rattle.tg_rules.specs.Verdict.{HasVertex}
@@ -16,6 +16,7 @@ owner_of_row x (Write y v) = x
 owner_of_row x (Append y v) = x
 owner_of_row x (Inspect y) = y
 owner_of_row x Listing = x
+owner_of_row x Retire = x
 
 -- the vertex that a command of x names last, or x where it names none
 abbrev pub last_named : ℕ → Command → ℕ
@@ -27,6 +28,7 @@ last_named x (Write y v) = y
 last_named x (Append y v) = y
 last_named x (Inspect y) = y
 last_named x Listing = x
+last_named x Retire = x
 
 -- the two vertices of the heap that a command of x is about
 pub record AreParties (s : HeapState) (x : ℕ) (command : Command) (p : Parties) : Type 0 where

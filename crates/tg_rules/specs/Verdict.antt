@@ -1,7 +1,9 @@
 -- What is decided of a command.
-use Rattle.std.specs.Prelude.{Option, Some, None}
+use Rattle.std.specs.Prelude.{◌≡◌, Option, Some, None}
+use Rattle.std.specs.List.{Contains}
 use Rattle.tg_model.specs.declared.reply.Denial.{Denial}
-use Rattle.tg_graph.specs.Heap.{HeapState}
+use Rattle.tg_subjects.specs.declared.subject.Subject.{Subject}
+use Rattle.tg_graph.specs.Heap.{HeapState, nursery_of}
 use Rattle.tg_graph.specs.Rows.{IsVertexAt}
 use Rattle.tg_rules.specs.declared.decision.Verdict.{Verdict}
 use Rattle.tg_rules.specs.declared.decision.Verdict.TheVariants.{Served, Denied}
@@ -15,3 +17,9 @@ verdict_of (Some denial) = Denied denial
 -- the heap has the vertex with this name at this place
 abbrev pub HasVertex : HeapState → Vertex → Type 0
 HasVertex s vertex = IsVertexAt s.table.spaces vertex.name vertex.place
+
+-- it is an active subject of the heap, which holds this nursery and is the vertex with its name, at its place
+pub record HasSubject (s : HeapState) (subject : Subject) : Type 0 where
+  pub there : Contains s.subjects subject
+  pub nursery : subject.nursery ≡ nursery_of s subject.name
+  pub vertex : IsVertexAt s.table.spaces subject.name subject.place

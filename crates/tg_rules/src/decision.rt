@@ -1,18 +1,19 @@
 //! Whether a command is served.
-ghost use Rattle.std.specs.Prelude.{◌≡◌, ◌<◌, ◌==◌, ◌||◌, false, IfOk, length};
+ghost use Rattle.std.specs.Prelude.{◌≡◌, ◌==◌, ◌||◌, false, IfOk};
 ghost use Rattle.std.specs.Option.{option_or};
 ghost use Rattle.std.specs.Result.{result_err};
 ghost use Rattle.tg_rights.specs.RightSet.{is_none_held};
 ghost use Rattle.tg_model.specs.Rules.{unless_distinct, unless_held, unless_log, denial_of};
-ghost use Rattle.tg_graph.specs.Heap.{content_of};
-ghost use Rattle.tg_rules.specs.Verdict.{verdict_of, HasVertex};
+ghost use Rattle.tg_graph.specs.Heap.{IsActive, content_of};
+ghost use Rattle.tg_rules.specs.Verdict.{verdict_of, HasSubject, HasVertex};
 ghost use Rattle.tg_rules.specs.Parties.{AreParties};
 
-use crate::vertex::{Parties, Vertex, worker_of};
+use crate::vertex::{Parties, Vertex, subject_of, vertex_of};
 use tg_graph::Heap;
 use tg_model::{Cause, Command, Denial, Rule};
 use tg_payload::Payload;
 use tg_rights::{Label, Right, Rights};
+use tg_subjects::Subject;
 
 /// What is decided of a command.
 #[derive(Clone, Copy, PartialEq, Eq, Debug)]
@@ -27,30 +28,30 @@ pub enum Verdict {
 /// order distinctness, the right to use the rule, the rights that are taken or given, the law of what is appended to. A
 /// name that no vertex has, or that was collected, is as good as one without an edge. Takes no memory.
 pub fn decide<P: Payload>(heap: &Heap<P>, worker: u64, command: &Command) -> Verdict
-    requires { worker < length heap.now.workers }
+    requires { IsActive heap.now worker }
     ensures { result ≡ verdict_of (denial_of (content_of heap.now).label (content_of heap.now).value worker command.now) }
 {
-    match find_parties(heap, worker, command) {
+    match find_parties(heap, subject_of(heap, worker), command) {
         Ok(_) => Verdict::Served,
         Err(denial) => Verdict::Denied(denial),
     }
 }
 
-/// Makes each check of a command, as [`decide`] does, and answers the vertices that the command is about, so that
-/// [`perform_between`] needn't look them up again. Takes no memory.
+/// Makes each check of a command of a subject that was looked up, as [`decide`] does, and answers the vertices that the
+/// command is about, so that [`perform_between`] needn't look them up again. Takes no memory.
 ///
 /// [`perform_between`]: crate::perform_between
 #[inline(always)]
 pub fn find_parties<P: Payload>(
     heap: &Heap<P>,
-    worker: u64,
+    subject: Subject,
     command: &Command,
 ) -> Result<Parties, Denial>
-    requires { worker < length heap.now.workers }
-    ensures denial { result_err result ≡ denial_of (content_of heap.now).label (content_of heap.now).value worker command.now }
-    ensures found { IfOk result (AreParties heap.now worker command.now) }
+    requires { HasSubject heap.now subject }
+    ensures denial { result_err result ≡ denial_of (content_of heap.now).label (content_of heap.now).value subject.name command.now }
+    ensures found { IfOk result (AreParties heap.now subject.name command.now) }
 {
-    let worker = worker_of(heap, worker);
+    let worker = vertex_of(subject);
     match *command {
         Command::Take {
             via,
@@ -99,7 +100,7 @@ pub fn find_parties<P: Payload>(
                 target: parties.target,
             })
         }
-        Command::List => Ok(Parties {
+        Command::List | Command::Retire => Ok(Parties {
             from: worker,
             target: worker,
         }),

@@ -1,23 +1,25 @@
 //! What a command does that is served.
-ghost use Rattle.std.specs.Prelude.{◌≡◌, ◌≢◌, ◌<◌, ◌+◌, ◌↔◌, ℕ, None, Some, Err, IfOk, IfSome, IsSome, OnOk, OnErr, length};
+ghost use Rattle.std.specs.Prelude.{◌≡◌, ◌≢◌, ◌<◌, ◌↔◌, ℕ, None, Some, Err, IfOk, IfSome, IsSome, OnOk, OnErr};
 ghost use Rattle.std.specs.List.{All};
-ghost use Rattle.tg_model.specs.Graph.{with_rights, without_rights, listing_of};
-ghost use Rattle.tg_model.specs.Rules.{denial_of, state_of, written_at};
-ghost use Rattle.tg_graph.specs.Heap.{content_of, IsUnchangedHeap, KeepsPlaces};
+ghost use Rattle.tg_model.specs.Graph.{with_rights, without_rights, without_subject, listing_of};
+ghost use Rattle.tg_model.specs.Rules.{denial_of, state_of, subjects_after, written_at};
+ghost use Rattle.tg_word.specs.Word.{nursery_space};
+ghost use Rattle.tg_graph.specs.Heap.{content_of, IsActive, IsUnchangedHeap, KeepsPlaces, nursery_of, subject_names};
 ghost use Rattle.tg_graph.specs.Content.{IsContent, IsNamed};
 ghost use Rattle.tg_graph.specs.Spots.{LacksCellsFor};
-ghost use Rattle.tg_rules.specs.Effect.{IsReplyOn, IsContentAfter, OnlyLooks, AddsEdge, LacksCellsToServe};
+ghost use Rattle.tg_rules.specs.Effect.{IsReplyOn, IsContentAfter, KeepsVertices, OnlyLooks, AddsEdge, LacksCellsToServe};
 ghost use Rattle.tg_rules.specs.Parties.{AreParties};
-ghost use Rattle.tg_rules.specs.Verdict.{HasVertex};
+ghost use Rattle.tg_rules.specs.Verdict.{HasSubject, HasVertex};
 
 use crate::decision::find_parties;
-use crate::vertex::{Parties, Vertex};
+use crate::vertex::{Parties, Vertex, subject_of};
 use std::alloc::AllocError;
 use tg_graph::Heap;
 use tg_model::{Command, Reply};
 use tg_payload::Payload;
 use tg_rights::Label;
 use tg_space::AllocateFault;
+use tg_subjects::Subject;
 use thiserror::Error;
 
 /// Why a command that is to be served was not performed. The heap is as it was.
@@ -57,7 +59,8 @@ impl From<AllocateFault> for PerformFault {
 }
 
 /// Performs a command of a worker that is to be served: answers as the rules say on what the heap has, and changes
-/// that as they say. Workers and the vertices that there are stay where they are.
+/// that as they say. The vertices that there are stay where they are; one who retires is no active subject any more, and all other
+/// subjects stay.
 ///
 /// It is refused where memory was, and a take or a grant also where its reference isn't there yet, the row has no empty
 /// place for it, and the nursery of the worker has no cell left and gets no more blocks; then nothing is changed.
@@ -66,43 +69,46 @@ pub fn perform<P: Payload>(
     worker: u64,
     command: &Command,
 ) -> Result<Reply, PerformFault>
-    requires worker { worker < length heap.old.workers }
+    requires worker { IsActive heap.old worker }
     requires served { denial_of (content_of heap.old).label (content_of heap.old).value worker command.now ≡ None }
     ensures reply { IfOk result (λ reply. IsReplyOn (content_of heap.old) worker command.now reply) }
     ensures content { OnOk result (IsContentAfter (content_of heap.old) (content_of heap.new) worker command.now) }
-    ensures kept { OnOk result (KeepsPlaces heap.old heap.new) }
+    ensures kept { OnOk result (KeepsVertices heap.old heap.new) }
+    ensures subjects { OnOk result (subject_names heap.new ≡ subjects_after (subject_names heap.old) worker command.now) }
     ensures looks { OnlyLooks command.now → heap.new ≡ heap.old }
     ensures refused { OnErr result (IsUnchangedHeap heap.old heap.new) }
-    ensures full { result ≡ Err PerformFault.HeapFull → AddsEdge command.now × LacksCellsToServe heap.old.table worker command.now }
+    ensures full { result ≡ Err PerformFault.HeapFull → AddsEdge command.now × LacksCellsToServe heap.old.table (nursery_of heap.old worker) worker command.now }
 {
-    match find_parties(heap, worker, command) {
-        Ok(parties) => perform_between(heap, worker, command, parties),
+    let subject = subject_of(heap, worker);
+    match find_parties(heap, subject, command) {
+        Ok(parties) => perform_between(heap, subject, command, parties),
         Err(_) => unreachable!(),
     }
 }
 
-/// Performs a command of a worker between the vertices that its checks met: what [`perform`] does, without looking them
+/// Performs a command of a subject between the vertices that its checks met: what [`perform`] does, without looking anything
 /// up again.
 #[inline(always)]
 pub fn perform_between<P: Payload>(
     heap: &mut Heap<P>,
-    worker: u64,
+    subject: Subject,
     command: &Command,
     parties: Parties,
 ) -> Result<Reply, PerformFault>
-    requires worker { worker < length heap.old.workers }
-    requires parties { AreParties heap.old worker command.now parties }
-    ensures reply { IfOk result (λ reply. IsReplyOn (content_of heap.old) worker command.now reply) }
-    ensures content { OnOk result (IsContentAfter (content_of heap.old) (content_of heap.new) worker command.now) }
-    ensures kept { OnOk result (KeepsPlaces heap.old heap.new) }
+    requires subject { HasSubject heap.old subject }
+    requires parties { AreParties heap.old subject.name command.now parties }
+    ensures reply { IfOk result (λ reply. IsReplyOn (content_of heap.old) subject.name command.now reply) }
+    ensures content { OnOk result (IsContentAfter (content_of heap.old) (content_of heap.new) subject.name command.now) }
+    ensures kept { OnOk result (KeepsVertices heap.old heap.new) }
+    ensures subjects { OnOk result (subject_names heap.new ≡ subjects_after (subject_names heap.old) subject.name command.now) }
     ensures looks { OnlyLooks command.now → heap.new ≡ heap.old }
     ensures refused { OnErr result (IsUnchangedHeap heap.old heap.new) }
-    ensures full { result ≡ Err PerformFault.HeapFull → AddsEdge command.now × LacksCellsToServe heap.old.table worker command.now }
+    ensures full { result ≡ Err PerformFault.HeapFull → AddsEdge command.now × LacksCellsToServe heap.old.table subject.nursery subject.name command.now }
 {
     let Parties { from, target } = parties;
     match *command {
         Command::Take { rights, .. } | Command::Grant { rights, .. } => {
-            add(heap, worker, from, target, rights)
+            add(heap, subject, from, target, rights)
         }
         Command::Remove {
             target: name,
@@ -111,18 +117,19 @@ pub fn perform_between<P: Payload>(
         Command::Read { .. } => read(heap, target),
         Command::Write { value, .. } | Command::Append { value, .. } => write(heap, target, value),
         Command::List | Command::Inspect { .. } => list(heap, from),
+        Command::Retire => Ok(retire(heap, subject.name)),
     }
 }
 
 /// What the vertex with a name stores, where a worker may read it: `Some` exactly where a read command of the worker is to
 /// be served. Takes no memory.
 pub fn readable<P: Payload>(heap: &Heap<P>, worker: u64, name: u64) -> Option<&P>
-    requires { worker < length heap.now.workers }
+    requires { IsActive heap.now worker }
     ensures allowed { IsSome result ↔ (denial_of (content_of heap.now).label (content_of heap.now).value worker (Command.Read name) ≡ None) }
     ensures stored { IfSome result (λ payload. (content_of heap.now).value name ≡ Some (P.value payload.now)) }
 {
     let read = Command::Read { target: name };
-    match find_parties(heap, worker, &read) {
+    match find_parties(heap, subject_of(heap, worker), &read) {
         Ok(parties) => Some(heap.payload(parties.target.place)),
         Err(_) => None,
     }
@@ -132,12 +139,12 @@ pub fn readable<P: Payload>(heap: &Heap<P>, worker: u64, name: u64) -> Option<&P
 #[inline(always)]
 fn add<P: Payload>(
     heap: &mut Heap<P>,
-    worker: u64,
+    subject: Subject,
     from: Vertex,
     target: Vertex,
     rights: Label,
 ) -> Result<Reply, PerformFault>
-    requires worker { worker < length heap.old.workers }
+    requires subject { HasSubject heap.old subject }
     requires from { HasVertex heap.old from }
     requires target { HasVertex heap.old target }
     ensures reply { IfOk result (λ reply. reply ≡ Reply.Done) }
@@ -145,9 +152,9 @@ fn add<P: Payload>(
         (with_rights (content_of heap.old).label from.name target.name rights) (content_of heap.old).value) }
     ensures kept { OnOk result (KeepsPlaces heap.old heap.new) }
     ensures refused { OnErr result (IsUnchangedHeap heap.old heap.new) }
-    ensures full { result ≡ Err PerformFault.HeapFull → LacksCellsFor heap.old.table (worker + 2) 0 from.name target.name }
+    ensures full { result ≡ Err PerformFault.HeapFull → LacksCellsFor heap.old.table (nursery_space subject.nursery) 0 from.name target.name }
 {
-    heap.add_edge(worker, from.place, target.place, rights)?;
+    heap.add_edge_as(subject, from.place, target.place, rights)?;
     Ok(Reply::Done)
 }
 
@@ -187,6 +194,18 @@ fn write<P: Payload>(heap: &mut Heap<P>, target: Vertex, number: u64) -> Result<
 {
     heap.write(target.place, number)?;
     Ok(Reply::Done)
+}
+
+// A subject is none any more.
+#[inline(always)]
+fn retire<P: Payload>(heap: &mut Heap<P>, name: u64) -> Reply
+    ensures reply { result ≡ Reply.Done }
+    ensures content { content_of heap.new ≡ content_of heap.old }
+    ensures kept { KeepsVertices heap.old heap.new }
+    ensures subjects { subject_names heap.new ≡ without_subject (subject_names heap.old) name }
+{
+    heap.retire(name);
+    Reply::Done
 }
 
 // The edges of a vertex.

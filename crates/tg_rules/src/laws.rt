@@ -4,13 +4,14 @@
 //! So who decides on a heap by its content, and changes the content as the rules say, answers what the graph that was
 //! never collected answers, and goes on as it does. The proofs of the crates above cite the lemmas behind the laws,
 //! which stand in `proofs/StandingLaws.antt` of `tg_graph`.
-ghost use Rattle.std.specs.Prelude.{◌≡◌, ◌<◌, ◌≤◌, ◌⊎◌, ℕ, List, None, Some};
+ghost use Rattle.std.specs.Prelude.{◌≡◌, ◌<◌, ◌≤◌, ◌⊎◌, ℕ, List, None, Some, length};
 ghost use Rattle.tg_rights.specs.RightSet.{RightSet};
 ghost use Rattle.tg_model.specs.Graph.{ProtectionGraph, IsSubject, IsSound, with_rights};
 ghost use Rattle.tg_model.specs.Rules.{denial_of, denied_or, reply_of, with_value, step, answer_of};
 ghost use Rattle.tg_model.specs.declared.command.Command.{Command};
-ghost use Rattle.tg_model.specs.declared.command.Deed.TheVariants.{Create, Plain};
+ghost use Rattle.tg_model.specs.declared.command.Deed.TheVariants.{Create, Spawn, Plain};
 ghost use Rattle.tg_model.specs.declared.law.Law.{Law};
+ghost use Rattle.tg_model.specs.declared.opening.TheConstants.{MAX_WORKERS};
 ghost use Rattle.tg_model.specs.declared.reply.Denial.{Denial};
 ghost use Rattle.tg_model.specs.declared.reply.Reply.{Reply};
 ghost use Rattle.tg_model.specs.declared.reply.Reply.TheVariants.{Denied};
@@ -35,8 +36,8 @@ pub fn decisions_on_a_content_are_its_graphs()
         answer_of g x (Plain command) ≡ Denied denial }
 {}
 
-/// A content that is changed as the rules say stands for the next graph: where a command is served, and where a vertex
-/// is made. Where a command is denied, or no more vertices may be made, it does where it stays as it is. The next name
+/// A content that is changed as the rules say stands for the next graph: where a command is served, and where an object or a
+/// subject is made. Where a command is denied, or no more vertices may be made, it does where it stays as it is. The next name
 /// is one that the content doesn't have.
 pub fn steps_on_a_content_are_its_graphs()
     ensures served { (c new : Content) (g : ProtectionGraph) (x : ℕ) (command : Command) →
@@ -51,6 +52,11 @@ pub fn steps_on_a_content_are_its_graphs()
         IsContent new (λ y. IsNamed c y ⊎ (y ≡ g.made)) (with_rights c.label x g.made label)
         (with_value c.value g.made (record { law = law; state = state })) →
         IsContentOf new (step g x (Create label law state)) }
+    ensures spawned { (c new : Content) (g : ProtectionGraph) (x : ℕ) (label : RightSet) (law : Law) (state : List ℕ) →
+        IsContentOf c g → OnlyNamedHold c → IsSound g → IsSubject g x → g.made < g.limit → length g.subjects < MAX_WORKERS →
+        IsContent new (λ y. IsNamed c y ⊎ (y ≡ g.made)) (with_rights c.label x g.made label)
+        (with_value c.value g.made (record { law = law; state = state })) →
+        IsContentOf new (step g x (Spawn label law state)) }
     ensures full { (c new : Content) (g : ProtectionGraph) (x : ℕ) (label : RightSet) (law : Law) (state : List ℕ) →
         IsContentOf c g → g.limit ≤ g.made → IsSameContent c new → IsContentOf new (step g x (Create label law state)) }
     ensures new_name { (c : Content) (g : ProtectionGraph) → IsContentOf c g → ¬ IsNamed c g.made }

@@ -1,9 +1,11 @@
 //! Vertices of a heap, and those that a command is about.
-ghost use Rattle.std.specs.Prelude.{◌≡◌, ◌<◌, length};
-ghost use Rattle.tg_rules.specs.Verdict.{HasVertex};
+ghost use Rattle.std.specs.Prelude.{◌≡◌};
+ghost use Rattle.tg_graph.specs.Heap.{IsActive};
+ghost use Rattle.tg_rules.specs.Verdict.{HasSubject, HasVertex};
 
 use tg_graph::Heap;
 use tg_payload::Payload;
+use tg_subjects::Subject;
 use tg_word::Place;
 
 /// A vertex of a heap: its name, and the place of its object.
@@ -13,16 +15,27 @@ pub(crate) struct Vertex {
     pub(crate) place: Place,
 }
 
-/// The vertex of a worker.
+/// The active subject with a name.
 #[inline(always)]
-pub(crate) fn worker_of<P: Payload>(heap: &Heap<P>, worker: u64) -> Vertex
-    requires { worker < length heap.now.workers }
-    ensures name { result.name ≡ worker }
-    ensures vertex { HasVertex heap.now result }
+pub(crate) fn subject_of<P: Payload>(heap: &Heap<P>, name: u64) -> Subject
+    requires { IsActive heap.now name }
+    ensures there { HasSubject heap.now result }
+    ensures name { result.name ≡ name }
+{
+    match heap.subject(name) {
+        Some(subject) => subject,
+        None => unreachable!(),
+    }
+}
+
+/// The vertex of a subject.
+#[inline(always)]
+pub(crate) fn vertex_of(subject: Subject) -> Vertex
+    ensures { result ≡ record { name = subject.name; place = subject.place } }
 {
     Vertex {
-        name: worker,
-        place: heap.worker_place(worker),
+        name: subject.name,
+        place: subject.place,
     }
 }
 
@@ -31,6 +44,6 @@ pub(crate) fn worker_of<P: Payload>(heap: &Heap<P>, worker: u64) -> Vertex
 pub struct Parties {
     // The vertex whose row gets or loses rights, or is listed.
     pub(crate) from: Vertex,
-    // The vertex that the command names last, or the worker's own where it names none.
+    // The vertex that the command names last, or the subject's own where it names none.
     pub(crate) target: Vertex,
 }

@@ -114,6 +114,7 @@ tells_fault T fault.BadLimits s bytes t first before left after r h = absurd r
 pub next_command : (s : Script) (l : Line) (t : Script) → s.opening ≡ false → Follows s l t → IsCommand l × (t.opening ≡ false)
 next_command s (line.Edge edge) t closed f = absurd (false≢true (sym closed ∙ f.stands.0))
 next_command s (line.Create x label) t closed f = (tt, f.opening)
+next_command s (line.Spawn x label) t closed f = (tt, f.opening)
 next_command s (line.Plain x c) t closed f = (tt, f.opening)
 next_command s line.Full t closed f = (tt, f.opening)
 next_command s line.Minor t closed f = (tt, f.opening)

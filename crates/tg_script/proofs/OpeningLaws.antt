@@ -70,6 +70,7 @@ edge_taken s l t edge same opening f =
 pub command_taken : (s : Script) (l : Line) (t : Script) → Follows s l t → ((edge : Edge) → l ≡ line.Edge edge → ⊥) → IsCommand l × (t.opening ≡ false)
 command_taken s (line.Edge edge) t f other = absurd (other edge refl)
 command_taken s (line.Create x label) t f other = (tt, f.opening)
+command_taken s (line.Spawn x label) t f other = (tt, f.opening)
 command_taken s (line.Plain x command) t f other = (tt, f.opening)
 command_taken s line.Full t f other = (tt, f.opening)
 command_taken s line.Minor t f other = (tt, f.opening)

@@ -1,6 +1,6 @@
 -- The text for the lines of a script is one text.
 use Rattle.std.proofs.Common.{◌≡◌, inl, inr, ℕ, List, [], ◌∷◌, ◌++◌, Some, sym, ap, ◌∙◌, subst, arith}
-use Rattle.tg_rights.specs.RightSet.{RightSet}
+use Rattle.tg_model.specs.declared.command.Deed.{Deed}
 use Rattle.tg_model.specs.Graph.{IsReachable}
 use Rattle.tg_model.specs.declared.value.Value.{Value}
 use Rattle.tg_text.specs.declared.line.Line.{Line}
@@ -8,7 +8,7 @@ use Rattle.tg_text.specs.declared.line.Line.TheVariants as line
 use Rattle.tg_text.specs.declared.answer.Answer.{Answer}
 use Rattle.tg_text.specs.declared.answer.Answer.TheVariants as told
 use Rattle.tg_text.specs.Texts.{answer_text}
-use Rattle.tg_script.specs.Script.{Scene, AnswersCreate, Answers, IsOutput, IsAdmissible}
+use Rattle.tg_script.specs.Script.{Scene, AnswersMaking, Answers, IsOutput, IsAdmissible, create_of, spawn_of}
 use Rattle.tg_script.proofs.CountLaws.{count_same}
 
 pub is_output : (lines : List Line) (s : Scene) (text : List ℕ) → IsAdmissible s lines 0 text → IsOutput s lines text
@@ -20,16 +20,17 @@ is_output (l ∷ lines) s text (inr h) = absurd (omega (arith, h.4))
 abbrev Agree : Answer → Scene → Answer → Scene → Type 0
 Agree a t b u = (a ≡ b) × (t ≡ u)
 
-creates_same : (s : Scene) (x : ℕ) (label : RightSet) (stock : List Value) (a b : Answer) (t u : Scene) → AnswersCreate s x label stock a t → AnswersCreate s x label stock b u → Agree a t b u
-creates_same s x label [] a b t u h k = (h.0 ∙ sym k.0, h.1 ∙ sym k.1)
-creates_same s x label (value ∷ rest) a b t u (inl h) (inl k) = (h.1 ∙ sym k.1, h.2 ∙ sym k.2)
-creates_same s x label (value ∷ rest) a b t u (inl h) (inr k) = absurd (k.0 h.0)
-creates_same s x label (value ∷ rest) a b t u (inr h) (inl k) = absurd (h.0 k.0)
-creates_same s x label (value ∷ rest) a b t u (inr h) (inr k) = (h.1 ∙ sym k.1, h.2 ∙ sym k.2)
+makings_same : (s : Scene) (x : ℕ) (making : Value → Deed) (stock : List Value) (a b : Answer) (t u : Scene) → AnswersMaking s x making stock a t → AnswersMaking s x making stock b u → Agree a t b u
+makings_same s x making [] a b t u h k = (h.0 ∙ sym k.0, h.1 ∙ sym k.1)
+makings_same s x making (value ∷ rest) a b t u (inl h) (inl k) = (h.1 ∙ sym k.1, h.2 ∙ sym k.2)
+makings_same s x making (value ∷ rest) a b t u (inl h) (inr k) = absurd (k.0 h.0)
+makings_same s x making (value ∷ rest) a b t u (inr h) (inl k) = absurd (h.0 k.0)
+makings_same s x making (value ∷ rest) a b t u (inr h) (inr k) = (h.1 ∙ sym k.1, h.2 ∙ sym k.2)
 
 answers_same : (s : Scene) (l : Line) (a b : Answer) (t u : Scene) → Answers s l a t → Answers s l b u → Agree a t b u
 answers_same s (line.Edge e) a b t u h k = absurd h
-answers_same s (line.Create x label) a b t u h k = creates_same s x label s.stock a b t u h k
+answers_same s (line.Create x label) a b t u h k = makings_same s x (create_of label) s.stock a b t u h k
+answers_same s (line.Spawn x label) a b t u h k = makings_same s x (spawn_of label) s.stock a b t u h k
 answers_same s (line.Plain x c) a b t u (inl h) (inl k) = (h.1 ∙ sym k.1, h.2 ∙ sym k.2)
 answers_same s (line.Plain x c) a b t u (inl h) (inr k) = absurd (k.0 h.0)
 answers_same s (line.Plain x c) a b t u (inr h) (inl k) = absurd (h.0 k.0)

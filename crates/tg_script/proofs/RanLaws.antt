@@ -75,6 +75,7 @@ ran_edges_fault T fault.BadLimits start s t bytes before left after fresh h same
 edges_of-front : (edges : List Edge) (l : Line) (lines : List Line) → IsCommand l → edges_of (edge_lines edges ++ l ∷ lines) ≡ edges
 edges_of-front [] (line.Edge e) lines command = absurd (false≢true command.0)
 edges_of-front [] (line.Create x label) lines command = refl
+edges_of-front [] (line.Spawn x label) lines command = refl
 edges_of-front [] (line.Plain x c) lines command = refl
 edges_of-front [] line.Full lines command = refl
 edges_of-front [] line.Minor lines command = refl
@@ -83,6 +84,7 @@ edges_of-front (e ∷ edges) l lines command = ap (λ x. e ∷ x) (edges_of-fron
 commands_of-front : (edges : List Edge) (l : Line) (lines : List Line) → IsCommand l → commands_of (edge_lines edges ++ l ∷ lines) ≡ l ∷ lines
 commands_of-front [] (line.Edge e) lines command = absurd (false≢true command.0)
 commands_of-front [] (line.Create x label) lines command = refl
+commands_of-front [] (line.Spawn x label) lines command = refl
 commands_of-front [] (line.Plain x c) lines command = refl
 commands_of-front [] line.Full lines command = refl
 commands_of-front [] line.Minor lines command = refl

@@ -1,34 +1,40 @@
 -- Each line is answered by the scene that the run shows.
 use mathlib.Core.Bool.{true≢false}
-use Rattle.std.proofs.Common.{◌≡◌, inl, inr, ◌↔◌, ℕ, ◌<◌, ◌≤◌, nat_lt, Bool, true, false, cond, eqb, List, [], ◌∷◌, Some, None, Result, Ok, Err, refl, sym, ap, ◌∙◌, subst, arith}
+use Rattle.std.proofs.Common.{◌≡◌, ◌≢◌, inl, inr, ◌↔◌, ℕ, ◌<◌, ◌≤◌, nat_lt, true, false, cond, eqb, length, List, [], ◌∷◌, ◌++◌, Some, None, Result, Ok, Err, refl, sym, ap, ap₂, ◌∙◌, subst}
+use Rattle.std.specs.Prelude.{IfOk, OnOk, IfErr, OnErr, IsErrAnd}
 use Rattle.std.specs.List.{list_any}
-use Rattle.std.proofs.lemmas.Bool.{ltb-true}
+use Rattle.std.proofs.lemmas.Bool.{lt-ltb, le-ltb}
 use Rattle.std.proofs.lemmas.Map.Views.{Contains-from_any, list_any-from_Contains}
 use Rattle.std.specs.Cmp.{nat_eq_equiv}
 use Rattle.std.proofs.lemmas.Bool.Decides.{Decides-eqb}
 use Rattle.tg_rights.specs.RightSet.{RightSet}
 use Rattle.tg_model.specs.declared.value.Value.{Value}
 use Rattle.tg_model.specs.declared.command.Command.{Command}
+use Rattle.tg_model.specs.declared.command.Deed.{Deed}
 use Rattle.tg_model.specs.declared.command.Deed.TheVariants as deed
+use Rattle.tg_model.specs.declared.opening.TheConstants.{MAX_WORKERS}
 use Rattle.tg_model.specs.declared.reply.Reply.{Reply}
 use Rattle.tg_model.specs.declared.reply.Reply.TheVariants as reply
 use Rattle.tg_model.specs.Graph.{ProtectionGraph, IsSubject, IsReachable}
-use Rattle.tg_model.specs.Rules.{IsAllowed, step, answer_of}
+use Rattle.tg_model.specs.Rules.{IsAllowed, step, answer_of, with_vertex, with_subject}
 use Rattle.tg_rules.specs.Effect.{AddsEdge}
 use Rattle.tg_store.specs.declared.fault.ApplyFault.{ApplyFault}
 use Rattle.tg_store.specs.declared.fault.ApplyFault.TheVariants as apply
 use Rattle.tg_store.specs.declared.fault.CreateFault.{CreateFault}
 use Rattle.tg_store.specs.declared.fault.CreateFault.TheVariants as create
+use Rattle.tg_store.specs.declared.fault.CreateRefused.{CreateRefused}
 use Rattle.tg_store.specs.Store.{StoreState, graph_of_store, StandsFor, IsUnchanged, IsCountOf}
+use Rattle.tg_text.specs.declared.line.Line.{Line}
 use Rattle.tg_text.specs.declared.line.Line.TheVariants as line
+use Rattle.tg_text.specs.declared.answer.Answer.{Answer}
 use Rattle.tg_text.specs.declared.answer.Answer.TheVariants as told
 use Rattle.tg_text.specs.declared.answer.Refusal.{Refusal}
 use Rattle.tg_text.specs.declared.answer.Refusal.TheVariants as refusal
 use Rattle.tg_script.specs.declared.run.Run.{Run}
 use Rattle.tg_script.specs.Supply.{values_left}
-use Rattle.tg_script.specs.Script.{Scene, AnswersCreate, MayWant}
+use Rattle.tg_script.specs.Script.{Scene, Answers, AnswersMaking, MayAnswerRefused, MayWant, Serves, create_of, spawn_of, stock_left}
 use Rattle.tg_refusals.specs.Refusals.{apply_refusal, create_answer}
-use Rattle.tg_script.specs.Run.{Shows, HandlesBy, Handles}
+use Rattle.tg_script.specs.Run.{Shows, HandlesBy, Handles, making_answer, values_back}
 
 -- ---- who is a subject, and which graph a store stands for
 
@@ -91,72 +97,121 @@ minor_refused old new why want opening entries supply helpers s shown =
 
 -- ---- vertices
 
+-- a line by which x makes a vertex, and what it may be refused for
+pub record IsMaking (l : Line) (x : ℕ) (making : Value → Deed) : Type 0 where
+  pub answers : (s t : Scene) (a : Answer) → AnswersMaking s x making s.stock a t → Answers s l a t
+  pub memory : (s : Scene) → IsSubject s.graph x → s.stock ≢ [] → MayAnswerRefused s l refusal.Memory
+  pub heap : (s : Scene) (value : Value) → IsSubject s.graph x → s.stock ≢ [] → IsAllowed s.graph x (making value) → MayAnswerRefused s l refusal.Heap
+
+pub creating : (x : ℕ) (label : RightSet) → IsMaking (line.Create x label) x (create_of label)
+creating x label = record {
+  answers = λ s t a h. h;
+  memory = λ s subject some. (subject, some);
+  heap = λ s value subject some allowed. (subject, some, allowed);
+}
+
+pub spawning : (x : ℕ) (label : RightSet) → IsMaking (line.Spawn x label) x (spawn_of label)
+spawning x label = record {
+  answers = λ s t a h. h;
+  memory = λ s subject some. (subject, some);
+  heap = λ s value subject some allowed. (subject, some, allowed.0, allowed.1);
+}
+
+-- the deed is answered so, and changes nothing
+pub record IsFull (g : ProtectionGraph) (x : ℕ) (d : Deed) (r : Reply) : Type 0 where
+  pub subject : IsSubject g x
+  pub answer : answer_of g x d ≡ r
+  pub same : step g x d ≡ g
+
+pub create_full : (g : ProtectionGraph) (x : ℕ) (label : RightSet) (value : Value) → IsSubject g x × (g.limit ≤ g.made) → IsFull g x (create_of label value) reply.VerticesFull
+create_full g x label value (subject, full) =
+    let closed = le-ltb g.made g.limit full in
+    record {
+      subject = subject;
+      answer = ap (λ b. cond b (reply.Name g.made) reply.VerticesFull) closed;
+      same = ap (λ b. cond b (with_vertex g x label value) g) closed;
+    }
+
+pub spawn_full : (g : ProtectionGraph) (x : ℕ) (label : RightSet) (value : Value) → IsSubject g x × (g.limit ≤ g.made) → IsFull g x (spawn_of label value) reply.VerticesFull
+spawn_full g x label value (subject, full) =
+    let closed = le-ltb g.made g.limit full in
+    let few = nat_lt (length g.subjects) MAX_WORKERS in
+    record {
+      subject = subject;
+      answer = ap (λ b. cond b (cond few (reply.Name g.made) reply.WorkersFull) reply.VerticesFull) closed;
+      same = ap (λ b. cond b (cond few (with_subject g x label value) g) g) closed;
+    }
+
+pub spawn_crowded : (g : ProtectionGraph) (x : ℕ) (label : RightSet) (value : Value) → IsSubject g x × (g.made < g.limit) × (MAX_WORKERS ≤ length g.subjects) → IsFull g x (spawn_of label value) reply.WorkersFull
+spawn_crowded g x label value (subject, room, many) =
+    let roomy = lt-ltb g.made g.limit room in
+    let closed = le-ltb (length g.subjects) MAX_WORKERS many in
+    record {
+      subject = subject;
+      answer = ap₂ (λ b c. cond b (cond c (reply.Name g.made) reply.WorkersFull) reply.VerticesFull) roomy closed;
+      same = ap₂ (λ b c. cond b (cond c (with_subject g x label value) g) g) roomy closed;
+    }
+
+-- what a store says of the deed by which it was to make a vertex for x, with this value
+pub record Makes {P : Type 0} (old new : StoreState) (x : ℕ) (d : Deed) (value : Value) (made : Result ℕ (CreateRefused P)) : Type 0 where
+  pub name : (g : ProtectionGraph) → StandsFor old g → IfOk made (λ n. answer_of g x d ≡ reply.Name n)
+  pub steps : (g : ProtectionGraph) → StandsFor old g → OnOk made (StandsFor new (step g x d))
+  pub no_such_worker : (g : ProtectionGraph) → StandsFor old g → IsErrAnd made (λ refused. refused.why ≡ create.NoSuchWorker) ↔ (¬ IsSubject g x)
+  pub no_more : (g : ProtectionGraph) → StandsFor old g → IfErr made (λ refused. refused.why ≡ create.VerticesFull → IsFull g x d reply.VerticesFull)
+  pub too_many : (g : ProtectionGraph) → StandsFor old g → IfErr made (λ refused. refused.why ≡ create.WorkersFull → IsFull g x d reply.WorkersFull)
+  pub full : (g : ProtectionGraph) → StandsFor old g → IfErr made (λ refused. refused.why ≡ create.HeapFull → IsAllowed g x d)
+  pub same_graph : (g : ProtectionGraph) → StandsFor old g → OnErr made (StandsFor new g)
+  pub handed_back : IfErr made (λ refused. refused.draft ≡ value)
+
 -- nothing is left of the stock
-pub create_none : {P : Type 0} (old new : Run P) (x : ℕ) (label : RightSet) → values_left old.supply ≡ [] → new.store ≡ old.store → values_left new.supply ≡ values_left old.supply → new.helpers ≡ old.helpers → Handles old (line.Create x label) (told.Refused refusal.Stock) new
-create_none old new x label empty store supply helpers s shown =
-    let P : List Value → Type 0 = λ stock. AnswersCreate s x label stock (told.Refused refusal.Stock) s in
+pub making_none : {P : Type 0} (old new : Run P) (l : Line) (x : ℕ) (making : Value → Deed) → IsMaking l x making → values_left old.supply ≡ [] → new.store ≡ old.store → values_left new.supply ≡ values_left old.supply → new.helpers ≡ old.helpers → Handles old l (told.Refused refusal.Stock) new
+making_none old new l x making is empty store supply helpers s shown =
+    let P : List Value → Type 0 = λ stock. AnswersMaking s x making stock (told.Refused refusal.Stock) s in
     let same = same_scene old new s (ap (λ (y : StoreState). y.opening) store) (ap (λ (y : StoreState). y.entries) store) supply helpers shown in
-    (s, same, inl (subst P (sym empty ∙ shown.1) (refl, refl)))
+    (s, same, inl (is.answers s s (told.Refused refusal.Stock) (subst P (sym empty ∙ shown.1) (refl, refl))))
 
-room_left : (made limit name : ℕ) (t : Bool) → cond t (reply.Name made) reply.VerticesFull ≡ reply.Name name → t ≡ true
-room_left made limit name true same = refl
-room_left made limit name false same = cc
+pub create_none : {P : Type 0} (old new : Run P) (x : ℕ) (label : RightSet) → values_left old.supply ≡ [] → new.store ≡ old.store → values_left new.supply ≡ values_left old.supply → new.helpers ≡ old.helpers → Handles old (line.Create x label) (told.Refused refusal.Stock) new
+create_none old new x label empty store supply helpers = making_none old new (line.Create x label) x (create_of label) (creating x label) empty store supply helpers
 
--- a vertex was made
-pub create_done : (store : StoreState) (helpers : ℕ) {P : Type 0} (new : Run P) (x : ℕ) (label : RightSet) (value : Value) (left : List Value) (name : ℕ) → ((g : ProtectionGraph) → StandsFor store g → answer_of g x (deed.Create label value.law value.state) ≡ reply.Name name) → ((g : ProtectionGraph) → StandsFor store g → StandsFor new.store (step g x (deed.Create label value.law value.state))) → ((g : ProtectionGraph) → StandsFor store g → ⊥ ↔ (¬ IsSubject g x)) → values_left new.supply ≡ left → new.helpers ≡ helpers → HandlesBy store (value ∷ left) helpers (line.Create x label) (told.Reply (reply.Name name)) new
-create_done store helpers new x label value left name answers steps unknown supply same_helpers s shown =
-    let subject = subject_held s.graph x (λ none. (unknown s.graph shown.0).1 none) in
-    let answer = answers s.graph shown.0 in
-    let room = room_left s.graph.made s.graph.limit name (nat_lt s.graph.made s.graph.limit) answer in
-    let t : Scene = record s { graph = step s.graph x (deed.Create label value.law value.state); stock = cond (nat_lt s.graph.made s.graph.limit) left s.stock } in
-    let P : List Value → Type 0 = λ stock. AnswersCreate s x label stock (told.Reply (reply.Name name)) t in (
+pub spawn_none : {P : Type 0} (old new : Run P) (x : ℕ) (label : RightSet) → values_left old.supply ≡ [] → new.store ≡ old.store → values_left new.supply ≡ values_left old.supply → new.helpers ≡ old.helpers → Handles old (line.Spawn x label) (told.Refused refusal.Stock) new
+spawn_none old new x label empty store supply helpers = making_none old new (line.Spawn x label) x (spawn_of label) (spawning x label) empty store supply helpers
+
+-- it was answered by the graph, with this value in front of the stock
+answered : {P : Type 0} (s : Scene) (new : Run P) (l : Line) (x : ℕ) (making : Value → Deed) (value : Value) (left : List Value) (r : Reply) → IsMaking l x making → value ∷ left ≡ s.stock → IsSubject s.graph x → answer_of s.graph x (making value) ≡ r → StandsFor new.store (step s.graph x (making value)) → values_left new.supply ≡ stock_left r left s.stock → new.helpers ≡ s.helpers → (t : Scene) × Shows new t × Serves s l (told.Reply r) t
+answered s new l x making value left r is stock subject answer stands supply helpers =
+    let t : Scene = record s { graph = step s.graph x (making value); stock = stock_left (answer_of s.graph x (making value)) left s.stock } in
+    let P : List Value → Type 0 = λ values. AnswersMaking s x making values (told.Reply r) t in (
       t,
-      (steps s.graph shown.0, supply ∙ sym (ap (λ b. cond b left s.stock) room), same_helpers ∙ shown.2),
-      inl (subst P shown.1 (inl (subject, ap told.Reply (sym answer), refl))),
+      (stands, supply ∙ ap (λ a. stock_left a left s.stock) (sym answer), helpers),
+      inl (is.answers s t (told.Reply r) (subst P stock (inl (subject, ap told.Reply (sym answer), refl)))),
     )
 
-full_answer : (made limit : ℕ) → limit ≤ made → cond (nat_lt made limit) (reply.Name made) reply.VerticesFull ≡ reply.VerticesFull
-full_answer made limit full =
-    elim (nat_lt made limit) as (λ t. nat_lt made limit ≡ t → cond t (reply.Name made) reply.VerticesFull ≡ reply.VerticesFull) [
-      | true ↦ λ e. let lt = ltb-true made limit e in absurd (omega arith)
-      | false ↦ λ e. refl
-    ] refl
+-- nothing was changed, and the value is back
+making_refused : {P : Type 0} (store : StoreState) (helpers : ℕ) (new : Run P) (l : Line) (x : ℕ) (making : Value → Deed) (value : Value) (left : List Value) (refused : CreateRefused P) → IsMaking l x making → Makes store new.store x (making value) value (Err refused) → values_left new.supply ≡ value ∷ left → new.helpers ≡ helpers → (why : CreateFault) → refused.why ≡ why → HandlesBy store (value ∷ left) helpers l (create_answer why) new
+making_refused store helpers new l x making value left refused is makes supply same_helpers create.NoSuchWorker why s shown =
+    let P : List Value → Type 0 = λ stock. AnswersMaking s x making stock (told.Refused refusal.Worker) s in
+    (s, (makes.same_graph s.graph shown.0, supply ∙ shown.1, same_helpers ∙ shown.2), inl (is.answers s s (told.Refused refusal.Worker) (subst P shown.1 (inr ((makes.no_such_worker s.graph shown.0).0 why, refl, refl)))))
+making_refused store helpers new l x making value left refused is makes supply same_helpers create.VerticesFull why s shown =
+    let full = makes.no_more s.graph shown.0 why in
+    answered s new l x making value left reply.VerticesFull is shown.1 full.subject full.answer (subst (λ (h : ProtectionGraph). StandsFor new.store h) (sym full.same) (makes.same_graph s.graph shown.0)) (supply ∙ shown.1) (same_helpers ∙ shown.2)
+making_refused store helpers new l x making value left refused is makes supply same_helpers create.WorkersFull why s shown =
+    let full = makes.too_many s.graph shown.0 why in
+    answered s new l x making value left reply.WorkersFull is shown.1 full.subject full.answer (subst (λ (h : ProtectionGraph). StandsFor new.store h) (sym full.same) (makes.same_graph s.graph shown.0)) (supply ∙ shown.1) (same_helpers ∙ shown.2)
+making_refused store helpers new l x making value left refused is makes supply same_helpers create.OutOfMemory why s shown =
+    let subject = subject_held s.graph x (λ none. let e = (makes.no_such_worker s.graph shown.0).1 none in cc) in
+    let some : s.stock ≢ [] = λ none. let e : value ∷ left ≡ [] = shown.1 ∙ none in cc in
+    (s, (makes.same_graph s.graph shown.0, supply ∙ shown.1, same_helpers ∙ shown.2), inr (refusal.Memory, is.memory s subject some, refl, refl))
+making_refused store helpers new l x making value left refused is makes supply same_helpers create.HeapFull why s shown =
+    let subject = subject_held s.graph x (λ none. let e = (makes.no_such_worker s.graph shown.0).1 none in cc) in
+    let some : s.stock ≢ [] = λ none. let e : value ∷ left ≡ [] = shown.1 ∙ none in cc in
+    (s, (makes.same_graph s.graph shown.0, supply ∙ shown.1, same_helpers ∙ shown.2), inr (refusal.Heap, is.heap s value subject some (makes.full s.graph shown.0 why), refl, refl))
 
-unchanged_graph : (made limit : ℕ) (new old : ProtectionGraph) → limit ≤ made → cond (nat_lt made limit) new old ≡ old
-unchanged_graph made limit new old full =
-    elim (nat_lt made limit) as (λ t. nat_lt made limit ≡ t → cond t new old ≡ old) [
-      | true ↦ λ e. let lt = ltb-true made limit e in absurd (omega arith)
-      | false ↦ λ e. refl
-    ] refl
-
-unchanged_stock : (made limit : ℕ) (new old : List Value) → limit ≤ made → cond (nat_lt made limit) new old ≡ old
-unchanged_stock made limit new old full =
-    elim (nat_lt made limit) as (λ t. nat_lt made limit ≡ t → cond t new old ≡ old) [
-      | true ↦ λ e. let lt = ltb-true made limit e in absurd (omega arith)
-      | false ↦ λ e. refl
-    ] refl
-
--- no vertex was made, and the value was put back
-pub create_refused : (store : StoreState) (helpers : ℕ) {P : Type 0} (new : Run P) (x : ℕ) (label : RightSet) (value : Value) (left : List Value) (why : CreateFault) → ((g : ProtectionGraph) → StandsFor store g → (why ≡ create.NoSuchWorker) ↔ (¬ IsSubject g x)) → ((g : ProtectionGraph) → StandsFor store g → why ≡ create.VerticesFull → IsSubject g x × (g.limit ≤ g.made)) → ((g : ProtectionGraph) → StandsFor store g → why ≡ create.HeapFull → g.made < g.limit) → ((g : ProtectionGraph) → StandsFor store g → StandsFor new.store g) → values_left new.supply ≡ value ∷ left → new.helpers ≡ helpers → HandlesBy store (value ∷ left) helpers (line.Create x label) (create_answer why) new
-create_refused store helpers new x label value left create.NoSuchWorker unknown no_more full same supply same_helpers s shown =
-    let P : List Value → Type 0 = λ stock. AnswersCreate s x label stock (told.Refused refusal.Worker) s in
-    (s, (same s.graph shown.0, supply ∙ shown.1, same_helpers ∙ shown.2), inl (subst P shown.1 (inr ((unknown s.graph shown.0).0 refl, refl, refl))))
-create_refused store helpers new x label value left create.VerticesFull unknown no_more full same supply same_helpers s shown =
-    let held = no_more s.graph shown.0 refl in
-    let d = deed.Create label value.law value.state in
-    let graph : step s.graph x d ≡ s.graph = unchanged_graph s.graph.made s.graph.limit _ s.graph held.1 in
-    let stock = unchanged_stock s.graph.made s.graph.limit left s.stock held.1 in
-    let t : Scene = record s { graph = step s.graph x d; stock = cond (nat_lt s.graph.made s.graph.limit) left s.stock } in
-    let P : List Value → Type 0 = λ stock. AnswersCreate s x label stock (told.Reply reply.VerticesFull) t in (
-      t,
-      (subst (λ (h : ProtectionGraph). StandsFor new.store h) (sym graph) (same s.graph shown.0), supply ∙ shown.1 ∙ sym stock, same_helpers ∙ shown.2),
-      inl (subst P shown.1 (inl (held.0, ap told.Reply (sym (full_answer s.graph.made s.graph.limit held.1)), refl))),
-    )
-create_refused store helpers new x label value left create.OutOfMemory unknown no_more full same supply same_helpers s shown =
-    let subject = subject_held s.graph x (λ none. let e = (unknown s.graph shown.0).1 none in cc) in
-    let some : s.stock ≡ [] → ⊥ = λ none. let e : value ∷ left ≡ [] = shown.1 ∙ none in cc in
-    (s, (same s.graph shown.0, supply ∙ shown.1, same_helpers ∙ shown.2), inr (refusal.Memory, (subject, some), refl, refl))
-create_refused store helpers new x label value left create.HeapFull unknown no_more full same supply same_helpers s shown =
-    let subject = subject_held s.graph x (λ none. let e = (unknown s.graph shown.0).1 none in cc) in
-    let some : s.stock ≡ [] → ⊥ = λ none. let e : value ∷ left ≡ [] = shown.1 ∙ none in cc in
-    (s, (same s.graph shown.0, supply ∙ shown.1, same_helpers ∙ shown.2), inr (refusal.Heap, (subject, some, full s.graph shown.0 refl), refl, refl))
+-- a line by which x was to make a vertex, with the value that was taken from the stock; behind it the run has the store that is left
+pub handles_making : {P : Type 0} (store after : StoreState) (helpers : ℕ) (new : Run P) (l : Line) (x : ℕ) (making : Value → Deed) (value : Value) (left : List Value) (made : Result ℕ (CreateRefused P)) → IsMaking l x making → Makes store after x (making value) value made → new.store ≡ after → values_left new.supply ≡ values_back made ++ left → new.helpers ≡ helpers → HandlesBy store (value ∷ left) helpers l (making_answer made) new
+handles_making store after helpers new l x making value left (Ok name) is makes same supply same_helpers s shown =
+    let subject = subject_held s.graph x (λ none. (makes.no_such_worker s.graph shown.0).1 none) in
+    let stands = subst (λ (t : StoreState). StandsFor t (step s.graph x (making value))) (sym same) (makes.steps s.graph shown.0) in
+    answered s new l x making value left (reply.Name name) is shown.1 subject (makes.name s.graph shown.0) stands supply (same_helpers ∙ shown.2)
+handles_making store after helpers new l x making value left (Err refused) is makes same supply same_helpers s shown =
+    let makes' = subst (λ (t : StoreState). Makes store t x (making value) value (Err refused)) (sym same) makes in
+    making_refused store helpers new l x making value left refused is makes' (supply ∙ ap (λ v. v ∷ left) makes.handed_back) same_helpers refused.why refl s shown

@@ -1,6 +1,5 @@
 -- What is read of a whole script.
-use Rattle.std.proofs.Common.{◌≡◌, ℕ, List, [], ◌∷◌, ◌++◌, Option, Some, None, Err, sym, ap, ◌∙◌, subst, append-nil, append_assoc}
-use Rattle.tg_model.specs.declared.edge.Edge.{Edge}
+use Rattle.std.proofs.Common.{ℕ, List, [], ◌∷◌, ◌++◌, Option, Some, None, Err, sym, subst, append-nil, append_assoc}
 use Rattle.tg_text.specs.declared.line.Line.{Line}
 use Rattle.tg_text.specs.declared.fault.ScriptFault.{ScriptFault}
 use Rattle.tg_text.specs.declared.fault.ScriptFault.TheVariants as fault

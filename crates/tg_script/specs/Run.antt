@@ -1,10 +1,14 @@
 -- How a run under way stands to a scene, and what is said of the answer to a line.
-use Rattle.std.specs.Prelude.{◌≡◌, ◌≤◌, ℕ, List, ◌∷◌, Result, Ok, Err}
+use Rattle.std.specs.Prelude.{◌≡◌, ◌≤◌, ℕ, List, [], ◌∷◌, Result, Ok, Err}
 use Rattle.tg_model.specs.Opened.{Plan, HasLimits, start_of}
 use Rattle.tg_model.specs.declared.value.Value.{Value}
+use Rattle.tg_model.specs.declared.reply.Reply.TheVariants as reply
+use Rattle.tg_refusals.specs.Refusals.{create_answer}
+use Rattle.tg_store.specs.declared.fault.CreateRefused.{CreateRefused}
 use Rattle.tg_store.specs.Store.{StoreState, StandsFor}
 use Rattle.tg_text.specs.declared.line.Line.{Line}
 use Rattle.tg_text.specs.declared.answer.Answer.{Answer}
+use Rattle.tg_text.specs.declared.answer.Answer.TheVariants as told
 use Rattle.tg_script.specs.declared.run.Run.{Run}
 use Rattle.tg_text.specs.declared.fault.ScriptFault.{ScriptFault}
 use Rattle.tg_script.specs.Opening.{OpensStore}
@@ -28,6 +32,16 @@ Handles old l a new = HandlesBy old.store (values_left old.supply) old.helpers l
 -- the same, where the first value of the stock was taken
 abbrev pub HandlesWith : {P : Type 0} → Run P → Value → Line → Answer → Run P → Type 0
 HandlesWith old value l a new = HandlesBy old.store (value ∷ values_left old.supply) old.helpers l a new
+
+-- how it is told that a vertex was made, or why none was
+abbrev pub making_answer : {P : Type 0} → Result ℕ (CreateRefused P) → Answer
+making_answer (Ok name) = told.Reply (reply.Name name)
+making_answer (Err refused) = create_answer refused.why
+
+-- what comes back to the stock then
+abbrev pub values_back : {P : Type 0} → Result ℕ (CreateRefused P) → List Value
+values_back (Ok name) = []
+values_back (Err refused) = refused.draft ∷ []
 
 -- the store was opened, and the run shows the scene that the plan makes beside this stock; or why it wasn't opened
 abbrev pub OpensRun : {P : Type 0} → Plan → ℕ → List Value → ℕ → Result (Run P) ScriptFault → Type 0

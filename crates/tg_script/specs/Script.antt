@@ -1,9 +1,13 @@
 -- What is written for the lines of a script. Nothing here knows how lines are fetched or replies are put out.
-use Rattle.std.specs.Prelude.{◌≡◌, ◌≢◌, ◌⊎◌, ℕ, ◌+◌, ◌<◌, ◌≤◌, List, [], ◌∷◌, ◌++◌, Option, Some, None, nat_lt, if◌then◌else◌}
+use Rattle.std.specs.Prelude.{◌≡◌, ◌≢◌, ◌⊎◌, ℕ, ◌+◌, ◌<◌, ◌≤◌, List, [], ◌∷◌, ◌++◌, length, Option, Some, None}
 use Rattle.tg_rights.specs.RightSet.{RightSet}
 use Rattle.tg_model.specs.declared.value.Value.{Value}
 use Rattle.tg_model.specs.declared.edge.Edge.{Edge}
+use Rattle.tg_model.specs.declared.command.Deed.{Deed}
 use Rattle.tg_model.specs.declared.command.Deed.TheVariants as deed
+use Rattle.tg_model.specs.declared.opening.TheConstants.{MAX_WORKERS}
+use Rattle.tg_model.specs.declared.reply.Reply.{Reply}
+use Rattle.tg_model.specs.declared.reply.Reply.TheVariants as reply
 use Rattle.tg_model.specs.Graph.{ProtectionGraph, IsSubject, IsReachable}
 use Rattle.tg_model.specs.Rules.{IsAllowed, step, answer_of}
 use Rattle.tg_model.specs.Opened.{HasLimits, start_of}
@@ -27,13 +31,25 @@ pub record Scene : Type 0 where
   pub stock : List Value
   pub helpers : ℕ
 
--- The answer to a create line of x and the scene after it, where this stands in the stock. The first value is taken where a
--- vertex is made.
-abbrev pub AnswersCreate : Scene → ℕ → RightSet → List Value → Answer → Scene → Type 0
-AnswersCreate s x label [] a t = (a ≡ told.Refused refusal.Stock) × (t ≡ s)
-AnswersCreate s x label (value ∷ rest) a t =
-    (IsSubject s.graph x × (a ≡ told.Reply (answer_of s.graph x (deed.Create label value.law value.state)))
-    × (t ≡ record s { graph = step s.graph x (deed.Create label value.law value.state); stock = if nat_lt s.graph.made s.graph.limit then rest else s.stock }))
+-- the deeds that make a vertex with a value of the stock: an object, or a subject
+abbrev pub create_of : RightSet → Value → Deed
+create_of label value = deed.Create label value.law value.state
+
+abbrev pub spawn_of : RightSet → Value → Deed
+spawn_of label value = deed.Spawn label value.law value.state
+
+-- What is left of a stock behind such a deed, of which this is the rest behind its first value. That is taken where a vertex was made,
+-- which then is named.
+abbrev pub stock_left : Reply → List Value → List Value → List Value
+stock_left (reply.Name name) rest stock = rest
+stock_left other rest stock = stock
+
+-- The answer to a line by which x makes a vertex, and the scene after it, where this stands in the stock.
+abbrev pub AnswersMaking : Scene → ℕ → (Value → Deed) → List Value → Answer → Scene → Type 0
+AnswersMaking s x making [] a t = (a ≡ told.Refused refusal.Stock) × (t ≡ s)
+AnswersMaking s x making (value ∷ rest) a t =
+    (IsSubject s.graph x × (a ≡ told.Reply (answer_of s.graph x (making value)))
+    × (t ≡ record s { graph = step s.graph x (making value); stock = stock_left (answer_of s.graph x (making value)) rest s.stock }))
     ⊎ ((¬ IsSubject s.graph x) × (a ≡ told.Refused refusal.Worker) × (t ≡ s))
 
 -- The answer to a line and the scene after it, where nothing is wanting. A full collection answers the number of the
@@ -41,7 +57,8 @@ AnswersCreate s x label (value ∷ rest) a t =
 -- answered by. Edge lines have no answer.
 abbrev pub Answers : Scene → Line → Answer → Scene → Type 0
 Answers s (line.Edge edge) a t = ⊥
-Answers s (line.Create x label) a t = AnswersCreate s x label s.stock a t
+Answers s (line.Create x label) a t = AnswersMaking s x (create_of label) s.stock a t
+Answers s (line.Spawn x label) a t = AnswersMaking s x (spawn_of label) s.stock a t
 Answers s (line.Plain x command) a t =
     (IsSubject s.graph x × (a ≡ told.Reply (answer_of s.graph x (deed.Plain command))) × (t ≡ record s { graph = step s.graph x (deed.Plain command) }))
     ⊎ ((¬ IsSubject s.graph x) × (a ≡ told.Refused refusal.Worker) × (t ≡ s))
@@ -55,15 +72,19 @@ MayWant helpers refusal.Heap = Unit {0}
 MayWant helpers refusal.Threads = 1 < helpers
 MayWant helpers refusal.Worker = ⊥
 MayWant helpers refusal.Vertices = ⊥
+MayWant helpers refusal.Workers = ⊥
 MayWant helpers refusal.Stock = ⊥
 
 -- What may be answered in place of that, with nothing changed: memory may be wanting for each line that reaches the store, one
--- of a worker or a collection; room in the heap for a collection, and for a create, a take or a grant that is allowed; threads
--- for a collection by several helpers.
+-- of a subject or a collection; room in the heap for a collection, and for a create, a spawn, a take or a grant that is allowed;
+-- threads for a collection by several helpers.
 abbrev pub MayAnswerRefused : Scene → Line → Refusal → Type 0
 MayAnswerRefused s (line.Create x label) refusal.Memory = IsSubject s.graph x × (s.stock ≢ [])
+MayAnswerRefused s (line.Spawn x label) refusal.Memory = IsSubject s.graph x × (s.stock ≢ [])
 MayAnswerRefused s (line.Plain x command) refusal.Memory = IsSubject s.graph x
 MayAnswerRefused s (line.Create x label) refusal.Heap = IsSubject s.graph x × (s.stock ≢ []) × (s.graph.made < s.graph.limit)
+MayAnswerRefused s (line.Spawn x label) refusal.Heap =
+    IsSubject s.graph x × (s.stock ≢ []) × (s.graph.made < s.graph.limit) × (length s.graph.subjects < MAX_WORKERS)
 MayAnswerRefused s (line.Plain x command) refusal.Heap = IsSubject s.graph x × IsAllowed s.graph x (deed.Plain command) × AddsEdge command
 MayAnswerRefused s line.Full r = MayWant s.helpers r
 MayAnswerRefused s line.Minor r = MayWant s.helpers r
@@ -102,6 +123,7 @@ abbrev pub edges_of : List Line → List Edge
 edges_of [] = []
 edges_of (line.Edge edge ∷ lines) = edge ∷ edges_of lines
 edges_of (line.Create x label ∷ lines) = []
+edges_of (line.Spawn x label ∷ lines) = []
 edges_of (line.Plain x command ∷ lines) = []
 edges_of (line.Full ∷ lines) = []
 edges_of (line.Minor ∷ lines) = []
@@ -111,6 +133,7 @@ abbrev pub commands_of : List Line → List Line
 commands_of [] = []
 commands_of (line.Edge edge ∷ lines) = commands_of lines
 commands_of (line.Create x label ∷ lines) = line.Create x label ∷ lines
+commands_of (line.Spawn x label ∷ lines) = line.Spawn x label ∷ lines
 commands_of (line.Plain x command ∷ lines) = line.Plain x command ∷ lines
 commands_of (line.Full ∷ lines) = line.Full ∷ lines
 commands_of (line.Minor ∷ lines) = line.Minor ∷ lines

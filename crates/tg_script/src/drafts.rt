@@ -4,7 +4,7 @@ ghost use Rattle.std.specs.Prelude.{◌≡◌, IfOk, map};
 use std::alloc::{AllocError, Global};
 use tg_payload::{Draft, Payload};
 
-/// Drafts of the payloads, in order. Answers only want of memory otherwise, and the payloads are then dropped.
+/// Drafts of the payloads, in order. Fails only when out of memory, and the payloads are then dropped.
 pub fn drafts_of<P: Payload>(alloc: Global, payloads: Vec<P>) -> Result<Vec<Draft<P>>, AllocError>
     ensures { IfOk result (λ drafts. drafts.items ≡ map P.value payloads.items) }
 {

@@ -1,6 +1,6 @@
 //! Scripts: a store that is driven by lines of text.
 //!
-//! A script is a list of lines: first the edges between workers, then commands, each of one worker, and collections. Its
+//! A script is a list of lines: first the edges between the opening's workers, then commands, each of one subject, and collections. Its
 //! bytes come from a [`Source`], and the replies, one line each, go to a [`Sink`]. [`run_script_with`] runs a whole
 //! script: it reads a line, answers it and writes the reply before it reads the next. What makes its collections is a
 //! [`Collector`]; [`run_script_one`] is the run with [`OneThread`].

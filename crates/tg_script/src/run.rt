@@ -20,9 +20,10 @@ pub(crate) struct Run<P: Payload> {
 }
 
 impl<P: Payload> Run<P> {
-    ghost use Rattle.std.specs.Prelude.{◌≡◌, None};
+    ghost use Rattle.std.specs.Prelude.{◌≡◌, ◌++◌, None};
     ghost use Rattle.tg_script.specs.Opening.{IsCommand};
-    ghost use Rattle.tg_script.specs.Run.{Handles, HandlesWith};
+    ghost use Rattle.tg_script.specs.Run.{Handles, HandlesWith, making_answer, values_back};
+    ghost use Rattle.tg_script.specs.Supply.{values_left};
 
     /// What a line is answered. No line fails: where memory or room is wanting, that is the answer.
     #[inline(always)]
@@ -33,6 +34,7 @@ impl<P: Payload> Run<P> {
     {
         match line {
             Line::Create { worker, label } => self.create(worker, label),
+            Line::Spawn { worker, label } => self.spawn(worker, label),
             Line::Plain { worker, command } => self.apply(worker, command),
             Line::Full => self.collect_all(collector),
             Line::Minor => self.collect_nurseries(collector),
@@ -82,13 +84,43 @@ impl<P: Payload> Run<P> {
         }
     }
 
-    // Where no vertex is made, the payload is put back.
     #[inline(always)]
     fn create_of(&mut self, worker: u64, label: Label, draft: Draft<P>) -> Answer
         requires { self.old.supply.front ≡ None }
         ensures { HandlesWith self.old draft (Line.Create worker label) result self.new }
     {
-        match self.store.create(worker, label, draft) {
+        let made = self.store.create(worker, label, draft);
+        self.tell(made)
+    }
+
+    // The same, and the new vertex is a subject.
+    fn spawn(&mut self, worker: u64, label: Label) -> Answer
+        ensures { Handles self.old (Line.Spawn worker label) result self.new }
+    {
+        match self.supply.take() {
+            Some(draft) => self.spawn_of(worker, label, draft),
+            None => Answer::Refused(Refusal::Stock),
+        }
+    }
+
+    fn spawn_of(&mut self, worker: u64, label: Label, draft: Draft<P>) -> Answer
+        requires { self.old.supply.front ≡ None }
+        ensures { HandlesWith self.old draft (Line.Spawn worker label) result self.new }
+    {
+        let made = self.store.spawn(worker, label, draft);
+        self.tell(made)
+    }
+
+    // The answer to a line that was to make a vertex. Where none was made, the payload is put back.
+    #[inline(always)]
+    fn tell(&mut self, made: Result<u64, CreateRefused<P>>) -> Answer
+        requires { self.old.supply.front ≡ None }
+        ensures answer { result ≡ making_answer made }
+        ensures stock { values_left self.new.supply ≡ values_back made ++ values_left self.old.supply }
+        ensures store { self.new.store ≡ self.old.store }
+        ensures helpers { self.new.helpers ≡ self.old.helpers }
+    {
+        match made {
             Ok(name) => Answer::Reply(Reply::Name(name)),
             Err(refused) => {
                 let CreateRefused { draft, why } = refused;

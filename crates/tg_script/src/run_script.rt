@@ -25,18 +25,18 @@ use tg_text::{Bytes, Count, Line, ScriptFault, Sink, Source, WriteFailed, Writte
 /// What a run is given beside its script and its payloads.
 #[derive(Clone, Copy, Debug)]
 pub struct Settings {
-    /// The number of workers, from 1 to 64.
+    /// The number of workers that the store opens with, from 1 to 64.
     pub workers: u64,
     /// How many helpers each collection has.
     pub helpers: Helpers,
-    /// The most vertices that may ever be made, from 1 to 2^24 and not below the number of workers.
+    /// The most vertices that may ever be made, subjects that are spawned included: from 1 to 2^24 and not below the number of workers.
     pub max_vertices: u64,
     /// How many blocks the heap may have.
     pub limits: Limits,
 }
 
-/// Runs the script, with one payload for each worker, by rising name, and a stock of payloads for the vertices that the
-/// script makes: a create line takes the first that is left, and where no vertex is made it stands in front again. The
+/// Runs the script, with one payload for each worker of the opening, by rising name, and a stock of payloads for the vertices that the
+/// script makes: a create or spawn line takes the first that is left, and where no vertex is made it stands in front again. The
 /// store opens at the first line that is no edge line, or at the end of the input; each reply is written before the
 /// next line is run, and what was written is finished before the source is asked for what it doesn't hold. What is written is
 /// the text for the lines before the first fault, and after `WriteFailed` all of it but a part of the last reply. The

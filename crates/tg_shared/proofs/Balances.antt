@@ -1,19 +1,58 @@
 -- What an entry makes of the balance behind the lock.
-use Rattle.std.proofs.Common.{◌≡◌, ℕ, ◌+◌, ◌≤◌, List, ◌∷◌, [], length, length-append, sym, subst, ap, ◌∙◌, arith}
+use Rattle.std.proofs.Common.{◌≡◌, ℕ, ◌+◌, ◌<◌, ◌≤◌, Bool, true, false, cond, List, ◌∷◌, ◌++◌, [], length, length-append, drop, refl, sym, subst, ap, ◌∙◌, arith}
 use Rattle.std.specs.Prelude.{take}
-use Rattle.std.proofs.lemmas.List.{length-take, take-append-le}
+use Rattle.std.proofs.lemmas.List.{length-take, take-append-le, drop-append-le, drop_all}
+use Rattle.std.proofs.lemmas.List.Sums.{sum_by-append, sum_by-cons}
 use Rattle.std.proofs.Math.Seq.{take-length}
+use Rattle.tg_rights.specs.RightSet.{RightSet}
+use Rattle.tg_model.specs.declared.law.Law.{Law}
 use Rattle.tg_model.specs.declared.command.Deed.{Deed}
+use Rattle.tg_model.specs.declared.command.Deed.TheVariants.{Spawn}
 use Rattle.tg_model.specs.declared.reply.Reply.{Reply}
-use Rattle.tg_model.specs.Graph.{ProtectionGraph}
+use Rattle.tg_model.specs.declared.reply.Reply.TheVariants.{Name, VerticesFull, WorkersFull}
+use Rattle.tg_model.specs.Graph.{ProtectionGraph, IsSound}
+use Rattle.tg_model.specs.Rules.{answer_of, step}
 use Rattle.tg_model.specs.Opened.{Plan, start_of}
 use Rattle.tg_model.proofs.SoundLaws.{le-step-made}
+use Rattle.tg_model.proofs.SubjectLaws.{few_from_rising, made-spawned}
 use Rattle.tg_journal.specs.declared.entry.Entry.{Entry}
-use Rattle.tg_journal.specs.History.{graph_after}
-use Rattle.tg_journal.proofs.HistoryLaws.{le-graph_after-made}
-use Rattle.tg_store.specs.Store.{StoreState, Enters, graph_of_store}
+use Rattle.tg_journal.specs.History.{IsLegal, graph_after}
+use Rattle.tg_journal.proofs.HistoryLaws.{IsSound-opened, made-opened}
+use Rattle.tg_store.specs.Store.{StoreState, Enters, IsFaithful, graph_of_store}
 use Rattle.tg_store.proofs.StandLaws.{graph-entered}
-use Rattle.tg_shared.specs.Sessions.{GoesOn, IsBalanced, SharedStart, start_of_store}
+use Rattle.tg_shared.specs.Sessions.{GoesOn, IsBalanced, SharedStart, is_spawn, made_subject, sessions_made, spawned, start_of_store, subjects_at}
+
+-- ---- how many sessions were made
+
+abbrev pub one : Bool → ℕ
+one b = cond b 1 0
+
+spawned_push : (es : List Entry) (e : Entry) → spawned (es ++ e ∷ []) ≡ spawned es + one (is_spawn e)
+spawned_push es e =
+    sum_by-append (λ x. one (is_spawn x)) es (e ∷ []) ∙ (let last = sum_by-cons (λ x. one (is_spawn x)) e [] in omega (arith, last))
+
+-- an entry more makes a session more where it made a subject
+pub sessions_push : (start : SharedStart) (es : List Entry) (e : Entry) → length start.entries ≤ length es → sessions_made start (es ++ e ∷ []) ≡ sessions_made start es + one (is_spawn e)
+sessions_push start es e few =
+    let n = length start.entries in
+    let later : drop n (es ++ e ∷ []) ≡ drop n es ++ e ∷ [] = drop-append-le n es (e ∷ []) few in
+    let more = ap spawned later ∙ spawned_push (drop n es) e in
+    omega (arith, more)
+
+-- at first there is one for each subject
+pub sessions_start : (start : SharedStart) → sessions_made start start.entries ≡ length (subjects_at start)
+sessions_start start =
+    let none : spawned (drop (length start.entries) start.entries) ≡ 0 = ap spawned (drop_all (length start.entries) start.entries (omega arith)) in
+    omega (arith, none)
+
+module _ (start : SharedStart) (old new : StoreState) (worker : ℕ) (deed : Deed) (reply : Reply) (entry : Enters old new worker deed reply) (few : length start.entries ≤ length old.entries) where
+  abbrev entered : Entry
+  entered = record { worker = worker; deed = deed; reply = reply }
+
+  pub made_more : sessions_made start new.entries ≡ sessions_made start old.entries + one (made_subject deed reply)
+  made_more = ap (sessions_made start) entry ∙ sessions_push start old.entries entered few
+
+-- ---- the balance
 
 -- one entry more, which is counted
 pub balanced_entered : (old new : StoreState) (start sessions total next rest parts worker : ℕ) (deed : Deed) (reply : Reply) → IsBalanced old start sessions total rest parts
@@ -33,6 +72,32 @@ balanced_entered old new start sessions total next rest parts worker deed reply 
       made = omega arith;
     }
 
+-- there is a part left for one more session
+pub part_left : (s : StoreState) (start sessions total rest parts : ℕ) → IsBalanced s start sessions total rest parts → IsFaithful s → 1 ≤ rest
+part_left s start sessions total rest parts held faithful =
+    let most = made-opened s.opening s.entries faithful.plan in
+    omega (arith, most, held.cut, held.enough, held.made)
+
+-- one entry more, which made a subject; and one part less for its session
+pub balanced_spawned : (old new : StoreState) (start sessions total next rest left parts worker name : ℕ) (label : RightSet) (law : Law) (state : List ℕ) → IsBalanced old start sessions total rest parts
+    → Enters old new worker (Spawn label law state) (Name name) → answer_of (graph_of_store old) worker (Spawn label law state) ≡ Name name → new.opening ≡ old.opening → next ≡ total + 1 → left + 1 ≡ rest
+    → IsBalanced new start (sessions + 1) next left parts
+balanced_spawned old new start sessions total next rest left parts worker name label law state held entry answer opening counts gone =
+    let deed : Deed = Spawn label law state in
+    let e : Entry = record { worker = worker; deed = deed; reply = Name name } in
+    let count = held.counted in
+    let more = ap (λ (es : List Entry). length es) entry in
+    let grows = ap (λ (g : ProtectionGraph). g.made) (graph-entered old new worker deed (Name name) opening entry) in
+    let one_more = made-spawned (graph_of_store old) worker label law state name answer in
+    let made = held.made in
+    let cut = held.cut in
+    record {
+      counted = omega (arith, length-append old.entries (e ∷ []));
+      cut = omega arith;
+      enough = held.enough ∙ ap (λ (p : Plan). p.limit + 1) (sym opening);
+      made = omega arith;
+    }
+
 -- the same opening and the same entries make the same graph
 pub graph_same : (old new : StoreState) → new.entries ≡ old.entries → new.opening ≡ old.opening → graph_of_store new ≡ graph_of_store old
 graph_same old new entries opening = λ i. graph_after (start_of (opening i)) (entries i)
@@ -46,9 +111,15 @@ balanced_same old new start sessions total rest parts held entries opening = rec
   made = subst (λ (g : ProtectionGraph). sessions ≤ g.made) (sym (graph_same old new entries opening)) held.made;
 }
 
+-- the same entries make the same number of sessions
+pub made_same : (start : SharedStart) (sessions : ℕ) (old new : List Entry) → sessions ≡ sessions_made start old → new ≡ old → sessions ≡ sessions_made start new
+made_same start sessions old new made same = made ∙ ap (sessions_made start) (sym same)
+
 -- a store that is shared has made its subjects at least
-pub opened_made : (s : StoreState) → s.opening.workers ≤ (graph_of_store s).made
-opened_made s = le-graph_after-made (start_of s.opening) s.entries
+pub active_made : (s : StoreState) → IsFaithful s → length (graph_of_store s).subjects ≤ (graph_of_store s).made
+active_made s faithful =
+    let sound : IsSound (graph_of_store s) = IsSound-opened s.opening s.entries faithful.plan faithful.legal in
+    few_from_rising (graph_of_store s).subjects (graph_of_store s).made sound.rising sound.subjects_made
 
 -- the shared store goes on: with an entry more, and with the same entries
 pub goes_on_entered : (start : SharedStart) (old new : StoreState) (worker : ℕ) (deed : Deed) (reply : Reply) → GoesOn start old

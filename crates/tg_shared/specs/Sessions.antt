@@ -1,12 +1,16 @@
 -- What contracts see of a session and of the value behind the lock, and what a call does to them.
-use Rattle.std.specs.Prelude.{◌≡◌, ◌≢◌, ℕ, ◌+◌, ◌≤◌, ◌==◌, List, [], ◌∷◌, ◌++◌, length, map, take}
+use Rattle.std.specs.Prelude.{◌≡◌, ◌≢◌, ℕ, ◌+◌, ◌≤◌, ◌==◌, Bool, true, false, Option, Some, None, List, [], ◌∷◌, ◌++◌, length, map, take, drop}
 use Rattle.std.specs.List.{All, AllPairs, count_by, filter, sum_by}
 use Rattle.tg_model.specs.declared.command.Deed.{Deed}
+use Rattle.tg_model.specs.declared.command.Deed.TheVariants.{Spawn}
 use Rattle.tg_model.specs.declared.reply.Reply.{Reply}
-use Rattle.tg_model.specs.Opened.{Plan}
+use Rattle.tg_model.specs.declared.reply.Reply.TheVariants.{Name, VerticesFull, WorkersFull}
+use Rattle.tg_model.specs.Opened.{Plan, start_of}
 use Rattle.tg_space.specs.SpaceTable.{BlockLimits}
 use Rattle.tg_journal.specs.declared.entry.Entry.{Entry}
-use Rattle.tg_journal.specs.History.{IsLegalEntry}
+use Rattle.tg_journal.specs.History.{IsLegalEntry, graph_after}
+use Rattle.tg_store.specs.declared.fault.CreateFault.{CreateFault}
+use Rattle.tg_store.specs.declared.fault.CreateFault.TheVariants as fault
 use Rattle.tg_store.specs.Store.{StoreState, Enters, IsFaithful, IsUnchanged, graph_of_store}
 use Rattle.tg_shared.specs.declared.receipt.Receipt.{Receipt}
 use Rattle.tg_shared.specs.Receipts.{ReceiptsMatch, receipt_of}
@@ -33,9 +37,28 @@ pub record SharedStart : Type 0 where
 abbrev pub start_of_store : StoreState → SharedStart
 start_of_store s = record { opening = s.opening; entries = s.entries; limits = s.heap.table.limits }
 
--- how many sessions were made then: one for each subject of the opening
-abbrev pub sessions_made : SharedStart → ℕ
-sessions_made start = start.opening.workers
+-- ---- how many sessions were made
+
+-- the subjects that were active when the store was shared
+abbrev pub subjects_at : SharedStart → List ℕ
+subjects_at start = (graph_after (start_of start.opening) start.entries).subjects
+
+-- a deed with this reply made a subject
+abbrev pub made_subject : Deed → Reply → Bool
+made_subject (Spawn label law state) (Name name) = true
+made_subject deed reply = false
+
+abbrev pub is_spawn : Entry → Bool
+is_spawn e = made_subject e.deed e.reply
+
+-- how many subjects the entries made
+abbrev pub spawned : List Entry → ℕ
+spawned entries = count_by is_spawn entries
+
+-- With these entries in the journal, one session was made for each subject that was active when the store was shared, and one for
+-- each that was made since.
+abbrev pub sessions_made : SharedStart → List Entry → ℕ
+sessions_made start entries = length (subjects_at start) + spawned (drop (length start.entries) entries)
 
 -- ---- what is behind the lock
 
@@ -89,6 +112,14 @@ pub record IsBalanced (store : StoreState) (start sessions total rest parts : �
   pub cut : sessions + rest ≡ parts
   pub enough : parts ≡ store.opening.limit + 1
   pub made : sessions ≤ (graph_of_store store).made
+
+-- the reply that a refusal has in the journal, if it makes an entry
+abbrev pub reply_entered : CreateFault → Option Reply
+reply_entered fault.NoSuchWorker = None
+reply_entered fault.VerticesFull = Some VerticesFull
+reply_entered fault.WorkersFull = Some WorkersFull
+reply_entered fault.HeapFull = None
+reply_entered fault.OutOfMemory = None
 
 -- ---- what a close finds
 

@@ -1,10 +1,11 @@
 //! The calls of a session, each under the lock.
-ghost use Rattle.std.specs.Prelude.{◌≡◌, ◌≢◌, ◌≤◌, ◌+◌, ℕ, IfOk, IfErr, MatchResult, ⊤, length};
+ghost use Rattle.std.specs.Prelude.{◌≡◌, ◌≢◌, ◌≤◌, ℕ, [], IfOk, IfErr, MatchResult, ⊤, length};
 ghost use Rattle.tg_model.specs.Graph.{IsReachable, IsSubject};
 ghost use Rattle.tg_model.specs.Rules.{IsAllowed};
-ghost use Rattle.tg_model.specs.declared.command.Deed.TheVariants.{Create, Plain};
-ghost use Rattle.tg_model.specs.declared.reply.Reply.TheVariants.{Name, VerticesFull};
-ghost use Rattle.tg_graph.specs.Heap.{content_of};
+ghost use Rattle.tg_model.specs.declared.command.Deed.TheVariants.{Create, Plain, Spawn};
+ghost use Rattle.tg_model.specs.declared.reply.Reply.TheVariants.{Name, VerticesFull, WorkersFull};
+ghost use Rattle.tg_word.specs.Word.{nursery_space};
+ghost use Rattle.tg_graph.specs.Heap.{content_of, nursery_of};
 ghost use Rattle.tg_graph.specs.Spots.{LacksCellsFor};
 ghost use Rattle.tg_rules.specs.Effect.{AddsEdge, LacksCellsToServe};
 ghost use Rattle.tg_store.specs.Held.{IsHeldOver};
@@ -43,7 +44,7 @@ impl<L: Round> Session<L> {
             (λ after. MatchResult result (λ reply. IsAnswered L.start self.old after (Plain command) reply.now) (λ _. KeepsReceipts self.old after))) }
         ensures no_such_worker { IfErr result (λ why. why ≡ ApplyFault.NoSuchWorker → AtSome L.start (λ s. ¬ IsSubject (graph_of_store s) self.old.worker)) }
         ensures full { IfErr result (λ why. why ≡ ApplyFault.HeapFull → AtSome L.start (λ s.
-            IsAllowed (graph_of_store s) self.old.worker (Plain command) × AddsEdge command × LacksCellsToServe s.heap.table self.old.worker command)) }
+            IsAllowed (graph_of_store s) self.old.worker (Plain command) × AddsEdge command × LacksCellsToServe s.heap.table (nursery_of s.heap self.old.worker) self.old.worker command)) }
     {
         self.make_room(&[])?;
         let mut locked = store.locked.lock(rt);
@@ -72,7 +73,8 @@ impl<L: Round> Session<L> {
         ensures no_such_worker { IfErr result (λ refused. refused.why ≡ CreateFault.NoSuchWorker → AtSome L.start (λ s. ¬ IsSubject (graph_of_store s) self.old.worker)) }
         ensures heap_full { IfErr result (λ refused. refused.why ≡ CreateFault.HeapFull → AtSome L.start (λ s.
             IsAllowed (graph_of_store s) self.old.worker (Create label draft.law draft.state)
-            × LacksCellsFor s.heap.table (self.old.worker + 2) 1 self.old.worker (graph_of_store s).made)) }
+            × LacksCellsFor s.heap.table (nursery_space (nursery_of s.heap self.old.worker)) 1 self.old.worker (graph_of_store s).made)) }
+        ensures no_workers_full { IfErr result (λ refused. refused.why ≢ CreateFault.WorkersFull) }
         ensures handed_back { IfErr result (λ refused. refused.draft ≡ draft) }
     {
         if self.make_room(draft.value().state.as_slice()).is_err() {
@@ -88,6 +90,46 @@ impl<L: Round> Session<L> {
         // and of the one that is left
         let _ = locked.store();
         created
+    }
+
+    /// Makes a subject, by one call of [`Locked::spawn`](crate::Locked::spawn) under the lock, and answers its session, which has no
+    /// receipt. The session that asks then has exactly one more, with this spawn and the new name. Its entry came next in the
+    /// journal of a store that may have been behind the lock, and was legal there. The new session goes to
+    /// [`close`](crate::close) with the others: a round does not end without it, so it is kept where nothing else is refused.
+    ///
+    /// `VerticesFull` and `WorkersFull` have added a receipt with that answer. Where the call is refused otherwise, the receipts
+    /// stay, and of such a store the refusal was due, but for want of memory. A refused draft is handed back.
+    pub fn spawn<P: Payload, R: Wait>(
+        &mut self,
+        rt: &R,
+        store: &SharedStore<L, P>,
+        label: Label,
+        draft: Draft<P>,
+    ) -> Result<Session<L>, CreateRefused<P>>
+        ensures receipt { IfOk result (λ fresh. IsAnswered L.start self.old self.new (Spawn label draft.law draft.state) (Name fresh.worker)) }
+        ensures fresh { IfOk result (λ fresh. fresh.receipts ≡ []) }
+        ensures full { IfErr result (λ refused. refused.why ≡ CreateFault.VerticesFull → IsAnswered L.start self.old self.new (Spawn label draft.law draft.state) VerticesFull) }
+        ensures workers_full { IfErr result (λ refused. refused.why ≡ CreateFault.WorkersFull → IsAnswered L.start self.old self.new (Spawn label draft.law draft.state) WorkersFull) }
+        ensures refused { IfErr result (λ refused. refused.why ≢ CreateFault.VerticesFull → refused.why ≢ CreateFault.WorkersFull → KeepsReceipts self.old self.new) }
+        ensures no_such_worker { IfErr result (λ refused. refused.why ≡ CreateFault.NoSuchWorker → AtSome L.start (λ s. ¬ IsSubject (graph_of_store s) self.old.worker)) }
+        ensures heap_full { IfErr result (λ refused. refused.why ≡ CreateFault.HeapFull → AtSome L.start (λ s.
+            IsAllowed (graph_of_store s) self.old.worker (Spawn label draft.law draft.state)
+            × LacksCellsFor s.heap.table (nursery_space (nursery_of s.heap self.old.worker)) 1 self.old.worker (graph_of_store s).made)) }
+        ensures handed_back { IfErr result (λ refused. refused.draft ≡ draft) }
+    {
+        if self.make_room(draft.value().state.as_slice()).is_err() {
+            return Err(CreateRefused {
+                draft,
+                why: CreateFault::OutOfMemory,
+            });
+        }
+        let mut locked = store.locked.lock(rt);
+        // for what is told of it: the shared store, gone on
+        let _ = locked.store();
+        let spawned = locked.spawn(self, label, draft);
+        // and of the one that is left
+        let _ = locked.store();
+        spawned
     }
 
     /// The rights that the session's subject holds over a vertex, by one call of [`Locked::label`](crate::Locked::label) under the

@@ -1,6 +1,6 @@
 //! The locked store: a store that many threads use, and a proof at the end that nothing was lost.
 //!
-//! [`SharedStore::new`] puts a store behind a lock and gives one [`Session`] for each subject. A session may go to a
+//! [`SharedStore::new`] puts a store behind a lock and gives one [`Session`] for each active subject. A session may go to a
 //! thread of its own. Each of its calls takes the lock, makes one call of the store, and lets go:
 //!
 //! ```text
@@ -20,6 +20,9 @@
 //! that its answer was right of some store that may have been behind the lock: of the shared one, gone on (see 'What a
 //! session can know' in docs/ARCHITECTURE.md). Whenever the lock is free, the store is that one and keeps its promise ([`Locked::store`]), and the
 //! book that stands beside it has counted each entry since.
+//!
+//! A session may make a subject, and is answered its session ([`Session::spawn`]), which is owed to [`close`] like the others. A
+//! subject that retires makes no entry any more; its session is owed all the same.
 //!
 //! The book is that of a ledger ([`std::sync::ledger`]). That there are as many receipts as entries, where a close succeeds,
 //! is told by 'Why the count is known at the close' in docs/ARCHITECTURE.md.

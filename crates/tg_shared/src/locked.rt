@@ -1,7 +1,7 @@
 //! The value behind the lock, and what each call does to it.
-ghost use Rattle.std.specs.Prelude.{◌≡◌, ◌≢◌, ◌↔◌, ◌⊎◌, ◌<◌, ◌≤◌, ◌+◌, ℕ, [], Err, Some, IfOk, IfErr, IsErrAnd, OnOk, OnErr, length, map};
-ghost use Rattle.std.specs.List.{range_with_len};
-ghost use Rattle.tg_shared.specs.Sessions.{AreFresh};
+ghost use Rattle.std.specs.Prelude.{◌≡◌, ◌≢◌, ◌↔◌, ◌⊎◌, ◌<◌, ◌≤◌, ◌+◌, ℕ, [], Err, Some, IfOk, IfErr, IsErrAnd, OnOk, OnErr, length};
+ghost use Rattle.tg_subjects.specs.Subjects.{names_of};
+ghost use Rattle.tg_shared.specs.Sessions.{AreFresh, reply_entered};
 
 use crate::round::Round;
 use crate::session::Session;
@@ -13,6 +13,7 @@ use tg_model::{Command, Deed, Reply};
 use tg_payload::{Draft, Payload};
 use tg_rights::Label;
 use tg_store::{ApplyFault, CollectFault, CreateFault, CreateRefused, Kind, Store};
+use tg_subjects::Subject;
 
 /// What is behind the lock: the store, the book that counts its entries since it was shared, and the parts of the ledger
 /// that no session has. Each call is one call of the store, with its contract, and makes at most one receipt.
@@ -35,34 +36,38 @@ impl<L: Round, P: Payload> Model for Locked<L, P> {
 
     ghost view = { λ a. record { store = a.store; sessions = a.sessions } };
 
-    ghost invariant = { λ a. IsBalanced a.store (length L.start.entries) a.sessions a.book.total a.rest.parts L.parts × (a.start ≡ length L.start.entries) × (a.rest.amount ≡ 0) × GoesOn L.start a.store × (a.sessions ≡ sessions_made L.start) };
+    ghost invariant = { λ a. IsBalanced a.store (length L.start.entries) a.sessions a.book.total a.rest.parts L.parts × (a.start ≡ length L.start.entries) × (a.rest.amount ≡ 0) × GoesOn L.start a.store × (a.sessions ≡ sessions_made L.start a.store.entries) };
 }
 
 impl<L: Round, P: Payload> Locked<L, P> {
     ghost use Rattle.tg_model.specs.Graph.{ProtectionGraph, IsSubject, IsReachable};
     ghost use Rattle.tg_model.specs.Rules.{IsAllowed, step, answer_of};
+    ghost use Rattle.tg_model.specs.declared.opening.TheConstants.{MAX_WORKERS};
     ghost use Rattle.tg_model.specs.declared.reply.Denial.{Denial};
     ghost use Rattle.tg_space.specs.Generations.{AreNeeded};
     ghost use Rattle.tg_space.specs.SpaceList.{space_of};
     ghost use Rattle.tg_graph.specs.Content.{IsNamed};
-    ghost use Rattle.tg_graph.specs.Heap.{content_of};
+    ghost use Rattle.tg_word.specs.Word.{nursery_space};
+    ghost use Rattle.tg_graph.specs.Heap.{content_of, nursery_of};
     ghost use Rattle.tg_graph.specs.Spots.{IsMadeInRow, LacksCellsFor};
     ghost use Rattle.tg_graph.specs.Kept.{VerticesOfOldStay};
     ghost use Rattle.tg_rules.specs.Effect.{AddsEdge, LacksCellsToServe};
     ghost use Rattle.tg_store.specs.Held.{IsHeldOver};
     ghost use Rattle.tg_store.specs.Room.{LacksRoomToCollect};
     ghost use Rattle.tg_store.specs.Store.{HasFewBlocks, IsCountOf, IsFaithful, StandsFor};
-    ghost use Rattle.tg_shared.specs.Sessions.{AreFresh, GoesOn, Records, RecordsNothing, sessions_made, start_of_store};
+    ghost use Rattle.tg_shared.specs.Sessions.{AreFresh, GoesOn, Records, RecordsNothing, sessions_made, start_of_store, subjects_at};
 
     /// The store. What holds whenever the lock is free is told here: the store's own promise, that its journal is a legal
     /// history of its opening and its heap stands for the graph after it; and it is the store that was shared, gone on: with its
-    /// opening and its limits, and with all entries from before. One session was made for each subject that it had.
+    /// opening and its limits, and with all entries from before. One session was made for each subject that it had then, and one
+    /// for each that was made since.
     pub fn store(&self) -> &Store<P>
         ensures same { result.now ≡ self.now.store }
         ensures faithful { IsFaithful self.now.store }
         ensures gone_on { GoesOn L.start self.now.store }
         ensures grown { length L.start.entries ≤ length self.now.store.entries }
-        ensures sessions { self.now.sessions ≡ sessions_made L.start }
+        ensures sessions { self.now.sessions ≡ sessions_made L.start self.now.store.entries }
+        ensures started { length (subjects_at L.start) ≤ self.now.sessions }
     {
         // It tells that the store is faithful.
         let _ = self.store.journal();
@@ -70,7 +75,7 @@ impl<L: Round, P: Payload> Locked<L, P> {
     }
 
     /// Shares a store: the value to be locked, and a session for each subject of the graph that the store stands for. The
-    /// blank is spent, and has to have one part more than vertices may be made. Answers only want of memory otherwise, and
+    /// blank is spent, and has to have one part more than vertices may be made. Fails only when out of memory, and
     /// hands the store back.
     pub fn open(
         alloc: Global,
@@ -86,15 +91,14 @@ impl<L: Round, P: Payload> Locked<L, P> {
         ensures handed_back { IfErr result (λ refused. refused ≡ store) }
     {
         let (book, mut rest) = blank.open::<L>();
-        let workers = store.opening().workers();
         let start = store.journal().len();
-        let Ok(sessions) = sessions_of(alloc, &mut rest, workers) else {
+        let Ok(sessions) = sessions_of(alloc, &mut rest, store.subjects()) else {
             return Err(store);
         };
         let locked = Locked {
             store,
             start,
-            sessions: workers,
+            sessions: sessions.len() as u64,
             book,
             rest,
         };
@@ -111,7 +115,7 @@ impl<L: Round, P: Payload> Locked<L, P> {
         ensures denied { (g : ProtectionGraph) (denial : Denial) → StandsFor self.old.store g → answer_of g session.old.worker (Deed.Plain command) ≡ Reply.Denied denial → OnOk result (self.new.store.heap ≡ self.old.store.heap) }
         ensures no_such_worker { (g : ProtectionGraph) → StandsFor self.old.store g → (result ≡ Err ApplyFault.NoSuchWorker) ↔ (¬ IsSubject g session.old.worker) }
         ensures full { (g : ProtectionGraph) → StandsFor self.old.store g → result ≡ Err ApplyFault.HeapFull →
-            IsAllowed g session.old.worker (Deed.Plain command) × AddsEdge command × LacksCellsToServe self.old.store.heap.table session.old.worker command }
+            IsAllowed g session.old.worker (Deed.Plain command) × AddsEdge command × LacksCellsToServe self.old.store.heap.table (nursery_of self.old.store.heap session.old.worker) session.old.worker command }
         ensures refused { OnErr result (RecordsNothing self.old.store self.new.store session.old session.new) }
         ensures opening { self.new.store.opening ≡ self.old.store.opening }
         ensures limits { self.new.store.heap.table.limits ≡ self.old.store.heap.table.limits }
@@ -146,7 +150,7 @@ impl<L: Round, P: Payload> Locked<L, P> {
         ensures step { (g : ProtectionGraph) → StandsFor self.old.store g → OnOk result (StandsFor self.new.store (step g session.old.worker (Deed.Create label draft.law draft.state))) }
         ensures stored { IfOk result (λ name. IsNamed (content_of self.new.store.heap) name × ((content_of self.new.store.heap).value name ≡ Some draft)) }
         ensures placed { IfOk result (λ name. IsMadeInRow self.old.store.heap.table self.new.store.heap.table self.old.store.heap.remembered self.new.store.heap.remembered
-            (session.old.worker + 2) session.old.worker name label) }
+            (nursery_space (nursery_of self.old.store.heap session.old.worker)) session.old.worker name label) }
         ensures no_such_worker { (g : ProtectionGraph) → StandsFor self.old.store g → IsErrAnd result (λ refused. refused.why ≡ CreateFault.NoSuchWorker) ↔ (¬ IsSubject g session.old.worker) }
         ensures no_more { (g : ProtectionGraph) → StandsFor self.old.store g → IfErr result (λ refused. refused.why ≡ CreateFault.VerticesFull → IsSubject g session.old.worker × (g.limit ≤ g.made)) }
         ensures exhausted { (g : ProtectionGraph) → StandsFor self.old.store g → IsSubject g session.old.worker → g.limit ≤ g.made →
@@ -154,7 +158,8 @@ impl<L: Round, P: Payload> Locked<L, P> {
         ensures no_more_entry { IfErr result (λ refused. refused.why ≡ CreateFault.VerticesFull →
             Records self.old.store self.new.store session.old session.new (Deed.Create label draft.law draft.state) Reply.VerticesFull × (self.new.store.heap ≡ self.old.store.heap)) }
         ensures full { (g : ProtectionGraph) → StandsFor self.old.store g → IfErr result (λ refused. refused.why ≡ CreateFault.HeapFull →
-            IsAllowed g session.old.worker (Deed.Create label draft.law draft.state) × LacksCellsFor self.old.store.heap.table (session.old.worker + 2) 1 session.old.worker g.made) }
+            IsAllowed g session.old.worker (Deed.Create label draft.law draft.state) × LacksCellsFor self.old.store.heap.table (nursery_space (nursery_of self.old.store.heap session.old.worker)) 1 session.old.worker g.made) }
+        ensures no_workers_full { IfErr result (λ refused. refused.why ≢ CreateFault.WorkersFull) }
         ensures refused { IfErr result (λ refused. refused.why ≢ CreateFault.VerticesFull → RecordsNothing self.old.store self.new.store session.old session.new) }
         ensures same_graph { (g : ProtectionGraph) → StandsFor self.old.store g → OnErr result (StandsFor self.new.store g) }
         ensures handed_back { IfErr result (λ refused. refused.draft ≡ draft) }
@@ -185,6 +190,78 @@ impl<L: Round, P: Payload> Locked<L, P> {
         };
         session.note(&mut self.book, at, entry);
         created
+    }
+
+    /// Makes a subject, by one call of the store, and a session for it: with no receipt, and with one part of the ledger, cut
+    /// from the rest behind the lock. A call that makes an entry adds a receipt to the session that asks; so do `VerticesFull`
+    /// and `WorkersFull`. Any other refusal leaves the store and the receipts as they were. There has to be room for the
+    /// receipt, and the session has to have a copy of the draft's state. The new session takes no memory, so nothing is refused
+    /// behind the store's call.
+    pub fn spawn(
+        &mut self,
+        session: &mut Session<L>,
+        label: Label,
+        draft: Draft<P>,
+    ) -> Result<Session<L>, CreateRefused<P>>
+        requires room { 0 < session.old.spare }
+        requires copy { session.old.copy ≡ draft.state }
+        ensures entry { IfOk result (λ fresh. Records self.old.store self.new.store session.old session.new (Deed.Spawn label draft.law draft.state) (Reply.Name fresh.worker)) }
+        ensures fresh { IfOk result (λ fresh. fresh.receipts ≡ []) }
+        ensures name { (g : ProtectionGraph) → StandsFor self.old.store g → IfOk result (λ fresh. answer_of g session.old.worker (Deed.Spawn label draft.law draft.state) ≡ Reply.Name fresh.worker) }
+        ensures step { (g : ProtectionGraph) → StandsFor self.old.store g → OnOk result (StandsFor self.new.store (step g session.old.worker (Deed.Spawn label draft.law draft.state))) }
+        ensures stored { IfOk result (λ fresh. IsNamed (content_of self.new.store.heap) fresh.worker × ((content_of self.new.store.heap).value fresh.worker ≡ Some draft)) }
+        ensures placed { IfOk result (λ fresh. IsMadeInRow self.old.store.heap.table self.new.store.heap.table self.old.store.heap.remembered self.new.store.heap.remembered
+            (nursery_space (nursery_of self.old.store.heap session.old.worker)) session.old.worker fresh.worker label) }
+        ensures no_such_worker { (g : ProtectionGraph) → StandsFor self.old.store g → IsErrAnd result (λ refused. refused.why ≡ CreateFault.NoSuchWorker) ↔ (¬ IsSubject g session.old.worker) }
+        ensures no_more { (g : ProtectionGraph) → StandsFor self.old.store g → IfErr result (λ refused. refused.why ≡ CreateFault.VerticesFull → IsSubject g session.old.worker × (g.limit ≤ g.made)) }
+        ensures exhausted { (g : ProtectionGraph) → StandsFor self.old.store g → IsSubject g session.old.worker → g.limit ≤ g.made →
+            IsErrAnd result (λ refused. (refused.why ≡ CreateFault.VerticesFull) ⊎ (refused.why ≡ CreateFault.OutOfMemory)) }
+        ensures no_more_entry { IfErr result (λ refused. refused.why ≡ CreateFault.VerticesFull →
+            Records self.old.store self.new.store session.old session.new (Deed.Spawn label draft.law draft.state) Reply.VerticesFull × (self.new.store.heap ≡ self.old.store.heap)) }
+        ensures too_many { (g : ProtectionGraph) → StandsFor self.old.store g → IfErr result (λ refused. refused.why ≡ CreateFault.WorkersFull →
+            IsSubject g session.old.worker × (g.made < g.limit) × (MAX_WORKERS ≤ length g.subjects)) }
+        ensures crowded { (g : ProtectionGraph) → StandsFor self.old.store g → IsSubject g session.old.worker → g.made < g.limit → MAX_WORKERS ≤ length g.subjects →
+            IsErrAnd result (λ refused. (refused.why ≡ CreateFault.WorkersFull) ⊎ (refused.why ≡ CreateFault.OutOfMemory)) }
+        ensures too_many_entry { IfErr result (λ refused. refused.why ≡ CreateFault.WorkersFull →
+            Records self.old.store self.new.store session.old session.new (Deed.Spawn label draft.law draft.state) Reply.WorkersFull × (self.new.store.heap ≡ self.old.store.heap)) }
+        ensures full { (g : ProtectionGraph) → StandsFor self.old.store g → IfErr result (λ refused. refused.why ≡ CreateFault.HeapFull →
+            IsAllowed g session.old.worker (Deed.Spawn label draft.law draft.state) × LacksCellsFor self.old.store.heap.table (nursery_space (nursery_of self.old.store.heap session.old.worker)) 1 session.old.worker g.made) }
+        ensures refused { IfErr result (λ refused. refused.why ≢ CreateFault.VerticesFull → refused.why ≢ CreateFault.WorkersFull → RecordsNothing self.old.store self.new.store session.old session.new) }
+        ensures same_graph { (g : ProtectionGraph) → StandsFor self.old.store g → OnErr result (StandsFor self.new.store g) }
+        ensures handed_back { IfErr result (λ refused. refused.draft ≡ draft) }
+        ensures opening { self.new.store.opening ≡ self.old.store.opening }
+        ensures limits { self.new.store.heap.table.limits ≡ self.old.store.heap.table.limits }
+        ensures one_more { OnOk result (self.new.sessions ≡ self.old.sessions + 1) }
+        ensures no_more_sessions { OnErr result (self.new.sessions ≡ self.old.sessions) }
+    {
+        let at = self.store.journal().len();
+        let worker = session.worker();
+        let law = draft.value().law;
+        let state = session.take_copy();
+        match self.store.spawn(worker, label, draft) {
+            Ok(name) => {
+                let entry = Entry {
+                    worker,
+                    deed: Deed::Spawn { label, law, state },
+                    reply: Reply::Name(name),
+                };
+                session.note(&mut self.book, at, entry);
+                self.sessions += 1;
+                let share = self.rest.split_off(1, 0);
+                Ok(Session::new(session.alloc(), name, share))
+            }
+            Err(refused) => {
+                if let Some(reply) = entered(refused.why) {
+                    let entry = Entry {
+                        worker,
+                        deed: Deed::Spawn { label, law, state },
+                        reply,
+                    };
+                    session.note(&mut self.book, at, entry);
+                }
+                Err(refused)
+            }
+        }
     }
 
     /// The rights that the session's subject holds over a vertex, by one call of the store. It changes nothing, and makes no entry
@@ -218,26 +295,37 @@ impl<L: Round, P: Payload> Locked<L, P> {
     }
 }
 
+// The reply that a refusal has in the journal, if it made an entry.
+fn entered(why: CreateFault) -> Option<Reply>
+    ensures { result ≡ reply_entered why }
+{
+    match why {
+        CreateFault::VerticesFull => Some(Reply::VerticesFull),
+        CreateFault::WorkersFull => Some(Reply::WorkersFull),
+        CreateFault::NoSuchWorker | CreateFault::OutOfMemory | CreateFault::HeapFull => None,
+    }
+}
+
 fn deed_of(command: &Command) -> Deed
     ensures { result ≡ Deed.Plain command.now }
 {
     Deed::Plain(*command)
 }
 
-// A session for each worker, each with one part of the share.
+// A session for each subject, each with one part of the share.
 fn sessions_of<L: Round>(
     alloc: Global,
     rest: &mut Share<L>,
-    workers: u64,
+    subjects: &[Subject],
 ) -> Result<Vec<Session<L>>, AllocError>
-    requires { (workers < rest.old.parts) × (rest.old.amount ≡ 0) }
-    ensures fresh { IfOk result (λ sessions. AreFresh (range_with_len 0 workers) sessions.items) }
-    ensures rest { OnOk result ((rest.new.parts + workers ≡ rest.old.parts) × (rest.new.amount ≡ 0)) }
+    requires { (length subjects.now < rest.old.parts) × (rest.old.amount ≡ 0) }
+    ensures fresh { IfOk result (λ sessions. AreFresh (names_of subjects.now) sessions.items) }
+    ensures rest { OnOk result ((rest.new.parts + length subjects.now ≡ rest.old.parts) × (rest.new.amount ≡ 0)) }
 {
     let mut sessions = Vec::new(alloc);
-    for worker in 0..workers {
+    for subject in subjects {
         let share = rest.split_off(1, 0);
-        sessions.push(Session::new(alloc, worker, share))?;
+        sessions.push(Session::new(alloc, subject.name, share))?;
     }
     Ok(sessions)
 }

@@ -1,5 +1,6 @@
 //! Whether two entries are the same.
 ghost use Rattle.std.specs.Prelude.{◌≡◌, ◌↔◌, IsTrue};
+ghost use Rattle.tg_shared.specs.Kinds.{NamesRights, NamesTarget};
 
 use tg_journal::Entry;
 use tg_model::{Command, Deed};
@@ -26,11 +27,37 @@ fn same_deed(deed: &Deed, other: &Deed) -> bool
                 state: other_state,
             },
         ) => *label == *other_label && *law == *other_law && state.same(other_state),
+        (
+            Deed::Spawn { label, law, state },
+            Deed::Spawn {
+                label: other_label,
+                law: other_law,
+                state: other_state,
+            },
+        ) => *label == *other_label && *law == *other_law && state.same(other_state),
         _ => false,
     }
 }
 
 fn same_command(command: &Command, other: &Command) -> bool
+    ensures { IsTrue result ↔ (command.now ≡ other.now) }
+{
+    match command {
+        Command::Take { .. } | Command::Grant { .. } | Command::Remove { .. } => {
+            same_rights(command, other)
+        }
+        Command::Read { .. }
+        | Command::Write { .. }
+        | Command::Append { .. }
+        | Command::Inspect { .. } => same_target(command, other),
+        Command::List => matches!(other, Command::List),
+        Command::Retire => matches!(other, Command::Retire),
+    }
+}
+
+// The same of a command that names rights.
+fn same_rights(command: &Command, other: &Command) -> bool
+    requires { NamesRights command.now }
     ensures { IsTrue result ↔ (command.now ≡ other.now) }
 {
     match (command, other) {
@@ -65,6 +92,16 @@ fn same_command(command: &Command, other: &Command) -> bool
                 rights: other_rights,
             },
         ) => *target == *other_target && *rights == *other_rights,
+        _ => false,
+    }
+}
+
+// The same of a command that asks for what its target stores or holds.
+fn same_target(command: &Command, other: &Command) -> bool
+    requires { NamesTarget command.now }
+    ensures { IsTrue result ↔ (command.now ≡ other.now) }
+{
+    match (command, other) {
         (
             Command::Read { target },
             Command::Read {
@@ -91,7 +128,6 @@ fn same_command(command: &Command, other: &Command) -> bool
                 value: other_value,
             },
         ) => *target == *other_target && *value == *other_value,
-        (Command::List, Command::List) => true,
         _ => false,
     }
 }

@@ -1,7 +1,7 @@
 //! The store behind its lock, from sharing it to closing it.
 ghost use Rattle.std.specs.Prelude.{◌≡◌, ◌↔◌, ◌<◌, ◌≤◌, ◌+◌, IfOk, IfErr, IsErrAnd, OnOk, drop, length};
 ghost use Rattle.tg_store.specs.Store.{IsFaithful};
-ghost use Rattle.tg_shared.specs.Sessions.{AreFresh, AreSharedOut, AtSome, GoesOn, MayClose, count_of, sessions_made};
+ghost use Rattle.tg_shared.specs.Sessions.{AreFresh, AreSharedOut, AtSome, GoesOn, MayClose, count_of, sessions_made, subjects_at};
 
 use crate::closing::{CloseFault, LockedRefused};
 use crate::locked::Locked;
@@ -19,7 +19,7 @@ pub struct SharedStore<L: Round, P: Payload> {
     pub(crate) locked: Mutex<Locked<L, P>>,
 }
 
-/// A shared store with its sessions, one for each subject, by rising name.
+/// A shared store with its sessions, one for each active subject, by rising name.
 #[derive(Drop)]
 pub struct Shared<L: Round, P: Payload> {
     pub store: SharedStore<L, P>,
@@ -45,8 +45,8 @@ impl<L: Round, P: Payload> SharedStore<L, P> {
     ghost use Rattle.tg_store.specs.Store.{StandsFor};
     ghost use Rattle.tg_shared.specs.Sessions.{start_of_store};
 
-    /// Shares a store: puts it behind a lock, and makes a session for each subject of the graph that it stands for. The
-    /// blank is spent, and has to have one part more than vertices may be made. Answers only want of memory otherwise.
+    /// Shares a store: puts it behind a lock, and makes a session for each active subject of the graph that it stands for. The
+    /// blank is spent, and has to have one part more than vertices may be made. Fails only when out of memory.
     pub fn new(
         alloc: Global,
         blank: Blank,
@@ -74,7 +74,8 @@ impl<L: Round, P: Payload> SharedStore<L, P> {
     pub fn into_locked(self) -> Locked<L, P>
         ensures faithful { IsFaithful result.store }
         ensures gone_on { GoesOn L.start result.store }
-        ensures sessions { result.sessions ≡ sessions_made L.start }
+        ensures sessions { result.sessions ≡ sessions_made L.start result.store.entries }
+        ensures started { length (subjects_at L.start) ≤ result.sessions }
     {
         let SharedStore { locked } = self;
         let locked = locked.into_inner();
@@ -89,9 +90,11 @@ impl<L: Round, P: Payload> SharedStore<L, P> {
 /// them, and the receipts of each session are all its entries, in their order. It is the store that was shared, with its
 /// opening, its limits and the entries that it had. It is [`SharedStore::into_locked`] and [`Locked::close`] in a row.
 ///
-/// `SessionsMissing` is answered exactly where there are fewer sessions than were made, and looked for first;
-/// `ReceiptMismatch` only where the sessions may not close with some journal that may have been behind the lock, and that has
-/// grown by as many entries at least as they have receipts; a caller who wants to know of the very journal takes the two
+/// `SessionsMissing` is looked for first. Where it is answered, more sessions were made than were handed in, by a journal that may
+/// have been behind the lock; fewer than there were subjects when the store was shared are always refused so; and where a round
+/// ends, exactly as many were handed in as its journal says: one for each subject of then, and one for each that was made since.
+/// `ReceiptMismatch` is answered only where the sessions may not close with some journal that may have been behind the lock, and that has
+/// grown by as many entries at least as they have receipts. A caller who wants to know of the very journal takes the two
 /// calls. Store and sessions then come back. Takes no memory, and no lock is waited for.
 pub fn close<L: Round, P: Payload>(
     store: SharedStore<L, P>,
@@ -102,8 +105,9 @@ pub fn close<L: Round, P: Payload>(
     ensures shared_out { IfOk result (λ store. AreSharedOut (drop (length L.start.entries) store.entries) sessions.items) }
     ensures faithful { IfOk result IsFaithful }
     ensures gone_on { IfOk result (GoesOn L.start) }
-    ensures all { OnOk result (length sessions.items ≡ sessions_made L.start) }
-    ensures missing { IsErrAnd result (λ refused. refused.why ≡ CloseFault.SessionsMissing) ↔ (length sessions.items < sessions_made L.start) }
+    ensures all { IfOk result (λ store. length sessions.items ≡ sessions_made L.start store.entries) }
+    ensures missing { IfErr result (λ refused. refused.why ≡ CloseFault.SessionsMissing → AtSome L.start (λ s. length sessions.items < sessions_made L.start s.entries)) }
+    ensures too_few { length sessions.items < length (subjects_at L.start) → IsErrAnd result (λ refused. refused.why ≡ CloseFault.SessionsMissing) }
     ensures mismatch { IfErr result (λ refused. refused.why ≡ CloseFault.ReceiptMismatch → AtSome L.start (λ s.
         (length L.start.entries + count_of sessions.items ≤ length s.entries) × (¬ MayClose s.entries (length L.start.entries) sessions.items))) }
     ensures handed_back { IfErr result (λ refused. refused.sessions.items ≡ sessions.items) }

@@ -7,6 +7,7 @@ use Rattle.std.proofs.lemmas.List.Sums.{sum_by_more, sum_by-take-le, sum_by-le, 
 use Rattle.std.proofs.lemmas.List.Concat.{get_or-flat_map}
 use Rattle.std.proofs.lemmas.List.Elements.{All-nil, All-append, All-get_or, All-take, All-tail, All-head, All-weaker}
 use Rattle.tg_word.specs.declared.Place.{Place}
+use Rattle.tg_word.specs.declared.TheConstants.{SPACES}
 use Rattle.tg_block.specs.Cells.{IsBlock}
 use Rattle.tg_space.specs.SpaceList.{SpaceList, BlockList, IsSpace, IsSpaceList, Holds, space_of, cell_at, blocks_before, block_count, flat_of, cells_of}
 
@@ -74,7 +75,7 @@ module _ (h : SpaceList) (are : All IsSpace h) where
       e
 
 -- a sum over the first spaces stays small
-pub before_few : (h : SpaceList) → IsSpaceList h → (n : ℕ) → blocks_before h n ≤ 66 * 2 ^ 20
+pub before_few : (h : SpaceList) → IsSpaceList h → (n : ℕ) → blocks_before h n ≤ SPACES * 2 ^ 20
 before_few h is n =
     let each : All (λ (s : BlockList). length s ≤ 2 ^ 20) h = All-weaker IsSpace (λ (s : BlockList). length s ≤ 2 ^ 20) (λ s q. q.0) h is.spaces in
     let whole = sum_by-le (λ (x : BlockList). length x) (2 ^ 20) h each in

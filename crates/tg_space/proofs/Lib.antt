@@ -1,3 +1,4 @@
+pub mod Counting
 pub mod Flat
 pub mod Writing
 pub mod Tables

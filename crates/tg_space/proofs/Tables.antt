@@ -1,12 +1,13 @@
 -- What changes keep of a table of spaces.
-use Rattle.std.proofs.Common.{◌≡◌, ◌≢◌, ℕ, zero, suc, ◌<◌, ◌≤◌, ◌+◌, ◌*◌, ◌^◌, ◌/◌, ◌++◌, ◌∷◌, ◌⊎◌, inl, inr, ◌-◌, List, [], length, get_or, set, replicate, refl, sym, ap, subst, arith, ◌∙◌, ⊎_elim, add-one}
+use Rattle.std.proofs.Common.{◌≡◌, ◌≢◌, ℕ, zero, suc, ◌<◌, ◌≤◌, ◌+◌, ◌*◌, ◌^◌, ◌/◌, ◌++◌, ◌∷◌, ◌⊎◌, inl, inr, ◌-◌, List, [], length, get_or, set, replicate, take, drop, refl, sym, ap, subst, arith, ◌∙◌, ⊎_elim, add-one}
 use Rattle.std.specs.List.{All}
-use Rattle.std.proofs.lemmas.List.{get_or-set_same, get_or-set_other, length-set, get_or_read, length_push, get_or_push, get_or_append_left, get_or-replicate, get_or_past, length-replicate}
+use Rattle.std.proofs.lemmas.List.{get_or-set_same, get_or-set_other, length-set, get_or_read, length_push, get_or_push, get_or_append_left, get_or-replicate, get_or_past, length-replicate, take_at}
 use Rattle.std.proofs.lemmas.List.Elements.{All-get_or, All-cons, All-nil, All-replicate}
 use Rattle.std.proofs.lemmas.Bool.{cases_eq, cases_lt}
 use Rattle.tg_word.specs.declared.Place.{Place}
+use Rattle.tg_word.specs.declared.TheConstants.{SPACES}
 use Rattle.tg_block.specs.Cells.{IsBlock, free_cell, free_block, cell_of}
-use Rattle.tg_space.specs.SpaceList.{SpaceList, BlockList, IsSpace, IsSpaceList, Holds, space_of, block_of, cell_at, blocks_before, block_count, with_cell_at, with_word_at, with_block, flat_of, cells_of}
+use Rattle.tg_space.specs.SpaceList.{SpaceList, BlockList, IsEmptyFrom, IsSpace, IsSpaceList, Holds, space_of, block_of, cell_at, blocks_before, block_count, with_cell_at, with_word_at, with_block, flat_of, cells_of}
 use Rattle.tg_space.specs.declared.kind.Kind.TheVariants.{Full, Nursery}
 use Rattle.tg_space.specs.declared.limits.Limits.{Limits}
 use Rattle.tg_space.specs.SpaceTable.{SpaceTable, adopted, with_adopted, IsSpaceTable, IsPrefixCount, IsHandedOut, used_of, number_in_space, with_spaces}
@@ -102,9 +103,9 @@ table_list t is = record { few = is.few; spaces = is.blocks }
 pub record FlatFacts (h : SpaceList) (p : Place) (start : ℕ) : Type 0 where
   pub starts : start ≡ blocks_before h p.space
   pub inside : flat_of h p < length (cells_of h)
-  pub few : length (cells_of h) ≤ 66 * 2 ^ 26
+  pub few : length (cells_of h) ≤ SPACES * 2 ^ 26
 
-pub count_few : (t : SpaceTable) → IsSpaceTable t → block_count t.spaces ≤ 66 * 2 ^ 20
+pub count_few : (t : SpaceTable) → IsSpaceTable t → block_count t.spaces ≤ SPACES * 2 ^ 20
 count_few t is =
     omega (arith, before_few t.spaces (table_list t is) (length t.spaces), blocks_all t.spaces (length t.spaces) (omega arith))
 
@@ -211,7 +212,7 @@ pub adopted_long : (h : SpaceList) (aged old : BlockList) → 2 ≤ length h →
 adopted_long h aged old enough = let rest : length (replicate {A = BlockList} (length h - 2) []) ≡ length h - 2 = length-replicate (length h - 2) [] in omega arith
 
 -- a nursery collection's new blocks are put in place, whatever the spaces were
-put_in_place : (t : SpaceTable) (aged old : BlockList) → 3 ≤ length t.spaces → length t.spaces ≤ 66 → IsSpace (space_of t.spaces 0 ++ old) → IsSpace aged → IsSpaceTable (with_adopted t Nursery aged old)
+put_in_place : (t : SpaceTable) (aged old : BlockList) → 3 ≤ length t.spaces → length t.spaces ≤ SPACES → IsSpace (space_of t.spaces 0 ++ old) → IsSpace aged → IsSpaceTable (with_adopted t Nursery aged old)
 put_in_place t aged old enough few grown_is is_aged = record {
   enough = omega (arith, long);
   few = omega (arith, long);
@@ -248,7 +249,7 @@ pub table_adopted : (t : SpaceTable) (aged old : BlockList) → IsSpaceTable t �
 table_adopted t aged old table = put_in_place t aged old table.enough table.few
 
 -- Old alone has blocks, of so many spaces
-old_alone : (limits : Limits) (old : BlockList) (n : ℕ) → IsSpace old → 3 ≤ n → n ≤ 66 →
+old_alone : (limits : Limits) (old : BlockList) (n : ℕ) → IsSpace old → 3 ≤ n → n ≤ SPACES →
     IsSpaceTable (record { spaces = old ∷ [] ∷ replicate (n - 2) []; used = replicate n 0; limits = limits })
 old_alone limits old n is_old some few =
     let none : SpaceList = replicate (n - 2) [] in
@@ -270,3 +271,32 @@ table_kept t old table is_old =
 -- and leaves as many spaces
 pub kept_long : (h : SpaceList) (old : BlockList) → 2 ≤ length h → length (adopted Full h [] old) ≡ length h
 kept_long h old enough = let rest : length (replicate {A = BlockList} (length h - 1) []) ≡ length h - 1 = length-replicate (length h - 1) [] in omega arith
+
+-- ---- after a collection only Old and Aged have blocks
+
+no_block_behind : (n k : ℕ) → get_or (replicate {A = BlockList} n []) k [] ≡ []
+no_block_behind n k =
+    ⊎_elim (λ (low : k < n). get_or-replicate n k [] [] low)
+    (λ (past : n ≤ k). get_or_past (replicate {A = BlockList} n []) k [] (rw (length-replicate {A = BlockList} n []) past)) (cases_lt k n)
+
+pub nurseries_adopted : (h : SpaceList) (aged old : BlockList) → 2 ≤ length h → IsEmptyFrom 2 (adopted Nursery h aged old)
+nurseries_adopted h aged old enough = record { inside = omega (arith, adopted_long h aged old enough, enough); empty = by_space }
+  where
+    by_space : (space : ℕ) → 2 ≤ space → space_of (adopted Nursery h aged old) space ≡ []
+    by_space zero le = absurd (omega (arith, le))
+    by_space (suc zero) le = absurd (omega (arith, le))
+    by_space (suc (suc k)) le = no_block_behind (length h - 2) k
+
+pub nurseries_kept : (h : SpaceList) (old : BlockList) → 2 ≤ length h → IsEmptyFrom 2 (adopted Full h [] old)
+nurseries_kept h old enough = record { inside = omega (arith, kept_long h old enough, enough); empty = by_space }
+  where
+    by_space : (space : ℕ) → 2 ≤ space → space_of (adopted Full h [] old) space ≡ []
+    by_space zero le = absurd (omega (arith, le))
+    by_space (suc k) le = no_block_behind (length h - 1) k
+
+-- as the code has it: the spaces that were put in, in the place of as many
+pub put_alone_is : (h now : SpaceList) (old : BlockList) (n : ℕ) → 3 ≤ length h → n ≡ length h → now ≡ adopted Full h [] old → take n (now ++ drop (length now) h) ≡ adopted Full h [] old
+put_alone_is h now old n enough long is = take_at now (drop (length now) h) n (ap length is ∙ kept_long h old (omega (arith, enough)) ∙ sym long) ∙ is
+
+pub put_behind_is : (h now : SpaceList) (aged old : BlockList) (n : ℕ) → 3 ≤ length h → n ≡ length h → now ≡ adopted Nursery h aged old → take n (now ++ drop (length now) h) ≡ adopted Nursery h aged old
+put_behind_is h now aged old n enough long is = take_at now (drop (length now) h) n (ap length is ∙ adopted_long h aged old (omega (arith, enough)) ∙ sym long) ∙ is

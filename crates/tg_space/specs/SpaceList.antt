@@ -1,7 +1,8 @@
 -- The cells of a heap as lists: a list of spaces, each a list of blocks, each a list of cells, each a list of words.
-use Rattle.std.specs.Prelude.{ℕ, ◌+◌, ◌*◌, ◌^◌, ◌<◌, ◌≤◌, List, [], ◌∷◌, ◌++◌, length, take, slice_index_or, slice_set}
+use Rattle.std.specs.Prelude.{◌≡◌, ℕ, ◌+◌, ◌*◌, ◌^◌, ◌<◌, ◌≤◌, List, [], ◌∷◌, ◌++◌, length, take, slice_index_or, slice_set}
 use Rattle.std.specs.List.{All, flat_map, sum_by}
 use Rattle.tg_word.specs.declared.Place.{Place}
+use Rattle.tg_word.specs.declared.TheConstants.{SPACES}
 use Rattle.tg_block.specs.Cells.{IsBlock, cell_of, with_word, free_block}
 
 abbrev pub BlockList : Type 0
@@ -14,9 +15,9 @@ SpaceList = List (List (List (List ℕ)))
 abbrev pub IsSpace : BlockList → Type 0
 IsSpace blocks = (length blocks ≤ 2 ^ 20) × All IsBlock blocks
 
--- there are at most 66 spaces
+-- there are no more spaces than a heap can have
 pub record IsSpaceList (h : SpaceList) : Type 0 where
-  pub few : length h ≤ 66
+  pub few : length h ≤ SPACES
   pub spaces : All IsSpace h
 
 abbrev pub space_of : SpaceList → ℕ → BlockList
@@ -52,6 +53,13 @@ flat_of h p = 64 * (blocks_before h p.space + p.block) + p.cell
 -- the cells of all spaces, one after the other
 abbrev pub cells_of : SpaceList → List (List ℕ)
 cells_of h = flat_map (λ blocks. flat_map (λ block. block) blocks) h
+
+-- ---- spaces with no block
+
+-- the spaces from a number on have no block
+pub record IsEmptyFrom (first : ℕ) (h : SpaceList) : Type 0 where
+  pub inside : first ≤ length h
+  pub empty : (space : ℕ) → first ≤ space → space_of h space ≡ []
 
 -- ---- changes
 

@@ -2,6 +2,8 @@
 use Rattle.std.specs.Prelude.{◌≡◌, ℕ, ◌+◌, ◌-◌, ◌*◌, ◌/◌, ◌%◌, ◌^◌, ◌<◌, ◌≤◌, ◌⊎◌, List, [], ◌∷◌, ◌++◌, length, replicate, slice_index, slice_set}
 use Rattle.std.specs.List.{All}
 use Rattle.tg_word.specs.declared.Place.{Place}
+use Rattle.tg_word.specs.declared.TheConstants.{SPACES}
+use Rattle.tg_word.specs.Word.{nursery_space}
 use Rattle.tg_block.specs.Cells.{free_cell}
 use Rattle.tg_space.specs.SpaceList.{SpaceList, BlockList, IsSpace, Holds, space_of, cell_at, blocks_before, block_count}
 use Rattle.tg_space.specs.declared.kind.Kind.{Kind}
@@ -51,7 +53,7 @@ IsHandedOut t p = 2 ≤ p.space → number_in_space p < used_of t p.space
 pub record IsSpaceTable (t : SpaceTable) : Type 0 where
   -- Old, Aged and at least one nursery
   pub enough : 3 ≤ length t.spaces
-  pub few : length t.spaces ≤ 66
+  pub few : length t.spaces ≤ SPACES
   pub blocks : All IsSpace t.spaces
   -- a count for each space, which stays within its cells
   pub counted : length t.used ≡ length t.spaces
@@ -71,9 +73,9 @@ IsFull t space =
 
 -- ---- changes
 
--- no block anywhere
+-- so many nurseries, and no block anywhere
 abbrev pub no_blocks : ℕ → BlockLimits → SpaceTable
-no_blocks workers limits = record { spaces = replicate (workers + 2) []; used = replicate (workers + 2) 0; limits = limits }
+no_blocks nurseries limits = record { spaces = replicate (nursery_space nurseries) []; used = replicate (nursery_space nurseries) 0; limits = limits }
 
 abbrev pub with_spaces : SpaceTable → SpaceList → SpaceTable
 with_spaces t h = record { spaces = h; used = t.used; limits = t.limits }

@@ -1,6 +1,7 @@
 //! A list of spaces: it is made, emptied and filled, and its blocks are counted.
-ghost use Rattle.std.specs.Prelude.{◌≡◌, ◌++◌, ◌<◌, ◌≤◌, ◌+◌, ◌^◌, [], length, replicate, IfOk, OnOk, OnErr};
-ghost use Rattle.tg_space.specs.SpaceList.{IsSpace, space_of};
+ghost use Rattle.std.specs.Prelude.{◌≡◌, ◌++◌, ◌<◌, ◌≤◌, ◌+◌, ◌^◌, [], length, map, replicate, IfOk, OnOk, OnErr};
+ghost use Rattle.std.specs.List.{All};
+ghost use Rattle.tg_space.specs.SpaceList.{IsEmptyFrom, IsSpace, space_of};
 ghost use Rattle.tg_space.specs.SpaceTable.{adopted, IsPrefixCount};
 ghost use Rattle.tg_space.specs.declared.kind.Kind.{Kind};
 
@@ -21,13 +22,17 @@ pub fn empty_spaces(alloc: Global, count: usize) -> Result<Vec<Space>, AllocErro
 }
 
 /// Old is followed by these blocks, Aged is the other ones, and every nursery has none. The answer is the blocks that Aged had.
+///
+/// The spaces from a number on, at least 2, have no block: it looks at none of them.
 pub fn put_behind(
     alloc: Global,
     spaces: &mut [Space],
+    filled: usize,
     aged: Space,
     old: Space,
 ) -> Result<Vec<Block>, AllocError>
-    requires enough { 2 ≤ length spaces.old }
+    requires enough { 2 ≤ filled }
+    requires empty { IsEmptyFrom filled spaces.old }
     requires room { length (space_of spaces.old 0) + length old ≤ 2 ^ 20 }
     ensures adopted { OnOk result (spaces.new ≡ adopted Kind.Nursery spaces.old aged old) }
     ensures first { OnOk result (IsSpace (space_of spaces.old 0 ++ old)) }
@@ -35,53 +40,66 @@ pub fn put_behind(
     ensures refused { OnErr result (spaces.new ≡ spaces.old) }
 {
     spaces[0].append(old)?;
-    let emptied = take_all(alloc, &mut spaces[1..]);
+    let emptied = take_all(alloc, &mut spaces[1..], filled - 1);
     spaces[1] = aged;
     Ok(emptied)
 }
 
 /// Old is these blocks, and every other space has none. The answer is the blocks that Old had.
-pub fn put_alone(alloc: Global, spaces: &mut [Space], old: Space) -> Vec<Block>
-    requires { 2 ≤ length spaces.old }
+///
+/// The spaces from a number on, at least 2, have no block: it looks at none of them.
+pub fn put_alone(alloc: Global, spaces: &mut [Space], filled: usize, old: Space) -> Vec<Block>
+    requires enough { 2 ≤ filled }
+    requires empty { IsEmptyFrom filled spaces.old }
     ensures adopted { spaces.new ≡ adopted Kind.Full spaces.old [] old }
     ensures whole { IsSpace old }
 {
     // It tells that these are the blocks of a space (`IsSpace`).
     let _ = old.len();
-    let emptied = take_all(alloc, spaces);
+    let emptied = take_all(alloc, spaces, filled);
     spaces[0] = old;
     emptied
 }
 
-// Takes every block out of these spaces. The answer is the blocks of the first.
-fn take_all(alloc: Global, spaces: &mut [Space]) -> Vec<Block>
-    requires { 0 < length spaces.old }
+// Takes every block out of these spaces, which from a number on have none. The answer is the blocks of the first.
+fn take_all(alloc: Global, spaces: &mut [Space], filled: usize) -> Vec<Block>
+    requires some { 1 ≤ filled }
+    requires empty { IsEmptyFrom filled spaces.old }
     ensures { spaces.new ≡ replicate (length spaces.old) [] }
 {
     let emptied = mem::replace(&mut spaces[0], Space::new(alloc));
-    empty_all(alloc, spaces);
+    empty_all(alloc, spaces, filled);
     emptied.into_blocks()
 }
 
-// Takes every block out of these spaces.
-fn empty_all(alloc: Global, spaces: &mut [Space])
+// Takes every block out of these spaces, which from a number on have none.
+fn empty_all(alloc: Global, spaces: &mut [Space], filled: usize)
+    requires { IsEmptyFrom filled spaces.old }
     ensures { spaces.new ≡ replicate (length spaces.old) [] }
 {
-    for space in spaces.iter_mut() {
-        *space = Space::new(alloc);
+    for space in 0..filled {
+        spaces[space] = Space::new(alloc);
     }
 }
 
-/// Counts the blocks before each space, and at last all of them.
-pub fn count_blocks(spaces: &[Space], starts: &mut [u64])
-    requires few { length spaces.now ≤ 66 }
+/// One more of each number.
+pub fn add_one(numbers: &mut [u64])
+    requires { All (λ n. n + 1 < 2 ^ 64) numbers.old }
+    ensures { numbers.new ≡ map (λ n. n + 1) numbers.old }
+{
+    for number in numbers.iter_mut() {
+        *number += 1;
+    }
+}
+
+/// Counts the blocks before each space, and at last all of them, where only Old and Aged have any.
+pub fn count_old_and_aged(spaces: &[Space], starts: &mut [u64])
+    requires empty { IsEmptyFrom 2 spaces.now }
     requires room { length starts.old ≡ length spaces.now + 1 }
     ensures { IsPrefixCount starts.new spaces.now }
 {
-    let mut before = 0;
+    let old = spaces[0].len();
+    starts.fill(old + spaces[1].len());
     starts[0] = 0;
-    for (i, space) in spaces.iter().enumerate() {
-        before += space.len();
-        starts[i + 1] = before;
-    }
+    starts[1] = old;
 }

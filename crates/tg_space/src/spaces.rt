@@ -1,8 +1,9 @@
 //! All spaces of a heap.
 ghost use Rattle.std.specs.Prelude.{◌≡◌, ◌<◌, ◌≤◌, ◌+◌, ◌*◌, ◌^◌, ◌↔◌, [], length, slice_index, slice_index_or, Err, IfOk, OnOk, OnErr, IsOk, IsTrue};
 ghost use Rattle.tg_block.specs.Cells.{free_cell};
-ghost use Rattle.tg_word.specs.Word.{IsPlace};
-ghost use Rattle.tg_space.specs.SpaceList.{Holds, block_count, cell_at, cells_of, flat_of, space_of, with_block, with_cell_at, with_word_at};
+ghost use Rattle.tg_word.specs.Word.{IsPlace, nursery_space};
+ghost use Rattle.tg_word.specs.declared.TheConstants.{MAX_NURSERIES, SPACES};
+ghost use Rattle.tg_space.specs.SpaceList.{Holds, IsEmptyFrom, block_count, cell_at, cells_of, flat_of, space_of, with_block, with_cell_at, with_word_at};
 ghost use Rattle.tg_space.specs.SpaceTable.{IsFull, IsHandedOut, IsNursery, IsPrefixCount, IsSpaceTable, kept_blocks, no_blocks, place_in_space, used_of, with_adopted, with_one_used, with_spaces};
 
 use crate::adoption::Adoption;
@@ -10,12 +11,12 @@ use crate::allocate_fault::AllocateFault;
 use crate::kind::Kind;
 use crate::limits::Limits;
 use crate::space::Space;
-use crate::space_list::{count_blocks, empty_spaces, put_alone, put_behind};
+use crate::space_list::{add_one, count_old_and_aged, empty_spaces, put_alone, put_behind};
 use std::alloc::{AllocError, Global};
 use std::marker::Model;
 use std::mem;
 use tg_block::{Block, CELLS, WORDS};
-use tg_word::Place;
+use tg_word::{Place, nursery_space};
 
 mod numbers;
 
@@ -44,15 +45,15 @@ impl Model for Spaces {
 }
 
 impl Spaces {
-    /// The spaces of a heap with as many workers, from 1 to 64; no space has a block.
+    /// The spaces of a heap with as many nurseries, from 1 to `MAX_NURSERIES`; no space has a block.
     ///
     /// It is refused only where memory was.
-    pub fn new(alloc: Global, workers: u64, limits: Limits) -> Result<Spaces, AllocError>
-        requires some { 1 ≤ workers }
-        requires few { workers ≤ 64 }
-        ensures { IfOk result (λ spaces. spaces ≡ no_blocks workers limits) }
+    pub fn new(alloc: Global, nurseries: u64, limits: Limits) -> Result<Spaces, AllocError>
+        requires some { 1 ≤ nurseries }
+        requires few { nurseries ≤ MAX_NURSERIES }
+        ensures { IfOk result (λ spaces. spaces ≡ no_blocks nurseries limits) }
     {
-        let count = workers as usize + 2;
+        let count = nursery_space(nurseries) as usize;
         let spaces = empty_spaces(alloc, count)?;
         let used = vec![in alloc; 0; count]?;
         let starts = vec![in alloc; 0; count + 1]?;
@@ -74,12 +75,12 @@ impl Spaces {
         self.limits
     }
 
-    /// How many nurseries there are, one for each worker: from 1 to 64.
+    /// How many nurseries there are, from 1 to `MAX_NURSERIES`.
     pub fn nurseries(&self) -> u64
-        ensures spaces { result + 2 ≡ length self.now.spaces }
+        ensures spaces { nursery_space result ≡ length self.now.spaces }
         ensures table { IsSpaceTable self.now }
     {
-        self.spaces.len() as u64 - 2
+        self.spaces.len() as u64 - nursery_space(0)
     }
 
     /// How many blocks a space has.
@@ -95,7 +96,7 @@ impl Spaces {
     /// How many blocks all spaces have.
     pub fn blocks(&self) -> u64
         ensures blocks { result ≡ block_count self.now.spaces }
-        ensures few { result ≤ 66 * 2 ^ 20 }
+        ensures few { result ≤ SPACES * 2 ^ 20 }
         ensures table { IsSpaceTable self.now }
     {
         self.starts[self.spaces.len()]
@@ -226,7 +227,8 @@ impl Spaces {
         let Ok(()) = grown.add_block(self.alloc) else {
             return Err(AllocateFault::OutOfMemory);
         };
-        count_blocks(&self.spaces, &mut self.starts);
+        // From the space that grew on, one block more stands before each space, and before the end.
+        add_one(&mut self.starts[space as usize + 1..]);
         Ok(())
     }
 
@@ -261,6 +263,20 @@ impl Spaces {
         mem::replace(&mut self.spare, Vec::new(self.alloc))
     }
 
+    // How many spaces there are up to the last nursery that has a block: as many as a collection has to empty. Old and Aged count always.
+    fn filled(&self) -> usize
+        ensures some { 2 ≤ result }
+        ensures empty { IsEmptyFrom result self.now.spaces }
+        ensures table { IsSpaceTable self.now }
+    {
+        let all = self.blocks();
+        let mut filled = nursery_space(0) as usize;
+        while self.starts[filled] < all {
+            filled += 1;
+        }
+        filled
+    }
+
     // Old is followed by these blocks, Aged is the other ones, and every nursery has none.
     #[tactic(auto, using(crate::proofs::Tables::table_adopted))]
     fn keep_old_and(&mut self, aged: Space, old: Space) -> Result<(), AllocError>
@@ -269,9 +285,10 @@ impl Spaces {
         ensures refused { OnErr result (self.new ≡ self.old) }
         ensures table { OnOk result (IsSpaceTable self.new) }
     {
-        let emptied = put_behind(self.alloc, &mut self.spaces, aged, old)?;
+        let filled = self.filled();
+        let emptied = put_behind(self.alloc, &mut self.spaces, filled, aged, old)?;
         self.used.fill(0);
-        count_blocks(&self.spaces, &mut self.starts);
+        count_old_and_aged(&self.spaces, &mut self.starts);
         self.spare = emptied;
         Ok(())
     }
@@ -281,9 +298,10 @@ impl Spaces {
         ensures adopted { self.new ≡ with_adopted self.old Kind.Full [] old }
         ensures table { IsSpaceTable self.new }
     {
-        let emptied = put_alone(self.alloc, &mut self.spaces, old);
+        let filled = self.filled();
+        let emptied = put_alone(self.alloc, &mut self.spaces, filled, old);
         self.used.fill(0);
-        count_blocks(&self.spaces, &mut self.starts);
+        count_old_and_aged(&self.spaces, &mut self.starts);
         self.spare = emptied;
     }
 }

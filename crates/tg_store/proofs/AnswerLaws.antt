@@ -6,17 +6,17 @@ use Rattle.tg_rights.specs.RightSet.{RightSet}
 use Rattle.tg_model.specs.declared.value.Value.{Value}
 use Rattle.std.specs.Prelude.{Option}
 use Rattle.tg_model.specs.declared.command.Command.{Command}
-use Rattle.tg_model.specs.declared.command.Command.TheVariants.{Take, Grant, Remove, Read, Write, Append, Inspect, List as Listing}
+use Rattle.tg_model.specs.declared.command.Command.TheVariants.{Take, Grant, Remove, Read, Write, Append, Inspect, List as Listing, Retire}
 use Rattle.tg_model.specs.declared.command.Deed.TheVariants.{Plain}
 use Rattle.tg_model.specs.declared.reply.Reply.{Reply}
 use Rattle.tg_model.specs.declared.reply.Reply.TheVariants.{Done, Denied}
 use Rattle.tg_model.specs.declared.reply.Denial.{Denial}
 use Rattle.tg_model.specs.Graph.{ProtectionGraph, IsSubject}
-use Rattle.tg_model.specs.Rules.{Permits, answer_of, denial_of, denied_or, reply_of, effect, step, unless_denied}
+use Rattle.tg_model.specs.Rules.{Permits, answer_of, denial_of, denied_or, reply_of, effect, step, subjects_after, unless_denied}
 use Rattle.tg_graph.specs.Content.{Content}
 use Rattle.tg_graph.specs.Standing.{IsContentOf}
 use Rattle.tg_graph.proofs.StandingLaws.{answer_of-stands, denial_of-stands, StandsFor-denied, IsSameContent-self}
-use Rattle.tg_model.proofs.AllowedLaws.{permits-no_denial}
+use Rattle.tg_model.proofs.AllowedLaws.{permits-no_denial, step-allowed, step-denied}
 use Rattle.tg_rules.specs.Effect.{IsReplyOn, OnlyLooks}
 
 -- a command that changes something is answered that it is done
@@ -29,6 +29,7 @@ reply_of-done label value n x (Write y v) changes = refl
 reply_of-done label value n x (Append y v) changes = refl
 reply_of-done label value n x (Inspect y) changes = absurd (changes tt)
 reply_of-done label value n x Listing changes = absurd (changes tt)
+reply_of-done label value n x Retire changes = refl
 
 module _ (c : Content) (g : ProtectionGraph) (stands : IsContentOf c g) (x : ℕ) (command : Command) (subject : IsSubject g x) (none : denial_of c.label c.value x command ≡ None) where
   -- all names are below the number of vertices ever made
@@ -44,6 +45,9 @@ module _ (c : Content) (g : ProtectionGraph) (stands : IsContentOf c g) (x : ℕ
   pub permitted : Permits g.label g.value x command
   permitted = permits-no_denial g.label g.value x command (sym (denial_of-stands c g stands x command subject) ∙ none)
 
+  pub subjects-served : (step g x (Plain command)).subjects ≡ subjects_after g.subjects x command
+  subjects-served = ap (λ (k : ProtectionGraph). k.subjects) (step-allowed g x command permitted)
+
   pub done-served : (OnlyLooks command → ⊥) → Done ≡ answer_of g x (Plain command)
   done-served changes = sym (answered ∙ reply_of-done c.label c.value g.made x command changes)
 
@@ -52,6 +56,9 @@ module _ (c : Content) (g : ProtectionGraph) (stands : IsContentOf c g) (x : ℕ
 module _ (c : Content) (g : ProtectionGraph) (stands : IsContentOf c g) (x : ℕ) (command : Command) (subject : IsSubject g x) (denial : Denial) (denied : denial_of c.label c.value x command ≡ Some denial) where
   pub reply-denied : Denied denial ≡ answer_of g x (Plain command)
   reply-denied = sym (answer_of-stands c g stands x command subject ∙ ap (λ d. denied_or d (reply_of c.label c.value g.made x command)) denied)
+
+  pub subjects-denied : (step g x (Plain command)).subjects ≡ g.subjects
+  subjects-denied = ap (λ (k : ProtectionGraph). k.subjects) (step-denied g x command denial (sym (denial_of-stands c g stands x command subject) ∙ denied))
 
   pub step-denied_stands : IsContentOf c (step g x (Plain command))
   step-denied_stands = StandsFor-denied c c g stands x subject command denial denied (IsSameContent-self c)
@@ -66,6 +73,7 @@ not_denied label value n x (Write y v) denial e = cc
 not_denied label value n x (Append y v) denial e = cc
 not_denied label value n x (Inspect y) denial e = cc
 not_denied label value n x Listing denial e = cc
+not_denied label value n x Retire denial e = cc
 
 from_denied : (o : Option Denial) (reply : Reply) (denial : Denial) → (Denied denial ≡ reply → ⊥) → Denied denial ≡ denied_or o reply → o ≡ Some denial
 from_denied None reply denial none e = absurd (none e)

@@ -1,9 +1,10 @@
 mod AnswerLaws
 pub mod BlockLaws
 mod CollectLaws
-mod CreateLaws
+mod MakingLaws
 mod DifferenceLaws
 mod HeldLaws
 mod ReadLaws
 pub mod RoomLaws
 pub mod StandLaws
+mod ErrLaws

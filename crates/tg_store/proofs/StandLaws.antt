@@ -1,13 +1,15 @@
 -- What becomes of the journal and of the graph of a store by each call.
-use Rattle.std.proofs.Common.{◌≡◌, ◌↔◌, ℕ, ◌<◌, ◌≤◌, ◌++◌, ◌∷◌, [], length, sym, ap, subst, ◌∙◌, arith}
+use Rattle.std.proofs.Common.{◌≡◌, ℕ, ◌++◌, ◌∷◌, [], List, sym, ap, subst, ◌∙◌}
+use Rattle.std.specs.List.{Contains}
 use Rattle.tg_model.specs.declared.command.Deed.{Deed}
 use Rattle.tg_model.specs.declared.reply.Reply.{Reply}
 use Rattle.tg_model.specs.Graph.{ProtectionGraph, IsSubject}
 use Rattle.tg_model.specs.Opened.{Plan, IsPlan, start_of}
 use Rattle.tg_model.specs.Rules.{step, answer_of, DeedFits}
 use Rattle.tg_journal.specs.History.{graph_after}
-use Rattle.tg_journal.proofs.HistoryLaws.{IsLegal-push, graph_after-push, graph_after-limit, workers-opened}
-use Rattle.tg_graph.specs.Heap.{content_of}
+use Rattle.tg_journal.proofs.HistoryLaws.{IsLegal-push, graph_after-push, graph_after-limit}
+use Rattle.tg_subjects.specs.Subjects.{names_of}
+use Rattle.tg_graph.specs.Heap.{IsActive, content_of, subject_names}
 use Rattle.tg_graph.specs.Standing as standing
 use Rattle.tg_graph.proofs.StandingLaws as content
 use Rattle.tg_store.specs.Store.{StoreState, StandsFor, IsFaithful, Enters, IsUnchanged, graph_of_store, IsStore}
@@ -22,19 +24,19 @@ pub StandsFor-unchanged : (old new : StoreState) (g : ProtectionGraph) → Stand
 StandsFor-unchanged old new g stands unchanged = same_graph old new unchanged.opening unchanged.entries ∙ stands
 
 -- where opening and journal are the same, and the heap still stands for the graph
-pub IsFaithful-kept : (old new : StoreState) → IsFaithful old → new.opening ≡ old.opening → new.entries ≡ old.entries → standing.IsContentOf (content_of new.heap) (graph_of_store old) → length new.heap.workers ≡ length old.heap.workers → IsFaithful new
-IsFaithful-kept old new faithful opening entries stands workers = record {
+pub IsFaithful-kept : (old new : StoreState) → IsFaithful old → new.opening ≡ old.opening → new.entries ≡ old.entries → standing.IsContentOf (content_of new.heap) (graph_of_store old) → subject_names new.heap ≡ subject_names old.heap → IsFaithful new
+IsFaithful-kept old new faithful opening entries stands names = record {
   plan = subst IsPlan (sym opening) faithful.plan;
   legal = rw (opening, entries) faithful.legal;
   stands = subst (standing.IsContentOf (content_of new.heap)) (sym (same_graph old new opening entries)) stands;
-  workers = workers ∙ faithful.workers ∙ sym (ap (λ (p : Plan). p.workers) opening);
+  subjects = names ∙ faithful.subjects ∙ ap (λ (g : ProtectionGraph). g.subjects) (sym (same_graph old new opening entries));
 }
 
 pub IsFaithful-unchanged : (old new : StoreState) → IsFaithful old → IsUnchanged old new → IsFaithful new
 IsFaithful-unchanged old new faithful unchanged =
     IsFaithful-kept old new faithful unchanged.opening unchanged.entries
     (content.StandsFor-unchanged old.heap new.heap (graph_of_store old) faithful.stands unchanged.heap)
-    (ap length unchanged.heap.workers)
+    (ap names_of unchanged.heap.subjects)
 
 pub IsStore-unchanged : (old new : StoreState) (made : ℕ) → IsStore old made → IsUnchanged old new → IsStore new made
 IsStore-unchanged old new made is unchanged = record {
@@ -55,44 +57,41 @@ module _ (old new : StoreState) (worker : ℕ) (deed : Deed) (reply : Reply) (op
   StandsFor-entered g stands = graph-entered ∙ ap (λ h. step h worker deed) stands
 
   -- and is faithful, where the reply is that graph's and the heap stands for the next
-  pub IsFaithful-entered : IsFaithful old → IsSubject (graph_of_store old) worker → DeedFits deed → reply ≡ answer_of (graph_of_store old) worker deed → standing.IsContentOf (content_of new.heap) (step (graph_of_store old) worker deed) → length new.heap.workers ≡ length old.heap.workers → IsFaithful new
-  IsFaithful-entered faithful subject fits is stands workers = record {
+  pub IsFaithful-entered : IsFaithful old → IsSubject (graph_of_store old) worker → DeedFits deed → reply ≡ answer_of (graph_of_store old) worker deed → standing.IsContentOf (content_of new.heap) (step (graph_of_store old) worker deed) → subject_names new.heap ≡ (step (graph_of_store old) worker deed).subjects → IsFaithful new
+  IsFaithful-entered faithful subject fits is stands names = record {
     plan = subst IsPlan (sym opening) faithful.plan;
     legal = rw (opening, entry) (IsLegal-push (start_of old.opening) old.entries (record { worker = worker; deed = deed; reply = reply }) faithful.legal (record { subject = subject; fits = fits; reply = is }));
     stands = subst (standing.IsContentOf (content_of new.heap)) (sym graph-entered) stands;
-    workers = workers ∙ faithful.workers ∙ sym (ap (λ (p : Plan). p.workers) opening);
+    subjects = names ∙ ap (λ (g : ProtectionGraph). g.subjects) (sym graph-entered);
   }
 
-  pub IsStore-entered : (made : ℕ) → IsFaithful old → IsSubject (graph_of_store old) worker → DeedFits deed → reply ≡ answer_of (graph_of_store old) worker deed → standing.IsContentOf (content_of new.heap) (step (graph_of_store old) worker deed) → length new.heap.workers ≡ length old.heap.workers → made ≡ (step (graph_of_store old) worker deed).made → IsStore new made
-  IsStore-entered made faithful subject fits is stands workers next = record {
-    faithful = IsFaithful-entered faithful subject fits is stands workers;
+  pub IsStore-entered : (made : ℕ) → IsFaithful old → IsSubject (graph_of_store old) worker → DeedFits deed → reply ≡ answer_of (graph_of_store old) worker deed → standing.IsContentOf (content_of new.heap) (step (graph_of_store old) worker deed) → subject_names new.heap ≡ (step (graph_of_store old) worker deed).subjects → made ≡ (step (graph_of_store old) worker deed).made → IsStore new made
+  IsStore-entered made faithful subject fits is stands names next = record {
+    faithful = IsFaithful-entered faithful subject fits is stands names;
     is_made = next ∙ ap (λ g. g.made) (sym graph-entered);
   }
 
 -- ---- no entry yet
 
-pub IsFaithful-start : (s : StoreState) → IsPlan s.opening → s.entries ≡ [] → standing.IsContentOf (content_of s.heap) (start_of s.opening) → length s.heap.workers ≡ s.opening.workers → IsFaithful s
-IsFaithful-start s plan none stands workers = record {
+pub IsFaithful-start : (s : StoreState) → IsPlan s.opening → s.entries ≡ [] → standing.IsContentOf (content_of s.heap) (start_of s.opening) → subject_names s.heap ≡ (start_of s.opening).subjects → IsFaithful s
+IsFaithful-start s plan none stands names = record {
   plan = plan;
   legal = rw none tt;
   stands = rw none stands;
-  workers = workers;
+  subjects = rw none names;
 }
 
--- ---- workers and the limit
+-- ---- subjects and the limit
 
 module _ (s : StoreState) (faithful : IsFaithful s) where
-  pub subject-is_worker : (x : ℕ) → IsSubject (graph_of_store s) x ↔ (x < length s.heap.workers)
-  subject-is_worker x =
-      let P : ℕ → Type 0 = λ n. IsSubject (graph_of_store s) x ↔ (x < n) in
-      subst P (sym faithful.workers) (workers-opened s.opening s.entries x)
+  pub subjects_of : (g : ProtectionGraph) → StandsFor s g → subject_names s.heap ≡ g.subjects
+  subjects_of g stands = faithful.subjects ∙ ap (λ (h : ProtectionGraph). h.subjects) stands
 
   pub limit_of : (graph_of_store s).limit ≡ s.opening.limit
   limit_of = graph_after-limit (start_of s.opening) s.entries
 
-  pub subject_here : (g : ProtectionGraph) (x : ℕ) → StandsFor s g → x < length s.heap.workers → IsSubject g x
-  subject_here g x stands below = subst (λ h. IsSubject h x) stands ((subject-is_worker x).1 below)
+  pub subject_here : (g : ProtectionGraph) (x : ℕ) → StandsFor s g → IsActive s.heap x → IsSubject g x
+  subject_here g x stands active = subst (λ (names : List ℕ). Contains names x) (subjects_of g stands) active
 
-  pub no_subject : (g : ProtectionGraph) (x : ℕ) → StandsFor s g → length s.heap.workers ≤ x → IsSubject g x → ⊥
-  no_subject g x stands high subject =
-      let below = (subject-is_worker x).0 (subst (λ h. IsSubject h x) (sym stands) subject) in omega (arith, below, high)
+  pub active_here : (g : ProtectionGraph) (x : ℕ) → StandsFor s g → IsSubject g x → IsActive s.heap x
+  active_here g x stands subject = subst (λ (names : List ℕ). Contains names x) (sym (subjects_of g stands)) subject

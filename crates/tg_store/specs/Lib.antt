@@ -1,4 +1,5 @@
 pub mod Store
 pub mod Faults
 pub mod Held
+pub mod Making
 pub mod Room

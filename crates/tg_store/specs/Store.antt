@@ -31,13 +31,13 @@ graph_of_store s = graph_after (start_of s.opening) s.entries
 abbrev pub StandsFor : StoreState → ProtectionGraph → Type 0
 StandsFor s g = graph_of_store s ≡ g
 
--- What holds of every store: its journal is a legal history of its opening, and its heap, which has the opening's
--- workers, stands for the graph after it.
+-- What holds of every store: its journal is a legal history of its opening, and its heap stands for the graph after it, whose
+-- subjects are the heap's active ones.
 pub record IsFaithful (s : StoreState) : Type 0 where
   pub plan : IsPlan s.opening
   pub legal : IsLegal (start_of s.opening) s.entries
   pub stands : standing.IsContentOf (content_of s.heap) (graph_of_store s)
-  pub workers : length s.heap.workers ≡ s.opening.workers
+  pub subjects : graph.subject_names s.heap ≡ (graph_of_store s).subjects
 
 -- the same, and so many vertices were ever made
 pub record IsStore (s : StoreState) (made : ℕ) : Type 0 where

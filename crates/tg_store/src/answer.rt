@@ -1,12 +1,13 @@
 //! How a command is answered on the heap, before anything is entered in the journal.
-ghost use Rattle.std.specs.Prelude.{◌≡◌, ◌≢◌, ◌↔◌, ◌<◌, ◌+◌, None, Err, Some, IsTrue, IfOk, OnOk, OnErr, length};
+ghost use Rattle.std.specs.Prelude.{◌≡◌, ◌≢◌, ◌↔◌, None, Err, Some, IsTrue, IfOk, OnOk, OnErr};
 ghost use Rattle.tg_model.specs.Graph.{ProtectionGraph, IsSubject};
 ghost use Rattle.tg_model.specs.Rules.{answer_of, denial_of, step};
 ghost use Rattle.tg_model.specs.declared.command.Deed.TheVariants.{Plain};
-ghost use Rattle.tg_graph.specs.Heap.{IsUnchangedHeap, content_of};
+ghost use Rattle.tg_graph.specs.Heap.{IsUnchangedHeap, content_of, subject_names};
 ghost use Rattle.tg_graph.specs.Standing.{IsContentOf};
 ghost use Rattle.tg_rules.specs.Effect.{AddsEdge, LacksCellsToServe, OnlyLooks};
 ghost use Rattle.tg_rules.specs.Parties.{AreParties};
+ghost use Rattle.tg_rules.specs.Verdict.{HasSubject};
 
 use crate::fault::ApplyFault;
 use std::alloc::Global;
@@ -14,6 +15,7 @@ use tg_graph::Heap;
 use tg_model::{Command, Denial, Reply};
 use tg_payload::Payload;
 use tg_rules::{Parties, find_parties, perform_between};
+use tg_subjects::Subject;
 
 // A reply twice: for the one who asked, and for the journal.
 #[derive(Drop)]
@@ -29,29 +31,30 @@ pub(crate) struct Replies {
 pub(crate) fn answer_command<P: Payload>(
     alloc: Global,
     heap: &mut Heap<P>,
-    worker: u64,
+    subject: Subject,
     command: &Command,
 ) -> Result<Replies, ApplyFault>
-    requires { worker < length heap.old.workers }
+    requires { HasSubject heap.old subject }
     ensures copy { IfOk result (λ answer. answer.copy ≡ answer.reply) }
-    ensures reply { (g : ProtectionGraph) → IsContentOf (content_of heap.old) g → IsSubject g worker →
-        IfOk result (λ answer. answer.reply ≡ answer_of g worker (Plain command.now)) }
-    ensures step { (g : ProtectionGraph) → IsContentOf (content_of heap.old) g → IsSubject g worker →
-        OnOk result (IsContentOf (content_of heap.new) (step g worker (Plain command.now))) }
-    ensures denied { (denial : Denial) → denial_of (content_of heap.old).label (content_of heap.old).value worker command.now ≡ Some denial → heap.new ≡ heap.old }
-    ensures workers { heap.new.workers ≡ heap.old.workers }
+    ensures reply { (g : ProtectionGraph) → IsContentOf (content_of heap.old) g → IsSubject g subject.name →
+        IfOk result (λ answer. answer.reply ≡ answer_of g subject.name (Plain command.now)) }
+    ensures step { (g : ProtectionGraph) → IsContentOf (content_of heap.old) g → IsSubject g subject.name →
+        OnOk result (IsContentOf (content_of heap.new) (step g subject.name (Plain command.now))) }
+    ensures denied { (denial : Denial) → denial_of (content_of heap.old).label (content_of heap.old).value subject.name command.now ≡ Some denial → heap.new ≡ heap.old }
+    ensures subjects { (g : ProtectionGraph) → IsContentOf (content_of heap.old) g → IsSubject g subject.name → subject_names heap.old ≡ g.subjects →
+        OnOk result (subject_names heap.new ≡ (step g subject.name (Plain command.now)).subjects) }
     ensures limits { heap.new.table.limits ≡ heap.old.table.limits }
     ensures refused { OnErr result (IsUnchangedHeap heap.old heap.new) }
     ensures worker { result ≢ Err ApplyFault.NoSuchWorker }
-    ensures full { result ≡ Err ApplyFault.HeapFull → (denial_of (content_of heap.old).label (content_of heap.old).value worker command.now ≡ None)
-        × AddsEdge command.now × LacksCellsToServe heap.old.table worker command.now }
+    ensures full { result ≡ Err ApplyFault.HeapFull → (denial_of (content_of heap.old).label (content_of heap.old).value subject.name command.now ≡ None)
+        × AddsEdge command.now × LacksCellsToServe heap.old.table subject.nursery subject.name command.now }
 {
-    match find_parties(heap, worker, command) {
+    match find_parties(heap, subject, command) {
         Ok(parties) => {
             if only_looks(command) {
-                look(alloc, heap, worker, command, parties)
+                look(alloc, heap, subject, command, parties)
             } else {
-                change(heap, worker, command, parties)
+                change(heap, subject, command, parties)
             }
         }
         Err(denial) => Ok(denied(&denial)),
@@ -75,26 +78,27 @@ fn denied(denial: &Denial) -> Replies
 fn look<P: Payload>(
     alloc: Global,
     heap: &mut Heap<P>,
-    worker: u64,
+    subject: Subject,
     command: &Command,
     parties: Parties,
 ) -> Result<Replies, ApplyFault>
-    requires worker { worker < length heap.old.workers }
-    requires parties { AreParties heap.old worker command.now parties }
-    requires served { denial_of (content_of heap.old).label (content_of heap.old).value worker command.now ≡ None }
+    requires subject { HasSubject heap.old subject }
+    requires parties { AreParties heap.old subject.name command.now parties }
+    requires served { denial_of (content_of heap.old).label (content_of heap.old).value subject.name command.now ≡ None }
     requires looks { OnlyLooks command.now }
     ensures copy { IfOk result (λ answer. answer.copy ≡ answer.reply) }
-    ensures reply { (g : ProtectionGraph) → IsContentOf (content_of heap.old) g → IsSubject g worker →
-        IfOk result (λ answer. answer.reply ≡ answer_of g worker (Plain command.now)) }
-    ensures step { (g : ProtectionGraph) → IsContentOf (content_of heap.old) g → IsSubject g worker →
-        OnOk result (IsContentOf (content_of heap.new) (step g worker (Plain command.now))) }
-    ensures workers { heap.new.workers ≡ heap.old.workers }
+    ensures reply { (g : ProtectionGraph) → IsContentOf (content_of heap.old) g → IsSubject g subject.name →
+        IfOk result (λ answer. answer.reply ≡ answer_of g subject.name (Plain command.now)) }
+    ensures step { (g : ProtectionGraph) → IsContentOf (content_of heap.old) g → IsSubject g subject.name →
+        OnOk result (IsContentOf (content_of heap.new) (step g subject.name (Plain command.now))) }
+    ensures subjects { (g : ProtectionGraph) → IsContentOf (content_of heap.old) g → IsSubject g subject.name → subject_names heap.old ≡ g.subjects →
+        OnOk result (subject_names heap.new ≡ (step g subject.name (Plain command.now)).subjects) }
     ensures limits { heap.new.table.limits ≡ heap.old.table.limits }
     ensures refused { OnErr result (IsUnchangedHeap heap.old heap.new) }
     ensures worker { result ≢ Err ApplyFault.NoSuchWorker }
     ensures full { result ≢ Err ApplyFault.HeapFull }
 {
-    let reply = perform_between(heap, worker, command, parties)?;
+    let reply = perform_between(heap, subject, command, parties)?;
     let copy = reply.copy(alloc)?;
     Ok(Replies { reply, copy })
 }
@@ -103,26 +107,27 @@ fn look<P: Payload>(
 #[inline(always)]
 fn change<P: Payload>(
     heap: &mut Heap<P>,
-    worker: u64,
+    subject: Subject,
     command: &Command,
     parties: Parties,
 ) -> Result<Replies, ApplyFault>
-    requires worker { worker < length heap.old.workers }
-    requires parties { AreParties heap.old worker command.now parties }
-    requires served { denial_of (content_of heap.old).label (content_of heap.old).value worker command.now ≡ None }
+    requires subject { HasSubject heap.old subject }
+    requires parties { AreParties heap.old subject.name command.now parties }
+    requires served { denial_of (content_of heap.old).label (content_of heap.old).value subject.name command.now ≡ None }
     requires changes { ¬ OnlyLooks command.now }
     ensures copy { IfOk result (λ answer. answer.copy ≡ answer.reply) }
-    ensures reply { (g : ProtectionGraph) → IsContentOf (content_of heap.old) g → IsSubject g worker →
-        IfOk result (λ answer. answer.reply ≡ answer_of g worker (Plain command.now)) }
-    ensures step { (g : ProtectionGraph) → IsContentOf (content_of heap.old) g → IsSubject g worker →
-        OnOk result (IsContentOf (content_of heap.new) (step g worker (Plain command.now))) }
-    ensures workers { heap.new.workers ≡ heap.old.workers }
+    ensures reply { (g : ProtectionGraph) → IsContentOf (content_of heap.old) g → IsSubject g subject.name →
+        IfOk result (λ answer. answer.reply ≡ answer_of g subject.name (Plain command.now)) }
+    ensures step { (g : ProtectionGraph) → IsContentOf (content_of heap.old) g → IsSubject g subject.name →
+        OnOk result (IsContentOf (content_of heap.new) (step g subject.name (Plain command.now))) }
+    ensures subjects { (g : ProtectionGraph) → IsContentOf (content_of heap.old) g → IsSubject g subject.name → subject_names heap.old ≡ g.subjects →
+        OnOk result (subject_names heap.new ≡ (step g subject.name (Plain command.now)).subjects) }
     ensures limits { heap.new.table.limits ≡ heap.old.table.limits }
     ensures refused { OnErr result (IsUnchangedHeap heap.old heap.new) }
     ensures worker { result ≢ Err ApplyFault.NoSuchWorker }
-    ensures full { result ≡ Err ApplyFault.HeapFull → AddsEdge command.now × LacksCellsToServe heap.old.table worker command.now }
+    ensures full { result ≡ Err ApplyFault.HeapFull → AddsEdge command.now × LacksCellsToServe heap.old.table subject.nursery subject.name command.now }
 {
-    let _done = perform_between(heap, worker, command, parties)?;
+    let _done = perform_between(heap, subject, command, parties)?;
     Ok(Replies {
         reply: Reply::Done,
         copy: Reply::Done,

@@ -44,7 +44,7 @@ pub enum ApplyFault {
     HeapFull,
 }
 
-/// Why no vertex was made. The store is as it was, but that `VerticesFull` has an entry in the journal.
+/// Why no vertex was made. The store is as it was, but that `VerticesFull` and `WorkersFull` have an entry in the journal.
 #[derive(Clone, Copy, PartialEq, Eq, Debug, Error)]
 pub enum CreateFault {
     /// The one who asks is no worker.
@@ -53,6 +53,9 @@ pub enum CreateFault {
     /// As many vertices were made as may be.
     #[error("no more vertices may be made")]
     VerticesFull,
+    /// As many subjects are active as may be. Only a spawn meets it.
+    #[error("no more subjects may be active")]
+    WorkersFull,
     /// There was no memory for the entry, the payload's place or a block.
     #[error("out of memory")]
     OutOfMemory,

@@ -5,7 +5,7 @@
 //! or denied, has one entry with its reply, and so has each create that makes a vertex or finds that no more may be
 //! made. The graph that a store stands for (`StandsFor`) is that of its opening after the deeds of its journal, and
 //! each call is told by it: [`Store::apply`] answers what the rules answer on that graph, and then the store stands for
-//! the next graph by the rules; so does [`Store::create`].
+//! the next graph by the rules; so do [`Store::create`] and [`Store::spawn`].
 //!
 //! ```text
 //!     opening --deeds of the journal--> graph        what every reply is told by; no collection enters it
@@ -21,8 +21,8 @@
 //! heap has, and neither the journal nor the graph: afterwards the heap has exactly what can be reached, and the
 //! payloads of all other vertices were dropped.
 //!
-//! A call that is refused leaves the store as it was, and hands back what it was handed; only a create for which there
-//! are too many vertices makes an entry too. Room for the entry comes first, and so does the copy of the reply; what a
+//! A call that is refused leaves the store as it was, and hands back what it was handed; only a create or a spawn for which there
+//! are too many vertices, or too many subjects, makes an entry too. Room for the entry comes first, and so does the copy of the reply; what a
 //! command needs of the heap comes next: see 'Why the entry comes last' in docs/ARCHITECTURE.md.
 //!
 //! A store is generic in its payloads, and a box of a payload is a payload (`tg_payload`): so payloads of several kinds
@@ -33,6 +33,7 @@ mod answer;
 mod census;
 mod fault;
 pub mod laws;
+mod making;
 mod store;
 mod store_fault;
 

@@ -1,22 +1,24 @@
 //! The store and its calls.
-ghost use Rattle.std.specs.Prelude.{◌≡◌, ◌≢◌, ◌↔◌, ◌⊎◌, ◌≤◌, ◌<◌, ◌+◌, ℕ, [], Err, Ok, Some, IfOk, IfErr, IfSome, IsSome, IsTrue, IsErrAnd, OnOk, OnErr, MatchOption, length};
+ghost use Rattle.std.specs.Prelude.{◌≡◌, ◌≢◌, ◌↔◌, ◌⊎◌, ◌≤◌, ◌<◌, ◌+◌, ◌^◌, ℕ, [], Err, Ok, None, Some, IfOk, IfErr, IfSome, IsSome, IsTrue, IsErrAnd, OnOk, OnErr, MatchOption, length};
 ghost use Rattle.tg_model.specs.Rules.{step};
 ghost use Rattle.tg_store.specs.Faults.{IsFirstDifference};
 
 use crate::answer::{Replies, answer_command};
 use crate::census::Census;
 use crate::fault::{ApplyFault, CreateFault, CreateRefused, OpenFault, OpenRefused};
+use crate::making::{Limit, Making, add_vertex, deed_to_enter};
 use std::alloc::{AllocError, Global};
 use std::marker::Model;
 use tg_block::Block;
 use tg_evac::{CollectFault, Copied, collect_one};
 use tg_graph::{Heap, HeapRefused};
 use tg_journal::{Entry, Journal};
-use tg_model::{Command, Deed, Opening, Reply, Value};
+use tg_model::{Command, Deed, MAX_WORKERS, Opening, Reply, Value};
 use tg_payload::{Draft, Payload};
 use tg_rights::Label;
 use tg_rules::readable;
 use tg_space::{Kind, Limits, Root, Spaces};
+use tg_subjects::Subject;
 use tg_word::OLD;
 
 /// An object store with access control, over payloads that its callers hand in. Contracts see it as a `StoreState`,
@@ -47,6 +49,7 @@ impl<P: Payload> Store<P> {
     ghost use Rattle.tg_model.specs.Graph.{ProtectionGraph, IsSubject, IsReachable};
     ghost use Rattle.tg_model.specs.Opened.{start_of};
     ghost use Rattle.tg_model.specs.Rules.{IsAllowed, step, answer_of};
+    ghost use Rattle.tg_model.specs.declared.opening.TheConstants.{MAX_WORKERS};
     ghost use Rattle.tg_model.specs.declared.reply.Denial.{Denial};
     ghost use Rattle.tg_space.specs.Collection.{AreFewBlocks, copies_in, IsCollection, used_cells};
     ghost use Rattle.tg_space.specs.Generations.{AreNeeded};
@@ -56,16 +59,20 @@ impl<P: Payload> Store<P> {
     ghost use Rattle.tg_space.specs.Targets.{all_root_targets, from_space};
     ghost use Rattle.tg_payload.specs.Table.{count};
     ghost use Rattle.tg_graph.specs.Content.{IsNamed};
-    ghost use Rattle.tg_graph.specs.Heap.{CollectAlike, content_of, roots_of};
+    ghost use Rattle.tg_word.specs.Word.{nursery_space};
+    ghost use Rattle.tg_graph.specs.Heap.{CollectAlike, content_of, nursery_of, roots_of};
     ghost use Rattle.tg_graph.specs.Shown.{shown_in};
     ghost use Rattle.std.specs.Prelude.{◌==◌};
     ghost use Rattle.std.specs.List.{IsDistinct};
+    ghost use Rattle.tg_subjects.specs.Subjects.{AreSubjects, names_of};
     ghost use Rattle.tg_graph.specs.Spots.{IsMadeInRow, LacksCellsFor};
     ghost use Rattle.tg_graph.specs.Kept.{VerticesOfOldStay};
     ghost use Rattle.tg_rules.specs.Effect.{AddsEdge, LacksCellsToServe};
     ghost use Rattle.tg_store.specs.Held.{IsHeldOver};
+    ghost use Rattle.tg_store.specs.Making.{IsLimitMet, deed_making};
+    ghost use Rattle.tg_store.specs.declared.making.Limit.{Limit as LimitOf};
     ghost use Rattle.tg_store.specs.Room.{LacksRoomToCollect};
-    ghost use Rattle.tg_store.specs.Store.{Enters, HasAdopted, HasFewBlocks, IsCountOf, IsFaithful, IsUnchanged, OnlyEnters, StandsFor};
+    ghost use Rattle.tg_store.specs.Store.{Enters, HasAdopted, HasFewBlocks, IsCountOf, IsFaithful, IsUnchanged, OnlyEnters, StandsFor, graph_of_store};
 
     /// A store that starts from the opening, with the payloads of the drafts, one for each worker, and with no entry in
     /// its journal. Its heap takes a block for each worker and no more. `PayloadMismatch` is answered exactly where the
@@ -113,6 +120,22 @@ impl<P: Payload> Store<P> {
         &self.opening
     }
 
+    /// The active subjects, by rising name: those of the graph that the store stands for. Takes no memory.
+    pub fn subjects(&self) -> &[Subject]
+        ensures subjects { result.now ≡ self.now.heap.subjects }
+        ensures names { (g : ProtectionGraph) → StandsFor self.now g → names_of result.now ≡ g.subjects }
+        ensures well_formed { AreSubjects result.now }
+    {
+        self.heap.subjects()
+    }
+
+    /// Whether an active subject has the name. Takes no memory.
+    pub fn is_subject(&self, name: u64) -> bool
+        ensures { (g : ProtectionGraph) → StandsFor self.now g → IsTrue result ↔ IsSubject g name }
+    {
+        self.heap.subject(name).is_some()
+    }
+
     /// What was decided since the store was opened. What holds of every store is told here: the journal is a legal
     /// history of the opening, and the heap stands for the graph after it. Takes no memory.
     pub fn journal(&self) -> &Journal
@@ -150,16 +173,21 @@ impl<P: Payload> Store<P> {
         ensures denied { (denial : Denial) → result ≡ Ok (Reply.Denied denial) → OnlyEnters self.old self.new worker (Deed.Plain command) (Reply.Denied denial) }
         ensures no_such_worker { (g : ProtectionGraph) → StandsFor self.old g → (result ≡ Err ApplyFault.NoSuchWorker) ↔ (¬ IsSubject g worker) }
         ensures full { (g : ProtectionGraph) → StandsFor self.old g → result ≡ Err ApplyFault.HeapFull →
-            IsAllowed g worker (Deed.Plain command) × AddsEdge command × LacksCellsToServe self.old.heap.table worker command }
+            IsAllowed g worker (Deed.Plain command) × AddsEdge command × LacksCellsToServe self.old.heap.table (nursery_of self.old.heap worker) worker command }
         ensures refused { OnErr result (IsUnchanged self.old self.new) }
         ensures opening { self.new.opening ≡ self.old.opening }
         ensures limits { self.new.heap.table.limits ≡ self.old.heap.table.limits }
     {
-        if worker >= self.heap.workers() {
+        let Some(subject) = self.heap.subject(worker) else {
             return Err(ApplyFault::NoSuchWorker);
-        }
+        };
         self.journal.reserve()?;
-        let Replies { reply, copy } = answer_command(self.alloc, &mut self.heap, worker, &command)?;
+        let Replies { reply, copy } = answer_command(
+            self.alloc,
+            &mut self.heap,
+            subject,
+            &command,
+        )?;
         self.journal.push(Entry {
             worker,
             deed: Deed::Plain(command),
@@ -188,7 +216,7 @@ impl<P: Payload> Store<P> {
         ensures step { (g : ProtectionGraph) → StandsFor self.old g → OnOk result (StandsFor self.new (step g worker (Deed.Create label draft.law draft.state))) }
         ensures stored { IfOk result (λ name. IsNamed (content_of self.new.heap) name × ((content_of self.new.heap).value name ≡ Some draft)) }
         ensures placed { IfOk result (λ name. IsMadeInRow self.old.heap.table self.new.heap.table self.old.heap.remembered self.new.heap.remembered
-            (worker + 2) worker name label) }
+            (nursery_space (nursery_of self.old.heap worker)) worker name label) }
         ensures no_such_worker { (g : ProtectionGraph) → StandsFor self.old g → IsErrAnd result (λ refused. refused.why ≡ CreateFault.NoSuchWorker) ↔ (¬ IsSubject g worker) }
         ensures no_more { (g : ProtectionGraph) → StandsFor self.old g → IfErr result (λ refused. refused.why ≡ CreateFault.VerticesFull → IsSubject g worker × (g.limit ≤ g.made)) }
         ensures exhausted { (g : ProtectionGraph) → StandsFor self.old g → IsSubject g worker → g.limit ≤ g.made →
@@ -196,29 +224,111 @@ impl<P: Payload> Store<P> {
         ensures no_more_entry { IfErr result (λ refused. refused.why ≡ CreateFault.VerticesFull →
             OnlyEnters self.old self.new worker (Deed.Create label draft.law draft.state) Reply.VerticesFull) }
         ensures full { (g : ProtectionGraph) → StandsFor self.old g → IfErr result (λ refused. refused.why ≡ CreateFault.HeapFull →
-            IsAllowed g worker (Deed.Create label draft.law draft.state) × LacksCellsFor self.old.heap.table (worker + 2) 1 worker g.made) }
+            IsAllowed g worker (Deed.Create label draft.law draft.state) × LacksCellsFor self.old.heap.table (nursery_space (nursery_of self.old.heap worker)) 1 worker g.made) }
+        ensures no_workers_full { IfErr result (λ refused. refused.why ≢ CreateFault.WorkersFull) }
         ensures refused { IfErr result (λ refused. refused.why ≢ CreateFault.VerticesFull → IsUnchanged self.old self.new) }
         ensures same_graph { (g : ProtectionGraph) → StandsFor self.old g → OnErr result (StandsFor self.new g) }
         ensures handed_back { IfErr result (λ refused. refused.draft ≡ draft) }
         ensures opening { self.new.opening ≡ self.old.opening }
         ensures limits { self.new.heap.table.limits ≡ self.old.heap.table.limits }
     {
-        if worker >= self.heap.workers() {
+        self.make(worker, Making::Object, label, draft)
+    }
+
+    /// Makes a vertex as [`create`](Store::create) does, which is a subject too: it issues commands of its own, as a worker. Its
+    /// name is the next one, above all names ever given, and it is the last of the active subjects.
+    ///
+    /// Refusals are looked for in this order: `NoSuchWorker` exactly where no active subject has the name of the one who asks;
+    /// `OutOfMemory` for the entry; `VerticesFull` exactly where as many vertices were made as may be; `WorkersFull` exactly where
+    /// more may be made, and 64 subjects are active; then `OutOfMemory` or `HeapFull` as `create` has them. After a fault the draft
+    /// is handed back and the store is as it was; but `VerticesFull` and `WorkersFull` have an entry.
+    pub fn spawn(
+        &mut self,
+        worker: u64,
+        label: Label,
+        draft: Draft<P>,
+    ) -> Result<u64, CreateRefused<P>>
+        ensures entry { IfOk result (λ name. Enters self.old self.new worker (Deed.Spawn label draft.law draft.state) (Reply.Name name)) }
+        ensures name { (g : ProtectionGraph) → StandsFor self.old g → IfOk result (λ name. answer_of g worker (Deed.Spawn label draft.law draft.state) ≡ Reply.Name name) }
+        ensures step { (g : ProtectionGraph) → StandsFor self.old g → OnOk result (StandsFor self.new (step g worker (Deed.Spawn label draft.law draft.state))) }
+        ensures stored { IfOk result (λ name. IsNamed (content_of self.new.heap) name × ((content_of self.new.heap).value name ≡ Some draft)) }
+        ensures placed { IfOk result (λ name. IsMadeInRow self.old.heap.table self.new.heap.table self.old.heap.remembered self.new.heap.remembered
+            (nursery_space (nursery_of self.old.heap worker)) worker name label) }
+        ensures no_such_worker { (g : ProtectionGraph) → StandsFor self.old g → IsErrAnd result (λ refused. refused.why ≡ CreateFault.NoSuchWorker) ↔ (¬ IsSubject g worker) }
+        ensures no_more { (g : ProtectionGraph) → StandsFor self.old g → IfErr result (λ refused. refused.why ≡ CreateFault.VerticesFull → IsSubject g worker × (g.limit ≤ g.made)) }
+        ensures exhausted { (g : ProtectionGraph) → StandsFor self.old g → IsSubject g worker → g.limit ≤ g.made →
+            IsErrAnd result (λ refused. (refused.why ≡ CreateFault.VerticesFull) ⊎ (refused.why ≡ CreateFault.OutOfMemory)) }
+        ensures no_more_entry { IfErr result (λ refused. refused.why ≡ CreateFault.VerticesFull →
+            OnlyEnters self.old self.new worker (Deed.Spawn label draft.law draft.state) Reply.VerticesFull) }
+        ensures full { (g : ProtectionGraph) → StandsFor self.old g → IfErr result (λ refused. refused.why ≡ CreateFault.HeapFull →
+            IsAllowed g worker (Deed.Spawn label draft.law draft.state) × LacksCellsFor self.old.heap.table (nursery_space (nursery_of self.old.heap worker)) 1 worker g.made) }
+        ensures too_many { (g : ProtectionGraph) → StandsFor self.old g → IfErr result (λ refused. refused.why ≡ CreateFault.WorkersFull →
+            IsSubject g worker × (g.made < g.limit) × (MAX_WORKERS ≤ length g.subjects)) }
+        ensures crowded { (g : ProtectionGraph) → StandsFor self.old g → IsSubject g worker → g.made < g.limit → MAX_WORKERS ≤ length g.subjects →
+            IsErrAnd result (λ refused. (refused.why ≡ CreateFault.WorkersFull) ⊎ (refused.why ≡ CreateFault.OutOfMemory)) }
+        ensures too_many_entry { IfErr result (λ refused. refused.why ≡ CreateFault.WorkersFull →
+            OnlyEnters self.old self.new worker (Deed.Spawn label draft.law draft.state) Reply.WorkersFull) }
+        ensures refused { IfErr result (λ refused. refused.why ≢ CreateFault.VerticesFull → refused.why ≢ CreateFault.WorkersFull → IsUnchanged self.old self.new) }
+        ensures same_graph { (g : ProtectionGraph) → StandsFor self.old g → OnErr result (StandsFor self.new g) }
+        ensures handed_back { IfErr result (λ refused. refused.draft ≡ draft) }
+        ensures opening { self.new.opening ≡ self.old.opening }
+        ensures limits { self.new.heap.table.limits ≡ self.old.heap.table.limits }
+    {
+        self.make(worker, Making::Subject, label, draft)
+    }
+
+    // What `create` and `spawn` do: the first refusal, or the vertex and then its entry.
+    fn make(
+        &mut self,
+        worker: u64,
+        kind: Making,
+        label: Label,
+        draft: Draft<P>,
+    ) -> Result<u64, CreateRefused<P>>
+        ensures entry { IfOk result (λ name. Enters self.old self.new worker (deed_making kind label draft) (Reply.Name name)) }
+        ensures name { (g : ProtectionGraph) → StandsFor self.old g → IfOk result (λ name. answer_of g worker (deed_making kind label draft) ≡ Reply.Name name) }
+        ensures step { (g : ProtectionGraph) → StandsFor self.old g → OnOk result (StandsFor self.new (step g worker (deed_making kind label draft))) }
+        ensures stored { IfOk result (λ name. IsNamed (content_of self.new.heap) name × ((content_of self.new.heap).value name ≡ Some draft)) }
+        ensures placed { IfOk result (λ name. IsMadeInRow self.old.heap.table self.new.heap.table self.old.heap.remembered self.new.heap.remembered
+            (nursery_space (nursery_of self.old.heap worker)) worker name label) }
+        ensures no_such_worker { (g : ProtectionGraph) → StandsFor self.old g → IsErrAnd result (λ refused. refused.why ≡ CreateFault.NoSuchWorker) ↔ (¬ IsSubject g worker) }
+        ensures no_more { (g : ProtectionGraph) → StandsFor self.old g → IfErr result (λ refused. refused.why ≡ CreateFault.VerticesFull → IsSubject g worker × (g.limit ≤ g.made)) }
+        ensures exhausted { (g : ProtectionGraph) → StandsFor self.old g → IsSubject g worker → g.limit ≤ g.made →
+            IsErrAnd result (λ refused. (refused.why ≡ CreateFault.VerticesFull) ⊎ (refused.why ≡ CreateFault.OutOfMemory)) }
+        ensures no_more_entry { IfErr result (λ refused. refused.why ≡ CreateFault.VerticesFull →
+            OnlyEnters self.old self.new worker (deed_making kind label draft) Reply.VerticesFull) }
+        ensures full { (g : ProtectionGraph) → StandsFor self.old g → IfErr result (λ refused. refused.why ≡ CreateFault.HeapFull →
+            IsAllowed g worker (deed_making kind label draft) × LacksCellsFor self.old.heap.table (nursery_space (nursery_of self.old.heap worker)) 1 worker g.made) }
+        ensures too_many { (g : ProtectionGraph) → StandsFor self.old g → IfErr result (λ refused. refused.why ≡ CreateFault.WorkersFull →
+            (kind ≡ Making.Subject) × IsSubject g worker × (g.made < g.limit) × (MAX_WORKERS ≤ length g.subjects)) }
+        ensures crowded { kind ≡ Making.Subject → (g : ProtectionGraph) → StandsFor self.old g → IsSubject g worker → g.made < g.limit → MAX_WORKERS ≤ length g.subjects →
+            IsErrAnd result (λ refused. (refused.why ≡ CreateFault.WorkersFull) ⊎ (refused.why ≡ CreateFault.OutOfMemory)) }
+        ensures too_many_entry { IfErr result (λ refused. refused.why ≡ CreateFault.WorkersFull →
+            OnlyEnters self.old self.new worker (deed_making kind label draft) Reply.WorkersFull) }
+        ensures refused { IfErr result (λ refused. refused.why ≢ CreateFault.VerticesFull → refused.why ≢ CreateFault.WorkersFull → IsUnchanged self.old self.new) }
+        ensures same_graph { (g : ProtectionGraph) → StandsFor self.old g → OnErr result (StandsFor self.new g) }
+        ensures handed_back { IfErr result (λ refused. refused.draft ≡ draft) }
+        ensures opening { self.new.opening ≡ self.old.opening }
+        ensures limits { self.new.heap.table.limits ≡ self.old.heap.table.limits }
+    {
+        let Some(_) = self.heap.subject(worker) else {
             return create_refused(draft, CreateFault::NoSuchWorker);
-        }
-        let Ok(deed) = deed_to_enter(self.alloc, &mut self.journal, label, draft.value()) else {
+        };
+        let met = self.limit_met(kind);
+        let Ok(deed) = deed_to_enter(self.alloc, &mut self.journal, kind, label, draft.value())
+        else {
             return create_refused(draft, CreateFault::OutOfMemory);
         };
-        let name = self.made;
-        if name >= self.opening.max_vertices() {
+        if let Some(limit) = met {
             self.journal.push(Entry {
                 worker,
                 deed,
-                reply: Reply::VerticesFull,
+                reply: limit.reply(),
             });
-            return create_refused(draft, CreateFault::VerticesFull);
+            return create_refused(draft, limit.fault());
         }
-        self.heap.new_vertex(worker, name, label, draft)?;
+        let name = self.made;
+        add_vertex(&mut self.heap, worker, kind, name, label, draft)?;
         self.journal.push(Entry {
             worker,
             deed,
@@ -226,6 +336,32 @@ impl<P: Payload> Store<P> {
         });
         self.made += 1;
         Ok(name)
+    }
+
+    // The first limit that stands in the way of one more vertex of the kind.
+    fn limit_met(&self, kind: Making) -> Option<Limit>
+        ensures met { IsLimitMet (graph_of_store self.now) kind result }
+        ensures range { (graph_of_store self.now).limit < 2 ^ 64 }
+    {
+        if self.made >= self.opening.max_vertices() {
+            return Some(Limit::Vertices);
+        }
+        match kind {
+            Making::Object => None,
+            Making::Subject => self.subjects_limit(),
+        }
+    }
+
+    // The limit of subjects, where as many are active as may be.
+    fn subjects_limit(&self) -> Option<Limit>
+        ensures none { result ≡ None → length (graph_of_store self.now).subjects < MAX_WORKERS }
+        ensures some { (limit : LimitOf) → result ≡ Some limit → (limit ≡ Limit.Subjects) × (MAX_WORKERS ≤ length (graph_of_store self.now).subjects) }
+    {
+        if self.heap.subjects().len() as u64 >= MAX_WORKERS {
+            Some(Limit::Subjects)
+        } else {
+            None
+        }
     }
 
     /// What the vertex with a name stores, where a worker may read it: `Some` exactly where a read command of the worker would
@@ -236,9 +372,9 @@ impl<P: Payload> Store<P> {
         ensures allowed { (g : ProtectionGraph) → StandsFor self.now g → IsSome result ↔ (IsSubject g worker × IsAllowed g worker (Deed.Plain (Command.Read name))) }
         ensures stored { (g : ProtectionGraph) → StandsFor self.now g → IfSome result (λ payload. g.value name ≡ Some (P.value payload.now)) }
     {
-        if worker >= self.heap.workers() {
+        let Some(_) = self.heap.subject(worker) else {
             return None;
-        }
+        };
         readable(&self.heap, worker, name)
     }
 
@@ -249,11 +385,8 @@ impl<P: Payload> Store<P> {
     pub fn label(&self, worker: u64, target: u64) -> Option<Label>
         ensures held { (g : ProtectionGraph) → StandsFor self.now g → IsHeldOver g worker target result }
     {
-        if worker >= self.heap.workers() {
-            return None;
-        }
-        let from = self.heap.worker_place(worker);
-        let found = self.heap.find_edge(from, target)?;
+        let subject = self.heap.subject(worker)?;
+        let found = self.heap.find_edge(subject.place, target)?;
         Label::new(found.rights)
     }
 
@@ -385,22 +518,6 @@ impl<P: Payload> Store<P> {
         self.heap.settle(kind, forward, adoption, remembered)?;
         Ok(self.heap.vertices())
     }
-}
-
-// The deed of a create, with a copy of the value's state, once the journal has room for its entry.
-fn deed_to_enter(
-    alloc: Global,
-    journal: &mut Journal,
-    label: Label,
-    value: &Value,
-) -> Result<Deed, AllocError>
-    ensures deed { IfOk result (λ deed. deed ≡ Deed.Create label value.now.law value.now.state) }
-    ensures room { OnOk result (0 < journal.new.spare) }
-    ensures entries { journal.new.entries ≡ journal.old.entries }
-{
-    journal.reserve()?;
-    let Value { law, state } = value.copy(alloc)?;
-    Ok(Deed::Create { label, law, state })
 }
 
 // The first place where a draft's law or state isn't that of the value; or else the smaller of the two numbers.

@@ -3,7 +3,7 @@ use Rattle.std.specs.Prelude.{ℕ, List, [], ◌∷◌, ◌++◌, Option, Some, 
 use Rattle.std.specs.List.{flat_map}
 use Rattle.tg_rights.specs.RightSet.{RightSet, text_of}
 use Rattle.tg_model.specs.declared.reply.Reply.{Reply}
-use Rattle.tg_model.specs.declared.reply.Reply.TheVariants.{Done, Name, Values, Edges, Denied, VerticesFull}
+use Rattle.tg_model.specs.declared.reply.Reply.TheVariants.{Done, Name, Values, Edges, Denied, VerticesFull, WorkersFull}
 use Rattle.tg_model.specs.declared.reply.Denial.{Denial}
 use Rattle.tg_model.specs.declared.reply.Rule.{Rule}
 use Rattle.tg_model.specs.declared.reply.Rule.TheVariants as rule
@@ -46,6 +46,7 @@ reply_text (Values values) = codes "ok" ++ flat_map value_text values
 reply_text (Edges edges) = codes "ok" ++ flat_map edge_text edges
 reply_text (Denied denial) = denial_text denial
 reply_text VerticesFull = codes "refused vertices"
+reply_text WorkersFull = codes "refused workers"
 
 abbrev pub collected_text : Option ℕ → List ℕ
 collected_text (Some count) = codes "ok " ++ decimal count
@@ -55,6 +56,7 @@ abbrev pub refusal_text : Refusal → List ℕ
 refusal_text refusal.Memory = codes "refused memory"
 refusal_text refusal.Heap = codes "refused heap"
 refusal_text refusal.Vertices = codes "refused vertices"
+refusal_text refusal.Workers = codes "refused workers"
 refusal_text refusal.Worker = codes "refused worker"
 refusal_text refusal.Threads = codes "refused threads"
 refusal_text refusal.Stock = codes "refused stock"

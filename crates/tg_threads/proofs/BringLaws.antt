@@ -8,12 +8,12 @@ use Rattle.tg_weave.specs.Boxes.{Boxed, boxed_of}
 use Rattle.tg_threads.specs.Tasks.{Brings, AllBring}
 
 -- one worker more
-pub brings_more : (helpers workers : ℕ) (given : List (ℕ × List Boxed)) (all : List (Finished SessionState)) (a : ℕ × List Boxed) (f : Finished SessionState) → AllBring helpers workers given all → Brings helpers workers a.0 a.1 f.session f.told.items → AllBring helpers workers (given ++ a ∷ []) (all ++ f ∷ [])
+pub brings_more : (helpers workers : ℕ) (given : List (ℕ × List Boxed)) (all : List (Finished SessionState)) (a : ℕ × List Boxed) (f : Finished SessionState) → AllBring helpers workers given all → Brings helpers workers a.0 a.1 f → AllBring helpers workers (given ++ a ∷ []) (all ++ f ∷ [])
 brings_more helpers workers [] all a f h one = (f, [], ap (λ l. l ++ f ∷ []) h, one, refl)
 brings_more helpers workers (b ∷ given) all a f h one = (h.0, h.1 ++ f ∷ [], ap (λ l. l ++ f ∷ []) h.2, h.3, brings_more helpers workers given h.1 a f h.4 one)
 
 -- the same worker and the same lines by other names
-pub brings_as : {P E : Type 0} (helpers workers x y : ℕ) (ts us : List (Task P)) (r : Result (Finished SessionState) E) → x ≡ y → ts ≡ us → IfOk r (λ f. Brings helpers workers y (map boxed_of us) f.session f.told.items) → IfOk r (λ f. Brings helpers workers x (map boxed_of ts) f.session f.told.items)
+pub brings_as : {P E : Type 0} (helpers workers x y : ℕ) (ts us : List (Task P)) (r : Result (Finished SessionState) E) → x ≡ y → ts ≡ us → IfOk r (λ f. Brings helpers workers y (map boxed_of us) f) → IfOk r (λ f. Brings helpers workers x (map boxed_of ts) f)
 brings_as helpers workers x y ts us r same equal h =
-    subst (λ n. IfOk r (λ f. Brings helpers workers n (map boxed_of ts) f.session f.told.items)) (sym same)
-    (subst (λ l. IfOk r (λ f. Brings helpers workers y (map boxed_of l) f.session f.told.items)) (sym equal) h)
+    subst (λ n. IfOk r (λ f. Brings helpers workers n (map boxed_of ts) f)) (sym same)
+    (subst (λ l. IfOk r (λ f. Brings helpers workers y (map boxed_of l) f)) (sym equal) h)

@@ -1,18 +1,13 @@
 -- What the lines of a script came to, read with the journal at hand, is what a race may tell.
-use Rattle.std.proofs.Common.{◌≡◌, ◌<◌, ◌≤◌, ◌==◌, inl, inr, ℕ, Bool, true, false, cond, List, [], ◌∷◌, ◌++◌, map, filter, Option, Some, None, slice_get, option_to_list, refl, sym, ap, ◌∙◌, subst}
-use Rattle.std.specs.Prelude.{nat_lt}
+use Rattle.std.proofs.Common.{◌≡◌, ◌<◌, ◌≤◌, ◌==◌, ℕ, Bool, true, false, cond, List, [], ◌∷◌, ◌++◌, length, map, filter, Option, Some, None, slice_get, option_to_list, refl, sym, ap, ◌∙◌, subst, arith, ⊎_elim}
 use Rattle.std.specs.List.{All, AllZip, flat_map, zip}
 use Rattle.std.specs.Option.{option_map_or}
-use Rattle.std.proofs.lemmas.Bool.{false≢true, lt-ltb, ltb-false}
-use Rattle.std.proofs.lemmas.Option.{slice_get_within}
+use Rattle.std.proofs.lemmas.Bool.{false≢true}
+use Rattle.std.proofs.lemmas.Option.{slice_get_cases, slice_get_within}
 use Rattle.std.proofs.lemmas.List.{map-append}
 use Rattle.std.proofs.lemmas.List.Elements.{All-nil, All-cons, All-head, All-tail}
-use Rattle.tg_model.specs.declared.value.Value.{Value}
 use Rattle.tg_journal.specs.declared.entry.Entry.{Entry}
 use Rattle.tg_text.specs.declared.line.Line.{Line}
-use Rattle.tg_text.specs.declared.line.Line.TheVariants as line
-use Rattle.tg_text.specs.declared.answer.Answer.{Answer}
-use Rattle.tg_text.specs.declared.answer.Answer.TheVariants as answer
 use Rattle.tg_text.specs.declared.answer.Refusal.TheVariants as refusal
 use Rattle.tg_script.specs.Opening.{IsCommand}
 use Rattle.tg_shared.specs.declared.receipt.Receipt.{Receipt}
@@ -23,8 +18,9 @@ use Rattle.tg_weave.specs.Boxes.{Boxed}
 use Rattle.tg_weave.specs.Shares.{runner_of, is_run_by, lines_of, told_of}
 use Rattle.tg_weave.specs.Telling.{entry_answer, told_answer, IsThere, text_of_told}
 use Rattle.tg_weave.proofs.ShareLaws.{run_same, run_past, runner_below}
-use Rattle.tg_threads.specs.Output.{Tells, AreTold}
-use Rattle.tg_threads.specs.Tasks.{RunsOne, Runs}
+use Rattle.tg_threads.specs.Output.{Tells, AreTold, is_retire_of, served_behind}
+use Rattle.tg_threads.specs.Tasks.{RunsOne, Runs, served_past}
+use Rattle.tg_threads.proofs.TellLaws.{Within, made_by, nobodys_told, others_retire, told_same}
 
 -- the entry at a place that is told
 abbrev pub entry_at : List Entry → Told → Option Entry
@@ -37,111 +33,150 @@ abbrev pub made_of : List Entry → List Told → List Entry
 made_of entries ts = flat_map (λ t. option_to_list (entry_at entries t)) ts
 
 -- with this journal, what the line came to is what may be told of it
-abbrev pub Fits : ℕ → ℕ → List Entry → Boxed → Told → Type 0
-Fits helpers workers entries b t = Tells helpers workers b.line b.value (entry_at entries t) (told_answer entries t) × IsThere entries t
+abbrev pub Fits : ℕ → (ℕ → Bool) → List Entry → Boxed → Told → Type 0
+Fits helpers served entries b t = Tells helpers served b.line b.value (entry_at entries t) (told_answer entries t) × IsThere entries t
+
+-- the same of all lines, where the lines of these workers are run
+abbrev pub FitAll : ℕ → (ℕ → Bool) → List Entry → List Boxed → List Told → Type 0
+FitAll helpers served entries [] [] = Unit {0}
+FitAll helpers served entries [] (t ∷ ts) = ⊥
+FitAll helpers served entries (b ∷ bs) [] = ⊥
+FitAll helpers served entries (b ∷ bs) (t ∷ ts) = Fits helpers served entries b t × FitAll helpers (served_past served b.line t) entries bs ts
 
 -- ---- one worker's lines
 
-none_is_some : {X : Type 0} (x : X) → None ≡ Some x → ⊥
-none_is_some x h = cc
-
--- an entry that a line made is of the worker whose thread ran the line
-made_by : (helpers workers : ℕ) (l : Line) (box : Option Value) (e : Entry) (a : Answer) → Tells helpers workers l box (Some e) a → runner_of workers l ≡ Some e.worker
-made_by helpers workers (line.Edge edge) box e a h = absurd h
-made_by helpers workers (line.Create x label) (Some value) e a (inl h) = ap (λ b. cond b (Some x) None) (lt-ltb x workers h.0) ∙ ap (λ y. Some y) (sym h.1.0)
-made_by helpers workers (line.Create x label) None e a (inl h) = absurd (none_is_some e (sym h.1.0))
-made_by helpers workers (line.Create x label) box e a (inr h) = absurd (none_is_some e (sym h.1.0))
-made_by helpers workers (line.Plain x command) box e a (inl h) = ap (λ b. cond b (Some x) None) (lt-ltb x workers h.0) ∙ ap (λ y. Some y) (sym h.1.0)
-made_by helpers workers (line.Plain x command) box e a (inr h) = absurd (none_is_some e (sym h.1.0))
-made_by helpers workers line.Full box e a h = absurd (none_is_some e (sym h.1.0))
-made_by helpers workers line.Minor box e a h = absurd (none_is_some e (sym h.0))
-
 -- what the line came to, its entry, and the receipts behind its own
-one_fits : (helpers workers x : ℕ) (entries : List Entry) (b : Boxed) (t : Told) (more rs : List Receipt) → RunsOne helpers workers b t more → All (Stands entries x) (more ++ rs) →
-    Fits helpers workers entries b t × (option_to_list (entry_at entries t) ≡ map (λ r. r.entry) more) × All (Stands entries x) rs
-one_fits helpers workers x entries b (came.Entered at) more rs h stands =
+one_fits : (helpers x : ℕ) (served : ℕ → Bool) (entries : List Entry) (b : Boxed) (t : Told) (more rs : List Receipt) → RunsOne helpers served b t more → All (Stands entries x) (more ++ rs) →
+    Fits helpers served entries b t × (option_to_list (entry_at entries t) ≡ map (λ r. r.entry) more) × All (Stands entries x) rs
+one_fits helpers x served entries b (came.Entered at) more rs h stands =
     let both : All (Stands entries x) (record { at = at; entry = h.0 } ∷ rs) = subst (λ m. All (Stands entries x) (m ++ rs)) h.1 stands in
     let here : slice_get entries at ≡ Some h.0 = (All-head (Stands entries x) (record { at = at; entry = h.0 }) rs both).0 in (
-      (subst (λ o. Tells helpers workers b.line b.value o (entry_answer o)) (sym here) h.2, slice_get_within entries at h.0 here),
+      (subst (λ o. Tells helpers served b.line b.value o (entry_answer o)) (sym here) h.2, slice_get_within entries at h.0 here),
       ap option_to_list here ∙ ap (map (λ (r : Receipt). r.entry)) (sym h.1),
       All-tail (Stands entries x) (record { at = at; entry = h.0 }) rs both,
     )
-one_fits helpers workers x entries b (came.Collected kept) more rs h stands =
+one_fits helpers x served entries b (came.Collected kept) more rs h stands =
     ((h.1, tt), ap (map (λ (r : Receipt). r.entry)) (sym h.0), subst (λ m. All (Stands entries x) (m ++ rs)) h.0 stands)
-one_fits helpers workers x entries b (came.Refused r) more rs h stands =
+one_fits helpers x served entries b (came.Refused r) more rs h stands =
     ((h.1, tt), ap (map (λ (r : Receipt). r.entry)) (sym h.0), subst (λ m. All (Stands entries x) (m ++ rs)) h.0 stands)
 
-pub all_fit : (helpers workers x : ℕ) (entries : List Entry) (bs : List Boxed) (ts : List Told) (rs : List Receipt) → Runs helpers workers bs ts rs → All (Stands entries x) rs →
-    AllZip (Fits helpers workers entries) bs ts × (made_of entries ts ≡ map (λ r. r.entry) rs)
-all_fit helpers workers x entries [] ts rs h stands =
-    (subst (AllZip (Fits helpers workers entries) []) (sym h.0) tt, ap (made_of entries) h.0 ∙ ap (map (λ (r : Receipt). r.entry)) (sym h.1))
-all_fit helpers workers x entries (b ∷ bs) ts rs h stands =
-    let one = one_fits helpers workers x entries b h.0 h.2 h.3 h.6 (subst (All (Stands entries x)) h.5 stands) in
-    let rest = all_fit helpers workers x entries bs h.1 h.3 h.7 one.2 in (
-      subst (AllZip (Fits helpers workers entries) (b ∷ bs)) (sym h.4) (one.0, rest.0),
+pub all_fit : (helpers x : ℕ) (served : ℕ → Bool) (entries : List Entry) (bs : List Boxed) (ts : List Told) (rs : List Receipt) → Runs helpers served bs ts rs → All (Stands entries x) rs →
+    FitAll helpers served entries bs ts × (made_of entries ts ≡ map (λ r. r.entry) rs)
+all_fit helpers x served entries [] ts rs h stands =
+    (subst (FitAll helpers served entries []) (sym h.0) tt, ap (made_of entries) h.0 ∙ ap (map (λ (r : Receipt). r.entry)) (sym h.1))
+all_fit helpers x served entries (b ∷ bs) ts rs h stands =
+    let one = one_fits helpers x served entries b h.0 h.2 h.3 h.6 (subst (All (Stands entries x)) h.5 stands) in
+    let rest = all_fit helpers x (served_past served b.line h.0) entries bs h.1 h.3 h.7 one.2 in (
+      subst (FitAll helpers served entries (b ∷ bs)) (sym h.4) (one.0, rest.0),
       ap (made_of entries) h.4 ∙ (λ i. one.1 i ++ rest.1 i) ∙ sym (map-append (λ (r : Receipt). r.entry) h.2 h.3) ∙ ap (map (λ (r : Receipt). r.entry)) (sym h.5),
     )
 
+-- ---- whose lines are run behind a line
+
+past_within : (workers : ℕ) (served : ℕ → Bool) (l : Line) (t : Told) → Within workers served → Within workers (served_past served l t)
+past_within workers served l (came.Entered at) within = λ x is. within x (kept (is_retire_of x l) (served x) is) where
+  kept : (b c : Bool) → cond b false c ≡ true → c ≡ true
+  kept true c is = absurd (false≢true is)
+  kept false c is = is
+past_within workers served l (came.Collected kept) within = within
+past_within workers served l (came.Refused r) within = within
+
+past_same : (x : ℕ) (served other : ℕ → Bool) (l : Line) (t : Told) → served x ≡ other x → served_past served l t x ≡ served_past other l t x
+past_same x served other l (came.Entered at) same = ap (cond (is_retire_of x l) false) same
+past_same x served other l (came.Collected kept) same = same
+past_same x served other l (came.Refused r) same = same
+
+past_others : (x : ℕ) (served : ℕ → Bool) (l : Line) (t : Told) → is_retire_of x l ≡ false → served x ≡ served_past served l t x
+past_others x served l (came.Entered at) none = ap (λ b. cond b false (served x)) (sym none)
+past_others x served l (came.Collected kept) none = refl
+past_others x served l (came.Refused r) none = refl
+
+-- a line is told with its entry, where that is there
+behind_past : (entries : List Entry) (served : ℕ → Bool) (l : Line) (t : Told) → IsThere entries t → served_past served l t ≡ served_behind served l (entry_at entries t)
+behind_past entries served l (came.Entered at) there = ⊎_elim
+    (λ here. ap (λ o. served_behind served l o) (sym here.2))
+    (λ (past : (length entries ≤ at) × (slice_get entries at ≡ None)). absurd (omega (arith, there, past.0)))
+    (slice_get_cases entries at).1
+behind_past entries served l (came.Collected kept) there = refl
+behind_past entries served l (came.Refused r) there = refl
+
 -- ---- all lines
 
--- a line that no thread runs may be refused
-refused_fits : (helpers workers : ℕ) (entries : List Entry) (b : Boxed) → IsCommand b.line → runner_of workers b.line ≡ None → Fits helpers workers entries b (came.Refused refusal.Worker)
-refused_fits helpers workers entries b command by = (refused b.line command by, tt) where
-  past : (t : Bool) (x : ℕ) → nat_lt x workers ≡ t → cond t (Some x) None ≡ None → workers ≤ x
-  past true x is none = absurd (none_is_some x (sym none))
-  past false x is none = ltb-false x workers is
+-- whose lines are run, as each worker's own thread has it
+abbrev Seen : Type 0
+Seen = ℕ → ℕ → Bool
 
-  refused : (l : Line) → IsCommand l → runner_of workers l ≡ None → Tells helpers workers l b.value None (answer.Refused refusal.Worker)
-  refused (line.Edge edge) command by = absurd (false≢true command.0)
-  refused (line.Create x label) command by = inr (past (nat_lt x workers) x refl by, (refl, refl))
-  refused (line.Plain x c) command by = inr (past (nat_lt x workers) x refl by, (refl, refl))
-  refused line.Full command by = absurd (none_is_some 0 (sym by))
-  refused line.Minor command by = absurd (none_is_some 0 (sym by))
+-- and behind a line, which one of them ran
+abbrev seen_past : ℕ → Seen → Line → Told → Seen
+seen_past workers seen l t x = cond (is_run_by workers x l) (served_past (seen x) l t) (seen x)
+
+seen_same : (workers x : ℕ) (seen : Seen) (served : ℕ → Bool) (l : Line) (t : Told) → x < workers → seen x x ≡ served x → seen_past workers seen l t x x ≡ served_past served l t x
+seen_same workers x seen served l t low same = by_run (is_run_by workers x l) refl where
+  by_run : (c : Bool) → is_run_by workers x l ≡ c → cond c (served_past (seen x) l t) (seen x) x ≡ served_past served l t x
+  by_run true is = past_same x (seen x) served l t same
+  by_run false is = same ∙ past_others x served l t (others_retire workers x l low is)
 
 -- the lines of all workers, one by one
-abbrev Own : ℕ → ℕ → List Entry → List Boxed → List Told → Type 0
-Own helpers workers entries bs ts = (x : ℕ) → x < workers → AllZip (Fits helpers workers entries) (lines_of workers x bs) (told_of workers x (map (λ b. b.line) bs) ts)
+abbrev Own : ℕ → ℕ → Seen → List Entry → List Boxed → List Told → Type 0
+Own helpers workers seen entries bs ts = (x : ℕ) → x < workers → FitAll helpers (seen x) entries (lines_of workers x bs) (told_of workers x (map (λ b. b.line) bs) ts)
 
-tail_fits : (R : Boxed → Told → Type 0) (c : Bool) (b : Boxed) (t : Told) (bs : List Boxed) (ps : List (Line × Told)) → AllZip R (cond c (b ∷ bs) bs) (map (λ (q : Line × Told). q.1) (cond c ((b.line, t) ∷ ps) ps)) → AllZip R bs (map (λ (q : Line × Told). q.1) ps)
-tail_fits R true b t bs ps h = h.1
-tail_fits R false b t bs ps h = h
+tail_fits : (helpers : ℕ) (served : ℕ → Bool) (entries : List Entry) (c : Bool) (b : Boxed) (t : Told) (bs : List Boxed) (ps : List (Line × Told)) →
+    FitAll helpers served entries (cond c (b ∷ bs) bs) (map (λ (q : Line × Told). q.1) (cond c ((b.line, t) ∷ ps) ps)) → FitAll helpers (cond c (served_past served b.line t) served) entries bs (map (λ (q : Line × Told). q.1) ps)
+tail_fits helpers served entries true b t bs ps h = h.1
+tail_fits helpers served entries false b t bs ps h = h
 
-head_fits : (R : Boxed → Told → Type 0) (c : Bool) (b : Boxed) (t : Told) (bs : List Boxed) (ps : List (Line × Told)) → c ≡ true → AllZip R (cond c (b ∷ bs) bs) (map (λ (q : Line × Told). q.1) (cond c ((b.line, t) ∷ ps) ps)) → R b t
-head_fits R true b t bs ps is h = h.0
-head_fits R false b t bs ps is h = absurd (false≢true is)
+head_fits : (helpers : ℕ) (served : ℕ → Bool) (entries : List Entry) (c : Bool) (b : Boxed) (t : Told) (bs : List Boxed) (ps : List (Line × Told)) → c ≡ true →
+    FitAll helpers served entries (cond c (b ∷ bs) bs) (map (λ (q : Line × Told). q.1) (cond c ((b.line, t) ∷ ps) ps)) → Fits helpers served entries b t
+head_fits helpers served entries true b t bs ps is h = h.0
+head_fits helpers served entries false b t bs ps is h = absurd (false≢true is)
 
 -- what came of the lines of all workers and of nobody's fits each line
-pub woven : (helpers workers : ℕ) (entries : List Entry) (bs : List Boxed) (ts : List Told) → 0 < workers → All IsCommand (map (λ b. b.line) bs) →
-    AllZip (λ l t. runner_of workers l ≡ None → t ≡ came.Refused refusal.Worker) (map (λ b. b.line) bs) ts → Own helpers workers entries bs ts → AllZip (Fits helpers workers entries) bs ts
-woven helpers workers entries [] [] low commands nobodys own = tt
-woven helpers workers entries [] (t ∷ ts) low commands nobodys own = absurd nobodys
-woven helpers workers entries (b ∷ bs) [] low commands nobodys own = absurd nobodys
-woven helpers workers entries (b ∷ bs) (t ∷ ts) low commands nobodys own =
-    (by_runner (runner_of workers b.line) refl, woven helpers workers entries bs ts low (All-tail IsCommand b.line (map (λ (c : Boxed). c.line) bs) commands) nobodys.1 rest) where
-      rest : Own helpers workers entries bs ts
-      rest x below = tail_fits (Fits helpers workers entries) (is_run_by workers x b.line) b t (lines_of workers x bs) (filter (λ (q : Line × Told). is_run_by workers x q.0) (zip (map (λ (c : Boxed). c.line) bs) ts)) (own x below)
+pub woven : (helpers workers : ℕ) (served : ℕ → Bool) (seen : Seen) (entries : List Entry) (bs : List Boxed) (ts : List Told) → 0 < workers → Within workers served → ((x : ℕ) → x < workers → seen x x ≡ served x) →
+    All IsCommand (map (λ b. b.line) bs) → AllZip (λ l t. runner_of workers l ≡ None → t ≡ came.Refused refusal.Worker) (map (λ b. b.line) bs) ts → Own helpers workers seen entries bs ts → FitAll helpers served entries bs ts
+woven helpers workers served seen entries [] [] low within same commands nobodys own = tt
+woven helpers workers served seen entries [] (t ∷ ts) low within same commands nobodys own = absurd nobodys
+woven helpers workers served seen entries (b ∷ bs) [] low within same commands nobodys own = absurd nobodys
+woven helpers workers served seen entries (b ∷ bs) (t ∷ ts) low within same commands nobodys own = (
+  by_runner (runner_of workers b.line) refl,
+  woven helpers workers (served_past served b.line t) (seen_past workers seen b.line t) entries bs ts low (past_within workers served b.line t within)
+      (λ x below. seen_same workers x seen served b.line t below (same x below)) (All-tail IsCommand b.line (map (λ (c : Boxed). c.line) bs) commands) nobodys.1 rest,
+) where
+  told_by : ℕ → List (Line × Told)
+  told_by x = filter (λ (q : Line × Told). is_run_by workers x q.0) (zip (map (λ (c : Boxed). c.line) bs) ts)
 
-      by_runner : (o : Option ℕ) → runner_of workers b.line ≡ o → Fits helpers workers entries b t
-      by_runner None by =
-          subst (Fits helpers workers entries b) (sym (nobodys.0 by)) (refused_fits helpers workers entries b (All-head IsCommand b.line (map (λ (c : Boxed). c.line) bs) commands) by)
-      by_runner (Some y) by =
-          head_fits (Fits helpers workers entries) (is_run_by workers y b.line) b t (lines_of workers y bs) (filter (λ (q : Line × Told). is_run_by workers y q.0) (zip (map (λ (c : Boxed). c.line) bs) ts))
-          (run_same workers y y b.line by refl) (own y (runner_below workers y b.line low by))
+  rest : Own helpers workers (seen_past workers seen b.line t) entries bs ts
+  rest x below = tail_fits helpers (seen x) entries (is_run_by workers x b.line) b t (lines_of workers x bs) (told_by x) (own x below)
+
+  by_runner : (o : Option ℕ) → runner_of workers b.line ≡ o → Fits helpers served entries b t
+  by_runner None by =
+      subst (Fits helpers served entries b) (sym (nobodys.0 by)) (nobodys_told helpers workers served b.line b.value within (All-head IsCommand b.line (map (λ (c : Boxed). c.line) bs) commands) by, tt)
+  by_runner (Some y) by =
+      let below = runner_below workers y b.line low by in
+      let fits = head_fits helpers (seen y) entries (is_run_by workers y b.line) b t (lines_of workers y bs) (told_by y) (run_same workers y y b.line by refl) (own y below) in
+      (told_same helpers workers y (seen y) served b.line b.value (entry_at entries t) (told_answer entries t) by (same y below) fits.0, fits.1)
 
 -- the lines and their entries are told, in order
-pub fit_told : (helpers workers : ℕ) (entries : List Entry) (bs : List Boxed) (ts : List Told) → AllZip (Fits helpers workers entries) bs ts → AreTold helpers workers bs (made_of entries ts) (text_of_told entries ts)
-fit_told helpers workers entries [] [] h = (refl, refl)
-fit_told helpers workers entries [] (t ∷ ts) h = absurd h
-fit_told helpers workers entries (b ∷ bs) [] h = absurd h
-fit_told helpers workers entries (b ∷ bs) (t ∷ ts) h =
-    (entry_at entries t, told_answer entries t, made_of entries ts, text_of_told entries ts, h.0.0, refl, refl, fit_told helpers workers entries bs ts h.1)
+pub fit_told : (helpers : ℕ) (served : ℕ → Bool) (entries : List Entry) (bs : List Boxed) (ts : List Told) → FitAll helpers served entries bs ts → AreTold helpers served bs (made_of entries ts) (text_of_told entries ts)
+fit_told helpers served entries [] [] h = (refl, refl)
+fit_told helpers served entries [] (t ∷ ts) h = absurd h
+fit_told helpers served entries (b ∷ bs) [] h = absurd h
+fit_told helpers served entries (b ∷ bs) (t ∷ ts) h = (
+  entry_at entries t,
+  told_answer entries t,
+  made_of entries ts,
+  text_of_told entries ts,
+  h.0.0,
+  refl,
+  refl,
+  subst (λ after. AreTold helpers after bs (made_of entries ts) (text_of_told entries ts)) (behind_past entries served b.line t h.0.1) (fit_told helpers (served_past served b.line t) entries bs ts h.1),
+)
 
 -- each entry is where it is told to be
-pub fit_there : (helpers workers : ℕ) (entries : List Entry) (bs : List Boxed) (ts : List Told) → AllZip (Fits helpers workers entries) bs ts → All (IsThere entries) ts
-fit_there helpers workers entries [] [] h = All-nil (IsThere entries)
-fit_there helpers workers entries [] (t ∷ ts) h = absurd h
-fit_there helpers workers entries (b ∷ bs) [] h = absurd h
-fit_there helpers workers entries (b ∷ bs) (t ∷ ts) h = All-cons (IsThere entries) t ts h.0.1 (fit_there helpers workers entries bs ts h.1)
+pub fit_there : (helpers : ℕ) (served : ℕ → Bool) (entries : List Entry) (bs : List Boxed) (ts : List Told) → FitAll helpers served entries bs ts → All (IsThere entries) ts
+fit_there helpers served entries [] [] h = All-nil (IsThere entries)
+fit_there helpers served entries [] (t ∷ ts) h = absurd h
+fit_there helpers served entries (b ∷ bs) [] h = absurd h
+fit_there helpers served entries (b ∷ bs) (t ∷ ts) h = All-cons (IsThere entries) t ts h.0.1 (fit_there helpers (served_past served b.line t) entries bs ts h.1)
 
 -- ---- the entries of one worker
 
@@ -165,16 +200,16 @@ run_of : (workers x y : ℕ) (l : Line) → runner_of workers l ≡ Some y → i
 run_of workers x y l by = ap (λ o. option_map_or (λ z. z == x) o false) by
 
 -- the entries of a worker are those of the lines that its thread ran
-pub own_made : (helpers workers : ℕ) (entries : List Entry) (x : ℕ) (bs : List Boxed) (ts : List Told) → AllZip (Fits helpers workers entries) bs ts →
+pub own_made : (helpers workers : ℕ) (served : ℕ → Bool) (entries : List Entry) (x : ℕ) (bs : List Boxed) (ts : List Told) → Within workers served → FitAll helpers served entries bs ts →
     filter (λ e. e.worker == x) (made_of entries ts) ≡ made_of entries (told_of workers x (map (λ b. b.line) bs) ts)
-own_made helpers workers entries x [] [] h = refl
-own_made helpers workers entries x [] (t ∷ ts) h = absurd h
-own_made helpers workers entries x (b ∷ bs) [] h = absurd h
-own_made helpers workers entries x (b ∷ bs) (t ∷ ts) h =
+own_made helpers workers served entries x [] [] within h = refl
+own_made helpers workers served entries x [] (t ∷ ts) within h = absurd h
+own_made helpers workers served entries x (b ∷ bs) [] within h = absurd h
+own_made helpers workers served entries x (b ∷ bs) (t ∷ ts) within h =
     entry_step entries (made_of entries ts) x (entry_at entries t) (is_run_by workers x b.line) b.line t
     (filter (λ (q : Line × Told). is_run_by workers x q.0) (zip (map (λ (c : Boxed). c.line) bs) ts)) refl
-    (λ e is. run_of workers x e.worker b.line (made_by helpers workers b.line b.value e (told_answer entries t) (subst (λ o. Tells helpers workers b.line b.value o (told_answer entries t)) is h.0.0)))
-    (own_made helpers workers entries x bs ts h.1)
+    (λ e is. run_of workers x e.worker b.line (made_by helpers workers served b.line b.value e (told_answer entries t) within (subst (λ o. Tells helpers served b.line b.value o (told_answer entries t)) is h.0.0)))
+    (own_made helpers workers (served_past served b.line t) entries x bs ts (past_within workers served b.line t within) h.1)
 
 -- no worker's thread ran a line of a worker that there isn't
 pub told_past : (workers x : ℕ) (lines : List Line) (ts : List Told) → 0 < workers → workers ≤ x → told_of workers x lines ts ≡ []

@@ -4,4 +4,5 @@ pub mod OneLaws
 pub mod RaceLaws
 pub mod RunLaws
 pub mod ShareLaws
+pub mod TellLaws
 pub mod WeaveLaws

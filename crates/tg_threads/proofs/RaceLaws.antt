@@ -50,6 +50,7 @@ pub edges_before : (edges : List Edge) (lines : List Line) → All IsCommand lin
 edges_before [] [] h = refl
 edges_before [] (line.Edge e ∷ lines) h = absurd (false≢true (All-head IsCommand (line.Edge e) lines h).0)
 edges_before [] (line.Create x label ∷ lines) h = refl
+edges_before [] (line.Spawn x label ∷ lines) h = refl
 edges_before [] (line.Plain x command ∷ lines) h = refl
 edges_before [] (line.Full ∷ lines) h = refl
 edges_before [] (line.Minor ∷ lines) h = refl
@@ -60,6 +61,7 @@ pub commands_behind : (edges : List Edge) (lines : List Line) → All IsCommand 
 commands_behind [] [] h = refl
 commands_behind [] (line.Edge e ∷ lines) h = absurd (false≢true (All-head IsCommand (line.Edge e) lines h).0)
 commands_behind [] (line.Create x label ∷ lines) h = refl
+commands_behind [] (line.Spawn x label ∷ lines) h = refl
 commands_behind [] (line.Plain x command ∷ lines) h = refl
 commands_behind [] (line.Full ∷ lines) h = refl
 commands_behind [] (line.Minor ∷ lines) h = refl

@@ -1,6 +1,7 @@
 -- What a session's calls come to, line by line.
-use Rattle.std.proofs.Common.{◌≡◌, ◌≢◌, ◌<◌, arith, inl, inr, ℕ, List, [], ◌∷◌, ◌++◌, Option, Some, None, refl, sym, ap, ◌∙◌, subst, append-nil, append_assoc, length}
-use Rattle.std.specs.Prelude.{map}
+use Rattle.std.proofs.Common.{◌≡◌, ◌≢◌, ◌⊎◌, ◌<◌, arith, inl, inr, ⊎_elim, ℕ, Bool, true, false, if◌then◌else◌, List, [], ◌∷◌, ◌++◌, Option, Some, None, Result, Ok, Err, refl, sym, ap, ◌∙◌, subst, append-nil, append_assoc, length}
+use Rattle.std.specs.Prelude.{◌↔◌, IfErr, IfOk, map, nat_lt}
+use Rattle.std.proofs.lemmas.Bool.{false≢true}
 use Rattle.std.specs.List.{All}
 use Rattle.std.proofs.lemmas.List.{length_push}
 use Rattle.std.proofs.lemmas.List.Elements.{All-head, All-tail}
@@ -11,133 +12,223 @@ use Rattle.tg_model.specs.declared.command.Deed.{Deed}
 use Rattle.tg_model.specs.declared.command.Deed.TheVariants as deed
 use Rattle.tg_model.specs.declared.reply.Reply.{Reply}
 use Rattle.tg_model.specs.declared.reply.Reply.TheVariants as reply
-use Rattle.tg_model.specs.Graph.{IsSubject}
 use Rattle.tg_journal.specs.declared.entry.Entry.{Entry}
-use Rattle.tg_journal.proofs.HistoryLaws.{workers-opened}
 use Rattle.tg_space.specs.declared.kind.Kind.TheVariants as kind
+use Rattle.tg_text.specs.declared.line.Line.{Line}
 use Rattle.tg_text.specs.declared.line.Line.TheVariants as line
+use Rattle.tg_text.specs.declared.answer.Answer.{Answer}
 use Rattle.tg_text.specs.declared.answer.Answer.TheVariants as answer
 use Rattle.tg_text.specs.declared.answer.Refusal.{Refusal}
 use Rattle.tg_text.specs.declared.answer.Refusal.TheVariants as refusal
 use Rattle.tg_shared.specs.declared.receipt.Receipt.{Receipt}
 use Rattle.tg_shared.specs.Receipts.{receipt_of}
 use Rattle.tg_rules.specs.Effect.{AddsEdge}
-use Rattle.tg_store.specs.Store.{graph_of_store}
 use Rattle.tg_store.specs.declared.fault.ApplyFault.{ApplyFault}
 use Rattle.tg_store.specs.declared.fault.ApplyFault.TheVariants as apply
 use Rattle.tg_store.specs.declared.fault.CreateFault.{CreateFault}
 use Rattle.tg_store.specs.declared.fault.CreateFault.TheVariants as create
 use Rattle.tg_refusals.specs.Refusals.{apply_refusal, create_answer}
-use Rattle.tg_shared.specs.Sessions.{AtSome, IsAnswered, SessionState, SharedStart, KeepsReceipts}
+use Rattle.tg_script.specs.Script.{create_of, spawn_of}
+use Rattle.tg_shared.specs.Sessions.{IsAnswered, SessionState, SharedStart, KeepsReceipts}
+use Rattle.tg_threads.specs.declared.threads.ThreadsFault.{ThreadsFault}
+use Rattle.tg_threads.specs.declared.threads.ThreadsFault.TheVariants as threads
 use Rattle.tg_weave.specs.declared.task.Told.{Told}
 use Rattle.tg_weave.specs.declared.task.Told.TheVariants as came
 use Rattle.tg_weave.specs.Boxes.{Boxed}
 use Rattle.tg_weave.proofs.ShareLaws.{named}
-use Rattle.tg_threads.specs.Output.{IsOfStore}
-use Rattle.tg_threads.specs.Tasks.{IsRunBy, HasAsked, HasMade, HasCollected, HasRun, RunsOne, Runs}
+use Rattle.tg_weave.specs.Shares.{runner_of}
+use Rattle.tg_threads.specs.Output.{EntersOrRefuses, IsMade, IsOfStore, IsServed, Tells, has_thread}
+use Rattle.tg_threads.specs.Tasks.{IsRunBy, HasAsked, HasMade, HasCollected, HasRun, RunsOne, Runs, is_deed, served_past}
+use Rattle.tg_threads.proofs.TellLaws.{refused_of}
 
--- ---- who is there
+-- ---- why a session refuses
 
--- a worker of the opening is a subject of each store that may be behind the lock
-pub is_there : (start : SharedStart) (x : ℕ) → x < start.opening.workers → AtSome start (λ s. ¬ IsSubject (graph_of_store s) x) → ⊥
-is_there start x low h = h.3 ((workers-opened h.0.opening h.0.entries x).1 (subst (λ p. x < p.workers) (sym h.1.opening) low))
+-- a command of a worker that is a subject
+pub refused_there : (command : Command) (why : ApplyFault) → why ≢ apply.NoSuchWorker → (why ≡ apply.HeapFull → AddsEdge command) → IsOfStore (deed.Plain command) (apply_refusal why)
+refused_there command apply.NoSuchWorker there full = absurd (there refl)
+refused_there command apply.OutOfMemory there full = tt
+refused_there command apply.HeapFull there full = full refl
 
--- why a command is refused that a worker asked for who is there
-pub refused_there : (start : SharedStart) (x : ℕ) (command : Command) (why : ApplyFault) → x < start.opening.workers → (why ≡ apply.NoSuchWorker → AtSome start (λ s. ¬ IsSubject (graph_of_store s) x)) → (why ≡ apply.HeapFull → AddsEdge command) →
-    IsOfStore (deed.Plain command) (apply_refusal why)
-refused_there start x command apply.NoSuchWorker low none full = absurd (is_there start x low (none refl))
-refused_there start x command apply.OutOfMemory low none full = tt
-refused_there start x command apply.HeapFull low none full = full refl
-
--- only the answer that there may be no more vertices is a reply, and none is of a collection
-pub replied_full : (why : CreateFault) (r : Reply) → answer.Reply r ≡ create_answer why → why ≡ create.VerticesFull
-replied_full create.NoSuchWorker r is = absurd cc
-replied_full create.VerticesFull r is = refl
-replied_full create.OutOfMemory r is = absurd cc
-replied_full create.HeapFull r is = absurd cc
+-- only the answers that there may be no more vertices, or no more subjects, are replies, and none is of a collection
+pub replied : (why : CreateFault) (r : Reply) → create_answer why ≡ answer.Reply r → ((why ≡ create.VerticesFull) × (reply.VerticesFull ≡ r)) ⊎ ((why ≡ create.WorkersFull) × (reply.WorkersFull ≡ r))
+replied create.NoSuchWorker r is = absurd cc
+replied create.VerticesFull r is = inl (refl, cc)
+replied create.WorkersFull r is = inr (refl, cc)
+replied create.OutOfMemory r is = absurd cc
+replied create.HeapFull r is = absurd cc
 
 pub never_collected : (why : CreateFault) (kept : Option ℕ) → answer.Collected kept ≡ create_answer why → ⊥
 never_collected create.NoSuchWorker kept is = cc
 never_collected create.VerticesFull kept is = cc
+never_collected create.WorkersFull kept is = cc
 never_collected create.OutOfMemory kept is = cc
 never_collected create.HeapFull kept is = cc
 
 -- an answer has left a receipt
-pub answered_some : (start : SharedStart) (old new : SessionState) (label : RightSet) (value : Value) → IsAnswered start old new (deed.Create label value.law value.state) reply.VerticesFull → 0 < length new.receipts
-answered_some start old new label value h =
-    let e : Entry = record { worker = old.worker; deed = deed.Create label value.law value.state; reply = reply.VerticesFull } in
+answered_one : (start : SharedStart) (old new : SessionState) (d : Deed) (r : Reply) → IsAnswered start old new d r → 0 < length new.receipts
+answered_one start old new d r h =
+    let e : Entry = record { worker = old.worker; deed = d; reply = r } in
     let long = ap (λ (rs : List Receipt). length rs) h.3.0.1 in
     omega (arith, long, length_push old.receipts (receipt_of (length h.0.entries) e))
 
--- what a vertex comes to that wasn't made, for a worker who is there: what a script is told, and no receipt, or the entry
-pub vertex_not_made : (start : SharedStart) (x : ℕ) (label : RightSet) (value : Value) (why : CreateFault) (t : Told) (old new : SessionState) → x < start.opening.workers → (why ≡ create.NoSuchWorker → AtSome start (λ s. ¬ IsSubject (graph_of_store s) x)) →
-    (why ≡ create.VerticesFull → IsAnswered start old new (deed.Create label value.law value.state) reply.VerticesFull) → (why ≢ create.VerticesFull → KeepsReceipts old new) →
-    ((r : Refusal) → create_answer why ≡ answer.Refused r → t ≡ came.Refused r) → (why ≡ create.VerticesFull → (front : List Receipt) (last : Receipt) → new.receipts ≡ front ++ last ∷ [] → t ≡ came.Entered last.at) →
-    HasAsked (deed.Create label value.law value.state) t old new
-vertex_not_made start x label value create.NoSuchWorker t old new low none answered kept refused entered = absurd (is_there start x low (none refl))
-vertex_not_made start x label value create.VerticesFull t old new low none answered kept refused entered =
-    let d : Deed = deed.Create label value.law value.state in
-    let h = answered refl in
-    let e : Entry = record { worker = old.worker; deed = d; reply = reply.VerticesFull } in
-    subst (λ (a : Told). HasAsked d a old new) (sym (entered refl old.receipts (receipt_of (length h.0.entries) e) h.3.0.1)) (reply.VerticesFull, h.3.0)
-vertex_not_made start x label value create.OutOfMemory t old new low none answered kept refused entered =
-    subst (λ (a : Told). HasAsked (deed.Create label value.law value.state) a old new) (sym (refused refusal.Memory refl)) (tt, kept (λ e. let no : ⊥ = cc in no))
-vertex_not_made start x label value create.HeapFull t old new low none answered kept refused entered =
-    subst (λ (a : Told). HasAsked (deed.Create label value.law value.state) a old new) (sym (refused refusal.Heap refl)) (tt, kept (λ e. let no : ⊥ = cc in no))
+pub answered_some : (start : SharedStart) (old new : SessionState) (d : Deed) (why : CreateFault) (r : Reply) →
+    (why ≡ create.VerticesFull → IsAnswered start old new d reply.VerticesFull) → (why ≡ create.WorkersFull → IsAnswered start old new d reply.WorkersFull) → create_answer why ≡ answer.Reply r → 0 < length new.receipts
+answered_some start old new d why r full crowded is = ⊎_elim
+    (λ vertices. answered_one start old new d reply.VerticesFull (full vertices.0))
+    (λ workers. answered_one start old new d reply.WorkersFull (crowded workers.0))
+    (replied why r is)
+
+-- what is told of an answer, with its place
+told_of_answer : (start : SharedStart) (old new : SessionState) (d : Deed) (r : Reply) (t : Told) → IsAnswered start old new d r → ((front : List Receipt) (last : Receipt) → new.receipts ≡ front ++ last ∷ [] → t ≡ came.Entered last.at) → HasAsked d t old new
+told_of_answer start old new d r t h entered =
+    let e : Entry = record { worker = old.worker; deed = d; reply = r } in
+    subst (λ (a : Told). HasAsked d a old new) (sym (entered old.receipts (receipt_of (length h.0.entries) e) h.3.0.1)) (r, h.3.0)
+
+-- What a deed comes to that made no vertex, of a worker that is a subject: what a script is told, and no receipt, or the entry.
+pub vertex_not_made : (start : SharedStart) (d : Deed) (why : CreateFault) (t : Told) (old new : SessionState) → IsOfStore d refusal.Heap → why ≢ create.NoSuchWorker →
+    (why ≡ create.VerticesFull → IsAnswered start old new d reply.VerticesFull) → (why ≡ create.WorkersFull → IsAnswered start old new d reply.WorkersFull) → (why ≢ create.VerticesFull → why ≢ create.WorkersFull → KeepsReceipts old new) →
+    ((r : Refusal) → create_answer why ≡ answer.Refused r → t ≡ came.Refused r) →
+    ((r : Reply) → create_answer why ≡ answer.Reply r → (front : List Receipt) (last : Receipt) → new.receipts ≡ front ++ last ∷ [] → t ≡ came.Entered last.at) → HasAsked d t old new
+vertex_not_made start d create.NoSuchWorker t old new makes there full crowded kept refused entered = absurd (there refl)
+vertex_not_made start d create.VerticesFull t old new makes there full crowded kept refused entered = told_of_answer start old new d reply.VerticesFull t (full refl) (entered reply.VerticesFull refl)
+vertex_not_made start d create.WorkersFull t old new makes there full crowded kept refused entered = told_of_answer start old new d reply.WorkersFull t (crowded refl) (entered reply.WorkersFull refl)
+vertex_not_made start d create.OutOfMemory t old new makes there full crowded kept refused entered =
+    subst (λ (a : Told). HasAsked d a old new) (sym (refused refusal.Memory refl)) (memory d, kept (λ e. let no : ⊥ = cc in no) (λ e. let no : ⊥ = cc in no)) where
+      memory : (d : Deed) → IsOfStore d refusal.Memory
+      memory (deed.Create label law state) = tt
+      memory (deed.Spawn label law state) = tt
+      memory (deed.Plain command) = tt
+vertex_not_made start d create.HeapFull t old new makes there full crowded kept refused entered =
+    subst (λ (a : Told). HasAsked d a old new) (sym (refused refusal.Heap refl)) (makes, kept (λ e. let no : ⊥ = cc in no) (λ e. let no : ⊥ = cc in no))
+
+-- the same of what a session that made no vertex is told, where it is told anything
+pub not_made_asked : (start : SharedStart) (d : Deed) (why : CreateFault) (r : Result Told ThreadsFault) (old new : SessionState) → IsOfStore d refusal.Heap → ((r ≡ Err threads.NoSuchWorker) ↔ (why ≡ create.NoSuchWorker)) →
+    (why ≡ create.VerticesFull → IsAnswered start old new d reply.VerticesFull) → (why ≡ create.WorkersFull → IsAnswered start old new d reply.WorkersFull) → (why ≢ create.VerticesFull → why ≢ create.WorkersFull → KeepsReceipts old new) →
+    ((x : Refusal) → create_answer why ≡ answer.Refused x → IfOk r (λ t. t ≡ came.Refused x)) →
+    ((x : Reply) → create_answer why ≡ answer.Reply x → (front : List Receipt) (last : Receipt) → new.receipts ≡ front ++ last ∷ [] → IfOk r (λ t. t ≡ came.Entered last.at)) → IfOk r (λ t. HasAsked d t old new)
+not_made_asked start d why (Err f) old new makes fault full crowded kept refused entered = tt
+not_made_asked start d why (Ok t) old new makes fault full crowded kept refused entered =
+    vertex_not_made start d why t old new makes (λ is. let same : ◌≡◌ {A = Result Told ThreadsFault} (Ok t) (Err threads.NoSuchWorker) = fault.1 is in let no : ⊥ = cc in no) full crowded kept refused entered
+
+pub not_made_gone : (Q : Type 0) (why : CreateFault) (r : Result Told ThreadsFault) → ((r ≡ Err threads.NoSuchWorker) ↔ (why ≡ create.NoSuchWorker)) → IfErr r (λ f. f ≡ threads.NoSuchWorker) → (why ≡ create.NoSuchWorker → Q) →
+    IfErr r (λ f. (f ≡ threads.NoSuchWorker) × Q)
+not_made_gone Q why (Ok t) fault alone gone = tt
+not_made_gone Q why (Err f) fault alone gone = (alone, gone (fault.0 (ap Err alone)))
 
 -- ---- one line
+
+-- the worker whose thread runs a line of x
+abbrev pub runner_named : ℕ → ℕ → Option ℕ
+runner_named workers x = if nat_lt x workers then Some x else None
 
 -- a session that keeps its receipts gets none
 none_more : (old new : SessionState) → KeepsReceipts old new → (new.worker ≡ old.worker) × (new.receipts ≡ old.receipts ++ [])
 none_more old new keeps = (keeps.0, keeps.1 ∙ sym (append-nil old.receipts))
 
-pub asked_runs : (helpers workers x : ℕ) (command : Command) (box : Option Value) (t : Told) (old new : SessionState) → IsRunBy workers old.worker (record { line = line.Plain x command; value = box }) → HasAsked (deed.Plain command) t old new → HasRun helpers workers (record { line = line.Plain x command; value = box }) t old new
-asked_runs helpers workers x command box (came.Entered at) old new by h =
-    let n = named x workers old.worker by in
+-- the line's worker is the session's, whose lines are run
+served_by : (workers x : ℕ) (served : ℕ → Bool) (old : SessionState) → runner_named workers x ≡ Some old.worker → served old.worker ≡ true → served x ≡ true
+served_by workers x served old by is = subst (λ n. served n ≡ true) (sym (named x workers old.worker by).1) is
+
+as_served : (b : Bool) (asked : Type 0) (e : Option Entry) (a : Answer) → b ≡ true → asked → IsServed b asked e a
+as_served true asked e a is h = h
+as_served false asked e a is h = absurd (false≢true is)
+
+-- the entry of a deed, and a refusal of the store, as a line of x is told of them
+asked_told : (workers x : ℕ) (served : ℕ → Bool) (d : Deed) (e : Option Entry) (a : Answer) (old : SessionState) → runner_named workers x ≡ Some old.worker → served old.worker ≡ true → EntersOrRefuses old.worker d e a → IsServed (served x) (EntersOrRefuses x d e a) e a
+asked_told workers x served d e a old by is h =
+    as_served (served x) (EntersOrRefuses x d e a) e a (served_by workers x served old by is) (subst (λ n. EntersOrRefuses n d e a) (sym (named x workers old.worker by).1) h)
+
+pub asked_runs : (helpers workers x : ℕ) (served : ℕ → Bool) (command : Command) (box : Option Value) (t : Told) (old new : SessionState) → served old.worker ≡ true → IsRunBy workers old.worker (record { line = line.Plain x command; value = box }) →
+    HasAsked (deed.Plain command) t old new → HasRun helpers served (record { line = line.Plain x command; value = box }) t old new
+asked_runs helpers workers x served command box (came.Entered at) old new is by h =
     let e : Entry = record { worker = old.worker; deed = deed.Plain command; reply = h.0 } in
-    (receipt_of at e ∷ [], h.1.0, h.1.1, (e, refl, inl (n.0, (sym n.1, refl, refl))))
-asked_runs helpers workers x command box (came.Collected kept) old new by h = absurd h
-asked_runs helpers workers x command box (came.Refused r) old new by h =
-    let n = named x workers old.worker by in
+    (receipt_of at e ∷ [], h.1.0, h.1.1, (e, refl, asked_told workers x served (deed.Plain command) (Some e) (answer.Reply h.0) old by is (refl, refl, refl)))
+asked_runs helpers workers x served command box (came.Collected kept) old new is by h = absurd h
+asked_runs helpers workers x served command box (came.Refused r) old new is by h =
     let k = none_more old new h.1 in
-    ([], k.0, k.1, (refl, inl (n.0, (r, h.0, refl))))
+    ([], k.0, k.1, (refl, asked_told workers x served (deed.Plain command) None (answer.Refused r) old by is (r, h.0, refl)))
 
-pub made_runs : (helpers workers x : ℕ) (label : RightSet) (box : Option Value) (t : Told) (old new : SessionState) → IsRunBy workers old.worker (record { line = line.Create x label; value = box }) → HasMade label box t old new → HasRun helpers workers (record { line = line.Create x label; value = box }) t old new
-made_runs helpers workers x label (Some value) (came.Entered at) old new by h =
-    let n = named x workers old.worker by in
-    let e : Entry = record { worker = old.worker; deed = deed.Create label value.law value.state; reply = h.0 } in
-    (receipt_of at e ∷ [], h.1.0, h.1.1, (e, refl, inl (n.0, (sym n.1, refl, refl))))
-made_runs helpers workers x label (Some value) (came.Collected kept) old new by h = absurd h
-made_runs helpers workers x label (Some value) (came.Refused r) old new by h =
-    let n = named x workers old.worker by in
-    let k = none_more old new h.1 in
-    ([], k.0, k.1, (refl, inl (n.0, (r, h.0, refl))))
-made_runs helpers workers x label None t old new by h =
-    let n = named x workers old.worker by in
-    let k = none_more old new h.1 in
-    let P : Told → Type 0 = λ a. RunsOne helpers workers (record { line = line.Create x label; value = None }) a [] in
-    ([], k.0, k.1, subst P (sym h.0) (refl, inl (n.0, (refl, refl))))
+-- the same of a deed that makes a vertex
+pub made_runs : (helpers workers x : ℕ) (served : ℕ → Bool) (b : Boxed) (making : Value → Deed) (t : Told) (old new : SessionState) → served old.worker ≡ true → runner_named workers x ≡ Some old.worker →
+    ((e : Option Entry) (a : Answer) → IsServed (served x) (IsMade x making b.value e a) e a → Tells helpers served b.line b.value e a) → HasMade making b.value t old new → HasRun helpers served b t old new
+made_runs helpers workers x served b making t old new is by tells h = by_box b.value refl h where
+  on : served x ≡ true
+  on = served_by workers x served old by is
 
-pub full_runs : (helpers workers : ℕ) (box : Option Value) (t : Told) (s : SessionState) → HasCollected helpers kind.Full t → HasRun helpers workers (record { line = line.Full; value = box }) t s s
-full_runs helpers workers box (came.Entered at) s h = absurd h
-full_runs helpers workers box (came.Collected kept) s h = ([], refl, sym (append-nil s.receipts), (refl, (h.0, (refl, inl (ap answer.Collected h.1)))))
-full_runs helpers workers box (came.Refused r) s h = ([], refl, sym (append-nil s.receipts), (refl, (0, (refl, inr (r, h, refl)))))
+  same : x ≡ old.worker
+  same = (named x workers old.worker by).1
 
-pub minor_runs : (helpers workers : ℕ) (box : Option Value) (t : Told) (s : SessionState) → HasCollected helpers kind.Nursery t → HasRun helpers workers (record { line = line.Minor; value = box }) t s s
-minor_runs helpers workers box (came.Entered at) s h = absurd h
-minor_runs helpers workers box (came.Collected kept) s h = ([], refl, sym (append-nil s.receipts), (refl, (refl, inl (ap answer.Collected h))))
-minor_runs helpers workers box (came.Refused r) s h = ([], refl, sym (append-nil s.receipts), (refl, (refl, inr (r, h, refl))))
+  by_box : (box : Option Value) → b.value ≡ box → HasMade making box t old new → HasRun helpers served b t old new
+  by_box None none h =
+      let k = none_more old new h.1 in
+      let told : Tells helpers served b.line b.value None (answer.Refused refusal.Stock) = tells None (answer.Refused refusal.Stock)
+      (as_served (served x) (IsMade x making b.value None (answer.Refused refusal.Stock)) None (answer.Refused refusal.Stock) on (subst (λ box. IsMade x making box None (answer.Refused refusal.Stock)) (sym none) (refl, refl))) in
+      ([], k.0, k.1, subst (λ a. RunsOne helpers served b a []) (sym h.0) (refl, told))
+  by_box (Some value) some h = by_told t h where
+    as_told : (e : Option Entry) (a : Answer) → EntersOrRefuses old.worker (making value) e a → Tells helpers served b.line b.value e a
+    as_told e a h =
+        tells e a (as_served (served x) (IsMade x making b.value e a) e a on
+        (subst (λ box. IsMade x making box e a) (sym some) (subst (λ n. EntersOrRefuses n (making value) e a) (sym same) h)))
+
+    by_told : (t : Told) → HasAsked (making value) t old new → HasRun helpers served b t old new
+    by_told (came.Entered at) h =
+        let e : Entry = record { worker = old.worker; deed = making value; reply = h.0 } in
+        (receipt_of at e ∷ [], h.1.0, h.1.1, (e, refl, as_told (Some e) (answer.Reply h.0) (refl, refl, refl)))
+    by_told (came.Collected kept) h = absurd h
+    by_told (came.Refused r) h =
+        let k = none_more old new h.1 in
+        ([], k.0, k.1, (refl, as_told None (answer.Refused r) (r, h.0, refl)))
+
+-- a line that isn't refused, and asks for a deed, is of a worker whose lines are run
+pub served_of : (served : Bool) (l : Line) (refused : Bool) → refused ≡ (if served then false else is_deed l) → refused ≡ false → is_deed l ≡ true → served ≡ true
+served_of true l refused is not_refused asks = refl
+served_of false l refused is not_refused asks = absurd (false≢true (sym not_refused ∙ is ∙ asks))
+
+pub full_runs : (helpers : ℕ) (served : ℕ → Bool) (box : Option Value) (t : Told) (s : SessionState) → HasCollected helpers kind.Full t → HasRun helpers served (record { line = line.Full; value = box }) t s s
+full_runs helpers served box (came.Entered at) s h = absurd h
+full_runs helpers served box (came.Collected kept) s h = ([], refl, sym (append-nil s.receipts), (refl, (h.0, (refl, inl (ap answer.Collected h.1)))))
+full_runs helpers served box (came.Refused r) s h = ([], refl, sym (append-nil s.receipts), (refl, (0, (refl, inr (r, h, refl)))))
+
+pub minor_runs : (helpers : ℕ) (served : ℕ → Bool) (box : Option Value) (t : Told) (s : SessionState) → HasCollected helpers kind.Nursery t → HasRun helpers served (record { line = line.Minor; value = box }) t s s
+minor_runs helpers served box (came.Entered at) s h = absurd h
+minor_runs helpers served box (came.Collected kept) s h = ([], refl, sym (append-nil s.receipts), (refl, (refl, inl (ap answer.Collected h))))
+minor_runs helpers served box (came.Refused r) s h = ([], refl, sym (append-nil s.receipts), (refl, (refl, inr (r, h, refl))))
+
+-- a deed of a worker whose lines aren't run
+pub refused_runs : (helpers workers : ℕ) (served : ℕ → Bool) (b : Boxed) (s : SessionState) → is_deed b.line ≡ true → served s.worker ≡ false → IsRunBy workers s.worker b → HasRun helpers served b (came.Refused refusal.Worker) s s
+refused_runs helpers workers served b s asks none by = ([], refl, sym (append-nil s.receipts), (refl, told b.line asks by)) where
+  off : (x : ℕ) → runner_named workers x ≡ Some s.worker → served x ≡ false
+  off x by = subst (λ n. served n ≡ false) (sym (named x workers s.worker by).1) none
+
+  told : (l : Line) → is_deed l ≡ true → runner_of workers l ≡ Some s.worker → Tells helpers served l b.value None (answer.Refused refusal.Worker)
+  told (line.Edge edge) asks by = absurd (false≢true asks)
+  told (line.Create x label) asks by = refused_of (served x) (IsMade x (create_of label) b.value None (answer.Refused refusal.Worker)) (off x by)
+  told (line.Spawn x label) asks by = refused_of (served x) (IsMade x (spawn_of label) b.value None (answer.Refused refusal.Worker)) (off x by)
+  told (line.Plain x c) asks by = refused_of (served x) (EntersOrRefuses x (deed.Plain c) None (answer.Refused refusal.Worker)) (off x by)
+  told line.Full asks by = absurd (false≢true asks)
+  told line.Minor asks by = absurd (false≢true asks)
 
 -- ---- many lines
 
-pub runs_none : (helpers workers : ℕ) → Runs helpers workers [] [] []
-runs_none helpers workers = (refl, refl)
+-- whose lines are run behind all of them
+abbrev pub served_after : (ℕ → Bool) → List Boxed → List Told → ℕ → Bool
+served_after served [] ts = served
+served_after served (b ∷ bs) [] = served
+served_after served (b ∷ bs) (t ∷ ts) = served_after (served_past served b.line t) bs ts
 
 -- one line more
-pub runs_more : (helpers workers : ℕ) (bs : List Boxed) (ts : List Told) (rs : List Receipt) (b : Boxed) (t : Told) (more : List Receipt) → Runs helpers workers bs ts rs → RunsOne helpers workers b t more → Runs helpers workers (bs ++ b ∷ []) (ts ++ t ∷ []) (rs ++ more)
-runs_more helpers workers [] ts rs b t more h one = (t, [], more, [], ap (λ x. x ++ t ∷ []) h.0, ap (λ x. x ++ more) h.1 ∙ sym (append-nil more), one, (refl, refl))
-runs_more helpers workers (b' ∷ bs) ts rs b t more h one =
-    (h.0, h.1 ++ t ∷ [], h.2, h.3 ++ more, ap (λ x. x ++ t ∷ []) h.4, ap (λ x. x ++ more) h.5 ∙ append_assoc h.2 h.3 more, h.6, runs_more helpers workers bs h.1 h.3 b t more h.7 one)
+pub runs_more : (helpers : ℕ) (served : ℕ → Bool) (bs : List Boxed) (ts : List Told) (rs : List Receipt) (b : Boxed) (t : Told) (more : List Receipt) → Runs helpers served bs ts rs → RunsOne helpers (served_after served bs ts) b t more →
+    Runs helpers served (bs ++ b ∷ []) (ts ++ t ∷ []) (rs ++ more) × (served_after served (bs ++ b ∷ []) (ts ++ t ∷ []) ≡ served_past (served_after served bs ts) b.line t)
+runs_more helpers served [] ts rs b t more h one = (
+  (t, [], more, [], ap (λ x. x ++ t ∷ []) h.0, ap (λ x. x ++ more) h.1 ∙ sym (append-nil more), one, (refl, refl)),
+  ap (λ us. served_after served (b ∷ []) (us ++ t ∷ [])) h.0,
+)
+runs_more helpers served (b' ∷ bs) ts rs b t more h one =
+    let one' : RunsOne helpers (served_after (served_past served b'.line h.0) bs h.1) b t more = subst (λ us. RunsOne helpers (served_after served (b' ∷ bs) us) b t more) h.4 one in
+    let rest = runs_more helpers (served_past served b'.line h.0) bs h.1 h.3 b t more h.7 one' in (
+      (h.0, h.1 ++ t ∷ [], h.2, h.3 ++ more, ap (λ x. x ++ t ∷ []) h.4, ap (λ x. x ++ more) h.5 ∙ append_assoc h.2 h.3 more, h.6, rest.0),
+      ap (λ us. served_after served (b' ∷ (bs ++ b ∷ [])) (us ++ t ∷ [])) h.4 ∙ rest.1 ∙ ap (λ us. served_past (served_after served (b' ∷ bs) us) b.line t) (sym h.4),
+    )
 
 mapped_in : {X Y : Type 0} (f : X → Y) (P : Y → Type 0) (xs : List X) (x : X) (ys : List X) → All P (map f ((xs ++ x ∷ []) ++ ys)) → P (f x)
 mapped_in f P [] x ys all = All-head P (f x) (map f ys) all
@@ -153,9 +244,23 @@ all_next {X = X} P xs x ys all is h = go xs (subst (All P) (sym is) h) where
   go [] all = All-head P x ys all
   go (y ∷ xs) all = go xs (All-tail P y ((xs ++ x ∷ []) ++ ys) all)
 
+-- Lines of worker x were run, came to this, and its lines are run behind them or not.
+pub record HasRunSo (helpers workers x : ℕ) (served : Bool) (bs : List Boxed) (ts : List Told) (s : SessionState) : Type 0 where
+  pub worker : s.worker ≡ x
+  pub runs : Runs helpers (has_thread workers) bs ts s.receipts
+  pub behind : served_after (has_thread workers) bs ts x ≡ served
+
 -- a session ran one line more
-pub run_more : (helpers workers x : ℕ) (bs : List Boxed) (ts : List Told) (old new : SessionState) (b : Boxed) (t : Told) → old.worker ≡ x → Runs helpers workers bs ts old.receipts → x < workers → IsRunBy workers x b →
-    (old.worker < workers → IsRunBy workers old.worker b → HasRun helpers workers b t old new) → (new.worker ≡ x) × Runs helpers workers (bs ++ b ∷ []) (ts ++ t ∷ []) new.receipts
-run_more helpers workers x bs ts old new b t same runs low by step =
-    let h = step (subst (λ n. n < workers) (sym same) low) (subst (λ n. IsRunBy workers n b) (sym same) by) in
-    (h.1 ∙ same, subst (λ r. Runs helpers workers (bs ++ b ∷ []) (ts ++ t ∷ []) r) (sym h.2) (runs_more helpers workers bs ts old.receipts b t h.0 runs h.3))
+pub run_more : (helpers workers x : ℕ) (served next : Bool) (bs : List Boxed) (ts : List Told) (old new : SessionState) (b : Boxed) (t : Told) → HasRunSo helpers workers x served bs ts old → IsRunBy workers x b →
+    ((before : ℕ → Bool) → before old.worker ≡ served → IsRunBy workers old.worker b → HasRun helpers before b t old new) →
+    ((before : ℕ → Bool) → before new.worker ≡ served → next ≡ served_past before b.line t new.worker) → HasRunSo helpers workers x next (bs ++ b ∷ []) (ts ++ t ∷ []) new
+run_more helpers workers x served next bs ts old new b t held by step past =
+    let before : ℕ → Bool = served_after (has_thread workers) bs ts in
+    let h = step before (ap before held.worker ∙ held.behind) (subst (λ n. IsRunBy workers n b) (sym held.worker) by) in
+    let worker : new.worker ≡ x = h.1 ∙ held.worker in
+    let more = runs_more helpers (has_thread workers) bs ts old.receipts b t h.0 held.runs h.3 in
+    record {
+      worker = worker;
+      runs = subst (λ r. Runs helpers (has_thread workers) (bs ++ b ∷ []) (ts ++ t ∷ []) r) (sym h.2) more.0;
+      behind = (λ i. more.1 i x) ∙ ap (λ n. served_past before b.line t n) (sym worker) ∙ sym (past before (ap before worker ∙ held.behind));
+    }

@@ -1,10 +1,10 @@
 -- What the threads brought back, with the journal that the closed store has, is what a race may tell.
-use Rattle.std.proofs.Common.{◌≡◌, ◌≢◌, ◌<◌, ◌≤◌, ◌+◌, ◌==◌, ℕ, zero, suc, Bool, true, false, cond, List, [], ◌∷◌, length, map, filter, get_or, Some, None, slice_get, option_map, refl, sym, ap, ◌∙◌, subst, arith, ne_eqb, ⊎_elim}
+use Rattle.std.proofs.Common.{◌≡◌, ◌≢◌, ◌⊎◌, ◌<◌, ◌≤◌, ◌+◌, ◌==◌, inl, inr, ◌++◌, ℕ, zero, suc, Bool, true, false, cond, List, [], ◌∷◌, length, map, filter, get_or, Some, None, slice_get, option_map, refl, sym, ap, ◌∙◌, subst, arith, ne_eqb, ⊎_elim}
 use Rattle.std.specs.List.{All, AllZip, count_by, range_with_len}
 use Rattle.std.proofs.lemmas.Bool.{cases_eq, cases_lt}
 use Rattle.std.proofs.lemmas.Option.{slice_get_within, slice_get-get_or, slice_get-map, get_or_from_slice_get}
 use Rattle.std.proofs.lemmas.List.{length-map}
-use Rattle.std.proofs.lemmas.List.Elements.{All-head, All-tail}
+use Rattle.std.proofs.lemmas.List.Elements.{All-nil, All-cons, All-head, All-tail, All-append, All-weaker}
 use Rattle.std.proofs.lemmas.List.Sums.{sum_by-cons}
 use Rattle.std.proofs.lemmas.List.FromFn.{get_or-map-range_with_len, length-map-range_with_len, fill_by_all}
 use Rattle.tg_model.specs.declared.value.Value.{Value}
@@ -19,12 +19,13 @@ use Rattle.tg_weave.specs.declared.task.Told.{Told}
 use Rattle.tg_weave.specs.declared.task.Told.TheVariants as came
 use Rattle.tg_weave.specs.declared.work.Finished.{Finished}
 use Rattle.tg_weave.specs.Boxes.{Boxed, boxed, stock_behind}
-use Rattle.tg_weave.specs.Shares.{runner_of, is_run_by, lines_of, told_of, IsInScriptOrder}
+use Rattle.tg_weave.specs.Shares.{all_sessions, runner_of, is_run_by, lines_of, told_of, IsInScriptOrder}
 use Rattle.tg_weave.proofs.OrderLaws.{count_of}
-use Rattle.tg_threads.specs.Output.{HasEach}
-use Rattle.tg_threads.specs.Tasks.{Runs, Brings, AllBring, all_assigned, AreRaced}
+use Rattle.tg_threads.specs.Output.{HasEach, has_thread}
+use Rattle.tg_threads.specs.Tasks.{Runs, Brings, AllBring, HaveNone, all_assigned, AreRaced, served_past}
 use Rattle.tg_threads.proofs.ShareLaws.{own_lines}
-use Rattle.tg_threads.proofs.FitLaws.{Fits, made_of, all_fit, woven, fit_told, fit_there, own_made, told_past}
+use Rattle.tg_threads.proofs.TellLaws.{thread_within}
+use Rattle.tg_threads.proofs.FitLaws.{FitAll, made_of, all_fit, woven, fit_told, fit_there, own_made, told_past}
 
 -- ---- what each thread brought
 
@@ -33,11 +34,11 @@ bring_as_many helpers workers [] all h = ap (λ (fs : List (Finished SessionStat
 bring_as_many helpers workers (a ∷ given) all h = ap (λ (fs : List (Finished SessionState)). length fs) h.2 ∙ ap suc (bring_as_many helpers workers given h.1 h.4)
 
 brings_at : (helpers workers : ℕ) (given : List (ℕ × List Boxed)) (all : List (Finished SessionState)) (k : ℕ) (a : ℕ × List Boxed) → AllBring helpers workers given all → slice_get given k ≡ Some a →
-    (f : Finished SessionState) × (slice_get all k ≡ Some f) × Brings helpers workers a.0 a.1 f.session f.told.items
+    (f : Finished SessionState) × (slice_get all k ≡ Some f) × Brings helpers workers a.0 a.1 f
 brings_at helpers workers [] all k a h at = absurd cc
 brings_at helpers workers (b ∷ given) all zero a h at =
     let same : b ≡ a = cc in
-    (h.0, ap (λ (fs : List (Finished SessionState)). slice_get fs 0) h.2, subst (λ (c : ℕ × List Boxed). Brings helpers workers c.0 c.1 h.0.session h.0.told.items) same h.3)
+    (h.0, ap (λ (fs : List (Finished SessionState)). slice_get fs 0) h.2, subst (λ (c : ℕ × List Boxed). Brings helpers workers c.0 c.1 h.0) same h.3)
 brings_at helpers workers (b ∷ given) all (suc k) a h at =
     let more = brings_at helpers workers given h.1 k a h.4 at in
     (more.0, ap (λ (fs : List (Finished SessionState)). slice_get fs (suc k)) h.2 ∙ more.1, more.2)
@@ -46,7 +47,8 @@ brings_at helpers workers (b ∷ given) all (suc k) a h at =
 record IsBrought (helpers workers : ℕ) (bs : List Boxed) (all : List (Finished SessionState)) (x : ℕ) (f : Finished SessionState) : Type 0 where
   at : slice_get all x ≡ Some f
   worker : f.session.worker ≡ x
-  runs : Runs helpers workers (lines_of workers x bs) f.told.items f.session.receipts
+  runs : Runs helpers (has_thread workers) (lines_of workers x bs) f.told.items f.session.receipts
+  none : HaveNone f.spawned.items
 
 brought : (helpers workers : ℕ) (bs : List Boxed) (all : List (Finished SessionState)) → AllBring helpers workers (all_assigned workers bs) all → (x : ℕ) → x < workers → (f : Finished SessionState) × IsBrought helpers workers bs all x f
 brought helpers workers bs all h x low =
@@ -56,13 +58,13 @@ brought helpers workers bs all h x low =
     slice_get-get_or (all_assigned workers bs) x (0, []) (omega (arith, low, long)) ∙ ap (λ a. Some a) (get_or-map-range_with_len as_given 0 workers x x (0, []) low (omega arith)) in
     let b = brings_at helpers workers (all_assigned workers bs) all x (as_given x) h at in
     let ran = b.2 low (own_lines workers x bs) in
-    (b.0, record { at = b.1; worker = ran.0; runs = ran.1 })
+    (b.0, record { at = b.1; worker = ran.0; runs = ran.1; none = ran.2 })
 
 -- ---- as many as there were lines
 
-runs_long : (helpers workers : ℕ) (bs : List Boxed) (ts : List Told) (rs : List Receipt) → Runs helpers workers bs ts rs → length ts ≡ length bs
-runs_long helpers workers [] ts rs h = ap (λ (us : List Told). length us) h.0
-runs_long helpers workers (b ∷ bs) ts rs h = ap (λ (us : List Told). length us) h.4 ∙ ap suc (runs_long helpers workers bs h.1 h.3 h.7)
+runs_long : (helpers : ℕ) (served : ℕ → Bool) (bs : List Boxed) (ts : List Told) (rs : List Receipt) → Runs helpers served bs ts rs → length ts ≡ length bs
+runs_long helpers served [] ts rs h = ap (λ (us : List Told). length us) h.0
+runs_long helpers served (b ∷ bs) ts rs h = ap (λ (us : List Told). length us) h.4 ∙ ap suc (runs_long helpers (served_past served b.line h.0) bs h.1 h.3 h.7)
 
 pub lines_boxed : (stock : List Value) (lines : List Line) → map (λ b. b.line) (boxed stock lines) ≡ lines
 lines_boxed stock [] = refl
@@ -89,7 +91,7 @@ each_told helpers workers stock lines all h =
     (length-map all long_of ∙ bring_as_many helpers workers (all_assigned workers bs) all h ∙ length-map-range_with_len (λ x. (x, lines_of workers x bs)) 0 workers)
     (λ x low.
     let b = brought helpers workers bs all h x low in
-    map_at long_of all x b.0 0 b.1.at ∙ runs_long helpers workers (lines_of workers x bs) b.0.told.items b.0.session.receipts b.1.runs
+    map_at long_of all x b.0 0 b.1.at ∙ runs_long helpers (has_thread workers) (lines_of workers x bs) b.0.told.items b.0.session.receipts b.1.runs
     ∙ lines_long workers x bs ∙ ap (count_of workers x) (lines_boxed stock lines))
 
 -- ---- with the journal
@@ -97,27 +99,39 @@ each_told helpers workers stock lines all h =
 All_at : {X : Type 0} (P : X → Type 0) (xs : List X) (k : ℕ) (x : X) → All P xs → slice_get xs k ≡ Some x → P x
 All_at P xs k x all at = subst P (get_or_from_slice_get xs k x x at) (all k x (slice_get_within xs k x at))
 
+-- a session's receipts are all the entries of its worker
+abbrev HasOwn : List Entry → SessionState → Type 0
+HasOwn entries s = map (λ r. r.entry) s.receipts ≡ filter (λ e. e.worker == s.worker) entries
+
 standing : (entries : List Entry) (start : ℕ) (s : SessionState) → MatchesSince entries start s → All (Stands entries s.worker) s.receipts
 unfolding MatchesSince
 standing entries start s matches = matches.0.standing
 
+All_behind : (P : SessionState → Type 0) (xs ys : List SessionState) → All P (xs ++ ys) → All P ys
+All_behind P [] ys held = held
+All_behind P (x ∷ xs) ys held = All_behind P xs ys (All-tail P x (xs ++ ys) held)
+
+-- what holds of all sessions that came back holds of each worker's, and of those that its lines made
+All_own : (P : SessionState → Type 0) (all : List (Finished SessionState)) (k : ℕ) (f : Finished SessionState) → All P (all_sessions all) → slice_get all k ≡ Some f → P f.session
+All_own P [] k f held at = absurd cc
+All_own P (g ∷ all) zero f held at =
+    let same : g ≡ f = cc in
+    subst (λ h. P h.session) same (All-head P g.session (g.spawned.items ++ all_sessions all) held)
+All_own P (g ∷ all) (suc k) f held at = All_own P all k f (All_behind P g.spawned.items (all_sessions all) (All-tail P g.session (g.spawned.items ++ all_sessions all) held)) at
+
 -- what was told of worker x's lines fits them, and tells of its entries
 record IsOwn (helpers workers : ℕ) (entries : List Entry) (bs : List Boxed) (x : ℕ) (ts : List Told) : Type 0 where
-  fits : AllZip (Fits helpers workers entries) (lines_of workers x bs) ts
+  fits : FitAll helpers (has_thread workers) entries (lines_of workers x bs) ts
   made : made_of entries ts ≡ filter (λ e. e.worker == x) entries
 
 own_of : (helpers workers start x : ℕ) (entries : List Entry) (bs : List Boxed) (all : List (Finished SessionState)) (f : Finished SessionState) → IsBrought helpers workers bs all x f →
-    All (MatchesSince entries start) (map (λ f. f.session) all) → All (λ s. map (λ r. r.entry) s.receipts ≡ filter (λ e. e.worker == s.worker) entries) (map (λ f. f.session) all) →
-    IsOwn helpers workers entries bs x f.told.items
+    All (MatchesSince entries start) (all_sessions all) → All (HasOwn entries) (all_sessions all) → IsOwn helpers workers entries bs x f.told.items
 own_of helpers workers start x entries bs all f b matching own =
-    let session : Finished SessionState → SessionState = λ g. g.session in
-    let at : slice_get (map session all) x ≡ Some f.session = slice_get-map session all x ∙ ap (option_map session) b.at in
-    let stands = standing entries start f.session (All_at (MatchesSince entries start) (map session all) x f.session matching at) in
-    let fit = all_fit helpers workers f.session.worker entries (lines_of workers x bs) f.told.items f.session.receipts b.runs stands in
+    let stands = standing entries start f.session (All_own (MatchesSince entries start) all x f matching b.at) in
+    let fit = all_fit helpers f.session.worker (has_thread workers) entries (lines_of workers x bs) f.told.items f.session.receipts b.runs stands in
     record {
       fits = fit.0;
-      made = fit.1 ∙ All_at (λ s. map (λ (r : Receipt). r.entry) s.receipts ≡ filter (λ e. e.worker == s.worker) entries) (map session all) x f.session own at
-          ∙ ap (λ w. filter (λ e. e.worker == w) entries) b.worker;
+      made = fit.1 ∙ All_own (HasOwn entries) all x f own b.at ∙ ap (λ w. filter (λ e. e.worker == w) entries) b.worker;
     }
 
 -- ---- the journal has no entry of a worker that there isn't
@@ -140,21 +154,60 @@ none_of x (e ∷ entries) sessions each others = ⊎_elim
     ∙ none_of x entries sessions (All-tail (λ e. count_by (λ s. s.worker == e.worker) sessions ≡ 1) e entries each) others)
     (cases_eq e.worker x)
 
-others_past : (helpers workers x : ℕ) (bs : List Boxed) (all : List (Finished SessionState)) → AllBring helpers workers (all_assigned workers bs) all → workers ≤ x → All (λ s. s.worker ≢ x) (map (λ f. f.session) all)
-others_past helpers workers x bs all h past = λ k d low.
-    let session : Finished SessionState → SessionState = λ g. g.session in
+-- a session of x that has all its entries, and where it is x's no receipts; or there is none of x
+abbrev IsIdle : ℕ → List Entry → SessionState → Type 0
+IsIdle x entries s = (s.worker ≡ x) × HasOwn entries s × (s.receipts ≡ [])
+
+idle_or_none : (x : ℕ) (entries : List Entry) (sessions : List SessionState) → All (HasOwn entries) sessions → All (λ s. s.worker ≡ x → s.receipts ≡ []) sessions → ((s : SessionState) × IsIdle x entries s) ⊎ All (λ s. s.worker ≢ x) sessions
+idle_or_none x entries [] own none = inr (All-nil (λ s. s.worker ≢ x))
+idle_or_none x entries (s ∷ sessions) own none =
+    let None : SessionState → Type 0 = λ t. t.worker ≡ x → t.receipts ≡ [] in
+    ⊎_elim
+    (λ (same : s.worker ≡ x). inl (s, (same, All-head (HasOwn entries) s sessions own, All-head None s sessions none same)))
+    (λ (other : s.worker ≢ x). ⊎_elim
+    (λ (found : (t : SessionState) × IsIdle x entries t). inl found)
+    (λ (others : All (λ t. t.worker ≢ x) sessions). inr (All-cons (λ t. t.worker ≢ x) s sessions other others))
+    (idle_or_none x entries sessions (All-tail (HasOwn entries) s sessions own) (All-tail None s sessions none)))
+    (cases_eq s.worker x)
+
+-- where no session of x has a receipt, there is no entry of x
+none_by : (x : ℕ) (entries : List Entry) (sessions : List SessionState) → All (λ e. count_by (λ s. s.worker == e.worker) sessions ≡ 1) entries → All (HasOwn entries) sessions →
+    All (λ s. s.worker ≡ x → s.receipts ≡ []) sessions → filter (λ e. e.worker == x) entries ≡ []
+none_by x entries sessions each own none = ⊎_elim
+    (λ (found : (s : SessionState) × IsIdle x entries s).
+    ap (λ w. filter (λ e. e.worker == w) entries) (sym found.1.0) ∙ sym found.1.1 ∙ ap (map (λ (r : Receipt). r.entry)) found.1.2)
+    (λ (others : All (λ s. s.worker ≢ x) sessions). none_of x entries sessions each others)
+    (idle_or_none x entries sessions own none)
+
+-- no session of one who is no worker of the opening has a receipt
+none_past : (workers x k : ℕ) (all : List (Finished SessionState)) → workers ≤ x → ((i : ℕ) → i < length all → (f : Finished SessionState) × (slice_get all i ≡ Some f) × (f.session.worker ≡ k + i) × HaveNone f.spawned.items) →
+    k + length all ≤ workers → All (λ s. s.worker ≡ x → s.receipts ≡ []) (all_sessions all)
+none_past workers x k [] past each few = All-nil (λ s. s.worker ≡ x → s.receipts ≡ [])
+none_past workers x k (f ∷ all) past each few =
+    let P : SessionState → Type 0 = λ s. s.worker ≡ x → s.receipts ≡ [] in
+    let here = each 0 (omega arith) in
+    let same : f ≡ here.0 = (let is : Some f ≡ Some here.0 = here.1 in cc) in
+    let worker : f.session.worker ≡ k + 0 = ap (λ (g : Finished SessionState). g.session.worker) same ∙ here.2 in
+    let none : HaveNone f.spawned.items = subst (λ (g : Finished SessionState). HaveNone g.spawned.items) (sym same) here.3 in
+    let later : All P (all_sessions all) =
+    none_past workers x (k + 1) all past
+    (λ i low. let next = each (suc i) (omega (arith, low)) in (next.0, next.1, next.2 ∙ (let e : k + suc i ≡ (k + 1) + i = omega arith in e), next.3))
+    (omega (arith, few)) in
+    All-cons P f.session (f.spawned.items ++ all_sessions all) (λ is. absurd (omega (arith, is, worker, past, few)))
+    (All-append P f.spawned.items (all_sessions all) (All-weaker (λ s. s.receipts ≡ []) P (λ s h is. h) f.spawned.items none) later)
+
+others_none : (helpers workers x : ℕ) (bs : List Boxed) (all : List (Finished SessionState)) → AllBring helpers workers (all_assigned workers bs) all → workers ≤ x → All (λ s. s.worker ≡ x → s.receipts ≡ []) (all_sessions all)
+others_none helpers workers x bs all h past =
     let long : length all ≡ workers = bring_as_many helpers workers (all_assigned workers bs) all h ∙ length-map-range_with_len (λ x. (x, lines_of workers x bs)) 0 workers in
-    let many : length (map session all) ≡ length all = length-map all session in
-    let below : k < workers = omega (arith, low, many, long) in
-    let b = brought helpers workers bs all h k below in
-    let is : (get_or (map session all) k d).worker ≡ k = ap (λ (s : SessionState). s.worker) (map_at session all k b.0 d b.1.at) ∙ b.1.worker in
-    λ same. absurd (omega (arith, is, same, below, past))
+    none_past workers x 0 all past
+    (λ i low. let b = brought helpers workers bs all h i (omega (arith, low, long)) in (b.0, b.1.at, b.1.worker ∙ (let e : i ≡ 0 + i = omega arith in e), b.1.none))
+    (omega (arith, long))
 
 -- ---- the race
 
 own_race : (helpers workers start : ℕ) (stock : List Value) (lines : List Line) (all : List (Finished SessionState)) (ts : List Told) (entries : List Entry) →
     AllBring helpers workers (all_assigned workers (boxed stock lines)) all → IsInScriptOrder workers lines (map (λ f. f.told.items) all) ts →
-    MayClose entries start (map (λ f. f.session) all) → AreSharedOut entries (map (λ f. f.session) all) → (x : ℕ) → x < workers → IsOwn helpers workers entries (boxed stock lines) x (told_of workers x lines ts)
+    MayClose entries start (all_sessions all) → AreSharedOut entries (all_sessions all) → (x : ℕ) → x < workers → IsOwn helpers workers entries (boxed stock lines) x (told_of workers x lines ts)
 own_race helpers workers start stock lines all ts entries bring order closes shared x below =
     let told : Finished SessionState → List Told = λ f. f.told.items in
     let b = brought helpers workers (boxed stock lines) all bring x below in
@@ -163,16 +216,16 @@ own_race helpers workers start stock lines all ts entries bring order closes sha
     subst (IsOwn helpers workers entries (boxed stock lines) x) is (own_of helpers workers start x entries (boxed stock lines) all b.0 b.1 closes.matching shared.own)
 
 each_race : (helpers workers : ℕ) (stock : List Value) (lines : List Line) (all : List (Finished SessionState)) (ts : List Told) (entries : List Entry) → 0 < workers →
-    AllBring helpers workers (all_assigned workers (boxed stock lines)) all → AreSharedOut entries (map (λ f. f.session) all) → AllZip (Fits helpers workers entries) (boxed stock lines) ts →
+    AllBring helpers workers (all_assigned workers (boxed stock lines)) all → AreSharedOut entries (all_sessions all) → FitAll helpers (has_thread workers) entries (boxed stock lines) ts →
     ((x : ℕ) → x < workers → IsOwn helpers workers entries (boxed stock lines) x (told_of workers x lines ts)) → HasEach entries (made_of entries ts)
 each_race helpers workers stock lines all ts entries low bring shared fits own = λ x.
     let bs = boxed stock lines in
     let told_same : told_of workers x lines ts ≡ told_of workers x (map (λ (b : Boxed). b.line) bs) ts = ap (λ ls. told_of workers x ls ts) (sym (lines_boxed stock lines)) in
-    let made = own_made helpers workers entries x bs ts fits in
+    let made = own_made helpers workers (has_thread workers) entries x bs ts (thread_within workers) fits in
     ⊎_elim
     (λ (below : x < workers). sym (own x below).made ∙ ap (made_of entries) told_same ∙ sym made)
     (λ (past : workers ≤ x).
-    none_of x entries (map (λ (f : Finished SessionState). f.session) all) shared.each_of_one (others_past helpers workers x bs all bring past)
+    none_by x entries (all_sessions all) shared.each_of_one shared.own (others_none helpers workers x bs all bring past)
     ∙ sym (made ∙ ap (made_of entries) (sym told_same ∙ told_past workers x lines ts low past)))
     (cases_lt x workers)
 
@@ -180,17 +233,17 @@ each_race helpers workers stock lines all ts entries low bring shared fits own =
 -- threads brought back.
 pub raced : (helpers workers start : ℕ) (stock : List Value) (lines : List Line) (all : List (Finished SessionState)) (ts : List Told) (entries : List Entry) → 0 < workers → All IsCommand lines →
     AllBring helpers workers (all_assigned workers (boxed stock lines)) all → IsInScriptOrder workers lines (map (λ f. f.told.items) all) ts →
-    MayClose entries start (map (λ f. f.session) all) → AreSharedOut entries (map (λ f. f.session) all) → AreRaced helpers workers (boxed stock lines) entries ts
+    MayClose entries start (all_sessions all) → AreSharedOut entries (all_sessions all) → AreRaced helpers workers (boxed stock lines) entries ts
 raced helpers workers start stock lines all ts entries low commands bring order closes shared =
     let bs = boxed stock lines in
     let same : lines ≡ map (λ (b : Boxed). b.line) bs = sym (lines_boxed stock lines) in
     let own = own_race helpers workers start stock lines all ts entries bring order closes shared in
-    let fits = woven helpers workers entries bs ts low (subst (All IsCommand) same commands)
+    let fits = woven helpers workers (has_thread workers) (λ x. has_thread workers) entries bs ts low (thread_within workers) (λ x below. refl) (subst (All IsCommand) same commands)
     (subst (λ ls. AllZip (λ l t. runner_of workers l ≡ None → t ≡ came.Refused refusal.Worker) ls ts) same order.nobodys)
-    (λ x below. subst (λ ls. AllZip (Fits helpers workers entries) (lines_of workers x bs) (told_of workers x ls ts)) same (own x below).fits) in
+    (λ x below. subst (λ ls. FitAll helpers (has_thread workers) entries (lines_of workers x bs) (told_of workers x ls ts)) same (own x below).fits) in
     record {
       made = made_of entries ts;
-      told = fit_told helpers workers entries bs ts fits;
+      told = fit_told helpers (has_thread workers) entries bs ts fits;
       each = each_race helpers workers stock lines all ts entries low bring shared fits own;
-      there = fit_there helpers workers entries bs ts fits;
+      there = fit_there helpers (has_thread workers) entries bs ts fits;
     }

@@ -72,6 +72,7 @@ IsRaceDue start f = Unit {0}
 abbrev pub of_threads : ThreadsFault → RaceFault
 of_threads threads.OutOfMemory = fault.OutOfMemory
 of_threads threads.NoThread = fault.NoThread
+of_threads threads.NoSuchWorker = fault.ReceiptMismatch
 
 abbrev pub race_fault_of_audit : AuditFault → RaceFault
 race_fault_of_audit audit.OutOfMemory = fault.OutOfMemory

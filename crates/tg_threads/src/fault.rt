@@ -20,7 +20,8 @@ pub enum RaceFault {
     /// A worker's thread couldn't be started.
     #[error("no thread")]
     NoThread,
-    /// The sessions' receipts aren't the journal's growth.
+    /// The sessions' receipts aren't the journal's growth; or a session found no such worker, though no retire of its worker was
+    /// entered.
     #[error("receipt mismatch")]
     ReceiptMismatch,
     /// The journal isn't a legal history of the script's opening.
@@ -88,6 +89,7 @@ impl From<ThreadsFault> for RaceFault {
         match fault {
             ThreadsFault::OutOfMemory => RaceFault::OutOfMemory,
             ThreadsFault::NoThread => RaceFault::NoThread,
+            ThreadsFault::NoSuchWorker => RaceFault::ReceiptMismatch,
         }
     }
 }

@@ -2,7 +2,8 @@
 //!
 //! [`run_race`] runs a whole script so. It reads all of its lines and opens its store, [`share_out`] gives each session its lines, and
 //! [`run_threads`] runs them on threads and brings the sessions back with what each line came to: the place of its entry in the
-//! journal, a collection ([`collect_by`]), or a refusal. [`in_script_order`] puts these together again, the store is closed and audited, and
+//! journal, a collection ([`collect_by`]), or a refusal. With them come the sessions of the subjects that spawn lines made, whose
+//! lines nobody runs. [`in_script_order`] puts what the lines came to together again, the store is closed and audited, and
 //! [`tell_all`] writes the reply to each line, and behind them the number of entries. [`runner`] says whose thread runs a line.
 //! What needs no thread of this stands in `tg_weave`, and is offered here again.
 //!

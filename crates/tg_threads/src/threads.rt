@@ -1,5 +1,5 @@
 //! The threads of the workers.
-ghost use Rattle.std.specs.Prelude.{◌≡◌, ℕ, [], IfOk, IfErr, map};
+ghost use Rattle.std.specs.Prelude.{◌≡◌, ◌≢◌, ℕ, [], IfOk, IfErr, map};
 ghost use Rattle.std.specs.List.{All};
 ghost use Rattle.tg_threads.specs.Tasks.{AllBring, Brings, assigned_of, promised_by};
 ghost use Rattle.tg_weave.specs.Boxes.{boxed_of};
@@ -29,6 +29,9 @@ pub enum ThreadsFault {
     /// A worker's thread couldn't be started. Those that were started have ended.
     #[error("no thread")]
     NoThread,
+    /// A session answered that its worker is no subject, though no retire of the worker was entered.
+    #[error("no such worker")]
+    NoSuchWorker,
 }
 
 impl From<AllocError> for ThreadsFault {
@@ -62,12 +65,13 @@ pub(crate) struct Assigned<P: Payload> {
     tasks: Snapshot<Vec<Task<P>>>,
 }
 
-impl<L: Round, P: Payload> Promise<Result<Finished<L>, AllocError>> for Assigned<P> {
-    ghost use Rattle.std.specs.Prelude.{IfOk, map};
+impl<L: Round, P: Payload> Promise<Result<Finished<L>, ThreadsFault>> for Assigned<P> {
+    ghost use Rattle.std.specs.Prelude.{◌≢◌, IfErr, IfOk, map};
+    ghost use Rattle.tg_threads.specs.declared.threads.ThreadsFault.TheVariants.{NoThread};
     ghost use Rattle.tg_threads.specs.Tasks.{Brings};
     ghost use Rattle.tg_weave.specs.Boxes.{boxed_of};
 
-    ghost kept_by = { λ p r. IfOk r (λ finished. Brings p.helpers L.start.opening.workers p.worker (map boxed_of p.tasks.value.items) finished.session finished.told.items) };
+    ghost kept_by = { λ p r. IfErr r (λ fault. fault ≢ NoThread) × IfOk r (λ finished. Brings p.helpers L.start.opening.workers p.worker (map boxed_of p.tasks.value.items) finished) };
 }
 
 /// Gives each worker a thread that runs its lines, and waits for all of them. What they bring back stands in the order of the
@@ -119,7 +123,7 @@ fn start_all<
     turnstile: &'s G,
     helpers: Helpers,
     works: Vec<Work<L, P>>,
-) -> Result<Vec<PromisedHandle<Result<Finished<L>, AllocError>, Assigned<P>>>, ThreadsFault>
+) -> Result<Vec<PromisedHandle<Result<Finished<L>, ThreadsFault>, Assigned<P>>>, ThreadsFault>
     requires fresh { All (λ w. w.session.receipts ≡ []) works.items }
     ensures promises { IfOk result (λ handles. map promised_by handles.items ≡ map assigned_of works.items) }
     ensures helpers { IfOk result (λ handles. All (λ h. h.promise.helpers ≡ helpers) handles.items) }
@@ -148,7 +152,7 @@ fn start<
     turnstile: &'s G,
     helpers: Helpers,
     work: Work<L, P>,
-) -> Result<PromisedHandle<Result<Finished<L>, AllocError>, Assigned<P>>, ThreadsFault>
+) -> Result<PromisedHandle<Result<Finished<L>, ThreadsFault>, Assigned<P>>, ThreadsFault>
     requires fresh { work.session.receipts ≡ [] }
     ensures promise { IfOk result (λ handle. promised_by handle ≡ assigned_of work) }
     ensures helpers { IfOk result (λ handle. handle.promise.helpers ≡ helpers) }
@@ -162,9 +166,10 @@ fn start<
     };
     let Ok(handle) = scope.spawn_with(
         assigned,
-        move || -> Result<Finished<L>, AllocError>
+        move || -> Result<Finished<L>, ThreadsFault>
             requires { session.receipts ≡ [] }
-            ensures { IfOk result (λ finished. Brings helpers L.start.opening.workers session.worker (map boxed_of tasks.items) finished.session finished.told.items) }
+            ensures brought { IfOk result (λ finished. Brings helpers L.start.opening.workers session.worker (map boxed_of tasks.items) finished) }
+            ensures fault { IfErr result (λ fault. fault ≢ ThreadsFault.NoThread) }
         { run_tasks(rt, alloc, store, turnstile, helpers, session, tasks) },
     ) else {
         return Err(ThreadsFault::NoThread);
@@ -176,10 +181,10 @@ fn start<
 fn join_all<L: Round, P: Payload, R: Threads>(
     rt: &R,
     alloc: Global,
-    handles: Vec<PromisedHandle<Result<Finished<L>, AllocError>, Assigned<P>>>,
+    handles: Vec<PromisedHandle<Result<Finished<L>, ThreadsFault>, Assigned<P>>>,
 ) -> Result<Vec<Finished<L>>, ThreadsFault>
     ensures brought { (helpers : ℕ) → All (λ h. h.promise.helpers ≡ helpers) handles.items → IfOk result (λ all. AllBring helpers L.start.opening.workers (map promised_by handles.items) all.items) }
-    ensures fault { IfErr result (λ fault. fault ≡ ThreadsFault.OutOfMemory) }
+    ensures fault { IfErr result (λ fault. fault ≢ ThreadsFault.NoThread) }
 {
     let mut all = Vec::new(alloc);
     for handle in handles {

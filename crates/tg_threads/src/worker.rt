@@ -1,20 +1,25 @@
 //! The run of one worker's lines.
-ghost use Rattle.std.specs.Prelude.{◌≡◌, ◌<◌, ◌++◌, ◌∷◌, [], ℕ, length, map, List, IfErr, IfOk};
+ghost use Rattle.std.specs.Prelude.{◌≡◌, ◌≢◌, ◌<◌, ◌≤◌, ◌+◌, ◌++◌, ◌∷◌, ◌↔◌, [], ℕ, Bool, true, false, if◌then◌else◌, length, map, List, Err, IfErr, IfOk};
+ghost use Rattle.std.specs.List.{count_by};
+ghost use Rattle.std.specs.Vec.{vec_len, vec_capacity};
 ghost use Rattle.tg_model.specs.declared.command.Deed.TheVariants as Deed;
-ghost use Rattle.tg_model.specs.Graph.{IsReachable};
+ghost use Rattle.tg_model.specs.declared.reply.Reply.{Reply as ReplyOf};
+ghost use Rattle.tg_model.specs.Graph.{IsReachable, IsSubject};
 ghost use Rattle.tg_graph.specs.Heap.{content_of};
 ghost use Rattle.tg_store.specs.Room.{LacksRoomToCollect};
 ghost use Rattle.tg_store.specs.Store.{IsCountOf, graph_of_store};
 ghost use Rattle.tg_refusals.specs.Refusals.{create_answer};
-ghost use Rattle.tg_script.specs.Script.{MayWant};
+ghost use Rattle.tg_script.specs.Script.{MayWant, create_of, spawn_of};
 ghost use Rattle.tg_shared.specs.Sessions.{AtSome};
 ghost use Rattle.tg_shared.specs.declared.receipt.Receipt.{Receipt as ReceiptOf};
 ghost use Rattle.tg_text.specs.declared.answer.Refusal.{Refusal as RefusalOf};
-ghost use Rattle.tg_threads.specs.Tasks.{Brings, HasAsked, HasCollected, HasMade, HasRun, IsRunBy};
+ghost use Rattle.tg_threads.specs.Output.{is_retire_of};
+ghost use Rattle.tg_threads.specs.Tasks.{Brings, HasAsked, HasCollected, HasMade, HasRun, HaveNone, IsRunBy, is_deed, may_make_subject, served_past};
 ghost use Rattle.tg_weave.specs.Boxes.{boxed_of};
 
+use crate::threads::ThreadsFault;
 use crate::turnstile::Turnstile;
-use std::alloc::{AllocError, Global};
+use std::alloc::Global;
 use std::sync::Wait;
 use std::thread::Threads;
 use tg_model::Command;
@@ -23,15 +28,18 @@ use tg_refusals::{apply_refusal, create_answer};
 use tg_rights::Label;
 use tg_script::Helpers;
 use tg_shared::{Gate, HelpersFault, NoGate, Round, Session, SharedStore};
-use tg_store::{CollectFault, CreateFault, Kind};
+use tg_store::{ApplyFault, CollectFault, CreateFault, Kind};
 use tg_text::{Answer, Line, Refusal};
 use tg_weave::{Task, Told};
 
 /// A worker's session after its lines, and what each of them came to, in their order.
 pub type Finished<L> = tg_weave::Finished<Session<L>>;
 
-/// Runs the lines, one after the other, and passes the turnstile before each. A collection has so many helpers. Answers only want of
-/// memory otherwise, before any line is run.
+/// Runs the lines, one after the other, and passes the turnstile before each. A collection has so many helpers. Behind its own
+/// retire that was entered, the worker's lines are refused and their payloads dropped; collections are run on.
+///
+/// Want of memory is answered before any line is run, and `NoSuchWorker` where the session answers it though no retire of the
+/// worker was entered.
 pub(crate) fn run_tasks<L: Round, P: Payload, G: Turnstile, R: Threads + Wait + Sync>(
     rt: &R,
     alloc: Global,
@@ -40,37 +48,105 @@ pub(crate) fn run_tasks<L: Round, P: Payload, G: Turnstile, R: Threads + Wait + 
     helpers: Helpers,
     mut session: Session<L>,
     tasks: Vec<Task<P>>,
-) -> Result<Finished<L>, AllocError>
+) -> Result<Finished<L>, ThreadsFault>
     requires fresh { session.receipts ≡ [] }
-    ensures { IfOk result (λ finished. Brings helpers L.start.opening.workers session.worker (map boxed_of tasks.items) finished.session finished.told.items) }
+    ensures brought { IfOk result (λ finished. Brings helpers L.start.opening.workers session.worker (map boxed_of tasks.items) finished) }
+    ensures fault { IfErr result (λ fault. fault ≢ ThreadsFault.NoThread) }
 {
     let mut told = Vec::with_capacity(alloc, tasks.len())?;
+    let mut spawned = Vec::with_capacity(alloc, spawn_lines(tasks.as_slice()))?;
+    let mut served = true;
     for task in tasks {
         turnstile.pass(session.worker());
-        told.push(run_task(rt, store, helpers, &mut session, task))?;
+        let line = task.line;
+        let one = run_task(rt, store, helpers, served, &mut session, &mut spawned, task)?;
+        served = is_served_past(session.worker(), served, &line, one);
+        told.push(one)?;
     }
-    Ok(tg_weave::Finished { session, told })
+    Ok(tg_weave::Finished {
+        session,
+        spawned,
+        told,
+    })
 }
 
-// Runs one line.
+// How many of the lines may make a subject.
+fn spawn_lines<P: Payload>(tasks: &[Task<P>]) -> usize
+    ensures { result ≡ count_by may_make_subject tasks.now }
+{
+    let mut count = 0;
+    for task in tasks {
+        if matches!(task.line, Line::Spawn { .. }) {
+            count += 1;
+        }
+    }
+    count
+}
+
+// Whether this worker's lines are run behind the line, which came to this.
+fn is_served_past(worker: u64, served: bool, line: &Line, told: Told) -> bool
+    ensures { (before : ℕ → Bool) → before worker ≡ served → result ≡ served_past before line.now told worker }
+{
+    match told {
+        Told::Entered { .. } => served && !is_retire_of(worker, line),
+        Told::Collected(_) | Told::Refused(_) => served,
+    }
+}
+
+// Whether the line is a retire of this worker.
+fn is_retire_of(worker: u64, line: &Line) -> bool
+    ensures { result ≡ is_retire_of worker line.now }
+{
+    match line {
+        Line::Plain {
+            worker: other,
+            command: Command::Retire,
+        } => *other == worker,
+        _ => false,
+    }
+}
+
+// Whether the line is refused where its worker's lines are run or not: where they aren't, one that asks for a deed.
+fn is_refused(served: bool, line: &Line) -> bool
+    ensures { result ≡ (if served then false else is_deed line.now) }
+{
+    !served
+        && matches!(
+            line,
+            Line::Plain { .. } | Line::Create { .. } | Line::Spawn { .. }
+        )
+}
+
+// Runs one line, or refuses it where the worker's lines aren't run.
 fn run_task<L: Round, P: Payload, R: Threads + Wait + Sync>(
     rt: &R,
     store: &SharedStore<L, P>,
     helpers: Helpers,
+    served: bool,
     session: &mut Session<L>,
+    spawned: &mut Vec<Session<L>>,
     task: Task<P>,
-) -> Told
-    ensures { let workers : ℕ = L.start.opening.workers in session.old.worker < workers → IsRunBy workers session.old.worker (boxed_of task) →
-        HasRun helpers workers (boxed_of task) result session.old session.new }
+) -> Result<Told, ThreadsFault>
+    requires room { may_make_subject task ≡ true → vec_len spawned.old < vec_capacity spawned.old }
+    ensures run { (workers : ℕ) (before : ℕ → Bool) → before session.old.worker ≡ served → IsRunBy workers session.old.worker (boxed_of task) →
+        IfOk result (λ told. HasRun helpers before (boxed_of task) told session.old session.new) }
+    ensures none { HaveNone spawned.old.items → HaveNone spawned.new.items }
+    ensures kept { vec_capacity spawned.new ≡ vec_capacity spawned.old }
+    ensures fits { vec_len spawned.new ≤ vec_len spawned.old + (if may_make_subject task then 1 else 0) }
+    ensures gone { IfErr result (λ why. (why ≡ ThreadsFault.NoSuchWorker) × AtSome L.start (λ s. ¬ IsSubject (graph_of_store s) session.old.worker)) }
 {
     let Task { line, draft } = task;
+    if is_refused(served, &line) {
+        return Ok(Told::Refused(Refusal::Worker));
+    }
     match line {
         Line::Plain { command, .. } => apply(rt, store, session, command),
         Line::Create { label, .. } => create(rt, store, session, label, draft),
-        Line::Full => collect(rt, store, helpers, session, Kind::Full),
-        Line::Minor => collect(rt, store, helpers, session, Kind::Nursery),
+        Line::Spawn { label, .. } => spawn(rt, store, session, spawned, label, draft),
+        Line::Full => Ok(collect(rt, store, helpers, session, Kind::Full)),
+        Line::Minor => Ok(collect(rt, store, helpers, session, Kind::Nursery)),
         // No thread runs an edge line.
-        Line::Edge(_) => Told::Refused(Refusal::Worker),
+        Line::Edge(_) => Ok(Told::Refused(Refusal::Worker)),
     }
 }
 
@@ -79,13 +155,15 @@ fn apply<L: Round, P: Payload, R: Wait>(
     store: &SharedStore<L, P>,
     session: &mut Session<L>,
     command: Command,
-) -> Told
-    ensures { session.old.worker < L.start.opening.workers → HasAsked (Deed.Plain command) result session.old session.new }
+) -> Result<Told, ThreadsFault>
+    ensures asked { IfOk result (λ told. HasAsked (Deed.Plain command) told session.old session.new) }
+    ensures gone { IfErr result (λ why. (why ≡ ThreadsFault.NoSuchWorker) × AtSome L.start (λ s. ¬ IsSubject (graph_of_store s) session.old.worker)) }
 {
-    if let Err(fault) = session.call(rt, store, command) {
-        return Told::Refused(apply_refusal(fault));
+    match session.call(rt, store, command) {
+        Ok(_) => Ok(last_told(session)),
+        Err(ApplyFault::NoSuchWorker) => Err(ThreadsFault::NoSuchWorker),
+        Err(fault) => Ok(Told::Refused(apply_refusal(fault))),
     }
-    last_told(session)
 }
 
 // The payload is dropped where no vertex is made.
@@ -95,29 +173,70 @@ fn create<L: Round, P: Payload, R: Wait>(
     session: &mut Session<L>,
     label: Label,
     draft: Option<Draft<P>>,
-) -> Told
-    ensures { session.old.worker < L.start.opening.workers → HasMade label draft result session.old session.new }
+) -> Result<Told, ThreadsFault>
+    ensures asked { IfOk result (λ told. HasMade (create_of label) draft told session.old session.new) }
+    ensures gone { IfErr result (λ why. (why ≡ ThreadsFault.NoSuchWorker) × AtSome L.start (λ s. ¬ IsSubject (graph_of_store s) session.old.worker)) }
 {
     let Some(draft) = draft else {
-        return Told::Refused(Refusal::Stock);
+        return Ok(Told::Refused(Refusal::Stock));
     };
-    let Err(refused) = session.create(rt, store, label, draft) else {
-        return last_told(session);
-    };
-    let why = refused.why;
-    drop(refused);
-    not_made(session, why)
+    match session.create(rt, store, label, draft) {
+        Ok(_) => Ok(last_told(session)),
+        Err(refused) => {
+            let why = refused.why;
+            drop(refused);
+            not_made(session, why)
+        }
+    }
 }
 
-// What a create is told that made no vertex, as in a script; where it has an entry, that tells it.
-fn not_made<L: Round>(session: &Session<L>, why: CreateFault) -> Told
-    requires { why ≡ CreateFault.VerticesFull → 0 < length session.now.receipts }
-    ensures refused { (refusal : RefusalOf) → create_answer why ≡ Answer.Refused refusal → result ≡ Told.Refused refusal }
-    ensures entered { why ≡ CreateFault.VerticesFull → (front : List ReceiptOf) (last : ReceiptOf) → session.now.receipts ≡ front ++ last ∷ [] → result ≡ Told.Entered last.at }
+// As a create; and the new subject's session is kept with the others, for which there is room.
+fn spawn<L: Round, P: Payload, R: Wait>(
+    rt: &R,
+    store: &SharedStore<L, P>,
+    session: &mut Session<L>,
+    spawned: &mut Vec<Session<L>>,
+    label: Label,
+    draft: Option<Draft<P>>,
+) -> Result<Told, ThreadsFault>
+    requires room { vec_len spawned.old < vec_capacity spawned.old }
+    ensures asked { IfOk result (λ told. HasMade (spawn_of label) draft told session.old session.new) }
+    ensures none { HaveNone spawned.old.items → HaveNone spawned.new.items }
+    ensures kept { vec_capacity spawned.new ≡ vec_capacity spawned.old }
+    ensures fits { vec_len spawned.new ≤ vec_len spawned.old + 1 }
+    ensures gone { IfErr result (λ why. (why ≡ ThreadsFault.NoSuchWorker) × AtSome L.start (λ s. ¬ IsSubject (graph_of_store s) session.old.worker)) }
 {
+    let Some(draft) = draft else {
+        return Ok(Told::Refused(Refusal::Stock));
+    };
+    match session.spawn(rt, store, label, draft) {
+        Ok(fresh) => {
+            spawned.push_reserved(fresh);
+            Ok(last_told(session))
+        }
+        Err(refused) => {
+            let why = refused.why;
+            drop(refused);
+            not_made(session, why)
+        }
+    }
+}
+
+// What a create or a spawn is told that made no vertex, as in a script; where it has an entry, that tells it. That there is no such
+// worker is a fault.
+fn not_made<L: Round>(session: &Session<L>, why: CreateFault) -> Result<Told, ThreadsFault>
+    requires { (reply : ReplyOf) → create_answer why ≡ Answer.Reply reply → 0 < length session.now.receipts }
+    ensures refused { (refusal : RefusalOf) → create_answer why ≡ Answer.Refused refusal → IfOk result (λ told. told ≡ Told.Refused refusal) }
+    ensures entered { (reply : ReplyOf) → create_answer why ≡ Answer.Reply reply → (front : List ReceiptOf) (last : ReceiptOf) → session.now.receipts ≡ front ++ last ∷ [] → IfOk result (λ told. told ≡ Told.Entered last.at) }
+    ensures fault { (result ≡ Err ThreadsFault.NoSuchWorker) ↔ (why ≡ CreateFault.NoSuchWorker) }
+    ensures alone { IfErr result (λ fault. fault ≡ ThreadsFault.NoSuchWorker) }
+{
+    if why == CreateFault::NoSuchWorker {
+        return Err(ThreadsFault::NoSuchWorker);
+    }
     match create_answer(why) {
-        Answer::Refused(refusal) => Told::Refused(refusal),
-        Answer::Reply(_) => last_told(session),
+        Answer::Refused(refusal) => Ok(Told::Refused(refusal)),
+        Answer::Reply(_) => Ok(last_told(session)),
         Answer::Collected(_) => unreachable!(),
     }
 }

@@ -49,6 +49,7 @@ run_by workers x l h = some_run (runner_of workers l) x h
 pub runner_below : (workers y : ℕ) (l : Line) → 0 < workers → runner_of workers l ≡ Some y → y < workers
 runner_below workers y (line.Edge edge) low by = absurd cc
 runner_below workers y (line.Create x label) low by = let n = named x workers y by in subst (λ z. z < workers) n.1 n.0
+runner_below workers y (line.Spawn x label) low by = let n = named x workers y by in subst (λ z. z < workers) n.1 n.0
 runner_below workers y (line.Plain x command) low by = let n = named x workers y by in subst (λ z. z < workers) n.1 n.0
 runner_below workers y line.Full low by = let zero_is : 0 ≡ y = cc in subst (λ z. z < workers) zero_is low
 runner_below workers y line.Minor low by = let zero_is : 0 ≡ y = cc in subst (λ z. z < workers) zero_is low

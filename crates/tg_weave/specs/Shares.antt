@@ -1,6 +1,6 @@
 -- How the lines of a script are shared out among the sessions of its workers, and how what they came to goes together again.
-use Rattle.std.specs.Prelude.{◌≡◌, ℕ, ◌==◌, Bool, false, List, map, Option, Some, None, nat_lt, if◌then◌else◌}
-use Rattle.std.specs.List.{AllZip, filter, range_with_len, zip}
+use Rattle.std.specs.Prelude.{◌≡◌, ℕ, ◌==◌, Bool, false, List, ◌∷◌, map, Option, Some, None, nat_lt, if◌then◌else◌}
+use Rattle.std.specs.List.{AllZip, filter, flat_map, range_with_len, zip}
 use Rattle.std.specs.Option.{option_map_or}
 use Rattle.tg_text.specs.declared.line.Line.{Line}
 use Rattle.tg_text.specs.declared.line.Line.TheVariants as line
@@ -8,6 +8,7 @@ use Rattle.tg_text.specs.declared.answer.Refusal.TheVariants as refusal
 use Rattle.tg_weave.specs.declared.task.Told.{Told}
 use Rattle.tg_weave.specs.declared.task.Told.TheVariants as came
 use Rattle.tg_weave.specs.declared.work.Work.{Work}
+use Rattle.tg_weave.specs.declared.work.Finished.{Finished}
 use Rattle.tg_weave.specs.Boxes.{Boxed, boxed_of}
 
 -- ---- who runs a line
@@ -16,6 +17,7 @@ use Rattle.tg_weave.specs.Boxes.{Boxed, boxed_of}
 abbrev pub runner_of : ℕ → Line → Option ℕ
 runner_of workers (line.Edge edge) = None
 runner_of workers (line.Create x label) = if nat_lt x workers then Some x else None
+runner_of workers (line.Spawn x label) = if nat_lt x workers then Some x else None
 runner_of workers (line.Plain x command) = if nat_lt x workers then Some x else None
 runner_of workers line.Full = Some 0
 runner_of workers line.Minor = Some 0
@@ -37,6 +39,16 @@ all_lines workers bs = map (λ x. lines_of workers x bs) (range_with_len 0 worke
 -- the lines that a session is given
 abbrev pub lines_in : {S P : Type 0} → Work S P → List Boxed
 lines_in w = map boxed_of w.tasks.items
+
+-- ---- the sessions that come back
+
+-- a worker's session, and those of the subjects that its lines made
+abbrev pub sessions_in : {S : Type 0} → Finished S → List S
+sessions_in f = f.session ∷ f.spawned.items
+
+-- the sessions of all workers
+abbrev pub all_sessions : {S : Type 0} → List (Finished S) → List S
+all_sessions finished = flat_map sessions_in finished
 
 -- ---- what they came to, in script order
 

@@ -12,9 +12,9 @@ use std::vec::IntoIter;
 use tg_payload::{Draft, Payload};
 use tg_text::Line;
 
-/// Gives each session the lines that it has to run, in script order, each create line with the payload that stands in the stock
-/// where the line stands among the create lines. The sessions are those of all workers, by number. The payload of a line that
-/// names no worker is dropped. Answers only want of memory otherwise, and then drops what came in.
+/// Gives each session the lines that it has to run, in script order, each create line and each spawn line with the payload that
+/// stands in the stock where the line stands among these. The sessions are those of all workers, by number. The payload of a line that
+/// names no worker is dropped. Fails only when out of memory, and then drops what came in.
 pub fn share_out<S: Drop, P: Payload>(
     alloc: Global,
     sessions: Vec<S>,
@@ -47,13 +47,13 @@ fn box_lines<P: Payload>(
     Ok(tasks)
 }
 
-// The first payload that is left, for a create line.
+// The first payload that is left, for a line that makes a vertex.
 fn take_box<P: Payload>(left: &mut IntoIter<Draft<P>>, line: &Line) -> Option<Draft<P>>
     ensures first { result ≡ box_of (into_iter_items left.old) line.now }
     ensures left { into_iter_items left.new ≡ stock_behind (into_iter_items left.old) line.now }
 {
     match line {
-        Line::Create { .. } => left.next(),
+        Line::Create { .. } | Line::Spawn { .. } => left.next(),
         _ => None,
     }
 }

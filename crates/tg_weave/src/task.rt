@@ -30,7 +30,7 @@ pub fn runner(workers: u64, line: &Line) -> Option<u64>
     ensures { result ≡ runner_of workers line.now }
 {
     match line {
-        Line::Create { worker, .. } | Line::Plain { worker, .. } => {
+        Line::Create { worker, .. } | Line::Spawn { worker, .. } | Line::Plain { worker, .. } => {
             if *worker < workers {
                 Some(*worker)
             } else {

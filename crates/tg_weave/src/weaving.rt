@@ -2,7 +2,7 @@
 ghost use Rattle.std.specs.Prelude.{◌≡◌, ◌<◌, ◌+◌, ℕ, None, Some, IfOk, List, length, map, slice_index, slice_set, slice_get};
 ghost use Rattle.std.specs.List.{filter, range_with_len};
 ghost use Rattle.tg_weave.specs.declared.task.Told.{Told as ToldOf};
-ghost use Rattle.tg_weave.specs.Shares.{IsInScriptOrder, is_run_by, runner_of};
+ghost use Rattle.tg_weave.specs.Shares.{IsInScriptOrder, all_sessions, is_run_by, runner_of};
 
 use crate::task::{Told, runner};
 use crate::work::Finished;
@@ -10,8 +10,8 @@ use std::alloc::{AllocError, Global};
 use tg_text::{Line, Refusal};
 
 /// What each line of the script came to, in its order, from what each worker's session brought back, by the number of the worker.
-/// A line that no session runs is refused, as it names no worker. Each brings as many as it was given lines. Answers only
-/// want of memory otherwise.
+/// A line that no session runs is refused, as it names no worker. Each brings as many as it was given lines. Fails only
+/// when out of memory.
 pub fn in_script_order<S: Drop>(
     alloc: Global,
     lines: &[Line],
@@ -49,14 +49,20 @@ fn next_told<S: Drop>(finished: &[Finished<S>], seen: &mut Vec<usize>, line: &Li
     told
 }
 
-/// The sessions of the workers, whose lines were run. Answers only want of memory otherwise, and the sessions are then lost.
+/// The sessions of the workers, whose lines were run, each with those of the subjects that its lines made. Fails only when out
+/// of memory, and the sessions are then lost.
 pub fn sessions_of<S: Drop>(alloc: Global, finished: Vec<Finished<S>>) -> Result<Vec<S>, AllocError>
-    ensures { IfOk result (λ sessions. sessions.items ≡ map (λ f. f.session) finished.items) }
+    ensures { IfOk result (λ sessions. sessions.items ≡ all_sessions finished.items) }
 {
     let mut sessions = Vec::with_capacity(alloc, finished.len())?;
     for one in finished {
-        let Finished { session, told: _ } = one;
+        let Finished {
+            session,
+            mut spawned,
+            told: _,
+        } = one;
         sessions.push(session)?;
+        sessions.append(&mut spawned)?;
     }
     Ok(sessions)
 }

@@ -14,5 +14,7 @@ pub struct Work<S, P: Payload> {
 #[derive(Drop)]
 pub struct Finished<S> {
     pub session: S,
+    /// The sessions of the subjects that the lines made. Nobody runs lines of these.
+    pub spawned: Vec<S>,
     pub told: Vec<Told>,
 }

@@ -41,16 +41,25 @@ fn take_line(run: &mut Run, line: &ScriptLine) -> Result<(), DrawFault> {
 fn draw_digraph<R: Print>(rt: &R, run: &Run, reached: &BTreeSet<u64>) -> io::Result<()> {
     println!(rt; "digraph store {{")?;
     for (name, vertex) in run.vertices().iter() {
-        draw_vertex(rt, *name, vertex.is_subject, reached.contains(name))?;
+        draw_vertex(rt, run, *name, vertex, reached.contains(name))?;
     }
     draw_rows(rt, run, reached)?;
     println!(rt; "}}")
 }
 
-fn draw_vertex<R: Print>(rt: &R, name: u64, is_subject: bool, reached: bool) -> io::Result<()> {
-    let shape = if is_subject { "box" } else { "circle" };
+// A vertex: a box or a circle. The border of one who retired is dashed.
+fn draw_vertex<R: Print>(
+    rt: &R,
+    run: &Run,
+    name: u64,
+    vertex: &Vertex,
+    reached: bool,
+) -> io::Result<()> {
+    let shape = if vertex.ever_subject { "box" } else { "circle" };
+    let retired = run.has_retired(name, vertex);
+    let border = if retired { " style=dashed" } else { "" };
     let colour = colour_of(reached);
-    println!(rt; "    {name} [shape={shape} color={colour} fontcolor={colour}]")
+    println!(rt; "    {name} [shape={shape}{border} color={colour} fontcolor={colour}]")
 }
 
 // The edges of all vertices.

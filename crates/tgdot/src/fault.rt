@@ -6,6 +6,14 @@ use tg_model::{ModelFault, OpeningFault};
 use tg_text::StockFault;
 use thiserror::Error;
 
+/// A bad line of a script: its number, and why it is one, or nothing where that isn't known.
+#[derive(Clone, Copy, Debug, Drop, Error)]
+#[error("line {number}: bad line{reason}")]
+pub struct BadLine {
+    pub number: u64,
+    pub reason: &'static str,
+}
+
 /// Why the program ends early: the line on standard error, after its name.
 #[derive(Debug, Drop, Error)]
 pub enum DrawFault {
@@ -22,8 +30,8 @@ pub enum DrawFault {
     #[error(transparent)]
     Opening(#[from] OpeningFault),
     /// The line is none of the grammar, or an edge where it may not stand, or has no end.
-    #[error("line {line}: bad line")]
-    BadLine { line: u64 },
+    #[error(transparent)]
+    BadLine(#[from] BadLine),
     /// There are more steps than are drawn at once.
     #[error("more than {most} steps: choose some of the lines by --from and --to")]
     TooManySteps { most: u64 },

@@ -10,8 +10,8 @@ use std::collections::BTreeMap;
 pub struct Room {
     /// The columns of the longest of its lines.
     pub columns: usize,
-    /// Whether it is a subject.
-    pub is_subject: bool,
+    /// Whether it is a subject, or was one until it retired.
+    pub ever_subject: bool,
 }
 
 /// The vertices and edges that ever stand at a step, and how many columns the texts of each take, so that every picture has the same
@@ -48,14 +48,14 @@ impl Frame {
     // Widens the room of a vertex.
     fn widen_vertex(&mut self, name: u64, view: &VertexView) -> Result<(), DrawFault> {
         let columns = view.name.len().max(view.state.len());
-        let is_subject = view.is_subject;
+        let ever_subject = view.ever_subject;
         let least = Room {
             columns,
-            is_subject,
+            ever_subject,
         };
         let room = self.vertices.entry(name)?.or_insert(least);
         room.columns = room.columns.max(columns);
-        room.is_subject = room.is_subject || is_subject;
+        room.ever_subject = room.ever_subject || ever_subject;
         Ok(())
     }
 

@@ -19,7 +19,7 @@ pub enum Colour {
 pub enum Stroke {
     /// It is there.
     Solid,
-    /// It lacks rights.
+    /// An edge that lacks rights, or a subject that retired.
     Dashed,
     /// It isn't there, or no subject reaches it.
     Dotted,

@@ -1,11 +1,12 @@
 //! Draws the graph that a script leaves, or the graph after each line, in the language of GraphViz's `dot`.
 //!
 //! It reads the script that `tgstore` reads, with the same options `--workers`, `--vertices` and `--stock`, and runs it on
-//! the plain graph of `tg_model`: no heap and no journal. Then it prints a digraph: a box for each subject and a
-//! circle for each object, an arrow with its rights for each edge, and grey for what no subject reaches any more, which is
-//! what a collection of the whole heap frees. With `--steps` it prints a digraph for each line.
+//! the plain graph of `tg_model`: no heap and no journal. Then it prints a digraph: a box for each subject, with a dashed
+//! border where it retired, and a circle for each object, an arrow with its rights for each edge, and grey for what no
+//! subject reaches any more, which is what a collection of the whole heap frees. With `--steps` it prints a digraph for
+//! each line.
 //!
-//! The words of the command line are `options`' matter, and lines `script`'s. `run` runs them, and knows which edges there are, so that
+//! The words of the command line are `options`' matter, and lines `script`'s, and `reason` says why one is bad. `run` runs them, and knows which edges there are, so that
 //! no pair of vertices is asked for its edge in vain. `drawing` prints the last graph. Of the steps, `shot` says what is shown at one and
 //! `told` what its line was answered, `look` how it looks, `frame` what all have in common, `picture` prints one, and `steps` all of them.
 //! A line of the grammar has a place in `run`, where it is taken and followed, and in `named` of `shot`.
@@ -17,6 +18,7 @@ mod frame;
 mod look;
 mod options;
 mod picture;
+mod reason;
 mod run;
 mod script;
 mod shot;
@@ -58,12 +60,13 @@ fn obey(rt: &HostRuntime) -> Result<u8, DrawFault> {
 fn draw_script(rt: &HostRuntime, options: DotOptions) -> Result<u8, DrawFault> {
     let stock = read_stock(rt.alloc(), options.stock.as_bytes())?;
     let script = read_script(rt, rt.alloc(), options.workers)?;
+    let bad_line = script.bad_line;
     let lines = script.lines.as_slice();
     if let Some(range) = options.steps {
         draw_steps(rt, rt.alloc(), options, range, lines, stock.as_slice())?;
     }
-    if let Some(line) = script.bad_line {
-        return Err(DrawFault::BadLine { line });
+    if let Some(bad) = bad_line {
+        return Err(DrawFault::BadLine(bad));
     }
     if options.steps.is_none() {
         draw_last(rt, rt.alloc(), options, lines, stock.as_slice())?;

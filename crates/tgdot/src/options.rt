@@ -7,7 +7,7 @@ use std::convert::AsStr;
 const ABOUT: &str = "Draws the graph that a script leaves, for GraphViz's dot
 
 Reads a script of tgstore's from standard input, runs it, and writes a digraph to standard output: subjects as boxes,
-objects as circles, an arrow with its rights for each edge, and grey what no subject reaches.
+with a dashed border where they retired, objects as circles, an arrow with its rights for each edge, and grey what no subject reaches.
 
 With --steps it writes a digraph for each line that is no edge line, and one before the first of them. Each names the same vertices and
 edges, and hides what isn't there, so that dot puts a vertex at one place in all of them. A vertex shows its law and its state. Bold are
@@ -17,11 +17,11 @@ vertex red that should store a log. Neither the heap nor memory refuses a line h
 const EXAMPLE: &str = "Example:
   printf '0 create rw\\n0 list\\n' | tgdot --workers 1 --stock c | dot -Tsvg > graph.svg";
 
-const WORKERS: &str = "How many workers there are, from 1 to 64 [default: 2]";
+const WORKERS: &str = "How many workers there are at first, from 1 to 64 [default: 2]";
 
 const VERTICES: &str = "How many vertices may ever be made, from 1 to 16777216 [default: 1000000]";
 
-const STOCK: &str = "The boxes that creates take, as tgstore has them";
+const STOCK: &str = "The boxes that creates and spawns take, as tgstore has them";
 
 const STEPS: &str = "A digraph for each line, of at most 400 lines, and 100000 vertices in all";
 
@@ -32,7 +32,7 @@ const TO: &str = "With --steps: the last line that is shown [default: the last o
 /// What the words ask for.
 #[derive(Clone, Copy, Drop)]
 pub struct DotOptions<'a> {
-    /// How many workers there are, from 1 to 64.
+    /// How many workers there are at first, from 1 to 64.
     pub workers: u64,
     /// How many vertices may ever be made, from 1 to 2^24.
     pub max_vertices: u64,

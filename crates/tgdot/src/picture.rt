@@ -123,7 +123,7 @@ impl Display for Room {
     /// Writes the shape and the size.
     fn fmt<W: fmt::Write>(&self, f: &mut Formatter<W>) -> fmt::Result {
         let text = self.columns.saturating_mul(LETTER);
-        if self.is_subject {
+        if self.ever_subject {
             let width = Inches(text.saturating_add(BOX_MARGIN));
             let height = Inches(HEIGHT);
             write!(f, "shape=box width={width} height={height}")

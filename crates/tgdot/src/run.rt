@@ -14,7 +14,6 @@ use tg_text::{Answer, Line, Refusal, StockItem};
 #[derive(Drop)]
 pub struct Run<'a> {
     alloc: Global,
-    workers: u64,
     graph: Graph,
     vertices: BTreeMap<u64, Vertex>,
     stock: &'a [StockItem],
@@ -23,8 +22,8 @@ pub struct Run<'a> {
 /// A vertex that no collection took.
 #[derive(Drop)]
 pub struct Vertex {
-    /// Whether it is a subject.
-    pub is_subject: bool,
+    /// Whether it is a subject, or was one until it retired.
+    pub ever_subject: bool,
     /// What it stores.
     pub value: Value,
     /// The vertices to which it has edges.
@@ -55,7 +54,6 @@ impl<'a> Run<'a> {
         let graph = Graph::open(alloc, &opening)?;
         Ok(Run {
             alloc,
-            workers: options.workers,
             graph,
             vertices,
             stock,
@@ -65,7 +63,8 @@ impl<'a> Run<'a> {
     /// Runs a line. An edge line does nothing here: the graph began with its edge.
     pub fn take(&mut self, line: &Line) -> Result<Event, DrawFault> {
         match *line {
-            Line::Create { worker, label } => self.create(worker, label),
+            Line::Create { worker, label } => self.make(worker, label, false),
+            Line::Spawn { worker, label } => self.make(worker, label, true),
             Line::Plain { worker, command } => self.obey(worker, command),
             Line::Full => self.collect(),
             Line::Minor | Line::Edge(_) => Ok(unchanged(Answer::Collected(None))),
@@ -77,6 +76,11 @@ impl<'a> Run<'a> {
         &self.vertices
     }
 
+    /// Whether the vertex of this name was a subject and is none any more.
+    pub fn has_retired(&self, name: u64, vertex: &Vertex) -> bool {
+        vertex.ever_subject && !self.graph.is_subject(name)
+    }
+
     /// The rights of one vertex over another.
     pub fn label(&self, from: u64, to: u64) -> Rights {
         self.graph.label(from, to)
@@ -86,11 +90,9 @@ impl<'a> Run<'a> {
     pub fn reached(&self) -> Result<BTreeSet<u64>, DrawFault> {
         let mut reached = BTreeSet::new(self.alloc);
         let mut waiting = Vec::new(self.alloc);
-        for (name, vertex) in self.vertices.iter() {
-            if vertex.is_subject {
-                reached.insert(*name)?;
-                waiting.push(*name)?;
-            }
+        for name in self.graph.subjects() {
+            reached.insert(*name)?;
+            waiting.push(*name)?;
         }
         self.reach_on(&mut reached, &mut waiting)?;
         Ok(reached)
@@ -114,36 +116,36 @@ impl<'a> Run<'a> {
         Ok(())
     }
 
-    // Makes a vertex that stores the next box. Where none is made, the box stays.
-    fn create(&mut self, worker: u64, label: Label) -> Result<Event, DrawFault> {
+    // Makes a subject or an object that stores the next box. Where none is made, the box stays.
+    fn make(&mut self, worker: u64, label: Label, as_subject: bool) -> Result<Event, DrawFault> {
         let Some((kind, rest)) = self.stock.split_first() else {
             return Ok(unchanged(Answer::Refused(Refusal::Stock)));
         };
-        if worker >= self.workers {
+        if !self.graph.is_subject(worker) {
             return Ok(unchanged(Answer::Refused(Refusal::Worker)));
         }
-        let value = value_of(*kind);
-        let deed = create_deed(label, value_of(*kind));
+        let vertex = new_vertex(self.alloc, as_subject, value_of(*kind));
+        let deed = deed_of(label, value_of(*kind), as_subject);
         // A new box fits its law, so no vertex is missed here.
         if !deed.fits() {
             return Ok(unchanged(Answer::Refused(Refusal::Stock)));
         }
-        let Reply::Name(name) = self.graph.apply(worker, &deed)? else {
-            return Ok(unchanged(Answer::Reply(Reply::VerticesFull)));
+        let reply = self.graph.apply(worker, &deed)?;
+        let Reply::Name(name) = reply else {
+            return Ok(unchanged(Answer::Reply(reply)));
         };
         self.stock = rest;
-        let vertex = new_vertex(self.alloc, false, value);
         self.vertices.insert(name, vertex)?;
         let changed = self.join(worker, name)?;
         Ok(Event {
-            answer: Answer::Reply(Reply::Name(name)),
+            answer: Answer::Reply(reply),
             changed,
         })
     }
 
     // Runs a command that makes no vertex.
     fn obey(&mut self, worker: u64, command: Command) -> Result<Event, DrawFault> {
-        if worker >= self.workers {
+        if !self.graph.is_subject(worker) {
             return Ok(unchanged(Answer::Refused(Refusal::Worker)));
         }
         let deed = Deed::Plain(command);
@@ -173,7 +175,9 @@ impl<'a> Run<'a> {
                 self.store(target, value)?;
                 Ok(None)
             }
-            Command::Read { .. } | Command::Inspect { .. } | Command::List => Ok(None),
+            Command::Read { .. } | Command::Inspect { .. } | Command::List | Command::Retire => {
+                Ok(None)
+            }
         }
     }
 
@@ -272,9 +276,9 @@ fn new_vertices(alloc: Global, workers: u64) -> Result<BTreeMap<u64, Vertex>, Dr
 }
 
 // A vertex without edges.
-fn new_vertex(alloc: Global, is_subject: bool, value: Value) -> Vertex {
+fn new_vertex(alloc: Global, ever_subject: bool, value: Value) -> Vertex {
     Vertex {
-        is_subject,
+        ever_subject,
         value,
         targets: BTreeSet::new(alloc),
     }
@@ -289,10 +293,14 @@ fn values_of(alloc: Global, workers: u64) -> Result<Vec<Value>, AllocError> {
     Ok(values)
 }
 
-// The making of a vertex that stores the value.
-fn create_deed(label: Label, value: Value) -> Deed {
+// The making of a subject or an object that stores the value.
+fn deed_of(label: Label, value: Value, as_subject: bool) -> Deed {
     let Value { law, state } = value;
-    Deed::Create { label, law, state }
+    if as_subject {
+        Deed::Spawn { label, law, state }
+    } else {
+        Deed::Create { label, law, state }
+    }
 }
 
 // What a new box stores.

@@ -1,6 +1,7 @@
 //! The lines of a script.
 
-use crate::fault::DrawFault;
+use crate::fault::{BadLine, DrawFault};
+use crate::reason::{reason_of, reason_of_edge};
 use std::alloc::{AllocError, Global};
 use std::io::{ErrorKind, Input};
 use tg_text::{Line, read_line};
@@ -22,8 +23,8 @@ pub struct ScriptLine {
 pub struct Script {
     /// The lines before the bad one, or all of them.
     pub lines: Vec<ScriptLine>,
-    /// The number of the bad line.
-    pub bad_line: Option<u64>,
+    /// The bad line.
+    pub bad_line: Option<BadLine>,
 }
 
 /// Reads the script on standard input. An edge stands before all other lines, and between workers.
@@ -35,13 +36,20 @@ pub fn read_script<R: Input>(rt: &R, alloc: Global, workers: u64) -> Result<Scri
         if !read_text(rt, &mut text)? {
             break;
         }
-        match line_of(alloc, text.as_str())? {
-            Some(read) if may_stand(&read.line, &mut opening, workers) => lines.push(read)?,
-            _ => return Ok(Script {
-                lines,
-                bad_line: Some(number),
-            }),
-        }
+        let reason = match line_of(alloc, text.as_str())? {
+            None => reason_of(text.as_str()),
+            Some(read) => match misplaced(&read.line, &mut opening, workers) {
+                Some(reason) => reason,
+                None => {
+                    lines.push(read)?;
+                    continue;
+                }
+            },
+        };
+        return Ok(Script {
+            lines,
+            bad_line: Some(BadLine { number, reason }),
+        });
     }
     Ok(Script {
         lines,
@@ -80,13 +88,14 @@ fn line_of(alloc: Global, text: &str) -> Result<Option<ScriptLine>, AllocError> 
     }
 }
 
-// Whether the line may stand behind those before it. The opening ends with the first line that is no edge.
-fn may_stand(line: &Line, opening: &mut bool, workers: u64) -> bool {
+// Why the line may not stand behind those before it, where it may not. The opening ends with the first line that is no edge.
+fn misplaced(line: &Line, opening: &mut bool, workers: u64) -> Option<&'static str> {
     match line {
-        Line::Edge(edge) => *opening && edge.joins_workers(workers),
+        Line::Edge(edge) if *opening && edge.joins_workers(workers) => None,
+        Line::Edge(edge) => Some(reason_of_edge(edge, *opening)),
         _ => {
             *opening = false;
-            true
+            None
         }
     }
 }

@@ -29,8 +29,8 @@ pub struct Shot {
 /// A vertex in a picture.
 #[derive(Drop)]
 pub struct VertexView {
-    /// Whether it is a subject.
-    pub is_subject: bool,
+    /// Whether it is a subject, or was one until it retired.
+    pub ever_subject: bool,
     /// The first line of its text, its name.
     pub name: String,
     /// The second line, its law and its state.
@@ -104,17 +104,30 @@ fn vertices_of(
 ) -> Result<BTreeMap<u64, VertexView>, DrawFault> {
     let mut views = BTreeMap::new(alloc);
     for (name, vertex) in run.vertices().iter() {
-        let look = Look::reached(reached.contains(name));
+        let is_reached = reached.contains(name);
+        let look = Look::reached(is_reached);
         let state = state_text(alloc, &vertex.value)?;
-        let view = VertexView {
-            is_subject: vertex.is_subject,
+        let mut view = VertexView {
+            ever_subject: vertex.ever_subject,
             name: format!(in alloc; "{name}")?,
             state,
             look,
         };
+        if run.has_retired(*name, vertex) {
+            mark_retired(&mut view, is_reached)?;
+        }
         views.insert(*name, view)?;
     }
     Ok(views)
+}
+
+// Marks a subject that retired. Its border isn't dotted where no subject reaches it, so a word says that.
+fn mark_retired(view: &mut VertexView, is_reached: bool) -> Result<(), DrawFault> {
+    view.look.stroke = Stroke::Dashed;
+    if !is_reached {
+        view.name.push_str(" unreached")?;
+    }
+    Ok(())
 }
 
 // The edges that are there.
@@ -253,7 +266,7 @@ fn add_absent(alloc: Global, shot: &mut Shot, name: u64) -> Result<(), DrawFault
         return Ok(());
     }
     let view = VertexView {
-        is_subject: false,
+        ever_subject: false,
         name: format!(in alloc; "{name}")?,
         state: String::from_str(alloc, "not there")?,
         look: Look::reached(false),
@@ -283,7 +296,7 @@ fn named_twice(line: &Line) -> Option<u64> {
 // The vertices that a line names: the one that acts, and those behind the word.
 fn named(line: &Line) -> [Option<u64>; 3] {
     match *line {
-        Line::Create { worker, .. } => [Some(worker), None, None],
+        Line::Create { worker, .. } | Line::Spawn { worker, .. } => [Some(worker), None, None],
         Line::Plain { worker, command } => match command {
             Command::Take { via, target, .. } | Command::Grant { via, target, .. } => {
                 [Some(worker), Some(via), Some(target)]
@@ -293,7 +306,7 @@ fn named(line: &Line) -> [Option<u64>; 3] {
             | Command::Write { target, .. }
             | Command::Append { target, .. }
             | Command::Inspect { target } => [Some(worker), Some(target), None],
-            Command::List => [Some(worker), None, None],
+            Command::List | Command::Retire => [Some(worker), None, None],
         },
         Line::Edge(_) | Line::Full | Line::Minor => [None, None, None],
     }

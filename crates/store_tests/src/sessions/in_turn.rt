@@ -2,7 +2,7 @@
 ghost use Rattle.std.specs.Prelude.{◌≡◌, ◌+◌};
 ghost use Rattle.tg_shared.specs.Sessions.{start_of_store};
 
-use crate::sessions::opened::{closed, make, store_with};
+use crate::sessions::opened::{close_twice, make, store_with};
 use std::alloc::Global;
 use std::marker::Brand;
 use std::sync::Wait;
@@ -11,9 +11,7 @@ use std::test::Fail;
 use tg_journal::{Entry, Journal};
 use tg_model::{Cause, Command, Deed, Denial, Numbers, Reply, Rule};
 use tg_payload::CellPayload;
-use tg_shared::{
-    CloseFault, CloseRefused, Receipt, Round, Session, Shared, SharedStore, close, receipts_match,
-};
+use tg_shared::{CloseFault, Receipt, Round, Session, Shared, SharedStore, receipts_match};
 use tg_store::{CreateFault, Store};
 
 const WRITE: Command = Command::Write {
@@ -72,30 +70,6 @@ fn use_in_turn<L: Round, R: Wait>(
     let then_by_first = make(rt, alloc, store, sessions.get_mut(0)?)?;
     use_the_cell(rt, store, sessions.get_mut(1)?)?;
     Some([by_first, by_second, then_by_first])
-}
-
-// Closes without the last session, and then with it. Answers why it isn't closed at first.
-fn close_twice<L: Round>(
-    store: SharedStore<L, CellPayload>,
-    mut sessions: Vec<Session<L>>,
-) -> Option<(CloseFault, Store<CellPayload>)> {
-    let kept_back = sessions.pop()?;
-    let refused = close(store, sessions).err()?;
-    close_with(refused, kept_back)
-}
-
-// Closes what was not closed, with one session more.
-fn close_with<L: Round>(
-    refused: CloseRefused<L, CellPayload>,
-    kept_back: Session<L>,
-) -> Option<(CloseFault, Store<CellPayload>)> {
-    let CloseRefused {
-        store,
-        mut sessions,
-        why,
-    } = refused;
-    sessions.push(kept_back).ok()?;
-    Some((why, closed(store, sessions)?))
 }
 
 // A receipt of worker 1.

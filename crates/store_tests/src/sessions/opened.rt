@@ -5,7 +5,7 @@ use std::sync::Wait;
 use tg_model::{Edge, Law, Numbers, Opening, Value};
 use tg_payload::{CellPayload, Draft};
 use tg_rights::{Label, Rights};
-use tg_shared::{Round, Session, SharedStore, close};
+use tg_shared::{CloseFault, CloseRefused, Round, Session, SharedStore, close};
 use tg_store::{CreateFault, Limits, Store};
 
 // A cell with 0.
@@ -26,24 +26,34 @@ pub(crate) fn opening_with(alloc: Global, letters: &str) -> Option<Opening> {
     let mut edges = Vec::new(alloc);
     edges.push(edge(0, 1, letters)?).ok()?;
     edges.push(edge(1, 0, letters)?).ok()?;
+    opening_of(alloc, edges)
+}
+
+/// The same with these edges.
+pub(crate) fn opening_of(alloc: Global, edges: Vec<Edge>) -> Option<Opening> {
     let mut values = Vec::new(alloc);
     values.push(zero()).ok()?;
     values.push(zero()).ok()?;
     Opening::new(2, edges, values, 4).ok()
 }
 
-// A draft of a cell with 0.
-fn draft(alloc: Global) -> Option<Draft<CellPayload>> {
+/// A draft of a cell with 0.
+pub(crate) fn draft(alloc: Global) -> Option<Draft<CellPayload>> {
     Draft::new(alloc, CellPayload::new(0)).ok()
 }
 
 /// A store with such an opening.
 pub(crate) fn store_with(alloc: Global, letters: &str) -> Option<Store<CellPayload>> {
+    store_of(alloc, opening_with(alloc, letters)?)
+}
+
+/// A store with this opening of two workers.
+pub(crate) fn store_of(alloc: Global, opening: Opening) -> Option<Store<CellPayload>> {
     let mut drafts = Vec::new(alloc);
     drafts.push(draft(alloc)?).ok()?;
     drafts.push(draft(alloc)?).ok()?;
     let limits = Limits::new(64, 16).ok()?;
-    Store::open(alloc, opening_with(alloc, letters)?, limits, drafts).ok()
+    Store::open(alloc, opening, limits, drafts).ok()
 }
 
 /// Lets the session make a vertex, which it may read and write. Answers its name, or why there is none.
@@ -66,4 +76,28 @@ pub(crate) fn closed<L: Round>(
     sessions: Vec<Session<L>>,
 ) -> Option<Store<CellPayload>> {
     close(store, sessions).ok()
+}
+
+/// Closes without the last session, and then with it. Answers why it isn't closed at first.
+pub(crate) fn close_twice<L: Round>(
+    store: SharedStore<L, CellPayload>,
+    mut sessions: Vec<Session<L>>,
+) -> Option<(CloseFault, Store<CellPayload>)> {
+    let kept_back = sessions.pop()?;
+    let refused = close(store, sessions).err()?;
+    close_with(refused, kept_back)
+}
+
+// Closes what was not closed, with one session more.
+fn close_with<L: Round>(
+    refused: CloseRefused<L, CellPayload>,
+    kept_back: Session<L>,
+) -> Option<(CloseFault, Store<CellPayload>)> {
+    let CloseRefused {
+        store,
+        mut sessions,
+        why,
+    } = refused;
+    sessions.push(kept_back).ok()?;
+    Some((why, closed(store, sessions)?))
 }

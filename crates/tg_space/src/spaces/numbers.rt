@@ -1,6 +1,7 @@
 //! The numbers of cells: those of Old come first, then those of Aged and of the nurseries, each space block by block.
 ghost use Rattle.std.specs.Prelude.{◌≡◌, ◌<◌, ◌≤◌, ◌*◌, ◌^◌, [], length, slice_index_or};
 ghost use Rattle.tg_word.specs.Word.{place_in};
+ghost use Rattle.tg_word.specs.declared.TheConstants.{SPACES};
 ghost use Rattle.tg_space.specs.SpaceList.{Holds, cells_of, flat_of};
 ghost use Rattle.tg_space.specs.SpaceTable.{IsSpaceTable};
 
@@ -12,7 +13,7 @@ impl Spaces {
     /// How many cells there are.
     pub fn cells(&self) -> u64
         ensures cells { result ≡ length (cells_of self.now.spaces) }
-        ensures few { result ≤ 66 * 2 ^ 26 }
+        ensures few { result ≤ SPACES * 2 ^ 26 }
         ensures table { IsSpaceTable self.now }
     {
         CELLS as u64 * self.blocks()

@@ -1,5 +1,6 @@
 use Rattle.std.proofs.Common.{◌≡◌, ◌≢◌, ◌∙◌, ◌+◌, length, ap, subst, arith}
 use Rattle.tg_model.specs.Opened.{label_in}
+use Rattle.tg_word.specs.Word.{nursery_space}
 use Rattle.tg_payload.specs.Table.{Payloads}
 use Rattle.tg_graph.specs.Content.{IsNamed}
 use Rattle.tg_graph.specs.Heap.{content_in}
@@ -10,7 +11,7 @@ use Rattle.tg_graph.proofs.opening.add_edges.Goals as goal
 
 pub add_row-requires-clause-no_loop : goal.add_row-requires-clause-no_loop
 add_row-requires-clause-no_loop g c =
-    c.read_row.ensures c.loop-from.from ∙ row_no_loop c.args.edges.now (length c.args.places.now) c.loop-from.from c.requires.edges
+    c.read_row.ensures c.loop-from.from ∙ row_no_loop c.args.edges.now (length c.args.subjects.now) c.loop-from.from c.requires.edges
 
 pub add_row-requires-clause-vertices : goal.add_row-requires-clause-vertices
 add_row-requires-clause-vertices g c = λ x p at. c.loop-from.invariant.added.vertices x p (c.requires.vertices x p at)
@@ -33,8 +34,8 @@ loop-from-preserved g c =
       payloads = step.payloads ∙ before.payloads;
       unused = λ x past.
           let few = before.unused x (omega arith) in
-          let other : x + 2 ≢ from + 2 = λ e. omega arith in
-          let same = step.others (x + 2) other in
+          let other : nursery_space x ≢ nursery_space from = λ e. omega arith in
+          let same = step.others (nursery_space x) other in
           omega arith;
       remembered = λ formed. step.remembered (before.remembered formed);
       blocks = λ space. step.blocks space ∙ before.blocks space;
@@ -46,7 +47,7 @@ returns-clause-added g c =
     let payloads = c.args.cells.now.payloads in
     let content = content_in t0.spaces payloads in
     let edges = c.args.edges.now in
-    let workers = length c.args.places.now in
+    let workers = length c.args.subjects.now in
     let whole : c.loop-from.from ≡ workers = omega (arith, c.loop-from-test.false, c.loop-from.auto.from-end) in
     changes_relabel t0 c.loop-from.cells.spaces payloads (IsNamed content) (labels_before edges c.loop-from.from) (label_in edges) content.value
     (λ a b. ap (λ n. labels_before edges n a b) whole ∙ labels_before-all edges workers c.requires.edges a b) c.loop-from.invariant.added

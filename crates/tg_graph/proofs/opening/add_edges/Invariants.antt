@@ -1,4 +1,5 @@
-use Rattle.std.proofs.Common.{◌≡◌, ◌+◌, ◌≤◌, ℕ, length}
+use Rattle.std.proofs.Common.{◌≡◌, ◌≤◌, ℕ, length}
+use Rattle.tg_word.specs.Word.{nursery_space}
 use Rattle.tg_space.specs.SpaceList.{space_of}
 use Rattle.tg_space.specs.SpaceTable.{used_of}
 use Rattle.tg_space.specs.Generations.{AreRemembered}
@@ -15,7 +16,7 @@ invariant-loop-from g l =
     record {
       added : ChangesTo before.spaces l.cells.spaces before.payloads (IsNamed content) (labels_before l.edges l.from) content.value;
       payloads : l.cells.payloads ≡ before.payloads;
-      unused : (x : ℕ) → l.from ≤ x → used_of l.cells.spaces (x + 2) ≤ 1;
+      unused : (x : ℕ) → l.from ≤ x → used_of l.cells.spaces (nursery_space x) ≤ 1;
       remembered : AreRemembered before.spaces.spaces before.remembered.places → AreRemembered l.cells.spaces.spaces l.cells.remembered.places;
       blocks : (space : ℕ) → length (space_of l.cells.spaces.spaces space) ≡ length (space_of before.spaces.spaces space);
     }

@@ -1,38 +1,52 @@
-use Rattle.std.proofs.Common.{◌≡◌, ◌∙◌, ◌+◌, ◌<◌, ℕ, true, Some, length, take, ap, subst, sym, arith, ⊎_elim}
+use Rattle.std.proofs.Common.{◌≡◌, ◌∙◌, ◌+◌, ◌<◌, ℕ, List, true, Some, length, take, ap, subst, sym, arith, ⊎_elim}
 use Rattle.std.specs.Prelude.{slice_get, slice_index_or}
 use Rattle.std.proofs.lemmas.Bool.{cases_eq, cases_lt}
-use Rattle.std.proofs.lemmas.List.{get_or_read}
+use Rattle.std.proofs.lemmas.List.{get_or-map, get_or_read, length-map}
 use Rattle.std.proofs.lemmas.Option.{slice_get-get_or}
 use Rattle.tg_rights.specs.RightSet.{is_none_held, no_rights}
 use Rattle.tg_model.specs.Graph.{with_rights}
+use Rattle.tg_word.specs.Word.{nursery_space}
+use Rattle.tg_word.specs.declared.Place.{Place}
+use Rattle.tg_subjects.specs.Subjects.{places_of}
+use Rattle.tg_subjects.specs.declared.subject.Subject.{Subject}
 use Rattle.tg_payload.specs.Table.{Payloads}
+use Rattle.tg_space.specs.SpaceList.{SpaceList}
 use Rattle.tg_space.specs.SpaceTable.{SpaceTable, used_of}
 use Rattle.tg_graph.specs.Content.{IsNamed}
 use Rattle.tg_graph.specs.Heap.{IsGraph, content_in}
 use Rattle.tg_graph.specs.Opened.{with_row}
-use Rattle.tg_graph.specs.Rows.{name_at}
+use Rattle.tg_graph.specs.Rows.{IsVertexAt, name_at}
 use Rattle.tg_graph.specs.Steps.{ChangesTo}
 use Rattle.tg_graph.proofs.Openings.{changes_more, with_row-more}
 use Rattle.tg_graph.proofs.opening.add_row.Goals as goal
 
+-- what an index past the end would read
+abbrev nobody : Subject
+nobody = record { name = 0; nursery = 0; place = record { space = 0; block = 0; cell = 0 } }
+
+-- the subject with a number is the vertex with that name
+vertex_numbered : (h : SpaceList) (subjects : List Subject) (x : ℕ) → ((y : ℕ) (p : Place) → slice_get (places_of subjects) y ≡ Some p → IsVertexAt h y p) → x < length subjects → IsVertexAt h x (slice_index_or subjects x nobody).place
+vertex_numbered h subjects x at low =
+    let places = places_of subjects in
+    let within : x < length places = let many = length-map subjects (λ (s : Subject). s.place) in omega (arith, many, low) in
+    subst (IsVertexAt h x) (get_or-map (λ (s : Subject). s.place) subjects x nobody nobody.place low) (at x (slice_index_or places x nobody.place) (slice_get-get_or places x nobody.place within))
+
 pub add_some-requires-clause-from : goal.add_some-requires-clause-from
 add_some-requires-clause-from g c =
-    let places = c.args.places.now in
-    let p = slice_index_or places c.args.from (record { space = 0; block = 0; cell = 0 }) in
-    let at : slice_get places c.args.from ≡ Some p = slice_get-get_or places c.args.from (record { space = 0; block = 0; cell = 0 }) c.requires.from in
-    (c.loop-to.invariant.added.vertices c.args.from p (c.requires.vertices c.args.from p at)).object
+    let subjects = c.args.subjects.now in
+    let vertex = vertex_numbered c.args.cells.now.spaces.spaces subjects c.args.from c.requires.vertices c.requires.from in
+    (c.loop-to.invariant.added.vertices c.args.from (slice_index_or subjects c.args.from nobody).place vertex).object
 
 pub add_some-requires-clause-to : goal.add_some-requires-clause-to
 add_some-requires-clause-to g c =
-    let places = c.args.places.now in
+    let subjects = c.args.subjects.now in
     let to = c.loop-to.to in
-    let p = slice_index_or places to (record { space = 0; block = 0; cell = 0 }) in
-    let low : to < length places = let a = c.loop-to-test.true in let b = c.requires.row in omega arith in
-    let at : slice_get places to ≡ Some p = slice_get-get_or places to (record { space = 0; block = 0; cell = 0 }) low in
-    (c.loop-to.invariant.added.vertices to p (c.requires.vertices to p at)).object
+    let low : to < length subjects = let a = c.loop-to-test.true in let b = c.requires.row in omega (arith, a, b) in
+    let vertex = vertex_numbered c.args.cells.now.spaces.spaces subjects to c.requires.vertices low in
+    (c.loop-to.invariant.added.vertices to (slice_index_or subjects to nobody).place vertex).object
 
-pub add_some-requires-clause-worker : goal.add_some-requires-clause-worker
-add_some-requires-clause-worker g c =
+pub add_some-requires-clause-nursery : goal.add_some-requires-clause-nursery
+add_some-requires-clause-nursery g c =
     let kept = c.loop-to.invariant.added.spaces in let spaces = c.requires.spaces in let from = c.requires.from in omega (arith, kept, spaces, from)
 
 pub add_some-requires-clause-graph : goal.add_some-requires-clause-graph
@@ -50,7 +64,7 @@ add_some-requires-clause-room g c =
     let r = c.index-row-to.result in
     let inside = c.loop-to-test.true in
     let used = before.used in
-    let blocks = before.blocks (from + 2) in
+    let blocks = before.blocks (nursery_space from) in
     let block = c.requires.block in
     let few = c.requires.few in
     let long = c.requires.row in
@@ -81,15 +95,15 @@ loop-to-preserved g c =
     let to = c.loop-to.to in
     let row = c.args.row.now in
     let r = c.index-row-to.result in
-    let places = c.args.places.now in
-    let p = slice_index_or places from (record { space = 0; block = 0; cell = 0 }) in
-    let q = slice_index_or places to (record { space = 0; block = 0; cell = 0 }) in
+    let subjects = c.args.subjects.now in
+    let p = (slice_index_or subjects from nobody).place in
+    let q = (slice_index_or subjects to nobody).place in
     let inside = c.loop-to-test.true in
-    let low : to < length places = let b = c.requires.row in omega arith in
-    let at_p : slice_get places from ≡ Some p = slice_get-get_or places from (record { space = 0; block = 0; cell = 0 }) c.requires.from in
-    let at_q : slice_get places to ≡ Some q = slice_get-get_or places to (record { space = 0; block = 0; cell = 0 }) low in
-    let name_p : name_at t1.spaces p ≡ from = (before.added.vertices from p (c.requires.vertices from p at_p)).named in
-    let name_q : name_at t1.spaces q ≡ to = (before.added.vertices to q (c.requires.vertices to q at_q)).named in
+    let low : to < length subjects = let b = c.requires.row in omega (arith, inside, b) in
+    let vertex_p = vertex_numbered t0.spaces subjects from c.requires.vertices c.requires.from in
+    let vertex_q = vertex_numbered t0.spaces subjects to c.requires.vertices low in
+    let name_p : name_at t1.spaces p ≡ from = (before.added.vertices from p vertex_p).named in
+    let name_q : name_at t1.spaces q ≡ to = (before.added.vertices to q vertex_q).named in
     let Step : Payloads → ℕ → ℕ → Type 0 = λ s n m. ChangesTo t1 t2 s (IsNamed (content_in t1.spaces s)) (with_rights (content_in t1.spaces s).label n m r) (content_in t1.spaces s).value in
     let here : Step payloads from to = subst (λ m. Step payloads from m) name_q (subst (λ n. Step payloads n (name_at t1.spaces q)) name_p (subst (λ s. Step s (name_at t1.spaces p) (name_at t1.spaces q)) before.payloads step.added)) in
     let used = step.one_cell.here in
@@ -107,7 +121,7 @@ loop-to-preserved g c =
           (λ later.
           let same : to ≡ from = omega (arith, past, later) in
           let none : r ≡ no_rights = get_or_read row to r inside c.index-row-to.is no_rights ∙ ap (λ n. slice_index_or row n no_rights) same ∙ c.requires.no_loop in
-          let kept : used_of t2 (from + 2) ≡ used_of t1 (from + 2) = ap (λ (x : SpaceTable). used_of x (from + 2)) (step.nothing (ap is_none_held none)) in
+          let kept : used_of t2 (nursery_space from) ≡ used_of t1 (nursery_space from) = ap (λ (x : SpaceTable). used_of x (nursery_space from)) (step.nothing (ap is_none_held none)) in
           omega (arith, kept, used_before))
           (cases_lt from to);
     }

@@ -1,4 +1,5 @@
 use Rattle.std.proofs.Common.{◌≡◌, ◌≢◌, ◌+◌, ◌<◌, ◌≤◌, ℕ, length, take}
+use Rattle.tg_word.specs.Word.{nursery_space}
 use Rattle.tg_space.specs.SpaceList.{space_of}
 use Rattle.tg_space.specs.SpaceTable.{used_of}
 use Rattle.tg_space.specs.Generations.{AreRemembered}
@@ -15,9 +16,9 @@ invariant-loop-to g l =
     record {
       added : ChangesTo before.spaces l.cells.spaces before.payloads (IsNamed content) (with_row content.label l.from (take l.to l.row)) content.value;
       payloads : l.cells.payloads ≡ before.payloads;
-      others : (space : ℕ) → space ≢ l.from + 2 → used_of l.cells.spaces space ≡ used_of before.spaces space;
+      others : (space : ℕ) → space ≢ nursery_space l.from → used_of l.cells.spaces space ≡ used_of before.spaces space;
       blocks : (space : ℕ) → length (space_of l.cells.spaces.spaces space) ≡ length (space_of before.spaces.spaces space);
       remembered : AreRemembered before.spaces.spaces before.remembered.places → AreRemembered l.cells.spaces.spaces l.cells.remembered.places;
-      used : used_of l.cells.spaces (l.from + 2) ≤ l.to + 1;
-      used_past : l.from < l.to → used_of l.cells.spaces (l.from + 2) ≤ l.to;
+      used : used_of l.cells.spaces (nursery_space l.from) ≤ l.to + 1;
+      used_past : l.from < l.to → used_of l.cells.spaces (nursery_space l.from) ≤ l.to;
     }

@@ -1,25 +1,32 @@
-use Rattle.std.proofs.Common.{◌≡◌, ◌<◌, ◌∙◌, ◌+◌, ℕ, List, [], Some, length, ap, subst, sym}
+use Rattle.std.proofs.Common.{◌≡◌, ◌<◌, ◌∙◌, ℕ, List, [], Some, length, ap, arith, subst, sym}
 use Rattle.std.specs.Prelude.{slice_get}
-use Rattle.std.specs.List.{All}
+use Rattle.std.specs.List.{All, range_with_len}
 use Rattle.tg_model.specs.declared.edge.Edge.{Edge}
 use Rattle.tg_model.specs.declared.value.Value.{Value}
 use Rattle.tg_model.specs.Opened.{JoinsWorkers, label_in}
 use Rattle.tg_word.specs.declared.Place.{Place}
+use Rattle.tg_subjects.specs.Subjects.{names_of, places_of}
+use Rattle.tg_subjects.specs.declared.subject.Subject.{Subject}
 use Rattle.tg_remember.specs.Notes.{Notes}
 use Rattle.tg_space.specs.Generations.{AreRemembered}
 use Rattle.tg_graph.proofs.Remembering.{nothing_remembered}
+use Rattle.tg_graph.proofs.OpenedSubjects.{subjects_counted}
 use Rattle.tg_graph.proofs.Openings.{edges_opened, opened_same}
 use Rattle.tg_graph.proofs.opening.opened.Goals as goal
 
+-- as many subjects as drafts
+counted : (shown subjects : List Subject) (drafts : List Value) → shown ≡ subjects → names_of subjects ≡ range_with_len 0 (length drafts) → length shown ≡ length drafts
+counted shown subjects drafts same names = ap (λ (xs : List Subject). length xs) same ∙ subjects_counted subjects (length drafts) names
+
 pub add_edges-requires-clause-vertices : goal.add_edges-requires-clause-vertices
 add_edges-requires-clause-vertices g c =
-    λ x p at. c.place_workers.ensures.opened.vertices x p (subst (λ (ps : List Place). slice_get ps x ≡ Some p) c.deref.ensures.value at)
+    λ x p at. c.place_workers.ensures.opened.vertices x p (subst (λ (subjects : List Subject). slice_get (places_of subjects) x ≡ Some p) c.as_slice.ensures.value at)
 
 pub returns-clause-opened : goal.returns-clause-opened
 returns-clause-opened g c =
     let placed = c.place_workers.new.cells in
     let added = c.add_edges.new.cells in
-    let places = c.place_workers.new.places.items in
+    let places = (places_of c.place_workers.new.subjects) in
     let workers = length c.args.drafts.items in
     let limits = c.in-Ok.room.cells.spaces.limits in
     let edges = c.edges.result.now in
@@ -37,16 +44,14 @@ returns-clause-remembered g c =
 pub add_edges-requires-clause-edges : goal.add_edges-requires-clause-edges
 add_edges-requires-clause-edges g c =
     let plan = c.workers.ensures.plan in
-    let count : length c.deref.result.now ≡ c.args.opening.now.workers = ap (λ (ps : List Place). length ps) c.deref.ensures.value ∙ c.place_workers.ensures.count ∙ ap (λ (vs : List Value). length vs) c.requires ∙ plan.values.0 in
+    let count : length c.as_slice.result.now ≡ c.args.opening.now.workers = counted c.as_slice.result.now c.place_workers.new.subjects c.args.drafts.items c.as_slice.ensures.value c.place_workers.ensures.names ∙ ap (λ (vs : List Value). length vs) c.requires ∙ plan.values.0 in
     subst (λ (n : ℕ). All (JoinsWorkers n) c.edges.result.now) (sym count) (subst (λ (es : List Edge). All (JoinsWorkers c.args.opening.now.workers) es) (sym c.edges.ensures) plan.edges)
 
 pub add_edges-requires-clause-graph : goal.add_edges-requires-clause-graph
 add_edges-requires-clause-graph g c = c.place_workers.ensures.opened.graph
 
 pub add_edges-requires-clause-spaces : goal.add_edges-requires-clause-spaces
-add_edges-requires-clause-spaces g c =
-    let count = ap (λ (ps : List Place). length ps) c.deref.ensures.value ∙ c.place_workers.ensures.count in
-    c.place_workers.ensures.opened.spaces ∙ ap (λ (n : ℕ). n + 2) (sym count)
+add_edges-requires-clause-spaces g c = c.place_workers.ensures.opened.spaces
 
 pub add_edges-requires-clause-labels : goal.add_edges-requires-clause-labels
 add_edges-requires-clause-labels g c = c.place_workers.ensures.opened.content.labels
@@ -56,9 +61,32 @@ add_edges-requires-clause-unused g c = c.place_workers.ensures.unused
 
 pub add_edges-requires-clause-blocks : goal.add_edges-requires-clause-blocks
 add_edges-requires-clause-blocks g c =
-    let count = ap (λ (ps : List Place). length ps) c.deref.ensures.value ∙ c.place_workers.ensures.count in
+    let count = counted c.as_slice.result.now c.place_workers.new.subjects c.args.drafts.items c.as_slice.ensures.value c.place_workers.ensures.names in
     let opened = c.place_workers.ensures.opened in
     λ x inside. opened.blocks x (subst (λ (n : ℕ). x < n) count inside)
 
 pub add_edges-requires-clause-old : goal.add_edges-requires-clause-old
 add_edges-requires-clause-old g c = c.place_workers.ensures.opened.old
+
+pub returns-clause-names : goal.returns-clause-names
+returns-clause-names g c = c.place_workers.ensures.names ∙ ap (λ (vs : List Value). range_with_len 0 (length vs)) c.requires ∙ ap (range_with_len 0) c.workers.ensures.plan.values.0
+
+pub returns-clause-numbers : goal.returns-clause-numbers
+returns-clause-numbers g c = c.place_workers.ensures.numbers ∙ ap (λ (vs : List Value). range_with_len 0 (length vs)) c.requires ∙ ap (range_with_len 0) c.workers.ensures.plan.values.0
+
+pub add_edges-requires-clause-few : goal.add_edges-requires-clause-few
+add_edges-requires-clause-few g c =
+    let count = counted c.as_slice.result.now c.place_workers.new.subjects c.args.drafts.items c.as_slice.ensures.value c.place_workers.ensures.names in
+    let plan = c.workers.ensures.plan in
+    let drafts = ap (λ (vs : List Value). length vs) c.requires ∙ plan.values.0 in
+    omega (arith, count, drafts, plan.workers)
+
+pub add_edges-requires-clause-row : goal.add_edges-requires-clause-row
+add_edges-requires-clause-row g c =
+    let count = counted c.as_slice.result.now c.place_workers.new.subjects c.args.drafts.items c.as_slice.ensures.value c.place_workers.ensures.names in
+    let drafts = ap (λ (vs : List Value). length vs) c.requires ∙ c.workers.ensures.plan.values.0 in
+    let row = c.in-Ok.ensures.row in
+    omega (arith, count, drafts, row)
+
+pub returns-clause-subjects : goal.returns-clause-subjects
+returns-clause-subjects g c = c.as_slice.ensures.subjects

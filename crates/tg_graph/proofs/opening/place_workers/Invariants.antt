@@ -1,4 +1,7 @@
-use Rattle.std.proofs.Common.{◌≡◌, ◌++◌, ◌+◌, ◌≤◌, ℕ, length, vec_capacity}
+use Rattle.std.proofs.Common.{◌≡◌, ◌++◌, ◌+◌, ◌≤◌, ℕ, length}
+use Rattle.std.specs.List.{range_with_len}
+use Rattle.tg_word.specs.Word.{nursery_space}
+use Rattle.tg_subjects.specs.Subjects.{names_of, nurseries_of, places_of}
 use Rattle.tg_space.specs.SpaceTable.{IsSpaceTable, used_of}
 use Rattle.tg_graph.specs.Heap.{AreAtHome}
 use Rattle.tg_graph.specs.Opened.{IsOpened, no_labels}
@@ -7,13 +10,14 @@ use Rattle.tg_graph.proofs.opening.place_workers.Given as goal
 abbrev pub invariant-loop-draft : goal.invariant-loop-draft
 invariant-loop-draft g l = record {
   left : l.yielded ++ l.draft-iterator.rest.items ≡ l.fn.drafts.items;
-  opened : IsOpened l.cells.spaces l.cells.payloads l.places.items (length l.fn.drafts.items) l.initial.cells.spaces.limits no_labels l.yielded;
-  home : AreAtHome l.places.items;
-  count : length l.places.items ≡ length l.yielded;
+  opened : IsOpened l.cells.spaces l.cells.payloads (places_of l.subjects) (length l.fn.drafts.items) l.initial.cells.spaces.limits no_labels l.yielded;
+  names : names_of l.subjects ≡ range_with_len 0 (length l.yielded);
+  numbers : nurseries_of l.subjects ≡ range_with_len 0 (length l.yielded);
+  home : AreAtHome l.subjects;
+  count : length l.subjects ≡ length l.yielded;
   table : IsSpaceTable l.cells.spaces;
-  used : (x : ℕ) → used_of l.cells.spaces (x + 2) ≤ 1;
-  unused : (x : ℕ) → length l.yielded ≤ x → used_of l.cells.spaces (x + 2) ≡ 0;
+  used : (x : ℕ) → used_of l.cells.spaces (nursery_space x) ≤ 1;
+  unused : (x : ℕ) → length l.yielded ≤ x → used_of l.cells.spaces (nursery_space x) ≡ 0;
   spare : length l.fn.drafts.items ≤ l.cells.payloads.spare + length l.yielded;
   remembered : l.cells.remembered ≡ l.initial.cells.remembered;
-  capacity : length l.fn.drafts.items ≤ vec_capacity l.places;
 }

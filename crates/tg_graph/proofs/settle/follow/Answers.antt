@@ -1,28 +1,20 @@
 -- The places before the loop's are those to which their cells were copied, and the others are still the old ones.
-use Rattle.std.proofs.Common.{◌≡◌, ℕ, ◌<◌, ◌≤◌, ◌+◌, ◌-◌, List, ◌++◌, length, get_or, set, take, drop, map, sym, ap, subst, arith, ◌∙◌}
-use Rattle.std.proofs.lemmas.List.{append-nil, drop_all, get_or-append_right, get_or-drop, get_or_default, length-map, length-take-le, take_all}
+use Rattle.std.proofs.Common.{◌<◌, ◌≤◌, List, ◌++◌, length, get_or, set, drop, map, sym, ap, subst, arith, ◌∙◌}
+use Rattle.std.proofs.lemmas.List.{append-nil, drop_all, get_or_default, take_all}
 use Rattle.std.proofs.lemmas.List.Edits.{map_over_more}
 use Rattle.tg_word.specs.declared.Place.{Place}
 use Rattle.tg_space.specs.SpaceList.{Holds}
 use Rattle.tg_space.specs.Targets.{from_space}
 use Rattle.tg_space.specs.Collection.{new_place}
 use Rattle.tg_graph.specs.Kept.{moved_place}
+use Rattle.tg_graph.proofs.Members.{still_at}
 use Rattle.tg_graph.proofs.settle.follow.Goals as goal
-
-still_at : (f : Place → Place) (xs ys : List Place) (i : ℕ) (d : Place) → ys ≡ map f (take i xs) ++ drop i xs → i < length xs → get_or ys i d ≡ get_or xs i d
-still_at f xs ys i d is low =
-    let long : length (map f (take i xs)) ≡ i = length-map (take i xs) f ∙ length-take-le i xs (omega arith) in
-    let back : i + (i - i) ≡ i = omega arith in
-    ap (λ (zs : List Place). get_or zs i d) is
-    ∙ get_or-append_right (map f (take i xs)) (drop i xs) i i d long (omega arith)
-    ∙ get_or-drop i xs (i - i) d
-    ∙ ap (λ (k : ℕ). get_or xs k d) back
 
 pub followed-requires-clause-held : goal.followed-requires-clause-held
 followed-requires-clause-held c =
     let h = c.args.spaces.now.spaces in
     let d : Place = record { space = 0; block = 0; cell = 0 } in
-    let same = still_at (moved_place (from_space c.args.kind) h (new_place c.args.forward.now.words)) c.args.places.now c.loop-place.places c.loop-place.place-index d c.loop-place.invariant c.loop-place-test.true in
+    let same = still_at Place (moved_place (from_space c.args.kind) h (new_place c.args.forward.now.words)) c.args.places.now c.loop-place.places c.loop-place.place-index d c.loop-place.invariant c.loop-place-test.true in
     subst (Holds h) (sym same) (c.requires.held c.loop-place.place-index d c.loop-place-test.true)
 
 pub loop-place-preserved : goal.loop-place-preserved

@@ -1,31 +1,41 @@
-use Rattle.std.proofs.Common.{◌≡◌, ◌<◌, ◌≤◌, ◌+◌, ℕ, arith, refl, sym}
+use Rattle.std.proofs.Common.{◌≡◌, ◌<◌, ◌≤◌, ◌+◌, ◌∙◌, ◌++◌, ◌∷◌, [], ℕ, List, length, get_or, take, arith, refl, sym, ap, subst}
+use Rattle.std.proofs.lemmas.List.{map_more}
+use Rattle.tg_subjects.specs.Subjects.{names_of}
+use Rattle.tg_subjects.specs.declared.subject.Subject.{Subject}
+use Rattle.tg_shared.specs.Sessions.{AreFresh}
 use Rattle.tg_shared.proofs.Fresh.{fresh_push}
 use Rattle.tg_shared.proofs.locked.sessions_of.Goals as goal
 
-has_one : (left done all workers : ℕ) → left + done ≡ all → done < workers → workers < all → 1 ≤ left
-has_one left done all workers cut more enough = omega arith
+has_one : (left done all subjects : ℕ) → left + done ≡ all → done < subjects → subjects < all → 1 ≤ left
+has_one left done all subjects cut more enough = omega arith
 
 nothing : (n : ℕ) → n ≡ 0 → 0 ≤ n
 nothing n is = omega arith
 
+-- one name more
+name_more : (subjects : List Subject) (i : ℕ) (d : Subject) (name : ℕ) → i < length subjects → name ≡ (get_or subjects i d).name → names_of (take (i + 1) subjects) ≡ names_of (take i subjects) ++ name ∷ []
+name_more subjects i d name inside is = map_more (λ (x : Subject). x.name) subjects i d inside ∙ ap (λ (n : ℕ). names_of (take i subjects) ++ n ∷ []) (sym is)
+
 pub split_off-share-requires : goal.split_off-share-requires
 split_off-share-requires g c = record {
-  has_parts = has_one c.loop-worker.rest.parts c.loop-worker.worker c.args.rest.now.parts c.args.workers c.loop-worker.invariant.parts c.loop-worker-test.true c.requires.0;
-  has_amount = nothing c.loop-worker.rest.amount c.loop-worker.invariant.amount;
-  left_backed = λ _. sym c.loop-worker.invariant.amount;
+  has_parts = has_one c.loop-subject.rest.parts c.loop-subject.subject-index c.args.rest.now.parts (length c.args.subjects.now) c.loop-subject.invariant.parts c.loop-subject-test.true c.requires.0;
+  has_amount = nothing c.loop-subject.rest.amount c.loop-subject.invariant.amount;
+  left_backed = λ _. sym c.loop-subject.invariant.amount;
   given_backed = λ _. refl;
 }
 
 pub new-requires : goal.new-requires
 new-requires g c = (c.split_off-share.ensures.parts, c.split_off-share.ensures.amount)
 
-pub loop-worker-preserved : goal.loop-worker-preserved
-loop-worker-preserved g c =
-    let ss = c.loop-worker.sessions.items in
+pub loop-subject-preserved : goal.loop-subject-preserved
+loop-subject-preserved g c =
+    let ss = c.loop-subject.sessions.items in
     let s = c.new.result in
+    let i = c.loop-subject.subject-index in
     let items = c.in_ok-push.ensures.items in
+    let more = name_more c.args.subjects.now i _ s.worker c.loop-subject-test.true c.new.ensures.0 in
     record {
-      fresh = rw items (fresh_push c.loop-worker.worker ss s c.loop-worker.invariant.fresh c.new.ensures.0 c.new.ensures.1);
-      parts = omega (arith, c.split_off-share.ensures.parts_left, c.loop-worker.invariant.parts);
-      amount = omega (arith, c.split_off-share.ensures.amount_left, c.loop-worker.invariant.amount);
+      fresh = rw (items, more) (fresh_push (names_of (take i c.args.subjects.now)) s.worker ss s c.loop-subject.invariant.fresh refl c.new.ensures.1);
+      parts = omega (arith, c.split_off-share.ensures.parts_left, c.loop-subject.invariant.parts);
+      amount = omega (arith, c.split_off-share.ensures.amount_left, c.loop-subject.invariant.amount);
     }

@@ -1,8 +1,11 @@
-use Rattle.std.proofs.Common.{◌≡◌, ◌↔◌, ◌<◌, ◌+◌, ◌∙◌, ℕ, List, length, drop, sym, subst}
+use Rattle.std.proofs.Common.{◌≡◌, ◌<◌, ◌≤◌, ◌+◌, ◌∙◌, ℕ, List, length, drop, arith, sym, subst}
 use Rattle.tg_store.specs.Store.{StoreState}
 use Rattle.tg_shared.specs.declared.closing.CloseFault.{CloseFault}
-use Rattle.tg_shared.specs.Sessions.{AreSharedOut, GoesOn, MayClose, SessionState, count_of}
+use Rattle.tg_shared.specs.Sessions.{AreSharedOut, GoesOn, MayClose, SessionState, count_of, sessions_made}
 use Rattle.tg_shared.proofs.shared.close.Goals as goal
+
+lt-le : {a b d : ℕ} → a < b → b ≤ d → a < d
+lt-le low le = omega (arith, low, le)
 
 pub returns-in-Ok : goal.returns-in-Ok
 returns-in-Ok g c =
@@ -15,8 +18,9 @@ returns-in-Ok g c =
       shared_out = subst (λ (s : StoreState). AreSharedOut (drop start s.entries) items) same c.in-Ok.ensures.shared_out;
       faithful = c.journal.ensures.faithful;
       gone_on = subst (λ (s : StoreState). GoesOn g.L.Round.start s) same c.in-Ok.ensures.gone_on;
-      all = c.in-Ok.ensures.all ∙ c.into_locked-locked.ensures.sessions;
-      missing = subst (λ (made : ℕ). ⊥ ↔ (length items < made)) c.into_locked-locked.ensures.sessions c.in-Ok.ensures.missing;
+      all = subst (λ (s : StoreState). length items ≡ sessions_made g.L.Round.start s.entries) same (c.in-Ok.ensures.all ∙ c.into_locked-locked.ensures.sessions);
+      missing = tt;
+      too_few = λ few. c.in-Ok.ensures.missing.1 (lt-le few c.into_locked-locked.ensures.started);
       mismatch = tt;
       handed_back = tt;
     }
@@ -29,7 +33,13 @@ returns-in-Err g c = record {
   faithful = tt;
   gone_on = tt;
   all = tt;
-  missing = subst (λ (made : ℕ). (c.in-Err.refused.why ≡ CloseFault.SessionsMissing) ↔ (length c.args.sessions.items < made)) c.into_locked-locked.ensures.sessions c.in-Err.ensures.missing;
+  missing = λ why. (
+    c.into_locked-locked.result.store,
+    c.into_locked-locked.ensures.gone_on,
+    c.into_locked-locked.ensures.faithful,
+    subst (λ (made : ℕ). length c.args.sessions.items < made) c.into_locked-locked.ensures.sessions (c.in-Err.ensures.missing.0 why),
+  );
+  too_few = λ few. c.in-Err.ensures.missing.1 (lt-le few c.into_locked-locked.ensures.started);
   mismatch = λ why. (c.into_locked-locked.result.store, c.into_locked-locked.ensures.gone_on, c.into_locked-locked.ensures.faithful, (c.in-Err.ensures.counted why, (c.in-Err.ensures.mismatch.0 why).1));
   handed_back = c.in-Err.ensures.handed_back.1;
 }

@@ -1,46 +1,57 @@
-use Rattle.std.proofs.Common.{◌≡◌, None, Some, sym, subst}
+use Rattle.std.proofs.Common.{◌≡◌, ◌∙◌, ℕ, Some, Bool, true, ap, sym, subst}
+use Rattle.std.proofs.lemmas.Result.{IfOk-weaker}
 use Rattle.tg_text.specs.declared.line.Line.{Line}
+use Rattle.tg_text.specs.declared.line.Line.TheVariants as line
+use Rattle.tg_script.specs.Script.{create_of, spawn_of}
+use Rattle.tg_weave.specs.Boxes.{Boxed}
 use Rattle.tg_weave.specs.Shares.{runner_of}
-use Rattle.tg_threads.specs.Tasks.{HasRun}
-use Rattle.tg_threads.proofs.RunLaws.{asked_runs, made_runs, full_runs, minor_runs}
+use Rattle.tg_threads.specs.Tasks.{HasRun, is_deed}
+use Rattle.tg_threads.proofs.RunLaws.{asked_runs, full_runs, made_runs, served_of}
 use Rattle.tg_threads.proofs.worker.run_task.Goals as goal
 
-pub returns-in-Full : goal.returns-in-Full
-returns-in-Full g c = λ low by.
-    let workers = g.L.Round.start.opening.workers in
+pub returns-in-Full-clause-run : goal.returns-in-Full-clause-run
+returns-in-Full-clause-run g c = λ workers before is by.
     let s = c.args.session.now in
-    let P : Line → Type 0 = λ l. HasRun c.args.helpers workers (record { line = l; value = c.args.task.draft }) c.collect.result s s in
-    subst P (sym c.in-Full.is) (full_runs c.args.helpers workers c.args.task.draft c.collect.result s c.collect.ensures)
+    let P : Line → Type 0 = λ l. HasRun c.args.helpers before (record { line = l; value = c.args.task.draft }) c.collect.result s s in
+    subst P (sym c.in-Full.is) (full_runs c.args.helpers before c.args.task.draft c.collect.result s c.collect.ensures)
 
-pub returns-in-Minor : goal.returns-in-Minor
-returns-in-Minor g c = λ low by.
-    let workers = g.L.Round.start.opening.workers in
-    let s = c.args.session.now in
-    let r = c.collect-in-Minor.result in
-    let P : Line → Type 0 = λ l. HasRun c.args.helpers workers (record { line = l; value = c.args.task.draft }) r s s in
-    subst P (sym c.in-Minor.is) (minor_runs c.args.helpers workers c.args.task.draft r s c.collect-in-Minor.ensures)
-
-pub returns-in-Plain : goal.returns-in-Plain
-returns-in-Plain g c = λ low by.
-    let workers = g.L.Round.start.opening.workers in
+pub returns-in-Plain-clause-run : goal.returns-in-Plain-clause-run
+returns-in-Plain-clause-run g c = λ workers before is by.
     let old = c.args.session.now in
     let new = c.apply.new.session in
+    let box = c.args.task.draft in
     let Q : Line → Type 0 = λ l. runner_of workers l ≡ Some old.worker in
-    let P : Line → Type 0 = λ l. HasRun c.args.helpers workers (record { line = l; value = c.args.task.draft }) c.apply.result old new in
-    subst P (sym c.in-Plain.is) (asked_runs c.args.helpers workers c.in-Plain.worker c.in-Plain.command c.args.task.draft c.apply.result old new (subst Q c.in-Plain.is by) (c.apply.ensures low))
+    let served = served_of c.args.served c.args.task.line c.is_refused.result c.is_refused.ensures c.if-is_refused.false (ap is_deed c.in-Plain.is) in
+    IfOk-weaker c.apply.result _ _
+    (λ t asked.
+    let P : Line → Type 0 = λ l. HasRun c.args.helpers before (record { line = l; value = box }) t old new in
+    subst P (sym c.in-Plain.is) (asked_runs c.args.helpers workers c.in-Plain.worker before c.in-Plain.command box t old new (is ∙ served) (subst Q c.in-Plain.is by) asked))
+    c.apply.ensures.asked
 
-pub returns-in-Create : goal.returns-in-Create
-returns-in-Create g c = λ low by.
-    let workers = g.L.Round.start.opening.workers in
+pub returns-in-Create-clause-run : goal.returns-in-Create-clause-run
+returns-in-Create-clause-run g c = λ workers before is by.
     let old = c.args.session.now in
     let new = c.create.new.session in
+    let box = c.args.task.draft in
     let Q : Line → Type 0 = λ l. runner_of workers l ≡ Some old.worker in
-    let P : Line → Type 0 = λ l. HasRun c.args.helpers workers (record { line = l; value = c.args.task.draft }) c.create.result old new in
-    subst P (sym c.in-Create.is) (made_runs c.args.helpers workers c.in-Create.worker c.in-Create.label c.args.task.draft c.create.result old new (subst Q c.in-Create.is by) (c.create.ensures low))
+    let served = served_of c.args.served c.args.task.line c.is_refused.result c.is_refused.ensures c.if-is_refused.false (ap is_deed c.in-Create.is) in
+    let b : Boxed = record { line = line.Create c.in-Create.worker c.in-Create.label; value = box } in
+    IfOk-weaker c.create.result _ _
+    (λ t made.
+    let P : Line → Type 0 = λ l. HasRun c.args.helpers before (record { line = l; value = box }) t old new in
+    subst P (sym c.in-Create.is) (made_runs c.args.helpers workers c.in-Create.worker before b (create_of c.in-Create.label) t old new (is ∙ served) (subst Q c.in-Create.is by) (λ e a told. told) made))
+    c.create.ensures.asked
 
-pub returns-in-Edge : goal.returns-in-Edge
-returns-in-Edge g c = λ low by.
-    let workers = g.L.Round.start.opening.workers in
-    let Q : Line → Type 0 = λ l. runner_of workers l ≡ Some c.args.session.now.worker in
-    let none : None ≡ Some c.args.session.now.worker = subst Q c.in-Edge.is by in
-    absurd cc
+pub returns-in-Spawn-clause-run : goal.returns-in-Spawn-clause-run
+returns-in-Spawn-clause-run g c = λ workers before is by.
+    let old = c.args.session.now in
+    let new = c.spawn.new.session in
+    let box = c.args.task.draft in
+    let Q : Line → Type 0 = λ l. runner_of workers l ≡ Some old.worker in
+    let served = served_of c.args.served c.args.task.line c.is_refused.result c.is_refused.ensures c.if-is_refused.false (ap is_deed c.in-Spawn.is) in
+    let b : Boxed = record { line = line.Spawn c.in-Spawn.worker c.in-Spawn.label; value = box } in
+    IfOk-weaker c.spawn.result _ _
+    (λ t made.
+    let P : Line → Type 0 = λ l. HasRun c.args.helpers before (record { line = l; value = box }) t old new in
+    subst P (sym c.in-Spawn.is) (made_runs c.args.helpers workers c.in-Spawn.worker before b (spawn_of c.in-Spawn.label) t old new (is ∙ served) (subst Q c.in-Spawn.is by) (λ e a told. told) made))
+    c.spawn.ensures.asked

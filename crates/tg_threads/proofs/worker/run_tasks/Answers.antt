@@ -1,16 +1,47 @@
-use Rattle.std.proofs.Common.{◌≡◌, ◌++◌, ◌∷◌, [], map, List, refl, sym, subst, rules, arith, append-nil, append_assoc}
+use Rattle.std.proofs.Common.{◌≡◌, ◌<◌, ◌≤◌, ◌+◌, ◌++◌, ◌∷◌, ◌∙◌, [], ap, ℕ, Bool, true, if◌then◌else◌, map, List, refl, sym, subst, rules, arith, append-nil, append_assoc}
+use Rattle.std.specs.List.{count_by}
+use Rattle.std.proofs.lemmas.Bool.{lt-ltb}
+use Rattle.std.proofs.lemmas.List.Sums.{sum_by-cons}
 use Rattle.std.proofs.lemmas.Grind.{common_steps}
+use Rattle.std.proofs.lemmas.List.Elements.{All-nil}
+use Rattle.tg_shared.specs.Sessions.{SessionState}
 use Rattle.tg_weave.specs.Boxes.{Boxed, boxed_of}
 use Rattle.tg_weave.proofs.ShareLaws.{map_push}
-use Rattle.tg_threads.specs.Tasks.{IsRunBy, Runs}
+use Rattle.tg_threads.specs.Tasks.{HaveNone, IsRunBy, Runs, may_make_subject, served_past}
+use Rattle.tg_weave.specs.declared.task.Task.{Task}
 use Rattle.tg_weave.specs.declared.task.Told.{Told}
-use Rattle.tg_threads.proofs.RunLaws.{mapped_at, run_more}
+use Rattle.tg_threads.specs.Output.{has_thread}
+use Rattle.tg_threads.proofs.RunLaws.{HasRunSo, mapped_at, run_more}
 use Rattle.tg_threads.proofs.worker.run_tasks.Goals as goal
+
+-- there is room for each line that is left
+room_left : {P : Type 0} (b : Bool) (t : Task P) (rest all : List (Task P)) (len next cap now : ℕ) → may_make_subject t ≡ b → all ≡ t ∷ rest → len + count_by may_make_subject all ≤ cap → next ≤ len + (if b then 1 else 0) → now ≡ cap →
+    next + count_by may_make_subject rest ≤ now
+room_left {P} b t rest all len next cap now is split fits more same =
+    let count : count_by may_make_subject all ≡ (if b then 1 else 0) + count_by may_make_subject rest =
+    ap (λ (l : List (Task P)). count_by may_make_subject l) split ∙ sum_by-cons (λ (x : Task P). if may_make_subject x then 1 else 0) t rest ∙ ap (λ (c : Bool). (if c then 1 else 0) + count_by may_make_subject rest) is in
+    omega (arith, count, fits, more, same)
+
+room_here : {P : Type 0} (t : Task P) (rest all : List (Task P)) (len cap : ℕ) → may_make_subject t ≡ true → all ≡ t ∷ rest → len + count_by may_make_subject all ≤ cap → len < cap
+room_here {P} t rest all len cap is split fits =
+    let count : count_by may_make_subject all ≡ 1 + count_by may_make_subject rest =
+    ap (λ (l : List (Task P)). count_by may_make_subject l) split ∙ sum_by-cons (λ (x : Task P). if may_make_subject x then 1 else 0) t rest ∙ ap (λ (c : Bool). (if c then 1 else 0) + count_by may_make_subject rest) is in
+    omega (arith, count, fits)
+
+pub run_task-requires-clause-room : goal.run_task-requires-clause-room
+run_task-requires-clause-room g c = λ lifetimes outlive is.
+    room_here c.in-Some.task c.next.new.self.rest.items c.loop-task.task-iterator.rest.items _ _ is c.in-Some.ensures.steps.0 c.loop-task.invariant.room
 
 pub loop-task-init : goal.loop-task-init
 loop-task-init g c = record {
   left = search rules;
-  runs = λ low all. (refl, (c.in_ok-told.ensures.items, c.requires.fresh));
+  none = subst HaveNone (sym c.in_ok-spawned.ensures.items) (All-nil (λ (s : SessionState). s.receipts ≡ []));
+  room = search rules;
+  runs = λ low all. record {
+    worker = refl;
+    runs = (c.in_ok-told.ensures.items, c.requires.fresh);
+    behind = lt-ltb c.args.session.worker g.L.Round.start.opening.workers low;
+  };
 }
 
 pub loop-task-preserved : goal.loop-task-preserved
@@ -19,20 +50,23 @@ loop-task-preserved g c =
     let x = c.args.session.worker in
     record {
       left = left;
+      none = c.run_task.ensures.none c.loop-task.invariant.none;
+      room = room_left (may_make_subject c.in-Some.task) c.in-Some.task c.next.new.self.rest.items c.loop-task.task-iterator.rest.items _ _ _ _ refl c.in-Some.ensures.steps.0 c.loop-task.invariant.room c.run_task.ensures.fits c.run_task.ensures.kept;
       runs = λ low all.
           let workers = g.L.Round.start.opening.workers in
-          let i = c.loop-task.invariant.runs low all in
+          let asked : c.worker-in-loop-task.result ≡ c.run_task.new.session.worker = c.worker-in-loop-task.ensures in
           let by = mapped_at boxed_of (IsRunBy workers x) c.loop-task.yielded c.in-Some.task c.next.new.self.rest.items c.args.tasks.items left all in
-          let more = run_more c.args.helpers workers x (map boxed_of c.loop-task.yielded) c.loop-task.told.items c.loop-task.session c.run_task.new.session (boxed_of c.in-Some.task) c.run_task.result i.0 i.1 low by c.run_task.ensures in
-          let P : List Boxed → Type 0 = λ bs. Runs c.args.helpers workers bs (c.loop-task.told.items ++ c.run_task.result ∷ []) c.run_task.new.session.receipts in
-          let Q : List Told → Type 0 = λ ts. Runs c.args.helpers workers (map boxed_of (c.loop-task.yielded ++ c.in-Some.task ∷ [])) ts c.run_task.new.session.receipts in
-          (more.0, subst Q (sym c.in_ok-push.ensures.items) (subst P (sym (map_push boxed_of c.loop-task.yielded c.in-Some.task)) more.1));
+          let more = run_more c.args.helpers workers x c.loop-task.served c.is_served_past-served.result (map boxed_of c.loop-task.yielded) c.loop-task.told.items c.loop-task.session c.run_task.new.session (boxed_of c.in-Some.task) c.in_ok-one.one
+          (c.loop-task.invariant.runs low all) by (λ before is ran. c.in_ok-one.ensures.run workers before is ran) (λ before is. c.is_served_past-served.ensures before (ap before asked ∙ is) ∙ ap (λ (n : ℕ). served_past before c.in-Some.task.line c.in_ok-one.one n) asked) in
+          let P : List Boxed → Type 0 = λ bs. HasRunSo c.args.helpers workers x c.is_served_past-served.result bs (c.loop-task.told.items ++ c.in_ok-one.one ∷ []) c.run_task.new.session in
+          let Q : List Told → Type 0 = λ ts. HasRunSo c.args.helpers workers x c.is_served_past-served.result (map boxed_of (c.loop-task.yielded ++ c.in-Some.task ∷ [])) ts c.run_task.new.session in
+          subst Q (sym c.in_ok-push.ensures.items) (subst P (sym (map_push boxed_of c.loop-task.yielded c.in-Some.task)) more);
     }
 
-pub returns : goal.returns
-returns g c =
+pub returns-clause-brought : goal.returns-clause-brought
+returns-clause-brought g c =
     let all : c.loop-task.yielded ≡ c.args.tasks.items = grind (arith, common_steps, append-nil, c.loop-task.invariant.left, c.in-None.ensures) in
     λ low by.
     let workers = g.L.Round.start.opening.workers in
     let i = c.loop-task.invariant.runs low by in
-    (i.0, subst (λ ts. Runs c.args.helpers workers (map boxed_of ts) c.loop-task.told.items c.loop-task.session.receipts) all i.1)
+    (i.worker, subst (λ (ts : List (Task _)). Runs c.args.helpers (has_thread workers) (map boxed_of ts) c.loop-task.told.items c.loop-task.session.receipts) all i.runs, c.loop-task.invariant.none)

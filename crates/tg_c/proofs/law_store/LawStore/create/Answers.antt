@@ -1,26 +1,28 @@
 use Rattle.std.proofs.Common.{subst, ap, inl, inr, Ok, Err, refl, rules, sym}
 use Rattle.tg_model.specs.declared.value.Value.{Value}
 use Rattle.tg_model.specs.Graph.{ProtectionGraph, IsSubject}
+use Rattle.tg_store.specs.Store.{graph_of_store}
 use Rattle.tg_c.specs.Calls.{Creates}
 use Rattle.tg_c.proofs.law_store.LawStore.create.Goals as goal
 
 -- who isn't a worker is told so first
-pub returns-then-not-has_worker : goal.returns-then-not-has_worker
-returns-then-not-has_worker c = record {
+pub returns-then-not-is_subject : goal.returns-then-not-is_subject
+returns-then-not-is_subject c = record {
   entry = tt;
   named = λ g stands. tt;
   next = λ g stands. tt;
   stored = tt;
   placed = tt;
   no_such_worker = λ g stands. (
-    (λ is. subst (λ (h : ProtectionGraph). ¬ IsSubject h c.args.worker) stands (λ subject. let holds = c.has_worker.ensures.1 subject in cc (holds, c.if-not-has_worker.true))),
+    (λ is. subst (λ (h : ProtectionGraph). ¬ IsSubject h c.args.worker) stands (λ subject. let holds = (c.is_subject.ensures (graph_of_store c.args.self.now.store) refl).1 subject in cc (holds, c.if-not-is_subject.true))),
     (λ none. refl),
   );
   no_more = λ g stands is. absurd (cc is);
   exhausted = λ g stands subject full.
-      absurd (let holds = c.has_worker.ensures.1 (subst (λ (h : ProtectionGraph). IsSubject h c.args.worker) (sym stands) subject) in cc (holds, c.if-not-has_worker.true));
+      absurd (let holds = (c.is_subject.ensures (graph_of_store c.args.self.now.store) refl).1 (subst (λ (h : ProtectionGraph). IsSubject h c.args.worker) (sym stands) subject) in cc (holds, c.if-not-is_subject.true));
   no_more_entry = λ is. absurd (cc is);
   full = λ g stands is. absurd (cc is);
+  no_workers_full = λ is. cc is;
   refused = search rules;
   same_graph = λ g stands. stands;
   opening = refl;
@@ -41,6 +43,7 @@ returns-in-Ok-create c =
       exhausted = λ g stands subject full. absurd (told.exhausted g stands subject full);
       no_more_entry = λ is. absurd (cc is);
       full = λ g stands is. absurd (cc is);
+      no_workers_full = λ is. cc is;
       refused = tt;
       same_graph = λ g stands. tt;
       opening = told.opening;
@@ -61,6 +64,7 @@ returns-in-Err c =
       exhausted = λ g stands subject full. elim (told.exhausted g stands subject full) [ inl why ↦ inl (ap Err why) | inr why ↦ inr (ap Err why) ];
       no_more_entry = λ is. told.no_more_entry (cc is);
       full = λ g stands is. told.full g stands (cc is);
+      no_workers_full = λ is. told.no_workers_full (cc is);
       refused = told.refused;
       same_graph = told.same_graph;
       opening = told.opening;

@@ -6,9 +6,9 @@ use Rattle.tg_c.proofs.RightsLaws.{rights_same}
 use Rattle.tg_c.proofs.law_store.LawStore.rights_over.Goals as goal
 
 -- who isn't a worker is told so
-pub returns-then-not-has_worker : goal.returns-then-not-has_worker
-returns-then-not-has_worker c =
-    let none : IsSubject (graph_of_store c.args.self.now.store) c.args.worker → ⊥ = λ subject. let holds = c.has_worker.ensures.1 subject in cc (holds, c.if-not-has_worker.true) in
+pub returns-then-not-is_subject : goal.returns-then-not-is_subject
+returns-then-not-is_subject c =
+    let none : IsSubject (graph_of_store c.args.self.now.store) c.args.worker → ⊥ = λ subject. let holds = (c.is_subject.ensures (graph_of_store c.args.self.now.store) refl).1 subject in cc (holds, c.if-not-is_subject.true) in
     record {
       same = refl;
       held = λ g stands subject. absurd (none (subst (λ (h : ProtectionGraph). IsSubject h c.args.worker) (sym stands) subject));
@@ -17,7 +17,7 @@ returns-then-not-has_worker c =
 
 pub returns : goal.returns
 returns c =
-    let there : IsSubject (graph_of_store c.args.self.now.store) c.args.worker = c.has_worker.ensures.0 (search rules) in
+    let there : IsSubject (graph_of_store c.args.self.now.store) c.args.worker = (c.is_subject.ensures (graph_of_store c.args.self.now.store) refl).0 (search rules) in
     record {
       same = refl;
       held = λ g stands subject. ap Ok (c.rights_out.ensures ∙ ap rights_out ((c.label.ensures.held g stands).subject subject) ∙ rights_same (g.label c.args.worker c.args.target));

@@ -1,4 +1,5 @@
-use Rattle.std.proofs.Common.{◌≡◌, ◌≢◌, ◌∙◌, ◌+◌, List, Option, true, false, ap, arith, refl, subst, sym}
+use Rattle.std.proofs.Common.{◌≡◌, ◌≢◌, ◌∙◌, List, Option, true, false, ap, arith, refl, subst, sym}
+use Rattle.tg_word.specs.Word.{nursery_space}
 use Rattle.tg_nursery.specs.Allocation.{room_made_for}
 use Rattle.tg_graph.specs.Spots.{IsSpotFor, cells_for, note_for, table_put, with_note}
 use Rattle.tg_space.specs.SpaceTable.{SpaceTable}
@@ -13,29 +14,29 @@ use Rattle.tg_graph.proofs.cells.Cells.add_edge.Goals as goal
 pub put-requires-clause-can : goal.put-requires-clause-can
 put-requires-clause-can g c =
     let made = c.in_ok-make_room.ensures in
-    added_can c.args.self.now.spaces c.make_room.new.self.spaces c.args.self.now.payloads c.find_spot-spot.ensures.table made.table c.requires.graph (c.args.worker + 2) c.cells.result c.requires.worker made.spaces
+    added_can c.args.self.now.spaces c.make_room.new.self.spaces c.args.self.now.payloads c.find_spot-spot.ensures.table made.table c.requires.graph (nursery_space c.args.nursery) c.cells.result c.requires.nursery made.spaces
     c.args.from c.requires.from c.read-name.result c.find_spot-spot.result c.find_spot-spot.ensures.spot made.left c.cells.ensures
 
 pub returns-clause-added : goal.returns-clause-added
 returns-clause-added g c =
     let made = c.in_ok-make_room.ensures in
-    added_changes c.args.self.now.spaces c.make_room.new.self.spaces c.args.self.now.payloads c.find_spot-spot.ensures.table made.table c.requires.graph (c.args.worker + 2) c.cells.result c.requires.worker made.spaces
+    added_changes c.args.self.now.spaces c.make_room.new.self.spaces c.args.self.now.payloads c.find_spot-spot.ensures.table made.table c.requires.graph (nursery_space c.args.nursery) c.cells.result c.requires.nursery made.spaces
     c.args.from c.requires.from c.read-name.result c.find_spot-spot.result c.find_spot-spot.ensures.spot made.left c.cells.ensures
     c.args.to c.requires.to c.read-name.ensures c.args.rights c.requires.some (omega arith) c.put.new.spaces c.put.ensures
 
 pub returns-clause-one_cell : goal.returns-clause-one_cell
 returns-clause-one_cell g c =
     let made = c.in_ok-make_room.ensures in
-    let can = added_can c.args.self.now.spaces c.make_room.new.self.spaces c.args.self.now.payloads c.find_spot-spot.ensures.table made.table c.requires.graph (c.args.worker + 2) c.cells.result c.requires.worker made.spaces
+    let can = added_can c.args.self.now.spaces c.make_room.new.self.spaces c.args.self.now.payloads c.find_spot-spot.ensures.table made.table c.requires.graph (nursery_space c.args.nursery) c.cells.result c.requires.nursery made.spaces
     c.args.from c.requires.from c.read-name.result c.find_spot-spot.result c.find_spot-spot.ensures.spot made.left c.cells.ensures in
-    subst (λ (x : SpaceTable). TakesOneCell c.args.self.now.spaces x (c.args.worker + 2)) (sym c.put.ensures)
-    (takes_one_cell c.args.self.now.spaces c.make_room.new.self.spaces (c.args.worker + 2) c.cells.result c.find_spot-spot.result c.args.rights c.args.to c.requires.worker (omega (arith, cells_few c.find_spot-spot.result, c.cells.ensures)) made.spaces made.table can)
+    subst (λ (x : SpaceTable). TakesOneCell c.args.self.now.spaces x (nursery_space c.args.nursery)) (sym c.put.ensures)
+    (takes_one_cell c.args.self.now.spaces c.make_room.new.self.spaces (nursery_space c.args.nursery) c.cells.result c.find_spot-spot.result c.args.rights c.args.to c.requires.nursery (omega (arith, cells_few c.find_spot-spot.result, c.cells.ensures)) made.spaces made.table can)
 
 pub returns-clause-placed : goal.returns-clause-placed
 returns-clause-placed g c =
     let t = c.args.self.now.spaces in
     let spot = c.find_spot-spot.result in
-    let space = c.args.worker + 2 in
+    let space = nursery_space c.args.nursery in
     let made : c.make_room.new.self.spaces ≡ room_made_for t space (cells_for spot) = c.in_ok-make_room.ensures.spaces ∙ ap (room_made_for t space) c.cells.ensures in
     record {
       spot = spot;
@@ -55,7 +56,7 @@ returns-clause-remembered g c =
     let places = c.args.self.now.remembered.places in
     let later = c.remember.new.remembered.places in
     let noted = subst (λ (o : Option Place). AreNoted places later o) c.note-note.ensures (subst (λ (ps : List Place). AreNoted ps later c.note-note.result) c.make_room.ensures.remembered c.remember.ensures.members) in
-    added_remembered t c.make_room.new.self.spaces c.args.self.now.payloads c.find_spot-spot.ensures.table made.table c.requires.graph (c.args.worker + 2) c.cells.result c.requires.worker made.spaces
+    added_remembered t c.make_room.new.self.spaces c.args.self.now.payloads c.find_spot-spot.ensures.table made.table c.requires.graph (nursery_space c.args.nursery) c.cells.result c.requires.nursery made.spaces
     c.args.from c.requires.from c.read-name.result c.find_spot-spot.result c.find_spot-spot.ensures.spot made.left c.cells.ensures
     (omega arith) c.args.to c.requires.to c.args.rights young tells c.args.self.now.remembered.places c.remember.new.remembered.places noted c.put.new.spaces c.put.ensures before
 
@@ -72,7 +73,7 @@ pub returns-clause-others : goal.returns-clause-others
 returns-clause-others g c =
     let made = c.in_ok-make_room.ensures in
     λ r s places other at index.
-    others_added c.args.self.now.spaces c.make_room.new.self.spaces c.args.self.now.payloads c.find_spot-spot.ensures.table made.table c.requires.graph (c.args.worker + 2) c.cells.result c.requires.worker made.spaces
+    others_added c.args.self.now.spaces c.make_room.new.self.spaces c.args.self.now.payloads c.find_spot-spot.ensures.table made.table c.requires.graph (nursery_space c.args.nursery) c.cells.result c.requires.nursery made.spaces
     c.args.from c.requires.from c.read-name.result c.find_spot-spot.result c.find_spot-spot.ensures.spot made.left c.cells.ensures
     c.args.to c.requires.to c.read-name.ensures c.args.rights c.requires.some (omega arith) c.put.new.spaces c.put.ensures r s places other at index
 
@@ -86,13 +87,13 @@ pub find_spot-spot-requires-clause-row : goal.find_spot-spot-requires-clause-row
 find_spot-spot-requires-clause-row g c = record { object = c.requires.from; ends = c.requires.graph.ends c.args.from c.requires.from }
 
 pub make_room-requires-clause-few : goal.make_room-requires-clause-few
-make_room-requires-clause-few g c = let few = c.find_spot-spot.ensures.table.few in omega (arith, few, c.requires.worker)
+make_room-requires-clause-few g c = let few = c.find_spot-spot.ensures.table.few in omega (arith, few, c.requires.nursery)
 
 pub make_room-requires-clause-few_cells : goal.make_room-requires-clause-few_cells
 make_room-requires-clause-few_cells g c = omega (arith, cells_few c.find_spot-spot.result, c.cells.ensures)
 
 pub make_room-requires-clause-nursery : goal.make_room-requires-clause-nursery
-make_room-requires-clause-nursery g c = c.requires.worker
+make_room-requires-clause-nursery g c = c.requires.nursery
 
 pub remember-requires : goal.remember-requires
 remember-requires g c = c.in_ok-make_room.ensures.note

@@ -1,7 +1,8 @@
-use Rattle.std.proofs.Common.{◌≡◌, ◌≤◌, ◌<◌, ◌+◌, ℕ, Option, false, true, inl, length, refl, sym, subst}
+use Rattle.std.proofs.Common.{◌≡◌, ◌≤◌, ◌<◌, ℕ, Option, false, true, inl, length, refl, sym, subst}
 use Rattle.std.specs.Prelude.{IfSome}
 use Rattle.std.proofs.lemmas.Cmp.{nat_eq_equiv}
 use Rattle.std.proofs.lemmas.Option.{slice_get_within}
+use Rattle.tg_word.specs.Word.{nursery_space}
 use Rattle.indexmap.proofs.CallerLemmas.{updates-with_value_at}
 use Rattle.indexmap.specs.Layout.{set_value_at}
 use Rattle.tg_word.specs.declared.Place.{Place}
@@ -23,7 +24,7 @@ returns-in_default-place-clause-indexed g c =
     either_way c.new_vertex.result c.new_vertex.ensures.made c.new_vertex.ensures.spaces (λ changed. changed.vertices) (λ same x p at. subst (λ (s : SpaceTable). IsVertexAt s.spaces x p) (sym same) at) in
     let before = c.args.self.now.remembered.places in
     let quieter : KeepsOthersQuiet t.spaces before c.new_vertex.new.self.remembered.places c.args.from =
-    either_way c.new_vertex.result c.new_vertex.ensures.placed c.new_vertex.ensures.places (λ placed. others_quiet_made t c.new_vertex.new.self.spaces before c.new_vertex.new.self.remembered.places (c.args.worker + 2) (table_list t c.blocks-2.ensures.table) c.args.self.now.payloads c.requires.graph c.args.from c.requires.from placed) (λ same. others_quiet_same t.spaces before c.new_vertex.new.self.remembered.places c.args.from same) in
+    either_way c.new_vertex.result c.new_vertex.ensures.placed c.new_vertex.ensures.places (λ placed. others_quiet_made t c.new_vertex.new.self.spaces before c.new_vertex.new.self.remembered.places (nursery_space c.args.nursery) (table_list t c.blocks-2.ensures.table) c.args.self.now.payloads c.requires.graph c.args.from c.requires.from placed) (λ same. others_quiet_same t.spaces before c.new_vertex.new.self.remembered.places c.args.from same) in
     let none = c.in-Ok.ensures.none (none_of c.in-Ok.place c.in_default-place.not-Some) in
     indexes_kept t.spaces new.spaces vertices c.args.from c.requires.from c.new_vertex.ensures.others before c.new_vertex.new.self.remembered.places quieter c.young_place.new.rows.entries c.young_place.ensures.indexed (name_at t.spaces c.args.from) refl c.young_place.new.rows.entries refl none
 
@@ -71,7 +72,7 @@ returns-clause-indexed g c =
     either_way c.new_vertex_indexed.result c.new_vertex_indexed.ensures.made c.new_vertex_indexed.ensures.spaces (λ changed. changed.vertices) (λ same x p at. subst (λ (s : SpaceTable). IsVertexAt s.spaces x p) (sym same) at) in
     let before = c.args.self.now.remembered.places in
     let quieter : KeepsOthersQuiet t.spaces before c.new_vertex_indexed.new.self.remembered.places c.args.from =
-    either_way c.new_vertex_indexed.result c.new_vertex_indexed.ensures.placed c.new_vertex_indexed.ensures.places (λ placed. others_quiet_made t c.new_vertex_indexed.new.self.spaces before c.new_vertex_indexed.new.self.remembered.places (c.args.worker + 2) (table_list t c.blocks-2.ensures.table) c.args.self.now.payloads c.requires.graph c.args.from c.requires.from placed) (λ same. others_quiet_same t.spaces before c.new_vertex_indexed.new.self.remembered.places c.args.from same) in
+    either_way c.new_vertex_indexed.result c.new_vertex_indexed.ensures.placed c.new_vertex_indexed.ensures.places (λ placed. others_quiet_made t c.new_vertex_indexed.new.self.spaces before c.new_vertex_indexed.new.self.remembered.places (nursery_space c.args.nursery) (table_list t c.blocks-2.ensures.table) c.args.self.now.payloads c.requires.graph c.args.from c.requires.from placed) (λ same. others_quiet_same t.spaces before c.new_vertex_indexed.new.self.remembered.places c.args.from same) in
     let was_quiet = (index_at t.spaces c.args.self.now.payloads c.requires.graph before c.rows.inside.indexes.entries indexed c.args.from c.requires.from own refl c.in-Some-get_index_mut.row.now
     (row_there c.rows.inside.indexes.entries own c.in-Some.at was c.in-Some-get_index_mut.row.now c.in-Some-get_index_mut.ensures.value)).1 in
     let written = updates-with_value_at c.rows.inside.indexes c.in-Some.at c.new_vertex_indexed.new.row nat_eq_equiv c.get_index_mut.ensures.unique own was.row was.here in
@@ -87,11 +88,11 @@ young_place-requires-clause-from g c = c.requires.from
 pub young_place-requires-clause-indexed : goal.young_place-requires-clause-indexed
 young_place-requires-clause-indexed g c = c.requires.indexed
 
-pub new_vertex-requires-clause-worker : goal.new_vertex-requires-clause-worker
-new_vertex-requires-clause-worker g c = c.requires.worker
+pub new_vertex-requires-clause-nursery : goal.new_vertex-requires-clause-nursery
+new_vertex-requires-clause-nursery g c = c.requires.nursery
 
-pub new_vertex_indexed-requires-clause-worker : goal.new_vertex_indexed-requires-clause-worker
-new_vertex_indexed-requires-clause-worker g c = c.requires.worker
+pub new_vertex_indexed-requires-clause-nursery : goal.new_vertex_indexed-requires-clause-nursery
+new_vertex_indexed-requires-clause-nursery g c = c.requires.nursery
 
 pub new_vertex-requires-clause-graph : goal.new_vertex-requires-clause-graph
 new_vertex-requires-clause-graph g c = c.requires.graph

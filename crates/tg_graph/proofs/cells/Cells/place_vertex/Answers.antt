@@ -15,8 +15,8 @@ step g c =
     let q = c.hand_out-place.result in
     let words = vertex_words c.args.name c.in-Ok.key in
     let handed = c.hand_out-place.ensures in
-    let space = c.nursery_of.result in
-    let is = c.nursery_of.ensures in
+    let space = c.nursery_space.result in
+    let is = c.nursery_space.ensures in
     vertex_step t c.write_cell.new.self c.args.self.now.payloads c.insert.new.self space q c.args.name c.in-Ok.key c.args.draft
     c.requires.table c.requires.graph (omega (arith, is), subst (λ s. s < length t.spaces) (sym is) c.requires.nursery) (subst (λ s. HasLeft t s 1) (sym is) c.requires.left) handed.held (ap (λ (r : Place). r.space) handed.place) handed.free
     (subst (λ (x : SpaceTable). IsHandedOut x q) handed.counted handed.handed_out) c.requires.fresh c.in-Ok.ensures.fresh c.in-Ok.ensures.inserted
@@ -38,7 +38,7 @@ pub returns-clause-remembered : goal.returns-clause-remembered
 returns-clause-remembered g c = (step g c).remembered
 
 pub returns-clause-next : goal.returns-clause-next
-returns-clause-next g c = subst (λ s. c.hand_out-place.result ≡ place_in_space s (used_of c.args.self.now.spaces s)) c.nursery_of.ensures c.hand_out-place.ensures.place
+returns-clause-next g c = subst (λ s. c.hand_out-place.result ≡ place_in_space s (used_of c.args.self.now.spaces s)) c.nursery_space.ensures c.hand_out-place.ensures.place
 
 pub returns-clause-notes : goal.returns-clause-notes
 returns-clause-notes g c = refl

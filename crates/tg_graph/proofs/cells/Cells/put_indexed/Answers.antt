@@ -1,4 +1,5 @@
-use Rattle.std.proofs.Common.{◌≡◌, ◌+◌, subst, sym}
+use Rattle.std.proofs.Common.{◌≡◌, subst, sym}
+use Rattle.tg_word.specs.Word.{nursery_space}
 use Rattle.tg_nursery.specs.Allocation.{HasLeft}
 use Rattle.tg_graph.specs.Spots.{IsSpotFor, cells_for, table_put}
 use Rattle.tg_graph.specs.declared.rows.Spot.{Spot}
@@ -32,7 +33,7 @@ pub widen_indexed-requires-clause-found : goal.widen_indexed-requires-clause-fou
 widen_indexed-requires-clause-found g c = subst (λ (s : Spot). IsSpotFor c.args.self.now.spaces.spaces c.args.name c.args.from s) c.in-Reference.is c.requires.found
 
 pub widen_indexed-requires-clause-left : goal.widen_indexed-requires-clause-left
-widen_indexed-requires-clause-left g c = subst (λ (s : Spot). HasLeft c.args.self.now.spaces (c.args.worker + 2) (cells_for s)) c.in-Reference.is c.requires.left
+widen_indexed-requires-clause-left g c = subst (λ (s : Spot). HasLeft c.args.self.now.spaces (nursery_space c.args.nursery) (cells_for s)) c.in-Reference.is c.requires.left
 
 pub returns-in-Reference-clause-payloads : goal.returns-in-Reference-clause-payloads
 returns-in-Reference-clause-payloads g c = c.widen_indexed.ensures.payloads
@@ -53,7 +54,7 @@ pub returns-in-Reference-clause-quiet : goal.returns-in-Reference-clause-quiet
 returns-in-Reference-clause-quiet g c = λ places quiet. quiet
 
 pub returns-in-Reference-clause-put : goal.returns-in-Reference-clause-put
-returns-in-Reference-clause-put g c = subst (λ (s : Spot). c.widen_indexed.new.self.spaces ≡ table_put c.args.self.now.spaces (c.args.worker + 2) s c.args.rights c.args.to) (sym c.in-Reference.is) c.widen_indexed.ensures.put
+returns-in-Reference-clause-put g c = subst (λ (s : Spot). c.widen_indexed.new.self.spaces ≡ table_put c.args.self.now.spaces (nursery_space c.args.nursery) s c.args.rights c.args.to) (sym c.in-Reference.is) c.widen_indexed.ensures.put
 
 pub fill_indexed-requires-clause-few : goal.fill_indexed-requires-clause-few
 fill_indexed-requires-clause-few g c = c.requires.few
@@ -137,7 +138,7 @@ pub extend_indexed-requires-clause-found : goal.extend_indexed-requires-clause-f
 extend_indexed-requires-clause-found g c = subst (λ (s : Spot). IsSpotFor c.args.self.now.spaces.spaces c.args.name c.args.from s) c.in-Full.is c.requires.found
 
 pub extend_indexed-requires-clause-left : goal.extend_indexed-requires-clause-left
-extend_indexed-requires-clause-left g c = subst (λ (s : Spot). HasLeft c.args.self.now.spaces (c.args.worker + 2) (cells_for s)) c.in-Full.is c.requires.left
+extend_indexed-requires-clause-left g c = subst (λ (s : Spot). HasLeft c.args.self.now.spaces (nursery_space c.args.nursery) (cells_for s)) c.in-Full.is c.requires.left
 
 pub extend_indexed-requires-clause-room : goal.extend_indexed-requires-clause-room
 extend_indexed-requires-clause-room g c = c.requires.room
@@ -167,4 +168,4 @@ pub returns-in-Full-clause-quiet : goal.returns-in-Full-clause-quiet
 returns-in-Full-clause-quiet g c = c.extend_indexed.ensures.quiet
 
 pub returns-in-Full-clause-put : goal.returns-in-Full-clause-put
-returns-in-Full-clause-put g c = subst (λ (s : Spot). c.extend_indexed.new.self.spaces ≡ table_put c.args.self.now.spaces (c.args.worker + 2) s c.args.rights c.args.to) (sym c.in-Full.is) c.extend_indexed.ensures.put
+returns-in-Full-clause-put g c = subst (λ (s : Spot). c.extend_indexed.new.self.spaces ≡ table_put c.args.self.now.spaces (nursery_space c.args.nursery) s c.args.rights c.args.to) (sym c.in-Full.is) c.extend_indexed.ensures.put

@@ -10,7 +10,7 @@ use Rattle.tg_graph.proofs.heap.Heap.drop_rights.Goals as goal
 
 pub invariant_of-self : goal.invariant_of-self
 invariant_of-self g c =
-    let s : HeapState = record { table = c.self.inside.cells.spaces; payloads = c.self.inside.cells.payloads; workers = c.self.inside.workers.items; remembered = c.self.inside.cells.remembered.places } in
+    let s : HeapState = record { table = c.self.inside.cells.spaces; payloads = c.self.inside.cells.payloads; subjects = c.self.inside.subjects; remembered = c.self.inside.cells.remembered.places } in
     let content = content_of s in
     let new = c.drop_rights_in.new.self in
     let label = without_rights content.label (name_of s c.args.from) c.args.name c.rights.result in
@@ -19,7 +19,7 @@ invariant_of-self g c =
 
 pub returns-clause-dropped : goal.returns-clause-dropped
 returns-clause-dropped g c =
-    let s : HeapState = record { table = c.self.inside.cells.spaces; payloads = c.self.inside.cells.payloads; workers = c.self.inside.workers.items; remembered = c.self.inside.cells.remembered.places } in
+    let s : HeapState = record { table = c.self.inside.cells.spaces; payloads = c.self.inside.cells.payloads; subjects = c.self.inside.subjects; remembered = c.self.inside.cells.remembered.places } in
     let content = content_of s in
     let new = c.drop_rights_in.new.self in
     let after = heap_with s new.spaces new.payloads new.remembered.places in
@@ -32,7 +32,7 @@ returns-clause-dropped g c =
 
 pub returns-clause-kept : goal.returns-clause-kept
 returns-clause-kept g c =
-    let s : HeapState = record { table = c.self.inside.cells.spaces; payloads = c.self.inside.cells.payloads; workers = c.self.inside.workers.items; remembered = c.self.inside.cells.remembered.places } in
+    let s : HeapState = record { table = c.self.inside.cells.spaces; payloads = c.self.inside.cells.payloads; subjects = c.self.inside.subjects; remembered = c.self.inside.cells.remembered.places } in
     let content = content_of s in
     let new = c.drop_rights_in.new.self in
     let after = heap_with s new.spaces new.payloads new.remembered.places in

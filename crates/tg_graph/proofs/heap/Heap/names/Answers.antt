@@ -10,6 +10,6 @@ use Rattle.tg_graph.proofs.heap.Heap.names.Goals as goal
 pub returns-clause-once : goal.returns-clause-once
 returns-clause-once g c =
     let inside = c.self.inside in
-    let s : HeapState = record { table = inside.cells.spaces; payloads = inside.cells.payloads; workers = inside.workers.items; remembered = inside.cells.remembered.places } in
+    let s : HeapState = record { table = inside.cells.spaces; payloads = inside.cells.payloads; subjects = inside.subjects; remembered = inside.cells.remembered.places } in
     let once = names_once s.table.spaces s.payloads (table_list s.table c.names_in.ensures.table) c.self.invariant.0.graph in
     subst (λ (heap : HeapState). IsDistinct (λ a b. a == b) (map (name_at heap.table.spaces) (objects_of heap.table.spaces))) c.self.view_is once

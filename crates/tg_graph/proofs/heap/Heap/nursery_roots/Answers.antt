@@ -1,4 +1,5 @@
 use Rattle.std.proofs.Common.{◌≡◌, List, map, ◌++◌, subst, sym}
+use Rattle.tg_subjects.specs.Subjects.{places_of}
 use Rattle.tg_space.specs.Soundness.{AreSound}
 use Rattle.tg_space.specs.Targets.{all_root_targets, young_spaces}
 use Rattle.tg_space.specs.declared.kind.Kind.TheVariants.{Nursery}
@@ -11,27 +12,27 @@ use Rattle.tg_graph.proofs.heap.Heap.nursery_roots.Goals as goal
 pub returns-clause-roots : goal.returns-clause-roots
 returns-clause-roots g c =
     let inside = c.self.inside in
-    let s : HeapState = record { table = inside.cells.spaces; payloads = inside.cells.payloads; workers = inside.workers.items; remembered = inside.cells.remembered.places } in
+    let s : HeapState = record { table = inside.cells.spaces; payloads = inside.cells.payloads; subjects = inside.subjects; remembered = inside.cells.remembered.places } in
     let rows = c.in_ok-roots.roots.items in
-    let are : AreShorter s.table.spaces s.workers rows = subst (λ (heap : HeapState). AreShorter heap.table.spaces heap.workers rows) (sym c.self.view_is) c.in_ok-roots.ensures in
+    let are : AreShorter s.table.spaces (places_of s.subjects) rows = subst (λ (heap : HeapState). AreShorter heap.table.spaces (places_of heap.subjects) rows) (sym c.self.view_is) c.in_ok-roots.ensures in
     subst (λ (roots : List Root). CollectAlike Nursery c.args.self.now.table.spaces (roots_of Nursery c.args.self.now) roots) (sym c.in_ok-add_remembered.ensures)
     (subst (λ (heap : HeapState). CollectAlike Nursery heap.table.spaces (roots_of Nursery heap) (rows ++ map (λ p. Remembered p) s.remembered)) c.self.view_is (starts_collect s c.self.invariant.0 rows are))
 
 pub returns-clause-sound : goal.returns-clause-sound
 returns-clause-sound g c =
     let inside = c.self.inside in
-    let s : HeapState = record { table = inside.cells.spaces; payloads = inside.cells.payloads; workers = inside.workers.items; remembered = inside.cells.remembered.places } in
+    let s : HeapState = record { table = inside.cells.spaces; payloads = inside.cells.payloads; subjects = inside.subjects; remembered = inside.cells.remembered.places } in
     let rows = c.in_ok-roots.roots.items in
-    let are : AreShorter s.table.spaces s.workers rows = subst (λ (heap : HeapState). AreShorter heap.table.spaces heap.workers rows) (sym c.self.view_is) c.in_ok-roots.ensures in
+    let are : AreShorter s.table.spaces (places_of s.subjects) rows = subst (λ (heap : HeapState). AreShorter heap.table.spaces (places_of heap.subjects) rows) (sym c.self.view_is) c.in_ok-roots.ensures in
     subst (λ (roots : List Root). AreSound c.args.self.now.table.spaces roots) (sym c.in_ok-add_remembered.ensures)
     (subst (λ (heap : HeapState). AreSound heap.table.spaces (rows ++ map (λ p. Remembered p) s.remembered)) c.self.view_is (starts_sound s c.self.invariant.0 rows are))
 
 pub returns-clause-targets : goal.returns-clause-targets
 returns-clause-targets g c =
     let inside = c.self.inside in
-    let s : HeapState = record { table = inside.cells.spaces; payloads = inside.cells.payloads; workers = inside.workers.items; remembered = inside.cells.remembered.places } in
+    let s : HeapState = record { table = inside.cells.spaces; payloads = inside.cells.payloads; subjects = inside.subjects; remembered = inside.cells.remembered.places } in
     let rows = c.in_ok-roots.roots.items in
-    let are : AreShorter s.table.spaces s.workers rows = subst (λ (heap : HeapState). AreShorter heap.table.spaces heap.workers rows) (sym c.self.view_is) c.in_ok-roots.ensures in
+    let are : AreShorter s.table.spaces (places_of s.subjects) rows = subst (λ (heap : HeapState). AreShorter heap.table.spaces (places_of heap.subjects) rows) (sym c.self.view_is) c.in_ok-roots.ensures in
     let h = c.args.self.now.table.spaces in
     subst (λ (roots : List Root). all_root_targets young_spaces h roots ≡ all_root_targets young_spaces h (roots_of Nursery c.args.self.now)) (sym c.in_ok-add_remembered.ensures)
     (subst (λ (heap : HeapState). all_root_targets young_spaces heap.table.spaces (rows ++ map (λ p. Remembered p) s.remembered) ≡ all_root_targets young_spaces heap.table.spaces (roots_of Nursery heap)) c.self.view_is (all_same s c.self.invariant.0 rows are))

@@ -3,6 +3,7 @@ use Rattle.std.proofs.Common.{◌≡◌, ◌∙◌, List, map, sym, ap, subst}
 use Rattle.std.specs.List.{All}
 use Rattle.std.specs.Vec.{with_items}
 use Rattle.tg_word.specs.declared.Place.{Place}
+use Rattle.tg_subjects.specs.Subjects.{places_of}
 use Rattle.tg_space.specs.SpaceList.{Holds}
 use Rattle.tg_space.specs.Targets.{from_space}
 use Rattle.tg_space.specs.Collection.{new_place}
@@ -10,43 +11,43 @@ use Rattle.tg_space.specs.declared.kind.Kind.TheVariants.{Nursery}
 use Rattle.tg_graph.specs.Heap.{HeapState}
 use Rattle.tg_graph.specs.Kept.{IsPrepared, moved_place}
 use Rattle.tg_graph.specs.declared.settle.Prepared.{Prepared}
-use Rattle.tg_graph.proofs.KeptHeap.{remembered_cells, workers_of}
-use Rattle.tg_graph.proofs.KeptReached.{worker_objects}
+use Rattle.tg_graph.proofs.KeptHeap.{remembered_cells}
+use Rattle.tg_graph.proofs.KeptReached.{subject_objects}
 use Rattle.tg_graph.proofs.KeptSettled.{items_mapped, words_in_range}
 use Rattle.tg_graph.proofs.heap.Heap.prepared.Goals as goal
 
 pub rewritten_cells-requires-clause-places : goal.rewritten_cells-requires-clause-places
 rewritten_cells-requires-clause-places g c =
     let inside = c.self.inside in
-    let s : HeapState = record { table = inside.cells.spaces; payloads = inside.cells.payloads; workers = inside.workers.items; remembered = inside.cells.remembered.places } in
+    let s : HeapState = record { table = inside.cells.spaces; payloads = inside.cells.payloads; subjects = inside.subjects; remembered = inside.cells.remembered.places } in
     words_in_range s c.args.self.now c.self.view_is c.self.invariant.0 c.in_ok-dead.ensures.table c.args.forward.now.words c.args.adoption.now.aged c.args.adoption.now.old c.args.noted.now.places c.requires c.len.ensures.whole.0
 
 pub rewritten_cells-requires-clause-held : goal.rewritten_cells-requires-clause-held
 rewritten_cells-requires-clause-held g c =
     let inside = c.self.inside in
-    let s : HeapState = record { table = inside.cells.spaces; payloads = inside.cells.payloads; workers = inside.workers.items; remembered = inside.cells.remembered.places } in
+    let s : HeapState = record { table = inside.cells.spaces; payloads = inside.cells.payloads; subjects = inside.subjects; remembered = inside.cells.remembered.places } in
     remembered_cells s c.self.invariant.0
 
 pub follow-requires-clause-held : goal.follow-requires-clause-held
 follow-requires-clause-held g c =
     let inside = c.self.inside in
-    let s : HeapState = record { table = inside.cells.spaces; payloads = inside.cells.payloads; workers = inside.workers.items; remembered = inside.cells.remembered.places } in
-    let objects = worker_objects s.table.spaces s.workers (workers_of s c.self.invariant.0) in
-    let held : All (Holds s.table.spaces) s.workers = λ k d low. (objects k d low).held in
-    subst (All (Holds s.table.spaces)) (sym (c.deref_mut.ensures.value ∙ c.in_ok-workers.ensures.items ∙ c.deref.ensures.value)) held
+    let s : HeapState = record { table = inside.cells.spaces; payloads = inside.cells.payloads; subjects = inside.subjects; remembered = inside.cells.remembered.places } in
+    let objects = subject_objects s.table.spaces s.subjects c.self.invariant.0.vertices in
+    let held : All (Holds s.table.spaces) (places_of s.subjects) = λ k d low. (objects k d low).held in
+    subst (All (Holds s.table.spaces)) (sym (c.deref_mut.ensures.value ∙ c.in_ok-places.ensures ∙ ap places_of c.as_slice.ensures.value)) held
 
 pub returns-clause-prepared : goal.returns-clause-prepared
 returns-clause-prepared g c =
     let inside = c.self.inside in
     let forward = c.args.forward.now.words in
-    let s : HeapState = record { table = inside.cells.spaces; payloads = inside.cells.payloads; workers = inside.workers.items; remembered = inside.cells.remembered.places } in
+    let s : HeapState = record { table = inside.cells.spaces; payloads = inside.cells.payloads; subjects = inside.subjects; remembered = inside.cells.remembered.places } in
     let f = moved_place (from_space Nursery) s.table.spaces (new_place forward) in
-    let copied = c.in_ok-workers.ensures.items ∙ c.deref.ensures.value in
-    let moved : c.follow.new.places ≡ map f c.in_ok-workers.workers.items = subst (λ (places : List Place). c.follow.new.places ≡ map f places) c.deref_mut.ensures.value c.follow.ensures in
-    let prepared : Prepared = record { dead = c.in_ok-dead.dead; cells = c.in_ok-cells.cells; workers = with_items c.in_ok-workers.workers c.follow.new.places } in
+    let copied = c.in_ok-places.ensures ∙ ap places_of c.as_slice.ensures.value in
+    let moved : c.follow.new.places ≡ map f c.in_ok-places.places.items = subst (λ (places : List Place). c.follow.new.places ≡ map f places) c.deref_mut.ensures.value c.follow.ensures in
+    let prepared : Prepared = record { dead = c.in_ok-dead.dead; cells = c.in_ok-cells.cells; places = with_items c.in_ok-places.places c.follow.new.places } in
     subst (λ (heap : HeapState). IsPrepared heap forward prepared) c.self.view_is (record {
       keys = c.in_ok-dead.ensures.keys;
       each_once = c.in_ok-dead.ensures.each_once;
       cells = c.in_ok-cells.ensures;
-      workers = items_mapped c.in_ok-workers.workers f c.follow.new.places moved ∙ ap (map f) copied;
+      places = items_mapped c.in_ok-places.places f c.follow.new.places moved ∙ ap (map f) copied;
     })

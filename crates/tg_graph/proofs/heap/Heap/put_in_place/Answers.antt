@@ -1,10 +1,15 @@
 -- The heap that a nursery collection leaves.
-use Rattle.std.proofs.Common.{refl, sym, subst, ◌∙◌}
+use Rattle.std.proofs.Common.{List, length, refl, sym, ap, subst, ◌∙◌}
+use Rattle.std.proofs.lemmas.List.{length-map}
+use Rattle.tg_word.specs.declared.Place.{Place}
+use Rattle.tg_subjects.specs.Subjects.{places_of}
+use Rattle.tg_subjects.specs.declared.subject.Subject.{Subject}
 use Rattle.tg_space.specs.SpaceTable.{IsSpaceTable}
 use Rattle.tg_space.specs.declared.kind.Kind.TheVariants.{Nursery}
-use Rattle.tg_space.specs.Collection.{IsCollection}
+use Rattle.tg_space.specs.Targets.{young_spaces}
+use Rattle.tg_space.specs.Collection.{IsCollection, new_place}
 use Rattle.tg_graph.specs.Heap.{HeapState, roots_of}
-use Rattle.tg_graph.specs.Kept.{IsPrepared}
+use Rattle.tg_graph.specs.Kept.{IsPrepared, moved_place}
 use Rattle.tg_graph.proofs.KeptBlocks.{nursery_written}
 use Rattle.tg_graph.proofs.KeptHeap.{IsLeft, indexed_beside}
 use Rattle.tg_graph.proofs.KeptSettled.{cells_there, nursery_left, payloads_there}
@@ -18,14 +23,14 @@ use Rattle.tg_graph.proofs.heap.Heap.put_in_place.Goals as goal
 pub follow-requires-clause-ends : goal.follow-requires-clause-ends
 follow-requires-clause-ends g c =
     let inside = c.self.inside in
-    let s : HeapState = record { table = inside.cells.spaces; payloads = inside.cells.payloads; workers = inside.workers.items; remembered = inside.cells.remembered.places } in
+    let s : HeapState = record { table = inside.cells.spaces; payloads = inside.cells.payloads; subjects = inside.subjects; remembered = inside.cells.remembered.places } in
     let table : IsSpaceTable s.table = subst (λ (heap : HeapState). IsSpaceTable heap.table) (sym c.self.view_is) c.requires.table in
     λ p object. row_is inside.cells.spaces.spaces inside.cells.payloads (table_list inside.cells.spaces table) c.self.invariant.0.graph p object
 
 pub follow-requires-clause-indexed : goal.follow-requires-clause-indexed
 follow-requires-clause-indexed g c =
     let inside = c.self.inside in
-    let s : HeapState = record { table = inside.cells.spaces; payloads = inside.cells.payloads; workers = inside.workers.items; remembered = inside.cells.remembered.places } in
+    let s : HeapState = record { table = inside.cells.spaces; payloads = inside.cells.payloads; subjects = inside.subjects; remembered = inside.cells.remembered.places } in
     let collected : IsCollection Nursery s.table.spaces (roots_of Nursery s) c.args.forward.now.words c.args.adoption.aged c.args.adoption.old c.args.noted.places =
     subst (λ (heap : HeapState). IsCollection Nursery heap.table.spaces (roots_of Nursery heap) c.args.forward.now.words c.args.adoption.aged c.args.adoption.old c.args.noted.places) (sym c.self.view_is) c.requires.collection in
     indexed_beside s c.self.invariant.0 c.args.forward.now.words c.args.adoption.aged c.args.adoption.old c.args.noted.places collected inside.rows.entries c.self.invariant.1
@@ -33,16 +38,23 @@ follow-requires-clause-indexed g c =
 pub put_prepared-requires-clause-held : goal.put_prepared-requires-clause-held
 put_prepared-requires-clause-held g c =
     let inside = c.self.inside in
-    let s : HeapState = record { table = inside.cells.spaces; payloads = inside.cells.payloads; workers = inside.workers.items; remembered = inside.cells.remembered.places } in
+    let s : HeapState = record { table = inside.cells.spaces; payloads = inside.cells.payloads; subjects = inside.subjects; remembered = inside.cells.remembered.places } in
     let table : IsSpaceTable s.table = subst (λ (heap : HeapState). IsSpaceTable heap.table) (sym c.self.view_is) c.requires.table in
     let prepared : IsPrepared s c.args.forward.now.words c.args.prepared = subst (λ (heap : HeapState). IsPrepared heap c.args.forward.now.words c.args.prepared) (sym c.self.view_is) c.requires.prepared in
     cells_there s c.args.self.now c.self.view_is c.self.invariant.0 table c.args.forward.now.words c.args.adoption.aged c.args.adoption.old c.args.noted.places
     c.adopt.new.self c.args.prepared.cells.items c.in-Ok.ensures.adopted prepared.cells
 
+pub put_prepared-requires-clause-places : goal.put_prepared-requires-clause-places
+put_prepared-requires-clause-places g c =
+    let inside = c.self.inside in
+    let s : HeapState = record { table = inside.cells.spaces; payloads = inside.cells.payloads; subjects = inside.subjects; remembered = inside.cells.remembered.places } in
+    let prepared : IsPrepared s c.args.forward.now.words c.args.prepared = subst (λ (heap : HeapState). IsPrepared heap c.args.forward.now.words c.args.prepared) (sym c.self.view_is) c.requires.prepared in
+    ap (λ (places : List Place). length places) prepared.places ∙ length-map (places_of s.subjects) (moved_place young_spaces s.table.spaces (new_place c.args.forward.now.words)) ∙ length-map s.subjects (λ (x : Subject). x.place)
+
 pub put_prepared-requires-clause-there : goal.put_prepared-requires-clause-there
 put_prepared-requires-clause-there g c =
     let inside = c.self.inside in
-    let s : HeapState = record { table = inside.cells.spaces; payloads = inside.cells.payloads; workers = inside.workers.items; remembered = inside.cells.remembered.places } in
+    let s : HeapState = record { table = inside.cells.spaces; payloads = inside.cells.payloads; subjects = inside.subjects; remembered = inside.cells.remembered.places } in
     let table : IsSpaceTable s.table = subst (λ (heap : HeapState). IsSpaceTable heap.table) (sym c.self.view_is) c.requires.table in
     let prepared : IsPrepared s c.args.forward.now.words c.args.prepared = subst (λ (heap : HeapState). IsPrepared heap c.args.forward.now.words c.args.prepared) (sym c.self.view_is) c.requires.prepared in
     payloads_there s c.args.self.now c.self.view_is c.self.invariant.0 table c.args.forward.now.words c.args.adoption.aged c.args.adoption.old c.args.noted.places
@@ -51,13 +63,13 @@ put_prepared-requires-clause-there g c =
 -- the heap as its parts are at the end
 abbrev now : (g : Over) → After-drop-self-inside-4 g → HeapState
 now g c =
-    record { table = c.put_prepared.new.cells.spaces; payloads = c.put_prepared.new.cells.payloads; workers = c.put_prepared.new.workers.items; remembered = c.args.noted.places }
+    record { table = c.put_prepared.new.cells.spaces; payloads = c.put_prepared.new.cells.payloads; subjects = c.put_prepared.new.subjects; remembered = c.args.noted.places }
 
 left : (g : Over) (c : After-drop-self-inside-4 g) → IsLeft Nursery c.args.forward.now.words c.args.noted.places c.args.self.now (now g c)
 left g c =
     let inside = c.self.inside in
     let forward = c.args.forward.now.words in
-    let s : HeapState = record { table = inside.cells.spaces; payloads = inside.cells.payloads; workers = inside.workers.items; remembered = inside.cells.remembered.places } in
+    let s : HeapState = record { table = inside.cells.spaces; payloads = inside.cells.payloads; subjects = inside.subjects; remembered = inside.cells.remembered.places } in
     let table : IsSpaceTable s.table = subst (λ (heap : HeapState). IsSpaceTable heap.table) (sym c.self.view_is) c.requires.table in
     let prepared : IsPrepared s forward c.args.prepared = subst (λ (heap : HeapState). IsPrepared heap forward c.args.prepared) (sym c.self.view_is) c.requires.prepared in
     nursery_left s c.args.self.now c.self.view_is c.self.invariant.0 table forward c.args.adoption.aged c.args.adoption.old c.args.noted.places c.requires.collection (now g c)
@@ -65,7 +77,7 @@ left g c =
     c.put_prepared.ensures.written c.put_prepared.ensures.table
     prepared.keys
     c.put_prepared.ensures.dropped
-    (c.put_prepared.ensures.workers ∙ prepared.workers)
+    (record { names = c.put_prepared.ensures.names; nurseries = c.put_prepared.ensures.nurseries; places_are = c.put_prepared.ensures.places ∙ prepared.places; subjects = c.put_prepared.ensures.subjects })
     refl
 
 pub invariant_of-self-2 : goal.invariant_of-self-2
@@ -77,7 +89,7 @@ returns-clause-settled g c = (left g c).settled
 pub returns-clause-written : goal.returns-clause-written
 returns-clause-written g c =
     let inside = c.self.inside in
-    let s : HeapState = record { table = inside.cells.spaces; payloads = inside.cells.payloads; workers = inside.workers.items; remembered = inside.cells.remembered.places } in
+    let s : HeapState = record { table = inside.cells.spaces; payloads = inside.cells.payloads; subjects = inside.subjects; remembered = inside.cells.remembered.places } in
     let prepared : IsPrepared s c.args.forward.now.words c.args.prepared = subst (λ (heap : HeapState). IsPrepared heap c.args.forward.now.words c.args.prepared) (sym c.self.view_is) c.requires.prepared in
     nursery_written s c.args.self.now c.args.forward.now.words c.args.adoption.aged c.args.adoption.old c.put_prepared.new.cells.spaces c.adopt.new.self c.args.prepared.cells.items c.self.view_is c.in-Ok.ensures.adopted prepared.cells
     c.put_prepared.ensures.written

@@ -1,11 +1,12 @@
-use Rattle.std.proofs.Common.{◌≡◌, ◌≢◌, ◌≤◌, ◌∙◌, ℕ, [], length, map, refl, subst, sym}
+use Rattle.std.proofs.Common.{◌≡◌, ◌≢◌, ◌≤◌, ◌∙◌, ℕ, [], map, refl, subst, sym}
 use Rattle.tg_space.specs.SpaceList.{space_of}
 use Rattle.tg_space.specs.Generations.{AreNeeded}
 use Rattle.tg_space.specs.SpaceTable.{with_adopted}
 use Rattle.tg_space.specs.declared.kind.Kind.{Kind}
 use Rattle.tg_space.specs.declared.kind.Kind.TheVariants.{Full, Nursery}
 use Rattle.tg_graph.specs.Standing.{KeepsReached}
-use Rattle.tg_graph.specs.Heap.{HeapState, content_of}
+use Rattle.tg_subjects.specs.Subjects.{nurseries_of}
+use Rattle.tg_graph.specs.Heap.{HeapState, content_of, subject_names}
 use Rattle.tg_graph.specs.Kept.{AreWritten, IsSettled, VerticesOfOldStay, rewritten_at}
 use Rattle.tg_graph.proofs.heap.Heap.settle.Goals.{in-Full, in-Nursery+in_ok-keep_old_and_copied-in-Nursery}
 use Rattle.tg_graph.proofs.heap.Heap.settle.Goals as goal
@@ -16,10 +17,10 @@ returns-clause-kept g c =
     elim c.match-kind.branch [
       | in-Full w ↦
           let done : IsSettled c.args.kind old w.keep_copied.new.self = subst (λ (kind : Kind). IsSettled kind old w.keep_copied.new.self) (sym w.in-Full.is) w.keep_copied.ensures.settled in
-          subst (λ (heap : HeapState). KeepsReached c.args.kind (content_of old) (content_of heap) (length old.workers)) (sym w.self-is) done.keeps
+          subst (λ (heap : HeapState). KeepsReached c.args.kind (content_of old) (content_of heap) (subject_names old)) (sym w.self-is) done.keeps
       | in-Nursery+in_ok-keep_old_and_copied-in-Nursery w ↦
           let done : IsSettled c.args.kind old w.keep_old_and_copied.new.self = subst (λ (kind : Kind). IsSettled kind old w.keep_old_and_copied.new.self) (sym w.in-Nursery.is) w.in_ok-keep_old_and_copied-in-Nursery.ensures.settled in
-          subst (λ (heap : HeapState). KeepsReached c.args.kind (content_of old) (content_of heap) (length old.workers)) (sym w.self-is) done.keeps
+          subst (λ (heap : HeapState). KeepsReached c.args.kind (content_of old) (content_of heap) (subject_names old)) (sym w.self-is) done.keeps
     ]
 
 pub returns-clause-needed : goal.returns-clause-needed
@@ -89,12 +90,20 @@ returns-clause-none_needed g c =
       | in-Nursery+in_ok-keep_old_and_copied-in-Nursery w ↦ λ full. let no : ◌≡◌ {A = Kind} Nursery Full = sym w.in-Nursery.is ∙ full in absurd cc
     ]
 
-pub returns-clause-workers : goal.returns-clause-workers
-returns-clause-workers g c =
+pub returns-clause-subjects : goal.returns-clause-subjects
+returns-clause-subjects g c =
     let old : HeapState = c.args.self.now in
     elim c.match-kind.branch [
-      | in-Full w ↦ subst (λ (heap : HeapState). length heap.workers ≡ length old.workers) (sym w.self-is) w.keep_copied.ensures.settled.workers
-      | in-Nursery+in_ok-keep_old_and_copied-in-Nursery w ↦ subst (λ (heap : HeapState). length heap.workers ≡ length old.workers) (sym w.self-is) w.in_ok-keep_old_and_copied-in-Nursery.ensures.settled.workers
+      | in-Full w ↦ subst (λ (heap : HeapState). subject_names heap ≡ subject_names old) (sym w.self-is) w.keep_copied.ensures.settled.subjects
+      | in-Nursery+in_ok-keep_old_and_copied-in-Nursery w ↦ subst (λ (heap : HeapState). subject_names heap ≡ subject_names old) (sym w.self-is) w.in_ok-keep_old_and_copied-in-Nursery.ensures.settled.subjects
+    ]
+
+pub returns-clause-nurseries : goal.returns-clause-nurseries
+returns-clause-nurseries g c =
+    let old : HeapState = c.args.self.now in
+    elim c.match-kind.branch [
+      | in-Full w ↦ subst (λ (heap : HeapState). nurseries_of heap.subjects ≡ nurseries_of old.subjects) (sym w.self-is) w.keep_copied.ensures.settled.nurseries
+      | in-Nursery+in_ok-keep_old_and_copied-in-Nursery w ↦ subst (λ (heap : HeapState). nurseries_of heap.subjects ≡ nurseries_of old.subjects) (sym w.self-is) w.in_ok-keep_old_and_copied-in-Nursery.ensures.settled.nurseries
     ]
 
 pub returns-clause-left : goal.returns-clause-left

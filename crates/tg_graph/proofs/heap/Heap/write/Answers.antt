@@ -13,7 +13,7 @@ use Rattle.tg_graph.proofs.heap.Heap.write.Goals as goal
 
 pub invariant_of-self : goal.invariant_of-self
 invariant_of-self g c =
-    let s : HeapState = record { table = c.self.inside.cells.spaces; payloads = c.self.inside.cells.payloads; workers = c.self.inside.workers.items; remembered = c.self.inside.cells.remembered.places } in
+    let s : HeapState = record { table = c.self.inside.cells.spaces; payloads = c.self.inside.cells.payloads; subjects = c.self.inside.subjects; remembered = c.self.inside.cells.remembered.places } in
     let content = content_of s in
     let new = c.write.new.self in (
       either_way c.write.result c.write.ensures.written c.write.ensures.refused
@@ -25,7 +25,7 @@ invariant_of-self g c =
 
 pub returns-clause-written : goal.returns-clause-written
 returns-clause-written g c =
-    let s : HeapState = record { table = c.self.inside.cells.spaces; payloads = c.self.inside.cells.payloads; workers = c.self.inside.workers.items; remembered = c.self.inside.cells.remembered.places } in
+    let s : HeapState = record { table = c.self.inside.cells.spaces; payloads = c.self.inside.cells.payloads; subjects = c.self.inside.subjects; remembered = c.self.inside.cells.remembered.places } in
     let content = content_of s in
     let new = c.write.new.self in
     let after = heap_with s new.spaces new.payloads new.remembered.places in
@@ -36,7 +36,7 @@ returns-clause-written g c =
 
 pub returns-clause-kept : goal.returns-clause-kept
 returns-clause-kept g c =
-    let s : HeapState = record { table = c.self.inside.cells.spaces; payloads = c.self.inside.cells.payloads; workers = c.self.inside.workers.items; remembered = c.self.inside.cells.remembered.places } in
+    let s : HeapState = record { table = c.self.inside.cells.spaces; payloads = c.self.inside.cells.payloads; subjects = c.self.inside.subjects; remembered = c.self.inside.cells.remembered.places } in
     let content = content_of s in
     let new = c.write.new.self in
     let after = heap_with s new.spaces new.payloads new.remembered.places in

@@ -3,6 +3,9 @@ use Rattle.tg_script.proofs.run.Run.answer.Goals as goal
 pub returns-in-Create : goal.returns-in-Create
 returns-in-Create g c = rw c.in-Create.is c.create.ensures
 
+pub returns-in-Spawn : goal.returns-in-Spawn
+returns-in-Spawn g c = rw c.in-Spawn.is c.spawn.ensures
+
 pub returns-in-Plain : goal.returns-in-Plain
 returns-in-Plain g c = rw c.in-Plain.is c.apply.ensures
 

@@ -1,22 +1,30 @@
-use Rattle.std.proofs.Common.{refl, ap, ◌∙◌, ◌∷◌}
-use Rattle.tg_script.specs.declared.run.Run.{Run}
+use Rattle.std.proofs.lemmas.Result.{IfErr-weaker}
+use Rattle.tg_text.specs.declared.line.Line.TheVariants as line
+use Rattle.tg_script.specs.Script.{create_of}
 use Rattle.tg_script.specs.Supply.{values_left}
-use Rattle.tg_script.proofs.RunLaws.{create_done, create_refused}
+use Rattle.tg_script.proofs.RunLaws.{creating, create_full, handles_making}
 use Rattle.tg_script.proofs.run.Run.create_of.Goals as goal
 
-pub returns-in-Ok : goal.returns-in-Ok
-returns-in-Ok g c =
-    let new : Run _ = record { store = c.create.new.self; supply = c.args.self.now.supply; helpers = c.args.self.now.helpers } in
-    create_done c.args.self.now.store c.args.self.now.helpers new c.args.worker c.args.label c.args.draft (values_left c.args.self.now.supply) c.in-Ok.name
-    c.in-Ok.ensures.name c.in-Ok.ensures.step c.in-Ok.ensures.no_such_worker refl refl
-
-pub returns-in-Err : goal.returns-in-Err
-returns-in-Err g c =
-    let new : Run _ = record { store = c.create.new.self; supply = c.put_back.new.self; helpers = c.args.self.now.helpers } in
-    let left = values_left c.args.self.now.supply in
-    rw c.create_answer.ensures
+pub returns : goal.returns
+returns g c =
+    let old = c.args.self.now in
+    let x = c.args.worker in
+    let label = c.args.label in
+    let draft = c.args.draft in
+    let made = c.create-made.result in
+    let store = c.create-made.ensures in
+    rw c.tell.ensures.answer
     (
-    create_refused c.args.self.now.store c.args.self.now.helpers new c.args.worker c.args.label c.args.draft left c.in-Err.refused.why c.in-Err.ensures.no_such_worker c.in-Err.ensures.no_more
-    (λ h stands is. (c.in-Err.ensures.full h stands is).0)
-    c.in-Err.ensures.same_graph (c.put_back.ensures ∙ ap (λ v. v ∷ left) c.in-Err.ensures.handed_back) refl
+    handles_making old.store c.create-made.new.self old.helpers c.tell.new.self (line.Create x label) x (create_of label) draft (values_left old.supply) made (creating x label)
+    (record {
+      name = store.name;
+      steps = store.step;
+      no_such_worker = store.no_such_worker;
+      no_more = λ h stands. IfErr-weaker made _ _ (λ refused full is. create_full h x label draft (full is)) (store.no_more h stands);
+      too_many = λ h stands. IfErr-weaker made _ _ (λ refused never is. absurd (never is)) store.no_workers_full;
+      full = λ h stands. IfErr-weaker made _ _ (λ refused full is. (full is).0) (store.full h stands);
+      same_graph = store.same_graph;
+      handed_back = store.handed_back;
+    })
+    c.tell.ensures.store c.tell.ensures.stock c.tell.ensures.helpers
     )

@@ -1,14 +1,15 @@
-use Rattle.std.proofs.Common.{◌≡◌, ◌∙◌, ℕ, Ok, length, sym, ap, subst, refl}
+use Rattle.std.proofs.Common.{◌≡◌, ◌∙◌, ◌+◌, ℕ, Ok, length, arith, sym, ap, subst, refl}
 use Rattle.std.proofs.lemmas.Result.{err_from_is_err_and}
 use Rattle.tg_model.specs.Graph.{IsSubject, ProtectionGraph}
 use Rattle.tg_model.specs.declared.command.Deed.{Deed}
 use Rattle.tg_model.specs.declared.reply.Reply.{Reply}
 use Rattle.tg_model.specs.Rules.{Permits, answer_of, step}
+use Rattle.tg_graph.specs.Heap.{nursery_of}
 use Rattle.tg_rules.specs.Effect.{AddsEdge, LacksCellsToServe}
 use Rattle.tg_store.specs.declared.fault.ApplyFault.{ApplyFault}
 use Rattle.tg_store.specs.Store.{IsUnchanged, StandsFor, StoreState, graph_of_store}
 use Rattle.tg_shared.specs.Sessions.{LockedState}
-use Rattle.tg_shared.proofs.Balances.{balanced_entered, balanced_same, goes_on_entered, goes_on_same}
+use Rattle.tg_shared.proofs.Balances.{balanced_entered, balanced_same, goes_on_entered, goes_on_same, grown, made_more, made_same}
 use Rattle.tg_shared.proofs.Calls.{came_as, err_here, goes_as, ok_not_err}
 use Rattle.tg_shared.proofs.locked.Locked.apply.Goals as goal
 
@@ -19,7 +20,7 @@ invariant_of-self g c =
       c.self.invariant.1,
       c.self.invariant.2,
       goes_on_same g.L.Round.start c.self.inside.store c.apply.new.self c.self.invariant.3 kept.entries kept.opening c.apply.ensures.limits,
-      c.self.invariant.4,
+      made_same g.L.Round.start c.self.inside.sessions c.self.inside.store.entries c.apply.new.self.entries c.self.invariant.4 kept.entries,
     )
 
 pub returns-in_err-reply-clause-refused : goal.returns-in_err-reply-clause-refused
@@ -31,6 +32,9 @@ returns-in_err-reply-clause-refused g c =
 
 pub note-requires : goal.note-requires
 note-requires g c = record { room = c.requires.room; own = c.worker-worker.ensures }
+
+as_many : (sessions made next : ℕ) → sessions ≡ made → next ≡ made + 0 → sessions ≡ next
+as_many sessions made next is same = omega arith
 
 -- the store behind the lock stands for the graph
 here : (inside store : StoreState) (graph : ProtectionGraph) → inside ≡ store → StandsFor store graph → StandsFor inside graph
@@ -90,7 +94,7 @@ returns-in_err-reply-clause-full g c =
     λ graph stands same.
     let here : StandsFor c.self.inside.store graph = ap (λ (b : LockedState). graph_of_store b.store) c.self.view_is ∙ stands in
     let told = c.in_err-reply.ensures.full graph here (came_as given.1 given.2 same) in
-    let full : LockedState → ℕ → Type 0 = λ b w. Permits graph.label graph.value w c.args.command × AddsEdge c.args.command × LacksCellsToServe b.store.heap.table w c.args.command in
+    let full : LockedState → ℕ → Type 0 = λ b w. Permits graph.label graph.value w c.args.command × AddsEdge c.args.command × LacksCellsToServe b.store.heap.table (nursery_of b.store.heap w) w c.args.command in
     subst (λ (b : LockedState). full b c.args.session.now.worker) c.self.view_is
     (subst (λ (w : ℕ). full (record { store = c.self.inside.store; sessions = c.self.inside.sessions }) w) worker told)
 
@@ -100,5 +104,5 @@ invariant_of-self-2 g c = (
   c.self.invariant.1,
   c.self.invariant.2,
   goes_on_entered _ _ _ _ _ _ c.self.invariant.3 c.in_ok-reply.ensures.entry c.apply.ensures.opening c.apply.ensures.limits,
-  c.self.invariant.4,
+  as_many c.self.inside.sessions _ _ c.self.invariant.4 (made_more g.L.Round.start c.self.inside.store c.apply.new.self c.worker-worker.result (Deed.Plain c.args.command) c.in_ok-reply.reply c.in_ok-reply.ensures.entry (grown g.L.Round.start c.self.inside.store c.self.invariant.3)),
 )

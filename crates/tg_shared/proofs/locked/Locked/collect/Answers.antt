@@ -4,7 +4,7 @@ use Rattle.tg_graph.specs.Kept.{VerticesOfOldStay}
 use Rattle.tg_store.specs.Store.{HasFewBlocks, StoreState, graph_of_store}
 use Rattle.std.proofs.lemmas.Result.{on_err_weaker}
 use Rattle.tg_shared.specs.Sessions.{LockedState}
-use Rattle.tg_shared.proofs.Balances.{balanced_same, goes_on_same}
+use Rattle.tg_shared.proofs.Balances.{balanced_same, goes_on_same, made_same}
 use Rattle.tg_shared.proofs.locked.Locked.collect.Goals as goal
 
 pub invariant_of-self : goal.invariant_of-self
@@ -13,7 +13,7 @@ invariant_of-self g c = (
   c.self.invariant.1,
   c.self.invariant.2,
   goes_on_same g.L.Round.start c.self.inside.store c.collect.new.self c.self.invariant.3 c.collect.ensures.entries c.collect.ensures.opening c.collect.ensures.limits,
-  c.self.invariant.4,
+  made_same g.L.Round.start c.self.inside.sessions c.self.inside.store.entries c.collect.new.self.entries c.self.invariant.4 c.collect.ensures.entries,
 )
 
 pub returns-clause-reachable : goal.returns-clause-reachable

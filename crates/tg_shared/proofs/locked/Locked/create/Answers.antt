@@ -1,33 +1,43 @@
-use Rattle.std.proofs.Common.{◌≡◌, ◌↔◌, ◌∙◌, ◌<◌, ◌≤◌, ◌+◌, ℕ, ap, rules, subst, sym}
+use Rattle.std.proofs.Common.{◌≡◌, ◌↔◌, ◌∙◌, ◌<◌, ◌≤◌, ◌+◌, ℕ, ap, arith, rules, subst, sym}
 use Rattle.std.specs.Prelude.{IfErr, IfOk, IsErrAnd, OnOk}
 use Rattle.std.proofs.lemmas.Result.{IfOk-at_ok, IfErr-at_err}
 use Rattle.tg_model.specs.Graph.{IsSubject}
 use Rattle.tg_model.specs.Rules.{step}
 use Rattle.tg_model.specs.declared.command.Deed.{Deed}
+use Rattle.tg_word.specs.Word.{nursery_space}
+use Rattle.tg_graph.specs.Heap.{nursery_of}
 use Rattle.tg_graph.specs.Spots.{IsMadeInRow, LacksCellsFor}
-use Rattle.tg_store.specs.Store.{StandsFor, StoreState, graph_of_store}
+use Rattle.tg_model.specs.declared.reply.Reply.{Reply}
+use Rattle.tg_store.specs.Store.{Enters, StandsFor, StoreState, graph_of_store}
 use Rattle.tg_store.specs.declared.fault.CreateFault.{CreateFault}
-use Rattle.tg_shared.specs.Sessions.{LockedState}
-use Rattle.tg_shared.proofs.Balances.{balanced_entered, goes_on_entered}
+use Rattle.tg_shared.specs.Sessions.{LockedState, sessions_made}
+use Rattle.tg_shared.proofs.Balances.{balanced_entered, goes_on_entered, grown, made_more}
 use Rattle.tg_shared.proofs.locked.Locked.create.Goals.{in-Ok, in-Err-VerticesFull}
 use Rattle.tg_shared.proofs.locked.Locked.create.Goals as goal
 
+-- a create makes no session
+as_many : (sessions made next : ℕ) → sessions ≡ made → next ≡ made + 0 → sessions ≡ next
+as_many sessions made next is same = omega arith
+
 pub invariant_of-self-2 : goal.invariant_of-self-2
 invariant_of-self-2 g c =
+    let deed : Deed = Deed.Create c.args.label c.args.draft.law c.args.draft.state in
+    let more : (reply : Reply) → Enters c.self.inside.store c.create-created.new.self c.worker-worker.result deed reply → c.self.inside.sessions ≡ sessions_made g.L.Round.start c.create-created.new.self.entries =
+    λ reply entry. as_many c.self.inside.sessions _ _ c.self.invariant.4 (made_more g.L.Round.start c.self.inside.store c.create-created.new.self c.worker-worker.result deed reply entry (grown g.L.Round.start c.self.inside.store c.self.invariant.3)) in
     elim c.match-created.branch [
       | in-Ok w ↦ (
         balanced_entered _ _ _ _ _ _ _ _ _ _ _ c.self.invariant.0 (IfOk-at_ok _ w.in-Ok.is c.create-created.ensures.entry) c.create-created.ensures.opening c.note.ensures.book,
         c.self.invariant.1,
         c.self.invariant.2,
         goes_on_entered _ _ _ _ _ _ c.self.invariant.3 (IfOk-at_ok _ w.in-Ok.is c.create-created.ensures.entry) c.create-created.ensures.opening c.create-created.ensures.limits,
-        c.self.invariant.4,
+        more _ (IfOk-at_ok _ w.in-Ok.is c.create-created.ensures.entry),
       )
       | in-Err-VerticesFull w ↦ (
         balanced_entered _ _ _ _ _ _ _ _ _ _ _ c.self.invariant.0 (IfErr-at_err _ w.in-Err-VerticesFull.is c.create-created.ensures.no_more_entry (search rules)).entry c.create-created.ensures.opening c.note.ensures.book,
         c.self.invariant.1,
         c.self.invariant.2,
         goes_on_entered _ _ _ _ _ _ c.self.invariant.3 (IfErr-at_err _ w.in-Err-VerticesFull.is c.create-created.ensures.no_more_entry (search rules)).entry c.create-created.ensures.opening c.create-created.ensures.limits,
-        c.self.invariant.4,
+        more _ (IfErr-at_err _ w.in-Err-VerticesFull.is c.create-created.ensures.no_more_entry (search rules)).entry,
       )
     ]
 
@@ -55,7 +65,7 @@ pub returns-clause-placed : goal.returns-clause-placed
 returns-clause-placed g c =
     let worker : c.worker-worker.result ≡ c.args.session.now.worker = c.worker-worker.ensures in
     let new : StoreState = c.create-created.new.self in
-    let placed : StoreState → ℕ → Type 0 = λ s w. IfOk c.create-created.result (λ name. IsMadeInRow s.heap.table new.heap.table s.heap.remembered new.heap.remembered (w + 2) w name c.args.label) in
+    let placed : StoreState → ℕ → Type 0 = λ s w. IfOk c.create-created.result (λ name. IsMadeInRow s.heap.table new.heap.table s.heap.remembered new.heap.remembered (nursery_space (nursery_of s.heap w)) w name c.args.label) in
     subst (λ (b : LockedState). placed b.store c.args.session.now.worker) c.self.view_is (subst (λ (w : ℕ). placed c.self.inside.store w) worker c.create-created.ensures.placed)
 
 pub returns-clause-no_more : goal.returns-clause-no_more
@@ -71,7 +81,7 @@ returns-clause-full g c =
     λ graph stands.
     let here : StandsFor c.self.inside.store graph = ap (λ (b : LockedState). graph_of_store b.store) c.self.view_is ∙ stands in
     let full : StoreState → ℕ → Type 0 =
-    λ s w. IfErr c.create-created.result (λ refused. refused.why ≡ CreateFault.HeapFull → graph.made < graph.limit × LacksCellsFor s.heap.table (w + 2) 1 w graph.made) in
+    λ s w. IfErr c.create-created.result (λ refused. refused.why ≡ CreateFault.HeapFull → graph.made < graph.limit × LacksCellsFor s.heap.table (nursery_space (nursery_of s.heap w)) 1 w graph.made) in
     subst (λ (b : LockedState). full b.store c.args.session.now.worker) c.self.view_is (subst (λ (w : ℕ). full c.self.inside.store w) worker (c.create-created.ensures.full graph here))
 
 pub returns-clause-same_graph : goal.returns-clause-same_graph
@@ -104,3 +114,6 @@ returns-clause-exhausted g c =
     λ graph stands subject many.
     let here : StandsFor c.self.inside.store graph = ap (λ (b : LockedState). graph_of_store b.store) c.self.view_is ∙ stands in
     c.create-created.ensures.exhausted graph here (subst (λ (w : ℕ). IsSubject graph w) (sym worker) subject) many
+
+pub returns-in-Err-clause-no_workers_full : goal.returns-in-Err-clause-no_workers_full
+returns-in-Err-clause-no_workers_full g c = c.create-created.ensures.no_workers_full

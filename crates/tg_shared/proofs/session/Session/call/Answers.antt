@@ -6,6 +6,7 @@ use Rattle.tg_store.specs.Store.{StoreState, IsFaithful, graph_of_store}
 use Rattle.tg_shared.specs.declared.receipt.Receipt.{Receipt}
 use Rattle.tg_shared.specs.Receipts.{receipt_of}
 use Rattle.std.proofs.lemmas.Result.{err_from_is_err_and}
+use Rattle.tg_graph.specs.Heap.{nursery_of}
 use Rattle.tg_rules.specs.Effect.{AddsEdge, LacksCellsToServe}
 use Rattle.tg_shared.specs.Sessions.{LockedState}
 use Rattle.tg_shared.proofs.Calls.{err_here, found, kept, refused_as, refused_here}
@@ -41,6 +42,6 @@ returns-in_err-apply g c =
       record {
         receipt = tt;
         no_such_worker = err_here answer given.0 _ given.1 (λ why. (s, held.0, held.1, subst (λ (w : ℕ). ¬ IsSubject (graph_of_store s) w) worker ((c.in_err-apply.ensures.no_such_worker (graph_of_store s) refl).0 (refused_as given.2 why))));
-        full = err_here answer given.0 _ given.1 (λ why. (s, held.0, held.1, subst (λ (w : ℕ). Permits (graph_of_store s).label (graph_of_store s).value w c.args.command × AddsEdge c.args.command × LacksCellsToServe s.heap.table w c.args.command) worker (c.in_err-apply.ensures.full (graph_of_store s) refl (refused_as given.2 why))));
+        full = err_here answer given.0 _ given.1 (λ why. (s, held.0, held.1, subst (λ (w : ℕ). Permits (graph_of_store s).label (graph_of_store s).value w c.args.command × AddsEdge c.args.command × LacksCellsToServe s.heap.table (nursery_of s.heap w) w c.args.command) worker (c.in_err-apply.ensures.full (graph_of_store s) refl (refused_as given.2 why))));
       },
     )

@@ -1,5 +1,7 @@
 use Rattle.std.proofs.Common.{◌≡◌, ◌<◌, ◌+◌, ◌∙◌, ℕ, refl, sym, subst}
 use Rattle.tg_model.specs.Graph.{IsSubject}
+use Rattle.tg_word.specs.Word.{nursery_space}
+use Rattle.tg_graph.specs.Heap.{nursery_of}
 use Rattle.tg_graph.specs.Spots.{LacksCellsFor}
 use Rattle.tg_store.specs.declared.fault.CreateFault.{CreateFault}
 use Rattle.tg_store.specs.Store.{StoreState, IsFaithful, graph_of_store}
@@ -11,6 +13,9 @@ use Rattle.tg_shared.proofs.session.Session.create.Goals as goal
 
 not_vertices : CreateFault.OutOfMemory ≡ CreateFault.VerticesFull → ⊥
 not_vertices is = cc
+
+not_workers : CreateFault.OutOfMemory ≡ CreateFault.WorkersFull → ⊥
+not_workers is = cc
 
 not_worker : CreateFault.OutOfMemory ≡ CreateFault.NoSuchWorker → ⊥
 not_worker is = cc
@@ -25,6 +30,7 @@ returns-then-is_err g c = record {
   refused = λ _. c.make_room.ensures.receipts;
   no_such_worker = λ is. absurd (not_worker is);
   heap_full = λ is. absurd (not_heap is);
+  no_workers_full = not_workers;
   handed_back = refl;
 }
 
@@ -33,6 +39,9 @@ returns-clause-refused g c =
     IfErr-weaker c.create-created.result _ _
     (λ refused told why. kept c.args.self.now c.make_room.new.self c.create-created.new.session c.make_room.ensures.receipts (told why).1)
     c.create-created.ensures.refused
+
+pub returns-clause-no_workers_full : goal.returns-clause-no_workers_full
+returns-clause-no_workers_full g c = c.create-created.ensures.no_workers_full
 
 pub returns-clause-handed_back : goal.returns-clause-handed_back
 returns-clause-handed_back g c = c.create-created.ensures.handed_back
@@ -70,5 +79,5 @@ returns-clause-heap_full g c =
     let held = found g.L.Round.start c.deref.result.now c.deref_mut.result.now (c.deref.ensures ∙ sym c.deref_mut.ensures.value) c.store.ensures.gone_on c.store.ensures.faithful in
     let worker : c.make_room.new.self.worker ≡ c.args.self.now.worker = c.make_room.ensures.receipts.0 in
     IfErr-weaker c.create-created.result _ _
-    (λ refused told why. (s, held.0, held.1, subst (λ (w : ℕ). (graph_of_store s).made < (graph_of_store s).limit × LacksCellsFor s.heap.table (w + 2) 1 w (graph_of_store s).made) worker (told why)))
+    (λ refused told why. (s, held.0, held.1, subst (λ (w : ℕ). (graph_of_store s).made < (graph_of_store s).limit × LacksCellsFor s.heap.table (nursery_space (nursery_of s.heap w)) 1 w (graph_of_store s).made) worker (told why)))
     (c.create-created.ensures.full (graph_of_store s) refl)

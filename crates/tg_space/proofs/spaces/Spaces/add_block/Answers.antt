@@ -1,10 +1,11 @@
-use Rattle.std.proofs.Common.{◌≡◌, ◌<◌, ◌++◌, ◌∷◌, [], List, ℕ, length, set, take, drop, ◌∙◌, sym, ap, subst, arith}
+use Rattle.std.proofs.Common.{◌≡◌, ◌<◌, ◌++◌, ◌∷◌, [], length, set, ◌∙◌, sym, ap, subst}
 use Rattle.std.specs.List.{All}
-use Rattle.std.proofs.lemmas.List.{get_or_read, take_at}
+use Rattle.std.proofs.lemmas.List.{get_or_read}
 use Rattle.std.proofs.lemmas.List.Elements.{All-set}
 use Rattle.tg_block.specs.Cells.{free_block}
 use Rattle.tg_space.specs.SpaceList.{SpaceList, BlockList, IsSpace, space_of, with_block}
-use Rattle.tg_space.specs.SpaceTable.{SpaceTable, IsSpaceTable, IsPrefixCount, with_spaces}
+use Rattle.tg_space.specs.SpaceTable.{SpaceTable, IsSpaceTable, with_spaces}
+use Rattle.tg_space.proofs.Counting.{count_put, few_behind}
 use Rattle.tg_space.proofs.Tables.{table_grown}
 use Rattle.tg_space.proofs.spaces.Spaces.add_block.Goals as goal
 
@@ -21,14 +22,16 @@ invariant_of-self-2 c =
     let changed : set t.spaces space c.add_block.new.self ≡ with_block t.spaces space =
     ap (set t.spaces space) (added ∙ ap (λ (s : BlockList). s ++ free_block ∷ []) before) in
     let whole : All IsSpace (with_block t.spaces space) =
-    subst (λ (h : SpaceList). All IsSpace h) changed (All-set IsSpace t.spaces space c.add_block.new.self c.in-Ok.ensures.whole c.self.invariant.0.blocks) in
-    let counts = c.count_blocks.new.starts in
-    let kept : take inside.starts.len (counts ++ drop (length counts) inside.starts.items) ≡ counts =
-    take_at counts (drop (length counts) inside.starts.items) inside.starts.len (omega (arith, c.count_blocks.auto.starts, c.deref_mut.ensures.len)) in (
+    subst (λ (h : SpaceList). All IsSpace h) changed (All-set IsSpace t.spaces space c.add_block.new.self c.in-Ok.ensures.whole c.self.invariant.0.blocks) in (
       subst (λ (h : SpaceList). IsSpaceTable (with_spaces t h)) (sym changed) (table_grown t space c.self.invariant.0 low whole),
-      subst (λ (xs : List ℕ). IsPrefixCount xs (set t.spaces space c.add_block.new.self)) (sym kept)
-          (subst (λ (h : SpaceList). IsPrefixCount counts h) c.deref.ensures.value c.count_blocks.ensures),
+      count_put t.spaces (set t.spaces space c.add_block.new.self) space inside.starts.items c.deref_mut.result.now c.add_one.new.numbers inside.starts.len changed low c.self.invariant.1 c.deref_mut.ensures.value inside.starts.ok.0 c.add_one.ensures,
     )
+
+pub add_one-requires : goal.add_one-requires
+add_one-requires c =
+    let inside = c.self.inside in
+    let table : IsSpaceTable (record { spaces = inside.spaces.items; used = inside.used.items; limits = inside.limits }) = c.self.invariant.0 in
+    few_behind inside.spaces.items c.args.space inside.starts.items c.deref_mut.result.now (record { few = table.few; spaces = table.blocks }) c.self.invariant.1 c.deref_mut.ensures.value _
 
 pub returns-clause-table : goal.returns-clause-table
 returns-clause-table c =

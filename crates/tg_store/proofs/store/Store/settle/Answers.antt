@@ -1,7 +1,7 @@
 -- The heap then has what can be reached, and stands for the same graph.
 use Rattle.std.proofs.Common.{◌∙◌, length, refl, ap, subst}
 use Rattle.std.proofs.lemmas.Result.{err_from_is_err_and}
-use Rattle.tg_graph.specs.Heap.{content_of}
+use Rattle.tg_graph.specs.Heap.{content_of, subject_names}
 use Rattle.tg_graph.specs.Kept.{VerticesOfOldStay}
 use Rattle.tg_store.specs.Store.{HasAdopted, StoreState, StandsFor, graph_of_store}
 use Rattle.tg_store.proofs.CollectLaws.{IsStore-collected, counted_left, kept_in_full, names_left}
@@ -11,7 +11,7 @@ pub invariant_of-self-2 : goal.invariant_of-self-2
 invariant_of-self-2 g c =
     let old : StoreState = record { opening = c.self.inside.opening; entries = c.self.inside.journal.entries; heap = c.self.inside.heap } in
     let new : StoreState = record { opening = c.self.inside.opening; entries = c.self.inside.journal.entries; heap = c.settle.new.self } in
-    IsStore-collected old new c.self.inside.made c.self.invariant c.args.kind c.in_ok-settle.ensures.kept refl refl c.settle.ensures.workers
+    IsStore-collected old new c.self.inside.made c.self.invariant c.args.kind c.in_ok-settle.ensures.kept refl refl c.settle.ensures.subjects
 
 pub returns-clause-names : goal.returns-clause-names
 returns-clause-names g c =
@@ -19,7 +19,7 @@ returns-clause-names g c =
     let new : StoreState = record { opening = c.self.inside.opening; entries = c.self.inside.journal.entries; heap = c.settle.new.self } in
     λ graph stands full.
     let here : StandsFor old graph = ap graph_of_store c.self.view_is ∙ stands in
-    let keeps = kept_in_full c.args.kind (content_of old.heap) (content_of new.heap) (length old.heap.workers) full c.in_ok-settle.ensures.kept in
+    let keeps = kept_in_full c.args.kind (content_of old.heap) (content_of new.heap) (subject_names old.heap) full c.in_ok-settle.ensures.kept in
     names_left old new c.self.inside.made c.self.invariant keeps graph here
 
 pub returns-clause-reachable : goal.returns-clause-reachable
@@ -28,7 +28,7 @@ returns-clause-reachable g c =
     let new : StoreState = record { opening = c.self.inside.opening; entries = c.self.inside.journal.entries; heap = c.settle.new.self } in
     λ graph stands full.
     let here : StandsFor old graph = ap graph_of_store c.self.view_is ∙ stands in
-    let keeps = kept_in_full c.args.kind (content_of old.heap) (content_of new.heap) (length old.heap.workers) full c.in_ok-settle.ensures.kept in
+    let keeps = kept_in_full c.args.kind (content_of old.heap) (content_of new.heap) (subject_names old.heap) full c.in_ok-settle.ensures.kept in
     counted_left old new c.self.inside.made c.self.invariant keeps graph c.vertices.result here c.vertices.ensures.number c.vertices.ensures.once
 
 pub returns-clause-stay : goal.returns-clause-stay

@@ -1,0 +1,79 @@
+use Rattle.std.proofs.Common.{subst, ap, inl, inr, Ok, Err, refl, rules, sym}
+use Rattle.tg_model.specs.declared.value.Value.{Value}
+use Rattle.tg_model.specs.Graph.{ProtectionGraph, IsSubject}
+use Rattle.tg_store.specs.Store.{graph_of_store}
+use Rattle.tg_c.specs.Calls.{Spawns}
+use Rattle.tg_c.proofs.law_store.LawStore.spawn.Goals as goal
+
+-- who isn't a worker is told so first
+pub returns-then-not-is_subject : goal.returns-then-not-is_subject
+returns-then-not-is_subject c = record {
+  entry = tt;
+  named = λ g stands. tt;
+  next = λ g stands. tt;
+  stored = tt;
+  placed = tt;
+  no_such_worker = λ g stands. (
+    (λ is. subst (λ (h : ProtectionGraph). ¬ IsSubject h c.args.worker) stands (λ subject. let holds = (c.is_subject.ensures (graph_of_store c.args.self.now.store) refl).1 subject in cc (holds, c.if-not-is_subject.true))),
+    (λ none. refl),
+  );
+  no_more = λ g stands is. absurd (cc is);
+  exhausted = λ g stands subject full.
+      absurd (let holds = (c.is_subject.ensures (graph_of_store c.args.self.now.store) refl).1 (subst (λ (h : ProtectionGraph). IsSubject h c.args.worker) (sym stands) subject) in cc (holds, c.if-not-is_subject.true));
+  no_more_entry = λ is. absurd (cc is);
+  full = λ g stands is. absurd (cc is);
+  too_many = λ g stands is. absurd (cc is);
+  crowded = λ g stands subject room many.
+      absurd (let holds = (c.is_subject.ensures (graph_of_store c.args.self.now.store) refl).1 (subst (λ (h : ProtectionGraph). IsSubject h c.args.worker) (sym stands) subject) in cc (holds, c.if-not-is_subject.true));
+  too_many_entry = λ is. absurd (cc is);
+  refused = search rules;
+  same_graph = λ g stands. stands;
+  opening = refl;
+  limits = refl;
+}
+
+pub returns-in-Ok-spawn : goal.returns-in-Ok-spawn
+returns-in-Ok-spawn c =
+    let told = c.in-Ok-spawn.ensures in
+    subst (λ (v : Value). Spawns c.args.worker c.args.label v c.args.self.now.store c.spawn.new.self (Ok c.in-Ok-spawn.name)) c.in-Ok.ensures.made (record {
+      entry = told.entry;
+      named = told.name;
+      next = told.step;
+      stored = told.stored;
+      placed = told.placed;
+      no_such_worker = λ g stands. ((λ is. absurd (cc is)), λ none. absurd ((told.no_such_worker g stands).1 none));
+      no_more = λ g stands is. absurd (cc is);
+      exhausted = λ g stands subject full. absurd (told.exhausted g stands subject full);
+      no_more_entry = λ is. absurd (cc is);
+      full = λ g stands is. absurd (cc is);
+      too_many = λ g stands is. absurd (cc is);
+      crowded = λ g stands subject room many. absurd (told.crowded g stands subject room many);
+      too_many_entry = λ is. absurd (cc is);
+      refused = tt;
+      same_graph = λ g stands. tt;
+      opening = told.opening;
+      limits = told.limits;
+    })
+
+pub returns-in-Err : goal.returns-in-Err
+returns-in-Err c =
+    let told = c.in-Err.ensures in
+    subst (λ (v : Value). Spawns c.args.worker c.args.label v c.args.self.now.store c.spawn.new.self (Err c.in-Err.refused.why)) c.in-Ok.ensures.made (record {
+      entry = tt;
+      named = λ g stands. tt;
+      next = λ g stands. tt;
+      stored = tt;
+      placed = tt;
+      no_such_worker = λ g stands. ((λ is. (told.no_such_worker g stands).0 (cc is)), λ none. ap Err ((told.no_such_worker g stands).1 none));
+      no_more = λ g stands is. told.no_more g stands (cc is);
+      exhausted = λ g stands subject full. elim (told.exhausted g stands subject full) [ inl why ↦ inl (ap Err why) | inr why ↦ inr (ap Err why) ];
+      no_more_entry = λ is. told.no_more_entry (cc is);
+      full = λ g stands is. told.full g stands (cc is);
+      too_many = λ g stands is. told.too_many g stands (cc is);
+      crowded = λ g stands subject room many. elim (told.crowded g stands subject room many) [ inl why ↦ inl (ap Err why) | inr why ↦ inr (ap Err why) ];
+      too_many_entry = λ is. told.too_many_entry (cc is);
+      refused = told.refused;
+      same_graph = told.same_graph;
+      opening = told.opening;
+      limits = told.limits;
+    })

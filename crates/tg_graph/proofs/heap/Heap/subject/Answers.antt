@@ -1,0 +1,25 @@
+use Rattle.std.proofs.Common.{◌≡◌, ◌↔◌, IsSome, subst}
+use Rattle.std.specs.Prelude.{IfSome}
+use Rattle.tg_subjects.specs.Subjects.{IsSubjectNamed}
+use Rattle.tg_graph.specs.Heap.{HeapState, IsActive, nursery_of}
+use Rattle.tg_graph.specs.Rows.{IsVertexAt}
+use Rattle.tg_graph.proofs.Heaps.{if_some, subject_vertex}
+use Rattle.tg_graph.proofs.heap.Heap.subject.Goals as goal
+
+pub returns-clause-active : goal.returns-clause-active
+returns-clause-active g c =
+    subst (λ (x : HeapState). IsSome c.find.result ↔ IsActive x c.args.name) c.self.view_is c.find.ensures.found
+
+pub returns-clause-there : goal.returns-clause-there
+returns-clause-there g c =
+    subst (λ (x : HeapState). IfSome c.find.result (IsSubjectNamed x.subjects c.args.name)) c.self.view_is c.find.ensures.there
+
+pub returns-clause-nursery : goal.returns-clause-nursery
+returns-clause-nursery g c =
+    subst (λ (x : HeapState). IfSome c.find.result (λ subject. subject.nursery ≡ nursery_of x c.args.name)) c.self.view_is c.find.ensures.nursery
+
+pub returns-clause-vertex : goal.returns-clause-vertex
+returns-clause-vertex g c =
+    let s : HeapState = record { table = c.self.inside.cells.spaces; payloads = c.self.inside.cells.payloads; subjects = c.self.inside.subjects; remembered = c.self.inside.cells.remembered.places } in
+    if_some c.find.result (IsSubjectNamed s.subjects c.args.name) (λ subject. IsVertexAt c.args.self.now.table.spaces c.args.name subject.place)
+    (λ subject is. subst (λ (x : HeapState). IsVertexAt x.table.spaces c.args.name subject.place) c.self.view_is (subject_vertex s c.self.invariant.0 c.args.name subject is)) c.find.ensures.there

@@ -1,0 +1,164 @@
+-- Lists of subjects: one more, and one less.
+use Rattle.std.proofs.Common.{◌≡◌, ◌≢◌, ◌↔◌, ◌⊎◌, ⊎_elim, inl, inr, ℕ, zero, suc, ◌+◌, ◌<◌, ◌≤◌, ◌==◌, nat_lt, Bool, true, false, cond, List, [], ◌∷◌, ◌++◌, length, get_or, map, refl, sym, ap, ◌∙◌, subst, arith}
+use Rattle.std.proofs.lemmas.Bool.{eqb-false, ne_eqb, cond_both, cond-true}
+use Rattle.std.specs.Prelude.{not}
+use Rattle.std.specs.List.{Contains, range_with_len}
+use Rattle.std.specs.List.Sorted.{IsStrictlyIncreasing}
+use Rattle.std.proofs.lemmas.List.Elements.{All-contains, All-contains_itself, All-filter, Contains-get_or}
+use Rattle.std.proofs.lemmas.Bool.{cases_eq}
+use Rattle.std.proofs.lemmas.List.FromFn.{map-range_with_len_more}
+use Rattle.std.proofs.lemmas.List.Kept.{IsStrictlyIncreasing-filter}
+use Rattle.tg_model.specs.declared.command.Command.{Command}
+use Rattle.tg_model.specs.declared.command.Command.TheVariants.{Take, Grant, Remove, Read, Write, Append, Inspect, List as Listing, Retire}
+use Rattle.tg_rights.specs.RightSet.{RightSet}
+use Rattle.tg_model.specs.declared.law.Law.{Law}
+use Rattle.tg_model.specs.declared.command.Deed.TheVariants.{Spawn}
+use Rattle.tg_model.specs.declared.reply.Reply.TheVariants.{Name, VerticesFull, WorkersFull}
+use Rattle.tg_model.specs.declared.opening.TheConstants.{MAX_WORKERS}
+use Rattle.tg_model.specs.Graph.{ProtectionGraph, without_subject}
+use Rattle.tg_model.specs.Rules.{subjects_after, answer_of, step, with_subject}
+
+-- a place in x ∷ xs that holds z is the head or a place in xs
+first_or_later : (x z : ℕ) (xs : List ℕ) (k : ℕ) → k < length (x ∷ xs) → get_or (x ∷ xs) k z ≡ z → (x ≡ z) ⊎ Contains xs z
+first_or_later x z xs zero l e = inl e
+first_or_later x z xs (suc k) l e = inr (k, omega arith, e)
+
+-- a number is in a list or isn't
+pub there_or_not : (xs : List ℕ) (x : ℕ) → Contains xs x ⊎ (Contains xs x → ⊥)
+there_or_not [] x = inr (λ (k, inside, at). omega (arith, inside))
+there_or_not (y ∷ xs) x =
+    ⊎_elim (λ (same : y ≡ x). inl (0, omega arith, same))
+    (λ other. ⊎_elim (λ (k, inside, at). inl (suc k, omega (arith, inside), at))
+    (λ none. inr (λ (k, inside, at). ⊎_elim other none (first_or_later y x xs k inside at))) (there_or_not xs x))
+    (cases_eq y x)
+
+map_same : (l : List ℕ) → map (λ n. n) l ≡ l
+map_same [] = refl
+map_same (n ∷ l) = ap (λ (m : List ℕ). n ∷ m) (map_same l)
+
+pub range_push : (n : ℕ) → range_with_len 0 (n + 1) ≡ range_with_len 0 n ++ n ∷ []
+range_push n =
+    sym (map_same (range_with_len 0 (n + 1))) ∙ (map-range_with_len_more (λ (m : ℕ). m) 0 n n (let e : 0 + n ≡ n = omega arith in e) ∙ ap (λ (l : List ℕ). l ++ n ∷ []) (map_same (range_with_len 0 n)))
+
+-- ---- one less
+
+pub length-without : (subjects : List ℕ) (x : ℕ) → length (without_subject subjects x) ≤ length subjects
+length-without [] x = omega arith
+length-without (s ∷ subjects) x =
+    let rest = length-without subjects x in
+    cond_both (not (s == x)) (s ∷ without_subject subjects x) (without_subject subjects x) (λ l. length l ≤ length (s ∷ subjects))
+    (λ _. omega (arith, rest)) (λ _. omega (arith, rest))
+
+pub before_without : (subjects : List ℕ) (x y : ℕ) → Contains (without_subject subjects x) y → Contains subjects y
+before_without subjects x y is =
+    All-contains (Contains subjects) (without_subject subjects x) y (All-filter (λ s. not (s == x)) (Contains subjects) subjects (All-contains_itself subjects)) is
+
+other_passes : (s x : ℕ) → s ≢ x → not (s == x) ≡ true
+other_passes s x other = ap not (ne_eqb s x other)
+
+passed : (b : Bool) → not b ≡ true → b ≡ false
+passed true is = sym is
+passed false is = refl
+
+gone : (subjects : List ℕ) (x : ℕ) → Contains (without_subject subjects x) x → ⊥
+gone [] x = λ (k, inside, at). omega (arith, inside)
+gone (s ∷ subjects) x =
+    cond_both (not (s == x)) (s ∷ without_subject subjects x) (without_subject subjects x) (λ l. Contains l x → ⊥)
+    (λ other (k, inside, at). ⊎_elim (eqb-false s x (passed (s == x) other)) (gone subjects x) (first_or_later s x (without_subject subjects x) k inside at))
+    (λ _. gone subjects x)
+
+after_without : (subjects : List ℕ) (x y : ℕ) → Contains subjects y → y ≢ x → Contains (without_subject subjects x) y
+after_without [] x y (k, inside, at) other = absurd (omega (arith, inside))
+after_without (s ∷ subjects) x y (k, inside, at) other =
+    ⊎_elim
+    (λ first. subst (λ l. Contains l y) (sym (cond-true (not (s == x)) (s ∷ without_subject subjects x) (without_subject subjects x) (other_passes s x (λ same. other (sym first ∙ same))))) (0, omega arith, first))
+    (λ later.
+    let rest = after_without subjects x y later other in
+    cond_both (not (s == x)) (s ∷ without_subject subjects x) (without_subject subjects x) (λ l. Contains l y)
+    (λ _. let r = rest in (suc r.0, omega (arith, r.1), r.2)) (λ _. rest))
+    (first_or_later s y subjects k inside at)
+
+-- exactly the others stay
+pub is_without : (subjects : List ℕ) (x y : ℕ) → Contains (without_subject subjects x) y ↔ (Contains subjects y × (y ≢ x))
+is_without subjects x y = (
+  λ is. (before_without subjects x y is, λ same. gone subjects x (subst (Contains (without_subject subjects x)) same is)),
+  λ (was, other). after_without subjects x y was other,
+)
+
+-- ---- one more
+
+pub rising_push : (subjects : List ℕ) (n : ℕ) → IsStrictlyIncreasing subjects → ((s : ℕ) → Contains subjects s → s < n) → IsStrictlyIncreasing (subjects ++ n ∷ [])
+rising_push [] n rising below k inside = absurd (omega (arith, inside))
+rising_push (s ∷ []) n rising below zero inside = below s (0, omega arith, refl)
+rising_push (s ∷ []) n rising below (suc k) inside = absurd (omega (arith, inside))
+rising_push (s ∷ t ∷ subjects) n rising below zero inside = rising 0 (omega arith)
+rising_push (s ∷ t ∷ subjects) n rising below (suc k) inside =
+    let all : List ℕ = s ∷ t ∷ subjects ++ n ∷ [] in
+    let next : (i : ℕ) → suc (i + 1) ≡ suc i + 1 = λ i. omega arith in
+    subst (λ m. get_or all (suc k) 0 < get_or all m 0) (next k)
+    (rising_push (t ∷ subjects) n
+    (λ i within. subst (λ m. get_or (t ∷ subjects) i 0 < get_or (s ∷ t ∷ subjects) m 0) (sym (next i)) (rising (suc i) (omega (arith, within))))
+    (λ u (i, within, at). below u (suc i, omega (arith, within), at)) k (omega (arith, inside)))
+
+-- each number is at least as great as its place
+at_least : (xs : List ℕ) → IsStrictlyIncreasing xs → (k : ℕ) → k < length xs → k ≤ get_or xs k 0
+at_least xs rising zero inside = omega arith
+at_least xs rising (suc k) inside =
+    let next : k + 1 ≡ suc k = omega arith in
+    let earlier = at_least xs rising k (omega (arith, inside)) in
+    let more : get_or xs k 0 < get_or xs (suc k) 0 = subst (λ m. get_or xs k 0 < get_or xs m 0) next (rising k (omega (arith, inside))) in
+    omega (arith, earlier, more)
+
+-- rising numbers below n are no more than n
+pub few_from_rising : (xs : List ℕ) (n : ℕ) → IsStrictlyIncreasing xs → ((x : ℕ) → Contains xs x → x < n) → length xs ≤ n
+few_from_rising [] n rising below = omega arith
+few_from_rising (x ∷ xs) n rising below =
+    let last = at_least (x ∷ xs) rising (length xs) (omega arith) in
+    let low = below (get_or (x ∷ xs) (length xs) 0) (Contains-get_or (x ∷ xs) (length xs) 0 (omega arith)) in
+    omega (arith, last, low)
+
+-- a spawn that answers a name makes a vertex
+made_of : (b c : Bool) (g k : ProtectionGraph) (n name : ℕ) → cond b (cond c (Name n) WorkersFull) VerticesFull ≡ Name name → (cond b (cond c k g) g).made ≡ k.made
+made_of true true g k n name answer = refl
+made_of true false g k n name answer = let no : ⊥ = cc in absurd no
+made_of false c g k n name answer = let no : ⊥ = cc in absurd no
+
+pub made-spawned : (g : ProtectionGraph) (x : ℕ) (label : RightSet) (law : Law) (state : List ℕ) (name : ℕ) → answer_of g x (Spawn label law state) ≡ Name name → (step g x (Spawn label law state)).made ≡ g.made + 1
+made-spawned g x label law state name answer =
+    made_of (nat_lt g.made g.limit) (nat_lt (length g.subjects) MAX_WORKERS) g (with_subject g x label (record { law = law; state = state })) g.made name answer
+
+-- ---- by a command
+
+-- who is a subject after a command was one before it
+pub subject_before : (subjects : List ℕ) (x : ℕ) (command : Command) (y : ℕ) → Contains (subjects_after subjects x command) y → Contains subjects y
+subject_before subjects x (Take r y z) s is = is
+subject_before subjects x (Grant r y z) s is = is
+subject_before subjects x (Remove r y) s is = is
+subject_before subjects x (Read y) s is = is
+subject_before subjects x (Write y v) s is = is
+subject_before subjects x (Append y v) s is = is
+subject_before subjects x (Inspect y) s is = is
+subject_before subjects x Listing s is = is
+subject_before subjects x Retire s is = before_without subjects x s is
+
+pub rising_after : (subjects : List ℕ) (x : ℕ) (command : Command) → IsStrictlyIncreasing subjects → IsStrictlyIncreasing (subjects_after subjects x command)
+rising_after subjects x (Take r y z) rising = rising
+rising_after subjects x (Grant r y z) rising = rising
+rising_after subjects x (Remove r y) rising = rising
+rising_after subjects x (Read y) rising = rising
+rising_after subjects x (Write y v) rising = rising
+rising_after subjects x (Append y v) rising = rising
+rising_after subjects x (Inspect y) rising = rising
+rising_after subjects x Listing rising = rising
+rising_after subjects x Retire rising = IsStrictlyIncreasing-filter (λ s. not (s == x)) subjects rising
+
+pub few_after : (subjects : List ℕ) (x : ℕ) (command : Command) → length (subjects_after subjects x command) ≤ length subjects
+few_after subjects x (Take r y z) = omega arith
+few_after subjects x (Grant r y z) = omega arith
+few_after subjects x (Remove r y) = omega arith
+few_after subjects x (Read y) = omega arith
+few_after subjects x (Write y v) = omega arith
+few_after subjects x (Append y v) = omega arith
+few_after subjects x (Inspect y) = omega arith
+few_after subjects x Listing = omega arith
+few_after subjects x Retire = length-without subjects x

@@ -1,0 +1,30 @@
+use Rattle.std.proofs.lemmas.Result.{IfErr-weaker}
+use Rattle.tg_text.specs.declared.line.Line.TheVariants as line
+use Rattle.tg_script.specs.Script.{spawn_of}
+use Rattle.tg_script.specs.Supply.{values_left}
+use Rattle.tg_script.proofs.RunLaws.{spawning, spawn_full, spawn_crowded, handles_making}
+use Rattle.tg_script.proofs.run.Run.spawn_of.Goals as goal
+
+pub returns : goal.returns
+returns g c =
+    let old = c.args.self.now in
+    let x = c.args.worker in
+    let label = c.args.label in
+    let draft = c.args.draft in
+    let made = c.spawn-made.result in
+    let store = c.spawn-made.ensures in
+    rw c.tell.ensures.answer
+    (
+    handles_making old.store c.spawn-made.new.self old.helpers c.tell.new.self (line.Spawn x label) x (spawn_of label) draft (values_left old.supply) made (spawning x label)
+    (record {
+      name = store.name;
+      steps = store.step;
+      no_such_worker = store.no_such_worker;
+      no_more = λ h stands. IfErr-weaker made _ _ (λ refused full is. spawn_full h x label draft (full is)) (store.no_more h stands);
+      too_many = λ h stands. IfErr-weaker made _ _ (λ refused many is. spawn_crowded h x label draft (many is)) (store.too_many h stands);
+      full = λ h stands. IfErr-weaker made _ _ (λ refused full is. (full is).0) (store.full h stands);
+      same_graph = store.same_graph;
+      handed_back = store.handed_back;
+    })
+    c.tell.ensures.store c.tell.ensures.stock c.tell.ensures.helpers
+    )

@@ -1,0 +1,214 @@
+-- What making a vertex of a kind comes to: where a limit is met, and where a vertex is made.
+use Rattle.std.proofs.Common.{◌≡◌, ◌≢◌, ◌⊎◌, inl, inr, List, ℕ, ◌<◌, ◌≤◌, ◌+◌, ◌==◌, Option, Some, None, length, refl, sym, ap, subst, ◌∙◌, arith}
+use Rattle.std.proofs.lemmas.Bool.{cond-true, eq-eqb}
+use Rattle.std.specs.List.{All}
+use Rattle.std.proofs.lemmas.List.{length-map}
+use Rattle.std.proofs.lemmas.List.Elements.{All-contains_itself}
+use Rattle.tg_rights.specs.RightSet.{RightSet}
+use Rattle.tg_model.specs.declared.value.Value.{Value}
+use Rattle.tg_model.specs.declared.command.Deed.{Deed}
+use Rattle.tg_model.specs.declared.opening.TheConstants.{MAX_WORKERS}
+use Rattle.tg_model.specs.declared.reply.Reply.TheVariants.{Name, VerticesFull, WorkersFull}
+use Rattle.tg_model.specs.Graph.{ProtectionGraph, IsSound, IsSubject}
+use Rattle.tg_model.specs.Opened.{ValueFits}
+use Rattle.tg_model.specs.Rules.{DeedFits, IsAllowed, answer_of, step}
+use Rattle.tg_model.proofs.AllowedLaws.{answer-created, answer-full, answer-spawned, answer-spawn_full, answer-workers_full, step-created, step-spawned, step-not_allowed}
+use Rattle.tg_model.proofs.SoundLaws.{create-subjects, spawn-subjects}
+use Rattle.tg_subjects.specs.declared.subject.Subject.{Subject as SubjectAt}
+use Rattle.tg_journal.proofs.HistoryLaws.{IsSound-opened}
+use Rattle.tg_graph.specs.Content.{Content, IsNamed, OnlyNamedHold}
+use Rattle.tg_graph.specs.Heap.{IsActive, content_of, subject_names}
+use Rattle.tg_graph.specs.Standing as standing
+use Rattle.tg_graph.proofs.StandingLaws as content
+use Rattle.tg_space.specs.declared.allocate_fault.AllocateFault.{AllocateFault}
+use Rattle.tg_space.specs.declared.allocate_fault.AllocateFault.TheVariants as allocate
+use Rattle.tg_store.specs.declared.fault.CreateFault.TheVariants as fault
+use Rattle.tg_store.specs.declared.making.Limit.{Limit}
+use Rattle.tg_store.specs.declared.making.Limit.TheVariants.{Vertices, Subjects}
+use Rattle.tg_store.specs.declared.making.Making.{Making}
+use Rattle.tg_store.specs.declared.making.Making.TheVariants.{Object, Subject}
+use Rattle.tg_store.specs.Faults.{create_fault_of}
+use Rattle.tg_store.specs.Making.{IsCreated, IsLimitMet, deed_making, fault_at, reply_at, subjects_making}
+use Rattle.tg_store.specs.Store.{StoreState, StandsFor, Enters, IsStore, graph_of_store}
+use Rattle.tg_store.proofs.StandLaws.{IsStore-entered, StandsFor-entered, subject_here}
+
+-- ---- on a graph
+
+module _ (g : ProtectionGraph) (x : ℕ) (label : RightSet) (value : Value) where
+  -- the state of what is made fits its law
+  pub fits_made : (kind : Making) → ValueFits value → DeedFits (deed_making kind label value)
+  fits_made Object fits = fits
+  fits_made Subject fits = fits
+
+  -- a limit is answered
+  pub answer_limited : (kind : Making) (limit : Limit) → IsLimitMet g kind (Some limit) → answer_of g x (deed_making kind label value) ≡ reply_at limit
+  answer_limited Object Vertices high = answer-full g x label value.law value.state high
+  answer_limited Object Subjects met = let f : ⊥ = cc met.0 in absurd f
+  answer_limited Subject Vertices high = answer-spawn_full g x label value.law value.state high
+  answer_limited Subject Subjects met = answer-workers_full g x label value.law value.state met.1 met.2
+
+  not_allowed : (kind : Making) (limit : Limit) → IsLimitMet g kind (Some limit) → IsAllowed g x (deed_making kind label value) → ⊥
+  not_allowed Object Vertices high low = omega (arith, high, low)
+  not_allowed Object Subjects met low = cc met.0
+  not_allowed Subject Vertices high room = omega (arith, high, room.0)
+  not_allowed Subject Subjects met room = omega (arith, met.2, room.1)
+
+  -- and changes nothing
+  pub step_limited : (kind : Making) (limit : Limit) → IsLimitMet g kind (Some limit) → step g x (deed_making kind label value) ≡ g
+  step_limited kind limit met = step-not_allowed g x (deed_making kind label value) (not_allowed kind limit met)
+
+  -- where none is met, the vertex is made
+  pub is_allowed : (kind : Making) → IsLimitMet g kind None → IsAllowed g x (deed_making kind label value)
+  is_allowed Object room = room.0
+  is_allowed Subject room = (room.0, room.1 refl)
+
+  pub answer_made : (kind : Making) → IsLimitMet g kind None → answer_of g x (deed_making kind label value) ≡ Name g.made
+  answer_made Object room = answer-created g x label value.law value.state room.0
+  answer_made Subject room = answer-spawned g x label value.law value.state room.0 (room.1 refl)
+
+  pub made_made : (kind : Making) → IsLimitMet g kind None → (step g x (deed_making kind label value)).made ≡ g.made + 1
+  made_made Object room = ap (λ (k : ProtectionGraph). k.made) (step-created g x label value.law value.state room.0)
+  made_made Subject room = ap (λ (k : ProtectionGraph). k.made) (step-spawned g x label value.law value.state room.0 (room.1 refl))
+
+  pub subjects_made : (kind : Making) → IsLimitMet g kind None → (step g x (deed_making kind label value)).subjects ≡ subjects_making kind g.subjects g.made
+  subjects_made Object room = create-subjects g x label value.law value.state
+  subjects_made Subject room = spawn-subjects g x label value.law value.state room.0 (room.1 refl)
+
+  -- and a content with it stands for the graph with it
+  pub stands_made : (c new : Content) (kind : Making) → standing.IsContentOf c g → OnlyNamedHold c → IsSound g → IsSubject g x → IsLimitMet g kind None → IsCreated c new x g.made label value → standing.IsContentOf new (step g x (deed_making kind label value))
+  stands_made c new Object stands only sound subject room created = content.StandsFor-created c new g stands x label value.law value.state only sound subject room.0 created
+  stands_made c new Subject stands only sound subject room created = content.StandsFor-spawned c new g stands x label value.law value.state only sound subject room.0 (room.1 refl) created
+
+-- ---- how a limit is told
+
+module _ (g : ProtectionGraph) (kind : Making) where
+  -- the limit of subjects is looked at where that of vertices isn't met
+  pub limit_of_subjects : (met : Option Limit) → g.made < g.limit → kind ≡ Subject → (met ≡ None → length g.subjects < MAX_WORKERS) → ((limit : Limit) → met ≡ Some limit → (limit ≡ Subjects) × (MAX_WORKERS ≤ length g.subjects)) → IsLimitMet g kind met
+  limit_of_subjects None low is none some = (low, λ _. none refl)
+  limit_of_subjects (Some Vertices) low is none some = let f : ⊥ = cc (some Vertices refl).0 in absurd f
+  limit_of_subjects (Some Subjects) low is none some = (is, low, (some Subjects refl).1)
+
+  pub vertices_full : (limit : Limit) → IsLimitMet g kind (Some limit) → fault_at limit ≡ fault.VerticesFull → g.limit ≤ g.made
+  vertices_full Vertices met e = met
+  vertices_full Subjects met e = let f : ⊥ = cc e in absurd f
+
+  pub workers_full : (limit : Limit) → IsLimitMet g kind (Some limit) → fault_at limit ≡ fault.WorkersFull → (kind ≡ Subject) × (g.made < g.limit) × (MAX_WORKERS ≤ length g.subjects)
+  workers_full Vertices met e = let f : ⊥ = cc e in absurd f
+  workers_full Subjects met e = met
+
+  pub told_vertices : (limit : Limit) → IsLimitMet g kind (Some limit) → g.limit ≤ g.made → (fault_at limit ≡ fault.VerticesFull) ⊎ (fault_at limit ≡ fault.OutOfMemory)
+  told_vertices Vertices met high = inl refl
+  told_vertices Subjects met high = absurd (omega (arith, met.1, high))
+
+  pub told_workers : (limit : Limit) → IsLimitMet g kind (Some limit) → g.made < g.limit → (fault_at limit ≡ fault.WorkersFull) ⊎ (fault_at limit ≡ fault.OutOfMemory)
+  told_workers Vertices met low = absurd (omega (arith, met, low))
+  told_workers Subjects met low = inl refl
+
+pub reply_vertices : (limit : Limit) → fault_at limit ≡ fault.VerticesFull → reply_at limit ≡ VerticesFull
+reply_vertices Vertices e = refl
+reply_vertices Subjects e = let f : ⊥ = cc e in absurd f
+
+pub reply_workers : (limit : Limit) → fault_at limit ≡ fault.WorkersFull → reply_at limit ≡ WorkersFull
+reply_workers Vertices e = let f : ⊥ = cc e in absurd f
+reply_workers Subjects e = refl
+
+pub no_limit_such : (limit : Limit) → fault_at limit ≡ fault.NoSuchWorker → ⊥
+no_limit_such Vertices e = cc
+no_limit_such Subjects e = cc
+
+pub no_limit_heap : (limit : Limit) → fault_at limit ≡ fault.HeapFull → ⊥
+no_limit_heap Vertices e = cc
+no_limit_heap Subjects e = cc
+
+pub one_limit : {A : Type 0} (limit : Limit) → fault_at limit ≢ fault.VerticesFull → fault_at limit ≢ fault.WorkersFull → A
+one_limit Vertices first second = absurd (first refl)
+one_limit Subjects first second = absurd (second refl)
+
+-- ---- of a store
+
+module _ (old : StoreState) (made : ℕ) (is : IsStore old made) (x : ℕ) (active : IsActive old.heap x) (kind : Making) (label : RightSet) (value : Value) where
+  pub subject : IsSubject (graph_of_store old) x
+  subject = subject_here old is.faithful (graph_of_store old) x refl active
+
+  -- ---- a limit is met
+
+  module _ (limit : Limit) (met : IsLimitMet (graph_of_store old) kind (Some limit)) where
+    stays : step (graph_of_store old) x (deed_making kind label value) ≡ graph_of_store old
+    stays = step_limited (graph_of_store old) x label value kind limit met
+
+    pub IsStore-limited : (new : StoreState) → ValueFits value → new.opening ≡ old.opening → Enters old new x (deed_making kind label value) (reply_at limit) → new.heap ≡ old.heap → IsStore new made
+    IsStore-limited new fits opening entry heap =
+        let graph = graph_of_store old in
+        IsStore-entered old new x (deed_making kind label value) (reply_at limit) opening entry made is.faithful subject (fits_made graph x label value kind fits)
+        (sym (answer_limited graph x label value kind limit met))
+        (subst (standing.IsContentOf (content_of new.heap)) (sym stays) (rw heap is.faithful.stands))
+        (ap subject_names heap ∙ is.faithful.subjects ∙ ap (λ (g : ProtectionGraph). g.subjects) (sym stays))
+        (is.is_made ∙ ap (λ (g : ProtectionGraph). g.made) (sym stays))
+
+    pub StandsFor-limited : (new : StoreState) (g : ProtectionGraph) → new.opening ≡ old.opening → Enters old new x (deed_making kind label value) (reply_at limit) → StandsFor old g → StandsFor new g
+    StandsFor-limited new g opening entry stands =
+        StandsFor-entered old new x (deed_making kind label value) (reply_at limit) opening entry (graph_of_store old) refl ∙ stays ∙ stands
+
+  -- ---- one more is made
+
+  pub fresh : IsNamed (content_of old.heap) made → ⊥
+  fresh named =
+      content.not_named-made (content_of old.heap) (graph_of_store old) is.faithful.stands (subst (IsNamed (content_of old.heap)) is.is_made named)
+
+  -- the next name is above those of all subjects
+  pub above : All (λ name. name < made) (subject_names old.heap)
+  above =
+      subst (λ (names : List ℕ). All (λ name. name < made) names) (sym is.faithful.subjects)
+      (subst (λ (n : ℕ). All (λ name. name < n) (graph_of_store old).subjects) (sym is.is_made) below)
+    where
+      sound : IsSound (graph_of_store old)
+      sound = IsSound-opened old.opening old.entries is.faithful.plan is.faithful.legal
+
+      below : All (λ name. name < (graph_of_store old).made) (graph_of_store old).subjects
+      below k d inside = sound.subjects_made _ (All-contains_itself (graph_of_store old).subjects k d inside)
+
+  module _ (room : IsLimitMet (graph_of_store old) kind None) where
+    -- there is a nursery for one more subject
+    pub few : kind ≡ Subject → length old.heap.subjects < MAX_WORKERS
+    few is_subject = subst (λ (n : ℕ). n < MAX_WORKERS) (ap length (sym is.faithful.subjects) ∙ length-map old.heap.subjects (λ (s : SubjectAt). s.name)) (room.1 is_subject)
+
+    pub answer-name : answer_of (graph_of_store old) x (deed_making kind label value) ≡ Name made
+    answer-name = answer_made (graph_of_store old) x label value kind room ∙ ap Name (sym is.is_made)
+
+    pub allowed : IsAllowed (graph_of_store old) x (deed_making kind label value)
+    allowed = is_allowed (graph_of_store old) x label value kind room
+
+    pub IsStore-made : (new : StoreState) → ValueFits value → new.opening ≡ old.opening → Enters old new x (deed_making kind label value) (Name made) → IsCreated (content_of old.heap) (content_of new.heap) x made label value → subject_names new.heap ≡ subjects_making kind (subject_names old.heap) made → IsStore new (made + 1)
+    IsStore-made new fits opening entry created names =
+        let graph = graph_of_store old in
+        let there : IsCreated (content_of old.heap) (content_of new.heap) x graph.made label value = subst (λ n. IsCreated (content_of old.heap) (content_of new.heap) x n label value) is.is_made created in
+        let stands = stands_made graph x label value (content_of old.heap) (content_of new.heap) kind is.faithful.stands
+        (content.OnlyNamedHold-content_of old.heap) (IsSound-opened old.opening old.entries is.faithful.plan is.faithful.legal) subject room there in
+        IsStore-entered old new x (deed_making kind label value) (Name made) opening entry (made + 1) is.faithful subject (fits_made graph x label value kind fits)
+        (sym answer-name) stands
+        (names ∙ ap (λ (names : List ℕ). subjects_making kind names made) is.faithful.subjects ∙ ap (λ (n : ℕ). subjects_making kind graph.subjects n) is.is_made ∙ sym (subjects_made graph x label value kind room))
+        (ap (λ n. n + 1) is.is_made ∙ sym (made_made graph x label value kind room))
+
+-- the new vertex stores the value
+pub stored : (old new : Content) (x name : ℕ) (label : RightSet) (value : Value) → IsCreated old new x name label value → IsNamed new name × (new.value name ≡ Some value)
+stored old new x name label value created = (
+  (created.names name).1 (inr refl),
+  created.values name ∙ cond-true (name == name) (Some value) (old.value name) (eq-eqb name name refl),
+)
+
+-- ---- how refusals of the heap are told
+
+pub no_such_create_fault : (why : AllocateFault) → create_fault_of why ≡ fault.NoSuchWorker → ⊥
+no_such_create_fault allocate.OutOfMemory e = cc
+no_such_create_fault allocate.HeapFull e = cc
+
+pub heap_full : (why : AllocateFault) → create_fault_of why ≡ fault.HeapFull → why ≡ allocate.HeapFull
+heap_full allocate.OutOfMemory e = absurd (cc e)
+heap_full allocate.HeapFull e = refl
+
+-- no refusal of the heap is told as a limit
+pub no_limit_fault : (why : AllocateFault) → (create_fault_of why ≡ fault.VerticesFull) ⊎ (create_fault_of why ≡ fault.WorkersFull) → ⊥
+no_limit_fault allocate.OutOfMemory (inl e) = cc
+no_limit_fault allocate.OutOfMemory (inr e) = cc
+no_limit_fault allocate.HeapFull (inl e) = cc
+no_limit_fault allocate.HeapFull (inr e) = cc

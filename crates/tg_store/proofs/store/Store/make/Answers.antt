@@ -1,0 +1,454 @@
+-- The new vertex is the graph's next, and exactly what is answered is entered.
+use Rattle.std.proofs.Common.{◌≡◌, ◌^◌, ◌<◌, ◌≤◌, ◌+◌, ◌∙◌, ◌++◌, ◌∷◌, [], None, Some, length, refl, sym, ap, subst, inl, inr, arith}
+use Rattle.std.proofs.lemmas.Result.{err_from_is_err_and}
+use Rattle.tg_model.specs.declared.value.Value.{Value}
+use Rattle.tg_model.specs.declared.command.Deed.{Deed}
+use Rattle.tg_model.specs.declared.command.Deed.TheVariants.{Create}
+use Rattle.tg_model.specs.declared.reply.Reply.{Reply}
+use Rattle.tg_model.specs.declared.reply.Reply.TheVariants.{Name, VerticesFull, WorkersFull}
+use Rattle.tg_model.specs.Graph.{ProtectionGraph}
+use Rattle.tg_model.specs.declared.opening.TheConstants.{MAX_WORKERS}
+use Rattle.tg_model.specs.Rules.{IsAllowed, answer_of}
+use Rattle.tg_word.specs.Word.{nursery_space}
+use Rattle.tg_subjects.specs.Subjects.{names_of}
+use Rattle.tg_graph.specs.Heap.{IsActive, content_of, nursery_of}
+use Rattle.tg_graph.specs.Spots.{LacksCellsFor}
+use Rattle.tg_store.specs.Store.{StoreState, Enters, IsUnchanged, OnlyEnters, StandsFor, graph_of_store}
+use Rattle.tg_store.specs.declared.making.Limit.{Limit}
+use Rattle.tg_store.specs.Making.{IsLimitMet, deed_making, reply_at}
+use Rattle.tg_store.proofs.MakingLaws as making
+use Rattle.tg_store.proofs.StandLaws.{IsStore-unchanged, StandsFor-entered, subject_here, active_here}
+use Rattle.tg_store.proofs.store.Store.make.Goals as goal
+
+pub returns-in_default-clause-no_such_worker : goal.returns-in_default-clause-no_such_worker
+returns-in_default-clause-no_such_worker g c =
+    let old : StoreState = record { opening = c.self.inside.opening; entries = c.self.inside.journal.entries; heap = c.self.inside.heap } in
+    let none : IsActive old.heap c.args.worker → ⊥ = λ is. let f : ⊥ = cc (c.in_default.ensures.active.1 is) in f in
+    λ graph stands.
+    let here : StandsFor old graph = ap graph_of_store c.self.view_is ∙ stands in
+    rw c.create_refused.ensures
+    (λ _ subject. none (active_here old c.self.invariant.faithful graph c.args.worker here subject), λ _. refl)
+
+pub returns-in_default-clause-exhausted : goal.returns-in_default-clause-exhausted
+returns-in_default-clause-exhausted g c =
+    let old : StoreState = record { opening = c.self.inside.opening; entries = c.self.inside.journal.entries; heap = c.self.inside.heap } in
+    let none : IsActive old.heap c.args.worker → ⊥ = λ is. let f : ⊥ = cc (c.in_default.ensures.active.1 is) in f in
+    λ graph stands subject _.
+    let here : StandsFor old graph = ap graph_of_store c.self.view_is ∙ stands in
+    absurd (none (active_here old c.self.invariant.faithful graph c.args.worker here subject))
+
+pub invariant_of-self-in-Some-met : goal.invariant_of-self-in-Some-met
+invariant_of-self-in-Some-met g c =
+    let old : StoreState = record { opening = c.self.inside.opening; entries = c.self.inside.journal.entries; heap = c.self.inside.heap } in
+    let active : IsActive old.heap c.args.worker = c.in-Some.ensures.active.0 refl in
+    let limit : Limit = c.in-Some-met.limit in
+    let met : IsLimitMet (graph_of_store old) c.args.kind (Some limit) = subst (λ (s : StoreState). IsLimitMet (graph_of_store s) c.args.kind (Some limit)) (sym c.self.view_is) c.in-Some-met.ensures.met in
+    let new : StoreState = record { opening = c.self.inside.opening; entries = c.push.new.self.entries; heap = c.self.inside.heap } in
+    let deed : c.in-Ok.deed ≡ deed_making c.args.kind c.args.label c.args.draft = c.in-Ok.ensures.deed ∙ ap (λ (v : Value). deed_making c.args.kind c.args.label v) c.value.ensures.same in
+    let entry : Enters old new c.args.worker (deed_making c.args.kind c.args.label c.args.draft) (reply_at limit) =
+    c.push.ensures.entries ∙ ap (λ es. es ++ (record { worker = c.args.worker; deed = c.in-Ok.deed; reply = c.reply.result }) ∷ []) c.deed_to_enter.ensures.entries
+    ∙ ap (λ (r : Reply). old.entries ++ (record { worker = c.args.worker; deed = c.in-Ok.deed; reply = r }) ∷ []) c.reply.ensures
+    ∙ ap (λ (d : Deed). old.entries ++ (record { worker = c.args.worker; deed = d; reply = reply_at limit }) ∷ []) deed in
+    making.IsStore-limited old c.self.inside.made c.self.invariant c.args.worker active c.args.kind c.args.label c.args.draft limit met new c.value.ensures.fits refl entry refl
+
+pub returns-in-Some-met-clause-no_such_worker : goal.returns-in-Some-met-clause-no_such_worker
+returns-in-Some-met-clause-no_such_worker g c =
+    let old : StoreState = record { opening = c.self.inside.opening; entries = c.self.inside.journal.entries; heap = c.self.inside.heap } in
+    let active : IsActive old.heap c.args.worker = c.in-Some.ensures.active.0 refl in
+    λ graph stands.
+    let here : StandsFor old graph = ap graph_of_store c.self.view_is ∙ stands in
+    rw (c.create_refused-in-Some-met.ensures, c.fault.ensures)
+    (λ e _. making.no_limit_such _ e, λ none. absurd (none (subject_here old c.self.invariant.faithful graph c.args.worker here active)))
+
+pub returns-in-Some-met-clause-no_more : goal.returns-in-Some-met-clause-no_more
+returns-in-Some-met-clause-no_more g c =
+    let old : StoreState = record { opening = c.self.inside.opening; entries = c.self.inside.journal.entries; heap = c.self.inside.heap } in
+    let active : IsActive old.heap c.args.worker = c.in-Some.ensures.active.0 refl in
+    let limit : Limit = c.in-Some-met.limit in
+    let met : IsLimitMet (graph_of_store old) c.args.kind (Some limit) = subst (λ (s : StoreState). IsLimitMet (graph_of_store s) c.args.kind (Some limit)) (sym c.self.view_is) c.in-Some-met.ensures.met in
+    λ graph stands.
+    let here : StandsFor old graph = ap graph_of_store c.self.view_is ∙ stands in
+    rw (c.create_refused-in-Some-met.ensures, c.fault.ensures)
+    (λ e. (subject_here old c.self.invariant.faithful graph c.args.worker here active, subst (λ (h : ProtectionGraph). h.limit ≤ h.made) here (making.vertices_full (graph_of_store old) c.args.kind limit met e)))
+
+pub returns-in-Some-met-clause-exhausted : goal.returns-in-Some-met-clause-exhausted
+returns-in-Some-met-clause-exhausted g c =
+    let old : StoreState = record { opening = c.self.inside.opening; entries = c.self.inside.journal.entries; heap = c.self.inside.heap } in
+    let active : IsActive old.heap c.args.worker = c.in-Some.ensures.active.0 refl in
+    let limit : Limit = c.in-Some-met.limit in
+    let met : IsLimitMet (graph_of_store old) c.args.kind (Some limit) = subst (λ (s : StoreState). IsLimitMet (graph_of_store s) c.args.kind (Some limit)) (sym c.self.view_is) c.in-Some-met.ensures.met in
+    λ graph stands subject all.
+    let here : StandsFor old graph = ap graph_of_store c.self.view_is ∙ stands in
+    rw (c.create_refused-in-Some-met.ensures, c.fault.ensures) (making.told_vertices (graph_of_store old) c.args.kind limit met (subst (λ (h : ProtectionGraph). h.limit ≤ h.made) (sym here) all))
+
+pub returns-in-Some-met-clause-same_graph : goal.returns-in-Some-met-clause-same_graph
+returns-in-Some-met-clause-same_graph g c =
+    let old : StoreState = record { opening = c.self.inside.opening; entries = c.self.inside.journal.entries; heap = c.self.inside.heap } in
+    let active : IsActive old.heap c.args.worker = c.in-Some.ensures.active.0 refl in
+    let limit : Limit = c.in-Some-met.limit in
+    let met : IsLimitMet (graph_of_store old) c.args.kind (Some limit) = subst (λ (s : StoreState). IsLimitMet (graph_of_store s) c.args.kind (Some limit)) (sym c.self.view_is) c.in-Some-met.ensures.met in
+    let new : StoreState = record { opening = c.self.inside.opening; entries = c.push.new.self.entries; heap = c.self.inside.heap } in
+    let deed : c.in-Ok.deed ≡ deed_making c.args.kind c.args.label c.args.draft = c.in-Ok.ensures.deed ∙ ap (λ (v : Value). deed_making c.args.kind c.args.label v) c.value.ensures.same in
+    let entry : Enters old new c.args.worker (deed_making c.args.kind c.args.label c.args.draft) (reply_at limit) =
+    c.push.ensures.entries ∙ ap (λ es. es ++ (record { worker = c.args.worker; deed = c.in-Ok.deed; reply = c.reply.result }) ∷ []) c.deed_to_enter.ensures.entries
+    ∙ ap (λ (r : Reply). old.entries ++ (record { worker = c.args.worker; deed = c.in-Ok.deed; reply = r }) ∷ []) c.reply.ensures
+    ∙ ap (λ (d : Deed). old.entries ++ (record { worker = c.args.worker; deed = d; reply = reply_at limit }) ∷ []) deed in
+    λ graph stands.
+    let here : StandsFor old graph = ap graph_of_store c.self.view_is ∙ stands in
+    let after : StandsFor new graph = making.StandsFor-limited old c.self.inside.made c.self.invariant c.args.worker active c.args.kind c.args.label c.args.draft limit met new graph refl entry here in
+    rw c.create_refused-in-Some-met.ensures after
+
+pub add_vertex-requires-clause-fresh : goal.add_vertex-requires-clause-fresh
+add_vertex-requires-clause-fresh g c =
+    let old : StoreState = record { opening = c.self.inside.opening; entries = c.self.inside.journal.entries; heap = c.self.inside.heap } in
+    let active : IsActive old.heap c.args.worker = c.in-Some.ensures.active.0 refl in
+    making.fresh old c.self.inside.made c.self.invariant c.args.worker active c.args.kind c.args.label c.args.draft
+
+pub invariant_of-self-in_err-add_vertex : goal.invariant_of-self-in_err-add_vertex
+invariant_of-self-in_err-add_vertex g c =
+    let old : StoreState = record { opening = c.self.inside.opening; entries = c.self.inside.journal.entries; heap = c.self.inside.heap } in
+    let new : StoreState = record { opening = c.self.inside.opening; entries = c.deed_to_enter.new.journal.entries; heap = c.add_vertex.new.heap } in
+    let unchanged : IsUnchanged old new = record { opening = refl; entries = c.deed_to_enter.ensures.entries; heap = c.in_err-add_vertex.ensures.refused } in
+    IsStore-unchanged old new c.self.inside.made c.self.invariant unchanged
+
+pub returns-in_err-add_vertex-clause-no_such_worker : goal.returns-in_err-add_vertex-clause-no_such_worker
+returns-in_err-add_vertex-clause-no_such_worker g c =
+    let old : StoreState = record { opening = c.self.inside.opening; entries = c.self.inside.journal.entries; heap = c.self.inside.heap } in
+    let active : IsActive old.heap c.args.worker = c.in-Some.ensures.active.0 refl in
+    let given = err_from_is_err_and c.from_residual.result c.from_residual.ensures.1 in
+    λ graph stands.
+    let here : StandsFor old graph = ap graph_of_store c.self.view_is ∙ stands in
+    rw (given.1, given.2)
+    (λ e _. making.no_such_create_fault _ e, λ none. absurd (none (subject_here old c.self.invariant.faithful graph c.args.worker here active)))
+
+pub returns-in_err-add_vertex-clause-exhausted : goal.returns-in_err-add_vertex-clause-exhausted
+returns-in_err-add_vertex-clause-exhausted g c =
+    let old : StoreState = record { opening = c.self.inside.opening; entries = c.self.inside.journal.entries; heap = c.self.inside.heap } in
+    let active : IsActive old.heap c.args.worker = c.in-Some.ensures.active.0 refl in
+    let room : IsLimitMet (graph_of_store old) c.args.kind None = subst (λ (s : StoreState). IsLimitMet (graph_of_store s) c.args.kind None) (sym c.self.view_is) c.in_default-met.ensures.met in
+    λ graph stands subject all.
+    let here : StandsFor old graph = ap graph_of_store c.self.view_is ∙ stands in
+    let low = subst (λ (h : ProtectionGraph). h.made < h.limit) here room.0 in absurd (omega (arith, low, all))
+
+pub returns-in_err-add_vertex-clause-full : goal.returns-in_err-add_vertex-clause-full
+returns-in_err-add_vertex-clause-full g c =
+    let old : StoreState = record { opening = c.self.inside.opening; entries = c.self.inside.journal.entries; heap = c.self.inside.heap } in
+    let active : IsActive old.heap c.args.worker = c.in-Some.ensures.active.0 refl in
+    let given = err_from_is_err_and c.from_residual.result c.from_residual.ensures.1 in
+    let room : IsLimitMet (graph_of_store old) c.args.kind None = subst (λ (s : StoreState). IsLimitMet (graph_of_store s) c.args.kind None) (sym c.self.view_is) c.in_default-met.ensures.met in
+    λ graph stands.
+    let here : StandsFor old graph = ap graph_of_store c.self.view_is ∙ stands in
+    rw (given.1, given.2)
+    (λ e. (
+      subst (λ (h : ProtectionGraph). IsAllowed h c.args.worker (deed_making c.args.kind c.args.label c.args.draft)) here (making.allowed old c.self.inside.made c.self.invariant c.args.worker active c.args.kind c.args.label c.args.draft room),
+      subst (λ (h : ProtectionGraph). LacksCellsFor c.args.self.now.heap.table (nursery_space (nursery_of c.args.self.now.heap c.args.worker)) 1 c.args.worker h.made) here
+          (subst (λ n. LacksCellsFor c.args.self.now.heap.table (nursery_space (nursery_of c.args.self.now.heap c.args.worker)) 1 c.args.worker n) c.self.invariant.is_made
+          (subst (λ (s : StoreState). LacksCellsFor s.heap.table (nursery_space (nursery_of s.heap c.args.worker)) 1 c.args.worker c.self.inside.made) c.self.view_is (c.in_err-add_vertex.ensures.full (making.heap_full _ e)))),
+    ))
+
+pub invariant_of-self-2 : goal.invariant_of-self-2
+invariant_of-self-2 g c =
+    let old : StoreState = record { opening = c.self.inside.opening; entries = c.self.inside.journal.entries; heap = c.self.inside.heap } in
+    let room : IsLimitMet (graph_of_store old) c.args.kind None = subst (λ (s : StoreState). IsLimitMet (graph_of_store s) c.args.kind None) (sym c.self.view_is) c.in_default-met.ensures.met in
+    let new : StoreState = record { opening = c.self.inside.opening; entries = c.push-2.new.self.entries; heap = c.add_vertex.new.heap } in
+    let active : IsActive old.heap c.args.worker = c.in-Some.ensures.active.0 refl in
+    let deed : c.in-Ok.deed ≡ deed_making c.args.kind c.args.label c.args.draft = c.in-Ok.ensures.deed ∙ ap (λ (v : Value). deed_making c.args.kind c.args.label v) c.value.ensures.same in
+    let entry : Enters old new c.args.worker (deed_making c.args.kind c.args.label c.args.draft) (Name c.self.inside.made) =
+    c.push-2.ensures.entries ∙ ap (λ es. es ++ (record { worker = c.args.worker; deed = c.in-Ok.deed; reply = Name c.self.inside.made }) ∷ []) c.deed_to_enter.ensures.entries
+    ∙ ap (λ (d : Deed). old.entries ++ (record { worker = c.args.worker; deed = d; reply = Name c.self.inside.made }) ∷ []) deed in
+    making.IsStore-made old c.self.inside.made c.self.invariant c.args.worker active c.args.kind c.args.label c.args.draft room new c.value.ensures.fits refl entry
+    c.in_ok-add_vertex.ensures.made c.in_ok-add_vertex.ensures.subjects
+
+pub returns-clause-name : goal.returns-clause-name
+returns-clause-name g c =
+    let old : StoreState = record { opening = c.self.inside.opening; entries = c.self.inside.journal.entries; heap = c.self.inside.heap } in
+    let active : IsActive old.heap c.args.worker = c.in-Some.ensures.active.0 refl in
+    let room : IsLimitMet (graph_of_store old) c.args.kind None = subst (λ (s : StoreState). IsLimitMet (graph_of_store s) c.args.kind None) (sym c.self.view_is) c.in_default-met.ensures.met in
+    λ graph stands.
+    let here : StandsFor old graph = ap graph_of_store c.self.view_is ∙ stands in
+    ap (λ h. answer_of h c.args.worker (deed_making c.args.kind c.args.label c.args.draft)) (sym here)
+    ∙ making.answer-name old c.self.inside.made c.self.invariant c.args.worker active c.args.kind c.args.label c.args.draft room
+
+pub returns-clause-step : goal.returns-clause-step
+returns-clause-step g c =
+    let old : StoreState = record { opening = c.self.inside.opening; entries = c.self.inside.journal.entries; heap = c.self.inside.heap } in
+    let new : StoreState = record { opening = c.self.inside.opening; entries = c.push-2.new.self.entries; heap = c.add_vertex.new.heap } in
+    let deed : c.in-Ok.deed ≡ deed_making c.args.kind c.args.label c.args.draft = c.in-Ok.ensures.deed ∙ ap (λ (v : Value). deed_making c.args.kind c.args.label v) c.value.ensures.same in
+    let entry : Enters old new c.args.worker (deed_making c.args.kind c.args.label c.args.draft) (Name c.self.inside.made) =
+    c.push-2.ensures.entries ∙ ap (λ es. es ++ (record { worker = c.args.worker; deed = c.in-Ok.deed; reply = Name c.self.inside.made }) ∷ []) c.deed_to_enter.ensures.entries
+    ∙ ap (λ (d : Deed). old.entries ++ (record { worker = c.args.worker; deed = d; reply = Name c.self.inside.made }) ∷ []) deed in
+    λ graph stands.
+    let here : StandsFor old graph = ap graph_of_store c.self.view_is ∙ stands in
+    StandsFor-entered old new c.args.worker (deed_making c.args.kind c.args.label c.args.draft) (Name c.self.inside.made) refl entry graph here
+
+pub returns-clause-stored : goal.returns-clause-stored
+returns-clause-stored g c =
+    making.stored (content_of c.self.inside.heap) (content_of c.add_vertex.new.heap) c.args.worker c.self.inside.made c.args.label c.args.draft c.in_ok-add_vertex.ensures.made
+
+pub returns-clause-no_such_worker : goal.returns-clause-no_such_worker
+returns-clause-no_such_worker g c =
+    let old : StoreState = record { opening = c.self.inside.opening; entries = c.self.inside.journal.entries; heap = c.self.inside.heap } in
+    let active : IsActive old.heap c.args.worker = c.in-Some.ensures.active.0 refl in
+    λ graph stands.
+    let here : StandsFor old graph = ap graph_of_store c.self.view_is ∙ stands in
+    (λ e. absurd e, λ none. absurd (none (subject_here old c.self.invariant.faithful graph c.args.worker here active)))
+
+pub returns-clause-exhausted : goal.returns-clause-exhausted
+returns-clause-exhausted g c =
+    let old : StoreState = record { opening = c.self.inside.opening; entries = c.self.inside.journal.entries; heap = c.self.inside.heap } in
+    let active : IsActive old.heap c.args.worker = c.in-Some.ensures.active.0 refl in
+    let room : IsLimitMet (graph_of_store old) c.args.kind None = subst (λ (s : StoreState). IsLimitMet (graph_of_store s) c.args.kind None) (sym c.self.view_is) c.in_default-met.ensures.met in
+    λ graph stands subject all.
+    let here : StandsFor old graph = ap graph_of_store c.self.view_is ∙ stands in
+    let low = subst (λ (h : ProtectionGraph). h.made < h.limit) here room.0 in absurd (omega (arith, low, all))
+
+pub returns-in_default-clause-entry : goal.returns-in_default-clause-entry
+returns-in_default-clause-entry g c = rw c.create_refused.ensures tt
+
+pub returns-in_default-clause-stored : goal.returns-in_default-clause-stored
+returns-in_default-clause-stored g c = rw c.create_refused.ensures tt
+
+pub returns-in_default-clause-placed : goal.returns-in_default-clause-placed
+returns-in_default-clause-placed g c = rw c.create_refused.ensures tt
+
+pub returns-in_default-clause-name : goal.returns-in_default-clause-name
+returns-in_default-clause-name g c = λ _ _. rw c.create_refused.ensures tt
+
+pub returns-in_default-clause-step : goal.returns-in_default-clause-step
+returns-in_default-clause-step g c = λ _ _. rw c.create_refused.ensures tt
+
+pub returns-in_default-clause-handed_back : goal.returns-in_default-clause-handed_back
+returns-in_default-clause-handed_back g c = rw c.create_refused.ensures refl
+
+pub returns-in_default-clause-opening : goal.returns-in_default-clause-opening
+returns-in_default-clause-opening g c = refl
+
+pub returns-in_default-clause-limits : goal.returns-in_default-clause-limits
+returns-in_default-clause-limits g c = refl
+
+pub returns-in_default-clause-no_more : goal.returns-in_default-clause-no_more
+returns-in_default-clause-no_more g c = λ _ _. rw c.create_refused.ensures (λ e. let f : ⊥ = cc e in absurd f)
+
+pub returns-in_default-clause-no_more_entry : goal.returns-in_default-clause-no_more_entry
+returns-in_default-clause-no_more_entry g c = rw c.create_refused.ensures (λ e. let f : ⊥ = cc e in absurd f)
+
+pub returns-in_default-clause-full : goal.returns-in_default-clause-full
+returns-in_default-clause-full g c = λ _ _. rw c.create_refused.ensures (λ e. let f : ⊥ = cc e in absurd f)
+
+pub returns-in_default-clause-same_graph : goal.returns-in_default-clause-same_graph
+returns-in_default-clause-same_graph g c = λ _ stands. rw c.create_refused.ensures stands
+
+pub returns-in-Some-met-clause-entry : goal.returns-in-Some-met-clause-entry
+returns-in-Some-met-clause-entry g c = rw c.create_refused-in-Some-met.ensures tt
+
+pub returns-in-Some-met-clause-stored : goal.returns-in-Some-met-clause-stored
+returns-in-Some-met-clause-stored g c = rw c.create_refused-in-Some-met.ensures tt
+
+pub returns-in-Some-met-clause-placed : goal.returns-in-Some-met-clause-placed
+returns-in-Some-met-clause-placed g c = rw c.create_refused-in-Some-met.ensures tt
+
+pub returns-in-Some-met-clause-name : goal.returns-in-Some-met-clause-name
+returns-in-Some-met-clause-name g c = λ _ _. rw c.create_refused-in-Some-met.ensures tt
+
+pub returns-in-Some-met-clause-step : goal.returns-in-Some-met-clause-step
+returns-in-Some-met-clause-step g c = λ _ _. rw c.create_refused-in-Some-met.ensures tt
+
+pub returns-in-Some-met-clause-handed_back : goal.returns-in-Some-met-clause-handed_back
+returns-in-Some-met-clause-handed_back g c = rw c.create_refused-in-Some-met.ensures refl
+
+pub returns-in-Some-met-clause-opening : goal.returns-in-Some-met-clause-opening
+returns-in-Some-met-clause-opening g c = ap (λ (s : StoreState). s.opening) c.self.view_is
+
+pub returns-in-Some-met-clause-limits : goal.returns-in-Some-met-clause-limits
+returns-in-Some-met-clause-limits g c = ap (λ (s : StoreState). s.heap.table.limits) c.self.view_is
+
+pub returns-in-Some-met-clause-refused : goal.returns-in-Some-met-clause-refused
+returns-in-Some-met-clause-refused g c =
+    rw (c.create_refused-in-Some-met.ensures, c.fault.ensures) (λ first second. making.one_limit _ first second)
+
+pub returns-in-Some-met-clause-full : goal.returns-in-Some-met-clause-full
+returns-in-Some-met-clause-full g c =
+    λ _ _. rw (c.create_refused-in-Some-met.ensures, c.fault.ensures) (λ e. absurd (making.no_limit_heap _ e))
+
+pub returns-in_default-deed_to_enter-clause-no_such_worker : goal.returns-in_default-deed_to_enter-clause-no_such_worker
+returns-in_default-deed_to_enter-clause-no_such_worker g c =
+    let old : StoreState = record { opening = c.self.inside.opening; entries = c.self.inside.journal.entries; heap = c.self.inside.heap } in
+    let active : IsActive old.heap c.args.worker = c.in-Some.ensures.active.0 refl in
+    λ graph stands.
+    let here : StandsFor old graph = ap graph_of_store c.self.view_is ∙ stands in
+    rw c.create_refused-in_default-deed_to_enter.ensures
+    (λ e _. let f : ⊥ = cc e in f, λ none. absurd (none (subject_here old c.self.invariant.faithful graph c.args.worker here active)))
+
+pub returns-in_default-deed_to_enter-clause-exhausted : goal.returns-in_default-deed_to_enter-clause-exhausted
+returns-in_default-deed_to_enter-clause-exhausted g c = λ graph stands subject _. rw c.create_refused-in_default-deed_to_enter.ensures (inr refl)
+
+pub returns-in_default-deed_to_enter-clause-entry : goal.returns-in_default-deed_to_enter-clause-entry
+returns-in_default-deed_to_enter-clause-entry g c = rw c.create_refused-in_default-deed_to_enter.ensures tt
+
+pub returns-in_default-deed_to_enter-clause-stored : goal.returns-in_default-deed_to_enter-clause-stored
+returns-in_default-deed_to_enter-clause-stored g c = rw c.create_refused-in_default-deed_to_enter.ensures tt
+
+pub returns-in_default-deed_to_enter-clause-placed : goal.returns-in_default-deed_to_enter-clause-placed
+returns-in_default-deed_to_enter-clause-placed g c = rw c.create_refused-in_default-deed_to_enter.ensures tt
+
+pub returns-in_default-deed_to_enter-clause-name : goal.returns-in_default-deed_to_enter-clause-name
+returns-in_default-deed_to_enter-clause-name g c = λ _ _. rw c.create_refused-in_default-deed_to_enter.ensures tt
+
+pub returns-in_default-deed_to_enter-clause-step : goal.returns-in_default-deed_to_enter-clause-step
+returns-in_default-deed_to_enter-clause-step g c = λ _ _. rw c.create_refused-in_default-deed_to_enter.ensures tt
+
+pub returns-in_default-deed_to_enter-clause-handed_back : goal.returns-in_default-deed_to_enter-clause-handed_back
+returns-in_default-deed_to_enter-clause-handed_back g c = rw c.create_refused-in_default-deed_to_enter.ensures refl
+
+pub returns-in_default-deed_to_enter-clause-opening : goal.returns-in_default-deed_to_enter-clause-opening
+returns-in_default-deed_to_enter-clause-opening g c = ap (λ (s : StoreState). s.opening) c.self.view_is
+
+pub returns-in_default-deed_to_enter-clause-limits : goal.returns-in_default-deed_to_enter-clause-limits
+returns-in_default-deed_to_enter-clause-limits g c = ap (λ (s : StoreState). s.heap.table.limits) c.self.view_is
+
+pub returns-in_default-deed_to_enter-clause-no_more : goal.returns-in_default-deed_to_enter-clause-no_more
+returns-in_default-deed_to_enter-clause-no_more g c = λ _ _. rw c.create_refused-in_default-deed_to_enter.ensures (λ e. let f : ⊥ = cc e in absurd f)
+
+pub returns-in_default-deed_to_enter-clause-no_more_entry : goal.returns-in_default-deed_to_enter-clause-no_more_entry
+returns-in_default-deed_to_enter-clause-no_more_entry g c = rw c.create_refused-in_default-deed_to_enter.ensures (λ e. let f : ⊥ = cc e in absurd f)
+
+pub returns-in_default-deed_to_enter-clause-full : goal.returns-in_default-deed_to_enter-clause-full
+returns-in_default-deed_to_enter-clause-full g c = λ _ _. rw c.create_refused-in_default-deed_to_enter.ensures (λ e. let f : ⊥ = cc e in absurd f)
+
+pub returns-in-Some-met-clause-no_more_entry : goal.returns-in-Some-met-clause-no_more_entry
+returns-in-Some-met-clause-no_more_entry g c =
+    let old : StoreState = record { opening = c.self.inside.opening; entries = c.self.inside.journal.entries; heap = c.self.inside.heap } in
+    let active : IsActive old.heap c.args.worker = c.in-Some.ensures.active.0 refl in
+    let limit : Limit = c.in-Some-met.limit in
+    let met : IsLimitMet (graph_of_store old) c.args.kind (Some limit) = subst (λ (s : StoreState). IsLimitMet (graph_of_store s) c.args.kind (Some limit)) (sym c.self.view_is) c.in-Some-met.ensures.met in
+    let new : StoreState = record { opening = c.self.inside.opening; entries = c.push.new.self.entries; heap = c.self.inside.heap } in
+    let deed : c.in-Ok.deed ≡ deed_making c.args.kind c.args.label c.args.draft = c.in-Ok.ensures.deed ∙ ap (λ (v : Value). deed_making c.args.kind c.args.label v) c.value.ensures.same in
+    let entry : Enters old new c.args.worker (deed_making c.args.kind c.args.label c.args.draft) (reply_at limit) =
+    c.push.ensures.entries ∙ ap (λ es. es ++ (record { worker = c.args.worker; deed = c.in-Ok.deed; reply = c.reply.result }) ∷ []) c.deed_to_enter.ensures.entries
+    ∙ ap (λ (r : Reply). old.entries ++ (record { worker = c.args.worker; deed = c.in-Ok.deed; reply = r }) ∷ []) c.reply.ensures
+    ∙ ap (λ (d : Deed). old.entries ++ (record { worker = c.args.worker; deed = d; reply = reply_at limit }) ∷ []) deed in
+    rw (c.create_refused-in-Some-met.ensures, c.fault.ensures)
+    (λ e. subst (λ (s : StoreState). OnlyEnters s new c.args.worker (deed_making c.args.kind c.args.label c.args.draft) VerticesFull) c.self.view_is (record { entry = entry ∙ ap (λ (r : Reply). old.entries ++ (record { worker = c.args.worker; deed = deed_making c.args.kind c.args.label c.args.draft; reply = r }) ∷ []) (making.reply_vertices limit e); opening = refl; heap = refl }))
+
+pub returns-in-Some-met-clause-too_many_entry : goal.returns-in-Some-met-clause-too_many_entry
+returns-in-Some-met-clause-too_many_entry g c =
+    let old : StoreState = record { opening = c.self.inside.opening; entries = c.self.inside.journal.entries; heap = c.self.inside.heap } in
+    let active : IsActive old.heap c.args.worker = c.in-Some.ensures.active.0 refl in
+    let limit : Limit = c.in-Some-met.limit in
+    let met : IsLimitMet (graph_of_store old) c.args.kind (Some limit) = subst (λ (s : StoreState). IsLimitMet (graph_of_store s) c.args.kind (Some limit)) (sym c.self.view_is) c.in-Some-met.ensures.met in
+    let new : StoreState = record { opening = c.self.inside.opening; entries = c.push.new.self.entries; heap = c.self.inside.heap } in
+    let deed : c.in-Ok.deed ≡ deed_making c.args.kind c.args.label c.args.draft = c.in-Ok.ensures.deed ∙ ap (λ (v : Value). deed_making c.args.kind c.args.label v) c.value.ensures.same in
+    let entry : Enters old new c.args.worker (deed_making c.args.kind c.args.label c.args.draft) (reply_at limit) =
+    c.push.ensures.entries ∙ ap (λ es. es ++ (record { worker = c.args.worker; deed = c.in-Ok.deed; reply = c.reply.result }) ∷ []) c.deed_to_enter.ensures.entries
+    ∙ ap (λ (r : Reply). old.entries ++ (record { worker = c.args.worker; deed = c.in-Ok.deed; reply = r }) ∷ []) c.reply.ensures
+    ∙ ap (λ (d : Deed). old.entries ++ (record { worker = c.args.worker; deed = d; reply = reply_at limit }) ∷ []) deed in
+    rw (c.create_refused-in-Some-met.ensures, c.fault.ensures)
+    (λ e. subst (λ (s : StoreState). OnlyEnters s new c.args.worker (deed_making c.args.kind c.args.label c.args.draft) WorkersFull) c.self.view_is (record { entry = entry ∙ ap (λ (r : Reply). old.entries ++ (record { worker = c.args.worker; deed = deed_making c.args.kind c.args.label c.args.draft; reply = r }) ∷ []) (making.reply_workers limit e); opening = refl; heap = refl }))
+
+pub returns-in-Some-met-clause-too_many : goal.returns-in-Some-met-clause-too_many
+returns-in-Some-met-clause-too_many g c =
+    let old : StoreState = record { opening = c.self.inside.opening; entries = c.self.inside.journal.entries; heap = c.self.inside.heap } in
+    let active : IsActive old.heap c.args.worker = c.in-Some.ensures.active.0 refl in
+    let limit : Limit = c.in-Some-met.limit in
+    let met : IsLimitMet (graph_of_store old) c.args.kind (Some limit) = subst (λ (s : StoreState). IsLimitMet (graph_of_store s) c.args.kind (Some limit)) (sym c.self.view_is) c.in-Some-met.ensures.met in
+    λ graph stands.
+    let here : StandsFor old graph = ap graph_of_store c.self.view_is ∙ stands in
+    rw (c.create_refused-in-Some-met.ensures, c.fault.ensures)
+    (λ e. let full = making.workers_full (graph_of_store old) c.args.kind limit met e in
+    (full.0, subject_here old c.self.invariant.faithful graph c.args.worker here active, subst (λ (h : ProtectionGraph). h.made < h.limit) here full.1, subst (λ (h : ProtectionGraph). MAX_WORKERS ≤ length h.subjects) here full.2))
+
+pub returns-in-Some-met-clause-crowded : goal.returns-in-Some-met-clause-crowded
+returns-in-Some-met-clause-crowded g c =
+    let old : StoreState = record { opening = c.self.inside.opening; entries = c.self.inside.journal.entries; heap = c.self.inside.heap } in
+    let active : IsActive old.heap c.args.worker = c.in-Some.ensures.active.0 refl in
+    let limit : Limit = c.in-Some-met.limit in
+    let met : IsLimitMet (graph_of_store old) c.args.kind (Some limit) = subst (λ (s : StoreState). IsLimitMet (graph_of_store s) c.args.kind (Some limit)) (sym c.self.view_is) c.in-Some-met.ensures.met in
+    λ is graph stands subject low many.
+    let here : StandsFor old graph = ap graph_of_store c.self.view_is ∙ stands in
+    rw (c.create_refused-in-Some-met.ensures, c.fault.ensures) (making.told_workers (graph_of_store old) c.args.kind limit met (subst (λ (h : ProtectionGraph). h.made < h.limit) (sym here) low))
+
+pub returns-in_err-add_vertex-clause-crowded : goal.returns-in_err-add_vertex-clause-crowded
+returns-in_err-add_vertex-clause-crowded g c =
+    let old : StoreState = record { opening = c.self.inside.opening; entries = c.self.inside.journal.entries; heap = c.self.inside.heap } in
+    let active : IsActive old.heap c.args.worker = c.in-Some.ensures.active.0 refl in
+    let room : IsLimitMet (graph_of_store old) c.args.kind None = subst (λ (s : StoreState). IsLimitMet (graph_of_store s) c.args.kind None) (sym c.self.view_is) c.in_default-met.ensures.met in
+    λ is graph stands subject low many.
+    let here : StandsFor old graph = ap graph_of_store c.self.view_is ∙ stands in
+    let few = subst (λ (h : ProtectionGraph). length h.subjects < MAX_WORKERS) here (room.1 is) in absurd (omega (arith, few, many))
+
+pub returns-in_err-add_vertex-clause-too_many : goal.returns-in_err-add_vertex-clause-too_many
+returns-in_err-add_vertex-clause-too_many g c =
+    let given = err_from_is_err_and c.from_residual.result c.from_residual.ensures.1 in
+    λ _ _. rw (given.1, given.2) (λ e. absurd (making.no_limit_fault _ (inr e)))
+
+pub returns-in_err-add_vertex-clause-no_more : goal.returns-in_err-add_vertex-clause-no_more
+returns-in_err-add_vertex-clause-no_more g c =
+    let given = err_from_is_err_and c.from_residual.result c.from_residual.ensures.1 in
+    λ _ _. rw (given.1, given.2) (λ e. absurd (making.no_limit_fault _ (inl e)))
+
+pub returns-in_err-add_vertex-clause-too_many_entry : goal.returns-in_err-add_vertex-clause-too_many_entry
+returns-in_err-add_vertex-clause-too_many_entry g c =
+    let given = err_from_is_err_and c.from_residual.result c.from_residual.ensures.1 in
+    rw (given.1, given.2) (λ e. absurd (making.no_limit_fault _ (inr e)))
+
+pub returns-in_err-add_vertex-clause-no_more_entry : goal.returns-in_err-add_vertex-clause-no_more_entry
+returns-in_err-add_vertex-clause-no_more_entry g c =
+    let given = err_from_is_err_and c.from_residual.result c.from_residual.ensures.1 in
+    rw (given.1, given.2) (λ e. absurd (making.no_limit_fault _ (inl e)))
+
+pub returns-clause-crowded : goal.returns-clause-crowded
+returns-clause-crowded g c =
+    let old : StoreState = record { opening = c.self.inside.opening; entries = c.self.inside.journal.entries; heap = c.self.inside.heap } in
+    let active : IsActive old.heap c.args.worker = c.in-Some.ensures.active.0 refl in
+    let room : IsLimitMet (graph_of_store old) c.args.kind None = subst (λ (s : StoreState). IsLimitMet (graph_of_store s) c.args.kind None) (sym c.self.view_is) c.in_default-met.ensures.met in
+    λ is graph stands subject low many.
+    let here : StandsFor old graph = ap graph_of_store c.self.view_is ∙ stands in
+    let few = subst (λ (h : ProtectionGraph). length h.subjects < MAX_WORKERS) here (room.1 is) in absurd (omega (arith, few, many))
+
+pub add_vertex-requires-clause-above : goal.add_vertex-requires-clause-above
+add_vertex-requires-clause-above g c =
+    let old : StoreState = record { opening = c.self.inside.opening; entries = c.self.inside.journal.entries; heap = c.self.inside.heap } in
+    let active : IsActive old.heap c.args.worker = c.in-Some.ensures.active.0 refl in
+    making.above old c.self.inside.made c.self.invariant c.args.worker active c.args.kind c.args.label c.args.draft
+
+pub add_vertex-requires-clause-few : goal.add_vertex-requires-clause-few
+add_vertex-requires-clause-few g c =
+    let old : StoreState = record { opening = c.self.inside.opening; entries = c.self.inside.journal.entries; heap = c.self.inside.heap } in
+    let active : IsActive old.heap c.args.worker = c.in-Some.ensures.active.0 refl in
+    let room : IsLimitMet (graph_of_store old) c.args.kind None = subst (λ (s : StoreState). IsLimitMet (graph_of_store s) c.args.kind None) (sym c.self.view_is) c.in_default-met.ensures.met in
+    making.few old c.self.inside.made c.self.invariant c.args.worker active c.args.kind c.args.label c.args.draft room
+
+pub returns-in_default-clause-crowded : goal.returns-in_default-clause-crowded
+returns-in_default-clause-crowded g c =
+    let old : StoreState = record { opening = c.self.inside.opening; entries = c.self.inside.journal.entries; heap = c.self.inside.heap } in
+    let none : IsActive old.heap c.args.worker → ⊥ = λ is. let f : ⊥ = cc (c.in_default.ensures.active.1 is) in f in
+    λ _ graph stands subject _ _.
+    let here : StandsFor old graph = ap graph_of_store c.self.view_is ∙ stands in
+    absurd (none (active_here old c.self.invariant.faithful graph c.args.worker here subject))
+
+pub returns-in_default-clause-too_many : goal.returns-in_default-clause-too_many
+returns-in_default-clause-too_many g c =
+    λ _ _. rw c.create_refused.ensures (λ e. let f : ⊥ = cc e in absurd f)
+
+pub returns-in_default-clause-too_many_entry : goal.returns-in_default-clause-too_many_entry
+returns-in_default-clause-too_many_entry g c =
+    rw c.create_refused.ensures (λ e. let f : ⊥ = cc e in absurd f)
+
+pub returns-in_default-deed_to_enter-clause-crowded : goal.returns-in_default-deed_to_enter-clause-crowded
+returns-in_default-deed_to_enter-clause-crowded g c =
+    λ _ graph stands subject _ _. rw c.create_refused-in_default-deed_to_enter.ensures (inr refl)
+
+pub returns-in_default-deed_to_enter-clause-too_many : goal.returns-in_default-deed_to_enter-clause-too_many
+returns-in_default-deed_to_enter-clause-too_many g c =
+    λ _ _. rw c.create_refused-in_default-deed_to_enter.ensures (λ e. let f : ⊥ = cc e in absurd f)
+
+pub returns-in_default-deed_to_enter-clause-too_many_entry : goal.returns-in_default-deed_to_enter-clause-too_many_entry
+returns-in_default-deed_to_enter-clause-too_many_entry g c =
+    rw c.create_refused-in_default-deed_to_enter.ensures (λ e. let f : ⊥ = cc e in absurd f)
+
+pub overflow_add-self : goal.overflow_add-self
+overflow_add-self g c =
+    let old : StoreState = record { opening = c.self.inside.opening; entries = c.self.inside.journal.entries; heap = c.self.inside.heap } in
+    let room : IsLimitMet (graph_of_store old) c.args.kind None = subst (λ (s : StoreState). IsLimitMet (graph_of_store s) c.args.kind None) (sym c.self.view_is) c.in_default-met.ensures.met in
+    let range : (graph_of_store old).limit < 2 ^ 64 = subst (λ (s : StoreState). (graph_of_store s).limit < 2 ^ 64) (sym c.self.view_is) c.limit_met-met.ensures.range in
+    omega (arith, room.0, range, c.self.invariant.is_made)

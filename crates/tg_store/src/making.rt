@@ -1,0 +1,114 @@
+//! The two kinds of vertices that a store makes, and which limit stands in the way.
+ghost use Rattle.std.specs.Prelude.{◌≡◌, ◌<◌, IfErr, IfOk, OnErr, OnOk, length};
+ghost use Rattle.std.specs.List.{All};
+ghost use Rattle.tg_word.specs.Word.{nursery_space};
+ghost use Rattle.tg_word.specs.declared.TheConstants.{MAX_NURSERIES};
+ghost use Rattle.tg_graph.specs.Content.{IsNamed};
+ghost use Rattle.tg_graph.specs.Heap.{IsActive, IsUnchangedHeap, content_of, nursery_of, subject_names};
+ghost use Rattle.tg_graph.specs.Spots.{IsMadeInRow, LacksCellsFor};
+ghost use Rattle.tg_store.specs.Making.{IsCreated, deed_making, fault_at, reply_at, subjects_making};
+
+use crate::fault::CreateFault;
+use std::alloc::{AllocError, Global};
+use tg_graph::{Heap, VertexRefused};
+use tg_journal::Journal;
+use tg_model::{Deed, Reply, Value};
+use tg_payload::{Draft, Payload};
+use tg_rights::Label;
+use tg_space::AllocateFault;
+
+/// What a vertex that is made is.
+#[derive(Clone, Copy, PartialEq, Eq, Debug)]
+pub(crate) enum Making {
+    /// An object.
+    Object,
+    /// A subject, which issues commands of its own.
+    Subject,
+}
+
+/// A limit that is reached.
+#[derive(Clone, Copy, PartialEq, Eq, Debug)]
+pub(crate) enum Limit {
+    /// As many vertices were made as may be.
+    Vertices,
+    /// As many subjects are active as may be.
+    Subjects,
+}
+
+impl Making {
+    /// The deed by which a vertex with this value is made.
+    pub(crate) fn deed(self, label: Label, value: Value) -> Deed
+        ensures { result ≡ deed_making self label value }
+    {
+        let Value { law, state } = value;
+        match self {
+            Making::Object => Deed::Create { label, law, state },
+            Making::Subject => Deed::Spawn { label, law, state },
+        }
+    }
+}
+
+impl Limit {
+    /// What the graph answers at the limit.
+    pub(crate) fn reply(self) -> Reply
+        ensures { result ≡ reply_at self }
+    {
+        match self {
+            Limit::Vertices => Reply::VerticesFull,
+            Limit::Subjects => Reply::WorkersFull,
+        }
+    }
+
+    /// What the one who asks is told of it.
+    pub(crate) fn fault(self) -> CreateFault
+        ensures { result ≡ fault_at self }
+    {
+        match self {
+            Limit::Vertices => CreateFault::VerticesFull,
+            Limit::Subjects => CreateFault::WorkersFull,
+        }
+    }
+}
+
+/// The deed of making a vertex, with a copy of the value's state, once the journal has room for its entry.
+pub(crate) fn deed_to_enter(
+    alloc: Global,
+    journal: &mut Journal,
+    kind: Making,
+    label: Label,
+    value: &Value,
+) -> Result<Deed, AllocError>
+    ensures deed { IfOk result (λ deed. deed ≡ deed_making kind label value.now) }
+    ensures room { OnOk result (0 < journal.new.spare) }
+    ensures entries { journal.new.entries ≡ journal.old.entries }
+{
+    journal.reserve()?;
+    Ok(kind.deed(label, value.copy(alloc)?))
+}
+
+/// Makes the vertex of a kind in the heap, with a name that none has and that is above those of all subjects.
+pub(crate) fn add_vertex<P: Payload>(
+    heap: &mut Heap<P>,
+    worker: u64,
+    kind: Making,
+    name: u64,
+    label: Label,
+    draft: Draft<P>,
+) -> Result<(), VertexRefused<P>>
+    requires worker { IsActive heap.old worker }
+    requires fresh { ¬ IsNamed (content_of heap.old) name }
+    requires few { kind ≡ Making.Subject → length heap.old.subjects < MAX_NURSERIES }
+    requires above { All (λ other. other < name) (subject_names heap.old) }
+    ensures made { OnOk result (IsCreated (content_of heap.old) (content_of heap.new) worker name label draft) }
+    ensures placed { OnOk result (IsMadeInRow heap.old.table heap.new.table heap.old.remembered heap.new.remembered (nursery_space (nursery_of heap.old worker)) worker name label) }
+    ensures limits { OnOk result (heap.new.table.limits ≡ heap.old.table.limits) }
+    ensures subjects { OnOk result (subject_names heap.new ≡ subjects_making kind (subject_names heap.old) name) }
+    ensures handed_back { IfErr result (λ refused. refused.draft ≡ draft) }
+    ensures refused { OnErr result (IsUnchangedHeap heap.old heap.new) }
+    ensures full { IfErr result (λ refused. refused.why ≡ AllocateFault.HeapFull → LacksCellsFor heap.old.table (nursery_space (nursery_of heap.old worker)) 1 worker name) }
+{
+    match kind {
+        Making::Object => heap.new_vertex(worker, name, label, draft),
+        Making::Subject => heap.new_subject(worker, name, label, draft),
+    }
+}

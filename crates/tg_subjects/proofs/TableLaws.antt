@@ -1,0 +1,199 @@
+-- The table of subjects, with one more and with one less.
+use Rattle.std.proofs.Common.{◌≡◌, ◌≢◌, ℕ, zero, suc, ◌+◌, ◌<◌, ◌≤◌, ◌==◌, eqb, eq-eqb, ne_eqb, Bool, true, false, cond, List, [], ◌∷◌, ◌++◌, length, get_or, map, take, drop, refl, sym, ap, ◌∙◌, subst, arith}
+use Rattle.std.specs.Prelude.{◌↔◌, Option, None, Some, IfSome, IsSome, not, slice_set}
+use Rattle.std.specs.Cmp.{nat_eq_equiv}
+use Rattle.std.specs.List.{All, AllPairs, Contains}
+use Rattle.std.specs.List.Sorted.{IsStrictlyIncreasing}
+use Rattle.std.proofs.lemmas.Bool.{cond-true, cond-false}
+use Rattle.std.proofs.lemmas.List.{get_or-map, length-map, map-set}
+use Rattle.std.proofs.Math.Seq.{map-set_same}
+use Rattle.tg_word.specs.declared.Place.{Place}
+use Rattle.std.proofs.lemmas.List.Elements.{All-head, All-tail, All-nil, All-cons, All-filter, All-push, All-contains, All-map}
+use Rattle.std.proofs.lemmas.List.Kept.{AllPairs-cons, AllPairs-filter}
+use Rattle.std.proofs.lemmas.Map.Steps.{le-length_from_below}
+use Rattle.std.proofs.lemmas.Map.Views.{list_any-from_Contains}
+use Rattle.tg_subjects.specs.declared.subject.Subject.{Subject}
+use Rattle.tg_word.specs.declared.TheConstants.{MAX_NURSERIES}
+use Rattle.tg_subjects.specs.Subjects.{AreSubjects, IsHeld, IsLeastFree, IsSubjectNamed, names_of, nurseries_of, nursery_held, places_of, without}
+
+-- ---- the columns of the table
+
+pub not_in_column : (f : Subject → ℕ) (ss : List Subject) (n : ℕ) → All (λ t. f t ≢ n) ss → ¬ Contains (map f ss) n
+not_in_column f [] n others (k, inside, at) = omega (arith, inside)
+not_in_column f (t ∷ ss) n others (zero, inside, at) = All-head (λ u. f u ≢ n) t ss others at
+not_in_column f (t ∷ ss) n others (suc k, inside, at) = not_in_column f ss n (All-tail (λ u. f u ≢ n) t ss others) (k, omega (arith, inside), at)
+
+pub others_in_column : (f : Subject → ℕ) (ss : List Subject) (n : ℕ) → ¬ Contains (map f ss) n → All (λ t. f t ≢ n) ss
+others_in_column f [] n none = All-nil (λ (t : Subject). f t ≢ n)
+others_in_column f (t ∷ ss) n none =
+    All-cons (λ (u : Subject). f u ≢ n) t ss (λ is. none (0, omega arith, is))
+    (others_in_column f ss n (λ (k, inside, at). none (suc k, omega (arith, inside), at)))
+
+pub in_column : (f : Subject → ℕ) (ss : List Subject) (s : Subject) → Contains ss s → Contains (map f ss) (f s)
+in_column f [] s (k, inside, at) = absurd (omega (arith, inside))
+in_column f (t ∷ ss) s (zero, inside, at) = (0, omega arith, ap f at)
+in_column f (t ∷ ss) s (suc k, inside, at) = let r = in_column f ss s (k, omega (arith, inside), at) in (suc r.0, omega (arith, r.1), r.2)
+
+-- ---- one less
+
+pub keeps_all : (ss : List Subject) (name : ℕ) → All (λ s. s.name ≢ name) ss → without ss name ≡ ss
+keeps_all [] name others = refl
+keeps_all (s ∷ ss) name others =
+    cond-true (not (s.name == name)) (s ∷ without ss name) (without ss name) (ap not (ne_eqb s.name name (All-head (λ t. t.name ≢ name) s ss others)))
+    ∙ ap (λ l. s ∷ l) (keeps_all ss name (All-tail (λ t. t.name ≢ name) s ss others))
+
+rising_tail : (s : Subject) (ss : List Subject) → AllPairs (λ a b. a.name < b.name) (s ∷ ss) → AllPairs (λ a b. a.name < b.name) ss
+rising_tail s ss rising = λ i j d lt low. rising (suc i) (suc j) d (omega (arith, lt)) (omega (arith, low))
+
+rising_head : (s : Subject) (ss : List Subject) → AllPairs (λ a b. a.name < b.name) (s ∷ ss) → All (λ t. s.name < t.name) ss
+rising_head s ss rising = λ i d low. rising 0 (suc i) d (omega arith) (omega (arith, low))
+
+-- where names rise, taking out the one with the name leaves all others
+pub without_at : (ss : List Subject) (name at : ℕ) → AllPairs (λ a b. a.name < b.name) ss → at < length ss → ((d : Subject) → (get_or ss at d).name ≡ name) → take at ss ++ drop (at + 1) ss ≡ without ss name
+without_at [] name at rising inside named = absurd (omega (arith, inside))
+without_at (s ∷ ss) name zero rising inside named =
+    let above = rising_head s ss rising in
+    let is : s.name ≡ name = named s in
+    sym (cond-false (not (s.name == name)) (s ∷ without ss name) (without ss name) (ap not (eq-eqb s.name name is))
+    ∙ keeps_all ss name (λ i d low same. let more = above i d low in omega (arith, more, same, is)))
+without_at (s ∷ ss) name (suc k) rising inside named =
+    let rest = without_at ss name k (rising_tail s ss rising) (omega (arith, inside)) named in
+    let above : s.name < (get_or ss k s).name = rising_head s ss rising k s (omega (arith, inside)) in
+    let other : s.name ≢ name = λ same. omega (arith, above, same, named s) in
+    let next : suc k + 1 ≡ suc (k + 1) = omega arith in
+    ap (λ n. s ∷ take k ss ++ drop n (s ∷ ss)) next
+    ∙ (ap (λ l. s ∷ l) rest ∙ sym (cond-true (not (s.name == name)) (s ∷ without ss name) (without ss name) (ap not (ne_eqb s.name name other))))
+
+pub subjects_without : (ss : List Subject) (name : ℕ) → AreSubjects ss → AreSubjects (without ss name)
+subjects_without ss name are = record {
+  rising = AllPairs-filter (λ a b. a.name < b.name) (λ s. not (s.name == name)) ss are.rising;
+  nurseries = All-filter (λ s. not (s.name == name)) (λ s. s.nursery < MAX_NURSERIES) ss are.nurseries;
+  apart = AllPairs-filter (λ a b. a.nursery ≢ b.nursery) (λ s. not (s.name == name)) ss are.apart;
+}
+
+-- ---- one more
+
+pairs_push : (R : Subject → Subject → Type 0) (ss : List Subject) (s : Subject) → AllPairs R ss → All (λ t. R t s) ss → AllPairs R (ss ++ s ∷ [])
+pairs_push R [] s pairs all = λ i j d lt low. absurd (omega (arith, lt, low))
+pairs_push R (t ∷ ss) s pairs all =
+    AllPairs-cons R t (ss ++ s ∷ [])
+    (All-push (R t) ss s (λ i d low. pairs 0 (suc i) d (omega arith) (omega (arith, low))) (All-head (λ u. R u s) t ss all))
+    (pairs_push R ss s (λ i j d lt low. pairs (suc i) (suc j) d (omega (arith, lt)) (omega (arith, low))) (All-tail (λ u. R u s) t ss all))
+
+pub subjects_push : (ss : List Subject) (s : Subject) → AreSubjects ss → IsLeastFree ss s.nursery → All (λ t. t.name < s.name) ss → AreSubjects (ss ++ s ∷ [])
+subjects_push ss s are free above = record {
+  rising = pairs_push (λ a b. a.name < b.name) ss s are.rising above;
+  nurseries = All-push (λ t. t.nursery < MAX_NURSERIES) ss s are.nurseries free.few;
+  apart = pairs_push (λ a b. a.nursery ≢ b.nursery) ss s are.apart (others_in_column (λ t. t.nursery) ss s.nursery free.free);
+}
+
+-- ---- a number is free
+
+pub all_held : (ss : List Subject) → ((number : ℕ) → number < 64 → IsHeld ss number) → 64 ≤ length ss
+all_held ss held =
+    let many = le-length_from_below (nurseries_of ss) 64 (λ q low. list_any-from_Contains {eq = eqb} nat_eq_equiv q (nurseries_of ss) (held q low)) in
+    omega (arith, many, length-map ss (λ (s : Subject). s.nursery))
+
+-- ---- the columns of the table
+
+-- what holds of each two numbers of a column holds of each two subjects, and the other way
+column_pairs : (f : Subject → ℕ) (R : ℕ → ℕ → Type 0) (ss : List Subject) → AllPairs (λ a b. R (f a) (f b)) ss → AllPairs R (map f ss)
+column_pairs f R ss pairs i j d lt low =
+    let inside : j < length ss = omega (arith, low, length-map ss f) in
+    subst (λ n. R n (get_or (map f ss) j d)) (sym (get_or-map f ss i no_subject d (omega (arith, lt, inside))))
+    (subst (λ n. R (f (get_or ss i no_subject)) n) (sym (get_or-map f ss j no_subject d inside)) (pairs i j no_subject lt inside))
+  where
+    no_subject : Subject
+    no_subject = record { name = 0; nursery = 0; place = record { space = 0; block = 0; cell = 0 } }
+
+pairs_of_column : (f : Subject → ℕ) (R : ℕ → ℕ → Type 0) (ss : List Subject) → AllPairs R (map f ss) → AllPairs (λ a b. R (f a) (f b)) ss
+pairs_of_column f R ss pairs i j d lt low =
+    subst (λ n. R n (f (get_or ss j d))) (get_or-map f ss i d (f d) (omega (arith, lt, low)))
+    (subst (λ n. R (get_or (map f ss) i (f d)) n) (get_or-map f ss j d (f d) low) (pairs i j (f d) lt (omega (arith, low, length-map ss f))))
+
+all_of_column : (f : Subject → ℕ) (P : ℕ → Type 0) (ss : List Subject) → All P (map f ss) → All (λ s. P (f s)) ss
+all_of_column f P ss all i d low = subst P (get_or-map f ss i d (f d) low) (all i (f d) (omega (arith, low, length-map ss f)))
+
+-- whether a list is a table of subjects is told by its names and nurseries
+pub subjects_same : (old new : List Subject) → names_of new ≡ names_of old → nurseries_of new ≡ nurseries_of old → AreSubjects old → AreSubjects new
+subjects_same old new names nurseries are = record {
+  rising = pairs_of_column (λ s. s.name) (λ a b. a < b) new (subst (AllPairs (λ a b. a < b)) (sym names) (column_pairs (λ s. s.name) (λ a b. a < b) old are.rising));
+  nurseries = all_of_column (λ s. s.nursery) (λ n. n < MAX_NURSERIES) new (subst (All (λ n. n < MAX_NURSERIES)) (sym nurseries) (All-map (λ n. n < MAX_NURSERIES) (λ (s : Subject). s.nursery) old are.nurseries));
+  apart = pairs_of_column (λ s. s.nursery) (λ a b. a ≢ b) new (subst (AllPairs (λ a b. a ≢ b)) (sym nurseries) (column_pairs (λ s. s.nursery) (λ a b. a ≢ b) old are.apart));
+}
+
+-- the names rise, as those of a graph's subjects do
+pub names_rise : (ss : List Subject) → AreSubjects ss → IsStrictlyIncreasing (names_of ss)
+names_rise ss are = λ k low. column_pairs (λ s. s.name) (λ a b. a < b) ss are.rising k (k + 1) 0 (omega arith) low
+
+-- ---- the nursery of a name
+
+pub held_by : (ss : List Subject) (name : ℕ) (s : Subject) → AreSubjects ss → IsSubjectNamed ss name s → nursery_held ss name ≡ s.nursery
+held_by ss name s are named = held_rising ss name s are.rising named.there named.named
+  where
+    held_rising : (ss : List Subject) (name : ℕ) (s : Subject) → AllPairs (λ a b. a.name < b.name) ss → Contains ss s → s.name ≡ name → nursery_held ss name ≡ s.nursery
+    held_rising [] name s rising (k, inside, at) is = absurd (omega (arith, inside))
+    held_rising (t ∷ ss) name s rising (zero, inside, at) is =
+        cond-true (t.name == name) t.nursery (nursery_held ss name) (eq-eqb t.name name (ap (λ (u : Subject). u.name) at ∙ is))
+        ∙ ap (λ (u : Subject). u.nursery) at
+    held_rising (t ∷ ss) name s rising (suc k, inside, at) is =
+        let there : Contains ss s = (k, omega (arith, inside), at) in
+        let above : t.name < s.name = All-contains (λ u. t.name < u.name) ss s (rising_head t ss rising) there in
+        cond-false (t.name == name) t.nursery (nursery_held ss name) (ne_eqb t.name name (λ same. omega (arith, above, same, is)))
+        ∙ held_rising ss name s (rising_tail t ss rising) there is
+
+-- the nursery held under any name is one of those that there may be
+pub held_few : (ss : List Subject) (name : ℕ) → All (λ s. s.nursery < MAX_NURSERIES) ss → nursery_held ss name < MAX_NURSERIES
+held_few [] name few = omega arith
+held_few (s ∷ ss) name few =
+    cond_holds (λ n. n < MAX_NURSERIES) (s.name == name) s.nursery (nursery_held ss name)
+    (All-head (λ t. t.nursery < MAX_NURSERIES) s ss few) (held_few ss name (All-tail (λ t. t.nursery < MAX_NURSERIES) s ss few))
+  where
+    cond_holds : (P : ℕ → Type 0) (b : Bool) (x y : ℕ) → P x → P y → P (cond b x y)
+    cond_holds P true x y px py = px
+    cond_holds P false x y px py = py
+
+held_in : List ℕ → List ℕ → ℕ → ℕ
+held_in [] nurseries name = 0
+held_in (n ∷ names) [] name = 0
+held_in (n ∷ names) (nursery ∷ nurseries) name = cond (n == name) nursery (held_in names nurseries name)
+
+held_is : (ss : List Subject) (name : ℕ) → nursery_held ss name ≡ held_in (names_of ss) (nurseries_of ss) name
+unfolding held_in
+held_is [] name = refl
+held_is (s ∷ ss) name = ap (λ n. cond (s.name == name) s.nursery n) (held_is ss name)
+
+-- tables with the same names and nurseries give each name the same one
+pub held_same : (old new : List Subject) (name : ℕ) → names_of new ≡ names_of old → nurseries_of new ≡ nurseries_of old → nursery_held new name ≡ nursery_held old name
+held_same old new name names nurseries =
+    held_is new name ∙ ap (λ ns. held_in ns (nurseries_of new) name) names ∙ ap (λ ns. held_in (names_of old) ns name) nurseries ∙ sym (held_is old name)
+
+-- ---- what a look-up found
+
+pub found_by : (ss : List Subject) (name : ℕ) (found : Option Subject) → IfSome found (IsSubjectNamed ss name) → (found ≡ None → All (λ s. s.name ≢ name) ss) → IsSome found ↔ Contains (names_of ss) name
+found_by ss name None there none = (λ some. let f : ⊥ = cc some in absurd f, λ held. absurd (not_in_column (λ s. s.name) ss name (none refl) held))
+found_by ss name (Some s) there none = (λ some. subst (Contains (names_of ss)) there.named (in_column (λ s. s.name) ss s there.there), λ held. refl)
+
+pub nursery_found : (ss : List Subject) (name : ℕ) (found : Option Subject) → AreSubjects ss → IfSome found (IsSubjectNamed ss name) → IfSome found (λ s. s.nursery ≡ nursery_held ss name)
+nursery_found ss name None are there = tt
+nursery_found ss name (Some s) are there = sym (held_by ss name s are there)
+
+-- ---- where objects are
+
+-- only the place of one subject changes
+pub record Moves (old new : List Subject) (at : ℕ) (place : Place) : Type 0 where
+  pub names : names_of new ≡ names_of old
+  pub nurseries : nurseries_of new ≡ nurseries_of old
+  pub places : places_of new ≡ slice_set (places_of old) at place
+
+pub moved : (ss old : List Subject) (at : ℕ) (place : Place) (s : Subject) → ss ≡ old → s ≡ get_or ss at s → Moves old (slice_set ss at (record { name = s.name; nursery = s.nursery; place = place })) at place
+moved ss old at place s same is =
+    subst (λ l. Moves l (slice_set ss at now) at place) same
+    (record {
+      names = map-set_same (λ (t : Subject). t.name) ss at now s (ap (λ (t : Subject). t.name) is);
+      nurseries = map-set_same (λ (t : Subject). t.nursery) ss at now s (ap (λ (t : Subject). t.nursery) is);
+      places = map-set (λ (t : Subject). t.place) ss at now;
+    })
+  where
+    now : Subject
+    now = record { name = s.name; nursery = s.nursery; place = place }

@@ -1,0 +1,28 @@
+use Rattle.std.proofs.Common.{◌≡◌, ◌≢◌, ◌∙◌, ◌≤◌, List, ℕ, ap, subst, sym}
+use Rattle.std.specs.List.{All}
+use Rattle.tg_word.specs.declared.TheConstants.{MAX_NURSERIES}
+use Rattle.tg_subjects.specs.declared.subject.Subject.{Subject}
+use Rattle.tg_subjects.specs.Subjects.{AreSubjects, IsAt, without}
+use Rattle.tg_subjects.proofs.TableLaws.{keeps_all, subjects_without, without_at}
+use Rattle.tg_subjects.proofs.subjects.Subjects.retire.Goals as goal
+
+taken : (c : goal.After-remove) → c.remove.new.self.items ≡ without c.args.self.now c.args.name
+taken c =
+    let ss : List Subject = c.self.inside.items.items in
+    let at : IsAt ss c.args.name c.in-Some.at = subst (λ (l : List Subject). IsAt l c.args.name c.in-Some.at) (c.as_slice.ensures.value ∙ sym c.self.view_is) c.in-Some.ensures.there in
+    c.remove.ensures.by_index.2 ∙ without_at ss c.args.name c.in-Some.at c.self.invariant.0.rising at.inside at.named ∙ ap (λ l. without l c.args.name) c.self.view_is
+
+are_left : (c : goal.After-remove) → AreSubjects c.remove.new.self.items
+are_left c = subst AreSubjects (sym (taken c)) (subjects_without c.args.self.now c.args.name c.as_slice.ensures.subjects)
+
+pub invariant_of-self : goal.invariant_of-self
+invariant_of-self c = (are_left c, subst (λ (n : ℕ). MAX_NURSERIES ≤ n) (sym c.remove.ensures.capacity) c.self.invariant.1)
+
+pub returns-in-Some-clause-without : goal.returns-in-Some-clause-without
+returns-in-Some-clause-without c = taken c
+
+pub returns-in-Some-clause-subjects : goal.returns-in-Some-clause-subjects
+returns-in-Some-clause-subjects c = are_left c
+
+pub returns-in_default-clause-without : goal.returns-in_default-clause-without
+returns-in_default-clause-without c = sym (keeps_all c.args.self.now c.args.name (subst (λ (l : List Subject). All (λ s. s.name ≢ c.args.name) l) c.as_slice.ensures.value (c.position.ensures.none c.in_default.is)))

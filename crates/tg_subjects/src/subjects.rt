@@ -1,0 +1,182 @@
+//! The table.
+ghost use Rattle.std.specs.Prelude.{◌≡◌, ◌≢◌, ◌↔◌, ◌<◌, ◌++◌, ◌∷◌, [], IfOk, IfSome, IsSome, IsTrue, None, length, slice_set};
+ghost use Rattle.std.specs.List.{All, Contains};
+ghost use Rattle.tg_word.specs.declared.TheConstants.{MAX_NURSERIES};
+ghost use Rattle.tg_subjects.specs.Subjects.{AreSubjects, IsAt, IsHeld, IsLeastFree, IsSubjectNamed, names_of, nurseries_of, nursery_held, places_of, without};
+
+use crate::subject::Subject;
+use std::alloc::{AllocError, Global};
+use std::marker::Model;
+use tg_word::{MAX_NURSERIES, Place};
+
+/// The active subjects. Contracts see the list.
+#[derive(Drop)]
+pub struct Subjects {
+    items: Vec<Subject>,
+}
+
+impl Model for Subjects {
+    ghost use Rattle.std.specs.Prelude.{◌≤◌, List};
+    ghost use Rattle.std.specs.Vec.{vec_capacity};
+    ghost use Rattle.tg_word.specs.declared.TheConstants.{MAX_NURSERIES};
+    ghost use Rattle.tg_subjects.specs.Subjects.{AreSubjects};
+    ghost use Rattle.tg_subjects.specs.declared.subject.Subject.{Subject};
+
+    ghost Value = { List Subject };
+
+    ghost view = { λ table. table.items.items };
+
+    // names rise, each subject has a nursery of its own, and there is room for all that there may be
+    ghost invariant = { λ table. AreSubjects table.items.items × (MAX_NURSERIES ≤ vec_capacity table.items) };
+}
+
+impl Subjects {
+    /// No subject, and room for all that there may be.
+    ///
+    /// The one refusal is that of memory.
+    pub fn new(alloc: Global) -> Result<Subjects, AllocError>
+        ensures { IfOk result (λ subjects. subjects ≡ []) }
+    {
+        Ok(Subjects {
+            items: Vec::with_capacity(alloc, MAX_NURSERIES as usize)?,
+        })
+    }
+
+    /// How many are active, at most `MAX_NURSERIES`. What holds of every table is told here.
+    pub fn len(&self) -> usize
+        ensures number { result ≡ length self.now }
+        ensures subjects { AreSubjects self.now }
+    {
+        self.items.len()
+    }
+
+    /// The subjects, by rising name.
+    #[inline(always)]
+    pub fn as_slice(&self) -> &[Subject]
+        ensures value { result.now ≡ self.now }
+        ensures subjects { AreSubjects self.now }
+    {
+        self.items.as_slice()
+    }
+
+    /// The subject with a name, if it is active.
+    #[inline(always)]
+    pub fn find(&self, name: u64) -> Option<Subject>
+        ensures found { IsSome result ↔ Contains (names_of self.now) name }
+        ensures there { IfSome result (IsSubjectNamed self.now name) }
+        ensures nursery { IfSome result (λ s. s.nursery ≡ nursery_held self.now name) }
+    {
+        find_in(self.as_slice(), name)
+    }
+
+    /// The least number of a nursery that no active subject holds.
+    ///
+    /// There has to be one: fewer than `MAX_NURSERIES` subjects may be active.
+    pub fn free_nursery(&self) -> u64
+        requires { length self.now < MAX_NURSERIES }
+        ensures { IsLeastFree self.now result }
+    {
+        for nursery in 0..MAX_NURSERIES {
+            if !is_held(self.as_slice(), nursery) {
+                return nursery;
+            }
+        }
+        unreachable!()
+    }
+
+    /// Adds a subject, and answers the number of its nursery: the least that is free. It takes no memory.
+    ///
+    /// Its name has to be above all others, and fewer than `MAX_NURSERIES` subjects may be active.
+    pub fn add(&mut self, name: u64, place: Place) -> u64
+        requires few { length self.old < MAX_NURSERIES }
+        requires above { All (λ s. s.name < name) self.old }
+        ensures nursery { IsLeastFree self.old result }
+        ensures added { self.new ≡ self.old ++ (record { name = name; nursery = result; place = place }) ∷ [] }
+        ensures subjects { AreSubjects self.new }
+    {
+        let nursery = self.free_nursery();
+        self.items.push_reserved(Subject {
+            name,
+            nursery,
+            place,
+        });
+        nursery
+    }
+
+    /// Takes the subject with a name out, if it is active. Its nursery is free then. It takes no memory.
+    pub fn retire(&mut self, name: u64)
+        ensures without { self.new ≡ without self.old name }
+        ensures subjects { AreSubjects self.new }
+    {
+        if let Some(at) = position(self.as_slice(), name) {
+            self.items.remove(at);
+        }
+    }
+
+    /// Puts the object of the subject that stands at a place of the table somewhere else. It takes no memory.
+    ///
+    /// There has to be such a subject. All else stays.
+    pub fn set_place(&mut self, at: usize, place: Place)
+        requires inside { at < length self.old }
+        ensures names { names_of self.new ≡ names_of self.old }
+        ensures nurseries { nurseries_of self.new ≡ nurseries_of self.old }
+        ensures places { places_of self.new ≡ slice_set (places_of self.old) at place }
+        ensures subjects { AreSubjects self.new }
+    {
+        self.items[at].place = place;
+    }
+
+    /// Puts all objects somewhere else: the place of each subject, in the table's order. It takes no memory.
+    ///
+    /// There have to be as many places as subjects. All else stays.
+    pub fn put_places(&mut self, places: &[Place])
+        requires number { length places.now ≡ length self.old }
+        ensures names { names_of self.new ≡ names_of self.old }
+        ensures nurseries { nurseries_of self.new ≡ nurseries_of self.old }
+        ensures places { places_of self.new ≡ places.now }
+        ensures subjects { AreSubjects self.new }
+    {
+        for at in 0..self.len() {
+            self.set_place(at, places[at]);
+        }
+    }
+}
+
+// The subject with a name, if it is there. Where none was retired, it stands at the place with the name's number.
+#[inline(always)]
+fn find_in(subjects: &[Subject], name: u64) -> Option<Subject>
+    ensures there { IfSome result (IsSubjectNamed subjects.now name) }
+    ensures none { result ≡ None → All (λ s. s.name ≢ name) subjects.now }
+{
+    if let Some(guess) = subjects.get(name as usize) {
+        if guess.name == name {
+            return Some(*guess);
+        }
+    }
+    Some(subjects[position(subjects, name)?])
+}
+
+// Where the subject with a name stands, if it is there.
+fn position(subjects: &[Subject], name: u64) -> Option<usize>
+    ensures there { IfSome result (IsAt subjects.now name) }
+    ensures none { result ≡ None → All (λ s. s.name ≢ name) subjects.now }
+{
+    for at in 0..subjects.len() {
+        if subjects[at].name == name {
+            return Some(at);
+        }
+    }
+    None
+}
+
+// Whether a subject holds a nursery.
+fn is_held(subjects: &[Subject], nursery: u64) -> bool
+    ensures { IsTrue result ↔ IsHeld subjects.now nursery }
+{
+    for subject in subjects {
+        if subject.nursery == nursery {
+            return true;
+        }
+    }
+    false
+}
