@@ -278,6 +278,7 @@ impl<P: Payload> Store<P> {
     }
 
     // What `create` and `spawn` do: the first refusal, or the vertex and then its entry.
+    #[inline(always)]
     fn make(
         &mut self,
         worker: u64,
