@@ -18,7 +18,7 @@ use Rattle.tg_space.specs.SpaceList.{BlockList}
 use Rattle.tg_space.specs.SpaceTable.{place_in_space}
 use Rattle.tg_evac.specs.declared.win.Win.{Win}
 use Rattle.tg_evac.specs.Claims.{Claimed, StandsIn, IsGiven, AreApart, AreGivenInOrder, AreClaims, HasFilledRoom, cells_won, first_new, is_in, won_in, words_won, win_at}
-use Rattle.tg_evac.specs.Claimers.{AddsWins, HasPlacesOf, walked_of}
+use Rattle.tg_evac.specs.Claimers.{AddsWins, HasPlacesOf, IsLink, walked_of}
 
 -- the place of Old or of Aged with a number
 pub place_inside : (s k : ℕ) → s < 2 → k < 2 ^ 26 → IsPlace (place_in_space s k)
@@ -232,6 +232,13 @@ module _ (c : Claimed) (are : AreClaims c) where
         let cell = found.2 in
         omega arith) in
         omega arith
+
+  -- each forwarding word that isn't 0 is the link to its place
+  pub forward_links : (n : ℕ) → n < length c.forward → get_or c.forward n 0 ≢ 0 → IsLink (get_or c.forward n 0)
+  forward_links n low some =
+      let found = are.words.every n low some in
+      let word : get_or c.forward n 0 ≡ found.0.word = ap (λ (m : ℕ). get_or c.forward m 0) (sym found.2) ∙ (stands found.0 found.1).word in
+      subst (λ (w : ℕ). IsLink w) (sym word) (word_links found.0 found.1)
 
   -- every forwarding word has a place in range
   pub have_places : All (λ word. IsPlace (place_in word)) c.forward

@@ -3,7 +3,7 @@ ghost use Rattle.std.specs.Prelude.{◌≡◌, ◌≢◌, ℕ, ◌+◌, ◌<◌,
 ghost use Rattle.std.specs.List.{Contains};
 ghost use Rattle.tg_word.specs.Word.{place_in};
 ghost use Rattle.tg_evac.specs.Claims.{HasFilledRoom, IsWinFor, win_at, won_in};
-ghost use Rattle.tg_evac.specs.Claimers.{AddsWins, HasPlacesOf, walked_of};
+ghost use Rattle.tg_evac.specs.Claimers.{AddsWins, HasPlacesOf, IsLink, walked_of};
 
 use crate::claimer::Claimer;
 use crate::fault::CollectFault;
@@ -88,6 +88,7 @@ impl Claims {
         requires moved { 64 * self.now.plan.kept ≤ cell }
         ensures word { result ≡ slice_index self.now.forward cell }
         ensures won { result ≢ 0 → Contains self.now.won (record { cell = cell; word = result }) }
+        ensures link { result ≢ 0 → IsLink result }
     {
         self.forward.moved_word(cell)
     }
@@ -100,6 +101,7 @@ impl Claims {
         requires space { space < 2 }
         ensures added { AddsWins (IsWinFor cell space) (walked_of self.old) (walked_of self.new) }
         ensures held { IfOk result (λ word. Contains self.new.won (record { cell = cell; word = word })) }
+        ensures link { IfOk result IsLink }
         ensures full { IfErr result (λ fault. fault ≡ CollectFault.HeapFull → HasFilledRoom self.new) }
     {
         let found = self.word(cell);
@@ -118,6 +120,7 @@ impl Claims {
         requires space { space < 2 }
         ensures added { AddsWins (IsWinFor cell space) (walked_of self.old) (walked_of self.new) }
         ensures held { IfOk result (λ word. Contains self.new.won (record { cell = cell; word = word })) }
+        ensures link { IfOk result IsLink }
         ensures full { IfErr result (λ fault. fault ≡ CollectFault.HeapFull → HasFilledRoom self.new) }
     {
         let number = self.next[space as usize];
