@@ -17,8 +17,8 @@ use Rattle.tg_space.specs.Collection.{AreFewBlocks, copies_in, is_copy_in, new_p
 use Rattle.tg_space.specs.SpaceList.{BlockList}
 use Rattle.tg_space.specs.SpaceTable.{place_in_space}
 use Rattle.tg_evac.specs.declared.win.Win.{Win}
-use Rattle.tg_evac.specs.Claims.{Claimed, StandsIn, IsGiven, AreApart, AreGivenInOrder, AreClaims, HasFilledRoom, cells_won, first_new, is_in, won_in, words_won, win_at}
-use Rattle.tg_evac.specs.Claimers.{AddsWins, HasPlacesOf, walked_of}
+use Rattle.tg_evac.specs.Claims.{Claimed, StandsIn, IsGiven, AreApart, AreGivenInOrder, AreClaims, HasFilledRoom, cells_won, first_new, is_in, won_in, words_won, win_at, wins_at}
+use Rattle.tg_evac.specs.Claimers.{AddsWins, HasPlacesOf, IsLink, walked_of}
 
 -- the place of Old or of Aged with a number
 pub place_inside : (s k : ℕ) → s < 2 → k < 2 ^ 26 → IsPlace (place_in_space s k)
@@ -233,6 +233,13 @@ module _ (c : Claimed) (are : AreClaims c) where
         omega arith) in
         omega arith
 
+  -- each forwarding word that isn't 0 is the link to its place
+  pub forward_links : (n : ℕ) → n < length c.forward → get_or c.forward n 0 ≢ 0 → IsLink (get_or c.forward n 0)
+  forward_links n low some =
+      let found = are.words.every n low some in
+      let word : get_or c.forward n 0 ≡ found.0.word = ap (λ (m : ℕ). get_or c.forward m 0) (sym found.2) ∙ (stands found.0 found.1).word in
+      subst (λ (w : ℕ). IsLink w) (sym word) (word_links found.0 found.1)
+
   -- every forwarding word has a place in range
   pub have_places : All (λ word. IsPlace (place_in word)) c.forward
   have_places = All-from_get_or (λ (word : ℕ). IsPlace (place_in word)) c.forward 0 (λ n low. by_word n low (cases_eq (get_or c.forward n 0) 0))
@@ -281,6 +288,38 @@ full_at c are space two past = record { all = all; distinct = won_distinct c are
         ⊎_elim (λ (e : space ≡ 0). let at = ap (λ (k : ℕ). get_or c.next k 0) e in omega arith)
         (λ (ne : space ≢ 0). let e : space ≡ 1 = omega arith in let at = ap (λ (k : ℕ). get_or c.next k 0) e in omega arith)
         (cases_eq space 0)
+
+-- ---- the pairs of cells, each with the word that it has
+
+module _ (forward cells : List ℕ) where
+  pub won_at : (k : ℕ) → k < length cells → win_at (wins_at forward cells) k ≡ record { cell = get_or cells k 0; word = get_or forward (get_or cells k 0) 0 }
+  won_at k low = get_or-map (λ (n : ℕ). let w : Win = record { cell = n; word = get_or forward n 0 } in w) cells k 0 (win_at [] 0) low
+
+  pub won_length : length (wins_at forward cells) ≡ length cells
+  won_length = length-map cells (λ (n : ℕ). let w : Win = record { cell = n; word = get_or forward n 0 } in w)
+
+  -- a cell that has no word is none of them
+  pub won_others : All (StandsIn forward) (wins_at forward cells) → (cell : ℕ) → get_or forward cell 0 ≡ 0 → All (λ (n : ℕ). n ≢ cell) cells
+  won_others stand cell none = All-from_get_or (λ (n : ℕ). n ≢ cell) cells 0 (λ (k : ℕ) (low : k < length cells) (e : get_or cells k 0 ≡ cell).
+      let inside : k < length (wins_at forward cells) = (let long = won_length in omega arith) in
+      let st = All-get_or (StandsIn forward) (wins_at forward cells) k (win_at [] 0) inside stand in
+      (subst (λ (w : Win). StandsIn forward w) (won_at k low) st).some (ap (λ (n : ℕ). get_or forward n 0) e ∙ none))
+
+-- the words of other cells stay
+wins_still : (forward cells : List ℕ) (cell word : ℕ) → All (λ (n : ℕ). n ≢ cell) cells → wins_at (set forward cell word) cells ≡ wins_at forward cells
+wins_still forward [] cell word others = refl
+wins_still forward (n ∷ cells) cell word others =
+    let same : get_or (set forward cell word) n 0 ≡ get_or forward n 0 = get_or-set_other forward cell n word 0 (All-head (λ (m : ℕ). m ≢ cell) n cells others) in
+    rw same (ap (λ (ws : List Win). let w : Win = record { cell = n; word = get_or forward n 0 } in w ∷ ws) (wins_still forward cells cell word (All-tail (λ (m : ℕ). m ≢ cell) n cells others)))
+
+-- one more cell gets its word
+pub wins_more : (forward cells : List ℕ) (w : Win) → w.cell < length forward → All (λ (n : ℕ). n ≢ w.cell) cells → wins_at (set forward w.cell w.word) (cells ++ w.cell ∷ []) ≡ wins_at forward cells ++ w ∷ []
+wins_more forward cells w low others =
+    let f = λ (n : ℕ). let v : Win = record { cell = n; word = get_or (set forward w.cell w.word) n 0 } in v in
+    let same : get_or (set forward w.cell w.word) w.cell 0 ≡ w.word = get_or-set_same forward w.cell w.word 0 low in
+    map-append f cells (w.cell ∷ [])
+    ∙ ap (λ (ws : List Win). ws ++ f w.cell ∷ []) (wins_still forward cells w.cell w.word others)
+    ∙ ap (λ (m : ℕ). let v : Win = record { cell = w.cell; word = m } in wins_at forward cells ++ v ∷ []) same
 
 -- ---- one more pair
 

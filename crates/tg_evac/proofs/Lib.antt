@@ -4,6 +4,7 @@ pub mod Chunks
 pub mod Reading
 pub mod Reasons
 pub mod Walking
+pub mod Pushing
 pub mod Pieces
 pub mod Copying
 pub mod Adopted

@@ -17,7 +17,7 @@ use Rattle.tg_space.specs.declared.root.Root.{Root}
 use Rattle.tg_space.specs.declared.root.Root.TheVariants.{Row}
 use Rattle.tg_evac.specs.declared.win.Win.{Win}
 use Rattle.tg_evac.specs.Claims.{AreTraced, Claimed, IsClaimOf, cells_won, chunk_targets, is_in, is_in_old, is_straight, win_at, won_in}
-use Rattle.tg_evac.specs.Claimers.{AddsWins, AreScanned, KeepsWins, KnowsMore, Walked, copies_to, image_at, walked_of}
+use Rattle.tg_evac.specs.Claimers.{AddsCopy, AddsWins, AreScanned, KeepsWins, KnowsMore, Walked, copies_to, image_at, walked_of}
 use Rattle.tg_evac.proofs.Claiming.{in_other, in_push}
 use Rattle.tg_evac.proofs.Chunks.{ChunksPassed, chunk_inside, one_passed, row_kept}
 use Rattle.tg_evac.proofs.Reasons.{traced_more}
@@ -179,23 +179,8 @@ room_left space won n low here =
     omega arith
 
 -- one more cell is scanned: what it names is claimed, and it is copied
-module _ (h : SpaceList) (n : ℕ) (w : Win) (straight : Bool) (source : List ℕ) {Fixed : Type 0} {b c : Walked Fixed} {before : (ℕ → Place) → Type 0} {aged old : List (List ℕ)}
-    (so : AreScanned h b before n aged old) (low : n < length b.won) (is : w ≡ win_at b.won n) (in_old : straight ≡ is_in_old w) (at : source ≡ cell_numbered h w.cell)
-    (added : AddsWins (IsClaimOf h straight (named_by (from_space b.kind) h (pointers_of source))) b c) where
-  two : AddsWins (IsClaimOf h straight (targets_of (from_space b.kind) h w.cell)) b c
-  two = subst (λ (ws : List ℕ). AddsWins (IsClaimOf h straight (named_by (from_space b.kind) h (pointers_of ws))) b c) at added
-
-  scan_is : AddsWins (IsClaimOf h (is_in_old (win_at b.won n)) (targets_of (from_space b.kind) h (win_at b.won n).cell)) b c
-  scan_is =
-      subst (λ (v : Win). AddsWins (IsClaimOf h (is_in_old v) (targets_of (from_space b.kind) h v.cell)) b c) is
-      (subst (λ (o : Bool). AddsWins (IsClaimOf h o (targets_of (from_space b.kind) h w.cell)) b c) in_old two)
-
-  pub scan_traced : (roots : List Root) → AreTraced b.kind h roots b.won → AreTraced b.kind h roots c.won
-  scan_traced roots traced = traced_more b.kind h roots scan_is (λ v claim. inr (n, low, claim)) traced
-
-  pub scan_keeps : KeepsWins b c
-  scan_keeps = wins_weaker two (λ v claim. tt)
-
+module _ (h : SpaceList) (n : ℕ) (w : Win) (straight : Bool) (source : List ℕ) {Fixed : Type 0} {b : Walked Fixed} {before : (ℕ → Place) → Type 0} {aged old : List (List ℕ)}
+    (so : AreScanned h b before n aged old) (low : n < length b.won) (is : w ≡ win_at b.won n) (in_old : straight ≡ is_in_old w) (at : source ≡ cell_numbered h w.cell) where
   pub scan_room : (space room : ℕ) (cells : List (List ℕ)) → length cells ≡ length (won_in space (take n b.won)) → length (won_in space b.won) ≤ room → (place_in w.word).space ≡ space → length cells < room
   scan_room space room cells long few here =
       let left = room_left space b.won n low (ap (λ (v : Win). (place_in v.word).space) (sym is) ∙ here) in omega arith
@@ -208,25 +193,55 @@ module _ (h : SpaceList) (n : ℕ) (w : Win) (straight : Bool) (source : List �
   straight_aged isnt = ⊎_elim (λ (e : ((place_in w.word).space == 0 ≡ true) × ((place_in w.word).space ≡ 0)). absurd (let both : true ≡ false = sym e.0 ∙ sym in_old ∙ isnt in cc))
       (λ (ne : ((place_in w.word).space == 0 ≡ false) × ((place_in w.word).space ≢ 0)). ne.1) (eqb_tells (place_in w.word).space 0)
 
-  pub scan_scanned : {after : (ℕ → Place) → Type 0} → KnowsMore before after → All (Contains c.met) (named_by (from_space b.kind) h (pointers_of source)) → (words : List ℕ) → ((to : ℕ → Place) → after to → words ≡ image_of (from_space b.kind) h to source) → (place_in w.word).space < 2 →
-      (aged_after old_after : List (List ℕ)) → (straight ≡ true → old_after ≡ old ++ words ∷ []) → (straight ≡ false → old_after ≡ old) → (straight ≡ false → aged_after ≡ aged ++ words ∷ []) → (straight ≡ true → aged_after ≡ aged) → AreScanned h c after (n + 1) aged_after old_after
-  scan_scanned {after} grows met words image low_space aged_after old_after old_new old_kept aged_new aged_kept =
-      let kept = scanned_more so two grows in
-      let low_now : n < length c.won = let long = ap length two.is ∙ length-append b.won two.added in omega arith in
-      let is_now : w ≡ win_at c.won n = is ∙ sym (ap (λ (ws : List Win). win_at ws n) two.is ∙ get_or_append_left b.won two.added (win_at [] 0) n low) in
-      let met_now : All (Contains c.met) (targets_of (from_space c.kind) h w.cell) =
-      subst (λ (k : Kind). All (Contains c.met) (targets_of (from_space k) h w.cell)) (sym two.same_kind) (subst (λ (ws : List ℕ). All (Contains c.met) (named_by (from_space b.kind) h (pointers_of ws))) at met) in
-      let image_now : (to : ℕ → Place) → after to → words ≡ image_at c.kind h to w.cell = λ (to : ℕ → Place) (agrees : after to).
-      image to agrees ∙ ap (image_of (from_space b.kind) h to) at ∙ ap (λ (k : Kind). image_at k h to w.cell) (sym two.same_kind) in
-      by_test straight refl kept low_now is_now met_now image_now
-    where
-      by_test : (b : Bool) → straight ≡ b → AreScanned h c after n aged old → n < length c.won → w ≡ win_at c.won n → All (Contains c.met) (targets_of (from_space c.kind) h w.cell) → ((to : ℕ → Place) → after to → words ≡ image_at c.kind h to w.cell) → AreScanned h c after (n + 1) aged_after old_after
-      by_test true is_true kept low_now is_now met_now image_now =
-          let here = straight_old is_true in
-          scanned_next kept low_now w is_now met_now words image_now aged_after old_after (λ one. absurd (omega arith)) (λ other. aged_kept is_true) (λ zero_is. old_new is_true) (λ other. absurd (other here))
-      by_test false isnt kept low_now is_now met_now image_now =
-          let other = straight_aged isnt in
-          scanned_next kept low_now w is_now met_now words image_now aged_after old_after (λ one. aged_new isnt) (λ not_one. absurd (omega arith)) (λ zero_is. absurd (other zero_is)) (λ _. old_kept isnt)
+  module _ {c : Walked Fixed} (added : AddsWins (IsClaimOf h straight (named_by (from_space b.kind) h (pointers_of source))) b c) where
+    two : AddsWins (IsClaimOf h straight (targets_of (from_space b.kind) h w.cell)) b c
+    two = subst (λ (ws : List ℕ). AddsWins (IsClaimOf h straight (named_by (from_space b.kind) h (pointers_of ws))) b c) at added
+
+    scan_is : AddsWins (IsClaimOf h (is_in_old (win_at b.won n)) (targets_of (from_space b.kind) h (win_at b.won n).cell)) b c
+    scan_is =
+        subst (λ (v : Win). AddsWins (IsClaimOf h (is_in_old v) (targets_of (from_space b.kind) h v.cell)) b c) is
+        (subst (λ (o : Bool). AddsWins (IsClaimOf h o (targets_of (from_space b.kind) h w.cell)) b c) in_old two)
+
+    pub scan_traced : (roots : List Root) → AreTraced b.kind h roots b.won → AreTraced b.kind h roots c.won
+    scan_traced roots traced = traced_more b.kind h roots scan_is (λ v claim. inr (n, low, claim)) traced
+
+    pub scan_keeps : KeepsWins b c
+    scan_keeps = wins_weaker two (λ v claim. tt)
+
+    pub scan_scanned : {after : (ℕ → Place) → Type 0} → KnowsMore before after → All (Contains c.met) (named_by (from_space b.kind) h (pointers_of source)) → (words : List ℕ) → ((to : ℕ → Place) → after to → words ≡ image_of (from_space b.kind) h to source) → (place_in w.word).space < 2 →
+        (aged_after old_after : List (List ℕ)) → (straight ≡ true → old_after ≡ old ++ words ∷ []) → (straight ≡ false → old_after ≡ old) → (straight ≡ false → aged_after ≡ aged ++ words ∷ []) → (straight ≡ true → aged_after ≡ aged) → AreScanned h c after (n + 1) aged_after old_after
+    scan_scanned {after} grows met words image low_space aged_after old_after old_new old_kept aged_new aged_kept =
+        let kept = scanned_more so two grows in
+        let low_now : n < length c.won = let long = ap length two.is ∙ length-append b.won two.added in omega arith in
+        let is_now : w ≡ win_at c.won n = is ∙ sym (ap (λ (ws : List Win). win_at ws n) two.is ∙ get_or_append_left b.won two.added (win_at [] 0) n low) in
+        let met_now : All (Contains c.met) (targets_of (from_space c.kind) h w.cell) =
+        subst (λ (k : Kind). All (Contains c.met) (targets_of (from_space k) h w.cell)) (sym two.same_kind) (subst (λ (ws : List ℕ). All (Contains c.met) (named_by (from_space b.kind) h (pointers_of ws))) at met) in
+        let image_now : (to : ℕ → Place) → after to → words ≡ image_at c.kind h to w.cell = λ (to : ℕ → Place) (agrees : after to).
+        image to agrees ∙ ap (image_of (from_space b.kind) h to) at ∙ ap (λ (k : Kind). image_at k h to w.cell) (sym two.same_kind) in
+        by_test straight refl kept low_now is_now met_now image_now
+      where
+        by_test : (b : Bool) → straight ≡ b → AreScanned h c after n aged old → n < length c.won → w ≡ win_at c.won n → All (Contains c.met) (targets_of (from_space c.kind) h w.cell) → ((to : ℕ → Place) → after to → words ≡ image_at c.kind h to w.cell) → AreScanned h c after (n + 1) aged_after old_after
+        by_test true is_true kept low_now is_now met_now image_now =
+            let here = straight_old is_true in
+            scanned_next kept low_now w is_now met_now words image_now aged_after old_after (λ one. absurd (omega arith)) (λ other. aged_kept is_true) (λ zero_is. old_new is_true) (λ other. absurd (other here))
+        by_test false isnt kept low_now is_now met_now image_now =
+            let other = straight_aged isnt in
+            scanned_next kept low_now w is_now met_now words image_now aged_after old_after (λ one. aged_new isnt) (λ not_one. absurd (omega arith)) (λ zero_is. absurd (other zero_is)) (λ _. old_kept isnt)
+
+    -- the same of what a call answers that may be refused
+    pub scan_copied : {E : Type 0} (r : Result (Unit {0}) E) {after : (ℕ → Place) → Type 0} → KnowsMore before after → OnOk r (All (Contains c.met) (named_by (from_space b.kind) h (pointers_of source))) → (place_in w.word).space < 2 →
+        (aged_after old_after : List (List ℕ)) → OnOk r (straight ≡ true → AddsCopy b.kind h after source old old_after) → (straight ≡ false → old_after ≡ old) → OnOk r (straight ≡ false → AddsCopy b.kind h after source aged aged_after) → (straight ≡ true → aged_after ≡ aged) →
+        OnOk r (AreScanned h c after (n + 1) aged_after old_after)
+    scan_copied (Err _) grows met low_space aged_after old_after old_new old_kept aged_new aged_kept = tt
+    scan_copied (Ok _) {after} grows met low_space aged_after old_after old_new old_kept aged_new aged_kept = by_test straight refl
+      where
+        by_test : (o : Bool) → straight ≡ o → AreScanned h c after (n + 1) aged_after old_after
+        by_test true is_true =
+            let one = old_new is_true in
+            scan_scanned grows met one.copy one.image low_space aged_after old_after (λ _. one.is) old_kept (λ isnt. absurd (let both : true ≡ false = sym is_true ∙ isnt in cc)) aged_kept
+        by_test false isnt =
+            let one = aged_new isnt in
+            scan_scanned grows met one.copy one.image low_space aged_after old_after (λ is_true. absurd (let both : true ≡ false = sym is_true ∙ isnt in cc)) old_kept (λ _. one.is) aged_kept
 
 -- ---- the plain table
 

@@ -82,6 +82,7 @@ pub record IsImaged {Fixed : Type 0} (h : SpaceList) (straight : Bool) (first : 
   pub met : All (Contains b.met) (named_by (from_space a.kind) h (take (i - first) (drop first words)))
   pub done : (to : ℕ → Place) → after to → (j : ℕ) → first ≤ j → j < i → get_or image j 0 ≡ moved_word (from_space a.kind) h to (get_or words j 0)
   pub rest : (j : ℕ) → j < first → get_or image j 0 ≡ get_or words j 0
+  pub ahead : (j : ℕ) → i ≤ j → get_or image j 0 ≡ get_or words j 0
 
 module _ (h : SpaceList) (straight : Bool) (first : ℕ) (words : List ℕ) where
   pub imaged_none : length words ≡ 8 → first ≤ 8 → {Fixed : Type 0} (a : Walked Fixed) (knows : (ℕ → Place) → Type 0) → IsImaged h straight first words words first a a knows knows
@@ -95,10 +96,14 @@ module _ (h : SpaceList) (straight : Bool) (first : ℕ) (words : List ℕ) wher
     met = (let none : first - first ≡ 0 = omega arith in subst (λ (n : ℕ). All (Contains a.met) (named_by (from_space a.kind) h (take n (drop first words)))) (sym none) (All-nil (Contains a.met)));
     done = λ _ _ j from below. (let no : 1 ≤ 0 = omega arith in omega arith);
     rest = λ _ _. refl;
+    ahead = λ _ _. refl;
   }
 
   module _ (image : List ℕ) (i : ℕ) (more : i < 8) {Fixed : Type 0} {a b c : Walked Fixed} {before mid : (ℕ → Place) → Type 0} (so : IsImaged h straight first words image i a b before mid)
-      (two : AddsWins (IsClaimOf h straight (target_in (from_space b.kind) h (get_or words i 0))) b c) where
+      (two : AddsWins (IsClaimOf h straight (target_in (from_space b.kind) h (get_or image i 0))) b c) where
+    as_was : get_or image i 0 ≡ get_or words i 0
+    as_was = so.ahead i (omega arith)
+
     at : get_or (drop first words) (i - first) 0 ≡ get_or words i 0
     at =
         let low = so.low in
@@ -109,17 +114,17 @@ module _ (h : SpaceList) (straight : Bool) (first : ℕ) (words : List ℕ) wher
     below = let low = so.low in let wide = so.wide in let l = length-drop first words in omega arith
 
     here : AddsWins (IsClaimOf h straight (target_in (from_space b.kind) h (get_or (drop first words) (i - first) 0))) b c
-    here = subst (λ (w : ℕ). AddsWins (IsClaimOf h straight (target_in (from_space b.kind) h w)) b c) (sym at) two
+    here = subst (λ (w : ℕ). AddsWins (IsClaimOf h straight (target_in (from_space b.kind) h w)) b c) (as_was ∙ sym at) two
 
     pub imaged_added : AddsWins (IsClaimOf h straight (named_by (from_space a.kind) h (drop first words))) a c
     imaged_added = wins_piece (λ (k : Kind). target_in (from_space k) h) h straight (drop first words) (i - first) 0 below so.added here
 
-    module _ {after : (ℕ → Place) → Type 0} (grows : KnowsMore mid after) (met : All (Contains c.met) (target_in (from_space b.kind) h (get_or words i 0))) (v : ℕ) (is : (to : ℕ → Place) → after to → v ≡ moved_word (from_space b.kind) h to (get_or words i 0)) where
+    module _ {after : (ℕ → Place) → Type 0} (grows : KnowsMore mid after) (met : All (Contains c.met) (target_in (from_space b.kind) h (get_or image i 0))) (v : ℕ) (is : (to : ℕ → Place) → after to → v ≡ moved_word (from_space b.kind) h to (get_or image i 0)) where
       met_is : All (Contains c.met) (named_by (from_space a.kind) h (take (i + 1 - first) (drop first words)))
       met_is =
           let low = so.low in
           let next : i - first + 1 ≡ i + 1 - first = omega arith in
-          let all = met_more (λ (k : Kind). target_in (from_space k) h) h straight (drop first words) (i - first) 0 below so.added here so.met (subst (λ (w : ℕ). All (Contains c.met) (target_in (from_space b.kind) h w)) (sym at) met) in
+          let all = met_more (λ (k : Kind). target_in (from_space k) h) h straight (drop first words) (i - first) 0 below so.added here so.met (subst (λ (w : ℕ). All (Contains c.met) (target_in (from_space b.kind) h w)) (as_was ∙ sym at) met) in
           subst (λ (n : ℕ). All (Contains c.met) (named_by (from_space a.kind) h (take n (drop first words)))) next all
 
       done_is : (to : ℕ → Place) → after to → (j : ℕ) → first ≤ j → j < i + 1 → get_or (set image i v) j 0 ≡ moved_word (from_space a.kind) h to (get_or words j 0)
@@ -127,7 +132,7 @@ module _ (h : SpaceList) (straight : Bool) (first : ℕ) (words : List ℕ) wher
           (λ (e : j ≡ i).
           (let l = so.long in
           let now : get_or (set image i v) i 0 ≡ moved_word (from_space a.kind) h to (get_or words i 0) =
-          get_or-set_same image i v 0 (omega arith) ∙ subst (λ (k : Kind). v ≡ moved_word (from_space k) h to (get_or words i 0)) so.added.same_kind (is to agrees) in
+          get_or-set_same image i v 0 (omega arith) ∙ subst (λ (k : Kind). v ≡ moved_word (from_space k) h to (get_or words i 0)) so.added.same_kind (is to agrees ∙ ap (moved_word (from_space b.kind) h to) as_was) in
           subst (λ (n : ℕ). get_or (set image i v) n 0 ≡ moved_word (from_space a.kind) h to (get_or words n 0)) (sym e) now))
           (λ other. get_or-set_other image i j v 0 other ∙ so.done to (grows to agrees) j from (omega arith))
           (cases_eq j i)
@@ -143,6 +148,7 @@ module _ (h : SpaceList) (straight : Bool) (first : ℕ) (words : List ℕ) wher
         met = met_is;
         done = done_is;
         rest = λ j under. (let low = so.low in get_or-set_other image i j v 0 (omega arith) ∙ so.rest j under);
+        ahead = λ j past. get_or-set_other image i j v 0 (omega arith) ∙ so.ahead j (omega arith);
       }
 
   module _ (image : List ℕ) (i : ℕ) (all : 8 ≤ i) {Fixed : Type 0} {a b : Walked Fixed} {before after : (ℕ → Place) → Type 0} (so : IsImaged h straight first words image i a b before after) where

@@ -1,8 +1,8 @@
 -- What a walk over the cells sees of a table of claims, whatever the table is.
-use Rattle.std.specs.Prelude.{◌≡◌, ℕ, ◌+◌, ◌≤◌, ◌<◌, ⊤, List, [], ◌++◌, length, map, slice_index_or, take}
+use Rattle.std.specs.Prelude.{◌≡◌, ℕ, ◌+◌, ◌≤◌, ◌<◌, ⊤, List, [], ◌∷◌, ◌++◌, length, map, slice_index_or, take}
 use Rattle.std.specs.List.{All, Contains}
 use Rattle.tg_word.specs.declared.Place.{Place}
-use Rattle.tg_word.specs.Word.{place_in}
+use Rattle.tg_word.specs.Word.{link_to, place_in}
 use Rattle.tg_space.specs.SpaceList.{SpaceList}
 use Rattle.tg_space.specs.Targets.{cell_numbered, from_space, image_of, targets_of}
 use Rattle.tg_space.specs.declared.kind.Kind.{Kind}
@@ -44,6 +44,10 @@ KnowsMore before after = (to : ℕ → Place) → after to → before to
 abbrev pub HasPlacesOf : List Win → (ℕ → Place) → Type 0
 HasPlacesOf won to = All (λ w. to w.cell ≡ place_in w.word) won
 
+-- the word is the link to the place in it, and has no rights
+abbrev pub IsLink : ℕ → Type 0
+IsLink word = word ≡ link_to (place_in word)
+
 -- ---- copies
 
 -- the copy of the cell with a number under a map
@@ -53,6 +57,13 @@ image_at kind h to c = image_of (from_space kind) h to (cell_numbered h c)
 -- the copies of the pairs' cells that are in a space, one after the other
 abbrev pub copies_to : ℕ → Kind → SpaceList → (ℕ → Place) → List Win → List (List ℕ)
 copies_to space kind h to won = map (λ w. image_at kind h to w.cell) (won_in space won)
+
+-- One more copy stands behind those there were: that of a cell with these words, under whatever map agrees with all that is
+-- known.
+pub record AddsCopy (kind : Kind) (h : SpaceList) (knows : (ℕ → Place) → Type 0) (words : List ℕ) (before after : List (List ℕ)) : Type 0 where
+  pub copy : List ℕ
+  pub is : after ≡ before ++ copy ∷ []
+  pub image : (to : ℕ → Place) → knows to → copy ≡ image_of (from_space kind) h to words
 
 -- So many pairs were scanned: what their cells name is met, and their copies are these under whatever map agrees with all
 -- that is known.

@@ -70,6 +70,10 @@ cells_won won = map (λ w. w.cell) won
 abbrev pub words_won : List Win → List ℕ
 words_won won = map (λ w. w.word) won
 
+-- the pairs of these cells and the words that they have
+abbrev pub wins_at : List ℕ → List ℕ → List Win
+wins_at forward cells = map (λ cell. record { cell = cell; word = slice_index forward cell }) cells
+
 -- the pair at a number
 abbrev pub win_at : List Win → ℕ → Win
 win_at won k = slice_index_or won k (record { cell = 0; word = 0 })

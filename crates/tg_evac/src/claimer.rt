@@ -4,7 +4,7 @@ ghost use Rattle.std.specs.List.{Contains};
 ghost use Rattle.tg_word.specs.declared.Place.{Place as PlaceOf};
 ghost use Rattle.tg_word.specs.Word.{place_in};
 ghost use Rattle.tg_evac.specs.Claims.{IsWinFor, win_at, won_in};
-ghost use Rattle.tg_evac.specs.Claimers.{AddsWins, KnowsMore, Walked};
+ghost use Rattle.tg_evac.specs.Claimers.{AddsWins, IsLink, KnowsMore, Walked};
 
 use crate::fault::CollectFault;
 use crate::win::Win;
@@ -50,5 +50,6 @@ pub trait Claimer {
         ensures grows { KnowsMore (knows self.old) (knows self.new) }
         ensures met { OnOk result (Contains (walked self.new).met cell) }
         ensures known { IfOk result (λ word. (to : ℕ → PlaceOf) → knows self.new to → to cell ≡ place_in word) }
+        ensures link { IfOk result IsLink }
         ensures full { IfErr result (λ fault. fault ≡ CollectFault.HeapFull → is_full self.new) };
 }

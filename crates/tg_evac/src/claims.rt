@@ -3,7 +3,7 @@ ghost use Rattle.std.specs.Prelude.{◌≡◌, ◌≢◌, ℕ, ◌+◌, ◌<◌,
 ghost use Rattle.std.specs.List.{Contains};
 ghost use Rattle.tg_word.specs.Word.{place_in};
 ghost use Rattle.tg_evac.specs.Claims.{HasFilledRoom, IsWinFor, win_at, won_in};
-ghost use Rattle.tg_evac.specs.Claimers.{AddsWins, HasPlacesOf, walked_of};
+ghost use Rattle.tg_evac.specs.Claimers.{AddsWins, HasPlacesOf, IsLink, walked_of};
 
 use crate::claimer::Claimer;
 use crate::fault::CollectFault;
@@ -21,8 +21,8 @@ pub struct Claims {
     plan: Plan,
     /// The forwarding word of each cell, 0 where it has none.
     pub forward: ForwardingTable,
-    /// The cells that were won, in the order in which they were.
-    pub won: Vec<Win>,
+    // The numbers of the cells that were won, in the order in which they were. A cell's word stands in the table.
+    won: Vec<u64>,
     // The number of the next new cell of Old, and of Aged.
     next: [u64; 2],
 }
@@ -30,13 +30,13 @@ pub struct Claims {
 impl Model for Claims {
     ghost use Rattle.std.specs.Prelude.{◌≡◌, ◌*◌, ◌-◌, ◌≤◌, length, vec_capacity};
     ghost use Rattle.std.specs.List.{All};
-    ghost use Rattle.tg_evac.specs.Claims.{Claimed, AreClaims};
+    ghost use Rattle.tg_evac.specs.Claims.{Claimed, AreClaims, wins_at};
 
     ghost Value = { Claimed };
 
-    ghost view = { λ c. record { plan = c.plan; forward = c.forward.words; won = c.won.items; next = c.next } };
+    ghost view = { λ c. record { plan = c.plan; forward = c.forward.words; won = wins_at c.forward.words c.won.items; next = c.next } };
 
-    ghost invariant = { λ c. AreClaims (record { plan = c.plan; forward = c.forward.words; won = c.won.items; next = c.next }) × (c.forward.skipped ≡ 64 * c.plan.kept) × All (λ w. 64 * c.plan.kept ≤ w.cell) c.won.items × (length c.forward.words - 64 * c.plan.kept ≤ vec_capacity c.won) };
+    ghost invariant = { λ c. AreClaims (record { plan = c.plan; forward = c.forward.words; won = wins_at c.forward.words c.won.items; next = c.next }) × (c.forward.skipped ≡ 64 * c.plan.kept) × All (λ w. 64 * c.plan.kept ≤ w.cell) (wins_at c.forward.words c.won.items) × (length c.forward.words - 64 * c.plan.kept ≤ vec_capacity c.won) };
 }
 
 impl Claims {
@@ -78,7 +78,11 @@ impl Claims {
         ensures inside { result.cell < length self.now.forward }
         ensures two { (place_in result.word).space < 2 }
     {
-        self.won[k]
+        let cell = self.won[k];
+        Win {
+            cell,
+            word: self.forward.moved_word(cell),
+        }
     }
 
     // The word of a cell that is moved; where it isn't 0, it is that of the cell's pair.
@@ -88,6 +92,7 @@ impl Claims {
         requires moved { 64 * self.now.plan.kept ≤ cell }
         ensures word { result ≡ slice_index self.now.forward cell }
         ensures won { result ≢ 0 → Contains self.now.won (record { cell = cell; word = result }) }
+        ensures link { result ≢ 0 → IsLink result }
     {
         self.forward.moved_word(cell)
     }
@@ -100,6 +105,7 @@ impl Claims {
         requires space { space < 2 }
         ensures added { AddsWins (IsWinFor cell space) (walked_of self.old) (walked_of self.new) }
         ensures held { IfOk result (λ word. Contains self.new.won (record { cell = cell; word = word })) }
+        ensures link { IfOk result IsLink }
         ensures full { IfErr result (λ fault. fault ≡ CollectFault.HeapFull → HasFilledRoom self.new) }
     {
         let found = self.word(cell);
@@ -118,6 +124,7 @@ impl Claims {
         requires space { space < 2 }
         ensures added { AddsWins (IsWinFor cell space) (walked_of self.old) (walked_of self.new) }
         ensures held { IfOk result (λ word. Contains self.new.won (record { cell = cell; word = word })) }
+        ensures link { IfOk result IsLink }
         ensures full { IfErr result (λ fault. fault ≡ CollectFault.HeapFull → HasFilledRoom self.new) }
     {
         let number = self.next[space as usize];
@@ -125,7 +132,7 @@ impl Claims {
             return Err(CollectFault::HeapFull);
         }
         let word = link(space, number);
-        self.won.push_reserved(Win { cell, word });
+        self.won.push_reserved(cell);
         self.forward.set(cell, word);
         self.next[space as usize] = number + 1;
         Ok(word)

@@ -1,16 +1,17 @@
 //! The scan of won cells: each is copied, and what it names is claimed, until none is left.
-ghost use Rattle.std.specs.Prelude.{◌≡◌, ℕ, ◌+◌, ◌<◌, ◌≤◌, ◌^◌, ◌++◌, ◌∷◌, true, false, List, [], IfErr, IfOk, OnOk, length};
+ghost use Rattle.std.specs.Prelude.{◌≡◌, ℕ, ◌+◌, ◌<◌, ◌≤◌, ◌^◌, true, false, List, [], IfErr, IfOk, OnOk, length};
 ghost use Rattle.tg_space.specs.SpaceList.{IsSpace, cells_of};
 ghost use Rattle.tg_space.specs.SpaceTable.{kept_blocks};
 ghost use Rattle.tg_space.specs.declared.root.Root.{Root as RootOf};
-ghost use Rattle.tg_space.specs.Targets.{cell_numbered};
-ghost use Rattle.tg_evac.specs.Claims.{AreTraced, HavePointers, win_at, won_in};
+ghost use Rattle.tg_space.specs.Soundness.{IsPointer};
+ghost use Rattle.tg_space.specs.Targets.{cell_numbered, from_space, named_by, pointers_of};
+ghost use Rattle.std.specs.List.{All, Contains};
+ghost use Rattle.tg_evac.specs.Claims.{AreTraced, HavePointers, IsClaimOf, win_at, won_in};
 ghost use Rattle.tg_evac.specs.Copies.{HoldCells};
-ghost use Rattle.tg_evac.specs.Claimers.{AreRead, AreScanned, KeepsWins, KnowsMore};
+ghost use Rattle.tg_evac.specs.Claimers.{AddsCopy, AddsWins, AreRead, AreScanned, KeepsWins, KnowsMore};
 
 use crate::claimer::Claimer;
 use crate::fault::CollectFault;
-use crate::images::image;
 use crate::new_blocks::NewBlocks;
 use crate::plan::is_in_old;
 use std::alloc::{AllocError, Global};
@@ -66,21 +67,40 @@ impl Copies {
         })
     }
 
-    // The copy of the cell that is scanned next.
+    // Puts the copy of the cell that is scanned next, which has these words, behind the others of Old or of Aged. What they name is
+    // claimed.
     #[inline(always)]
-    fn push(&mut self, is_in_old: bool, words: [u64; WORDS]) -> Result<(), AllocError>
+    fn push_copy<C: Claimer>(
+        &mut self,
+        claimer: &mut C,
+        spaces: &Spaces,
+        kind: Kind,
+        words: &[u64; WORDS],
+        is_in_old: bool,
+    ) -> Result<(), CollectFault>
         requires old_room { is_in_old ≡ true → length self.now.old < 2 ^ 26 }
         requires aged_room { is_in_old ≡ false → length self.now.aged < 2 ^ 26 }
-        ensures old { OnOk result (is_in_old ≡ true → self.exit.now.old ≡ self.entry.now.old ++ words ∷ []) }
+        requires pointers { All (IsPointer spaces.now.spaces) (pointers_of words.now) }
+        requires kind { (C.walked claimer.old).kind ≡ kind }
+        requires whole { (C.walked claimer.old).cells ≡ length (cells_of spaces.now.spaces) }
+        requires kept { (C.walked claimer.old).kept ≡ kept_blocks (C.walked claimer.old).kind spaces.now.spaces }
+        ensures added { AddsWins (IsClaimOf spaces.now.spaces is_in_old (named_by (from_space (C.walked claimer.old).kind) spaces.now.spaces (pointers_of words.now))) (C.walked claimer.old) (C.walked claimer.new) }
+        ensures grows { KnowsMore (C.knows claimer.old) (C.knows claimer.new) }
+        ensures met { OnOk result (All (Contains (C.walked claimer.new).met) (named_by (from_space (C.walked claimer.old).kind) spaces.now.spaces (pointers_of words.now))) }
+        ensures old { OnOk result (is_in_old ≡ true → AddsCopy (C.walked claimer.old).kind spaces.now.spaces (C.knows claimer.new) words.now self.entry.now.old self.exit.now.old) }
         ensures old_kept { is_in_old ≡ false → self.exit.now.old ≡ self.entry.now.old }
-        ensures aged { OnOk result (is_in_old ≡ false → self.exit.now.aged ≡ self.entry.now.aged ++ words ∷ []) }
+        ensures aged { OnOk result (is_in_old ≡ false → AddsCopy (C.walked claimer.old).kind spaces.now.spaces (C.knows claimer.new) words.now self.entry.now.aged self.exit.now.aged) }
         ensures aged_kept { is_in_old ≡ true → self.exit.now.aged ≡ self.entry.now.aged }
         ensures scanned { self.exit.now.scanned ≡ self.entry.now.scanned }
+        ensures full { IfErr result (λ fault. fault ≡ CollectFault.HeapFull → C.is_full claimer.new) }
     {
         if is_in_old {
-            return self.old.push(&mut self.spare, words);
+            return self
+                .old
+                .push_copy(&mut self.spare, claimer, spaces, kind, words, true);
         }
-        self.aged.push(&mut self.spare, words)
+        self.aged
+            .push_copy(&mut self.spare, claimer, spaces, kind, words, false)
     }
 }
 
@@ -255,7 +275,5 @@ fn scan_next<C: Claimer>(
 {
     let win = claimer.win(copies.scanned);
     let straight = is_in_old(kind, place_of(win.word));
-    let copy = image(claimer, spaces, kind, words, straight)?;
-    copies.push(straight, copy)?;
-    Ok(())
+    copies.push_copy(claimer, spaces, kind, words, straight)
 }

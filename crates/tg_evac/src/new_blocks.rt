@@ -1,15 +1,23 @@
 //! New blocks of a space, filled cell after cell.
-ghost use Rattle.std.specs.Prelude.{◌≡◌, ◌<◌, ◌≤◌, ◌-◌, ◌^◌, ◌++◌, ◌∷◌, [], length, replicate, vec_capacity, IfOk, OnOk};
-ghost use Rattle.std.specs.List.{All};
+ghost use Rattle.std.specs.Prelude.{◌≡◌, ◌<◌, ◌≤◌, ◌-◌, ◌^◌, ◌++◌, ◌∷◌, [], length, replicate, vec_capacity, IfErr, IfOk, OnOk};
+ghost use Rattle.std.specs.List.{All, Contains, flat_map};
 ghost use Rattle.tg_block.specs.Cells.{IsBlock, free_cell};
-ghost use Rattle.tg_space.specs.SpaceList.{IsSpace};
+ghost use Rattle.tg_space.specs.Soundness.{IsPointer};
+ghost use Rattle.tg_space.specs.SpaceList.{IsSpace, cells_of};
+ghost use Rattle.tg_space.specs.SpaceTable.{kept_blocks};
+ghost use Rattle.tg_space.specs.Targets.{from_space, named_by, pointers_of};
+ghost use Rattle.tg_evac.specs.Claims.{IsClaimOf};
+ghost use Rattle.tg_evac.specs.Claimers.{AddsCopy, AddsWins, KnowsMore};
 ghost use Rattle.tg_evac.specs.Copies.{HoldCells, IsOpenBlock};
 
+use crate::claimer::Claimer;
+use crate::fault::CollectFault;
+use crate::images::move_cell;
 use std::alloc::{AllocError, Global};
 use std::marker::Model;
 use std::mem;
 use tg_block::{Block, CELLS, WORDS};
-use tg_space::Space;
+use tg_space::{Kind, Space, Spaces};
 
 /// The blocks that a collection makes in a space. Contracts see the list of their cells.
 ///
@@ -47,18 +55,35 @@ impl NewBlocks {
         })
     }
 
-    /// Puts a cell behind the others. A block that it opens is one of the spare ones, as long as there are any. It is refused
-    /// only where memory was.
+    /// Puts the copy of a cell with these words behind the others: what they name is claimed, to go straight to Old or not, while
+    /// its words are moved where they stand. A block that it opens is one of the spare ones, as long as there are any.
+    ///
+    /// It is refused as a claim is, or with `OutOfMemory` where memory for a block was refused.
     #[inline(always)]
-    pub fn push(&mut self, spare: &mut Vec<Block>, words: [u64; WORDS]) -> Result<(), AllocError>
-        requires { length self.old < 2 ^ 26 }
-        ensures { OnOk result (self.new ≡ self.old ++ words ∷ []) }
+    pub fn push_copy<C: Claimer>(
+        &mut self,
+        spare: &mut Vec<Block>,
+        claimer: &mut C,
+        spaces: &Spaces,
+        kind: Kind,
+        words: &[u64; WORDS],
+        straight: bool,
+    ) -> Result<(), CollectFault>
+        requires room { length self.old < 2 ^ 26 }
+        requires pointers { All (IsPointer spaces.now.spaces) (pointers_of words.now) }
+        requires kind { (C.walked claimer.old).kind ≡ kind }
+        requires whole { (C.walked claimer.old).cells ≡ length (cells_of spaces.now.spaces) }
+        requires kept { (C.walked claimer.old).kept ≡ kept_blocks (C.walked claimer.old).kind spaces.now.spaces }
+        ensures added { AddsWins (IsClaimOf spaces.now.spaces straight (named_by (from_space (C.walked claimer.old).kind) spaces.now.spaces (pointers_of words.now))) (C.walked claimer.old) (C.walked claimer.new) }
+        ensures grows { KnowsMore (C.knows claimer.old) (C.knows claimer.new) }
+        ensures met { OnOk result (All (Contains (C.walked claimer.new).met) (named_by (from_space (C.walked claimer.old).kind) spaces.now.spaces (pointers_of words.now))) }
+        ensures copied { OnOk result (AddsCopy (C.walked claimer.old).kind spaces.now.spaces (C.knows claimer.new) words.now self.old self.new) }
+        ensures full { IfErr result (λ fault. fault ≡ CollectFault.HeapFull → C.is_full claimer.new) }
     {
-        if self.last.len() == CELLS {
-            close(self.alloc, spare, &mut self.full, &mut self.last)?;
-        }
-        self.last.push_reserved(words);
-        Ok(())
+        make_room(self.alloc, spare, &mut self.full, &mut self.last)?;
+        let at = self.last.len();
+        self.last.push_reserved(*words);
+        move_cell(claimer, spaces, kind, straight, &mut self.last[at])
     }
 
     /// The blocks, with free cells behind the last one. It is refused only where memory was.
@@ -74,6 +99,30 @@ impl NewBlocks {
         full.push(Block::of(padded(last)?))?;
         Ok(full)
     }
+}
+
+// Opens a block, where the open one has no room for a cell more.
+#[inline(always)]
+fn make_room(
+    alloc: Global,
+    spare: &mut Vec<Block>,
+    full: &mut Space,
+    last: &mut Vec<[u64; WORDS]>,
+) -> Result<(), AllocError>
+    requires space { IsSpace full.old }
+    requires fits { IsOpenBlock last.old.items }
+    requires room { length (flat_map (λ block. block) full.old ++ last.old.items) < 2 ^ 26 }
+    requires cells { 64 ≤ vec_capacity last.old }
+    ensures space { IsSpace full.new }
+    ensures fits { IsOpenBlock last.new.items }
+    ensures cells { 64 ≤ vec_capacity last.new }
+    ensures ready { OnOk result (length last.new.items < 64) }
+    ensures same { OnOk result (flat_map (λ block. block) full.new ++ last.new.items ≡ flat_map (λ block. block) full.old ++ last.old.items) }
+{
+    if last.len() < CELLS {
+        return Ok(());
+    }
+    close(alloc, spare, full, last)
 }
 
 // Makes the cells of an open block a full one behind the others, and opens the next.

@@ -11,7 +11,7 @@ ghost use Rattle.tg_evac.specs.Claimers.{AddsWins, KnowsMore};
 
 use crate::claimer::Claimer;
 use crate::fault::CollectFault;
-use crate::images::image;
+use crate::images::move_cell;
 use crate::plan::{is_straight, space_for};
 use tg_block::{LINK, WORDS};
 use tg_space::{Kind, Root, Spaces};
@@ -121,6 +121,6 @@ fn claim_targets<C: Claimer>(
     ensures met { OnOk result (All (Contains (C.walked claimer.new).met) (targets_at (from_space (C.walked claimer.old).kind) spaces.now.spaces place)) }
     ensures full { IfErr result (λ fault. fault ≡ CollectFault.HeapFull → C.is_full claimer.new) }
 {
-    image(claimer, spaces, kind, spaces.words(place), straight)?;
-    Ok(())
+    let mut words = *spaces.words(place);
+    move_cell(claimer, spaces, kind, straight, &mut words)
 }

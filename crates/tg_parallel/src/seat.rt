@@ -6,7 +6,7 @@ ghost use Rattle.tg_race.specs.Course.{has_met};
 ghost use Rattle.tg_race.specs.Conditions.{can_claim_roots};
 ghost use Rattle.tg_race.specs.Race.{empty, with_chunk};
 ghost use Rattle.tg_evac.specs.Claims.{IsWinFor, win_at, won_in};
-ghost use Rattle.tg_evac.specs.Claimers.{AddsWins, KnowsMore};
+ghost use Rattle.tg_evac.specs.Claimers.{AddsWins, IsLink, KnowsMore};
 ghost use Rattle.tg_parallel.specs.Parts.{HasClaimedPast, HasPlaces, cells_met, wins_of};
 ghost use Rattle.tg_parallel.specs.Seats.{AreFilled, walked_at};
 
@@ -117,6 +117,7 @@ impl<'a> Seat<'a> {
         ensures grows { KnowsMore (HasPlaces self.entry.now.done) (HasPlaces self.exit.now.done) }
         ensures met { OnOk result (Contains (cells_met self.exit.now.done) cell) }
         ensures known { IfOk result (λ word. (to : ℕ → PlaceOf) → HasPlaces self.exit.now.done to → to cell ≡ place_in word) }
+        ensures link { IfOk result IsLink }
         ensures full { IfErr result (λ fault. fault ≡ CollectFault.HeapFull → HasClaimedPast self.exit.now.limit self.exit.now.done) }
     {
         match self.winner.look(self.table, cell) {
@@ -137,6 +138,7 @@ impl<'a> Seat<'a> {
         ensures grows { KnowsMore (HasPlaces self.entry.now.done) (HasPlaces self.exit.now.done) }
         ensures met { OnOk result (Contains (cells_met self.exit.now.done) cell) }
         ensures known { IfOk result (λ word. (to : ℕ → PlaceOf) → HasPlaces self.exit.now.done to → to cell ≡ place_in word) }
+        ensures link { IfOk result IsLink }
         ensures full { IfErr result (λ fault. fault ≡ CollectFault.HeapFull → HasClaimedPast self.exit.now.limit self.exit.now.done) }
     {
         Ok(word_to(self.give_place(cell, space)?))

@@ -12,7 +12,7 @@ use Rattle.tg_space.specs.declared.kind.Kind.TheVariants.{Full}
 use Rattle.tg_space.specs.declared.root.Root.TheVariants.{Remembered}
 use Rattle.tg_evac.specs.declared.plan.Plan.{Plan}
 use Rattle.tg_evac.specs.declared.win.Win.{Win}
-use Rattle.tg_evac.specs.Claims.{Claimed, IsTracedFrom, won_in}
+use Rattle.tg_evac.specs.Claims.{Claimed, IsTracedFrom, won_in, wins_at}
 use Rattle.tg_evac.specs.Claimers.{HasPlacesOf, copies_to, image_at}
 use Rattle.tg_evac.specs.Copies.{HavePlaces, HoldCells, IsPlaceIn, moved_cell, new_cell}
 use Rattle.tg_evac.proofs.Claiming.{has_places, have_places, in_room}
@@ -24,7 +24,7 @@ use Rattle.tg_evac.proofs.collect.collect_kind.Goals.{In_ok-copies}
 
 -- the claims, as fields
 claims_of : In_ok-copies → Claimed
-claims_of c = record { plan = c.claims.inside.plan; forward = c.claims.inside.forward.words; won = c.claims.inside.won.items; next = c.claims.inside.next }
+claims_of c = record { plan = c.claims.inside.plan; forward = c.claims.inside.forward.words; won = wins_at c.claims.inside.forward.words c.claims.inside.won.items; next = c.claims.inside.next }
 
 plan_is : (c : In_ok-copies) → c.claims.inside.plan ≡ c.of-plan.result
 plan_is c = ap (λ (v : Claimed). v.plan) c.claims.view_is ∙ c.trace.ensures.plan ∙ c.in_ok-claims.ensures.plan
@@ -45,12 +45,12 @@ unfolding claims_of
 agrees c =
     subst (λ (v : Claimed). HasPlacesOf v.won (new_place c.claims.inside.forward.words)) c.claims.view_is (has_places (claims_of c) c.claims.invariant.0)
 
-aged_is : (c : In_ok-copies) → c.in_ok-copies.copies.aged ≡ copies_to 1 c.args.kind c.args.spaces.now.spaces (new_place c.claims.inside.forward.words) c.claims.inside.won.items
+aged_is : (c : In_ok-copies) → c.in_ok-copies.copies.aged ≡ copies_to 1 c.args.kind c.args.spaces.now.spaces (new_place c.claims.inside.forward.words) (wins_at c.claims.inside.forward.words c.claims.inside.won.items)
 aged_is c =
     let h = c.args.spaces.now.spaces in let to = new_place c.claims.inside.forward.words in
     c.in_ok-copies.ensures.aged to (agrees c) ∙ ap (λ (k : Kind). copies_to 1 k h to c.trace.new.claims.won) (kind_is c) ∙ ap (λ (v : Claimed). copies_to 1 c.args.kind h to v.won) (sym c.claims.view_is)
 
-old_is : (c : In_ok-copies) → c.in_ok-copies.copies.old ≡ copies_to 0 c.args.kind c.args.spaces.now.spaces (new_place c.claims.inside.forward.words) c.claims.inside.won.items
+old_is : (c : In_ok-copies) → c.in_ok-copies.copies.old ≡ copies_to 0 c.args.kind c.args.spaces.now.spaces (new_place c.claims.inside.forward.words) (wins_at c.claims.inside.forward.words c.claims.inside.won.items)
 old_is c =
     let h = c.args.spaces.now.spaces in let to = new_place c.claims.inside.forward.words in
     c.in_ok-copies.ensures.old to (agrees c) ∙ ap (λ (k : Kind). copies_to 0 k h to c.trace.new.claims.won) (kind_is c) ∙ ap (λ (v : Claimed). copies_to 0 c.args.kind h to v.won) (sym c.claims.view_is)
@@ -65,7 +65,7 @@ pub finish-requires-clause-aged : goal.finish-requires-clause-aged
 unfolding claims_of
 finish-requires-clause-aged c =
     let from = (goal.at.finish-requires-clause-aged c).In_ok-copies in
-    let long = ap length (aged_is from) ∙ length-map (won_in 1 c.claims.inside.won.items) (λ (w : Win). image_at c.args.kind c.args.spaces.now.spaces (new_place c.claims.inside.forward.words) w.cell) in
+    let long = ap length (aged_is from) ∙ length-map (won_in 1 (wins_at c.claims.inside.forward.words c.claims.inside.won.items)) (λ (w : Win). image_at c.args.kind c.args.spaces.now.spaces (new_place c.claims.inside.forward.words) w.cell) in
     let room = in_room (claims_of from) c.claims.invariant.0 1 (lit< tt) in
     omega arith
 
@@ -73,7 +73,7 @@ pub finish-requires-clause-old : goal.finish-requires-clause-old
 unfolding claims_of
 finish-requires-clause-old c =
     let from = (goal.at.finish-requires-clause-old c).In_ok-copies in
-    let long = ap length (old_is from) ∙ length-map (won_in 0 c.claims.inside.won.items) (λ (w : Win). image_at c.args.kind c.args.spaces.now.spaces (new_place c.claims.inside.forward.words) w.cell) in
+    let long = ap length (old_is from) ∙ length-map (won_in 0 (wins_at c.claims.inside.forward.words c.claims.inside.won.items)) (λ (w : Win). image_at c.args.kind c.args.spaces.now.spaces (new_place c.claims.inside.forward.words) w.cell) in
     let room = in_room (claims_of from) c.claims.invariant.0 0 (lit< tt) in
     omega arith
 

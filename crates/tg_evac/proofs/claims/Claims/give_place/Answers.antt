@@ -7,15 +7,15 @@ use Rattle.tg_word.specs.declared.Place.{Place}
 use Rattle.tg_word.specs.Word.{link_to, place_in}
 use Rattle.tg_space.specs.SpaceTable.{place_in_space}
 use Rattle.tg_evac.specs.declared.win.Win.{Win}
-use Rattle.tg_evac.specs.Claims.{Claimed, HasFilledRoom, IsWinFor}
+use Rattle.tg_evac.specs.Claims.{Claimed, HasFilledRoom, IsWinFor, wins_at}
 use Rattle.tg_evac.specs.Claimers.{AddsWins, walked_of}
-use Rattle.tg_evac.proofs.Claiming.{claims_more, adds_one, full_at, place_back, won_behind}
+use Rattle.tg_evac.proofs.Claiming.{claims_more, adds_one, full_at, place_back, wins_more, won_behind, won_length, won_others}
 use Rattle.tg_evac.proofs.claims.Claims.give_place.Goals as goal
 
 pub push_reserved-requires : goal.push_reserved-requires
 push_reserved-requires c =
     let inside = c.self.inside in let cell = c.args.cell in let space = c.args.space in
-    let v : Claimed = record { plan = inside.plan; forward = inside.forward.words; won = inside.won.items; next = inside.next } in
+    let v : Claimed = record { plan = inside.plan; forward = inside.forward.words; won = wins_at inside.forward.words inside.won.items; next = inside.next } in
     let same : v ≡ c.args.self.now = c.self.view_is in
     let number = get_or inside.next space 0 in
     let w : Win = record { cell = cell; word = c.link-word.result } in
@@ -29,12 +29,13 @@ push_reserved-requires c =
     let few = won_behind (record { plan = v.plan; forward = set v.forward w.cell w.word; won = v.won ++ w ∷ []; next = set v.next space (number + 1) }) more (64 * v.plan.kept)
     (All-push (λ (x : Win). 64 * v.plan.kept ≤ x.cell) v.won w c.self.invariant.2 late) in
     let one = length_push v.won w in let long = length-set v.forward w.cell w.word in let cap = c.self.invariant.3 in
+    let cells = won_length inside.forward.words inside.won.items in
     omega (arith, inside.won.ok)
 
 pub invariant_of-self : goal.invariant_of-self
 invariant_of-self c =
     let inside = c.self.inside in let cell = c.args.cell in let space = c.args.space in
-    let v : Claimed = record { plan = inside.plan; forward = inside.forward.words; won = inside.won.items; next = inside.next } in
+    let v : Claimed = record { plan = inside.plan; forward = inside.forward.words; won = wins_at inside.forward.words inside.won.items; next = inside.next } in
     let same : v ≡ c.args.self.now = c.self.view_is in
     let number = get_or inside.next space 0 in
     let w : Win = record { cell = cell; word = c.link-word.result } in
@@ -47,26 +48,33 @@ invariant_of-self c =
     let next : number ≡ get_or v.next space 0 = cc in
     let long = length-set v.forward cell c.link-word.result in let cap = c.self.invariant.3 in let kept = c.push_reserved.ensures.capacity in
     let fits : length (set v.forward cell c.link-word.result) - 64 * v.plan.kept ≤ vec_capacity c.push_reserved.new.self = omega arith in
-    rw (c.push_reserved.ensures.items, c.set.ensures.words, c.set.ensures.skipped)
+    let more = wins_more v.forward inside.won.items w low (won_others v.forward inside.won.items c.self.invariant.0.words.stand cell none) in
+    rw (c.push_reserved.ensures.items, c.set.ensures.words, c.set.ensures.skipped, more)
     (claims_more v c.self.invariant.0 w space number two next low none room is, c.self.invariant.1, All-push (λ (x : Win). 64 * v.plan.kept ≤ x.cell) v.won w c.self.invariant.2 late, fits)
 
 pub returns-then-self-number-clause-full : goal.returns-then-self-number-clause-full
 returns-then-self-number-clause-full c _ =
     let inside = c.self.inside in
-    let v : Claimed = record { plan = inside.plan; forward = inside.forward.words; won = inside.won.items; next = inside.next } in
+    let v : Claimed = record { plan = inside.plan; forward = inside.forward.words; won = wins_at inside.forward.words inside.won.items; next = inside.next } in
     let full : HasFilledRoom v = full_at v c.self.invariant.0 c.args.space c.requires.space c.if-self-number.true in
     subst (λ (x : Claimed). HasFilledRoom x) c.self.view_is full
 
 pub returns-clause-held : goal.returns-clause-held
 returns-clause-held c =
+    let inside = c.self.inside in let forward = inside.forward.words in let cells = inside.won.items in
     let w : Win = record { cell = c.args.cell; word = c.link-word.result } in
-    let here : Contains (c.self.inside.won.items ++ w ∷ []) w = Contains-append_right c.self.inside.won.items (w ∷ []) w (0, lit< tt, refl) in
-    subst (λ (ws : List Win). Contains ws w) (sym c.push_reserved.ensures.items) here
+    let low : c.args.cell < length forward = subst (λ (x : Claimed). c.args.cell < length x.forward) (sym c.self.view_is) c.requires.inside in
+    let none : get_or forward c.args.cell 0 ≡ 0 = subst (λ (x : Claimed). get_or x.forward c.args.cell 0 ≡ 0) (sym c.self.view_is) c.requires.none in
+    let more = wins_more forward cells w low (won_others forward cells c.self.invariant.0.words.stand c.args.cell none) in
+    let after : wins_at c.set.new.self.words c.push_reserved.new.self.items ≡ wins_at forward cells ++ w ∷ [] =
+    ap (λ (words : List ℕ). wins_at words c.push_reserved.new.self.items) c.set.ensures.words ∙ ap (wins_at (set forward c.args.cell c.link-word.result)) c.push_reserved.ensures.items ∙ more in
+    let here : Contains (wins_at forward cells ++ w ∷ []) w = Contains-append_right (wins_at forward cells) (w ∷ []) w (0, lit< tt, refl) in
+    subst (λ (ws : List Win). Contains ws w) (sym after) here
 
 pub returns-clause-added : goal.returns-clause-added
 returns-clause-added c =
     let inside = c.self.inside in let cell = c.args.cell in let space = c.args.space in
-    let v : Claimed = record { plan = inside.plan; forward = inside.forward.words; won = inside.won.items; next = inside.next } in
+    let v : Claimed = record { plan = inside.plan; forward = inside.forward.words; won = wins_at inside.forward.words inside.won.items; next = inside.next } in
     let same : v ≡ c.args.self.now = c.self.view_is in
     let number = get_or inside.next space 0 in
     let w : Win = record { cell = cell; word = c.link-word.result } in
@@ -78,7 +86,10 @@ returns-clause-added c =
     let next : number ≡ get_or v.next space 0 = cc in
     let to : IsWinFor cell space w = record { number = refl; to = ap (λ (n : ℕ). (place_in n).space) is ∙ ap (λ (p : Place). p.space) (place_back space number c.requires.space (omega arith)) } in
     let one = adds_one v c.self.invariant.0 w space number c.requires.space next low none room is (IsWinFor cell space) to in
+    let more = wins_more v.forward inside.won.items w low (won_others v.forward inside.won.items c.self.invariant.0.words.stand cell none) in
+    let held : wins_at c.set.new.self.words c.push_reserved.new.self.items ≡ v.won ++ w ∷ [] =
+    ap (λ (words : List ℕ). wins_at words c.push_reserved.new.self.items) c.set.ensures.words ∙ ap (wins_at (set v.forward cell c.link-word.result)) c.push_reserved.ensures.items ∙ more in
     let after : List Win → List ℕ → Claimed = λ (won : List Win) (forward : List ℕ). record { plan = v.plan; forward = forward; won = won; next = set v.next space (number + 1) } in
-    let first = subst (λ (won : List Win). AddsWins (IsWinFor cell space) (walked_of v) (walked_of (after won (set v.forward cell c.link-word.result)))) (sym c.push_reserved.ensures.items) one in
-    let then = subst (λ (forward : List ℕ). AddsWins (IsWinFor cell space) (walked_of v) (walked_of (after c.push_reserved.new.self.items forward))) (sym c.set.ensures.words) first in
-    subst (λ (x : Claimed). AddsWins (IsWinFor cell space) (walked_of x) (walked_of (after c.push_reserved.new.self.items c.set.new.self.words))) same then
+    let first = subst (λ (won : List Win). AddsWins (IsWinFor cell space) (walked_of v) (walked_of (after won (set v.forward cell c.link-word.result)))) (sym held) one in
+    let then = subst (λ (forward : List ℕ). AddsWins (IsWinFor cell space) (walked_of v) (walked_of (after (wins_at c.set.new.self.words c.push_reserved.new.self.items) forward))) (sym c.set.ensures.words) first in
+    subst (λ (x : Claimed). AddsWins (IsWinFor cell space) (walked_of x) (walked_of (after (wins_at c.set.new.self.words c.push_reserved.new.self.items) c.set.new.self.words))) same then

@@ -1,6 +1,6 @@
 use Rattle.std.proofs.Common.{ℕ, ap, sym, subst, ◌∙◌}
 use Rattle.tg_word.specs.declared.Place.{Place}
-use Rattle.tg_word.specs.Word.{place_in}
+use Rattle.tg_word.specs.Word.{link_to, place_in}
 use Rattle.tg_race.specs.declared.record.Record.{Record}
 use Rattle.tg_race.specs.Race.{with_seen}
 use Rattle.tg_race.specs.Seats.{Seated}
@@ -39,6 +39,9 @@ returns-in-Some-clause-known c to has =
     let done = ap (λ (x : Seated). x.done) c.in-Some.ensures.some in
     seen_known c.self.inside.winner.done c.args.cell c.in-Some.place c.in-Some.ensures.place to (subst (λ (x : Record). HasPlaces x to) done has)
     ∙ sym (ap place_in c.word_to.ensures ∙ place_back c.in-Some.place c.in-Some.ensures.place)
+
+pub returns-in-Some-clause-link : goal.returns-in-Some-clause-link
+returns-in-Some-clause-link c = c.word_to.ensures ∙ ap link_to (sym (ap place_in c.word_to.ensures ∙ place_back c.in-Some.place c.in-Some.ensures.place))
 
 -- what a claim that wins knows, the seat knew before it looked
 known_before : (c : In-None) (to : ℕ → Place) → HasPlaces c.look.new.self.done to → HasPlaces c.args.self.now.done to

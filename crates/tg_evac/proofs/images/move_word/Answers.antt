@@ -11,11 +11,11 @@ use Rattle.tg_evac.proofs.OneCell.{claims_one, met_one, one_moved, one_target}
 use Rattle.tg_evac.proofs.Behind.{moved_behind}
 use Rattle.tg_evac.specs.declared.fault.CollectFault.TheVariants.{HeapFull}
 use Rattle.tg_evac.proofs.Passing.{passed_on}
-use Rattle.tg_evac.proofs.images.moved_word.Goals as goal
+use Rattle.tg_evac.proofs.images.move_word.Goals as goal
 
-pub returns-in_err-found-clause-added : goal.returns-in_err-found-clause-added
-returns-in_err-found-clause-added g c =
-    let h = c.args.spaces.now.spaces in let kind = (g.C.Claimer.walked c.args.claimer.now).kind in let word = c.args.word in let some = c.if-word-eq0.false in
+pub returns-in_err-link-clause-added : goal.returns-in_err-link-clause-added
+returns-in_err-link-clause-added g c =
+    let h = c.args.spaces.now.spaces in let kind = (g.C.Claimer.walked c.args.claimer.now).kind in let word = c.args.word.now in let some = c.if-old-eq0.false in
     let moves : from_space kind (place_in word).space ≡ true =
     ap (λ (k : Kind). from_space k (place_in word).space) c.requires.kind ∙ ap (λ (p : Place). from_space c.args.kind p.space) (sym c.place_of-space.ensures) ∙ sym c.moves.ensures ∙ c.if-not-moves.false in
     let held : Holds h (place_in word) = ⊎_elim (λ none. absurd (some none)) (λ (names : NamesCell h word). names.held) c.requires.pointer in
@@ -24,7 +24,7 @@ returns-in_err-found-clause-added g c =
 
 pub returns-clause-added : goal.returns-clause-added
 returns-clause-added g c =
-    let h = c.args.spaces.now.spaces in let kind = (g.C.Claimer.walked c.args.claimer.now).kind in let word = c.args.word in let some = c.if-word-eq0.false in
+    let h = c.args.spaces.now.spaces in let kind = (g.C.Claimer.walked c.args.claimer.now).kind in let word = c.args.word.now in let some = c.if-old-eq0.false in
     let moves : from_space kind (place_in word).space ≡ true =
     ap (λ (k : Kind). from_space k (place_in word).space) c.requires.kind ∙ ap (λ (p : Place). from_space c.args.kind p.space) (sym c.place_of-space.ensures) ∙ sym c.moves.ensures ∙ c.if-not-moves.false in
     let held : Holds h (place_in word) = ⊎_elim (λ none. absurd (some none)) (λ (names : NamesCell h word). names.held) c.requires.pointer in
@@ -33,32 +33,32 @@ returns-clause-added g c =
 
 pub returns-clause-met : goal.returns-clause-met
 returns-clause-met g c =
-    let h = c.args.spaces.now.spaces in let kind = (g.C.Claimer.walked c.args.claimer.now).kind in let word = c.args.word in
+    let h = c.args.spaces.now.spaces in let kind = (g.C.Claimer.walked c.args.claimer.now).kind in let word = c.args.word.now in
     let moves : from_space kind (place_in word).space ≡ true =
     ap (λ (k : Kind). from_space k (place_in word).space) c.requires.kind ∙ ap (λ (p : Place). from_space c.args.kind p.space) (sym c.place_of-space.ensures) ∙ sym c.moves.ensures ∙ c.if-not-moves.false in
     let met = (g.C.Claimer.walked c.claim.new.self).met in
-    met_one (Contains met) (flat_of h (place_in word)) (target_in (from_space kind) h word) (one_target (from_space kind) h word c.if-word-eq0.false moves)
-    (subst (λ (n : ℕ). Contains met n) c.target_of.ensures.flat c.in_ok-found.ensures.met)
+    met_one (Contains met) (flat_of h (place_in word)) (target_in (from_space kind) h word) (one_target (from_space kind) h word c.if-old-eq0.false moves)
+    (subst (λ (n : ℕ). Contains met n) c.target_of.ensures.flat c.in_ok-link.ensures.met)
 
 pub returns-clause-word : goal.returns-clause-word
 returns-clause-word g c =
     λ to knows.
-    let h = c.args.spaces.now.spaces in let kind = (g.C.Claimer.walked c.args.claimer.now).kind in let word = c.args.word in
+    let h = c.args.spaces.now.spaces in let kind = (g.C.Claimer.walked c.args.claimer.now).kind in let word = c.args.word.now in
     let moves : from_space kind (place_in word).space ≡ true =
     ap (λ (k : Kind). from_space k (place_in word).space) c.requires.kind ∙ ap (λ (p : Place). from_space c.args.kind p.space) (sym c.place_of-space.ensures) ∙ sym c.moves.ensures ∙ c.if-not-moves.false in
-    let goes : to (flat_of h (place_in word)) ≡ place_in c.in_ok-found.found = ap to (sym c.target_of.ensures.flat) ∙ c.in_ok-found.ensures.known to knows in
-    c.with_place.ensures ∙ one_moved (from_space kind) h to word (place_in c.in_ok-found.found) c.if-word-eq0.false moves goes
+    let goes : to (flat_of h (place_in word)) ≡ place_in c.in_ok-link.link = ap to (sym c.target_of.ensures.flat) ∙ c.in_ok-link.ensures.known to knows in
+    c.with_rights.ensures ∙ one_moved (from_space kind) h to word (place_in c.in_ok-link.link) c.if-old-eq0.false moves goes
 
 pub claim-requires-clause-moved : goal.claim-requires-clause-moved
 claim-requires-clause-moved g c =
-    let h = c.args.spaces.now.spaces in let kind = (g.C.Claimer.walked c.args.claimer.now).kind in let word = c.args.word in
+    let h = c.args.spaces.now.spaces in let kind = (g.C.Claimer.walked c.args.claimer.now).kind in let word = c.args.word.now in
     let moves : from_space kind (place_in word).space ≡ true =
     ap (λ (k : Kind). from_space k (place_in word).space) c.requires.kind ∙ ap (λ (p : Place). from_space c.args.kind p.space) (sym c.place_of-space.ensures) ∙ sym c.moves.ensures ∙ c.if-not-moves.false in
-    let held : Holds h (place_in word) = ⊎_elim (λ none. absurd (c.if-word-eq0.false none)) (λ (names : NamesCell h word). names.held) c.requires.pointer in
+    let held : Holds h (place_in word) = ⊎_elim (λ none. absurd (c.if-old-eq0.false none)) (λ (names : NamesCell h word). names.held) c.requires.pointer in
     let low = moved_behind kind h (place_in word) held moves in
     let kept = c.requires.kept in
     let flat = c.target_of.ensures.flat in
     omega (arith, low, kept, flat)
 
-pub returns-in_err-found-clause-full : goal.returns-in_err-found-clause-full
-returns-in_err-found-clause-full g c = passed_on c.from_residual.result (λ fault. fault ≡ HeapFull → g.C.Claimer.is_full c.claim.new.self) _ c.from_residual.ensures.1 c.in_err-found.ensures.full
+pub returns-in_err-link-clause-full : goal.returns-in_err-link-clause-full
+returns-in_err-link-clause-full g c = passed_on c.from_residual.result (λ fault. fault ≡ HeapFull → g.C.Claimer.is_full c.claim.new.self) _ c.from_residual.ensures.1 c.in_err-link.ensures.full
