@@ -7,6 +7,7 @@ import subprocess
 import tempfile
 
 from bodies import BadBody, planted
+from taken import take_by_contract
 
 # What an answer is told of where a name in it is gone: that says nothing of the clause.
 GONE = re.compile(r"has no field|is not a field|can be named from here|not in scope|is not defined|unknown name|has no `|arguments? but|no such")
@@ -73,6 +74,7 @@ class Checker:
             for path, text in files.items():
                 with open(f"{folder}/{path}", "w", encoding="utf-8") as out:
                     out.write(text)
+            take_by_contract(folder, crate, functions)
             root = "src/main.rt" if os.path.exists(f"{folder}/src/main.rt") else "src/lib.rt"
             words = [f"{self.kit}/bin/rattle", "check", *self.words(crate, root), "--allow-holes"]
             for name in functions:
@@ -153,8 +155,8 @@ class Said:
     def is_proved(self, function):
         """Whether the function's own goals all hold. That one which it calls doesn't is no matter of its own."""
         lines = [line for _, line in self.lines_of(function)]
-        calls = r"no proof: it calls `[^;]*$"
-        return bool(lines) and all(it in ("no holes", "proved") or re.match(calls, it) for it in lines)
+        others = r"no proof: it calls `[^;]*$|depends on a hole in `"
+        return bool(lines) and all(it in ("no holes", "proved") or re.match(others, it) for it in lines)
 
 
 def clause_of(goal):
