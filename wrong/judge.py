@@ -7,6 +7,7 @@ import subprocess
 import tempfile
 
 from bodies import BadBody, planted
+from taken import add_copy, copied, take_by_contract
 
 # What an answer is told of where a name in it is gone: that says nothing of the clause.
 GONE = re.compile(r"has no field|is not a field|can be named from here|not in scope|is not defined|unknown name|has no `|arguments? but|no such")
@@ -38,6 +39,7 @@ class Checker:
     def __init__(self, top, libraries):
         self.top, self.libraries = top, libraries
         self.named = crates(top)
+        self.known = {}
         page = subprocess.run(["rt", "doc"], capture_output=True, text=True, check=True).stdout.strip()
         self.kit = os.path.dirname(page)
 
@@ -61,25 +63,16 @@ class Checker:
         words += ["--links", f"{crate}=", "--jobs", "1"]
         return words + ["--crate-type", "staticlib"] * is_static
 
-    def run(self, crate, files, aside, functions):
-        """What the check of these functions says, with these texts in place of the crate's and without these answers, and its processor seconds.
-
-        `aside` has pairs: a file below proofs/, and the goals whose answers go, or none where the whole file goes."""
-        with tempfile.TemporaryDirectory(prefix="wrong-") as room:
-            folder = f"{room}/{crate}"
-            shutil.copytree(f"{self.top}/crates/{crate}", folder, ignore=shutil.ignore_patterns("out"))
-            for path, goals in aside:
-                remove(f"{folder}/proofs/{path}", goals)
-            for path, text in files.items():
-                with open(f"{folder}/{path}", "w", encoding="utf-8") as out:
-                    out.write(text)
-            root = "src/main.rt" if os.path.exists(f"{folder}/src/main.rt") else "src/lib.rt"
-            words = [f"{self.kit}/bin/rattle", "check", *self.words(crate, root), "--allow-holes"]
-            for name in functions:
-                words += ["--only", name]
-            before = seconds()
-            ran = subprocess.run(words, cwd=folder, stdin=subprocess.DEVNULL, stdout=subprocess.PIPE, stderr=subprocess.STDOUT, text=True, errors="replace", check=False)
-            return ran.stdout, seconds() - before
+    def run(self, folder, crate, functions):
+        """What the check of these functions says of the crate in the folder, and its processor seconds."""
+        take_by_contract(folder, crate, functions)
+        root = "src/main.rt" if os.path.exists(f"{folder}/src/main.rt") else "src/lib.rt"
+        words = [f"{self.kit}/bin/rattle", "check", *self.words(crate, root), "--allow-holes"]
+        for name in functions:
+            words += ["--only", name]
+        before = seconds()
+        ran = subprocess.run(words, cwd=folder, stdin=subprocess.DEVNULL, stdout=subprocess.PIPE, stderr=subprocess.STDOUT, text=True, errors="replace", check=False)
+        return ran.stdout, seconds() - before
 
     def text_of(self, crate):
         """A reader of the crate's files."""
@@ -91,14 +84,44 @@ class Checker:
                 return it.read()
         return read
 
+    def copied(self, body):
+        """The function of the body and its text with the body in it, where a copy of it can be checked in the body's place."""
+        if body.name not in self.known:
+            self.known[body.name] = copied(f"{self.top}/crates/{body.crate}", body)
+        return self.known[body.name]
+
     def check(self, bodies):
-        """What the check says with all these bodies of one crate planted, and its seconds."""
-        crate, files = bodies[0].crate, {}
-        for body in bodies:
-            read = self.text_of(crate)
-            files.update(planted(body, lambda file: files[file] if file in files else read(file)))
-        aside = [it for body in bodies for it in body.aside]
-        return self.run(crate, files, aside, [it for body in bodies for it in body.functions])
+        """What the check says with all these bodies of one crate planted, the bodies as they stood there, and its seconds."""
+        crate, read, planted_in = bodies[0].crate, self.text_of(bodies[0].crate), {}
+        with tempfile.TemporaryDirectory(prefix="wrong-") as room:
+            folder = f"{room}/{crate}"
+            shutil.copytree(f"{self.top}/crates/{crate}", folder, ignore=shutil.ignore_patterns("out"))
+            stand, others = apart(bodies)
+            for body in stand:
+                planted_in.update(planted(body, lambda file: planted_in[file] if file in planted_in else read(file)))
+            for path, text in planted_in.items():
+                with open(f"{folder}/{path}", "w", encoding="utf-8") as out:
+                    out.write(text)
+            for number, body in enumerate(others, 2):
+                stand.append(add_copy(folder, crate, body, *self.copied(body), number))
+            for path, goals in (it for body in stand for it in body.aside):
+                remove(f"{folder}/proofs/{path}", goals)
+            output, took = self.run(folder, crate, [it for body in stand for it in body.functions])
+            return output, stand, took
+
+
+def apart(bodies):
+    """Those of the bodies of which no two are of one function or change one text, and the others."""
+    stand, others = [], []
+    for body in bodies:
+        (stand if all(are_apart(body, it) for it in stand) else others).append(body)
+    return stand, others
+
+
+def are_apart(body, other):
+    functions = {it.rpartition("::")[2] for it in body.functions} & {it.rpartition("::")[2] for it in other.functions}
+    texts = {(it.file, it.old) for it in body.edits} & {(it.file, it.old) for it in other.edits}
+    return not functions and not texts
 
 
 def remove(path, goals):
@@ -153,8 +176,8 @@ class Said:
     def is_proved(self, function):
         """Whether the function's own goals all hold. That one which it calls doesn't is no matter of its own."""
         lines = [line for _, line in self.lines_of(function)]
-        calls = r"no proof: it calls `[^;]*$"
-        return bool(lines) and all(it in ("no holes", "proved") or re.match(calls, it) for it in lines)
+        others = r"no proof: it calls `[^;]*$|depends on a hole in `"
+        return bool(lines) and all(it in ("no holes", "proved") or re.match(others, it) for it in lines)
 
 
 def clause_of(goal):
