@@ -11,8 +11,8 @@
 //!
 //! *Scan.* First the targets of the roots are claimed, the rows before the remembered cells. Then the won cells are scanned,
 //! in the order in which they were won, until there is none left: breadth first. A full collection does this for one root
-//! after the other, so that what a root leads to lies together. To scan a cell is to claim what it names and
-//! to copy it: the place in each of its references and links is replaced by that of what it names, where that is moved, and
+//! after the other, so that what a root leads to lies together. To scan a cell is to copy it as it is, and then to claim what
+//! it names: the place in each reference and link of the copy is replaced by that of what it names, where that is moved, and
 //! all else is as it was. The copies of a space are made in the order of their places, so they fill its new blocks one after
 //! the other, and all but the last are full.
 //!
@@ -37,8 +37,8 @@
 //! collection has all its copies in Old, and looks for none.
 //!
 //! So each live cell that is moved is read once and written once, and of the others only remembered cells and the cells of
-//! rows are looked at. A collection takes the new blocks, a word for each cell of from-space, the list of won cells, two
-//! words for each with room for all of from-space, and the notes; nothing grows with the number of references, and nothing
+//! rows are looked at. A collection takes the new blocks, a word for each cell of from-space, the list of won cells, a
+//! word for each with room for all of from-space, and the notes; nothing grows with the number of references, and nothing
 //! of a nursery collection with the cells that Old has.
 //!
 //! **Who may call.** The store calls [`collect_one`] with the rows of the heap's workers as roots, and for a nursery
