@@ -1,13 +1,28 @@
 """The shared library: where it is found, and its functions as ctypes calls them."""
 import ctypes
 import os
+from operator import index
 from pathlib import Path
 from typing import Type
 
 ABI = 3
 NAME = f"libkovshenul.so.{ABI}"
 
+CALLS = (
+    "abi open close take grant remove write append create spawn retire subjects read list inspect label collect census names entries "
+    "entry audit"
+).split()
+
 Number = ctypes.c_uint64
+BITS = 64
+
+
+def number_in(bits: int, it: int) -> int:
+    """The same number, which must be from 0 on and have at most so many bits."""
+    it = index(it)
+    if it >> bits:
+        raise OverflowError(f"a number is from 0 to 2^{bits} - 1")
+    return it
 
 
 class Value(ctypes.Structure):
@@ -92,36 +107,10 @@ def _loaded(kind: Type[ctypes.CDLL]) -> ctypes.CDLL:
 
 
 def _declare(library: ctypes.CDLL) -> None:
-    """Says what each function takes. The numbers must be in their range: ctypes takes any modulo 2^64."""
-    # An address is handed on as it is, so no object of a caller may become one.
-    address, size = ctypes.c_void_p, ctypes.c_size_t
-    takes = {
-        "abi": [],
-        "open": [address, address, size, address, size, address],
-        "close": [address],
-        "take": [address, Number, Number, Number, Number, address],
-        "grant": [address, Number, Number, Number, Number, address],
-        "remove": [address, Number, Number, Number, address],
-        "write": [address, Number, Number, Number, address],
-        "append": [address, Number, Number, Number, address],
-        "create": [address, Number, Number, address, address],
-        "spawn": [address, Number, Number, address, address],
-        "retire": [address, Number],
-        "subjects": [address, address, size, address],
-        "read": [address, Number, Number, address, size, address, address],
-        "list": [address, Number, address, size, address],
-        "inspect": [address, Number, Number, address, size, address, address],
-        "label": [address, Number, Number, address],
-        "collect": [address, ctypes.c_uint32, address],
-        "census": [address, address],
-        "names": [address, address, size, address],
-        "entries": [address, address],
-        "entry": [address, Number, address, address, size, address, size],
-        "audit": [address, address],
-    }
-    for name, types in takes.items():
-        function = getattr(library, f"tg_{name}")
-        function.argtypes, function.restype = types, ctypes.c_uint32
+    """Says what each function answers. They take what is made ready for them: addresses by `byref`, and numbers as a `Number`, since
+    what ctypes makes of a plain int for each call takes longer than the call."""
+    for name in CALLS:
+        getattr(library, f"tg_{name}").restype = ctypes.c_uint32
     library.tg_status_text.argtypes, library.tg_status_text.restype = [ctypes.c_uint32], ctypes.c_char_p
     library.tg_version.argtypes, library.tg_version.restype = [], ctypes.c_char_p
 

@@ -1,26 +1,25 @@
 """A store: each call looks at its numbers, and then goes to the library under the store's lock."""
 from __future__ import annotations
 
-import ctypes
+from array import array
+from ctypes import byref, c_size_t, c_uint32
 from functools import partial
 from itertools import count as from_on
-from operator import index
 from threading import RLock
 from typing import Callable, Iterable, Iterator, List, NoReturn, Set, Tuple
 
 from . import _library
-from ._library import library, short
+from ._library import BITS, library, number_in, short
 from ._refusals import BadPlace, Denied, NotOpen, refusal, told_by
-from ._values import MOST_NUMBERS, RIGHTS, Counts, Kind, Limits, Rights, Target, Value, number_in
+from ._values import MOST_NUMBERS, RIGHTS, Counts, Kind, Limits, Rights, Target, Value
 from .journal import Entry, entry_of
 
-BITS = 64
-OUT_OF_RANGE = "a number is from 0 to 2^64 - 1"
 NO_VALUE = "a value is a Cell, a Sum, a Max or a Log"
 DENIED = 1
 MAX_VERTICES = 2**24
 FIRST_ROW = 64
 MOST_WORKERS = 64
+MOST_ASKED = 4
 
 # A target of a pair, and rights by their bits, with no call of Python's in between; and the type that a method of Store hides.
 target_of = partial(tuple.__new__, Target)
@@ -29,28 +28,45 @@ list_of = list
 
 
 class _Room:
-    """Where the library writes what it answers."""
+    """What a call asks, and where the library writes what it answers."""
 
     def __init__(self, row: int = FIRST_ROW) -> None:
-        self.row = row
+        # What is put into `asked` must be a number in its range. A call takes it by the cells, which are the same memory: to have
+        # ctypes make an argument of a plain number takes three times as long.
+        self.asked = array("Q", [0] * MOST_ASKED)
+        cells = (_library.Number.from_buffer(self.asked, 8 * at) for at in range(MOST_ASKED))
+        self.first, self.second, self.third, self.fourth = cells
+        self.row, self.row_size = row, c_size_t(row)
         self.numbers = (_library.Number * (2 * row))()
-        self.numbers_at = ctypes.addressof(self.numbers)
+        self.numbers_at = byref(self.numbers)
         self.count = _library.Number()
-        self.count_at = ctypes.addressof(self.count)
+        self.count_at = byref(self.count)
         self.denial = _library.Denial()
-        self.denial_at = ctypes.addressof(self.denial)
-        self.state = (_library.Number * MOST_NUMBERS)()
+        self.denial_at = byref(self.denial)
+        self.state, self.state_size = (_library.Number * MOST_NUMBERS)(), c_size_t(MOST_NUMBERS)
+        self.state_at = byref(self.state)
         self.record = _library.Record()
+        self.record_at = byref(self.record)
 
-    def entry(self, store_at: int, at: int) -> int:
+    def entry(self, store_at: object, at: _library.Number) -> int:
         """Reads the entry at a place of the journal, and answers the status."""
-        record_at, state_at = ctypes.addressof(self.record), ctypes.addressof(self.state)
-        return short.tg_entry(store_at, at, record_at, state_at, MOST_NUMBERS, self.numbers_at, self.row)
+        return short.tg_entry(store_at, at, self.record_at, self.state_at, self.state_size, self.numbers_at, self.row_size)
+
+
+def _number(it: int) -> _library.Number:
+    """A number, which must be in its range, as a call takes it."""
+    return _library.Number(number_in(BITS, it))
 
 
 def _numbers(*numbers: int) -> Tuple[int, ...]:
     """The same numbers, which must be in their range."""
     return tuple(number_in(BITS, it) for it in numbers)
+
+
+def _targets(numbers: List[int]) -> List[Target]:
+    """The edges that stand in a row as numbers."""
+    each = iter(numbers)
+    return list_of(map(target_of, zip(each, map(rights_of, each))))
 
 
 def _raise(status: int, denial: _library.Denial) -> NoReturn:
@@ -74,7 +90,7 @@ class Store:
         store = super().__new__(cls)
         store._lock = RLock()
         store._place = _library.Place()
-        store._at = ctypes.addressof(store._place)
+        store._at = byref(store._place)
         store._room = _Room()
         return store
 
@@ -94,12 +110,7 @@ class Store:
         pairs_in = (_library.Edge * len(pairs))(*pairs)
         with self._lock:
             status = library.tg_open(
-                self._at,
-                ctypes.addressof(values_in),
-                len(values),
-                ctypes.addressof(pairs_in),
-                len(pairs),
-                ctypes.addressof(bounds),
+                self._at, byref(values_in), c_size_t(len(values)), byref(pairs_in), c_size_t(len(pairs)), byref(bounds)
             )
         if status:
             raise refusal(status)
@@ -122,7 +133,7 @@ class Store:
     def __exit__(self, *_exception: object) -> None:
         self.close()
 
-    def __del__(self, close: Callable[[int], int] = library.tg_close) -> None:
+    def __del__(self, close: Callable[[object], int] = library.tg_close) -> None:
         # Nobody has the store any more, so the lock isn't needed. The thread may be any.
         close(self._at)
 
@@ -138,128 +149,103 @@ class Store:
     def __repr__(self) -> str:
         return f"<kovshenul.Store, {'closed' if self.closed else 'open'}>"
 
-    # Each call looks at its numbers together, and takes the lock for as long as it needs the answer's room. The lock may be
-    # taken again by the thread that has it, since a signal's handler or a finalizer may call in between: so a call takes the
-    # room out, and leaves it for the next. It is spelt out in each, since a call more would cost a tenth of it.
+    # The lock may be taken again by the thread that has it, since a signal's handler or a finalizer may call in between: so a call
+    # takes the room out, and leaves it for the next.
 
     def take(self, worker: int, via: int, target: int, rights: int) -> None:
         """The worker takes rights over the target that `via` has."""
-        worker, via, target, rights = index(worker), index(via), index(target), index(rights)
-        if (worker | via | target | rights) >> BITS:
-            raise OverflowError(OUT_OF_RANGE)
-        with self._lock:
-            room, self._room = self._room or _Room(), None
-            status = short.tg_take(self._at, worker, via, target, rights, room.denial_at)
-            self._room = room
-            if status:
-                _raise(status, room.denial)
+        self._decide_via(short.tg_take, worker, via, target, rights)
 
     def grant(self, worker: int, via: int, target: int, rights: int) -> None:
         """The worker grants rights over the target to `via`."""
-        worker, via, target, rights = index(worker), index(via), index(target), index(rights)
-        if (worker | via | target | rights) >> BITS:
-            raise OverflowError(OUT_OF_RANGE)
+        self._decide_via(short.tg_grant, worker, via, target, rights)
+
+    def _decide_via(self, function: Callable[..., int], worker: int, via: int, target: int, rights: int) -> None:
+        """Makes a call that answers nothing but a denial."""
         with self._lock:
             room, self._room = self._room or _Room(), None
-            status = short.tg_grant(self._at, worker, via, target, rights, room.denial_at)
+            asked = room.asked
+            asked[0], asked[1], asked[2], asked[3] = worker, via, target, rights
+            status = function(self._at, room.first, room.second, room.third, room.fourth, room.denial_at)
             self._room = room
             if status:
                 _raise(status, room.denial)
 
     def remove(self, worker: int, target: int, rights: int) -> None:
         """The worker gives up its own rights over the target."""
-        worker, target, rights = index(worker), index(target), index(rights)
-        if (worker | target | rights) >> BITS:
-            raise OverflowError(OUT_OF_RANGE)
-        with self._lock:
-            room, self._room = self._room or _Room(), None
-            status = short.tg_remove(self._at, worker, target, rights, room.denial_at)
-            self._room = room
-            if status:
-                _raise(status, room.denial)
+        self._decide(short.tg_remove, worker, target, rights)
 
     def write(self, worker: int, target: int, value: int) -> None:
         """The worker writes to the target."""
-        worker, target, value = index(worker), index(target), index(value)
-        if (worker | target | value) >> BITS:
-            raise OverflowError(OUT_OF_RANGE)
-        with self._lock:
-            room, self._room = self._room or _Room(), None
-            status = short.tg_write(self._at, worker, target, value, room.denial_at)
-            self._room = room
-            if status:
-                _raise(status, room.denial)
+        self._decide(short.tg_write, worker, target, value)
 
     def append(self, worker: int, target: int, value: int) -> None:
         """The worker adds to the log of the target, by its right to append. What stores no log is left to `write`."""
-        worker, target, value = index(worker), index(target), index(value)
-        if (worker | target | value) >> BITS:
-            raise OverflowError(OUT_OF_RANGE)
+        self._decide(short.tg_append, worker, target, value)
+
+    def _decide(self, function: Callable[..., int], worker: int, target: int, number: int) -> None:
+        """Makes a call that answers nothing but a denial."""
         with self._lock:
             room, self._room = self._room or _Room(), None
-            status = short.tg_append(self._at, worker, target, value, room.denial_at)
+            asked = room.asked
+            asked[0], asked[1], asked[2] = worker, target, number
+            status = function(self._at, room.first, room.second, room.third, room.denial_at)
             self._room = room
             if status:
                 _raise(status, room.denial)
 
     def create(self, worker: int, rights: int, value: Value) -> int:
         """Makes a vertex over which the worker has the rights, and answers its name."""
-        worker, rights = index(worker), index(rights)
-        if (worker | rights) >> BITS:
-            raise OverflowError(OUT_OF_RANGE)
-        try:
-            value_at = value._value_at
-        except AttributeError:
-            raise TypeError(NO_VALUE) from None
-        with self._lock:
-            room, self._room = self._room or _Room(), None
-            status = short.tg_create(self._at, worker, rights, value_at, room.count_at)
-            name = room.count.value
-            self._room = room
-        if status:
-            raise refusal(status)
-        return name
+        return self._make(short.tg_create, worker, rights, value)
 
     def spawn(self, worker: int, rights: int, value: Value) -> int:
         """Makes a worker over which the one who asks has the rights, and answers its name.
 
         It holds nothing until it is granted something. At most 64 workers are active at a time, and no name is used again.
         """
-        worker, rights = index(worker), index(rights)
-        if (worker | rights) >> BITS:
-            raise OverflowError(OUT_OF_RANGE)
+        return self._make(short.tg_spawn, worker, rights, value)
+
+    def _make(self, function: Callable[..., int], worker: int, rights: int, value: Value) -> int:
+        """Makes a call that makes a vertex."""
         try:
             value_at = value._value_at
         except AttributeError:
             raise TypeError(NO_VALUE) from None
-        return self._count(lambda at, name_at: short.tg_spawn(at, worker, rights, value_at, name_at))
+        with self._lock:
+            room, self._room = self._room or _Room(), None
+            asked = room.asked
+            asked[0], asked[1] = worker, rights
+            status = function(self._at, room.first, room.second, value_at, room.count_at)
+            name = room.count.value
+            self._room = room
+        if status:
+            raise refusal(status)
+        return name
 
     def retire(self, worker: int) -> None:
         """The worker retires, and asks for nothing more. Its vertex and its edges stay for as long as a worker reaches them."""
-        worker = number_in(BITS, worker)
+        worker_in = _number(worker)
         with self._lock:
-            status = short.tg_retire(self._at, worker)
+            status = short.tg_retire(self._at, worker_in)
         if status:
             raise refusal(status)
 
     def subjects(self) -> List[int]:
         """The names of the active workers, rising. The journal gets no entry of it."""
         names = (_library.Number * MOST_WORKERS)()
-        names_at = ctypes.addressof(names)
-        count = self._count(lambda at, count_at: short.tg_subjects(at, names_at, MOST_WORKERS, count_at))
+        count = self._count(short.tg_subjects, byref(names), c_size_t(MOST_WORKERS))
         return names[:count]
 
     def read(self, worker: int, target: int) -> List[int]:
         """The state of the target."""
-        worker, target = index(worker), index(target)
-        if (worker | target) >> BITS:
-            raise OverflowError(OUT_OF_RANGE)
         with self._lock:
             room, self._room = self._room or _Room(), None
+            asked = room.asked
+            asked[0], asked[1] = worker, target
             status = short.tg_read(
-                self._at, worker, target, room.numbers_at, MOST_NUMBERS, room.count_at, room.denial_at
+                self._at, room.first, room.second, room.state_at, room.state_size, room.count_at, room.denial_at
             )
-            numbers = room.numbers[: room.count.value]
+            numbers = room.state[: room.count.value]
             self._room = room
             if status:
                 _raise(status, room.denial)
@@ -267,63 +253,53 @@ class Store:
 
     def list(self, worker: int, room: int = FIRST_ROW) -> List[Target]:
         """The worker's edges by rising name. With more than `room` they are listed again, which the journal tells."""
-        worker, row = index(worker), index(room)
-        if (worker | row) >> BITS:
-            raise OverflowError(OUT_OF_RANGE)
         with self._lock:
-            place, self._room = self._room or _Room(), None
-            if place.row < row:
-                place = _Room(min(row, MAX_VERTICES))
-            status = library.tg_list(self._at, worker, place.numbers_at, place.row, place.count_at)
-            count = place.count.value
-            numbers = place.numbers[: 2 * count]
-            self._room = place
-        if status:
-            raise refusal(status)
-        if 2 * count > len(numbers):
-            return self.list(worker, count)
-        each = iter(numbers)
-        return list_of(map(target_of, zip(each, map(rights_of, each))))
+            place = self._room_for(room)
+            place.asked[0] = worker
+            status = library.tg_list(self._at, place.first, place.numbers_at, place.row_size, place.count_at)
+            count, numbers = self._row_in(place, status)
+        return _targets(numbers) if 2 * count == len(numbers) else self.list(worker, count)
 
     def inspect(self, worker: int, target: int, room: int = FIRST_ROW) -> List[Target]:
         """The target's edges by rising name, by the worker's right to inspect it. Room is made for them as by `list`."""
-        worker, target, row = index(worker), index(target), index(room)
-        if (worker | target | row) >> BITS:
-            raise OverflowError(OUT_OF_RANGE)
         with self._lock:
-            place, self._room = self._room or _Room(), None
-            if place.row < row:
-                place = _Room(min(row, MAX_VERTICES))
+            place = self._room_for(room)
+            place.asked[0], place.asked[1] = worker, target
             status = library.tg_inspect(
-                self._at, worker, target, place.numbers_at, place.row, place.count_at, place.denial_at
+                self._at, place.first, place.second, place.numbers_at, place.row_size, place.count_at, place.denial_at
             )
-            count = place.count.value
-            numbers = place.numbers[: 2 * count]
-            self._room = place
-            if status:
-                _raise(status, place.denial)
-        if 2 * count > len(numbers):
-            return self.inspect(worker, target, count)
-        each = iter(numbers)
-        return list_of(map(target_of, zip(each, map(rights_of, each))))
+            count, numbers = self._row_in(place, status)
+        return _targets(numbers) if 2 * count == len(numbers) else self.inspect(worker, target, count)
+
+    def _room_for(self, row: int) -> _Room:
+        """The room, taken out, or a larger one for a row of so many edges."""
+        room, self._room = self._room or _Room(), None
+        room.asked[0] = row
+        row = room.asked[0]
+        return room if row <= room.row else _Room(min(row, MAX_VERTICES))
+
+    def _row_in(self, room: _Room, status: int) -> Tuple[int, List[int]]:
+        """How many edges there are, and those for which there was room, as numbers. The room is left for the next."""
+        count = room.count.value
+        numbers = room.numbers[: 2 * count]
+        self._room = room
+        if status:
+            _raise(status, room.denial)
+        return count, numbers
 
     def label(self, worker: int, target: int) -> Rights:
         """The rights that the worker holds over the target, which may be none. The journal gets no entry of it."""
-        worker, target = index(worker), index(target)
-        if (worker | target) >> BITS:
-            raise OverflowError(OUT_OF_RANGE)
-        return RIGHTS[self._count(lambda at, rights_at: short.tg_label(at, worker, target, rights_at))]
+        return RIGHTS[self._count(short.tg_label, _number(worker), _number(target))]
 
     def collect(self, kind: int = Kind.FULL) -> int:
         """Collects, and answers how many vertices the heap then has."""
-        kind = number_in(32, kind)
-        return self._count(lambda at, left_at: library.tg_collect(at, kind, left_at))
+        return self._count(library.tg_collect, c_uint32(number_in(32, kind)))
 
-    def _count(self, function: Callable[[int, int], int]) -> int:
+    def _count(self, function: Callable[..., int], *words: object) -> int:
         """Makes a call that answers a number."""
         with self._lock:
             room, self._room = self._room or _Room(), None
-            status = function(self._at, room.count_at)
+            status = function(self._at, *words, room.count_at)
             answer = room.count.value
             self._room = room
         if status:
@@ -334,7 +310,7 @@ class Store:
         """What the heap has."""
         counts = _library.Counts()
         with self._lock:
-            status = library.tg_census(self._at, ctypes.addressof(counts))
+            status = library.tg_census(self._at, byref(counts))
         if status:
             raise refusal(status)
         return Counts(counts.vertices, counts.payloads, counts.blocks)
@@ -344,7 +320,7 @@ class Store:
         with self._lock:
             room = self.census().vertices
             names = (_library.Number * room)()
-            self._count(lambda at, count_at: library.tg_names(at, ctypes.addressof(names), room, count_at))
+            self._count(library.tg_names, byref(names), c_size_t(room))
         return set(names)
 
     def entries(self) -> int:
@@ -353,15 +329,13 @@ class Store:
 
     def entry(self, at: int) -> Entry:
         """The journal's entry at this place, counted from 0. It never changes, and to read it makes none."""
-        at = index(at)
-        if at >> BITS:
-            raise OverflowError(OUT_OF_RANGE)
+        at_in = _number(at)
         with self._lock:
             room, self._room = self._room or _Room(), None
-            status = room.entry(self._at, at)
+            status = room.entry(self._at, at_in)
             if not status and room.row < room.record.edge_count:
                 room = _Room(room.record.edge_count)
-                status = room.entry(self._at, at)
+                status = room.entry(self._at, at_in)
             entry = None if status else entry_of(room.record, room.state, room.numbers)
             self._room = room
         if entry is None:

@@ -1,23 +1,15 @@
 """The numbers that a call takes and answers, under names."""
 from __future__ import annotations
 
-from ctypes import addressof
+from ctypes import byref
 from dataclasses import astuple, dataclass
 from enum import IntEnum, IntFlag
-from operator import index
 from typing import NamedTuple, Tuple
 
 from . import _library
+from ._library import number_in
 
 MOST_NUMBERS = 64
-
-
-def number_in(bits: int, it: int) -> int:
-    """The same number, which must be from 0 on and have at most so many bits."""
-    it = index(it)
-    if it >> bits:
-        raise OverflowError(f"a number is from 0 to 2^{bits} - 1")
-    return it
 
 
 class Rights(IntFlag):
@@ -69,7 +61,7 @@ class Value:
         """Keeps it as the library takes it, and where that stands."""
         asked = _library.Value(law, most, first)
         object.__setattr__(self, "_asked", asked)
-        object.__setattr__(self, "_value_at", addressof(asked))
+        object.__setattr__(self, "_value_at", byref(asked))
 
     def __reduce__(self) -> Tuple[type, Tuple[int, ...]]:
         # A copy is made anew, with a place of its own.

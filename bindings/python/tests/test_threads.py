@@ -4,10 +4,13 @@ import sys
 import threading
 import unittest
 
-from kovshenul import READ, WRITE, Cell, Limits, NotOpen, Store, Sum
+from kovshenul import INSPECT, READ, WRITE, Cell, Denied, Limits, NotOpen, Store, Sum, Target
 
 THREADS = 8
 ROUNDS = 2_000
+
+# How many vertices a thread holds that looks at its row.
+ROW = 70
 
 
 def add_up(store, worker, rounds, wrong):
@@ -22,21 +25,68 @@ def add_up(store, worker, rounds, wrong):
             wrong.append((worker, name))
 
 
+def look(store, worker, rounds, wrong):
+    """Makes vertices and gives them up, and notes each answer of a call that only looks which isn't of its own row."""
+    held, other = [], (worker + 1) % THREADS
+    for number in range(rounds):
+        held.append(store.create(worker, READ, Cell(number)))
+        if len(held) > ROW:
+            store.remove(worker, held.pop(0), READ)
+        row = [Target(other, INSPECT), *(Target(name, READ) for name in held)]
+        row.sort()
+        names = store.names()
+        looks = [
+            store.list(worker) == row,
+            store.list(worker, room=number % ROW) == row,
+            names.issuperset(held) and names.issuperset(range(THREADS)),
+            store.label(worker, held[-1]) == READ,
+            store.subjects() == list(range(THREADS)),
+            store.read(worker, held[-1]) == [number],
+            all(rights in (INSPECT, READ) for _, rights in store.inspect(worker, other)),
+            is_denied(store, worker, held[-1], number),
+            store.census().vertices >= THREADS + len(held),
+            store.entry(number) == store.entry(number),
+        ]
+        if not all(looks):
+            wrong.append((worker, number, looks))
+
+
+def is_denied(store, worker, name, number):
+    """Whether the denial of a write is of this very write."""
+    try:
+        store.write(worker, name, number)
+    except Denied as denial:
+        return (denial.edge, denial.rights, denial.rule) == ((worker, name), WRITE, "write")
+    return False
+
+
 class Threads(unittest.TestCase):
-    def test_each_reads_its_own_last_sum(self):
+    def assert_right(self, store, work, rounds):
+        """Has each thread work as a worker of its own, while this one collects."""
         wrong = []
+        threads = [threading.Thread(target=work, args=(store, i, rounds, wrong)) for i in range(THREADS)]
+        for thread in threads:
+            thread.start()
+        while any(thread.is_alive() for thread in threads):
+            store.collect()
+            threads[0].join(0.01)
+        for thread in threads:
+            thread.join()
+        self.assertEqual(wrong, [])
+        self.assertEqual(store.audit(), store.entries())
+
+    def test_each_reads_its_own_last_sum(self):
         with Store([Cell(0)] * THREADS, [], Limits(1000, 64, 64)) as store:
-            threads = [threading.Thread(target=add_up, args=(store, i, ROUNDS, wrong)) for i in range(THREADS)]
-            for thread in threads:
-                thread.start()
-            while any(thread.is_alive() for thread in threads):
-                store.collect()
-                threads[0].join(0.01)
-            for thread in threads:
-                thread.join()
-            self.assertEqual(wrong, [])
+            self.assert_right(store, add_up, ROUNDS)
             self.assertEqual(store.entries(), THREADS * (1 + 2 * ROUNDS))
-            self.assertEqual(store.audit(), store.entries())
+
+    def test_each_sees_its_own_row(self):
+        rounds = max(1, ROUNDS // 10)
+        edges = [(i, (i + 1) % THREADS, INSPECT) for i in range(THREADS)]
+        with Store([Cell(0)] * THREADS, edges, Limits(2**20, 4096, 4096)) as store:
+            self.assert_right(store, look, rounds)
+            store.collect()
+            self.assertEqual(len(store.names()), THREADS + sum(len(store.list(i)) - 1 for i in range(THREADS)))
 
     def test_one_closes_while_others_call(self):
         for _ in range(20):

@@ -237,6 +237,22 @@ class Stores(unittest.TestCase):
             for call, *arguments in ((store.append, 7, log, 5), (store.inspect, 7, 0)):
                 self.assertRaises(NoSuchWorker, call, *arguments)
 
+    def test_numbers_arrive_whole(self):
+        with opened() as store:
+            for number in (255, 4096, 2**31, 2**32 + 1, 2**63, 2**64 - 1):
+                self.assert_denied(f"t is missing on 0->{number}", store.take, 0, number, 1, READ)
+                self.assert_denied(f"r is missing on 0->{number}", store.grant, 0, 1, number, READ)
+                self.assert_denied(f"r is missing on 0->{number}", store.remove, 0, number, READ)
+                self.assert_denied(f"r is missing on 0->{number}", store.read, 0, number)
+                self.assert_denied(f"w is missing on 0->{number}", store.write, 0, number, number)
+                self.assertEqual(store.label(0, number), 0)
+                for call, *arguments in ((store.list, number), (store.label, number, 1), (store.create, number, READ, Cell(0))):
+                    self.assertRaises(NoSuchWorker, call, *arguments)
+                self.assertRaises(kovshenul.BadPlace, store.entry, number)
+                cell = store.create(0, READ | WRITE, Max(0))
+                store.write(0, cell, number)
+                self.assertEqual(store.read(0, cell), [number])
+
     def test_rights_without_a_command_are_handed_on(self):
         with opened() as store:
             name = store.create(0, FREE_U | FREE_V, Cell(0))
@@ -323,7 +339,8 @@ class Stores(unittest.TestCase):
 
             with store._lock:
                 del [Counted()][:]
-                self.assertEqual(store.read(0, Counted()), [3])
+                # The number of it is asked for before the store is, and it goes when the call has ended.
+                self.assertEqual(store.read(0, Counted()), [2])
             self.assertEqual(store.read(0, cell), [3])
 
 
