@@ -1,10 +1,17 @@
-"""Commands a second from Python: speed.py CALLS prints a line for each kind, with the millions of calls in a second of processor time."""
+"""Commands a second from Python: speed.py CALLS prints a line for each kind, with the millions of calls in a second of processor time.
+
+speed.py CALLS MARKS has callgrind write down the instructions of each kind instead, by the library MARKS (instructions.py).
+"""
+import ctypes
 import sys
 from time import process_time
 
 from kovshenul import GRANT, READ, WRITE, Cell, Denied, Edge, Limits, Store
 
 LIMITS = Limits(2**24, 65536, 2**20)
+
+# Calls that aren't counted: the interpreter fits its code to what it meets.
+WARM = 300
 
 
 def denied(store, document):
@@ -30,16 +37,28 @@ def kinds(document):
     }
 
 
-def speed_of(kind, calls):
-    """A store of its own for each kind, with a row of two edges."""
+def run(kind, calls, ended):
+    """Makes the calls on a store of its own, with a row of two edges. What is told when they begin and when they have ended."""
     with Store([Cell(0), Cell(0)], [Edge(0, 1, GRANT)], LIMITS) as store:
         document = store.create(0, READ | WRITE, Cell(0))
         call = kinds(document)[kind]
-        start = process_time()
+        for _ in range(WARM):
+            call(store)
+        start = ended(b"before")
         for _ in range(calls):
             call(store)
-        return calls / (process_time() - start) / 1e6
+        return start, ended(kind.encode())
 
 
-for kind in kinds(0):
-    print(f"{kind} {speed_of(kind, int(sys.argv[1])):.3f}")
+def main(calls, *marks):
+    if marks:
+        mark = ctypes.CDLL(*marks).mark
+        for kind in kinds(0):
+            run(kind, calls, mark)
+        return
+    for kind in kinds(0):
+        start, end = run(kind, calls, lambda _: process_time())
+        print(f"{kind} {calls / (end - start) / 1e6:.3f}")
+
+
+main(int(sys.argv[1]), *sys.argv[2:])

@@ -1,0 +1,54 @@
+#!/usr/bin/env python3
+"""instructions.py [FOLDER]: how many instructions a call from Python takes, through the library that bindings/check has built.
+
+They are counted by callgrind over the whole interpreter, so other work on the machine doesn't matter. FOLDER has another module
+kovshenul, as an older one, whose numbers stand beside. It wants valgrind with its headers, and a C compiler.
+"""
+import os
+import re
+import subprocess
+import sys
+import tempfile
+from pathlib import Path
+
+HERE = Path(__file__).resolve().parent
+BINDINGS = HERE.parent.parent / "bindings"
+CALLS = 1000
+
+
+def counted(module, marks, room):
+    """The instructions of a call, by its kind."""
+    environment = {
+        **os.environ,
+        "PYTHONPATH": str(module),
+        "PYTHONHASHSEED": "0",
+        "PYTHONDONTWRITEBYTECODE": "1",
+        "KOVSHENUL_LIBRARY": str(next((BINDINGS / "out").glob("libkovshenul.so.*"))),
+    }
+    room.mkdir()
+    words = ["valgrind", "--tool=callgrind", f"--callgrind-out-file={room}/counts", sys.executable]
+    subprocess.run([*words, HERE / "speed.py", str(CALLS), marks], env=environment, check=True, capture_output=True)
+    found = {}
+    for text in (part.read_text() for part in sorted(room.glob("counts.*"), key=lambda it: int(it.suffix[1:]))):
+        if kind := re.search(r"Client Request: (\w+)", text):
+            found[kind[1]] = int(re.search(r"^(?:totals|summary): (\d+)", text, re.M)[1]) / CALLS
+    del found["before"]
+    return found
+
+
+def main():
+    with tempfile.TemporaryDirectory() as name:
+        marks = Path(name) / "marks.so"
+        words = [os.environ.get("CC", "cc"), "-O2", "-fPIC", "-shared", "-o", marks, HERE / "mark.c"]
+        subprocess.run(words, check=True)
+        rows = {"Python": counted(BINDINGS / "python", marks, Path(name) / "this")}
+        if len(sys.argv) > 1:
+            rows["Python, other"] = counted(sys.argv[1], marks, Path(name) / "other")
+    kinds = list(rows["Python"])
+    print(f"| | {' | '.join(kinds)} |\n|{'---|' * (len(kinds) + 1)}")
+    for language, counts in rows.items():
+        print(f"| {language} | {' | '.join(f'{counts[kind]:,.0f}' for kind in kinds)} |")
+
+
+if __name__ == "__main__":
+    main()
