@@ -76,9 +76,12 @@ class Race:
         boxes = iter(boxes_of(script.words[script.words.index("--stock") + 1]))
         self.own = {x: [] for x in self.workers}
         self.entries = 0
+        # Whether each line of a name that has no thread is refused.
+        self.are_others_refused = True
         for line, reply in zip(script.lines, replies):
             box = next(boxes, None) if " create " in line or " spawn " in line else None
             x, *words = line.split() if " " in line else ("0", line)
+            self.are_others_refused &= int(x) in self.own or reply == b"refused worker"
             if reply not in refusals and int(x) in self.own:
                 self.own[int(x)].append((words, reply.decode(), box))
                 self.entries += words[0] not in ("full", "minor") and reply not in (b"refused stock", b"refused worker")

@@ -157,6 +157,8 @@ def what_is_wrong_in_order(script, replies, end):
     if len(replies) > MOST_LINES:
         return None
     race = Race(script, replies, REFUSALS)
+    if not race.are_others_refused:
+        return "a line of a name without a thread that is told something else than `refused worker`"
     if end != b"entries %d audit ok" % race.entries:
         return f"a race of {race.entries} entries that ends in {end}"
     found = has_order(race)
