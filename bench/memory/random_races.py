@@ -6,7 +6,7 @@ thread, or lack a box. Of each output what_is_wrong of runs.py is asked: whether
 reply, and each line of a name without a thread is told `refused worker`. In ten of the outputs a wrong reply is then planted, and has to be
 found. With --stay no script has a retire or a name without a thread, and nobody may be told `refused worker`.
 
-It prints what the races had, and stops at the first that is wrong, with its script. PROGRAM is crates/tgstore/out/tgstore unless it is given."""
+It prints what the races had, and stops at the first that is wrong, with its script. FILE is crates/tgstore/out/tgstore unless it is given."""
 import argparse
 import collections
 import random
