@@ -15,12 +15,10 @@ use Rattle.indexmap.proofs.MapLemmas.{Found-position}
 use Rattle.indexmap.proofs.ReorderLemmas.{exchange, exchange-within, get_or-swap}
 use Rattle.indexmap.specs.Layout.{length-set_value_at, set_value_at}
 use Rattle.tg_word.specs.declared.Place.{Place}
-use Rattle.tg_space.specs.SpaceList.{SpaceList}
 use Rattle.tg_space.specs.Targets.{from_space}
 use Rattle.tg_space.specs.declared.kind.Kind.{Kind}
 use Rattle.tg_space.specs.declared.kind.Kind.TheVariants.{Full, Nursery}
-use Rattle.tg_graph.specs.Index.{AreAged, HasIndexAt, IsAged, IsOldPlace, IsOldRow}
-use Rattle.tg_graph.specs.Kept.{moved_place}
+use Rattle.tg_graph.specs.Index.{AreAged, HasIndexAt, IsAged, IsOldPlace, IsOldRow, followed_place}
 use Rattle.tg_graph.specs.declared.index.IndexedRow.{IndexedRow}
 
 -- one more of the first
@@ -33,10 +31,10 @@ one_more {X = X} P xs n d low all here =
     one (suc k) e in_one = absurd (omega arith)
 
 -- cells of Old stay in a nursery collection, and none is asked about in a full one
-pub stay : (kind : Kind) (h : SpaceList) (to : ℕ → Place) (cells front : List Place) (first : ℕ) → (kind ≡ Full → first ≡ 0) → All IsOldPlace (take first cells) → front ≡ take first cells → All (λ p. moved_place (from_space kind) h to p ≡ p) front
-stay Nursery h to cells front first full old is k d low =
+pub stay : (kind : Kind) (starts : List ℕ) (to : ℕ → Place) (cells front : List Place) (first : ℕ) → (kind ≡ Full → first ≡ 0) → All IsOldPlace (take first cells) → front ≡ take first cells → All (λ p. followed_place (from_space kind) starts to p ≡ p) front
+stay Nursery starts to cells front first full old is k d low =
     let here : from_space Nursery (get_or front k d).space ≡ false = subst (All IsOldPlace) (sym is) old k d low in rw here refl
-stay Full h to cells front first full old is k d low =
+stay Full starts to cells front first full old is k d low =
     let none : length front ≡ 0 = ap (λ (ps : List Place). length ps) is ∙ ap (λ n. length (take n cells)) (full refl) in absurd (omega (arith, none))
 
 pub map_same : (f : Place → Place) (ps : List Place) → All (λ p. f p ≡ p) ps → map f ps ≡ ps
@@ -196,19 +194,6 @@ module _ (es later : Entries) (old at : ℕ) (aged : AreAged es old) (low : at <
         here = slice_get-get_or later (old - 1) e (omega (arith, long)) ∙ ap (λ (x : Entry). Some x) (read (old - 1) e ∙ ap (λ k. get_or es k e) place ∙ slice_get_is es at e was.here);
         found = same name ∙ was.found;
       }
-
--- the index that was added stands behind all others
-pub added_there : (es later : Entries) (old : ℕ) → AreAged es old → (name : ℕ) (row : IndexedRow) → later ≡ es ++ (name, row) ∷ [] → lookup (nat_eq name) later ≡ Some row → (old ≤ length es) × HasIndexAt later name (length es)
-added_there es later old aged name row is found = (
-  aged.within,
-  record {
-    row = row;
-    here = ap (λ (l : Entries). slice_get l (length es)) is
-        ∙ slice_get-get_or (es ++ (name, row) ∷ []) (length es) (name, row) (omega (arith, length-append es ((name, row) ∷ [])))
-        ∙ ap (λ (e : Entry). Some e) (get_or-append_seam es (name, row) [] (name, row));
-    found = found;
-  },
-)
 
 -- a chunk at the end of a row changes nothing of the first cells
 pub grown_aged : (row later : IndexedRow) (chunk : Place) → IsAged row → later.cells.items ≡ row.cells.items ++ chunk ∷ [] → later.old_cells ≡ row.old_cells → IsAged later

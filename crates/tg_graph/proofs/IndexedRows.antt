@@ -1,5 +1,5 @@
 -- The indexes of a heap's rows, once one row was changed.
-use Rattle.std.proofs.Common.{◌≡◌, ◌≢◌, ℕ, Bool, true, false, cond, List, [], Option, Some, None, nat_eq, refl, sym, ap, subst, ◌∙◌}
+use Rattle.std.proofs.Common.{◌≡◌, ◌≢◌, ℕ, Bool, true, false, cond, List, [], Option, Some, None, is_some, nat_eq, refl, sym, ap, subst, ◌∙◌}
 use Rattle.std.specs.Map.{lookup}
 use Rattle.std.proofs.lemmas.Bool.Decides.{Decides-eqb}
 use Rattle.tg_word.specs.declared.Place.{Place}
@@ -8,12 +8,14 @@ use Rattle.tg_space.specs.SpaceList.{SpaceList}
 use Rattle.tg_space.specs.Soundness.{IsKindAt}
 use Rattle.tg_payload.specs.Table.{Payloads}
 use Rattle.tg_graph.specs.Heap.{IsGraph}
-use Rattle.tg_graph.specs.Index.{AreIndexed, IsIndexed, IsQuiet, IsRowIndex, KeepsOtherIndexes}
+use Rattle.tg_graph.specs.Index.{AreIndexed, IsIndexed, IsQuiet, IsRowIndex, KeepsOtherIndexes, MayIndex, SameIndexed, indexed_in}
 use Rattle.tg_graph.specs.Rows.{IsVertexAt, name_at}
 use Rattle.tg_graph.specs.declared.index.IndexedRow.{IndexedRow}
+use Rattle.indexmap.specs.Layout.{set_value_at}
+use Rattle.tg_graph.proofs.FollowedRows.{same_some}
 use Rattle.tg_graph.proofs.Quiet.{KeepsOthersQuiet}
 
-abbrev Entries : Type 0
+abbrev pub Entries : Type 0
 Entries = List (ℕ × IndexedRow)
 
 -- the index under the name of an object is that of its row
@@ -61,3 +63,37 @@ module _ (h after : SpaceList) (vertices : (x : ℕ) (p : Place) → IsVertexAt 
 pub no_indexes : (h : SpaceList) (remembered : List Place) (rows : Entries) → rows ≡ [] → AreIndexed h remembered rows
 no_indexes h remembered rows none name row found =
     let nothing : ◌≡◌ {A = Option IndexedRow} None (Some row) = subst (λ (es : Entries). lookup (nat_eq name) es ≡ Some row) none found in absurd cc
+
+-- ---- which names have an index
+
+pub entries_indexed : (rows later : Entries) → later ≡ rows → SameIndexed rows later
+entries_indexed rows later same name = ap (λ (es : Entries). indexed_in es name) same
+
+pub looked_indexed : (rows later : Entries) → ((q : ℕ) → lookup (nat_eq q) later ≡ lookup (nat_eq q) rows) → SameIndexed rows later
+looked_indexed rows later same name = ap (λ (o : Option IndexedRow). is_some o) (same name)
+
+pub written_indexed : (rows es : Entries) (at : ℕ) (row : IndexedRow) → SameIndexed rows es → SameIndexed rows (set_value_at es at row)
+written_indexed rows es at row same name = same_some name es at row ∙ same name
+
+pub may_index : (own : ℕ) (rows later : Entries) → SameIndexed rows later → MayIndex own rows later
+may_index own rows later same = record { kept = λ yes. same own ∙ yes; others = λ x other. same x }
+
+pub may_index_after : (own : ℕ) (rows mid later : Entries) → SameIndexed rows mid → MayIndex own mid later → MayIndex own rows later
+may_index_after own rows mid later same then = record { kept = λ yes. then.kept (same own ∙ yes); others = λ x other. then.others x other ∙ same x }
+
+pub same_after : (rows mid later : Entries) → SameIndexed rows mid → SameIndexed mid later → SameIndexed rows later
+same_after rows mid later first then name = then name ∙ first name
+
+-- the index that was added
+module _ (own : ℕ) (rows later : Entries) (row : IndexedRow) (added : (q : ℕ) → lookup (nat_eq q) later ≡ cond (nat_eq own q) (Some row) (lookup (nat_eq q) rows)) where
+  pub added_here : indexed_in later own ≡ true
+  added_here =
+      let same : nat_eq own own ≡ true = (Decides-eqb own own).1 refl in
+      ap (λ (o : Option IndexedRow). is_some o) (added own) ∙ ap (λ (b : Bool). is_some (cond b (Some row) (lookup (nat_eq own) rows))) same
+
+  pub added_index : MayIndex own rows later
+  added_index = record { kept = λ yes. added_here; others = λ x other. by_test x other (nat_eq own x) refl }
+    where
+      by_test : (x : ℕ) → x ≢ own → (b : Bool) → nat_eq own x ≡ b → indexed_in later x ≡ indexed_in rows x
+      by_test x other true same = absurd (other (sym ((Decides-eqb own x).0 same)))
+      by_test x other false apart = ap (λ (o : Option IndexedRow). is_some o) (added x) ∙ ap (λ (b : Bool). is_some (cond b (Some row) (lookup (nat_eq x) rows))) apart

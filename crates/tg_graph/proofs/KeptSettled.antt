@@ -17,12 +17,13 @@ use Rattle.tg_space.specs.declared.kind.Kind.{Kind}
 use Rattle.tg_space.specs.declared.kind.Kind.TheVariants.{Full, Nursery}
 use Rattle.tg_space.proofs.Tables.{table_list}
 use Rattle.tg_payload.specs.Table.{entry}
+use Rattle.tg_graph.specs.declared.index.IndexedRow.{IndexedRow}
 use Rattle.tg_graph.specs.declared.settle.Rewritten.{Rewritten}
 use Rattle.tg_graph.specs.Heap.{HeapState, IsWellFormed, roots_of}
 use Rattle.tg_graph.specs.Kept.{AreWritten, Drops, IsDeadKey, moved_place, rewritten_at}
 use Rattle.tg_graph.proofs.KeptAdopted.{adopted_length}
 use Rattle.tg_graph.proofs.KeptDropped.{dead_some, dropped_keeps, drops_same}
-use Rattle.tg_graph.proofs.KeptHeap.{ArePlaced, IsLeft, forward_in_range, left_by}
+use Rattle.tg_graph.proofs.KeptHeap.{AreIndexesFollowed, ArePlaced, IsLeft, forward_in_range, left_by}
 use Rattle.tg_graph.proofs.KeptWritten.{after_adopted, after_written, cells_held}
 
 -- the items of a list that were mapped in place
@@ -43,9 +44,9 @@ module _ (s seen : HeapState) (same : s ≡ seen) (is : IsWellFormed s) (table :
 
   -- a full collection
   pub full_left : IsCollection Full seen.table.spaces (roots_of Full seen) forward aged old notes → (now : HeapState) → now.table ≡ with_adopted s.table Full aged old → IsSpaceTable now.table →
-      Drops s.payloads now.payloads (IsDeadKey Full h forward) → ArePlaced s.subjects now.subjects (map (moved_place (from_space Full) h (new_place forward)) (places_of s.subjects)) → now.remembered ≡ notes → IsLeft Full forward notes seen now
-  full_left collected now adopted_as table_now drops placed remembered =
-      subst (λ (before : HeapState). IsLeft Full forward notes before now) same
+      Drops s.payloads now.payloads (IsDeadKey Full h forward) → ArePlaced s.subjects now.subjects (map (moved_place (from_space Full) h (new_place forward)) (places_of s.subjects)) → now.remembered ≡ notes → (later : List (ℕ × IndexedRow)) → AreIndexesFollowed Full s forward notes now later → IsLeft Full forward notes seen now later
+  full_left collected now adopted_as table_now drops placed remembered later follows =
+      subst (λ (before : HeapState). IsLeft Full forward notes before now later) same
       (left_by Full s now is table forward aged old notes (collected_here Full collected)
       (record {
         after = after_adopted s is forward aged old now.table table_now (ap (λ (t : SpaceTable). t.spaces) adopted_as);
@@ -55,7 +56,8 @@ module _ (s seen : HeapState) (same : s ≡ seen) (is : IsWellFormed s) (table :
         payloads = dropped_keeps h (table_list s.table table) forward s.payloads is.graph Full now.payloads drops;
         placed = placed;
         remembered = remembered;
-      }))
+      })
+      later follows)
 
   -- what a nursery collection asks of the steps that change the heap
   pub words_in_range : IsCollection Nursery seen.table.spaces (roots_of Nursery seen) forward aged old notes → length aged ≤ 2 ^ 20 → All (λ word. IsPlace (place_in word)) forward
@@ -74,10 +76,10 @@ module _ (s seen : HeapState) (same : s ≡ seen) (is : IsWellFormed s) (table :
 
   -- a nursery collection
   pub nursery_left : IsCollection Nursery seen.table.spaces (roots_of Nursery seen) forward aged old notes → (now : HeapState) (t : SpaceTable) (cells : List Rewritten) (keys : List ℕ) → t ≡ with_adopted s.table Nursery aged old → cells ≡ map (rewritten_at h forward) s.remembered → AreWritten t now.table cells → IsSpaceTable now.table →
-      ((key : ℕ) → Contains keys key ↔ IsDeadKey Nursery h forward key) → Drops s.payloads now.payloads (Contains keys) → ArePlaced s.subjects now.subjects (map (moved_place (from_space Nursery) h (new_place forward)) (places_of s.subjects)) → now.remembered ≡ notes → IsLeft Nursery forward notes seen now
-  nursery_left collected now t cells keys adopted_as are written table_now dead drops placed remembered =
+      ((key : ℕ) → Contains keys key ↔ IsDeadKey Nursery h forward key) → Drops s.payloads now.payloads (Contains keys) → ArePlaced s.subjects now.subjects (map (moved_place (from_space Nursery) h (new_place forward)) (places_of s.subjects)) → now.remembered ≡ notes → (later : List (ℕ × IndexedRow)) → AreIndexesFollowed Nursery s forward notes now later → IsLeft Nursery forward notes seen now later
+  nursery_left collected now t cells keys adopted_as are written table_now dead drops placed remembered later follows =
       let all_written : AreWritten (with_adopted s.table Nursery aged old) now.table (map (rewritten_at h forward) s.remembered) = subst (λ (cs : List Rewritten). AreWritten (with_adopted s.table Nursery aged old) now.table cs) are (subst (λ (u : SpaceTable). AreWritten u now.table cells) adopted_as written) in
-      subst (λ (before : HeapState). IsLeft Nursery forward notes before now) same
+      subst (λ (before : HeapState). IsLeft Nursery forward notes before now later) same
       (left_by Nursery s now is table forward aged old notes (collected_here Nursery collected)
       (record {
         after = after_written s is forward aged old now.table table_now all_written;
@@ -87,4 +89,5 @@ module _ (s seen : HeapState) (same : s ≡ seen) (is : IsWellFormed s) (table :
         payloads = dropped_keeps h (table_list s.table table) forward s.payloads is.graph Nursery now.payloads (drops_same s.payloads now.payloads (Contains keys) (IsDeadKey Nursery h forward) drops dead);
         placed = placed;
         remembered = remembered;
-      }))
+      })
+      later follows)

@@ -21,8 +21,7 @@ use Rattle.tg_space.specs.declared.kind.Kind.TheVariants.{Full as FullKind, Nurs
 use Rattle.tg_payload.specs.Table.{Payloads}
 use Rattle.tg_index.specs.Slots.{Slots, IsFirstVacant}
 use Rattle.tg_graph.specs.Heap.{IsGraph}
-use Rattle.tg_graph.specs.Index.{IsOldPlace, IsPlaceOf, IsQuiet, IsQuietCell, IsRowIndex, known_notes, row_slots}
-use Rattle.tg_graph.specs.Kept.{moved_place}
+use Rattle.tg_graph.specs.Index.{IsOldPlace, IsPlaceOf, IsQuiet, IsQuietCell, IsRowIndex, known_notes, row_slots, followed_place}
 use Rattle.tg_graph.specs.Rows.{IsRow, name_at}
 use Rattle.tg_graph.specs.Spots.{IsMadeInRow, IsNoteIn, IsPutInRow, IsSpotFor, note_for, old_cell_if, with_note}
 use Rattle.tg_graph.specs.declared.index.IndexedRow.{IndexedRow}
@@ -101,23 +100,23 @@ quiet_noted places note row later same fewer apart is =
         )
 
 -- the quiet cells stay where they are, and none of them comes to be remembered
-pub quiet_moved : (kind : Kind) (h : SpaceList) (to : ℕ → Place) (notes : List Place) (row : IndexedRow) (known : ℕ) → (kind ≡ FullKind → known ≡ 0) → (kind ≡ Nursery → known ≡ row.quiet_cells) → IsQuiet (known_notes kind notes) row → (cells : List Place) →
-    cells ≡ map (moved_place (from_space kind) h to) row.cells.items → (known ≤ length cells) × All (IsQuietCell notes) (take known cells)
-quiet_moved FullKind h to notes row known full nursery is cells moved =
+pub quiet_moved : (kind : Kind) (starts : List ℕ) (to : ℕ → Place) (notes : List Place) (row : IndexedRow) (known : ℕ) → (kind ≡ FullKind → known ≡ 0) → (kind ≡ Nursery → known ≡ row.quiet_cells) → IsQuiet (known_notes kind notes) row → (cells : List Place) →
+    cells ≡ map (followed_place (from_space kind) starts to) row.cells.items → (known ≤ length cells) × All (IsQuietCell notes) (take known cells)
+quiet_moved FullKind starts to notes row known full nursery is cells moved =
     let none = full refl in (omega (arith, none), subst (λ n. All (IsQuietCell notes) (take n cells)) (sym none) (All-nil (IsQuietCell notes)))
-quiet_moved Nursery h to notes row known full nursery is cells moved =
+quiet_moved Nursery starts to notes row known full nursery is cells moved =
     let same = nursery refl in
     let within = is.within in
-    let long = ap (λ (ps : List Place). length ps) moved ∙ length-map row.cells.items (moved_place (from_space Nursery) h to) in (
+    let long = ap (λ (ps : List Place). length ps) moved ∙ length-map row.cells.items (followed_place (from_space Nursery) starts to) in (
       omega (arith, same, within, long),
       λ k d low.
           let before : k < known = first_below cells known k low in
           let here = quiet_at notes row is k d (omega (arith, same)) in
-          let stays : moved_place (from_space Nursery) h to (get_or row.cells.items k d) ≡ get_or row.cells.items k d = stay (get_or row.cells.items k d) here.0 in
-          subst (IsQuietCell notes) (sym (get_or-take known cells k d before ∙ ap (λ (ps : List Place). get_or ps k d) moved ∙ get_or-map (moved_place (from_space Nursery) h to) row.cells.items k d d (omega (arith, same)) ∙ stays)) here,
+          let stays : followed_place (from_space Nursery) starts to (get_or row.cells.items k d) ≡ get_or row.cells.items k d = stay (get_or row.cells.items k d) here.0 in
+          subst (IsQuietCell notes) (sym (get_or-take known cells k d before ∙ ap (λ (ps : List Place). get_or ps k d) moved ∙ get_or-map (followed_place (from_space Nursery) starts to) row.cells.items k d d (omega (arith, same)) ∙ stays)) here,
     )
   where
-    stay : (p : Place) → IsOldPlace p → moved_place (from_space Nursery) h to p ≡ p
+    stay : (p : Place) → IsOldPlace p → followed_place (from_space Nursery) starts to p ≡ p
     stay p old = rw old refl
 
 -- ---- which cell is noted

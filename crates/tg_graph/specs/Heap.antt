@@ -1,5 +1,5 @@
 -- What contracts see of a `Heap`, when it is well formed, and its content.
-use Rattle.std.specs.Prelude.{◌≡◌, ◌↔◌, ℕ, ◌≤◌, ◌==◌, ◌++◌, List, [], ◌∷◌, Option, Some, None, IsSome, length, map}
+use Rattle.std.specs.Prelude.{◌≡◌, ◌≢◌, ◌↔◌, ◌<◌, ℕ, ◌≤◌, ◌==◌, ◌++◌, List, [], ◌∷◌, Option, Some, None, IsSome, length, map}
 use Rattle.std.specs.List.{All, Contains, IsDistinct}
 use Rattle.tg_rights.specs.RightSet.{RightSet, no_rights}
 use Rattle.tg_model.specs.declared.value.Value.{Value}
@@ -24,15 +24,17 @@ use Rattle.tg_payload.specs.Table.{Payloads, entry}
 use Rattle.tg_graph.specs.declared.heap.Found.{Found}
 use Rattle.tg_graph.specs.Content.{Content}
 use Rattle.tg_graph.specs.Rows.{IsChain, IsVertexAt, key_at, name_at, names_in, object_named, objects_of, rights_to, row_words}
-use Rattle.tg_space.specs.Rows.{chunks_from, link_at}
+use Rattle.tg_space.specs.Rows.{chunks_from, link_at, row_of}
+use Rattle.tg_graph.specs.declared.rows.TheConstants.{SHORT}
 
--- The cells of all spaces, the table of payloads, the active subjects by rising name, and which cells of Old are
--- remembered, in the order in which they were noted.
+-- The cells of all spaces, the table of payloads, the active subjects by rising name, which cells of Old are
+-- remembered, in the order in which they were noted, and the names of the vertices of which the row has an index.
 pub record HeapState : Type 0 where
   pub table : SpaceTable
   pub payloads : Payloads
   pub subjects : List Subject
   pub remembered : List Place
+  pub indexed : List ℕ
 
 -- ---- active subjects
 
@@ -130,6 +132,7 @@ pub record IsUnchangedHeap (old new : HeapState) : Type 0 where
   pub entries : new.payloads.entries ≡ old.payloads.entries
   pub subjects : new.subjects ≡ old.subjects
   pub remembered : new.remembered ≡ old.remembered
+  pub indexed : new.indexed ≡ old.indexed
 
 -- ---- what a call finds, and what it keeps
 
@@ -154,6 +157,17 @@ pub record KeepsPlaces (old new : HeapState) : Type 0 where
   pub subjects : new.subjects ≡ old.subjects
   pub limits : new.table.limits ≡ old.table.limits
   pub vertices : (x : ℕ) (p : Place) → IsVertexAt old.table.spaces x p → IsVertexAt new.table.spaces x p
+
+-- the row of the object at a place has more cells than may be walked along
+abbrev pub IsLongRow : SpaceList → Place → Type 0
+IsLongRow h p = SHORT < length (row_of h p)
+
+-- The row of the object at a place has an index if it is long now, and keeps the one that it had. Each other row has one where it
+-- had one.
+pub record KeepsIndexes (old new : HeapState) (from : Place) : Type 0 where
+  pub made : IsLongRow new.table.spaces from → Contains new.indexed (name_of old from)
+  pub kept : Contains old.indexed (name_of old from) → Contains new.indexed (name_of old from)
+  pub others : (x : ℕ) → x ≢ name_of old from → Contains new.indexed x ↔ Contains old.indexed x
 
 -- The vertex with a name is an active subject now, the last one, and holds the least nursery number that none held. Limits and
 -- the places of vertices are as they were.

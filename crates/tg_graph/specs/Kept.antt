@@ -17,6 +17,7 @@ use Rattle.tg_space.specs.Generations.{AreNeeded}
 use Rattle.tg_graph.specs.Rows.{IsVertexAt, key_at}
 use Rattle.tg_subjects.specs.Subjects.{nurseries_of, places_of}
 use Rattle.tg_graph.specs.Heap.{HeapState, content_of, subject_names}
+use Rattle.tg_graph.specs.Content.{IsNamed}
 use Rattle.tg_graph.specs.Standing.{KeepsReached}
 
 -- ---- cells
@@ -114,3 +115,5 @@ pub record IsSettled (kind : Kind) (old new : HeapState) : Type 0 where
   pub stay : kind ≡ Nursery → VerticesOfOldStay old.table.spaces new.table.spaces
   pub subjects : subject_names new ≡ subject_names old
   pub nurseries : nurseries_of new.subjects ≡ nurseries_of old.subjects
+  -- the row of each vertex that is left has an index where it had one
+  pub indexed : (x : ℕ) → IsNamed (content_of new) x → Contains new.indexed x ↔ Contains old.indexed x

@@ -12,6 +12,7 @@ ghost use Rattle.tg_space.specs.SpaceList.{Holds, cell_at, space_of};
 ghost use Rattle.tg_space.specs.SpaceTable.{IsFull, IsSpaceTable, place_in_space, used_of};
 ghost use Rattle.tg_space.specs.Soundness.{IsKindAt};
 ghost use Rattle.tg_space.specs.Generations.{AreRemembered};
+ghost use Rattle.tg_space.specs.Rows.{row_of};
 ghost use Rattle.tg_nursery.specs.Allocation.{HasFewerLeft, HasLeft, room_made_for};
 ghost use Rattle.tg_graph.specs.Content.{IsNamed};
 ghost use Rattle.tg_graph.specs.Heap.{IsGraph, content_in, rights_found};
@@ -177,6 +178,7 @@ impl<P: Payload> Cells<P> {
         ensures had_room { HasLeft self.old.spaces (nursery_space nursery) 1 → length (space_of self.old.spaces.spaces 0) ≡ 0 → IsOk result }
         ensures placed { OnOk result (IsPutInRow self.old.spaces self.new.spaces self.old.remembered.places self.new.remembered.places (nursery_space nursery) from to rights) }
         ensures others { KeepsOtherIndexes self.old.spaces.spaces self.new.spaces.spaces from }
+        ensures grown { OnOk result (length (row_of self.new.spaces.spaces from) ≤ length (row_of self.old.spaces.spaces from) + 1) }
         ensures one_cell { OnOk result (TakesOneCell self.old.spaces self.new.spaces (nursery_space nursery)) }
         ensures remembered { AreRemembered self.old.spaces.spaces self.old.remembered.places → AreRemembered self.new.spaces.spaces self.new.remembered.places }
         ensures places { OnErr result (self.new.remembered.places ≡ self.old.remembered.places) }
@@ -265,6 +267,7 @@ impl<P: Payload> Cells<P> {
         ensures placed { OnOk result (IsMadeInRow self.old.spaces self.new.spaces self.old.remembered.places self.new.remembered.places (nursery_space nursery)
             (name_at self.old.spaces.spaces from) name rights) }
         ensures others { KeepsOtherIndexes self.old.spaces.spaces self.new.spaces.spaces from }
+        ensures grown { OnOk result (length (row_of self.new.spaces.spaces from) ≤ length (row_of self.old.spaces.spaces from) + 1) }
         ensures full { IfErr result (λ refused. refused.why ≡ AllocateFault.HeapFull →
             LacksCellsFor self.old.spaces (nursery_space nursery) 1 (name_at self.old.spaces.spaces from) name) }
     {

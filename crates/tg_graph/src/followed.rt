@@ -1,26 +1,33 @@
-//! What a collection does to the indexes of rows.
-ghost use Rattle.std.specs.Prelude.{◌≡◌, ◌≢◌, ◌≤◌, ◌<◌, Some, length, map, slice_get, take};
+//! What a collection does to the indexes of rows. The blocks of from-space may be gone by then: cells are told by their numbers.
+ghost use Rattle.std.specs.Prelude.{◌≡◌, ◌≢◌, ◌≤◌, ◌<◌, ◌+◌, ◌^◌, ℕ, Some, length, map, nat_eq, slice_get, take};
 ghost use Rattle.std.specs.List.{All};
+ghost use Rattle.std.specs.Map.{lookup};
 ghost use Rattle.indexmap.specs.IndexMap.{index_map_len, values};
 ghost use Rattle.indexmap.specs.Layout.{set_value_at};
-ghost use Rattle.tg_word.specs.declared.Place.{Place as PlaceOf};
-ghost use Rattle.tg_block.specs.declared.CellKind.TheVariants.{Object};
-ghost use Rattle.tg_space.specs.SpaceList.{Holds, cells_of};
-ghost use Rattle.tg_space.specs.Soundness.{IsKindAt};
+ghost use Rattle.tg_space.specs.SpaceList.{cells_of};
+ghost use Rattle.tg_space.specs.SpaceTable.{IsSpaceTable};
 ghost use Rattle.tg_space.specs.Collection.{new_place};
 ghost use Rattle.tg_space.specs.Targets.{from_space};
-ghost use Rattle.tg_graph.specs.Kept.{moved_place};
-ghost use Rattle.tg_graph.specs.Index.{AreAged, AreFollowed, AreIndexed, IsAged, IsFollowedTo, IsOldPlace, IsOldRow, IsQuiet, IsQuietCell, known_notes};
-ghost use Rattle.tg_graph.specs.Rows.{IsRow};
+ghost use Rattle.tg_graph.specs.Index.{AreAged, AreFollowed, AreStarts, IsAged, IsFollowable, IsFollowedTo, IsLeftBehind, IsNumbered, IsOldPlace, IsOldRow, IsQuiet, IsQuietCell, followed_place, known_notes, number_by};
 ghost use Rattle.tg_graph.specs.declared.index.IndexedRow.{IndexedRow as RowOf};
 
 use crate::index::IndexedRow;
 use crate::long_rows::LongRows;
-use crate::settle::follow;
 use indexmap::IndexMap;
+use tg_block::CELLS;
 use tg_remember::Remembered;
 use tg_space::{Forwarding, Kind, Spaces};
-use tg_word::Place;
+use tg_word::{Place, SPACES, nursery_space, place_of};
+
+// How many spaces there may be.
+const MOST_SPACES: usize = SPACES as usize;
+
+/// How many blocks stood before each space of a heap, from which the numbers of its cells come. A collection may then put other blocks
+/// in their place.
+#[derive(Drop)]
+pub(crate) struct Numbering {
+    starts: [u64; MOST_SPACES],
+}
 
 // What became of a row in a collection.
 #[derive(Clone, Copy, PartialEq, Eq)]
@@ -33,45 +40,96 @@ enum Fate {
     Old,
 }
 
+impl Numbering {
+    /// The numbers of the cells as they are now. Takes no memory.
+    pub(crate) fn of(spaces: &Spaces) -> Numbering
+        ensures starts { AreStarts result.starts spaces.now.spaces }
+        ensures table { IsSpaceTable spaces.now }
+        ensures few { length (cells_of spaces.now.spaces) ≤ 2 ^ 64 }
+    {
+        // It tells what holds of all spaces, and that their cells are few.
+        let _ = spaces.cells();
+        let mut starts = [0; MOST_SPACES];
+        let mut before = 0;
+        for space in 0..spaces.nurseries() + nursery_space(0) {
+            starts[space as usize] = before;
+            before += spaces.len(space);
+        }
+        Numbering { starts }
+    }
+
+    // The number of the cell at a place.
+    #[inline(always)]
+    fn number(&self, place: Place) -> u64
+        requires space { place.space < length self.now.starts }
+        requires few { number_by self.now.starts place < 2 ^ 64 }
+        ensures { result ≡ number_by self.now.starts place }
+    {
+        CELLS as u64 * (self.starts[place.space as usize] + place.block) + place.cell
+    }
+
+    // Where a collection of this kind has the cell at a place.
+    fn followed(&self, kind: Kind, forward: &Forwarding, place: Place) -> Place
+        requires numbered { IsNumbered self.now.starts (length forward.now.words) place }
+        requires few { length forward.now.words ≤ 2 ^ 64 }
+        ensures { result ≡ followed_place (from_space kind) self.now.starts (new_place forward.now.words) place }
+    {
+        if kind.moves(place.space) {
+            place_of(forward.word(self.number(place)))
+        } else {
+            place
+        }
+    }
+
+    // Each of these places becomes the one where a collection of this kind has its cell.
+    fn follow(&self, kind: Kind, forward: &Forwarding, places: &mut [Place])
+        requires numbered { All (IsNumbered self.now.starts (length forward.now.words)) places.old }
+        requires few { length forward.now.words ≤ 2 ^ 64 }
+        ensures { places.new ≡ map (followed_place (from_space kind) self.now.starts (new_place forward.now.words)) places.old }
+    {
+        for place in places.iter_mut() {
+            *place = self.followed(kind, forward, *place);
+        }
+    }
+}
+
 impl LongRows {
     /// Each index becomes that of the row's copy, and goes where a collection of this kind left the row behind. A nursery
-    /// collection looks at those rows alone that may have young or remembered cells, and only at these cells. The cells
-    /// that are to be remembered are in `noted`. Takes no memory.
+    /// collection looks at those rows alone that may have young or remembered cells, and only at these cells. Cells have the
+    /// numbers that they had before it. The cells that are to be remembered are in `noted`. Takes no memory.
     pub(crate) fn follow(
         &mut self,
-        spaces: &Spaces,
+        numbering: &Numbering,
         kind: Kind,
         forward: &Forwarding,
         noted: &Remembered,
     )
-        requires ends { (p : PlaceOf) → IsKindAt spaces.now.spaces Object p → IsRow spaces.now.spaces p }
-        requires whole { length forward.now.words ≡ length (cells_of spaces.now.spaces) }
-        requires indexed { AreIndexed spaces.now.spaces (known_notes kind noted.now.places) self.old.entries }
-        ensures { AreFollowed kind spaces.now.spaces forward.now.words noted.now.places self.new.entries }
+        requires few { length forward.now.words ≤ 2 ^ 64 }
+        requires rows { (name : ℕ) (row : RowOf) → lookup (nat_eq name) self.old.entries ≡ Some row → IsFollowable numbering.now.starts (length forward.now.words) (known_notes kind noted.now.places) row }
+        ensures { AreFollowed kind numbering.now.starts forward.now.words noted.now.places self.old.entries self.new.entries }
     {
         let old = match kind {
             Kind::Full => 0,
             Kind::Nursery => self.old_rows,
         };
-        self.old_rows = follow_rows(spaces, kind, forward, noted, &mut self.indexes, old);
+        self.old_rows = follow_rows(numbering, kind, forward, noted, &mut self.indexes, old);
     }
 }
 
 // Follows the rows behind the first `old` ones. The answer is how many lie in Old whole now.
 fn follow_rows(
-    spaces: &Spaces,
+    numbering: &Numbering,
     kind: Kind,
     forward: &Forwarding,
     noted: &Remembered,
     rows: &mut IndexMap<u64, IndexedRow>,
     first: usize,
 ) -> usize
-    requires ends { (p : PlaceOf) → IsKindAt spaces.now.spaces Object p → IsRow spaces.now.spaces p }
-    requires whole { length forward.now.words ≡ length (cells_of spaces.now.spaces) }
-    requires indexed { AreIndexed spaces.now.spaces (known_notes kind noted.now.places) rows.old.entries }
+    requires few { length forward.now.words ≤ 2 ^ 64 }
+    requires rows { (name : ℕ) (row : RowOf) → lookup (nat_eq name) rows.old.entries ≡ Some row → IsFollowable numbering.now.starts (length forward.now.words) (known_notes kind noted.now.places) row }
     requires aged { AreAged rows.old.entries first }
     requires full { kind ≡ Kind.Full → first ≡ 0 }
-    ensures followed { AreFollowed kind spaces.now.spaces forward.now.words noted.now.places rows.new.entries }
+    ensures followed { AreFollowed kind numbering.now.starts forward.now.words noted.now.places rows.old.entries rows.new.entries }
     ensures aged { AreAged rows.new.entries result }
 {
     // It tells that no name stands there twice.
@@ -79,7 +137,7 @@ fn follow_rows(
     let mut old = first;
     let mut i = first;
     while i < rows.len() {
-        match follow_row_at(spaces, kind, forward, noted, rows, i) {
+        match follow_row_at(numbering, kind, forward, noted, rows, i) {
             Fate::Gone => drop(rows.swap_remove_index(i)),
             Fate::Young => i += 1,
             Fate::Old => {
@@ -94,7 +152,7 @@ fn follow_rows(
 
 // The index at a place of the map becomes that of the row's copy, unless the row was left behind.
 fn follow_row_at(
-    spaces: &Spaces,
+    numbering: &Numbering,
     kind: Kind,
     forward: &Forwarding,
     noted: &Remembered,
@@ -102,40 +160,42 @@ fn follow_row_at(
     at: usize,
 ) -> Fate
     requires inside { at < index_map_len rows.old }
-    requires held { (row : RowOf) → slice_get (values rows.old) at ≡ Some row → All (Holds spaces.now.spaces) row.cells.items }
+    requires few { length forward.now.words ≤ 2 ^ 64 }
+    requires numbered { (row : RowOf) → slice_get (values rows.old) at ≡ Some row → All (IsNumbered numbering.now.starts (length forward.now.words)) row.cells.items }
     requires some { (row : RowOf) → slice_get (values rows.old) at ≡ Some row → 0 < length row.cells.items }
     requires aged { (row : RowOf) → slice_get (values rows.old) at ≡ Some row → IsAged row }
     requires quiet { (row : RowOf) → slice_get (values rows.old) at ≡ Some row → IsQuiet (known_notes kind noted.now.places) row }
-    requires whole { length forward.now.words ≡ length (cells_of spaces.now.spaces) }
     ensures { (row followed : RowOf) × (slice_get (values rows.old) at ≡ Some row) × (rows.new.entries ≡ set_value_at rows.old.entries at followed)
-        × (result ≢ Fate.Gone → IsFollowedTo kind spaces.now.spaces forward.now.words row followed) × IsAged followed × (result ≡ Fate.Old → IsOldRow followed) × (result ≢ Fate.Gone → IsQuiet noted.now.places followed) }
+        × (result ≢ Fate.Gone → IsFollowedTo kind numbering.now.starts forward.now.words row followed) × IsAged followed × (result ≡ Fate.Old → IsOldRow followed) × (result ≢ Fate.Gone → IsQuiet noted.now.places followed)
+        × (result ≡ Fate.Gone → IsLeftBehind kind numbering.now.starts forward.now.words row) }
 {
     match rows.get_index_mut(at) {
-        Some(row) => follow_row(spaces, kind, forward, noted, row),
+        Some(row) => follow_row(numbering, kind, forward, noted, row),
         None => unreachable!(),
     }
 }
 
 // The index becomes that of the row's copy, unless the row was left behind.
 fn follow_row(
-    spaces: &Spaces,
+    numbering: &Numbering,
     kind: Kind,
     forward: &Forwarding,
     noted: &Remembered,
     row: &mut IndexedRow,
 ) -> Fate
-    requires held { All (Holds spaces.now.spaces) row.old.cells.items }
+    requires few { length forward.now.words ≤ 2 ^ 64 }
+    requires numbered { All (IsNumbered numbering.now.starts (length forward.now.words)) row.old.cells.items }
     requires some { 0 < length row.old.cells.items }
     requires aged { IsAged row.old }
     requires quiet { IsQuiet (known_notes kind noted.now.places) row.old }
-    requires whole { length forward.now.words ≡ length (cells_of spaces.now.spaces) }
-    ensures followed { result ≢ Fate.Gone → IsFollowedTo kind spaces.now.spaces forward.now.words row.old row.new }
+    ensures gone { result ≡ Fate.Gone → IsLeftBehind kind numbering.now.starts forward.now.words row.old }
+    ensures followed { result ≢ Fate.Gone → IsFollowedTo kind numbering.now.starts forward.now.words row.old row.new }
     ensures aged { IsAged row.new }
     ensures old { result ≡ Fate.Old → IsOldRow row.new }
     ensures quiet { result ≢ Fate.Gone → IsQuiet noted.now.places row.new }
 {
     let object = row.cells[0];
-    if kind.moves(object.space) && forward.word(spaces.flat(object)) == 0 {
+    if kind.moves(object.space) && forward.word(numbering.number(object)) == 0 {
         return Fate::Gone;
     }
     let first = match kind {
@@ -143,7 +203,7 @@ fn follow_row(
         Kind::Nursery => row.old_cells,
     };
     let known = known_quiet(kind, row);
-    row.old_cells = follow_cells(spaces, kind, forward, &mut row.cells, first);
+    row.old_cells = follow_cells(numbering, kind, forward, &mut row.cells, first);
     row.quiet_cells = count_quiet(noted, &row.cells, known);
     if row.old_cells.min(row.quiet_cells) < row.cells.len() {
         return Fate::Young;
@@ -153,7 +213,7 @@ fn follow_row(
 
 // Follows the cells behind the first ones, which stay where they are. The answer is how many of the first lie in Old now.
 fn follow_cells(
-    spaces: &Spaces,
+    numbering: &Numbering,
     kind: Kind,
     forward: &Forwarding,
     cells: &mut [Place],
@@ -162,14 +222,14 @@ fn follow_cells(
     requires within { first ≤ length cells.old }
     requires old { All IsOldPlace (take first cells.old) }
     requires full { kind ≡ Kind.Full → first ≡ 0 }
-    requires held { All (Holds spaces.now.spaces) cells.old }
-    requires whole { length forward.now.words ≡ length (cells_of spaces.now.spaces) }
-    ensures moved { cells.new ≡ map (moved_place (from_space kind) spaces.now.spaces (new_place forward.now.words)) cells.old }
+    requires few { length forward.now.words ≤ 2 ^ 64 }
+    requires numbered { All (IsNumbered numbering.now.starts (length forward.now.words)) cells.old }
+    ensures moved { cells.new ≡ map (followed_place (from_space kind) numbering.now.starts (new_place forward.now.words)) cells.old }
     ensures within { result ≤ length cells.new }
     ensures old { All IsOldPlace (take result cells.new) }
 {
     let (_, young) = cells.split_at_mut(first);
-    follow(spaces, kind, forward, young);
+    numbering.follow(kind, forward, young);
     first + count_old(young)
 }
 

@@ -6,12 +6,13 @@ ghost use Rattle.tg_model.specs.Opened.{start_of};
 ghost use Rattle.tg_model.specs.Rules.{state_of, with_value, written_at};
 ghost use Rattle.tg_word.specs.Word.{nursery_space};
 ghost use Rattle.tg_word.specs.declared.TheConstants.{MAX_NURSERIES};
+ghost use Rattle.tg_word.specs.declared.Place.{Place as PlaceOf};
 ghost use Rattle.tg_subjects.specs.Subjects.{IsSubjectNamed, nurseries_of, without};
 ghost use Rattle.tg_subjects.specs.declared.subject.Subject.{Subject as SubjectOf};
 ghost use Rattle.tg_space.specs.SpaceList.{block_count, space_of};
 ghost use Rattle.tg_space.specs.SpaceTable.{IsSpaceTable};
 ghost use Rattle.tg_graph.specs.Content.{IsContent, IsNamed};
-ghost use Rattle.tg_graph.specs.Heap.{AddsSubject, AreAtHome, IsActive, IsObject, IsUnchangedHeap, IsWellFormed, KeepsPlaces, content_of, name_of, nursery_of, rights_found, subject_names};
+ghost use Rattle.tg_graph.specs.Heap.{AddsSubject, AreAtHome, IsActive, IsObject, IsUnchangedHeap, IsWellFormed, KeepsIndexes, KeepsPlaces, content_of, name_of, nursery_of, rights_found, subject_names};
 ghost use Rattle.tg_graph.specs.Rows.{IsVertexAt};
 ghost use Rattle.tg_graph.specs.Spots.{IsMadeInRow, IsPutInRow, LacksCellsFor};
 ghost use Rattle.tg_graph.specs.Standing.{IsContentOf};
@@ -66,13 +67,13 @@ pub struct Heap<P: Payload> {
 
 impl<P: Payload> Model for Heap<P> {
     ghost use Rattle.tg_graph.specs.Heap.{HeapState, IsWellFormed};
-    ghost use Rattle.tg_graph.specs.Index.{AreIndexed};
+    ghost use Rattle.tg_graph.specs.Index.{AreIndexed, names_indexed};
 
     ghost Value = { HeapState };
 
-    ghost view = { λ a. record { table = a.cells.spaces; payloads = a.cells.payloads; subjects = a.subjects; remembered = a.cells.remembered.places } };
+    ghost view = { λ a. record { table = a.cells.spaces; payloads = a.cells.payloads; subjects = a.subjects; remembered = a.cells.remembered.places; indexed = names_indexed a.cells.spaces.spaces a.rows.entries } };
 
-    ghost invariant = { λ a. IsWellFormed (record { table = a.cells.spaces; payloads = a.cells.payloads; subjects = a.subjects; remembered = a.cells.remembered.places }) × AreIndexed a.cells.spaces.spaces a.cells.remembered.places a.rows.entries };
+    ghost invariant = { λ a. IsWellFormed (record { table = a.cells.spaces; payloads = a.cells.payloads; subjects = a.subjects; remembered = a.cells.remembered.places; indexed = names_indexed a.cells.spaces.spaces a.rows.entries }) × AreIndexed a.cells.spaces.spaces a.cells.remembered.places a.rows.entries };
 }
 
 impl<P: Payload> Heap<P> {
@@ -240,6 +241,7 @@ impl<P: Payload> Heap<P> {
         ensures kept { OnOk result (KeepsPlaces self.old self.new) }
         ensures table { self.new.table ≡ self.old.table }
         ensures remembered { self.new.remembered ≡ self.old.remembered }
+        ensures indexed { self.new.indexed ≡ self.old.indexed }
         ensures refused { OnErr result (self.new ≡ self.old) }
     {
         self.cells.write(at, number)
@@ -252,6 +254,8 @@ impl<P: Payload> Heap<P> {
     /// It is refused where memory for the block of a chunk, for the note of a cell or for the index of the row was refused
     /// (`OutOfMemory`), or where a chunk is needed and the nursery is used up and gets no more blocks (`HeapFull`). Then
     /// nothing is changed but that there may be room for one more note.
+    ///
+    /// The row has an index then, if it has more than four cells.
     pub fn add_edge(
         &mut self,
         worker: u64,
@@ -266,6 +270,7 @@ impl<P: Payload> Heap<P> {
             (with_rights (content_of self.old).label (name_of self.old from) (name_of self.old to) label) (content_of self.old).value) }
         ensures placed { OnOk result (IsPutInRow self.old.table self.new.table self.old.remembered self.new.remembered (nursery_space (nursery_of self.old worker)) from to label) }
         ensures kept { OnOk result (KeepsPlaces self.old self.new) }
+        ensures indexed { OnOk result (KeepsIndexes self.old self.new from) }
         ensures refused { OnErr result (self.new ≡ self.old) }
         ensures full { result ≡ Err AllocateFault.HeapFull → LacksCellsFor self.old.table (nursery_space (nursery_of self.old worker)) 0 (name_of self.old from) (name_of self.old to) }
     {
@@ -289,9 +294,12 @@ impl<P: Payload> Heap<P> {
             (with_rights (content_of self.old).label (name_of self.old from) (name_of self.old to) label) (content_of self.old).value) }
         ensures placed { OnOk result (IsPutInRow self.old.table self.new.table self.old.remembered self.new.remembered (nursery_space worker.nursery) from to label) }
         ensures kept { OnOk result (KeepsPlaces self.old self.new) }
+        ensures indexed { OnOk result (KeepsIndexes self.old self.new from) }
         ensures refused { OnErr result (self.new ≡ self.old) }
         ensures full { result ≡ Err AllocateFault.HeapFull → LacksCellsFor self.old.table (nursery_space worker.nursery) 0 (name_of self.old from) (name_of self.old to) }
     {
+        // It tells what holds of all spaces (`IsSpaceTable`).
+        let _ = self.cells.spaces.blocks();
         self.cells
             .add_edge_in(&mut self.rows, worker.nursery, from, to, label.rights())
     }
@@ -306,6 +314,7 @@ impl<P: Payload> Heap<P> {
         ensures used { self.new.table.used ≡ self.old.table.used }
         ensures blocks { (space : ℕ) → length (space_of self.new.table.spaces space) ≡ length (space_of self.old.table.spaces space) }
         ensures remembered { self.new.remembered ≡ self.old.remembered }
+        ensures indexed { (x : ℕ) → Contains self.new.indexed x ↔ Contains self.old.indexed x }
     {
         self.cells
             .drop_rights_in(&mut self.rows, from, name, label.rights());
@@ -319,6 +328,8 @@ impl<P: Payload> Heap<P> {
     /// It is refused where memory was (`OutOfMemory`), and where the vertex and its reference need more cells than the
     /// nursery of the worker has left, and it gets no more blocks (`HeapFull`). Then the draft comes back, and nothing is changed
     /// but that there may be room for one more payload and one more note.
+    ///
+    /// The row of the worker has an index then, if it has more than four cells.
     pub fn new_vertex(
         &mut self,
         worker: u64,
@@ -332,6 +343,7 @@ impl<P: Payload> Heap<P> {
             (with_rights (content_of self.old).label worker name label) (with_value (content_of self.old).value name draft)) }
         ensures placed { OnOk result (IsMadeInRow self.old.table self.new.table self.old.remembered self.new.remembered (nursery_space (nursery_of self.old worker)) worker name label) }
         ensures kept { OnOk result (KeepsPlaces self.old self.new) }
+        ensures indexed { OnOk result ((row : PlaceOf) × IsVertexAt self.old.table.spaces worker row × KeepsIndexes self.old self.new row) }
         ensures handed_back { IfErr result (λ refused. refused.draft ≡ draft) }
         ensures refused { OnErr result (IsUnchangedHeap self.old self.new) }
         ensures full { IfErr result (λ refused. refused.why ≡ AllocateFault.HeapFull → LacksCellsFor self.old.table (nursery_space (nursery_of self.old worker)) 1 worker name) }
@@ -357,10 +369,13 @@ impl<P: Payload> Heap<P> {
         ensures placed { OnOk result (IsMadeInRow self.old.table self.new.table self.old.remembered self.new.remembered (nursery_space worker.nursery) worker.name name label) }
         ensures vertex { IfOk result (IsVertexAt self.new.table.spaces name) }
         ensures kept { OnOk result (KeepsPlaces self.old self.new) }
+        ensures indexed { OnOk result (KeepsIndexes self.old self.new worker.place) }
         ensures handed_back { IfErr result (λ refused. refused.draft ≡ draft) }
         ensures refused { OnErr result (IsUnchangedHeap self.old self.new) }
         ensures full { IfErr result (λ refused. refused.why ≡ AllocateFault.HeapFull → LacksCellsFor self.old.table (nursery_space worker.nursery) 1 worker.name name) }
     {
+        // It tells what holds of all spaces (`IsSpaceTable`).
+        let _ = self.cells.spaces.blocks();
         self.cells.new_vertex_in(
             &mut self.rows,
             worker.nursery,
@@ -392,6 +407,7 @@ impl<P: Payload> Heap<P> {
             (with_rights (content_of self.old).label worker name label) (with_value (content_of self.old).value name draft)) }
         ensures placed { OnOk result (IsMadeInRow self.old.table self.new.table self.old.remembered self.new.remembered (nursery_space (nursery_of self.old worker)) worker name label) }
         ensures added { OnOk result (AddsSubject self.old self.new name) }
+        ensures indexed { OnOk result ((row : PlaceOf) × IsVertexAt self.old.table.spaces worker row × KeepsIndexes self.old self.new row) }
         ensures handed_back { IfErr result (λ refused. refused.draft ≡ draft) }
         ensures refused { OnErr result (IsUnchangedHeap self.old self.new) }
         ensures full { IfErr result (λ refused. refused.why ≡ AllocateFault.HeapFull → LacksCellsFor self.old.table (nursery_space (nursery_of self.old worker)) 1 worker name) }
@@ -409,6 +425,7 @@ impl<P: Payload> Heap<P> {
         ensures table { self.new.table ≡ self.old.table }
         ensures payloads { self.new.payloads ≡ self.old.payloads }
         ensures remembered { self.new.remembered ≡ self.old.remembered }
+        ensures indexed { self.new.indexed ≡ self.old.indexed }
     {
         self.subjects.retire(name);
     }

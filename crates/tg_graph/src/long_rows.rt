@@ -1,5 +1,5 @@
 //! The indexes of long rows, and which of them may have young cells. See 'Rows and their indexes' in docs/ARCHITECTURE.md.
-ghost use Rattle.std.specs.Prelude.{◌≡◌, ◌≤◌, ◌<◌, ℕ, [], None, Some, if◌then◌else◌, length, nat_eq, option_copied, IfOk, IfSome, OnErr, OnOk};
+ghost use Rattle.std.specs.Prelude.{◌≡◌, ◌≤◌, ◌<◌, ℕ, [], None, Some, if◌then◌else◌, length, nat_eq, option_copied, IfSome, OnOk};
 ghost use Rattle.std.specs.Map.{lookup};
 ghost use Rattle.tg_graph.specs.Index.{HasIndexAt, IsAged};
 
@@ -18,11 +18,12 @@ pub(crate) struct LongRows {
 }
 
 impl Model for LongRows {
+    ghost use Rattle.indexmap.specs.IndexMap.{spare};
     ghost use Rattle.tg_graph.specs.Index.{Indexes, AreAged};
 
     ghost Value = { Indexes };
 
-    ghost view = { λ a. record { entries = a.indexes.entries; old_rows = a.old_rows } };
+    ghost view = { λ a. record { entries = a.indexes.entries; old_rows = a.old_rows; spare = spare a.indexes } };
 
     ghost invariant = { λ a. AreAged a.indexes.entries a.old_rows };
 }
@@ -36,14 +37,6 @@ impl LongRows {
             indexes: IndexMap::new(alloc),
             old_rows: 0,
         }
-    }
-
-    /// Gives all indexes up. Takes no memory.
-    pub(crate) fn clear(&mut self)
-        ensures { self.new.entries ≡ [] }
-    {
-        self.indexes.clear();
-        self.old_rows = 0;
     }
 
     /// The index of the row of the vertex with a name, if it has one. Takes no memory.
@@ -61,20 +54,35 @@ impl LongRows {
         self.indexes.get_index_of(&name)
     }
 
-    /// Adds the index of the row of the vertex with a name, which has none. The answer is its place, among those of rows that may
-    /// have young cells. Where memory was refused, nothing is changed.
-    pub(crate) fn add(&mut self, name: u64, row: IndexedRow) -> Result<usize, AllocError>
+    /// Where the index of the row of the vertex with a name stands then, among those of rows that may have young cells, if it has
+    /// one. Takes no memory.
+    pub(crate) fn young_place(&mut self, name: u64) -> Option<usize>
+        ensures young { IfSome result (λ at. self.new.old_rows ≤ at) }
+        ensures there { IfSome result (HasIndexAt self.new.entries name) }
+        ensures none { result ≡ None → lookup (nat_eq name) self.new.entries ≡ None }
+        ensures same { (q : ℕ) → lookup (nat_eq q) self.new.entries ≡ lookup (nat_eq q) self.old.entries }
+    {
+        let at = self.place(name)?;
+        Some(self.make_young(at))
+    }
+
+    /// Makes room for the index of one more row. Nothing else changes.
+    pub(crate) fn reserve(&mut self) -> Result<(), AllocError>
+        ensures room { OnOk result (0 < self.new.spare) }
+        ensures entries { self.new.entries ≡ self.old.entries }
+    {
+        self.indexes.reserve(1)
+    }
+
+    /// Adds the index of the row of the vertex with a name, which has none, among those of rows that may have young cells. There is
+    /// room for it. Takes no memory.
+    pub(crate) fn add(&mut self, name: u64, row: IndexedRow)
         requires absent { lookup (nat_eq name) self.old.entries ≡ None }
         requires aged { IsAged row }
-        ensures added { OnOk result ((q : ℕ) → lookup (nat_eq q) self.new.entries ≡ if nat_eq name q then Some row else lookup (nat_eq q) self.old.entries) }
-        ensures there { IfOk result (λ at. (self.new.old_rows ≤ at) × HasIndexAt self.new.entries name at) }
-        ensures refused { OnErr result (self.new.entries ≡ self.old.entries) }
+        requires room { 0 < self.old.spare }
+        ensures { (q : ℕ) → lookup (nat_eq q) self.new.entries ≡ if nat_eq name q then Some row else lookup (nat_eq q) self.old.entries }
     {
-        let at = self.indexes.len();
-        let Ok(_) = self.indexes.insert(name, row) else {
-            return Err(AllocError);
-        };
-        Ok(at)
+        let _ = self.indexes.insert(name, row).unwrap();
     }
 
     /// The index at a place comes to stand among those of rows that may have young cells. The answer is its new place. Takes

@@ -1,6 +1,6 @@
 //! The graph in the cells, where some rows have an index: each call goes by the index of the row, if it has one, and else
 //! walks.
-ghost use Rattle.std.specs.Prelude.{◌≡◌, ◌+◌, ◌<◌, ◌≤◌, ◌⊎◌, ℕ, List, None, false, length, nat_eq, Err, IfErr, IfOk, IfSome, OnErr, OnOk};
+ghost use Rattle.std.specs.Prelude.{◌≡◌, ◌<◌, ◌⊎◌, ℕ, List, None, false, length, nat_eq, Err, IfErr, IfOk, IfSome, IsTrue, OnErr, OnOk};
 ghost use Rattle.tg_rights.specs.RightSet.{is_none_held};
 ghost use Rattle.tg_word.specs.Word.{nursery_space};
 ghost use Rattle.tg_word.specs.declared.Place.{Place as PlaceOf};
@@ -11,8 +11,8 @@ ghost use Rattle.tg_space.specs.SpaceList.{space_of};
 ghost use Rattle.tg_space.specs.Soundness.{IsKindAt};
 ghost use Rattle.tg_space.specs.Generations.{AreRemembered};
 ghost use Rattle.tg_graph.specs.Content.{IsNamed};
-ghost use Rattle.tg_graph.specs.Heap.{IsGraph, content_in, rights_found};
-ghost use Rattle.tg_graph.specs.Index.{AreIndexed, HasIndexAt, IsAged, IsQuiet, IsRowIndex};
+ghost use Rattle.tg_graph.specs.Heap.{IsGraph, IsLongRow, content_in, rights_found};
+ghost use Rattle.tg_graph.specs.Index.{AreIndexed, IsAged, IsQuiet, IsRowIndex, MayIndex, SameIndexed, indexed_in};
 ghost use Rattle.std.specs.Map.{lookup};
 ghost use Rattle.tg_graph.specs.Rows.{IsVertexAt, name_at};
 ghost use Rattle.tg_graph.specs.Spots.{IsMadeInRow, IsPutInRow, LacksCellsFor};
@@ -22,7 +22,7 @@ use crate::cells::Cells;
 use crate::heap::{Found, VertexRefused};
 use crate::index::IndexedRow;
 use crate::long_rows::LongRows;
-use crate::rows::{is_long, places_of};
+use crate::rows::{may_get_long, places_of};
 use std::alloc::AllocError;
 use tg_index::RowIndex;
 use tg_nursery::AllocateFault;
@@ -48,29 +48,18 @@ impl<P: Payload> Cells<P> {
         })
     }
 
-    /// Where the index of the row of an object stands among those that may get young cells, if it has one; it gets one where it
-    /// has more cells than a walk may pass. Where memory was refused, nothing is changed.
-    pub(crate) fn young_place(
-        &self,
-        rows: &mut LongRows,
-        from: Place,
-    ) -> Result<Option<usize>, AllocError>
+    /// The index of the row of an object, for which there is room among the others then. Where memory was refused, nothing is changed.
+    fn new_index(&self, rows: &mut LongRows, from: Place) -> Result<IndexedRow, AllocError>
         requires graph { IsGraph self.now.spaces.spaces self.now.payloads }
         requires from { IsKindAt self.now.spaces.spaces Object from }
-        requires indexed { AreIndexed self.now.spaces.spaces self.now.remembered.places rows.old.entries }
-        ensures indexed { AreIndexed self.now.spaces.spaces self.now.remembered.places rows.new.entries }
-        ensures there { IfOk result (λ place. IfSome place (λ at. (rows.new.old_rows ≤ at) × HasIndexAt rows.new.entries (name_at self.now.spaces.spaces from) at)) }
-        ensures none { IfOk result (λ place. place ≡ None → lookup (nat_eq (name_at self.now.spaces.spaces from)) rows.new.entries ≡ None) }
+        ensures index { IfOk result (λ row. IsRowIndex self.now.spaces.spaces from row.names row.cells.items) }
+        ensures aged { IfOk result IsAged }
+        ensures quiet { (places : List PlaceOf) → IfOk result (IsQuiet places) }
+        ensures room { OnOk result (0 < rows.new.spare) }
+        ensures entries { rows.new.entries ≡ rows.old.entries }
     {
-        let name = self.name_of(from);
-        if let Some(at) = rows.place(name) {
-            return Ok(Some(rows.make_young(at)));
-        }
-        if !is_long(&self.spaces, from) {
-            return Ok(None);
-        }
-        let row = self.index_of(from)?;
-        Ok(Some(rows.add(name, row)?))
+        rows.reserve()?;
+        self.index_of(from)
     }
 
     /// The reference in the row of an object to the vertex with a name.
@@ -90,7 +79,8 @@ impl<P: Payload> Cells<P> {
     }
 
     /// Gives one object rights over another, and notes the written cell if it has to be remembered. Growth comes first,
-    /// that of the spaces last: where it is refused, there may be room for one more note, and else nothing is changed.
+    /// that of the spaces last: where it is refused, there may be room for one more note, and else nothing is changed. The row has
+    /// an index then, if it is long.
     pub(crate) fn add_edge_in(
         &mut self,
         rows: &mut LongRows,
@@ -116,19 +106,64 @@ impl<P: Payload> Cells<P> {
         ensures remembered { AreRemembered self.old.spaces.spaces self.old.remembered.places → AreRemembered self.new.spaces.spaces self.new.remembered.places }
         ensures places { OnErr result (self.new.remembered.places ≡ self.old.remembered.places) }
         ensures indexed { AreIndexed self.new.spaces.spaces self.new.remembered.places rows.new.entries }
+        ensures long { OnOk result (IsLongRow self.new.spaces.spaces from → IsTrue (indexed_in rows.new.entries (name_at self.old.spaces.spaces from))) }
+        ensures names { MayIndex (name_at self.old.spaces.spaces from) rows.old.entries rows.new.entries }
+        ensures kept { OnErr result (SameIndexed rows.old.entries rows.new.entries) }
     {
         // It tells what holds of all spaces (`IsSpaceTable`).
         let _ = self.spaces.blocks();
-        let Ok(place) = self.young_place(rows, from) else {
-            return Err(AllocateFault::OutOfMemory);
-        };
-        let Some(at) = place else {
-            return self.add_edge(nursery, from, to, rights);
+        let Some(at) = rows.young_place(self.name_of(from)) else {
+            return self.add_edge_unindexed(rows, nursery, from, to, rights);
         };
         match rows.indexes.get_index_mut(at) {
             Some(row) => self.add_edge_indexed(row, nursery, from, to, rights),
             None => unreachable!(),
         }
+    }
+
+    // The same where the row has no index. It gets one, if it may be long then.
+    fn add_edge_unindexed(
+        &mut self,
+        rows: &mut LongRows,
+        nursery: u64,
+        from: Place,
+        to: Place,
+        rights: Rights,
+    ) -> Result<(), AllocateFault>
+        requires nursery { nursery_space nursery < length self.old.spaces.spaces }
+        requires graph { IsGraph self.old.spaces.spaces self.old.payloads }
+        requires from { IsKindAt self.old.spaces.spaces Object from }
+        requires to { IsKindAt self.old.spaces.spaces Object to }
+        requires some { is_none_held rights ≡ false }
+        requires none { lookup (nat_eq (name_at self.old.spaces.spaces from)) rows.old.entries ≡ None }
+        requires indexed { AreIndexed self.old.spaces.spaces self.old.remembered.places rows.old.entries }
+        ensures added { let content = content_in self.old.spaces.spaces self.old.payloads in
+            OnOk result (ChangesTo self.old.spaces self.new.spaces self.old.payloads (IsNamed content)
+            (with_rights content.label (name_at self.old.spaces.spaces from) (name_at self.old.spaces.spaces to) rights) content.value) }
+        ensures payloads { self.new.payloads ≡ self.old.payloads }
+        ensures refused { OnErr result (self.new.spaces ≡ self.old.spaces) }
+        ensures full { result ≡ Err AllocateFault.HeapFull →
+            LacksCellsFor self.old.spaces (nursery_space nursery) 0 (name_at self.old.spaces.spaces from) (name_at self.old.spaces.spaces to) }
+        ensures placed { OnOk result (IsPutInRow self.old.spaces self.new.spaces self.old.remembered.places self.new.remembered.places (nursery_space nursery) from to rights) }
+        ensures remembered { AreRemembered self.old.spaces.spaces self.old.remembered.places → AreRemembered self.new.spaces.spaces self.new.remembered.places }
+        ensures places { OnErr result (self.new.remembered.places ≡ self.old.remembered.places) }
+        ensures indexed { AreIndexed self.new.spaces.spaces self.new.remembered.places rows.new.entries }
+        ensures long { OnOk result (IsLongRow self.new.spaces.spaces from → IsTrue (indexed_in rows.new.entries (name_at self.old.spaces.spaces from))) }
+        ensures names { MayIndex (name_at self.old.spaces.spaces from) rows.old.entries rows.new.entries }
+        ensures kept { OnErr result (SameIndexed rows.old.entries rows.new.entries) }
+    {
+        // It tells what holds of all spaces (`IsSpaceTable`).
+        let _ = self.spaces.blocks();
+        if !may_get_long(&self.spaces, from) {
+            return self.add_edge(nursery, from, to, rights);
+        }
+        let Ok(mut row) = self.new_index(rows, from) else {
+            return Err(AllocateFault::OutOfMemory);
+        };
+        let name = self.name_of(from);
+        self.add_edge_indexed(&mut row, nursery, from, to, rights)?;
+        rows.add(name, row);
+        Ok(())
     }
 
     /// Takes rights over a vertex from an object. A reference that has none left becomes the empty word. What is
@@ -152,6 +187,7 @@ impl<P: Payload> Cells<P> {
         ensures used { self.new.spaces.used ≡ self.old.spaces.used }
         ensures blocks { (space : ℕ) → length (space_of self.new.spaces.spaces space) ≡ length (space_of self.old.spaces.spaces space) }
         ensures indexed { AreIndexed self.new.spaces.spaces self.new.remembered.places rows.new.entries }
+        ensures kept { SameIndexed rows.old.entries rows.new.entries }
     {
         let Some(at) = rows.place(self.name_of(from)) else {
             return self.drop_rights(from, name, rights);
@@ -164,7 +200,8 @@ impl<P: Payload> Cells<P> {
 
     /// Makes an object with a name that none has, gives another one rights over it, and notes the written cell if it has
     /// to be remembered. The answer is where the object is. Growth comes first, that of the spaces last: where it is refused,
-    /// there may be room for one more payload and one more note, and else nothing is changed.
+    /// there may be room for one more payload and one more note, and else nothing is changed. The row has an index then, if it
+    /// is long.
     pub(crate) fn new_vertex_in(
         &mut self,
         rows: &mut LongRows,
@@ -194,19 +231,68 @@ impl<P: Payload> Cells<P> {
         ensures full { IfErr result (λ refused. refused.why ≡ AllocateFault.HeapFull →
             LacksCellsFor self.old.spaces (nursery_space nursery) 1 (name_at self.old.spaces.spaces from) name) }
         ensures indexed { AreIndexed self.new.spaces.spaces self.new.remembered.places rows.new.entries }
+        ensures long { OnOk result (IsLongRow self.new.spaces.spaces from → IsTrue (indexed_in rows.new.entries (name_at self.old.spaces.spaces from))) }
+        ensures names { MayIndex (name_at self.old.spaces.spaces from) rows.old.entries rows.new.entries }
+        ensures kept { OnErr result (SameIndexed rows.old.entries rows.new.entries) }
     {
         // It tells what holds of all spaces (`IsSpaceTable`).
         let _ = self.spaces.blocks();
-        let Ok(place) = self.young_place(rows, from) else {
-            let why = AllocateFault::OutOfMemory;
-            return Err(VertexRefused { draft, why });
-        };
-        let Some(at) = place else {
-            return self.new_vertex(nursery, from, name, rights, draft);
+        let Some(at) = rows.young_place(self.name_of(from)) else {
+            return self.new_vertex_unindexed(rows, nursery, from, name, rights, draft);
         };
         match rows.indexes.get_index_mut(at) {
             Some(row) => self.new_vertex_indexed(row, nursery, from, name, rights, draft),
             None => unreachable!(),
         }
+    }
+
+    // The same where the row has no index. It gets one, if it may be long then.
+    fn new_vertex_unindexed(
+        &mut self,
+        rows: &mut LongRows,
+        nursery: u64,
+        from: Place,
+        name: u64,
+        rights: Rights,
+        draft: Draft<P>,
+    ) -> Result<Place, VertexRefused<P>>
+        requires nursery { nursery_space nursery < length self.old.spaces.spaces }
+        requires graph { IsGraph self.old.spaces.spaces self.old.payloads }
+        requires from { IsKindAt self.old.spaces.spaces Object from }
+        requires some { is_none_held rights ≡ false }
+        requires fresh { ¬ IsNamed (content_in self.old.spaces.spaces self.old.payloads) name }
+        requires none { lookup (nat_eq (name_at self.old.spaces.spaces from)) rows.old.entries ≡ None }
+        requires indexed { AreIndexed self.old.spaces.spaces self.old.remembered.places rows.old.entries }
+        ensures made { let content = content_in self.old.spaces.spaces self.old.payloads in
+            OnOk result (ChangesTo self.old.spaces self.new.spaces self.new.payloads (λ x. IsNamed content x ⊎ (x ≡ name))
+            (with_rights content.label (name_at self.old.spaces.spaces from) name rights) (with_value content.value name draft)) }
+        ensures vertex { IfOk result (IsVertexAt self.new.spaces.spaces name) }
+        ensures handed_back { IfErr result (λ refused. refused.draft ≡ draft) }
+        ensures spaces { OnErr result (self.new.spaces ≡ self.old.spaces) }
+        ensures payloads { OnErr result (self.new.payloads.entries ≡ self.old.payloads.entries) }
+        ensures places { OnErr result (self.new.remembered.places ≡ self.old.remembered.places) }
+        ensures remembered { AreRemembered self.old.spaces.spaces self.old.remembered.places → AreRemembered self.new.spaces.spaces self.new.remembered.places }
+        ensures placed { OnOk result (IsMadeInRow self.old.spaces self.new.spaces self.old.remembered.places self.new.remembered.places (nursery_space nursery)
+            (name_at self.old.spaces.spaces from) name rights) }
+        ensures full { IfErr result (λ refused. refused.why ≡ AllocateFault.HeapFull →
+            LacksCellsFor self.old.spaces (nursery_space nursery) 1 (name_at self.old.spaces.spaces from) name) }
+        ensures indexed { AreIndexed self.new.spaces.spaces self.new.remembered.places rows.new.entries }
+        ensures long { OnOk result (IsLongRow self.new.spaces.spaces from → IsTrue (indexed_in rows.new.entries (name_at self.old.spaces.spaces from))) }
+        ensures names { MayIndex (name_at self.old.spaces.spaces from) rows.old.entries rows.new.entries }
+        ensures kept { OnErr result (SameIndexed rows.old.entries rows.new.entries) }
+    {
+        // It tells what holds of all spaces (`IsSpaceTable`).
+        let _ = self.spaces.blocks();
+        if !may_get_long(&self.spaces, from) {
+            return self.new_vertex(nursery, from, name, rights, draft);
+        }
+        let Ok(mut row) = self.new_index(rows, from) else {
+            let why = AllocateFault::OutOfMemory;
+            return Err(VertexRefused { draft, why });
+        };
+        let holder = self.name_of(from);
+        let to = self.new_vertex_indexed(&mut row, nursery, from, name, rights, draft)?;
+        rows.add(holder, row);
+        Ok(to)
     }
 }

@@ -15,7 +15,7 @@ use tg_rights::Label;
 use tg_space::{Kind, Spaces, first_pointer};
 use tg_word::{Place, place_of, rights_of};
 
-/// How many cells of a row may be walked along; a longer row gets an index.
+/// How many cells of a row may be walked along. A longer row has an index from the first call on that writes to it.
 pub(crate) const SHORT: usize = 4;
 
 /// Where the reference to a name stands in a row, or where it may be put.
@@ -63,13 +63,13 @@ fn old_cell(cell: Place, wanted: bool) -> Option<Place>
     None
 }
 
-/// Whether the row of an object has more than `SHORT` cells.
-pub(crate) fn is_long(spaces: &Spaces, from: Place) -> bool
+/// Whether the row of an object has `SHORT` cells or more, so that one more makes it long.
+pub(crate) fn may_get_long(spaces: &Spaces, from: Place) -> bool
     requires { IsRow spaces.now.spaces from }
-    ensures { IsTrue result ↔ (4 < length (row_of spaces.now.spaces from)) }
+    ensures { IsTrue result ↔ (SHORT ≤ length (row_of spaces.now.spaces from)) }
 {
     let mut at = from;
-    for _step in 0..SHORT {
+    for _step in 0..SHORT - 1 {
         let link = spaces.read(at, LINK);
         if link == 0 {
             return false;

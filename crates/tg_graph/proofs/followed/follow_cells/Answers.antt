@@ -3,16 +3,15 @@ use Rattle.std.specs.List.{All}
 use Rattle.tg_word.specs.declared.Place.{Place}
 use Rattle.tg_space.specs.Collection.{new_place}
 use Rattle.tg_space.specs.Targets.{from_space}
-use Rattle.tg_graph.specs.Index.{IsOldPlace}
-use Rattle.tg_graph.specs.Kept.{moved_place}
+use Rattle.tg_graph.specs.Index.{IsOldPlace, followed_place}
 use Rattle.tg_graph.proofs.Ages.{moved_behind, old_behind, stay}
 use Rattle.tg_graph.proofs.followed.follow_cells.Goals as goal
 
 pub returns-clause-moved : goal.returns-clause-moved
 returns-clause-moved c =
-    let h = c.args.spaces.now.spaces in
+    let h = c.args.numbering.now.starts in
     let to = new_place c.args.forward.now.words in
-    let f = moved_place (from_space c.args.kind) h to in
+    let f = followed_place (from_space c.args.kind) h to in
     let front = c.split_at_mut-young.result.0.now in
     let young = c.split_at_mut-young.result.1.now in
     ap (λ (zs : List Place). front ++ zs) c.follow.ensures

@@ -9,6 +9,7 @@ use Rattle.tg_word.specs.declared.Place.{Place}
 use Rattle.tg_graph.proofs.Growing.{added_can, added_changes, added_remembered}
 use Rattle.tg_graph.proofs.Remembering.{AreNoted, cells_few, is_young, nothing_noted}
 use Rattle.tg_graph.proofs.IndexOthers.{others_added}
+use Rattle.tg_graph.proofs.RowLengths.{grown_added}
 use Rattle.tg_graph.proofs.cells.Cells.add_edge.Goals as goal
 
 pub put-requires-clause-can : goal.put-requires-clause-can
@@ -106,3 +107,10 @@ returns-clause-full g c = λ is. absurd (cc is)
 
 pub returns-clause-had_room : goal.returns-clause-had_room
 returns-clause-had_room g c = λ left none. refl
+
+pub returns-clause-grown : goal.returns-clause-grown
+returns-clause-grown g c =
+    let made = c.in_ok-make_room.ensures in
+    grown_added c.args.self.now.spaces c.make_room.new.self.spaces c.args.self.now.payloads c.find_spot-spot.ensures.table made.table c.requires.graph (nursery_space c.args.nursery) c.cells.result c.requires.nursery made.spaces
+    c.args.from c.requires.from c.read-name.result c.find_spot-spot.result c.find_spot-spot.ensures.spot made.left c.cells.ensures
+    c.args.to c.requires.to c.read-name.ensures c.args.rights c.requires.some (omega arith) c.put.new.spaces c.put.ensures

@@ -4,9 +4,9 @@ use Rattle.std.proofs.lemmas.Option.{slice_get_within}
 use Rattle.indexmap.proofs.CallerLemmas.{updates-with_value_at}
 use Rattle.indexmap.specs.Layout.{set_value_at}
 use Rattle.tg_word.specs.declared.Place.{Place}
-use Rattle.tg_graph.specs.Index.{AreIndexed, HasIndexAt, Indexes, IsAged, IsOldRow, IsQuiet}
+use Rattle.tg_graph.specs.Index.{AreIndexed, HasIndexAt, Indexes, IsAged, IsOldRow, IsQuiet, SameIndexed}
 use Rattle.tg_graph.proofs.Ages.{aged_at, old_or_behind, row_there, same_aged, same_row, written_aged}
-use Rattle.tg_graph.proofs.IndexedRows.{index_at, indexes_kept, indexes_written}
+use Rattle.tg_graph.proofs.IndexedRows.{index_at, indexes_kept, indexes_written, written_indexed}
 use Rattle.tg_graph.proofs.Quiet.{others_quiet_same, quiet_same}
 use Rattle.tg_graph.proofs.cells.Cells.drop_rights_in.Goals as goal
 
@@ -59,3 +59,11 @@ returns-clause-indexed g c =
     let written = updates-with_value_at c.rows.inside.indexes c.in-Some.at c.drop_indexed.new.row nat_eq_equiv c.get_index_mut.ensures.unique own was.row was.here in
     indexes_written c.args.self.now.spaces.spaces c.drop_indexed.new.self.spaces.spaces c.drop_indexed.ensures.dropped.vertices c.args.from c.requires.from c.drop_indexed.ensures.others before now (others_quiet_same c.args.self.now.spaces.spaces before now c.args.from c.drop_indexed.ensures.places) c.rows.inside.indexes.entries indexed own c.name_of.ensures
     (set_value_at c.rows.inside.indexes.entries c.in-Some.at c.drop_indexed.new.row) c.drop_indexed.new.row written.0 c.drop_indexed.ensures.index quiet
+
+pub returns-in_default-clause-kept : goal.returns-in_default-clause-kept
+returns-in_default-clause-kept g c = λ x. refl
+
+pub returns-clause-kept : goal.returns-clause-kept
+returns-clause-kept g c =
+    let first : SameIndexed c.args.rows.now.entries c.rows.inside.indexes.entries = subst (λ (s : Indexes). SameIndexed c.args.rows.now.entries s.entries) (sym c.rows.view_is) (λ x. refl) in
+    written_indexed c.args.rows.now.entries c.rows.inside.indexes.entries c.in-Some.at c.drop_indexed.new.row first

@@ -1,4 +1,4 @@
-use Rattle.std.proofs.Common.{◌≡◌, ◌∙◌, ◌+◌, ◌<◌, ℕ, List, Option, Err, arith, refl, ap, subst, sym}
+use Rattle.std.proofs.Common.{◌≡◌, ◌∙◌, ◌+◌, ◌<◌, ℕ, length, List, Option, Err, arith, refl, ap, subst, sym}
 use Rattle.std.specs.Prelude.{IfSome}
 use Rattle.tg_word.specs.Word.{nursery_space}
 use Rattle.tg_remember.specs.Notes.{Notes}
@@ -12,6 +12,8 @@ use Rattle.tg_graph.specs.Index.{IsRowIndex}
 use Rattle.tg_graph.specs.Spots.{with_note}
 use Rattle.tg_graph.proofs.IndexMoved.{kept_rows_index}
 use Rattle.tg_graph.proofs.IndexOthers.{others_put}
+use Rattle.tg_graph.proofs.RowLengths.{grown_put}
+use Rattle.tg_space.specs.Rows.{row_of}
 use Rattle.tg_graph.proofs.MadeVertices.{made_in_row}
 use Rattle.tg_graph.proofs.Growing.{found_placed, left_over, made_room, object_placed, grown_graph, placed_can, still_fresh, vertex_made, vertex_remembered, vertex_there}
 use Rattle.tg_graph.proofs.Remembering.{AreNoted, cells_few}
@@ -173,3 +175,27 @@ returns-in-Err-clause-remembered g c =
 
 pub returns-in-Err-clause-others : goal.returns-in-Err-clause-others
 returns-in-Err-clause-others g c = λ r s places other at index. subst (λ (t : SpaceTable). IsRowIndex t.spaces r s places) (sym c.in-Err.ensures.refused) index
+
+pub returns-clause-grown : goal.returns-clause-grown
+returns-clause-grown g c =
+    let t = c.args.self.now.spaces in
+    let payloads = c.args.self.now.payloads in
+    let made = c.in_default.ensures in
+    let grown = c.make_vertex_room.new.self in
+    let placed = c.place_vertex-to.new.self in
+    let step = c.place_vertex-to.ensures in
+    let space = nursery_space c.args.nursery in
+    let spot = c.find_spot-spot.result in
+    let found = c.find_spot-spot.ensures.spot in
+    let cells = ap (λ n. 1 + n) c.cells.ensures in
+    let room = made_room t grown.spaces placed.spaces payloads grown.payloads placed.payloads c.find_spot-spot.ensures.table made.table step.table c.requires.graph space (1 + c.cells.result) c.requires.nursery made.spaces made.payloads c.args.from c.requires.from c.args.name spot found in
+    let graph = grown_graph t grown.spaces placed.spaces payloads grown.payloads placed.payloads c.find_spot-spot.ensures.table made.table step.table c.requires.graph space (1 + c.cells.result) c.requires.nursery made.spaces made.payloads c.args.from c.requires.from c.args.name spot found in
+    let object = object_placed t grown.spaces placed.spaces payloads grown.payloads placed.payloads c.find_spot-spot.ensures.table made.table step.table c.requires.graph space (1 + c.cells.result) c.requires.nursery made.spaces made.payloads c.args.from c.requires.from c.args.name spot found c.args.draft step.placed step.rows c.place_vertex-to.result step.vertex step.used (step.blocks space) made.left cells in
+    let there = found_placed t grown.spaces placed.spaces payloads grown.payloads placed.payloads c.find_spot-spot.ensures.table made.table step.table c.requires.graph space (1 + c.cells.result) c.requires.nursery made.spaces made.payloads c.args.from c.requires.from c.args.name spot found c.args.draft step.placed step.rows c.place_vertex-to.result step.vertex step.used (step.blocks space) made.left cells in
+    let left = left_over t grown.spaces placed.spaces payloads grown.payloads placed.payloads c.find_spot-spot.ensures.table made.table step.table c.requires.graph space (1 + c.cells.result) c.requires.nursery made.spaces made.payloads c.args.from c.requires.from c.args.name spot found c.args.draft step.placed step.rows c.place_vertex-to.result step.vertex step.used (step.blocks space) made.left cells in
+    let first = ap (λ (ps : List Place). length ps) (room.rows.rows c.args.from c.requires.from) in
+    let second = ap (λ (ps : List Place). length ps) (step.rows.rows c.args.from (room.rows.objects c.args.from c.requires.from)) in
+    let put = grown_put placed.spaces step.table placed.payloads step.placed.graph c.args.from object c.args.name space (omega arith, omega (arith, c.requires.nursery, room.spaces, step.placed.spaces))
+    c.place_vertex-to.result step.vertex.object step.vertex.named c.args.rights c.requires.some spot there left in
+    let now = ap (λ (x : SpaceTable). length (row_of x.spaces c.args.from)) c.put.ensures in
+    omega (arith, first, second, put, now)

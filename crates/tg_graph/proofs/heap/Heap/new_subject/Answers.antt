@@ -5,8 +5,9 @@ use Rattle.tg_model.specs.Rules.{with_value}
 use Rattle.tg_word.specs.declared.Place.{Place}
 use Rattle.tg_subjects.specs.Subjects.{AreSubjects, IsLeastFree}
 use Rattle.tg_subjects.specs.declared.subject.Subject.{Subject}
+use Rattle.tg_graph.specs.Index.{names_indexed}
 use Rattle.tg_graph.specs.Content.{IsContent, IsNamed}
-use Rattle.tg_graph.specs.Heap.{HeapState, IsWellFormed, content_of}
+use Rattle.tg_graph.specs.Heap.{HeapState, IsWellFormed, KeepsIndexes, content_of}
 use Rattle.tg_graph.specs.Rows.{IsVertexAt}
 use Rattle.tg_graph.proofs.Heaps.{names_above, well_formed_more}
 use Rattle.tg_graph.proofs.heap.Heap.new_subject.Goals as goal
@@ -18,11 +19,11 @@ add-requires-clause-above g c =
 
 pub invariant_of-self : goal.invariant_of-self
 invariant_of-self g c =
-    let s : HeapState = record { table = c.self.inside.cells.spaces; payloads = c.self.inside.cells.payloads; subjects = c.self.inside.subjects; remembered = c.self.inside.cells.remembered.places } in
+    let s : HeapState = record { table = c.self.inside.cells.spaces; payloads = c.self.inside.cells.payloads; subjects = c.self.inside.subjects; remembered = c.self.inside.cells.remembered.places; indexed = names_indexed c.self.inside.cells.spaces.spaces c.self.inside.rows.entries } in
     let x : Subject = record { name = c.args.name; nursery = c.add.result; place = c.in_ok-place.place } in
     let are : AreSubjects (s.subjects ++ x ∷ []) = subst AreSubjects c.add.ensures.added c.add.ensures.subjects in
     let vertex = subst (λ (heap : HeapState). IsVertexAt heap.table.spaces c.args.name c.in_ok-place.place) (sym c.self.view_is) c.in_ok-place.ensures.vertex in (
-      subst (λ (subjects : List Subject). IsWellFormed (record { table = s.table; payloads = s.payloads; subjects = subjects; remembered = s.remembered })) (sym c.add.ensures.added) (well_formed_more s c.self.invariant.0 x are vertex),
+      subst (λ (subjects : List Subject). IsWellFormed (record { table = s.table; payloads = s.payloads; subjects = subjects; remembered = s.remembered; indexed = s.indexed })) (sym c.add.ensures.added) (well_formed_more s c.self.invariant.0 x are vertex),
       c.self.invariant.1,
     )
 
@@ -48,3 +49,8 @@ returns-clause-added g c =
       limits = subst (λ (heap : HeapState). heap.table.limits ≡ old.table.limits) (sym c.self.view_is) kept.limits;
       vertices = subst (λ (heap : HeapState). (y : ℕ) (p : Place) → IsVertexAt old.table.spaces y p → IsVertexAt heap.table.spaces y p) (sym c.self.view_is) kept.vertices;
     }
+
+pub returns-clause-indexed : goal.returns-clause-indexed
+returns-clause-indexed g c =
+    let kept = subst (λ (heap : HeapState). KeepsIndexes c.args.self.now heap c.active-subject.result.place) (sym c.self.view_is) c.in_ok-place.ensures.indexed in
+    (c.active-subject.result.place, c.active-subject.ensures.vertex, record { made = kept.made; kept = kept.kept; others = kept.others })

@@ -22,3 +22,6 @@ returns-clause-placed g c =
     let new = c.new_vertex_as.new.self in
     subst (λ (nursery : ℕ). IsMadeInRow old.table new.table old.remembered new.remembered (nursery_space nursery) c.args.worker c.args.name c.args.label) c.active-subject.ensures.nursery
     (subst (λ (n : ℕ). IsMadeInRow old.table new.table old.remembered new.remembered (nursery_space c.active-subject.result.nursery) n c.args.name c.args.label) c.active-subject.ensures.there.named c.in_ok-new_vertex_as.ensures.placed)
+
+pub returns-clause-indexed : goal.returns-clause-indexed
+returns-clause-indexed g c = (c.active-subject.result.place, c.active-subject.ensures.vertex, c.in_ok-new_vertex_as.ensures.indexed)

@@ -5,6 +5,7 @@ use Rattle.tg_space.specs.Targets.{all_root_targets, young_spaces}
 use Rattle.tg_space.specs.declared.kind.Kind.TheVariants.{Nursery}
 use Rattle.tg_space.specs.declared.root.Root.{Root}
 use Rattle.tg_space.specs.declared.root.Root.TheVariants.{Remembered}
+use Rattle.tg_graph.specs.Index.{names_indexed}
 use Rattle.tg_graph.specs.Heap.{AreShorter, CollectAlike, HeapState, roots_of}
 use Rattle.tg_graph.proofs.Starts.{all_same, starts_collect, starts_sound}
 use Rattle.tg_graph.proofs.heap.Heap.nursery_roots.Goals as goal
@@ -12,7 +13,7 @@ use Rattle.tg_graph.proofs.heap.Heap.nursery_roots.Goals as goal
 pub returns-clause-roots : goal.returns-clause-roots
 returns-clause-roots g c =
     let inside = c.self.inside in
-    let s : HeapState = record { table = inside.cells.spaces; payloads = inside.cells.payloads; subjects = inside.subjects; remembered = inside.cells.remembered.places } in
+    let s : HeapState = record { table = inside.cells.spaces; payloads = inside.cells.payloads; subjects = inside.subjects; remembered = inside.cells.remembered.places; indexed = names_indexed inside.cells.spaces.spaces inside.rows.entries } in
     let rows = c.in_ok-roots.roots.items in
     let are : AreShorter s.table.spaces (places_of s.subjects) rows = subst (λ (heap : HeapState). AreShorter heap.table.spaces (places_of heap.subjects) rows) (sym c.self.view_is) c.in_ok-roots.ensures in
     subst (λ (roots : List Root). CollectAlike Nursery c.args.self.now.table.spaces (roots_of Nursery c.args.self.now) roots) (sym c.in_ok-add_remembered.ensures)
@@ -21,7 +22,7 @@ returns-clause-roots g c =
 pub returns-clause-sound : goal.returns-clause-sound
 returns-clause-sound g c =
     let inside = c.self.inside in
-    let s : HeapState = record { table = inside.cells.spaces; payloads = inside.cells.payloads; subjects = inside.subjects; remembered = inside.cells.remembered.places } in
+    let s : HeapState = record { table = inside.cells.spaces; payloads = inside.cells.payloads; subjects = inside.subjects; remembered = inside.cells.remembered.places; indexed = names_indexed inside.cells.spaces.spaces inside.rows.entries } in
     let rows = c.in_ok-roots.roots.items in
     let are : AreShorter s.table.spaces (places_of s.subjects) rows = subst (λ (heap : HeapState). AreShorter heap.table.spaces (places_of heap.subjects) rows) (sym c.self.view_is) c.in_ok-roots.ensures in
     subst (λ (roots : List Root). AreSound c.args.self.now.table.spaces roots) (sym c.in_ok-add_remembered.ensures)
@@ -30,7 +31,7 @@ returns-clause-sound g c =
 pub returns-clause-targets : goal.returns-clause-targets
 returns-clause-targets g c =
     let inside = c.self.inside in
-    let s : HeapState = record { table = inside.cells.spaces; payloads = inside.cells.payloads; subjects = inside.subjects; remembered = inside.cells.remembered.places } in
+    let s : HeapState = record { table = inside.cells.spaces; payloads = inside.cells.payloads; subjects = inside.subjects; remembered = inside.cells.remembered.places; indexed = names_indexed inside.cells.spaces.spaces inside.rows.entries } in
     let rows = c.in_ok-roots.roots.items in
     let are : AreShorter s.table.spaces (places_of s.subjects) rows = subst (λ (heap : HeapState). AreShorter heap.table.spaces (places_of heap.subjects) rows) (sym c.self.view_is) c.in_ok-roots.ensures in
     let h = c.args.self.now.table.spaces in

@@ -8,6 +8,7 @@ use Rattle.tg_space.specs.SpaceList.{Holds}
 use Rattle.tg_space.specs.Targets.{from_space}
 use Rattle.tg_space.specs.Collection.{new_place}
 use Rattle.tg_space.specs.declared.kind.Kind.TheVariants.{Nursery}
+use Rattle.tg_graph.specs.Index.{names_indexed}
 use Rattle.tg_graph.specs.Heap.{HeapState}
 use Rattle.tg_graph.specs.Kept.{IsPrepared, moved_place}
 use Rattle.tg_graph.specs.declared.settle.Prepared.{Prepared}
@@ -19,19 +20,19 @@ use Rattle.tg_graph.proofs.heap.Heap.prepared.Goals as goal
 pub rewritten_cells-requires-clause-places : goal.rewritten_cells-requires-clause-places
 rewritten_cells-requires-clause-places g c =
     let inside = c.self.inside in
-    let s : HeapState = record { table = inside.cells.spaces; payloads = inside.cells.payloads; subjects = inside.subjects; remembered = inside.cells.remembered.places } in
+    let s : HeapState = record { table = inside.cells.spaces; payloads = inside.cells.payloads; subjects = inside.subjects; remembered = inside.cells.remembered.places; indexed = names_indexed inside.cells.spaces.spaces inside.rows.entries } in
     words_in_range s c.args.self.now c.self.view_is c.self.invariant.0 c.in_ok-dead.ensures.table c.args.forward.now.words c.args.adoption.now.aged c.args.adoption.now.old c.args.noted.now.places c.requires c.len.ensures.whole.0
 
 pub rewritten_cells-requires-clause-held : goal.rewritten_cells-requires-clause-held
 rewritten_cells-requires-clause-held g c =
     let inside = c.self.inside in
-    let s : HeapState = record { table = inside.cells.spaces; payloads = inside.cells.payloads; subjects = inside.subjects; remembered = inside.cells.remembered.places } in
+    let s : HeapState = record { table = inside.cells.spaces; payloads = inside.cells.payloads; subjects = inside.subjects; remembered = inside.cells.remembered.places; indexed = names_indexed inside.cells.spaces.spaces inside.rows.entries } in
     remembered_cells s c.self.invariant.0
 
 pub follow-requires-clause-held : goal.follow-requires-clause-held
 follow-requires-clause-held g c =
     let inside = c.self.inside in
-    let s : HeapState = record { table = inside.cells.spaces; payloads = inside.cells.payloads; subjects = inside.subjects; remembered = inside.cells.remembered.places } in
+    let s : HeapState = record { table = inside.cells.spaces; payloads = inside.cells.payloads; subjects = inside.subjects; remembered = inside.cells.remembered.places; indexed = names_indexed inside.cells.spaces.spaces inside.rows.entries } in
     let objects = subject_objects s.table.spaces s.subjects c.self.invariant.0.vertices in
     let held : All (Holds s.table.spaces) (places_of s.subjects) = λ k d low. (objects k d low).held in
     subst (All (Holds s.table.spaces)) (sym (c.deref_mut.ensures.value ∙ c.in_ok-places.ensures ∙ ap places_of c.as_slice.ensures.value)) held
@@ -40,7 +41,7 @@ pub returns-clause-prepared : goal.returns-clause-prepared
 returns-clause-prepared g c =
     let inside = c.self.inside in
     let forward = c.args.forward.now.words in
-    let s : HeapState = record { table = inside.cells.spaces; payloads = inside.cells.payloads; subjects = inside.subjects; remembered = inside.cells.remembered.places } in
+    let s : HeapState = record { table = inside.cells.spaces; payloads = inside.cells.payloads; subjects = inside.subjects; remembered = inside.cells.remembered.places; indexed = names_indexed inside.cells.spaces.spaces inside.rows.entries } in
     let f = moved_place (from_space Nursery) s.table.spaces (new_place forward) in
     let copied = c.in_ok-places.ensures ∙ ap places_of c.as_slice.ensures.value in
     let moved : c.follow.new.places ≡ map f c.in_ok-places.places.items = subst (λ (places : List Place). c.follow.new.places ≡ map f places) c.deref_mut.ensures.value c.follow.ensures in

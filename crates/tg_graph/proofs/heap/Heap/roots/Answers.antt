@@ -11,6 +11,7 @@ use Rattle.tg_space.specs.declared.kind.Kind.{Kind}
 use Rattle.tg_space.specs.declared.kind.Kind.TheVariants.{Full}
 use Rattle.tg_space.specs.declared.root.Root.{Root}
 use Rattle.tg_space.specs.declared.root.Root.TheVariants.{Row}
+use Rattle.tg_graph.specs.Index.{names_indexed}
 use Rattle.tg_graph.specs.Heap.{CollectAlike, HeapState, roots_of}
 use Rattle.tg_graph.proofs.KeptHeap.{roots_sound}
 use Rattle.tg_graph.proofs.heap.Heap.roots.Goals as goal
@@ -34,7 +35,7 @@ returns-in-Full-clause-roots g c =
 pub returns-in-Full-clause-sound : goal.returns-in-Full-clause-sound
 returns-in-Full-clause-sound g c =
     let inside = c.self.inside in
-    let s : HeapState = record { table = inside.cells.spaces; payloads = inside.cells.payloads; subjects = inside.subjects; remembered = inside.cells.remembered.places } in
+    let s : HeapState = record { table = inside.cells.spaces; payloads = inside.cells.payloads; subjects = inside.subjects; remembered = inside.cells.remembered.places; indexed = names_indexed inside.cells.spaces.spaces inside.rows.entries } in
     let now = c.args.self.now in
     let rows : List Subject → List Root = λ xs. map (λ (x : Subject). Row x.place) xs in
     let sound : AreSound now.table.spaces (rows now.subjects) = subst (λ (heap : HeapState). AreSound heap.table.spaces (rows heap.subjects)) c.self.view_is (subst (AreSound s.table.spaces) (sym (at_places s.subjects)) (roots_sound s c.self.invariant.0 Full)) in

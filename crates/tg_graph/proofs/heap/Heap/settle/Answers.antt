@@ -1,9 +1,11 @@
-use Rattle.std.proofs.Common.{◌≡◌, ◌≢◌, ◌≤◌, ◌∙◌, ℕ, [], map, refl, subst, sym}
+use Rattle.std.specs.List.{Contains}
+use Rattle.std.proofs.Common.{◌↔◌, ◌≡◌, ◌≢◌, ◌≤◌, ◌∙◌, ℕ, [], map, refl, subst, sym}
 use Rattle.tg_space.specs.SpaceList.{space_of}
 use Rattle.tg_space.specs.Generations.{AreNeeded}
 use Rattle.tg_space.specs.SpaceTable.{with_adopted}
 use Rattle.tg_space.specs.declared.kind.Kind.{Kind}
 use Rattle.tg_space.specs.declared.kind.Kind.TheVariants.{Full, Nursery}
+use Rattle.tg_graph.specs.Content.{IsNamed}
 use Rattle.tg_graph.specs.Standing.{KeepsReached}
 use Rattle.tg_subjects.specs.Subjects.{nurseries_of}
 use Rattle.tg_graph.specs.Heap.{HeapState, content_of, subject_names}
@@ -111,3 +113,11 @@ returns-clause-left g c = c.vertices.ensures.number
 
 pub returns-clause-full : goal.returns-clause-full
 returns-clause-full g c = λ full. refl
+
+pub returns-clause-indexed : goal.returns-clause-indexed
+returns-clause-indexed g c =
+    let old : HeapState = c.args.self.now in
+    elim c.match-kind.branch [
+      | in-Full w ↦ subst (λ (heap : HeapState). (x : ℕ) → IsNamed (content_of heap) x → Contains heap.indexed x ↔ Contains old.indexed x) (sym w.self-is) w.keep_copied.ensures.settled.indexed
+      | in-Nursery+in_ok-keep_old_and_copied-in-Nursery w ↦ subst (λ (heap : HeapState). (x : ℕ) → IsNamed (content_of heap) x → Contains heap.indexed x ↔ Contains old.indexed x) (sym w.self-is) w.in_ok-keep_old_and_copied-in-Nursery.ensures.settled.indexed
+    ]

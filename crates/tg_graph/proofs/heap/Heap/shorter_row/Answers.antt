@@ -3,6 +3,7 @@ use Rattle.std.specs.List.{Contains}
 use Rattle.tg_word.specs.declared.Place.{Place}
 use Rattle.tg_space.specs.declared.root.Root.TheVariants.{Row}
 use Rattle.tg_space.proofs.Tables.{table_list}
+use Rattle.tg_graph.specs.Index.{names_indexed}
 use Rattle.tg_graph.specs.Heap.{HeapState, IsShorter}
 use Rattle.tg_graph.proofs.Heaps.{subject_vertex}
 use Rattle.tg_graph.proofs.Starts.{shorter_row, whole_row}
@@ -18,7 +19,7 @@ start-requires g c =
 pub returns-in-Some : goal.returns-in-Some
 returns-in-Some g c =
     let inside = c.self.inside in
-    let s : HeapState = record { table = inside.cells.spaces; payloads = inside.cells.payloads; subjects = inside.subjects; remembered = inside.cells.remembered.places } in
+    let s : HeapState = record { table = inside.cells.spaces; payloads = inside.cells.payloads; subjects = inside.subjects; remembered = inside.cells.remembered.places; indexed = names_indexed inside.cells.spaces.spaces inside.rows.entries } in
     let formed = c.self.invariant.0 in
     let row = c.in-Some.row.now in
     let x = c.args.subject in
@@ -30,7 +31,7 @@ returns-in-Some g c =
 pub returns-in-None : goal.returns-in-None
 returns-in-None g c =
     let inside = c.self.inside in
-    let s : HeapState = record { table = inside.cells.spaces; payloads = inside.cells.payloads; subjects = inside.subjects; remembered = inside.cells.remembered.places } in
+    let s : HeapState = record { table = inside.cells.spaces; payloads = inside.cells.payloads; subjects = inside.subjects; remembered = inside.cells.remembered.places; indexed = names_indexed inside.cells.spaces.spaces inside.rows.entries } in
     let formed = c.self.invariant.0 in
     let x = c.args.subject in
     let there : Contains s.subjects x = subst (λ (heap : HeapState). Contains heap.subjects x) (sym c.self.view_is) c.requires in

@@ -3,6 +3,7 @@ use Rattle.std.proofs.Common.{◌≡◌, ◌==◌, length, map, subst, ◌∙◌
 use Rattle.std.specs.List.{IsDistinct}
 use Rattle.tg_space.proofs.Tables.{table_list}
 use Rattle.tg_payload.specs.Table.{count}
+use Rattle.tg_graph.specs.Index.{names_indexed}
 use Rattle.tg_graph.specs.Heap.{HeapState}
 use Rattle.tg_graph.specs.Rows.{name_at, objects_of}
 use Rattle.tg_graph.proofs.Counted.{names_once, payloads_counted}
@@ -11,13 +12,13 @@ use Rattle.tg_graph.proofs.heap.Heap.vertices.Goals as goal
 pub returns-clause-number : goal.returns-clause-number
 returns-clause-number g c =
     let inside = c.self.inside in
-    let s : HeapState = record { table = inside.cells.spaces; payloads = inside.cells.payloads; subjects = inside.subjects; remembered = inside.cells.remembered.places } in
+    let s : HeapState = record { table = inside.cells.spaces; payloads = inside.cells.payloads; subjects = inside.subjects; remembered = inside.cells.remembered.places; indexed = names_indexed inside.cells.spaces.spaces inside.rows.entries } in
     let counted = payloads_counted s.table.spaces s.payloads (table_list s.table c.blocks-2.ensures.table) c.self.invariant.0.graph in
     c.len.ensures ∙ subst (λ (heap : HeapState). count s.payloads ≡ length (map (name_at heap.table.spaces) (objects_of heap.table.spaces))) c.self.view_is counted
 
 pub returns-clause-once : goal.returns-clause-once
 returns-clause-once g c =
     let inside = c.self.inside in
-    let s : HeapState = record { table = inside.cells.spaces; payloads = inside.cells.payloads; subjects = inside.subjects; remembered = inside.cells.remembered.places } in
+    let s : HeapState = record { table = inside.cells.spaces; payloads = inside.cells.payloads; subjects = inside.subjects; remembered = inside.cells.remembered.places; indexed = names_indexed inside.cells.spaces.spaces inside.rows.entries } in
     let once = names_once s.table.spaces s.payloads (table_list s.table c.blocks-2.ensures.table) c.self.invariant.0.graph in
     subst (λ (heap : HeapState). IsDistinct (λ a b. a == b) (map (name_at heap.table.spaces) (objects_of heap.table.spaces))) c.self.view_is once

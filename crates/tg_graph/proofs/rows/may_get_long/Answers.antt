@@ -2,7 +2,7 @@ use Rattle.std.proofs.Common.{◌≡◌, ◌∙◌, ◌+◌, length, refl, sym, 
 use Rattle.tg_word.specs.Word.{place_in}
 use Rattle.tg_space.specs.Rows.{row_of}
 use Rattle.tg_graph.proofs.Indexing.{follow_begins, follow_ends, follow_goes_on}
-use Rattle.tg_graph.proofs.rows.is_long.Goals as goal
+use Rattle.tg_graph.proofs.rows.may_get_long.Goals as goal
 
 pub loop-step-init : goal.loop-step-init
 loop-step-init c = follow_begins c.args.spaces.now.spaces c.args.from c.requires

@@ -1,0 +1,68 @@
+#!/usr/bin/env python3
+"""takes.py [PROGRAM]
+
+Counts the instructions of a take from a row of 200 edges and from one of 20,000, under valgrind, and says whether the second is at
+most 1.5 times the first. An index that is there and never asked meets every contract, since a walk along the row finds the same:
+here it shows. For each row two scripts are run, one that makes the row and one that takes from it then too; their difference over the
+number of takes is what one costs. The takes go over names that stand all along the row, and are the same number each time, so the
+row of the taker is as long in both.
+
+PROGRAM is crates/tgstore/out/tgstore unless it is given. Exit status 1 where takes from the long row cost more, or a run ended
+otherwise than it is to. Where valgrind isn't here, nothing is run."""
+import os
+import re
+import shutil
+import subprocess
+import sys
+import tempfile
+
+HERE = os.path.dirname(os.path.abspath(__file__))
+BUILT = os.path.join(HERE, "..", "crates", "tgstore", "out", "tgstore")
+SHORT_ROW, LONG_ROW = 200, 20_000
+NAMES = 100
+TAKES = 2_000
+MOST_TIMES = 1.5
+
+
+def making(size):
+    """Worker 0 makes as many objects, and worker 1 may take from it."""
+    return ["edge 1 0 t"] + ["0 create r"] * size
+
+
+def taking(size):
+    step = size // NAMES
+    return [f"1 take 0 {2 + i % NAMES * step} r" for i in range(TAKES)]
+
+
+def instructions(program, lines):
+    """How many instructions a run of the script takes."""
+    counter = ["valgrind", "--tool=cachegrind", "--cache-sim=no", "--cachegrind-out-file=/dev/null"]
+    options = ["--workers", "2", "--stock", f"c{LONG_ROW}"]
+    with tempfile.TemporaryFile() as script:
+        script.write("".join(f"{line}\n" for line in lines).encode())
+        script.seek(0)
+        run = subprocess.run([*counter, program, *options], stdin=script, stdout=subprocess.DEVNULL, stderr=subprocess.PIPE, text=True)
+    counted = re.search(r"I\s+refs:\s+([\d,]+)", run.stderr)
+    if run.returncode != 0 or not counted:
+        sys.exit(f"takes: a run ended with status {run.returncode}:\n{run.stderr}")
+    return int(counted[1].replace(",", ""))
+
+
+def of_one_take(program, size):
+    made = instructions(program, making(size))
+    taken = instructions(program, making(size) + taking(size))
+    return (taken - made) / TAKES
+
+
+def main():
+    program = sys.argv[1] if len(sys.argv) > 1 else BUILT
+    if not shutil.which("valgrind"):
+        print("takes: valgrind isn't here: left out")
+        return 0
+    short, long = (of_one_take(program, size) for size in (SHORT_ROW, LONG_ROW))
+    print(f"a take from a row of {SHORT_ROW}: {short:.0f} instructions; of {LONG_ROW}: {long:.0f}, {long / short:.2f} times as many")
+    return 0 if long <= MOST_TIMES * short else 1
+
+
+if __name__ == "__main__":
+    sys.exit(main())
