@@ -100,17 +100,17 @@ def grants_to_one_row():
 
 
 def grants_to_many_rows():
-    """Rows of 21 edges, which are walked: one more and they have an index."""
-    front = ["0 create g"] * 400 + creates(21)
-    pairs = ((1 + vertex, 401 + edge) for edge in range(21) for vertex in range(400))
+    """Rows of 15 edges, which are walked: a grant to one of 16 finds four cells, and makes an index."""
+    front = ["0 create g"] * 400 + creates(15)
+    pairs = ((1 + vertex, 401 + edge) for edge in range(15) for vertex in range(400))
     front += [f"0 grant {via} {target} r" for via, target in pairs]
-    return Case("--workers 1 --stock c1000", front, (f"0 grant {1 + i * 7 % 400} {421 - i % 2} r" for i in itertools.count()))
+    return Case("--workers 1 --stock c1000", front, (f"0 grant {1 + i * 7 % 400} {415 - i % 2} r" for i in itertools.count()))
 
 
 def rows_come_to_have_an_index():
-    """Rows of 22 edges, each of which gets an index with the last."""
-    front = ["0 create g"] * 1_900 + creates(22)
-    return Case("--workers 1 --stock c2000", front, (f"0 grant {1 + i % 1900} {1901 + i // 1900 % 22} r" for i in itertools.count()))
+    """Rows of 17 edges, each of which gets an index with the last."""
+    front = ["0 create g"] * 1_900 + creates(17)
+    return Case("--workers 1 --stock c2000", front, (f"0 grant {1 + i % 1900} {1901 + i // 1900 % 17} r" for i in itertools.count()))
 
 
 def removes_from_the_front():
