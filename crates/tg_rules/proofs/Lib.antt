@@ -1,3 +1,4 @@
 pub mod DecisionLaws
 mod FaultLaws
+mod IndexLaws
 mod SubjectNames

@@ -1,6 +1,6 @@
 -- What a command does that is served, and how a refused growth is told.
-use Rattle.std.specs.Prelude.{◌≡◌, ℕ, ◌<◌}
-use Rattle.std.specs.List.{All}
+use Rattle.std.specs.Prelude.{◌≡◌, ◌↔◌, ℕ, ◌<◌}
+use Rattle.std.specs.List.{All, Contains}
 use Rattle.tg_model.specs.declared.command.Command.{Command}
 use Rattle.tg_model.specs.declared.command.Command.TheVariants.{Take, Grant, Remove, Read, Write, Append, Inspect, List as Listing, Retire}
 use Rattle.tg_model.specs.declared.reply.Reply.{Reply}
@@ -10,10 +10,11 @@ use Rattle.tg_space.specs.declared.allocate_fault.AllocateFault.{AllocateFault}
 use Rattle.tg_space.specs.declared.allocate_fault.AllocateFault.TheVariants as allocate
 use Rattle.tg_space.specs.SpaceTable.{SpaceTable}
 use Rattle.tg_graph.specs.Content.{Content, IsNamed, IsContent}
-use Rattle.tg_graph.specs.Heap.{HeapState}
+use Rattle.tg_graph.specs.Heap.{HeapState, KeepsIndexes}
 use Rattle.tg_graph.specs.Rows.{IsVertexAt}
 use Rattle.tg_graph.specs.Spots.{LacksCellsFor}
 use Rattle.tg_word.specs.declared.Place.{Place}
+use Rattle.tg_rules.specs.Parties.{owner_of_row}
 use Rattle.tg_rules.specs.declared.effect.PerformFault.{PerformFault}
 use Rattle.tg_rules.specs.declared.effect.PerformFault.TheVariants as perform
 
@@ -53,6 +54,16 @@ AddsEdge (Append y v) = ⊥
 AddsEdge (Inspect y) = ⊥
 AddsEdge Listing = ⊥
 AddsEdge Retire = ⊥
+
+-- the rows of the same vertices have an index
+abbrev pub SameIndexes : HeapState → HeapState → Type 0
+SameIndexes old new = (name : ℕ) → Contains new.indexed name ↔ Contains old.indexed name
+
+-- Where the command of x adds an edge, the row that gets it has an index if it is long now, or had one. All other rows have one
+-- where they had one.
+pub record IndexesAfter (old new : HeapState) (x : ℕ) (command : Command) : Type 0 where
+  pub added : AddsEdge command → (row : Place) × IsVertexAt old.table.spaces (owner_of_row x command) row × KeepsIndexes old new row
+  pub others : ¬ AddsEdge command → SameIndexes old new
 
 -- the edge that the command of x adds goes where more cells are needed than the nursery with this number, which x holds, has left
 -- and gets

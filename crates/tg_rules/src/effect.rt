@@ -4,10 +4,10 @@ ghost use Rattle.std.specs.List.{All};
 ghost use Rattle.tg_model.specs.Graph.{with_rights, without_rights, without_subject, listing_of};
 ghost use Rattle.tg_model.specs.Rules.{denial_of, state_of, subjects_after, written_at};
 ghost use Rattle.tg_word.specs.Word.{nursery_space};
-ghost use Rattle.tg_graph.specs.Heap.{content_of, IsActive, IsUnchangedHeap, KeepsPlaces, nursery_of, subject_names};
+ghost use Rattle.tg_graph.specs.Heap.{content_of, IsActive, IsUnchangedHeap, KeepsIndexes, KeepsPlaces, nursery_of, subject_names};
 ghost use Rattle.tg_graph.specs.Content.{IsContent, IsNamed};
 ghost use Rattle.tg_graph.specs.Spots.{LacksCellsFor};
-ghost use Rattle.tg_rules.specs.Effect.{IsReplyOn, IsContentAfter, KeepsVertices, OnlyLooks, AddsEdge, LacksCellsToServe};
+ghost use Rattle.tg_rules.specs.Effect.{IndexesAfter, IsReplyOn, IsContentAfter, KeepsVertices, OnlyLooks, AddsEdge, LacksCellsToServe, SameIndexes};
 ghost use Rattle.tg_rules.specs.Parties.{AreParties};
 ghost use Rattle.tg_rules.specs.Verdict.{HasSubject, HasVertex};
 
@@ -76,6 +76,7 @@ pub fn perform<P: Payload>(
     ensures kept { OnOk result (KeepsVertices heap.old heap.new) }
     ensures subjects { OnOk result (subject_names heap.new ≡ subjects_after (subject_names heap.old) worker command.now) }
     ensures looks { OnlyLooks command.now → heap.new ≡ heap.old }
+    ensures indexed { OnOk result (IndexesAfter heap.old heap.new worker command.now) }
     ensures refused { OnErr result (IsUnchangedHeap heap.old heap.new) }
     ensures full { result ≡ Err PerformFault.HeapFull → AddsEdge command.now × LacksCellsToServe heap.old.table (nursery_of heap.old worker) worker command.now }
 {
@@ -102,6 +103,7 @@ pub fn perform_between<P: Payload>(
     ensures kept { OnOk result (KeepsVertices heap.old heap.new) }
     ensures subjects { OnOk result (subject_names heap.new ≡ subjects_after (subject_names heap.old) subject.name command.now) }
     ensures looks { OnlyLooks command.now → heap.new ≡ heap.old }
+    ensures indexed { OnOk result (IndexesAfter heap.old heap.new subject.name command.now) }
     ensures refused { OnErr result (IsUnchangedHeap heap.old heap.new) }
     ensures full { result ≡ Err PerformFault.HeapFull → AddsEdge command.now × LacksCellsToServe heap.old.table subject.nursery subject.name command.now }
 {
@@ -151,6 +153,7 @@ fn add<P: Payload>(
     ensures content { OnOk result (IsContent (content_of heap.new) (IsNamed (content_of heap.old))
         (with_rights (content_of heap.old).label from.name target.name rights) (content_of heap.old).value) }
     ensures kept { OnOk result (KeepsPlaces heap.old heap.new) }
+    ensures indexed { OnOk result (KeepsIndexes heap.old heap.new from.place) }
     ensures refused { OnErr result (IsUnchangedHeap heap.old heap.new) }
     ensures full { result ≡ Err PerformFault.HeapFull → LacksCellsFor heap.old.table (nursery_space subject.nursery) 0 from.name target.name }
 {
@@ -166,6 +169,7 @@ fn remove<P: Payload>(heap: &mut Heap<P>, from: Vertex, name: u64, rights: Label
     ensures content { IsContent (content_of heap.new) (IsNamed (content_of heap.old))
         (without_rights (content_of heap.old).label from.name name rights) (content_of heap.old).value }
     ensures kept { KeepsPlaces heap.old heap.new }
+    ensures indexed { SameIndexes heap.old heap.new }
 {
     heap.drop_rights(from.place, name, rights);
     Reply::Done
@@ -189,6 +193,7 @@ fn write<P: Payload>(heap: &mut Heap<P>, target: Vertex, number: u64) -> Result<
     ensures content { OnOk result (IsContent (content_of heap.new) (IsNamed (content_of heap.old)) (content_of heap.old).label
         (written_at (content_of heap.old).value target.name number)) }
     ensures kept { OnOk result (KeepsPlaces heap.old heap.new) }
+    ensures indexed { OnOk result (heap.new.indexed ≡ heap.old.indexed) }
     ensures refused { OnErr result (IsUnchangedHeap heap.old heap.new) }
     ensures room { result ≢ Err PerformFault.HeapFull }
 {
@@ -203,6 +208,7 @@ fn retire<P: Payload>(heap: &mut Heap<P>, name: u64) -> Reply
     ensures content { content_of heap.new ≡ content_of heap.old }
     ensures kept { KeepsVertices heap.old heap.new }
     ensures subjects { subject_names heap.new ≡ without_subject (subject_names heap.old) name }
+    ensures indexed { heap.new.indexed ≡ heap.old.indexed }
 {
     heap.retire(name);
     Reply::Done
