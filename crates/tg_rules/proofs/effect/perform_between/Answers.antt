@@ -6,7 +6,7 @@ use Rattle.tg_graph.specs.Content.{Content}
 use Rattle.tg_graph.specs.Heap.{content_of}
 use Rattle.tg_graph.proofs.StandingLaws.{IsSameContent-self}
 use Rattle.tg_rules.specs.Effect.{AddsEdge, IsContentAfter}
-use Rattle.tg_rules.proofs.IndexLaws.{indexes_added}
+use Rattle.tg_rules.proofs.IndexLaws.{adds_edge, indexes_added}
 use Rattle.tg_rules.proofs.effect.perform_between.Goals as goal
 use Rattle.tg_rules.proofs.effect.perform_between.Goals.{in-Take, in-Take-2}
 
@@ -19,7 +19,7 @@ returns-in-Retire-clause-content g c =
 pub returns-in-Take-clause-indexed : goal.returns-in-Take-clause-indexed
 returns-in-Take-clause-indexed g c =
     let adds : AddsEdge c.args.command.now = elim c.in-Take-1.branch [
-      | in-Take w ↦ subst AddsEdge (sym w.in-Take.is) tt
-      | in-Take-2 w ↦ subst AddsEdge (sym w.in-Take.is) tt
+      | in-Take w ↦ adds_edge c.args.command.now w.in-Take.rights w.in-Take.is
+      | in-Take-2 w ↦ adds_edge c.args.command.now w.in-Take.rights w.in-Take.is
     ] in
     on_ok_weaker c.add.result (indexes_added c.args.heap.now c.add.new.heap c.args.subject.name c.args.command.now c.args.parties adds c.requires.parties) c.add.ensures.indexed
