@@ -1,6 +1,7 @@
 use Rattle.std.proofs.Common.{ℕ, subst}
 use Rattle.std.specs.Prelude.{IfErr}
 use Rattle.tg_script.specs.Running.{IsDue, Ran}
+use Rattle.tg_script.specs.Script.{start_with}
 use Rattle.tg_script.proofs.run_script.run_script_one.Goals as goal
 
 pub returns-clause-output : goal.returns-clause-output
