@@ -7,8 +7,7 @@ ghost use Rattle.tg_program.specs.Faults.{status_of_stop};
 ghost use Rattle.tg_program.specs.Serving.{Served};
 ghost use Rattle.tg_program.specs.Starts.{IsReady};
 
-use crate::payloads::RunPayloads;
-use crate::serving::serve;
+use crate::serving::{RunPayloads, serve};
 use crate::start::Start;
 use crate::stop::Stop;
 use std::alloc::Global;
@@ -17,8 +16,8 @@ use std::thread::Threads;
 use tg_payload::{CellPayload, LogPayload, MaxPayload, PayloadBox, SumPayload};
 use tg_script::{Collector, Sink, Source, StockItem};
 
-/// Runs the source's script from the start, with new boxes: a cell with 0 for each worker, and those of the stock, each made a
-/// draft before the next is made. Memory may be wanting before the run; then nothing is read or written.
+/// Runs the source's script from the start, with new boxes: a cell with 0 for each worker, and those of the stock. Memory may
+/// be wanting before it; then nothing is read or written.
 pub(crate) fn serve_with_boxes<R: Threads + Wait + Sync, C: Collector, S: Source, K: Sink>(
     rt: &R,
     alloc: Global,
@@ -33,10 +32,11 @@ pub(crate) fn serve_with_boxes<R: Threads + Wait + Sync, C: Collector, S: Source
     ensures output { (bytes before : List ℕ) → S.left source.old ≡ Some bytes → K.taken sink.old ≡ Some before →
         (left : List ℕ) × (S.left source.new ≡ Some left) × Served start.now bytes before result left (K.taken sink.new) }
 {
-    let mut payloads: RunPayloads<PayloadBox> = RunPayloads::with_room(alloc, start.stock.len())?;
+    let mut workers: Vec<PayloadBox> = Vec::new(alloc);
     for _ in 0..start.settings.workers {
-        payloads.add_worker(alloc, Box::new(alloc, CellPayload::new(0))?)?;
+        workers.push(Box::new(alloc, CellPayload::new(0))?)?;
     }
+    let mut stock: Vec<PayloadBox> = Vec::new(alloc);
     for item in &start.stock {
         let payload: PayloadBox = match item {
             StockItem::Cell => Box::new(alloc, CellPayload::new(0))?,
@@ -44,7 +44,8 @@ pub(crate) fn serve_with_boxes<R: Threads + Wait + Sync, C: Collector, S: Source
             StockItem::Max => Box::new(alloc, MaxPayload::new(0))?,
             StockItem::Log => Box::new(alloc, LogPayload::new(alloc, 4))?,
         };
-        payloads.add_stock(alloc, payload)?;
+        stock.push(payload)?;
     }
+    let payloads = RunPayloads { workers, stock };
     serve(rt, alloc, collector, source, sink, start, payloads)
 }

@@ -1,7 +1,7 @@
 //! What the program `tgstore` is made of, so that its `main` is one call.
 //!
 //! The words of the command line are read first (`words`), then the stock and the limits are looked at (`start`), and
-//! only then are buffers (`streams`) and boxes (`boxes`, `payloads`) made and input read (`serving`). Collections by several helpers run on
+//! only then are buffers (`streams`) and boxes (`boxes`) made and input read (`serving`). Collections by several helpers run on
 //! threads (`on_threads`). What goes wrong is one line on standard error and a status (`stop`). [`obey`] does all of it.
 //!
 //! What a reader has to believe stands in `specs/`: `Words` says what the words ask for, `Ranges` and `Starts` what is refused
@@ -11,7 +11,6 @@
 mod boxes;
 mod help;
 mod on_threads;
-mod payloads;
 mod program;
 mod serving;
 mod settings;
@@ -21,9 +20,8 @@ mod streams;
 mod words;
 
 pub use on_threads::OnThreads;
-pub use payloads::RunPayloads;
 pub use program::{exit_status, obey};
-pub use serving::serve;
+pub use serving::{RunPayloads, serve};
 pub use settings::Options;
 pub use start::{Start, StartFault, prepare};
 pub use stop::Stop;

@@ -1,21 +1,29 @@
 //! A run with payloads, from a source to a sink.
-ghost use Rattle.std.specs.Prelude.{◌≡◌, ◌+◌, ◌<◌, ◌≤◌, ℕ, List, Some, true, IfErr, OnOk};
+ghost use Rattle.std.specs.Prelude.{◌≡◌, ◌+◌, ◌<◌, ◌≤◌, ℕ, List, Some, true, IfErr, OnOk, map};
 ghost use Rattle.tg_program.specs.Faults.{status_of_stop, stop_read_failures, stop_write_failures};
 ghost use Rattle.tg_program.specs.Serving.{WasBegun, Served};
 ghost use Rattle.tg_program.specs.Starts.{IsReady, HasPayloads};
 
-use crate::payloads::RunPayloads;
 use crate::start::Start;
 use crate::stop::Stop;
 use std::alloc::Global;
 use std::sync::Wait;
 use std::thread::Threads;
 use tg_payload::Payload;
-use tg_script::{Collector, Sink, Source, run_script_with};
+use tg_script::{Collector, Sink, Source, drafts_of, run_script_with};
 use tg_threads::{NoTurnstile, run_race};
 
+/// The payloads of a run.
+#[derive(Drop)]
+pub struct RunPayloads<P: Payload> {
+    /// What each worker stores, by rising name.
+    pub workers: Vec<P>,
+    /// What the vertices that are made store, in order.
+    pub stock: Vec<P>,
+}
+
 /// Runs the source's script from the start with these payloads, and puts the replies into the sink, as `run_script_with` does
-/// with the start's settings, or, where the start says so, as `run_race` does.
+/// with the start's settings, or, where the start says so, as `run_race` does. Memory may be wanting for drafts of the payloads; then nothing is read or written.
 pub fn serve<P: Payload + Send, R: Threads + Wait + Sync, C: Collector, S: Source, K: Sink>(
     rt: &R,
     alloc: Global,
@@ -27,7 +35,7 @@ pub fn serve<P: Payload + Send, R: Threads + Wait + Sync, C: Collector, S: Sourc
 ) -> Result<(), Stop>
     requires collector { C.Ready }
     requires ready { IsReady start.now }
-    requires payloads { HasPayloads start.now payloads.workers.items payloads.stock.items }
+    requires payloads { HasPayloads start.now (map P.value payloads.workers.items) (map P.value payloads.stock.items) }
     ensures status { IfErr result (λ stop. status_of_stop stop ≡ 1) }
     ensures output { (bytes before : List ℕ) → S.left source.old ≡ Some bytes → K.taken sink.old ≡ Some before →
         (left : List ℕ) × (S.left source.new ≡ Some left) × Served start.now bytes before result left (K.taken sink.new) }
@@ -36,7 +44,8 @@ pub fn serve<P: Payload + Send, R: Threads + Wait + Sync, C: Collector, S: Sourc
     ensures unfailed { OnOk result (K.failures sink.new ≡ K.failures sink.old) }
     ensures finished { WasBegun result → K.finished sink.new ≡ true }
 {
-    let RunPayloads { workers, stock } = payloads;
+    let workers = drafts_of(alloc, payloads.workers)?;
+    let stock = drafts_of(alloc, payloads.stock)?;
     if start.race {
         return run_race(
             rt,
