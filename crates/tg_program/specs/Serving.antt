@@ -1,7 +1,7 @@
 -- What a run reads and writes.
 use Rattle.std.specs.Prelude.{◌≡◌, ◌⊎◌, ℕ, true, false, List, map, replicate, Option, Some, Result, Ok, Err}
 use Rattle.tg_text.specs.declared.stock.StockItem.TheVariants.{Cell}
-use Rattle.tg_script.specs.Script.{Start as ScriptStart}
+use Rattle.tg_script.specs.Script.{Start as ScriptStart, start_with}
 use Rattle.tg_script.specs.Running.{Ran}
 use Rattle.tg_threads.specs.Race.{HasRaced}
 use Rattle.tg_program.specs.Boxes.{value_of}
@@ -12,14 +12,7 @@ use Rattle.tg_program.specs.declared.stop.Stop.TheVariants as stop
 
 -- what the script is run with: these settings, a cell with 0 for each worker, and a new box of each kind of the stock
 abbrev pub script_start_of : Start → ScriptStart
-script_start_of start = record {
-  workers = start.settings.workers;
-  helpers = start.settings.helpers;
-  limit = start.settings.max_vertices;
-  blocks = start.settings.limits.max_blocks;
-  values = replicate start.settings.workers (value_of Cell);
-  stock = map value_of start.stock.items;
-}
+script_start_of start = start_with start.settings (replicate start.settings.workers (value_of Cell)) (map value_of start.stock.items)
 
 -- The script of these bytes was run, line by line or as a race, as the start says, and this is left of them and stands in the writer;
 -- or there was no memory for drafts, and nothing was read or written.

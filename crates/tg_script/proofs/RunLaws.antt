@@ -1,6 +1,6 @@
 -- Each line is answered by the scene that the run shows.
 use mathlib.Core.Bool.{true≢false}
-use Rattle.std.proofs.Common.{◌≡◌, ◌≢◌, inl, inr, ◌↔◌, ℕ, ◌<◌, ◌≤◌, nat_lt, true, false, cond, eqb, length, List, [], ◌∷◌, ◌++◌, Some, None, Result, Ok, Err, refl, sym, ap, ap₂, ◌∙◌, subst}
+use Rattle.std.proofs.Common.{◌≡◌, ◌≢◌, inl, inr, ◌↔◌, ℕ, ◌<◌, ◌≤◌, nat_lt, true, false, cond, eqb, length, List, [], ◌∷◌, ◌++◌, Result, Ok, Err, refl, sym, ap, ap₂, ◌∙◌, subst}
 use Rattle.std.specs.Prelude.{IfOk, OnOk, IfErr, OnErr, IsErrAnd}
 use Rattle.std.specs.List.{list_any}
 use Rattle.std.proofs.lemmas.Bool.{lt-ltb, le-ltb}
@@ -15,7 +15,7 @@ use Rattle.tg_model.specs.declared.command.Deed.TheVariants as deed
 use Rattle.tg_model.specs.declared.opening.TheConstants.{MAX_WORKERS}
 use Rattle.tg_model.specs.declared.reply.Reply.{Reply}
 use Rattle.tg_model.specs.declared.reply.Reply.TheVariants as reply
-use Rattle.tg_model.specs.Graph.{ProtectionGraph, IsSubject, IsReachable}
+use Rattle.tg_model.specs.Graph.{ProtectionGraph, IsSubject}
 use Rattle.tg_model.specs.Rules.{IsAllowed, step, answer_of, with_vertex, with_subject}
 use Rattle.tg_rules.specs.Effect.{AddsEdge}
 use Rattle.tg_store.specs.declared.fault.ApplyFault.{ApplyFault}
@@ -23,16 +23,15 @@ use Rattle.tg_store.specs.declared.fault.ApplyFault.TheVariants as apply
 use Rattle.tg_store.specs.declared.fault.CreateFault.{CreateFault}
 use Rattle.tg_store.specs.declared.fault.CreateFault.TheVariants as create
 use Rattle.tg_store.specs.declared.fault.CreateRefused.{CreateRefused}
-use Rattle.tg_store.specs.Store.{StoreState, graph_of_store, StandsFor, IsUnchanged, IsCountOf}
+use Rattle.tg_store.specs.Store.{StoreState, graph_of_store, StandsFor, IsUnchanged}
 use Rattle.tg_text.specs.declared.line.Line.{Line}
 use Rattle.tg_text.specs.declared.line.Line.TheVariants as line
 use Rattle.tg_text.specs.declared.answer.Answer.{Answer}
 use Rattle.tg_text.specs.declared.answer.Answer.TheVariants as told
-use Rattle.tg_text.specs.declared.answer.Refusal.{Refusal}
 use Rattle.tg_text.specs.declared.answer.Refusal.TheVariants as refusal
 use Rattle.tg_script.specs.declared.run.Run.{Run}
 use Rattle.tg_script.specs.Supply.{values_left}
-use Rattle.tg_script.specs.Script.{Scene, Answers, AnswersMaking, MayAnswerRefused, MayWant, Serves, create_of, spawn_of, stock_left}
+use Rattle.tg_script.specs.Script.{Scene, Answers, AnswersMaking, MayAnswerRefused, Serves, create_of, spawn_of, stock_left}
 use Rattle.tg_refusals.specs.Refusals.{apply_refusal, create_answer}
 use Rattle.tg_script.specs.Run.{Shows, HandlesBy, Handles, making_answer, values_back}
 
@@ -77,23 +76,6 @@ apply_refused old new x command apply.HeapFull unknown full same supply helpers 
     let subject = subject_held s.graph x (λ none. let e = (unknown s.graph shown.0).1 none in cc) in
     let allowed = full s.graph shown.0 refl in
     (s, same_scene old new s same.opening same.entries (ap values_left supply) helpers shown, inr (refusal.Heap, (subject, allowed.0, allowed.1), refl, refl))
-
--- ---- collections
-
-pub collect_done : {P : Type 0} (old new : Run P) (kept : ℕ) → ((g : ProtectionGraph) → StandsFor old.store g → IsCountOf (IsReachable g) kept) → new.store.opening ≡ old.store.opening → new.store.entries ≡ old.store.entries → new.supply ≡ old.supply → new.helpers ≡ old.helpers → Handles old line.Full (told.Collected (Some kept)) new
-collect_done old new kept counts opening entries supply helpers s shown =
-    (s, same_scene old new s opening entries (ap values_left supply) helpers shown, inl (kept, counts s.graph shown.0, refl, refl))
-
-pub collect_refused : {P : Type 0} (old new : Run P) (why : Refusal) → MayWant old.helpers why → new.store.opening ≡ old.store.opening → new.store.entries ≡ old.store.entries → new.supply ≡ old.supply → new.helpers ≡ old.helpers → Handles old line.Full (told.Refused why) new
-collect_refused old new why want opening entries supply helpers s shown =
-    (s, same_scene old new s opening entries (ap values_left supply) helpers shown, inr (why, subst (λ n. MayWant n why) shown.2 want, refl, refl))
-
-pub minor_done : {P : Type 0} (old new : Run P) → new.store.opening ≡ old.store.opening → new.store.entries ≡ old.store.entries → new.supply ≡ old.supply → new.helpers ≡ old.helpers → Handles old line.Minor (told.Collected None) new
-minor_done old new opening entries supply helpers s shown = (s, same_scene old new s opening entries (ap values_left supply) helpers shown, inl (refl, refl))
-
-pub minor_refused : {P : Type 0} (old new : Run P) (why : Refusal) → MayWant old.helpers why → new.store.opening ≡ old.store.opening → new.store.entries ≡ old.store.entries → new.supply ≡ old.supply → new.helpers ≡ old.helpers → Handles old line.Minor (told.Refused why) new
-minor_refused old new why want opening entries supply helpers s shown =
-    (s, same_scene old new s opening entries (ap values_left supply) helpers shown, inr (why, subst (λ n. MayWant n why) shown.2 want, refl, refl))
 
 -- ---- vertices
 
@@ -162,19 +144,6 @@ pub record Makes {P : Type 0} (old new : StoreState) (x : ℕ) (d : Deed) (value
   pub full : (g : ProtectionGraph) → StandsFor old g → IfErr made (λ refused. refused.why ≡ create.HeapFull → IsAllowed g x d)
   pub same_graph : (g : ProtectionGraph) → StandsFor old g → OnErr made (StandsFor new g)
   pub handed_back : IfErr made (λ refused. refused.draft ≡ value)
-
--- nothing is left of the stock
-pub making_none : {P : Type 0} (old new : Run P) (l : Line) (x : ℕ) (making : Value → Deed) → IsMaking l x making → values_left old.supply ≡ [] → new.store ≡ old.store → values_left new.supply ≡ values_left old.supply → new.helpers ≡ old.helpers → Handles old l (told.Refused refusal.Stock) new
-making_none old new l x making is empty store supply helpers s shown =
-    let P : List Value → Type 0 = λ stock. AnswersMaking s x making stock (told.Refused refusal.Stock) s in
-    let same = same_scene old new s (ap (λ (y : StoreState). y.opening) store) (ap (λ (y : StoreState). y.entries) store) supply helpers shown in
-    (s, same, inl (is.answers s s (told.Refused refusal.Stock) (subst P (sym empty ∙ shown.1) (refl, refl))))
-
-pub create_none : {P : Type 0} (old new : Run P) (x : ℕ) (label : RightSet) → values_left old.supply ≡ [] → new.store ≡ old.store → values_left new.supply ≡ values_left old.supply → new.helpers ≡ old.helpers → Handles old (line.Create x label) (told.Refused refusal.Stock) new
-create_none old new x label empty store supply helpers = making_none old new (line.Create x label) x (create_of label) (creating x label) empty store supply helpers
-
-pub spawn_none : {P : Type 0} (old new : Run P) (x : ℕ) (label : RightSet) → values_left old.supply ≡ [] → new.store ≡ old.store → values_left new.supply ≡ values_left old.supply → new.helpers ≡ old.helpers → Handles old (line.Spawn x label) (told.Refused refusal.Stock) new
-spawn_none old new x label empty store supply helpers = making_none old new (line.Spawn x label) x (spawn_of label) (spawning x label) empty store supply helpers
 
 -- it was answered by the graph, with this value in front of the stock
 answered : {P : Type 0} (s : Scene) (new : Run P) (l : Line) (x : ℕ) (making : Value → Deed) (value : Value) (left : List Value) (r : Reply) → IsMaking l x making → value ∷ left ≡ s.stock → IsSubject s.graph x → answer_of s.graph x (making value) ≡ r → StandsFor new.store (step s.graph x (making value)) → values_left new.supply ≡ stock_left r left s.stock → new.helpers ≡ s.helpers → (t : Scene) × Shows new t × Serves s l (told.Reply r) t

@@ -22,6 +22,7 @@ use Rattle.tg_text.specs.declared.answer.Refusal.TheVariants as refusal
 use Rattle.tg_text.specs.declared.fault.ScriptFault.{ScriptFault}
 use Rattle.tg_text.specs.Reading.{ReadsScript}
 use Rattle.tg_text.specs.Texts.{answer_text}
+use Rattle.tg_script.specs.declared.run_script.Settings.{Settings}
 
 -- ---- the answer to one line
 
@@ -147,6 +148,17 @@ pub record Start : Type 0 where
   pub blocks : ℕ
   pub values : List Value
   pub stock : List Value
+
+-- the start with these settings, of workers and a stock with these values
+abbrev pub start_with : Settings → List Value → List Value → Start
+start_with settings values stock = record {
+  workers = settings.workers;
+  helpers = settings.helpers;
+  limit = settings.max_vertices;
+  blocks = settings.limits.max_blocks;
+  values = values;
+  stock = stock;
+}
 
 -- the scene that the edge lines of a script make
 abbrev pub scene_of : Start → List Line → Scene

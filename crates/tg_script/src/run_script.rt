@@ -6,7 +6,7 @@ ghost use Rattle.tg_script.specs.Lines.{IsOfReading, read_failures, write_failur
 ghost use Rattle.tg_script.specs.Opening.{IsCommand};
 ghost use Rattle.tg_script.specs.Run.{OpensRun, Shows};
 ghost use Rattle.tg_script.specs.Running.{IsDue, Ran, TellsAll, Finishes, RunsLine};
-ghost use Rattle.tg_script.specs.Script.{Scene, Start};
+ghost use Rattle.tg_script.specs.Script.{Scene, start_with};
 
 use crate::collector::{Collector, OneThread};
 use crate::helpers::Helpers;
@@ -56,10 +56,9 @@ pub fn run_script_with<P: Payload, C: Collector, S: Source, K: Sink>(
     requires ready { C.Ready }
     requires number { (1 ≤ settings.workers) × (settings.workers ≤ 64) }
     requires workers { length workers.items ≡ settings.workers }
-    ensures output { let start : Start = record { workers = settings.workers; helpers = settings.helpers; limit = settings.max_vertices; blocks = settings.limits.max_blocks; values = workers.items; stock = stock.items } in
-        (bytes before : List ℕ) → S.left source.old ≡ Some bytes → K.taken sink.old ≡ Some before →
-        (left : List ℕ) × (S.left source.new ≡ Some left) × Ran start bytes before result left (K.taken sink.new) }
-    ensures due { let start : Start = record { workers = settings.workers; helpers = settings.helpers; limit = settings.max_vertices; blocks = settings.limits.max_blocks; values = workers.items; stock = stock.items } in IfErr result (IsDue start) }
+    ensures output { (bytes before : List ℕ) → S.left source.old ≡ Some bytes → K.taken sink.old ≡ Some before →
+        (left : List ℕ) × (S.left source.new ≡ Some left) × Ran (start_with settings workers.items stock.items) bytes before result left (K.taken sink.new) }
+    ensures due { IfErr result (IsDue (start_with settings workers.items stock.items)) }
     ensures asked { S.asked source.new ≤ S.asked source.old + 1048577 }
     ensures read_failed { S.failures source.new ≡ S.failures source.old + read_failures result }
     ensures write_failed { result ≡ Err ScriptFault.WriteFailed → K.failures sink.old < K.failures sink.new }
@@ -82,10 +81,9 @@ pub fn run_script_one<P: Payload, S: Source, K: Sink>(
 ) -> Result<(), ScriptFault>
     requires number { (1 ≤ settings.workers) × (settings.workers ≤ 64) }
     requires workers { length workers.items ≡ settings.workers }
-    ensures output { let start : Start = record { workers = settings.workers; helpers = 1; limit = settings.max_vertices; blocks = settings.limits.max_blocks; values = workers.items; stock = stock.items } in
-        (bytes before : List ℕ) → S.left source.old ≡ Some bytes → K.taken sink.old ≡ Some before →
-        (left : List ℕ) × (S.left source.new ≡ Some left) × Ran start bytes before result left (K.taken sink.new) }
-    ensures due { let start : Start = record { workers = settings.workers; helpers = 1; limit = settings.max_vertices; blocks = settings.limits.max_blocks; values = workers.items; stock = stock.items } in IfErr result (IsDue start) }
+    ensures output { (bytes before : List ℕ) → S.left source.old ≡ Some bytes → K.taken sink.old ≡ Some before →
+        (left : List ℕ) × (S.left source.new ≡ Some left) × Ran (start_with (record settings { helpers = 1 }) workers.items stock.items) bytes before result left (K.taken sink.new) }
+    ensures due { IfErr result (IsDue (start_with (record settings { helpers = 1 }) workers.items stock.items)) }
     ensures asked { S.asked source.new ≤ S.asked source.old + 1048577 }
     ensures read_failed { S.failures source.new ≡ S.failures source.old + read_failures result }
     ensures write_failed { result ≡ Err ScriptFault.WriteFailed → K.failures sink.old < K.failures sink.new }
@@ -118,8 +116,7 @@ pub fn run_in_memory<P: Payload, C: Collector>(
     requires ready { C.Ready }
     requires number { (1 ≤ settings.workers) × (settings.workers ≤ 64) }
     requires workers { length workers.items ≡ settings.workers }
-    ensures { let start : Start = record { workers = settings.workers; helpers = settings.helpers; limit = settings.max_vertices; blocks = settings.limits.max_blocks; values = workers.items; stock = stock.items } in
-        (left : List ℕ) × Ran start script.now [] result.outcome left (Some result.written.items) }
+    ensures { (left : List ℕ) × Ran (start_with settings workers.items stock.items) script.now [] result.outcome left (Some result.written.items) }
 {
     let (asked, failures) = (Blank::new(1), Blank::new(1));
     run_counted::<P, C, Brand, Brand>(
@@ -143,8 +140,7 @@ fn run_counted<P: Payload, C: Collector, A: Ledger, F: Ledger>(
     requires workers { length workers.items ≡ settings.workers }
     requires asked { (asked.name ≡ A.name) × (asked.parts ≡ A.parts) × (0 < asked.parts) }
     requires failures { (failures.name ≡ F.name) × (failures.parts ≡ F.parts) × (0 < failures.parts) }
-    ensures { let start : Start = record { workers = settings.workers; helpers = settings.helpers; limit = settings.max_vertices; blocks = settings.limits.max_blocks; values = workers.items; stock = stock.items } in
-        (left : List ℕ) × Ran start script.now [] result.outcome left (Some result.written.items) }
+    ensures { (left : List ℕ) × Ran (start_with settings workers.items stock.items) script.now [] result.outcome left (Some result.written.items) }
 {
     let mut source = Bytes::new(script, Count::<A>::new(asked));
     let mut sink = Written::new(alloc, Count::<F>::new(failures));
@@ -191,10 +187,9 @@ fn run_lines<P: Payload, C: Collector, S: Source, K: Sink>(
     requires ready { C.Ready }
     requires number { (1 ≤ settings.workers) × (settings.workers ≤ 64) }
     requires workers { length workers.items ≡ settings.workers }
-    ensures output { let start : Start = record { workers = settings.workers; helpers = settings.helpers; limit = settings.max_vertices; blocks = settings.limits.max_blocks; values = workers.items; stock = stock.items } in
-        (bytes before : List ℕ) → S.left source.old ≡ Some bytes → K.taken sink.old ≡ Some before →
-        (left : List ℕ) × (S.left source.new ≡ Some left) × Ran start bytes before result left (K.taken sink.new) }
-    ensures due { let start : Start = record { workers = settings.workers; helpers = settings.helpers; limit = settings.max_vertices; blocks = settings.limits.max_blocks; values = workers.items; stock = stock.items } in IfErr result (IsDue start) }
+    ensures output { (bytes before : List ℕ) → S.left source.old ≡ Some bytes → K.taken sink.old ≡ Some before →
+        (left : List ℕ) × (S.left source.new ≡ Some left) × Ran (start_with settings workers.items stock.items) bytes before result left (K.taken sink.new) }
+    ensures due { IfErr result (IsDue (start_with settings workers.items stock.items)) }
     ensures asked { S.asked source.new ≤ S.asked source.old + 1048577 }
     ensures read_failed { S.failures source.new ≡ S.failures source.old + read_failures result }
     ensures write_failed { K.failures sink.new ≡ K.failures sink.old + write_failures result }

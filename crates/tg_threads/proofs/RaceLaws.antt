@@ -34,7 +34,7 @@ use Rattle.tg_weave.specs.Shares.{IsInScriptOrder, all_lines, is_run_by, lines_i
 use Rattle.tg_weave.specs.Telling.{end_text, text_of_told}
 use Rattle.tg_threads.specs.Output.{IsRaceOutput}
 use Rattle.tg_threads.specs.Tasks.{AllBring, AreRaced, all_assigned, assigned_of}
-use Rattle.tg_threads.specs.Race.{EndsRace, HasRaced, IsBeforeWriting, IsOfTelling, IsRaceDue, IsWhole, TellsRace, plan_of_script, race_fault_of_audit, race_read_failures, race_write_failures}
+use Rattle.tg_threads.specs.Race.{EndsRace, HasRaced, IsOfTelling, IsRaceDue, IsWhole, TellsRace, plan_of_script, race_fault_of_audit, race_read_failures, race_write_failures}
 use Rattle.tg_threads.proofs.ShareLaws.{each_assigned}
 use Rattle.tg_threads.proofs.WeaveLaws.{bring_as_many, each_told}
 
@@ -149,15 +149,6 @@ unaudited_fault s given listed audit.OutOfMemory (Err why) opening entries legal
 unaudited_fault s given listed (audit.BadEntry at) (Err why) opening entries legal says is =
     absurd (IsFirstBad-not_legal (start_of given) listed at says
     (subst (λ (p : Plan). IsLegal (start_of p) listed) (sym opening) (subst (λ (es : List Entry). IsLegal (start_of s.opening) es) (sym entries) legal)))
-
--- before anything is written
-pub before_writing_due : (start : Start) (f : RaceFault) → IsBeforeWriting f → IsRaceDue start f
-before_writing_due start (fault.Script f) h = absurd h
-before_writing_due start fault.OutOfMemory h = tt
-before_writing_due start fault.NoThread h = tt
-before_writing_due start fault.ReceiptMismatch h = tt
-before_writing_due start fault.AuditFailed h = absurd h
-before_writing_due start fault.WriteFailed h = absurd h
 
 -- and where the replies are
 pub telling_due : {T : Type 0} (start : Start) (r : Result T RaceFault) → IfErr r IsOfTelling → IfErr r (IsRaceDue start)

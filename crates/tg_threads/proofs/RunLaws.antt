@@ -1,11 +1,9 @@
 -- What a session's calls come to, line by line.
-use Rattle.std.proofs.Common.{◌≡◌, ◌≢◌, ◌⊎◌, ◌<◌, arith, inl, inr, ⊎_elim, ℕ, Bool, true, false, if◌then◌else◌, List, [], ◌∷◌, ◌++◌, Option, Some, None, Result, Ok, Err, refl, sym, ap, ◌∙◌, subst, append-nil, append_assoc, length}
-use Rattle.std.specs.Prelude.{◌↔◌, IfErr, IfOk, map, nat_lt}
+use Rattle.std.proofs.Common.{◌≡◌, ◌≢◌, ◌⊎◌, inl, inr, ℕ, Bool, true, false, if◌then◌else◌, List, [], ◌∷◌, ◌++◌, Option, Some, None, Result, Ok, Err, refl, sym, ap, ◌∙◌, subst, append-nil, append_assoc, length}
+use Rattle.std.specs.Prelude.{◌↔◌, IfOk, map, nat_lt}
 use Rattle.std.proofs.lemmas.Bool.{false≢true}
 use Rattle.std.specs.List.{All}
-use Rattle.std.proofs.lemmas.List.{length_push}
 use Rattle.std.proofs.lemmas.List.Elements.{All-head, All-tail}
-use Rattle.tg_rights.specs.RightSet.{RightSet}
 use Rattle.tg_model.specs.declared.value.Value.{Value}
 use Rattle.tg_model.specs.declared.command.Command.{Command}
 use Rattle.tg_model.specs.declared.command.Deed.{Deed}
@@ -28,7 +26,6 @@ use Rattle.tg_store.specs.declared.fault.ApplyFault.TheVariants as apply
 use Rattle.tg_store.specs.declared.fault.CreateFault.{CreateFault}
 use Rattle.tg_store.specs.declared.fault.CreateFault.TheVariants as create
 use Rattle.tg_refusals.specs.Refusals.{apply_refusal, create_answer}
-use Rattle.tg_script.specs.Script.{create_of, spawn_of}
 use Rattle.tg_shared.specs.Sessions.{IsAnswered, SessionState, SharedStart, KeepsReceipts}
 use Rattle.tg_threads.specs.declared.threads.ThreadsFault.{ThreadsFault}
 use Rattle.tg_threads.specs.declared.threads.ThreadsFault.TheVariants as threads
@@ -36,10 +33,8 @@ use Rattle.tg_weave.specs.declared.task.Told.{Told}
 use Rattle.tg_weave.specs.declared.task.Told.TheVariants as came
 use Rattle.tg_weave.specs.Boxes.{Boxed}
 use Rattle.tg_weave.proofs.ShareLaws.{named}
-use Rattle.tg_weave.specs.Shares.{runner_of}
 use Rattle.tg_threads.specs.Output.{EntersOrRefuses, IsMade, IsOfStore, IsServed, Tells, has_thread}
 use Rattle.tg_threads.specs.Tasks.{IsRunBy, HasAsked, HasMade, HasCollected, HasRun, RunsOne, Runs, is_deed, served_past}
-use Rattle.tg_threads.proofs.TellLaws.{refused_of}
 
 -- ---- why a session refuses
 
@@ -63,20 +58,6 @@ never_collected create.VerticesFull kept is = cc
 never_collected create.WorkersFull kept is = cc
 never_collected create.OutOfMemory kept is = cc
 never_collected create.HeapFull kept is = cc
-
--- an answer has left a receipt
-answered_one : (start : SharedStart) (old new : SessionState) (d : Deed) (r : Reply) → IsAnswered start old new d r → 0 < length new.receipts
-answered_one start old new d r h =
-    let e : Entry = record { worker = old.worker; deed = d; reply = r } in
-    let long = ap (λ (rs : List Receipt). length rs) h.3.0.1 in
-    omega (arith, long, length_push old.receipts (receipt_of (length h.0.entries) e))
-
-pub answered_some : (start : SharedStart) (old new : SessionState) (d : Deed) (why : CreateFault) (r : Reply) →
-    (why ≡ create.VerticesFull → IsAnswered start old new d reply.VerticesFull) → (why ≡ create.WorkersFull → IsAnswered start old new d reply.WorkersFull) → create_answer why ≡ answer.Reply r → 0 < length new.receipts
-answered_some start old new d why r full crowded is = ⊎_elim
-    (λ vertices. answered_one start old new d reply.VerticesFull (full vertices.0))
-    (λ workers. answered_one start old new d reply.WorkersFull (crowded workers.0))
-    (replied why r is)
 
 -- what is told of an answer, with its place
 told_of_answer : (start : SharedStart) (old new : SessionState) (d : Deed) (r : Reply) (t : Told) → IsAnswered start old new d r → ((front : List Receipt) (last : Receipt) → new.receipts ≡ front ++ last ∷ [] → t ≡ came.Entered last.at) → HasAsked d t old new
@@ -109,11 +90,6 @@ pub not_made_asked : (start : SharedStart) (d : Deed) (why : CreateFault) (r : R
 not_made_asked start d why (Err f) old new makes fault full crowded kept refused entered = tt
 not_made_asked start d why (Ok t) old new makes fault full crowded kept refused entered =
     vertex_not_made start d why t old new makes (λ is. let same : ◌≡◌ {A = Result Told ThreadsFault} (Ok t) (Err threads.NoSuchWorker) = fault.1 is in let no : ⊥ = cc in no) full crowded kept refused entered
-
-pub not_made_gone : (Q : Type 0) (why : CreateFault) (r : Result Told ThreadsFault) → ((r ≡ Err threads.NoSuchWorker) ↔ (why ≡ create.NoSuchWorker)) → IfErr r (λ f. f ≡ threads.NoSuchWorker) → (why ≡ create.NoSuchWorker → Q) →
-    IfErr r (λ f. (f ≡ threads.NoSuchWorker) × Q)
-not_made_gone Q why (Ok t) fault alone gone = tt
-not_made_gone Q why (Err f) fault alone gone = (alone, gone (fault.0 (ap Err alone)))
 
 -- ---- one line
 
@@ -188,25 +164,6 @@ pub full_runs : (helpers : ℕ) (served : ℕ → Bool) (box : Option Value) (t 
 full_runs helpers served box (came.Entered at) s h = absurd h
 full_runs helpers served box (came.Collected kept) s h = ([], refl, sym (append-nil s.receipts), (refl, (h.0, (refl, inl (ap answer.Collected h.1)))))
 full_runs helpers served box (came.Refused r) s h = ([], refl, sym (append-nil s.receipts), (refl, (0, (refl, inr (r, h, refl)))))
-
-pub minor_runs : (helpers : ℕ) (served : ℕ → Bool) (box : Option Value) (t : Told) (s : SessionState) → HasCollected helpers kind.Nursery t → HasRun helpers served (record { line = line.Minor; value = box }) t s s
-minor_runs helpers served box (came.Entered at) s h = absurd h
-minor_runs helpers served box (came.Collected kept) s h = ([], refl, sym (append-nil s.receipts), (refl, (refl, inl (ap answer.Collected h))))
-minor_runs helpers served box (came.Refused r) s h = ([], refl, sym (append-nil s.receipts), (refl, (refl, inr (r, h, refl))))
-
--- a deed of a worker whose lines aren't run
-pub refused_runs : (helpers workers : ℕ) (served : ℕ → Bool) (b : Boxed) (s : SessionState) → is_deed b.line ≡ true → served s.worker ≡ false → IsRunBy workers s.worker b → HasRun helpers served b (came.Refused refusal.Worker) s s
-refused_runs helpers workers served b s asks none by = ([], refl, sym (append-nil s.receipts), (refl, told b.line asks by)) where
-  off : (x : ℕ) → runner_named workers x ≡ Some s.worker → served x ≡ false
-  off x by = subst (λ n. served n ≡ false) (sym (named x workers s.worker by).1) none
-
-  told : (l : Line) → is_deed l ≡ true → runner_of workers l ≡ Some s.worker → Tells helpers served l b.value None (answer.Refused refusal.Worker)
-  told (line.Edge edge) asks by = absurd (false≢true asks)
-  told (line.Create x label) asks by = refused_of (served x) (IsMade x (create_of label) b.value None (answer.Refused refusal.Worker)) (off x by)
-  told (line.Spawn x label) asks by = refused_of (served x) (IsMade x (spawn_of label) b.value None (answer.Refused refusal.Worker)) (off x by)
-  told (line.Plain x c) asks by = refused_of (served x) (EntersOrRefuses x (deed.Plain c) None (answer.Refused refusal.Worker)) (off x by)
-  told line.Full asks by = absurd (false≢true asks)
-  told line.Minor asks by = absurd (false≢true asks)
 
 -- ---- many lines
 

@@ -6,7 +6,7 @@ ghost use Rattle.tg_model.specs.Opened.{start_of};
 ghost use Rattle.tg_journal.specs.History.{IsAuditFault, IsLegal};
 ghost use Rattle.tg_text.specs.Sinks.{KeepsBytes};
 ghost use Rattle.tg_script.specs.Opening.{IsCommand};
-ghost use Rattle.tg_script.specs.Script.{Start};
+ghost use Rattle.tg_script.specs.Script.{start_with};
 ghost use Rattle.tg_shared.specs.Sessions.{AreFresh, AreSharedOut, AtSome, MayClose, count_of, sessions_made, start_of_store};
 ghost use Rattle.tg_threads.specs.Race.{EndsRace, HasRaced, IsBeforeWriting, IsRaceDue, OpensRace, race_read_failures, race_write_failures};
 ghost use Rattle.tg_threads.specs.Tasks.{AreRaced};
@@ -61,10 +61,9 @@ pub fn run_race<
 ) -> Result<(), RaceFault>
     requires number { (1 ≤ settings.workers) × (settings.workers ≤ 64) }
     requires workers { length workers.items ≡ settings.workers }
-    ensures output { let start : Start = record { workers = settings.workers; helpers = settings.helpers; limit = settings.max_vertices; blocks = settings.limits.max_blocks; values = workers.items; stock = stock.items } in
-        (bytes before : List ℕ) → S.left source.old ≡ Some bytes → K.taken sink.old ≡ Some before →
-        (left : List ℕ) × (S.left source.new ≡ Some left) × HasRaced start bytes before result left (K.taken sink.new) }
-    ensures due { let start : Start = record { workers = settings.workers; helpers = settings.helpers; limit = settings.max_vertices; blocks = settings.limits.max_blocks; values = workers.items; stock = stock.items } in IfErr result (IsRaceDue start) }
+    ensures output { (bytes before : List ℕ) → S.left source.old ≡ Some bytes → K.taken sink.old ≡ Some before →
+        (left : List ℕ) × (S.left source.new ≡ Some left) × HasRaced (start_with settings workers.items stock.items) bytes before result left (K.taken sink.new) }
+    ensures due { IfErr result (IsRaceDue (start_with settings workers.items stock.items)) }
     ensures asked { S.asked source.new ≤ S.asked source.old + 1048577 }
     ensures read_failed { S.failures source.new ≡ S.failures source.old + race_read_failures result }
     ensures write_failed { K.failures sink.old + race_write_failures result ≤ K.failures sink.new }
@@ -102,10 +101,9 @@ fn race<P: Payload + Send, S: Source, K: Sink, G: Turnstile + Sync, R: Threads +
 ) -> Result<(), RaceFault>
     requires number { (1 ≤ settings.workers) × (settings.workers ≤ 64) }
     requires workers { length workers.items ≡ settings.workers }
-    ensures output { let start : Start = record { workers = settings.workers; helpers = settings.helpers; limit = settings.max_vertices; blocks = settings.limits.max_blocks; values = workers.items; stock = stock.items } in
-        (bytes before : List ℕ) → S.left source.old ≡ Some bytes → K.taken sink.old ≡ Some before →
-        (left : List ℕ) × (S.left source.new ≡ Some left) × HasRaced start bytes before result left (K.taken sink.new) }
-    ensures due { let start : Start = record { workers = settings.workers; helpers = settings.helpers; limit = settings.max_vertices; blocks = settings.limits.max_blocks; values = workers.items; stock = stock.items } in IfErr result (IsRaceDue start) }
+    ensures output { (bytes before : List ℕ) → S.left source.old ≡ Some bytes → K.taken sink.old ≡ Some before →
+        (left : List ℕ) × (S.left source.new ≡ Some left) × HasRaced (start_with settings workers.items stock.items) bytes before result left (K.taken sink.new) }
+    ensures due { IfErr result (IsRaceDue (start_with settings workers.items stock.items)) }
     ensures asked { S.asked source.new ≤ S.asked source.old + 1048577 }
     ensures read_failed { S.failures source.new ≡ S.failures source.old + race_read_failures result }
     ensures write_failed { K.failures sink.new ≡ K.failures sink.old + race_write_failures result }
@@ -146,10 +144,10 @@ fn open_race<P: Payload, S: Source, K: Sink>(
     requires workers { length workers.items ≡ settings.workers }
     ensures new { IfOk result (λ opened. (opened.store.opening.workers ≡ settings.workers) × (opened.store.entries ≡ [])) }
     ensures commands { IfOk result (λ opened. All IsCommand opened.lines.items) }
-    ensures output { let start : Start = record { workers = settings.workers; helpers = settings.helpers; limit = settings.max_vertices; blocks = settings.limits.max_blocks; values = workers.items; stock = [] } in
-        (bytes : List ℕ) → S.left source.old ≡ Some bytes → (left : List ℕ) × (S.left source.new ≡ Some left) × OpensRace start bytes result left }
+    ensures output { (bytes : List ℕ) → S.left source.old ≡ Some bytes →
+        (left : List ℕ) × (S.left source.new ≡ Some left) × OpensRace (start_with settings workers.items []) bytes result left }
     ensures taken { KeepsBytes (K.taken sink.old) (K.taken sink.new) }
-    ensures due { (stock : List Value) → let start : Start = record { workers = settings.workers; helpers = settings.helpers; limit = settings.max_vertices; blocks = settings.limits.max_blocks; values = workers.items; stock = stock } in IfErr result (IsRaceDue start) }
+    ensures due { (stock : List Value) → IfErr result (IsRaceDue (start_with settings workers.items stock)) }
     ensures asked { S.asked source.new ≤ S.asked source.old + 1048577 }
     ensures read_failed { S.failures source.new ≡ S.failures source.old + race_read_failures result }
     ensures write_failed { K.failures sink.new ≡ K.failures sink.old + race_write_failures result }

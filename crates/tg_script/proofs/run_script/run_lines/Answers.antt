@@ -1,7 +1,7 @@
 use Rattle.std.proofs.Common.{refl}
 use Rattle.std.proofs.lemmas.Result.{err_from_is_err_and}
 use Rattle.tg_model.specs.Opened.{Plan}
-use Rattle.tg_script.specs.Script.{Start}
+use Rattle.tg_script.specs.Script.{start_with}
 use Rattle.tg_script.proofs.LinesLaws.{keeps_known}
 use Rattle.tg_script.proofs.RanLaws.{IsFresh, scene_with, first_command, ran_edges, ran_edges_fault, ran_store_fault, ran_commands}
 use Rattle.tg_script.proofs.DueLaws.{keeping_due, lines_due, opening_due}
@@ -9,7 +9,7 @@ use Rattle.tg_script.proofs.run_script.run_lines.Goals as goal
 
 pub returns-in_err-edges-clause-output : goal.returns-in_err-edges-clause-output
 returns-in_err-edges-clause-output g c = λ bytes before left taken.
-    let start : Start = record { workers = c.args.settings.workers; helpers = c.args.settings.helpers; limit = c.args.settings.max_vertices; blocks = c.args.settings.limits.max_blocks; values = c.args.workers.items; stock = c.args.stock.items } in
+    let start = start_with c.args.settings c.args.workers.items c.args.stock.items in
     let fresh : IsFresh c.new-script.result c.args.settings.workers = record { workers = c.new-script.ensures.workers; room = c.new-script.ensures.room; count = c.new-script.ensures.count; opening = c.new-script.ensures.opening } in
     let p = err_from_is_err_and c.from_residual.result c.from_residual.ensures.1 in
     let n = c.in_err-edges.ensures.bytes bytes left in
@@ -22,7 +22,7 @@ returns-in_err-edges-clause-output g c = λ bytes before left taken.
 
 pub returns-in_err-run-clause-output : goal.returns-in_err-run-clause-output
 returns-in_err-run-clause-output g c = λ bytes before left taken.
-    let start : Start = record { workers = c.args.settings.workers; helpers = c.args.settings.helpers; limit = c.args.settings.max_vertices; blocks = c.args.settings.limits.max_blocks; values = c.args.workers.items; stock = c.args.stock.items } in
+    let start = start_with c.args.settings c.args.workers.items c.args.stock.items in
     let plan : Plan = record { workers = c.args.settings.workers; edges = c.in_ok-edges.field-0.edges.items; values = c.args.workers.items; limit = c.args.settings.max_vertices } in
     let fresh : IsFresh c.new-script.result c.args.settings.workers = record { workers = c.new-script.ensures.workers; room = c.new-script.ensures.room; count = c.new-script.ensures.count; opening = c.new-script.ensures.opening } in
     let p = err_from_is_err_and c.from_residual-in_err-run.result c.from_residual-in_err-run.ensures.1 in
@@ -38,7 +38,7 @@ returns-in_err-run-clause-output g c = λ bytes before left taken.
 
 pub returns-in-None-clause-output : goal.returns-in-None-clause-output
 returns-in-None-clause-output g c = λ bytes before left taken.
-    let start : Start = record { workers = c.args.settings.workers; helpers = c.args.settings.helpers; limit = c.args.settings.max_vertices; blocks = c.args.settings.limits.max_blocks; values = c.args.workers.items; stock = c.args.stock.items } in
+    let start = start_with c.args.settings c.args.workers.items c.args.stock.items in
     let fresh : IsFresh c.new-script.result c.args.settings.workers = record { workers = c.new-script.ensures.workers; room = c.new-script.ensures.room; count = c.new-script.ensures.count; opening = c.new-script.ensures.opening } in
     let read = c.in_ok-edges.ensures.bytes bytes left in
     let reads = rw c.in-None.is at read in
@@ -51,7 +51,7 @@ returns-in-None-clause-output g c = λ bytes before left taken.
 
 pub returns-in-Some-clause-output : goal.returns-in-Some-clause-output
 returns-in-Some-clause-output g c = λ bytes before left taken.
-    let start : Start = record { workers = c.args.settings.workers; helpers = c.args.settings.helpers; limit = c.args.settings.max_vertices; blocks = c.args.settings.limits.max_blocks; values = c.args.workers.items; stock = c.args.stock.items } in
+    let start = start_with c.args.settings c.args.workers.items c.args.stock.items in
     let fresh : IsFresh c.new-script.result c.args.settings.workers = record { workers = c.new-script.ensures.workers; room = c.new-script.ensures.room; count = c.new-script.ensures.count; opening = c.new-script.ensures.opening } in
     let edges = c.in_ok-edges.field-0.edges.items in
     let read = c.in_ok-edges.ensures.bytes bytes left in
@@ -67,18 +67,18 @@ returns-in-Some-clause-output g c = λ bytes before left taken.
 
 pub returns-in_err-edges-clause-due : goal.returns-in_err-edges-clause-due
 returns-in_err-edges-clause-due g c =
-    let start : Start = record { workers = c.args.settings.workers; helpers = c.args.settings.helpers; limit = c.args.settings.max_vertices; blocks = c.args.settings.limits.max_blocks; values = c.args.workers.items; stock = c.args.stock.items } in
+    let start = start_with c.args.settings c.args.workers.items c.args.stock.items in
     let p = err_from_is_err_and c.from_residual.result c.from_residual.ensures.1 in
     rw (p.1, p.2) (keeping_due start c.in_err-edges.field-0.0 c.in_err-edges.ensures.fault)
 
 pub returns-in_err-run-clause-due : goal.returns-in_err-run-clause-due
 returns-in_err-run-clause-due g c =
-    let start : Start = record { workers = c.args.settings.workers; helpers = c.args.settings.helpers; limit = c.args.settings.max_vertices; blocks = c.args.settings.limits.max_blocks; values = c.args.workers.items; stock = c.args.stock.items } in
+    let start = start_with c.args.settings c.args.workers.items c.args.stock.items in
     let plan : Plan = record { workers = c.args.settings.workers; edges = c.in_ok-edges.field-0.edges.items; values = c.args.workers.items; limit = c.args.settings.max_vertices } in
     let p = err_from_is_err_and c.from_residual-in_err-run.result c.from_residual-in_err-run.ensures.1 in
     rw (p.1, p.2) (opening_due plan start c.in_err-run.field-0.0 refl refl c.in_err-run.ensures)
 
 pub returns-in-Some-clause-due : goal.returns-in-Some-clause-due
 returns-in-Some-clause-due g c =
-    let start : Start = record { workers = c.args.settings.workers; helpers = c.args.settings.helpers; limit = c.args.settings.max_vertices; blocks = c.args.settings.limits.max_blocks; values = c.args.workers.items; stock = c.args.stock.items } in
+    let start = start_with c.args.settings c.args.workers.items c.args.stock.items in
     lines_due start c.run_commands-ran.result c.run_commands-ran.ensures.fault

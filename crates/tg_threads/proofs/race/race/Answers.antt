@@ -3,14 +3,14 @@ use Rattle.std.proofs.lemmas.Result.{err_from_is_err_and}
 use Rattle.std.specs.List.{All}
 use Rattle.tg_text.specs.declared.line.Line.{Line}
 use Rattle.tg_script.specs.Opening.{IsCommand}
-use Rattle.tg_script.specs.Script.{Start, commands_of}
+use Rattle.tg_script.specs.Script.{commands_of, start_with}
 use Rattle.tg_script.proofs.LinesLaws.{keeps_known}
 use Rattle.tg_threads.proofs.RaceLaws.{race_told, raced_same, telling_due}
 use Rattle.tg_threads.proofs.race.race.Goals as goal
 
 pub returns-clause-output : goal.returns-clause-output
 returns-clause-output g c = λ bytes before known taken.
-    let start : Start = record { workers = c.args.settings.workers; helpers = c.args.settings.helpers; limit = c.args.settings.max_vertices; blocks = c.args.settings.limits.max_blocks; values = c.args.workers.items; stock = c.args.stock.items } in
+    let start = start_with c.args.settings c.args.workers.items c.args.stock.items in
     let s = g.K.Sink in
     let opens = c.in_ok-opened.ensures.output bytes known in
     let whole = opens.2 in
@@ -28,7 +28,7 @@ returns-clause-output g c = λ bytes before known taken.
 
 pub returns-clause-due : goal.returns-clause-due
 returns-clause-due g c =
-    let start : Start = record { workers = c.args.settings.workers; helpers = c.args.settings.helpers; limit = c.args.settings.max_vertices; blocks = c.args.settings.limits.max_blocks; values = c.args.workers.items; stock = c.args.stock.items } in
+    let start = start_with c.args.settings c.args.workers.items c.args.stock.items in
     telling_due start c.tell-told.result c.tell-told.ensures.fault
 
 pub returns-in_err-opened-clause-due : goal.returns-in_err-opened-clause-due

@@ -1,11 +1,11 @@
 use Rattle.std.proofs.Common.{◌+◌, ap, sym, ◌∙◌}
-use Rattle.tg_script.specs.Script.{Start}
+use Rattle.tg_script.specs.Script.{start_with}
 use Rattle.tg_threads.proofs.RaceLaws.{race_ended, ended_due, ended_read, ended_write, ended_unfailed}
 use Rattle.tg_threads.proofs.race.run_race.Goals as goal
 
 pub returns-clause-output : goal.returns-clause-output
 returns-clause-output g c = λ bytes before known taken.
-    let start : Start = record { workers = c.args.settings.workers; helpers = c.args.settings.helpers; limit = c.args.settings.max_vertices; blocks = c.args.settings.limits.max_blocks; values = c.args.workers.items; stock = c.args.stock.items } in
+    let start = start_with c.args.settings c.args.workers.items c.args.stock.items in
     let s = g.K.Sink in
     let had = c.race-outcome.ensures.output bytes before known taken in (
       had.0,
@@ -16,7 +16,7 @@ returns-clause-output g c = λ bytes before known taken.
 
 pub returns-clause-due : goal.returns-clause-due
 returns-clause-due g c =
-    let start : Start = record { workers = c.args.settings.workers; helpers = c.args.settings.helpers; limit = c.args.settings.max_vertices; blocks = c.args.settings.limits.max_blocks; values = c.args.workers.items; stock = c.args.stock.items } in
+    let start = start_with c.args.settings c.args.workers.items c.args.stock.items in
     let s = g.K.Sink in
     ended_due start c.race-outcome.result c.finish.result (s.taken c.race-outcome.new.sink) (s.taken c.finish.new.sink) (s.failures c.race-outcome.new.sink) (s.failures c.finish.new.sink)
     c.race-outcome.ensures.due c.finish.ensures.outcome

@@ -1,2 +1,0 @@
-use Rattle.tg_threads.proofs.RunLaws.{refused_there}
-use Rattle.tg_threads.proofs.worker.apply.Goals as goal
