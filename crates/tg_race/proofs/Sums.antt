@@ -48,10 +48,6 @@ module _ {A : Type 0} where
   weigh-le_at f g [] below = omega arith
   weigh-le_at f g (x ∷ xs) below = omega (arith, below zero x refl, weigh-le_at f g xs (λ j y e. below (suc j) y e))
 
-  pub weigh_none : (f g : A → ℕ) (l : List A) → weigh f l ≡ 0 → ((x : A) → f x ≡ 0 → g x ≡ 0) → weigh g l ≡ 0
-  weigh_none f g [] none follows = refl
-  weigh_none f g (x ∷ xs) none follows = omega (arith, follows x (omega arith), weigh_none f g xs (omega arith) follows)
-
   -- where one element alone has f, and an element without f has no g, all of g is that element's
   pub weigh_alone : (f g : A → ℕ) (l : List A) (j : ℕ) (v : A) → get_elem? l j ≡ some v → weigh f l ≤ 1 → 0 < f v
       → ((i : ℕ) (x : A) → get_elem? l i ≡ some x → f x ≡ 0 → g x ≡ 0) → weigh g l ≡ g v

@@ -2,22 +2,17 @@
 use Rattle.std.proofs.Common.{◌≡◌, ℕ, ◌<◌, ◌-◌, ◌+◌, ◌==◌, ◌++◌, ◌∷◌, inl, inr, Bool, true, false, List, [], length, get_or, take, drop, refl, sym, ap, subst, arith, ◌∙◌, ⊎_elim}
 use Rattle.std.specs.List.{All}
 use Rattle.std.proofs.lemmas.Bool.Decides.{nat_tests}
-use Rattle.std.proofs.lemmas.List.{take_rest, take-append-drop, drop-drop, drop_more, drop_all}
+use Rattle.std.proofs.lemmas.List.{take-append-drop, drop-drop, drop_more, drop_all}
 use Rattle.std.proofs.lemmas.List.Elements.{All-nil, All-cons, All-append, All-weaker, All-get_or}
 use Rattle.tg_word.specs.Word.{place_in}
 use Rattle.tg_block.specs.Cells.{kind_of, all_are_zero}
 use Rattle.tg_block.specs.declared.CellKind.TheVariants.{Free, Object, Chunk, Bad}
 use Rattle.tg_space.specs.declared.root.Root.{Root}
 use Rattle.tg_space.specs.SpaceList.{SpaceList, IsSpaceList, cell_at, cells_of}
-use Rattle.tg_space.specs.Targets.{first_pointer, pointers_of, cell_numbered}
+use Rattle.tg_space.specs.Targets.{pointers_of, cell_numbered}
 use Rattle.tg_space.specs.Soundness.{AreSound, HasLayout, HasLayoutOf, IsReference, RefersTo, IsLink, LinksTo, IsPointer}
 use Rattle.tg_space.specs.Rows.{link_of}
 use Rattle.tg_space.proofs.Flat.{all_cells_whole}
-
--- the slice of a cell from its first pointer on
-pub pointers_are : (words : List ℕ) (first : ℕ) → length words ≡ 8 → first ≡ first_pointer (get_or words 0 0) → take (8 - first) (drop first words) ≡ pointers_of words
-pointers_are words first long is =
-    ap (λ (n : ℕ). take (n - first) (drop first words)) (sym long) ∙ take_rest words first ∙ ap (λ (n : ℕ). drop n words) is
 
 -- an object or a chunk is no free cell
 pub used_object : (words : List ℕ) → kind_of words ≡ Object → 0 < get_or words 0 0

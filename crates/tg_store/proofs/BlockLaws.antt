@@ -38,30 +38,6 @@ fewer_held t u s forward done some =
     (λ le. le)
     (cases_lt (length (space_of t.spaces 0)) (length (space_of u.spaces 0)))
 
--- where all spaces together have no block, none has one
-none_of_any : (h : SpaceList) → block_count h ≤ 0 → (space : ℕ) → space_of h space ≡ []
-none_of_any [] none space = refl
-none_of_any ([] ∷ h) none zero = refl
-none_of_any ((block ∷ blocks) ∷ h) none zero =
-    absurd (omega (arith, sum_by-cons (λ (b : BlockList). length b) (block ∷ blocks) h))
-none_of_any (blocks ∷ h) none (suc space) =
-    none_of_any h (omega (arith, sum_by-cons (λ (b : BlockList). length b) blocks h)) space
-
--- where Old has as many blocks as all spaces together, no other space has one
-pub only_in_old : (h : SpaceList) → block_count h ≡ length (space_of h 0) → (space : ℕ) → 0 < space → space_of h space ≡ []
-only_in_old [] all space some = refl
-only_in_old (old ∷ h) all zero some = absurd (omega arith)
-only_in_old (old ∷ h) all (suc space) some =
-    none_of_any h (omega (arith, all, sum_by-cons (λ (b : BlockList). length b) old h)) space
-
--- where nothing is moved, there are no more blocks than there were
-pub few_stay : (t : SpaceTable) → block_count t.spaces ≡ length (space_of t.spaces 0) → HasFewBlocks Nursery 0 t t
-few_stay t all = record {
-  within = λ space. inr (omega arith);
-  full = λ other. let no : ◌≡◌ {A = Kind} Nursery Full = other in absurd cc;
-  nursery = λ _. omega (arith, all);
-}
-
 module _ (spare : ℕ) (old new : SpaceTable) (forward : List ℕ) (aged more : BlockList) where
   pub few_left : (kind : Kind) → AreFewBlocks old.limits.space_blocks (kept_blocks kind old.spaces) spare forward aged more → copies_in forward 0 + copies_in forward 1 ≤ used_cells kind old.spaces →
       (kind ≡ Full → new ≡ with_adopted old Full aged more) → (s : HeapState) → (kind ≡ Nursery → AreWritten (with_adopted old Nursery aged more) new (map (rewritten_at s.table.spaces forward) s.remembered)) → HasFewBlocks kind spare old new

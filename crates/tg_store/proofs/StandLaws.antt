@@ -4,7 +4,7 @@ use Rattle.std.specs.List.{Contains}
 use Rattle.tg_model.specs.declared.command.Deed.{Deed}
 use Rattle.tg_model.specs.declared.reply.Reply.{Reply}
 use Rattle.tg_model.specs.Graph.{ProtectionGraph, IsSubject}
-use Rattle.tg_model.specs.Opened.{Plan, IsPlan, start_of}
+use Rattle.tg_model.specs.Opened.{IsPlan, start_of}
 use Rattle.tg_model.specs.Rules.{step, answer_of, DeedFits}
 use Rattle.tg_journal.specs.History.{graph_after}
 use Rattle.tg_journal.proofs.HistoryLaws.{IsLegal-push, graph_after-push, graph_after-limit}
@@ -70,16 +70,6 @@ module _ (old new : StoreState) (worker : ℕ) (deed : Deed) (reply : Reply) (op
     faithful = IsFaithful-entered faithful subject fits is stands names;
     is_made = next ∙ ap (λ g. g.made) (sym graph-entered);
   }
-
--- ---- no entry yet
-
-pub IsFaithful-start : (s : StoreState) → IsPlan s.opening → s.entries ≡ [] → standing.IsContentOf (content_of s.heap) (start_of s.opening) → subject_names s.heap ≡ (start_of s.opening).subjects → IsFaithful s
-IsFaithful-start s plan none stands names = record {
-  plan = plan;
-  legal = rw none tt;
-  stands = rw none stands;
-  subjects = rw none names;
-}
 
 -- ---- subjects and the limit
 

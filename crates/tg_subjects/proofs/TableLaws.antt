@@ -1,14 +1,13 @@
 -- The table of subjects, with one more and with one less.
-use Rattle.std.proofs.Common.{◌≡◌, ◌≢◌, ℕ, zero, suc, ◌+◌, ◌<◌, ◌≤◌, ◌==◌, eqb, eq-eqb, ne_eqb, Bool, true, false, cond, List, [], ◌∷◌, ◌++◌, length, get_or, map, take, drop, refl, sym, ap, ◌∙◌, subst, arith}
+use Rattle.std.proofs.Common.{◌≡◌, ◌≢◌, ℕ, zero, suc, ◌+◌, ◌<◌, ◌≤◌, ◌==◌, eqb, eq-eqb, ne_eqb, cond, List, [], ◌∷◌, ◌++◌, length, get_or, map, take, drop, refl, sym, ap, ◌∙◌, subst, arith}
 use Rattle.std.specs.Prelude.{◌↔◌, Option, None, Some, IfSome, IsSome, not, slice_set}
 use Rattle.std.specs.Cmp.{nat_eq_equiv}
 use Rattle.std.specs.List.{All, AllPairs, Contains}
-use Rattle.std.specs.List.Sorted.{IsStrictlyIncreasing}
 use Rattle.std.proofs.lemmas.Bool.{cond-true, cond-false}
-use Rattle.std.proofs.lemmas.List.{get_or-map, length-map, map-set}
+use Rattle.std.proofs.lemmas.List.{length-map, map-set}
 use Rattle.std.proofs.Math.Seq.{map-set_same}
 use Rattle.tg_word.specs.declared.Place.{Place}
-use Rattle.std.proofs.lemmas.List.Elements.{All-head, All-tail, All-nil, All-cons, All-filter, All-push, All-contains, All-map}
+use Rattle.std.proofs.lemmas.List.Elements.{All-head, All-tail, All-nil, All-cons, All-filter, All-push, All-contains}
 use Rattle.std.proofs.lemmas.List.Kept.{AllPairs-cons, AllPairs-filter}
 use Rattle.std.proofs.lemmas.Map.Steps.{le-length_from_below}
 use Rattle.std.proofs.lemmas.Map.Views.{list_any-from_Contains}
@@ -94,38 +93,6 @@ all_held ss held =
     let many = le-length_from_below (nurseries_of ss) 64 (λ q low. list_any-from_Contains {eq = eqb} nat_eq_equiv q (nurseries_of ss) (held q low)) in
     omega (arith, many, length-map ss (λ (s : Subject). s.nursery))
 
--- ---- the columns of the table
-
--- what holds of each two numbers of a column holds of each two subjects, and the other way
-column_pairs : (f : Subject → ℕ) (R : ℕ → ℕ → Type 0) (ss : List Subject) → AllPairs (λ a b. R (f a) (f b)) ss → AllPairs R (map f ss)
-column_pairs f R ss pairs i j d lt low =
-    let inside : j < length ss = omega (arith, low, length-map ss f) in
-    subst (λ n. R n (get_or (map f ss) j d)) (sym (get_or-map f ss i no_subject d (omega (arith, lt, inside))))
-    (subst (λ n. R (f (get_or ss i no_subject)) n) (sym (get_or-map f ss j no_subject d inside)) (pairs i j no_subject lt inside))
-  where
-    no_subject : Subject
-    no_subject = record { name = 0; nursery = 0; place = record { space = 0; block = 0; cell = 0 } }
-
-pairs_of_column : (f : Subject → ℕ) (R : ℕ → ℕ → Type 0) (ss : List Subject) → AllPairs R (map f ss) → AllPairs (λ a b. R (f a) (f b)) ss
-pairs_of_column f R ss pairs i j d lt low =
-    subst (λ n. R n (f (get_or ss j d))) (get_or-map f ss i d (f d) (omega (arith, lt, low)))
-    (subst (λ n. R (get_or (map f ss) i (f d)) n) (get_or-map f ss j d (f d) low) (pairs i j (f d) lt (omega (arith, low, length-map ss f))))
-
-all_of_column : (f : Subject → ℕ) (P : ℕ → Type 0) (ss : List Subject) → All P (map f ss) → All (λ s. P (f s)) ss
-all_of_column f P ss all i d low = subst P (get_or-map f ss i d (f d) low) (all i (f d) (omega (arith, low, length-map ss f)))
-
--- whether a list is a table of subjects is told by its names and nurseries
-pub subjects_same : (old new : List Subject) → names_of new ≡ names_of old → nurseries_of new ≡ nurseries_of old → AreSubjects old → AreSubjects new
-subjects_same old new names nurseries are = record {
-  rising = pairs_of_column (λ s. s.name) (λ a b. a < b) new (subst (AllPairs (λ a b. a < b)) (sym names) (column_pairs (λ s. s.name) (λ a b. a < b) old are.rising));
-  nurseries = all_of_column (λ s. s.nursery) (λ n. n < MAX_NURSERIES) new (subst (All (λ n. n < MAX_NURSERIES)) (sym nurseries) (All-map (λ n. n < MAX_NURSERIES) (λ (s : Subject). s.nursery) old are.nurseries));
-  apart = pairs_of_column (λ s. s.nursery) (λ a b. a ≢ b) new (subst (AllPairs (λ a b. a ≢ b)) (sym nurseries) (column_pairs (λ s. s.nursery) (λ a b. a ≢ b) old are.apart));
-}
-
--- the names rise, as those of a graph's subjects do
-pub names_rise : (ss : List Subject) → AreSubjects ss → IsStrictlyIncreasing (names_of ss)
-names_rise ss are = λ k low. column_pairs (λ s. s.name) (λ a b. a < b) ss are.rising k (k + 1) 0 (omega arith) low
-
 -- ---- the nursery of a name
 
 pub held_by : (ss : List Subject) (name : ℕ) (s : Subject) → AreSubjects ss → IsSubjectNamed ss name s → nursery_held ss name ≡ s.nursery
@@ -141,17 +108,6 @@ held_by ss name s are named = held_rising ss name s are.rising named.there named
         let above : t.name < s.name = All-contains (λ u. t.name < u.name) ss s (rising_head t ss rising) there in
         cond-false (t.name == name) t.nursery (nursery_held ss name) (ne_eqb t.name name (λ same. omega (arith, above, same, is)))
         ∙ held_rising ss name s (rising_tail t ss rising) there is
-
--- the nursery held under any name is one of those that there may be
-pub held_few : (ss : List Subject) (name : ℕ) → All (λ s. s.nursery < MAX_NURSERIES) ss → nursery_held ss name < MAX_NURSERIES
-held_few [] name few = omega arith
-held_few (s ∷ ss) name few =
-    cond_holds (λ n. n < MAX_NURSERIES) (s.name == name) s.nursery (nursery_held ss name)
-    (All-head (λ t. t.nursery < MAX_NURSERIES) s ss few) (held_few ss name (All-tail (λ t. t.nursery < MAX_NURSERIES) s ss few))
-  where
-    cond_holds : (P : ℕ → Type 0) (b : Bool) (x y : ℕ) → P x → P y → P (cond b x y)
-    cond_holds P true x y px py = px
-    cond_holds P false x y px py = py
 
 held_in : List ℕ → List ℕ → ℕ → ℕ
 held_in [] nurseries name = 0

@@ -1,10 +1,10 @@
 -- What the workers' sessions brought back, line by line in script order.
-use Rattle.std.proofs.Common.{◌≡◌, ◌≢◌, ◌<◌, ◌+◌, ℕ, Bool, true, false, cond, List, [], ◌∷◌, ◌++◌, length, map, filter, get_or, set, take, drop, zero, suc, slice_get, option_map, Option, Some, None, slice_index, replicate, refl, sym, ap, ◌∙◌, subst, arith, append-nil, add-zero, length-append, ⊎_elim}
+use Rattle.std.proofs.Common.{◌≡◌, ◌≢◌, ◌<◌, ◌+◌, ℕ, Bool, true, false, cond, List, [], ◌∷◌, ◌++◌, length, map, filter, get_or, set, take, drop, zero, suc, slice_get, option_map, Option, Some, None, slice_index, refl, sym, ap, ◌∙◌, subst, arith, append-nil, add-zero, length-append, ⊎_elim}
 use Rattle.std.specs.List.{AllZip, range_with_len, zip}
 use Rattle.std.proofs.Math.Seq.{drop-cons}
 use Rattle.std.proofs.lemmas.Bool.{cases_eq}
 use Rattle.std.proofs.lemmas.Option.{slice_get-get_or, slice_get-map, get_or_from_slice_get, same_Some}
-use Rattle.std.proofs.lemmas.List.{length-set, get_or-set_same, get_or-set_other, get_or-map, take_more, take_all, take-append-drop, length-replicate, get_or-replicate}
+use Rattle.std.proofs.lemmas.List.{length-set, get_or-set_same, get_or-set_other, get_or-map, take_more, take_all, take-append-drop}
 use Rattle.std.proofs.lemmas.List.Elements.{filter-append}
 use Rattle.std.proofs.lemmas.List.FromFn.{fill_by_all, get_or-map-range_with_len}
 use Rattle.tg_text.specs.declared.line.Line.{Line}
@@ -63,15 +63,6 @@ pub record IsSeen (workers : ℕ) (brought : List (List Told)) (lines : List Lin
   pub count : (x : ℕ) → x < workers → slice_index seen x ≡ count_of workers x lines
   pub nobodys : AllZip (IsNobodys workers) lines ts
   pub own : (x : ℕ) → x < workers → told_of workers x lines ts ≡ take (count_of workers x lines) (get_or brought x [])
-
-pub seen_none : (workers : ℕ) (brought : List (List Told)) (seen : List ℕ) → seen ≡ replicate workers 0 → IsSeen workers brought [] [] seen
-seen_none workers brought seen is = record {
-  long = refl;
-  places = ap (λ (s : List ℕ). length s) is ∙ length-replicate workers 0;
-  count = λ x low. ap (λ s. get_or s x 0) is ∙ get_or-replicate workers x 0 0 low;
-  nobodys = tt;
-  own = λ x low. refl;
-}
 
 pub seen_nobodys : (workers : ℕ) (brought : List (List Told)) (lines : List Line) (ts : List Told) (seen : List ℕ) (l : Line) (t : Told) → IsSeen workers brought lines ts seen → runner_of workers l ≡ None → t ≡ came.Refused refusal.Worker →
     IsSeen workers brought (lines ++ l ∷ []) (ts ++ t ∷ []) seen
