@@ -203,8 +203,7 @@ impl<'a> Run<'a> {
     fn store(&mut self, target: u64, number: u64) -> Result<(), DrawFault> {
         if let Some(vertex) = self.vertices.get_mut(&target) {
             let law = vertex.value.law;
-            let state = law.state_after(self.alloc, vertex.value.state.as_slice(), number)?;
-            vertex.value.state = state;
+            law.write(self.alloc, &mut vertex.value.state, number)?;
         }
         Ok(())
     }
