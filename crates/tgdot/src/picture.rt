@@ -17,13 +17,15 @@ const BOX_MARGIN: usize = 20;
 
 const CIRCLE_MARGIN: usize = 34;
 
+// The most edges that dot draws without lines from their labels.
+const MOST_PLAIN: usize = 8;
+
 /// Prints the step as a digraph with all that the frame has, by name. What the step doesn't have is invisible.
 pub fn draw_shot<R: Print>(rt: &R, frame: &Frame, shot: &Shot) -> io::Result<()> {
     let number = shot.number;
     println!(rt; "digraph step_{number} {{")?;
     draw_heading(rt, frame, shot)?;
-    println!(rt; "    node [fontname={FONT} fixedsize=true]")?;
-    println!(rt; "    edge [fontname={FONT}]")?;
+    draw_defaults(rt, frame)?;
     draw_vertices(rt, frame, shot)?;
     draw_edges(rt, frame, shot)?;
     println!(rt; "}}")
@@ -42,6 +44,14 @@ fn draw_heading<R: Print>(rt: &R, frame: &Frame, shot: &Shot) -> io::Result<()> 
     println!(rt;
         "    graph [fontname={FONT} labelloc=t labeljust=l label=\"{heading}\\l{told}\\l\"]"
     )
+}
+
+// What holds of all vertices and of all edges. Among many edges a line leads from each label to its own.
+fn draw_defaults<R: Print>(rt: &R, frame: &Frame) -> io::Result<()> {
+    let are_many = frame.edges.len() > MOST_PLAIN;
+    let lines = if are_many { " decorate=true" } else { "" };
+    println!(rt; "    node [fontname={FONT} fixedsize=true]")?;
+    println!(rt; "    edge [fontname={FONT}{lines}]")
 }
 
 // All vertices of the frame.
