@@ -1,4 +1,4 @@
-use Rattle.std.proofs.Common.{◌≡◌, ◌≤◌, ◌<◌, ◌∙◌, ℕ, List, Option, Some, None, false, true, inl, is_some, length, nat_eq, refl, sym, ap, subst}
+use Rattle.std.proofs.Common.{◌≡◌, ◌≤◌, ◌<◌, ◌∙◌, ℕ, Option, None, false, true, inl, is_some, length, nat_eq, refl, sym, ap, subst}
 use Rattle.std.proofs.lemmas.Cmp.{nat_eq_equiv}
 use Rattle.std.proofs.lemmas.Option.{slice_get_within}
 use Rattle.std.specs.Map.{lookup}
@@ -8,7 +8,7 @@ use Rattle.indexmap.specs.Layout.{set_value_at}
 use Rattle.tg_word.specs.declared.Place.{Place}
 use Rattle.tg_space.specs.SpaceTable.{SpaceTable}
 use Rattle.tg_space.proofs.Tables.{table_list}
-use Rattle.tg_graph.specs.Index.{AreIndexed, HasIndexAt, Indexes, IsAged, MayIndex, SameIndexed, indexed_in}
+use Rattle.tg_graph.specs.Index.{AreIndexed, HasIndexAt, Indexes, IsAged, SameIndexed, indexed_in}
 use Rattle.tg_graph.specs.Rows.{IsVertexAt, name_at}
 use Rattle.tg_graph.specs.declared.index.IndexedRow.{IndexedRow}
 use Rattle.tg_graph.proofs.Ages.{aged_at, row_there, same_row, written_aged}

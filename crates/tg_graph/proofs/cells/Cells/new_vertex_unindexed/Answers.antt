@@ -1,10 +1,10 @@
-use Rattle.std.proofs.Common.{◌≡◌, ◌≤◌, ◌<◌, ◌∙◌, ℕ, List, Some, None, cond, false, true, length, nat_eq, refl, sym, ap, arith, subst}
+use Rattle.std.proofs.Common.{◌≡◌, ℕ, List, Some, None, cond, true, nat_eq, refl, sym, arith, subst}
 use Rattle.std.specs.Map.{lookup}
 use Rattle.tg_word.specs.Word.{nursery_space}
 use Rattle.tg_word.specs.declared.Place.{Place}
 use Rattle.tg_space.specs.SpaceTable.{SpaceTable}
 use Rattle.tg_space.proofs.Tables.{table_list}
-use Rattle.tg_graph.specs.Index.{AreIndexed, MayIndex, SameIndexed, indexed_in}
+use Rattle.tg_graph.specs.Index.{AreIndexed, MayIndex, indexed_in}
 use Rattle.tg_graph.specs.Rows.{IsVertexAt, name_at}
 use Rattle.tg_graph.proofs.Heaps.{always_err, either_way, success_gives}
 use Rattle.tg_graph.proofs.IndexedRows.{Entries, added_here, added_index, entries_indexed, indexes_kept, indexes_written, may_index}

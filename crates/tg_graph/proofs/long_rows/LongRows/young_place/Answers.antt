@@ -1,4 +1,3 @@
-use Rattle.std.proofs.Common.{nat_eq}
 use Rattle.std.proofs.lemmas.Option.{slice_get_within}
 use Rattle.tg_graph.proofs.long_rows.LongRows.young_place.Goals as goal
 
