@@ -29,6 +29,25 @@ const FROM: &str = "With --steps: the first line that is shown [default: the fir
 
 const TO: &str = "With --steps: the last line that is shown [default: the last of all]";
 
+// What an option takes: nothing, a text, a number from 1 to this one, or, with the steps, the number of a line.
+#[derive(Clone, Copy, Drop)]
+enum Takes {
+    Nothing,
+    Text,
+    Number(i64),
+    Line,
+}
+
+// The options, each with what is told of it.
+const OPTIONS: &[(&str, Takes, &str)] = &[
+    ("workers", Takes::Number(64), WORKERS),
+    ("vertices", Takes::Number(16_777_216), VERTICES),
+    ("stock", Takes::Text, STOCK),
+    ("steps", Takes::Nothing, STEPS),
+    ("from", Takes::Line, FROM),
+    ("to", Takes::Line, TO),
+];
+
 /// What the words ask for.
 #[derive(Clone, Copy, Drop)]
 pub struct DotOptions<'a> {
@@ -87,40 +106,37 @@ fn steps_of(matches: &ArgMatches) -> Option<LineRange> {
 
 // The command line.
 fn command<'a>(alloc: Global) -> Result<Command<'a>, AllocError> {
-    Command::new(alloc, "tgdot")
+    let mut command = Command::new(alloc, "tgdot")
         .about(ABOUT)
-        .after_help(EXAMPLE)
-        .arg(number(alloc, "workers", 64, WORKERS))?
-        .arg(number(alloc, "vertices", 16_777_216, VERTICES))?
-        .arg(option(alloc, "stock", "TEXT", STOCK))?
-        .arg(steps(alloc))?
-        .arg(line(alloc, "from", FROM)?)?
-        .arg(line(alloc, "to", TO)?)
+        .after_help(EXAMPLE);
+    for (name, takes, help) in OPTIONS {
+        command = command.arg(option(alloc, name, *takes, help)?)?;
+    }
+    Ok(command)
 }
 
-// The option that has no value.
-fn steps<'a>(alloc: Global) -> Arg<'a> {
-    Arg::new(alloc, "steps")
-        .long("steps")
-        .help(STEPS)
-        .action(ArgAction::SetTrue)
+// An option.
+fn option<'a>(
+    alloc: Global,
+    name: &'a str,
+    takes: Takes,
+    help: &'a str,
+) -> Result<Arg<'a>, AllocError> {
+    let arg = Arg::new(alloc, name).long(name).help(help);
+    match takes {
+        Takes::Nothing => Ok(arg.action(ArgAction::SetTrue)),
+        Takes::Text => Ok(with_value(arg, "TEXT")),
+        Takes::Number(most) => Ok(with_number(arg, most)),
+        Takes::Line => with_number(arg, i64::MAX).requires_arg("steps"),
+    }
 }
 
-// An option whose value is the number of a line, and which goes with the steps.
-fn line<'a>(alloc: Global, name: &'a str, help: &'a str) -> Result<Arg<'a>, AllocError> {
-    number(alloc, name, i64::MAX, help).requires_arg("steps")
+// The option with a number from 1 to `most` as its value.
+fn with_number<'a>(arg: Arg<'a>, most: i64) -> Arg<'a> {
+    with_value(arg, "N").value_parser(clap::value_parser!(u64).range(1..=most))
 }
 
-// An option whose value is a number from 1 to `most`.
-fn number<'a>(alloc: Global, name: &'a str, most: i64, help: &'a str) -> Arg<'a> {
-    option(alloc, name, "N", help).value_parser(clap::value_parser!(u64).range(1..=most))
-}
-
-// An option that has a value.
-fn option<'a>(alloc: Global, name: &'a str, value: &'a str, help: &'a str) -> Arg<'a> {
-    Arg::new(alloc, name)
-        .long(name)
-        .value_name(value)
-        .help(help)
-        .action(ArgAction::Set)
+// The option with a value.
+fn with_value<'a>(arg: Arg<'a>, value: &'a str) -> Arg<'a> {
+    arg.value_name(value).action(ArgAction::Set)
 }
