@@ -6,14 +6,17 @@ use Rattle.std.proofs.lemmas.Bool.Decides.{nat_tests}
 use Rattle.std.proofs.lemmas.List.{length_push, get_or_append_left, get_or_push, get_or_default, append-nil}
 use Rattle.std.proofs.lemmas.List.Elements.{All-contains, All-nil, All-push, Contains-append_left, Contains-append_right, Contains-get_or, Contains-push, filter-append}
 use Rattle.tg_word.specs.declared.Place.{Place}
-use Rattle.tg_word.specs.Word.{IsPlace}
+use Rattle.tg_rights.specs.RightSet.{no_rights}
+use Rattle.tg_word.specs.Word.{IsPlace, link_to, numbered_place, place_in}
+use Rattle.tg_word.proofs.Packing.{place_in-word_at}
 use Rattle.tg_race.specs.declared.record.Record.{Record}
 use Rattle.tg_race.specs.Conditions.{blocks_of, can_claim_block, can_use, uses}
 use Rattle.tg_race.specs.Race.{has_number, has_room, owns, used_in, with_claimed_block, with_seen, with_won}
 use Rattle.tg_race.specs.Words.{lies_in, same_place, space_of_age}
 use Rattle.tg_race.proofs.Sums.{weigh_push}
 use Rattle.tg_parallel.specs.Parts.{HasClaimedPast, HasPlaceOf, HasPlaces, cells_met}
-use Rattle.tg_parallel.specs.Seats.{AreFilled, AreRising, Finds, OnlyBlocks, OtherStays, own_place, pair_at, pairs_in}
+use Rattle.tg_parallel.specs.declared.own_blocks.OwnBlocks.{OwnBlocks}
+use Rattle.tg_parallel.specs.Seats.{AreFilled, AreRising, Finds, IsReady, KnowsNext, OnlyBlocks, OtherStays, own_place, pair_at, pairs_in}
 use Rattle.tg_parallel.proofs.Lists.{any_at, any_found, map_has}
 
 -- ---- lists
@@ -354,3 +357,67 @@ module _ (v : Record) (cell : ℕ) (p : Place) where
 
   pub seen_known : IsPlace p → (to : ℕ → Place) → HasPlaces (with_seen v (cell, p)) to → to cell ≡ p
   seen_known inside to has_number = All-contains (HasPlaceOf to) (v.seen ++ (cell, p) ∷ []) (cell, p) has_number.seen (Contains-push v.seen (cell, p)) inside
+
+-- ---- the next place
+
+age_two : (aged : Bool) → space_of_age aged < 2
+age_two true = omega arith
+age_two false = omega arith
+
+-- an own place in a block that the layout can name is a place
+module _ (aged : Bool) (numbers : List ℕ) (used : ℕ) (few : get_or numbers (used / 64) 0 < 2 ^ 20) where
+  pub own_is_place : IsPlace (own_place aged numbers used)
+  own_is_place = record { space = (let two = age_two aged in omega arith); block = few; cell = omega arith }
+
+-- the word of the next place, and that place as it is read in it
+module _ (b : OwnBlocks) (ready : IsReady b) where
+  abbrev next_own : Place
+  next_own = own_place b.aged b.numbers.items b.used
+
+  block_is : b.next / 64 ≡ get_or b.numbers.items (b.used / 64) 0
+  block_is = let next = ready.next in omega arith
+
+  cell_is : b.next % 64 ≡ b.used % 64
+  cell_is = let next = ready.next in omega arith
+
+  number_is : numbered_place b.space b.next ≡ next_own
+  number_is = λ i. record { space = ready.space i; block = block_is i; cell = cell_is i }
+
+  pub next_inside : IsPlace next_own
+  next_inside = own_is_place b.aged b.numbers.items b.used ready.few
+
+  pub next_small : b.next < 2 ^ 26
+  next_small = let few = ready.few in let next = ready.next in omega arith
+
+  pub next_two : b.space < 66
+  next_two = let two = age_two b.aged in let is = ready.space in omega arith
+
+  module _ (word : ℕ) (is : word ≡ link_to (numbered_place b.space b.next)) where
+    pub next_word : word ≡ link_to next_own
+    next_word = is ∙ ap link_to number_is
+
+    pub next_read : place_in word ≡ next_own
+    next_read = ap place_in next_word ∙ place_in-word_at no_rights next_own next_inside
+
+    pub next_link : word ≡ link_to (place_in word)
+    next_link = next_word ∙ ap link_to (sym next_read)
+
+-- the word of a place is the link to the place that is read in it
+pub link_read : (p : Place) (word : ℕ) → IsPlace p → word ≡ link_to p → word ≡ link_to (place_in word)
+link_read p word inside is = is ∙ ap link_to (sym (ap place_in is ∙ place_in-word_at no_rights p inside))
+
+-- after one more win the next place is the one behind, where some are left
+pub ready_more : (b : OwnBlocks) (used left next : ℕ) → IsReady b → used ≡ b.used + 1 → left + 1 ≡ b.left → next ≡ b.next + 1 → KnowsNext (record { aged = b.aged; numbers = b.numbers; used = used; space = b.space; next = next; left = left })
+ready_more b used left next ready one less on some =
+    let l = ready.left in let room = ready.room in let old = ready.next in
+    let more : b.used % 64 < 63 = omega arith in
+    let same : used / 64 ≡ b.used / 64 = omega arith in
+    let block : get_or b.numbers.items (used / 64) 0 ≡ get_or b.numbers.items (b.used / 64) 0 = ap (λ (i : ℕ). get_or b.numbers.items i 0) same in
+    let few = ready.few in
+    record {
+      room = omega arith;
+      left = omega arith;
+      few = omega arith;
+      space = ready.space;
+      next = omega arith;
+    }

@@ -24,7 +24,7 @@ use Rattle.tg_evac.specs.Claims.{IsWinFor, is_in, win_at, won_in}
 use Rattle.tg_evac.specs.Claimers.{AddsWins}
 use Rattle.tg_parallel.specs.declared.own_blocks.OwnBlocks.{OwnBlocks}
 use Rattle.tg_parallel.specs.Parts.{HasPlaceOf, HasPlaces, cells_met, win_of, wins_of}
-use Rattle.tg_parallel.specs.Seats.{AreFilled, Finds, IsSeat, OtherStays, pair_at, pairs_in, walked_at}
+use Rattle.tg_parallel.specs.Seats.{AreFilled, Finds, IsSeat, KnowsNext, OtherStays, pair_at, pairs_in, walked_at}
 use Rattle.tg_parallel.proofs.Lists.{all_left, any_has, map_found}
 
 pub place_back : (p : Place) → IsPlace p → place_in (link_to p) ≡ p
@@ -165,8 +165,8 @@ module _ (limit : ℕ) (board : Board) (before after : Seated) (aged old : OwnBl
         (All-append (λ (q : ℕ × Place). IsPlace q.1 × (q.1.space < 2)) before.done.won finds.won seat.places
         (All-weaker (λ (q : ℕ × Place). (q.0 ≡ cell) × (q.1.space ≡ space_of_age a) × IsPlace q.1) (λ (q : ℕ × Place). IsPlace q.1 × (q.1.space < 2)) (λ q r. (r.2, (let e = r.1 in let t = two_of a in omega arith))) finds.won finds.reasons))
 
-  pub seat_aged : (now : OwnBlocks) → now.aged ≡ aged.aged → Finds cell aged.aged before.done after.done → AreFilled aged.aged after.done now.numbers.items now.used → OtherStays aged.aged before.done after.done → IsSeat limit board after now old
-  seat_aged now space finds filled other = record {
+  pub seat_aged : (now : OwnBlocks) → now.aged ≡ aged.aged → Finds cell aged.aged before.done after.done → AreFilled aged.aged after.done now.numbers.items now.used → OtherStays aged.aged before.done after.done → KnowsNext now → IsSeat limit board after now old
+  seat_aged now space finds filled other next = record {
     own = same ∙ seat.own;
     few = seat.few;
     differ = differ_now aged.aged finds;
@@ -176,10 +176,12 @@ module _ (limit : ℕ) (board : Board) (before after : Seated) (aged old : OwnBl
     is_old = seat.is_old;
     in_aged = subst (λ (a : Bool). AreFilled a after.done now.numbers.items now.used) seat.is_aged filled;
     in_old = subst (λ (a : Bool). OtherStays a before.done after.done) seat.is_aged other old.numbers.items old.used seat.in_old;
+    aged_next = next;
+    old_next = seat.old_next;
   }
 
-  pub seat_old : (now : OwnBlocks) → now.aged ≡ old.aged → Finds cell old.aged before.done after.done → AreFilled old.aged after.done now.numbers.items now.used → OtherStays old.aged before.done after.done → IsSeat limit board after aged now
-  seat_old now space finds filled other = record {
+  pub seat_old : (now : OwnBlocks) → now.aged ≡ old.aged → Finds cell old.aged before.done after.done → AreFilled old.aged after.done now.numbers.items now.used → OtherStays old.aged before.done after.done → KnowsNext now → IsSeat limit board after aged now
+  seat_old now space finds filled other next = record {
     own = same ∙ seat.own;
     few = seat.few;
     differ = differ_now old.aged finds;
@@ -189,4 +191,6 @@ module _ (limit : ℕ) (board : Board) (before after : Seated) (aged old : OwnBl
     is_old = space ∙ seat.is_old;
     in_aged = subst (λ (a : Bool). OtherStays a before.done after.done) seat.is_old other aged.numbers.items aged.used seat.in_aged;
     in_old = subst (λ (a : Bool). AreFilled a after.done now.numbers.items now.used) seat.is_old filled;
+    aged_next = seat.aged_next;
+    old_next = next;
   }

@@ -48,6 +48,18 @@ pub record AreFilled (aged : Bool) (v : Record) (numbers : List ℕ) (used : ℕ
   -- so many cells at least lie in each block
   pub many : (i n : ℕ) → i < length numbers → n ≤ 64 → 64 * i + n ≤ used → n ≤ used_in (space_of_age aged) (slice_index numbers i) v.won
 
+-- There is a next place, in a block that the layout can name, and it is known. So many places at most are left in its block.
+pub record IsReady (b : OwnBlocks) : Type 0 where
+  pub room : b.used < 64 * length b.numbers.items
+  pub left : b.left + b.used % 64 ≤ 64
+  pub few : slice_index b.numbers.items (b.used / 64) < 2 ^ 20
+  pub space : b.space ≡ space_of_age b.aged
+  pub next : b.next ≡ 64 * slice_index b.numbers.items (b.used / 64) + b.used % 64
+
+-- where places are left, the next one is known
+abbrev pub KnowsNext : OwnBlocks → Type 0
+KnowsNext b = 0 < b.left → IsReady b
+
 -- the blocks of the other space stay as they are
 abbrev pub OtherStays : Bool → Record → Record → Type 0
 OtherStays aged v w = (numbers : List ℕ) (used : ℕ) → AreFilled (not aged) v numbers used → AreFilled (not aged) w numbers used
@@ -93,6 +105,8 @@ pub record IsSeat (limit : ℕ) (board : Board) (helper : Seated) (aged old : Ow
   pub is_old : old.aged ≡ false
   pub in_aged : AreFilled true helper.done aged.numbers.items aged.used
   pub in_old : AreFilled false helper.done old.numbers.items old.used
+  pub aged_next : KnowsNext aged
+  pub old_next : KnowsNext old
 
 -- what no claim of a cell changes: the table, the chunks of roots that were claimed, and the share
 abbrev pub Fixed : Type 0

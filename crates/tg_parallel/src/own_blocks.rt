@@ -2,16 +2,18 @@
 ghost use Rattle.std.specs.Prelude.{◌≡◌, ℕ, ◌/◌, ◌%◌, ◌<◌, ◌≤◌, ◌*◌, ◌^◌, All, Contains, [], IfErr, IfOk, OnOk, length, slice_index};
 ghost use Rattle.tg_race.specs.Race.{empty};
 ghost use Rattle.tg_word.specs.declared.Place.{Place as PlaceOf};
-ghost use Rattle.tg_word.specs.Word.{IsPlace};
+ghost use Rattle.tg_word.specs.Word.{place_in};
+ghost use Rattle.tg_evac.specs.Claimers.{IsLink};
 ghost use Rattle.tg_parallel.specs.Parts.{HasClaimedPast, HasPlaces, cells_met};
-ghost use Rattle.tg_parallel.specs.Seats.{AreFilled, Finds, OnlyBlocks, OtherStays, own_place};
+ghost use Rattle.tg_parallel.specs.Seats.{AreFilled, Finds, IsReady, KnowsNext, OnlyBlocks, OtherStays, own_place};
 
+use crate::links::word_to;
 use crate::winner::Winner;
 use std::alloc::{AllocError, Global};
 use tg_block::CELLS;
 use tg_evac::CollectFault;
 use tg_race::{Claim, RaceTable};
-use tg_word::{AGED, OLD, Place};
+use tg_word::{AGED, OLD, Place, link, place_of};
 
 /// The blocks that a helper has claimed in a space, and how many places of them were given away.
 #[derive(Drop)]
@@ -22,6 +24,12 @@ pub struct OwnBlocks {
     pub numbers: Vec<u64>,
     /// How many places were given away, block after block.
     pub used: u64,
+    /// The space of the next place, where that is known.
+    pub space: u64,
+    /// The number that the next place has in its space, counted 64 a block.
+    pub next: u64,
+    /// How many places are left in the block of the next one; none as long as that isn't known.
+    pub left: u64,
 }
 
 impl OwnBlocks {
@@ -30,52 +38,113 @@ impl OwnBlocks {
         ensures space { result.aged ≡ aged }
         ensures numbers { result.numbers.items ≡ [] }
         ensures used { result.used ≡ 0 }
+        ensures left { result.left ≡ 0 }
     {
         OwnBlocks {
             aged,
             numbers: Vec::new(alloc),
             used: 0,
+            space: OLD,
+            next: 0,
+            left: 0,
         }
     }
 
-    /// The place of a cell: its own where it has one, and else the next of these blocks. A block is claimed late, for a
-    /// cell that needs it.
+    /// The word of the place of a cell: its own where it has one, and else the next of these blocks. A block is claimed late, for
+    /// a cell that needs it.
     ///
     /// It is refused with `OutOfMemory`, or with `HeapFull` where the block is past the limit.
     #[inline(always)]
-    pub fn place_of(
+    pub fn word_of(
         &mut self,
         winner: &mut Winner,
         table: &RaceTable,
         cell: u64,
         limit: u64,
-    ) -> Result<Place, CollectFault>
+    ) -> Result<u64, CollectFault>
         requires own { winner.old.table ≡ table.now.table }
         requires inside { cell < table.now.counts.cells }
         requires moved { 64 * table.now.counts.kept ≤ cell }
         requires limit { limit ≤ 2 ^ 20 }
         requires filled { AreFilled self.now.aged winner.old.done self.now.numbers.items self.now.used }
+        requires next { KnowsNext self.now }
         ensures space { self.exit.now.aged ≡ self.entry.now.aged }
         ensures seat { winner.new.table ≡ winner.old.table }
         ensures finds { Finds cell self.entry.now.aged winner.old.done winner.new.done }
         ensures filled { AreFilled self.entry.now.aged winner.new.done self.exit.now.numbers.items self.exit.now.used }
+        ensures next { KnowsNext self.exit.now }
         ensures other { OtherStays self.entry.now.aged winner.old.done winner.new.done }
         ensures met { OnOk result (Contains (cells_met winner.new.done) cell) }
-        ensures place { IfOk result IsPlace }
-        ensures known { IfOk result (λ place. (to : ℕ → PlaceOf) → HasPlaces winner.new.done to → to cell ≡ place) }
+        ensures link { IfOk result IsLink }
+        ensures known { IfOk result (λ word. (to : ℕ → PlaceOf) → HasPlaces winner.new.done to → to cell ≡ place_in word) }
+        ensures full { IfErr result (λ fault. fault ≡ CollectFault.HeapFull → HasClaimedPast limit winner.new.done) }
+    {
+        self.make_ready(winner, table, limit)?;
+        self.give(winner, table, cell)
+    }
+
+    // Finds the next place, where it isn't known.
+    #[inline(always)]
+    fn make_ready(
+        &mut self,
+        winner: &mut Winner,
+        table: &RaceTable,
+        limit: u64,
+    ) -> Result<(), CollectFault>
+        requires own { winner.old.table ≡ table.now.table }
+        requires limit { limit ≤ 2 ^ 20 }
+        requires filled { AreFilled self.now.aged winner.old.done self.now.numbers.items self.now.used }
+        requires next { KnowsNext self.now }
+        ensures space { self.exit.now.aged ≡ self.entry.now.aged }
+        ensures seat { winner.new.table ≡ winner.old.table }
+        ensures blocks { OnlyBlocks winner.old.done winner.new.done }
+        ensures filled { AreFilled self.entry.now.aged winner.new.done self.exit.now.numbers.items self.exit.now.used }
+        ensures next { KnowsNext self.exit.now }
+        ensures other { OtherStays self.entry.now.aged winner.old.done winner.new.done }
+        ensures some { OnOk result (0 < self.exit.now.left) }
+        ensures full { IfErr result (λ fault. fault ≡ CollectFault.HeapFull → HasClaimedPast limit winner.new.done) }
+    {
+        if self.left != 0 {
+            return Ok(());
+        }
+        self.find_next(winner, table, limit)
+    }
+
+    // Finds the next place, in a block that has room: the last one, or a new one.
+    #[inline(never)]
+    fn find_next(
+        &mut self,
+        winner: &mut Winner,
+        table: &RaceTable,
+        limit: u64,
+    ) -> Result<(), CollectFault>
+        requires own { winner.old.table ≡ table.now.table }
+        requires limit { limit ≤ 2 ^ 20 }
+        requires filled { AreFilled self.now.aged winner.old.done self.now.numbers.items self.now.used }
+        requires none { self.now.left ≡ 0 }
+        ensures space { self.exit.now.aged ≡ self.entry.now.aged }
+        ensures seat { winner.new.table ≡ winner.old.table }
+        ensures blocks { OnlyBlocks winner.old.done winner.new.done }
+        ensures filled { AreFilled self.entry.now.aged winner.new.done self.exit.now.numbers.items self.exit.now.used }
+        ensures next { KnowsNext self.exit.now }
+        ensures other { OtherStays self.entry.now.aged winner.old.done winner.new.done }
+        ensures some { OnOk result (0 < self.exit.now.left) }
         ensures full { IfErr result (λ fault. fault ≡ CollectFault.HeapFull → HasClaimedPast limit winner.new.done) }
     {
         self.make_room(winner, table)?;
         let place = self.next_place(limit)?;
-        self.give(winner, table, cell, place)
+        self.space = place.space;
+        self.next = CELLS as u64 * place.block + place.cell;
+        self.left = CELLS as u64 - place.cell;
+        Ok(())
     }
 
     // Claims a block, where all are full.
-    #[inline(always)]
     fn make_room(&mut self, winner: &mut Winner, table: &RaceTable) -> Result<(), AllocError>
         requires own { winner.old.table ≡ table.now.table }
         requires filled { AreFilled self.now.aged winner.old.done self.now.numbers.items self.now.used }
         ensures space { self.exit.now.aged ≡ self.entry.now.aged }
+        ensures left { self.exit.now.left ≡ self.entry.now.left }
         ensures seat { winner.new.table ≡ winner.old.table }
         ensures blocks { OnlyBlocks winner.old.done winner.new.done }
         ensures filled { AreFilled self.entry.now.aged winner.new.done self.exit.now.numbers.items self.exit.now.used }
@@ -89,12 +158,12 @@ impl OwnBlocks {
     }
 
     // Claims a block. All are full.
-    #[inline(never)]
     fn open_block(&mut self, winner: &mut Winner, table: &RaceTable) -> Result<(), AllocError>
         requires own { winner.old.table ≡ table.now.table }
         requires filled { AreFilled self.now.aged winner.old.done self.now.numbers.items self.now.used }
         requires all { 64 * length self.now.numbers.items ≤ self.now.used }
         ensures space { self.exit.now.aged ≡ self.entry.now.aged }
+        ensures left { self.exit.now.left ≡ self.entry.now.left }
         ensures seat { winner.new.table ≡ winner.old.table }
         ensures blocks { OnlyBlocks winner.old.done winner.new.done }
         ensures filled { AreFilled self.entry.now.aged winner.new.done self.exit.now.numbers.items self.exit.now.used }
@@ -108,7 +177,6 @@ impl OwnBlocks {
     }
 
     // The next place of these blocks, where its block is within the limit.
-    #[inline(always)]
     fn next_place(&self, limit: u64) -> Result<Place, CollectFault>
         requires { self.now.used < 64 * length self.now.numbers.items }
         ensures place { IfOk result (λ place. place ≡ own_place self.now.aged self.now.numbers.items self.now.used) }
@@ -126,38 +194,40 @@ impl OwnBlocks {
         })
     }
 
-    // Gives a cell the next place of these blocks, unless it has one, and answers the place that it has.
+    // Gives a cell the next place of these blocks, unless it has one, and answers the word of the place that it has.
     #[inline(always)]
     fn give(
         &mut self,
         winner: &mut Winner,
         table: &RaceTable,
         cell: u64,
-        place: Place,
-    ) -> Result<Place, CollectFault>
+    ) -> Result<u64, CollectFault>
         requires own { winner.old.table ≡ table.now.table }
         requires inside { cell < table.now.counts.cells }
         requires moved { 64 * table.now.counts.kept ≤ cell }
         requires filled { AreFilled self.now.aged winner.old.done self.now.numbers.items self.now.used }
-        requires room { self.now.used < 64 * length self.now.numbers.items }
-        requires next { place ≡ own_place self.now.aged self.now.numbers.items self.now.used }
-        requires few { place.block < 2 ^ 20 }
+        requires some { 0 < self.now.left }
+        requires ready { IsReady self.now }
         ensures space { self.exit.now.aged ≡ self.entry.now.aged }
         ensures seat { winner.new.table ≡ winner.old.table }
         ensures finds { Finds cell self.entry.now.aged winner.old.done winner.new.done }
         ensures filled { AreFilled self.entry.now.aged winner.new.done self.exit.now.numbers.items self.exit.now.used }
+        ensures next { KnowsNext self.exit.now }
         ensures other { OtherStays self.entry.now.aged winner.old.done winner.new.done }
         ensures met { OnOk result (Contains (cells_met winner.new.done) cell) }
-        ensures place { IfOk result IsPlace }
-        ensures known { IfOk result (λ place. (to : ℕ → PlaceOf) → HasPlaces winner.new.done to → to cell ≡ place) }
+        ensures link { IfOk result IsLink }
+        ensures known { IfOk result (λ word. (to : ℕ → PlaceOf) → HasPlaces winner.new.done to → to cell ≡ place_in word) }
         ensures refused { IfErr result (λ fault. fault ≡ CollectFault.OutOfMemory) }
     {
-        match winner.claim_cell(table, cell, place)? {
+        let word = link(self.space, self.next);
+        match winner.claim_cell(table, cell, place_of(word))? {
             Claim::Won => {
                 self.used += 1;
-                Ok(place)
+                self.left -= 1;
+                self.next += 1;
+                Ok(word)
             }
-            Claim::Lost(other) => Ok(other),
+            Claim::Lost(other) => Ok(word_to(other)),
         }
     }
 }

@@ -18,7 +18,7 @@ use std::marker::Model;
 use tg_evac::{Claimer, CollectFault, Win};
 use tg_race::{Helper, RaceTable};
 use tg_space::Kind;
-use tg_word::{AGED, Place};
+use tg_word::AGED;
 
 /// A helper with its own blocks, at the table that it shares with other helpers.
 #[derive(Drop)]
@@ -126,9 +126,8 @@ impl<'a> Seat<'a> {
         }
     }
 
-    // Gives a cell that has no place the next one of a space, unless another helper does so first, and answers its word. It stands
-    // apart, so that the walk over cells that have places stays short.
-    #[inline(never)]
+    // Gives a cell that has no place the next one of a space, unless another helper does so first, and answers its word.
+    #[inline(always)]
     fn give_word(&mut self, cell: u64, space: u64) -> Result<u64, CollectFault>
         requires inside { cell < self.now.board.counts.cells }
         requires moved { 64 * self.now.board.counts.kept ≤ cell }
@@ -141,29 +140,12 @@ impl<'a> Seat<'a> {
         ensures link { IfOk result IsLink }
         ensures full { IfErr result (λ fault. fault ≡ CollectFault.HeapFull → HasClaimedPast self.exit.now.limit self.exit.now.done) }
     {
-        Ok(word_to(self.give_place(cell, space)?))
-    }
-
-    // Gives a cell that has no place the next one of a space, unless another helper does so first.
-    #[inline(always)]
-    fn give_place(&mut self, cell: u64, space: u64) -> Result<Place, CollectFault>
-        requires inside { cell < self.now.board.counts.cells }
-        requires moved { 64 * self.now.board.counts.kept ≤ cell }
-        requires space { space < 2 }
-        requires unmet { has_met self.now.done cell ≡ false }
-        ensures added { AddsWins (IsWinFor cell space) (walked_at self.entry.now) (walked_at self.exit.now) }
-        ensures grows { KnowsMore (HasPlaces self.entry.now.done) (HasPlaces self.exit.now.done) }
-        ensures met { OnOk result (Contains (cells_met self.exit.now.done) cell) }
-        ensures place { IfOk result IsPlace }
-        ensures known { IfOk result (λ place. (to : ℕ → PlaceOf) → HasPlaces self.exit.now.done to → to cell ≡ place) }
-        ensures full { IfErr result (λ fault. fault ≡ CollectFault.HeapFull → HasClaimedPast self.exit.now.limit self.exit.now.done) }
-    {
         if space == AGED {
             self.aged
-                .place_of(&mut self.winner, self.table, cell, self.limit)
+                .word_of(&mut self.winner, self.table, cell, self.limit)
         } else {
             self.old
-                .place_of(&mut self.winner, self.table, cell, self.limit)
+                .word_of(&mut self.winner, self.table, cell, self.limit)
         }
     }
 }

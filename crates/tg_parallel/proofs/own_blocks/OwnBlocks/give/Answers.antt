@@ -1,18 +1,31 @@
-use Rattle.std.proofs.Common.{◌≡◌, ◌+◌, ◌^◌, ◌<◌, ◌/◌, ap, subst, sym, true, get_or}
+use Rattle.std.proofs.Common.{◌≡◌, ◌+◌, ◌-◌, ap, refl, subst, sym, ◌∙◌, true, arith}
 use Rattle.tg_word.specs.declared.Place.{Place}
-use Rattle.tg_word.specs.Word.{IsPlace}
+use Rattle.tg_word.specs.Word.{IsPlace, place_in}
 use Rattle.tg_race.specs.Claims.{place_found}
 use Rattle.tg_race.specs.Conditions.{can_use}
 use Rattle.tg_race.specs.declared.helper.Claim.{Claim}
 use Rattle.tg_race.specs.Race.{with_won}
 use Rattle.tg_race.specs.Seats.{Seated}
 use Rattle.tg_parallel.specs.Seats.{AreFilled}
-use Rattle.tg_parallel.proofs.Filled.{filled_won, finds_blocks, finds_seen, may_give, only_none, other_won, seen_known, seen_met, won_known, won_met}
+use Rattle.tg_parallel.proofs.Filled.{filled_won, finds_blocks, finds_seen, link_read, may_give, only_none, other_won, next_inside, next_link, next_read, next_small, next_two, ready_more, seen_known, seen_met, won_known, won_met}
+use Rattle.tg_parallel.proofs.Seating.{place_back}
 use Rattle.tg_parallel.proofs.own_blocks.OwnBlocks.give.Goals as goal
+
+pub link-word-requires-clause-space : goal.link-word-requires-clause-space
+link-word-requires-clause-space c = next_two c.args.self.now c.requires.ready
+
+pub link-word-requires-clause-number : goal.link-word-requires-clause-number
+link-word-requires-clause-number c = next_small c.args.self.now c.requires.ready
+
+pub claim_cell-requires-clause-place : goal.claim_cell-requires-clause-place
+claim_cell-requires-clause-place c =
+    let at = c.place_of.ensures ∙ next_read c.args.self.now c.requires.ready c.link-word.result c.link-word.ensures in
+    subst IsPlace (sym at) (next_inside c.args.self.now c.requires.ready)
 
 pub claim_cell-requires-clause-allowed : goal.claim_cell-requires-clause-allowed
 claim_cell-requires-clause-allowed c =
-    subst (λ (p : Place). can_use c.args.winner.now.done p ≡ true) (sym c.requires.next) (may_give c.args.self.now.aged c.args.winner.now.done c.args.self.now.numbers.items c.args.self.now.used c.requires.filled c.requires.room)
+    let at = c.place_of.ensures ∙ next_read c.args.self.now c.requires.ready c.link-word.result c.link-word.ensures in
+    subst (λ (p : Place). can_use c.args.winner.now.done p ≡ true) (sym at) (may_give c.args.self.now.aged c.args.winner.now.done c.args.self.now.numbers.items c.args.self.now.used c.requires.filled c.requires.ready.room)
 
 pub returns-in_err-claim_cell-clause-finds : goal.returns-in_err-claim_cell-clause-finds
 returns-in_err-claim_cell-clause-finds c =
@@ -22,24 +35,34 @@ returns-in_err-claim_cell-clause-finds c =
 pub returns-in-Won-clause-filled : goal.returns-in-Won-clause-filled
 returns-in-Won-clause-filled c =
     let done = ap (λ (x : Seated). x.done) c.in_ok-claim_cell.ensures.done in
-    let few : get_or c.args.self.now.numbers.items (c.args.self.now.used / 64) 0 < 2 ^ 20 = subst (λ (p : Place). p.block < 2 ^ 20) c.requires.next c.requires.few in
-    rw (done, c.in-Won.is) (subst (λ (p : Place). AreFilled c.args.self.now.aged (with_won c.args.winner.now.done (c.args.cell, p)) c.args.self.now.numbers.items (c.args.self.now.used + 1)) (sym c.requires.next)
-    (filled_won c.args.self.now.aged c.args.winner.now.done c.args.self.now.numbers.items c.args.self.now.used c.args.cell c.requires.filled c.requires.room few))
+    let at = c.place_of.ensures ∙ next_read c.args.self.now c.requires.ready c.link-word.result c.link-word.ensures in
+    rw (done, c.in-Won.is) (subst (λ (p : Place). AreFilled c.args.self.now.aged (with_won c.args.winner.now.done (c.args.cell, p)) c.args.self.now.numbers.items (c.args.self.now.used + 1)) (sym at)
+    (filled_won c.args.self.now.aged c.args.winner.now.done c.args.self.now.numbers.items c.args.self.now.used c.args.cell c.requires.filled c.requires.ready.room c.requires.ready.few))
+
+pub returns-in-Won-clause-next : goal.returns-in-Won-clause-next
+returns-in-Won-clause-next c some =
+    let left = c.requires.some in
+    ready_more c.args.self.now (c.args.self.now.used + 1) (c.args.self.now.left - 1) (c.args.self.now.next + 1) c.requires.ready refl (omega arith) refl some
 
 pub returns-in-Won-clause-other : goal.returns-in-Won-clause-other
 returns-in-Won-clause-other c =
     let done = ap (λ (x : Seated). x.done) c.in_ok-claim_cell.ensures.done in
-    rw (done, c.in-Won.is) (other_won c.args.self.now.aged c.args.winner.now.done (c.args.cell, c.args.place) (ap (λ (p : Place). p.space) c.requires.next))
+    let at = c.place_of.ensures ∙ next_read c.args.self.now c.requires.ready c.link-word.result c.link-word.ensures in
+    rw (done, c.in-Won.is) (other_won c.args.self.now.aged c.args.winner.now.done (c.args.cell, c.place_of.result) (ap (λ (p : Place). p.space) at))
 
 pub returns-in-Won-clause-met : goal.returns-in-Won-clause-met
 returns-in-Won-clause-met c =
     let done = ap (λ (x : Seated). x.done) c.in_ok-claim_cell.ensures.done in
-    rw (done, c.in-Won.is) (won_met c.args.winner.now.done c.args.cell c.args.place)
+    rw (done, c.in-Won.is) (won_met c.args.winner.now.done c.args.cell c.place_of.result)
+
+pub returns-in-Won-clause-link : goal.returns-in-Won-clause-link
+returns-in-Won-clause-link c = next_link c.args.self.now c.requires.ready c.link-word.result c.link-word.ensures
 
 pub returns-in-Won-clause-known : goal.returns-in-Won-clause-known
 returns-in-Won-clause-known c =
     let done = ap (λ (x : Seated). x.done) c.in_ok-claim_cell.ensures.done in
-    rw (done, c.in-Won.is) (won_known c.args.winner.now.done c.args.cell c.args.place (subst (λ (claim : Claim). IsPlace (place_found c.args.place claim)) c.in-Won.is c.in_ok-claim_cell.ensures.place))
+    let at = c.place_of.ensures ∙ next_read c.args.self.now c.requires.ready c.link-word.result c.link-word.ensures in
+    rw (done, c.in-Won.is) (λ to has. won_known c.args.winner.now.done c.args.cell c.place_of.result (subst IsPlace (sym at) (next_inside c.args.self.now c.requires.ready)) to has ∙ c.place_of.ensures)
 
 pub returns-in-Lost-clause-finds : goal.returns-in-Lost-clause-finds
 returns-in-Lost-clause-finds c =
@@ -51,7 +74,12 @@ returns-in-Lost-clause-met c =
     let done = ap (λ (x : Seated). x.done) c.in_ok-claim_cell.ensures.done in
     rw (done, c.in-Lost.is) (seen_met c.args.winner.now.done c.args.cell c.in-Lost.other)
 
+pub returns-in-Lost-clause-link : goal.returns-in-Lost-clause-link
+returns-in-Lost-clause-link c =
+    link_read c.in-Lost.other c.word_to.result (subst (λ (claim : Claim). IsPlace (place_found c.place_of.result claim)) c.in-Lost.is c.in_ok-claim_cell.ensures.place) c.word_to.ensures
+
 pub returns-in-Lost-clause-known : goal.returns-in-Lost-clause-known
 returns-in-Lost-clause-known c =
     let done = ap (λ (x : Seated). x.done) c.in_ok-claim_cell.ensures.done in
-    rw (done, c.in-Lost.is) (seen_known c.args.winner.now.done c.args.cell c.in-Lost.other (subst (λ (claim : Claim). IsPlace (place_found c.args.place claim)) c.in-Lost.is c.in_ok-claim_cell.ensures.place))
+    let inside = subst (λ (claim : Claim). IsPlace (place_found c.place_of.result claim)) c.in-Lost.is c.in_ok-claim_cell.ensures.place in
+    rw (done, c.in-Lost.is) (λ to has. seen_known c.args.winner.now.done c.args.cell c.in-Lost.other inside to has ∙ sym (ap place_in c.word_to.ensures ∙ place_back c.in-Lost.other inside))

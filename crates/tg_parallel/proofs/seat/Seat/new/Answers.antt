@@ -1,4 +1,4 @@
-use Rattle.std.proofs.Common.{◌≡◌, true, false, ap, ◌∙◌, arith}
+use Rattle.std.proofs.Common.{◌≡◌, ◌<◌, true, false, ap, ◌∙◌, arith}
 use Rattle.tg_race.specs.Seats.{Seated}
 use Rattle.tg_parallel.proofs.Seating.{filled_none}
 use Rattle.tg_parallel.proofs.seat.Seat.new.Goals as goal
@@ -16,4 +16,6 @@ invariant_of-result c =
       is_old = c.new-3.ensures.space;
       in_aged = rw done (filled_none true c.new-2.result.numbers.items c.new-2.result.used c.new-2.ensures.numbers c.new-2.ensures.used);
       in_old = rw done (filled_none false c.new-3.result.numbers.items c.new-3.result.used c.new-3.ensures.numbers c.new-3.ensures.used);
+      aged_next = λ (some : 0 < c.new-2.result.left). absurd (let none = c.new-2.ensures.left in omega arith);
+      old_next = λ (some : 0 < c.new-3.result.left). absurd (let none = c.new-3.ensures.left in omega arith);
     }
