@@ -24,8 +24,9 @@ ENDS = {
     "minors": ["minor"] * 2,
 }
 
-# The plain program knows these alone.
+# Of the plain programs these alone are measured.
 FULL = ["one", "many"]
+PLAIN = ("reference", "boxed")
 
 
 def write_scripts(folder, workers):
@@ -74,14 +75,16 @@ def main():
     if not os.path.exists(program):
         sys.exit(f"{program} isn't there: build it by `rt run` in crates/tgstore, or name a program")
     with tempfile.TemporaryDirectory() as folder:
-        plain = os.path.join(folder, "reference")
-        subprocess.run(["rustc", "-O", "--edition", "2021", "-o", plain, os.path.join(HERE, "reference.rs")], check=True)
+        plain = {name: os.path.join(folder, f"{name}.built") for name in PLAIN}
+        for name, built in plain.items():
+            subprocess.run(["rustc", "-O", "--edition", "2021", "-o", built, os.path.join(HERE, f"{name}.rs")], check=True)
         write_scripts(folder, workers)
-        best = best_of({"store": program, "plain": plain}, workers, folder, rounds)
-    old = {name: (best[name, "many"] - best[name, "one"]) / MANY for name in ("store", "plain")}
+        best = best_of({"store": program, **plain}, workers, folder, rounds)
+    old = {name: (best[name, "many"] - best[name, "one"]) / MANY for name in ("store", *PLAIN)}
     young = {script: (best["store", script] - best["store", "none"]) / 2 for script in ("fulls", "minors")}
     print(f"a full collection of a heap in Old      {old['store']:8.0f} µs")
-    print(f"mark and sweep of the plain program     {old['plain']:8.0f} µs   ratio {old['store'] / old['plain']:.2f}")
+    for name in PLAIN:
+        print(f"mark and sweep of {name + '.rs':22}{old[name]:8.0f} µs   ratio {old['store'] / old[name]:.2f}")
     print(f"one of two full collections after all   {young['fulls']:8.0f} µs")
     print(f"one of two nursery collections instead  {young['minors']:8.0f} µs   ratio {young['minors'] / young['fulls']:.2f}")
 

@@ -1,19 +1,23 @@
 #!/usr/bin/env python3
-"""run.py [PROGRAM] [--rounds N]
+"""run.py [PROGRAM] [--rounds N] [--only WORD] [--instructions]
 
-Runs the store beside the plain program of reference.rs, without a journal and with one, on scripts that it makes, and
-prints for each the seconds of the three (the median of the rounds, which take turns), the store's by each of the others', and
-whether all wrote the same. It asserts nothing:
-what else the machine does moves all of it. PROGRAM is crates/tgstore/out/tgstore unless it is given."""
+Runs the store on scripts that it makes, beside two plain programs that keep a journal as the store does: reference.rs, whose vertices
+hold their states, and boxed.rs, whose payloads are boxes and which counts cells. For each script it prints the seconds of processor time
+of the three (the median of the rounds, which take turns), the store's by each of the others', which of these is the leaner one, and
+whether all wrote the same. With --instructions it counts, by valgrind's callgrind and once each, instructions in place of seconds:
+in millions, and whatever else the machine does. With --only it runs the scripts alone whose name has the word. It asserts nothing.
+PROGRAM is crates/tgstore/out/tgstore unless it is given."""
+import argparse
 import os
+import re
 import statistics
 import subprocess
 import sys
 import tempfile
-import time
 
 HERE = os.path.dirname(os.path.abspath(__file__))
 BUILT = os.path.join(HERE, "..", "crates", "tgstore", "out", "tgstore")
+PLAIN = ("reference", "boxed")
 
 
 def lists():
@@ -86,14 +90,25 @@ SCRIPTS = {
 
 
 def seconds(command, script, output):
-    """The seconds that one run takes, from start to end."""
+    """The processor time of one run."""
     with open(script, "rb") as source, open(output, "wb") as sink:
-        start = time.perf_counter()
-        status = subprocess.run(command, stdin=source, stdout=sink).returncode
-        took = time.perf_counter() - start
-    if status:
-        print(f"{command[0]}: status {status}")
-    return took
+        run = subprocess.Popen(command, stdin=source, stdout=sink)
+        _, status, used = os.wait4(run.pid, 0)
+        run.returncode = os.waitstatus_to_exitcode(status)
+    if run.returncode:
+        print(f"{command[0]}: status {run.returncode}")
+    return used.ru_utime + used.ru_stime
+
+
+def instructions(command, script, output):
+    """The instructions of one run, in millions."""
+    valgrind = ["valgrind", "--tool=callgrind", "--callgrind-out-file=/dev/null"]
+    with open(script, "rb") as source, open(output, "wb") as sink:
+        ran = subprocess.run(valgrind + command, stdin=source, stdout=sink, stderr=subprocess.PIPE, text=True)
+    counted = re.search(r"Collected : (\d+)", ran.stderr)
+    if ran.returncode or not counted:
+        sys.exit(f"{command[0]}: {ran.stderr[-500:]}")
+    return int(counted[1]) / 1e6
 
 
 def read(path):
@@ -101,38 +116,44 @@ def read(path):
         return file.read()
 
 
-def measure(name, folder, program, reference, rounds):
+def measure(name, folder, program, rounds, cost):
     words, lines = SCRIPTS[name]()
     script = os.path.join(folder, "script")
     with open(script, "w") as file:
         file.write("".join(line + "\n" for line in lines))
-    runs = [("ours", [program] + words), ("plain", [reference] + words), ("journal", [reference] + words + ["--journal"])]
-    took = {name: [] for name, _ in runs}
+    runs = {"store": [program, *words], **{it: [os.path.join(folder, it), *words, "--journal"] for it in PLAIN}}
+    took = {it: [] for it in runs}
     for _ in range(rounds):
-        for kind, command in runs:
-            took[kind].append(seconds(command, script, os.path.join(folder, kind)))
-    ours, plain, journal = (statistics.median(took[kind]) for kind, _ in runs)
-    wrote = [read(os.path.join(folder, kind)) for kind, _ in runs]
-    same = "yes" if wrote[0] == wrote[1] == wrote[2] else "NO"
-    print(f"{name:24} {len(lines):8} {ours:9.3f} {plain:9.3f} {journal:9.3f} {ours / plain:7.2f} {ours / journal:9.2f}  {same}", flush=True)
+        for it, command in runs.items():
+            took[it].append(cost(command, script, os.path.join(folder, f"{it}.out")))
+    store, *plain = (statistics.median(took[it]) for it in runs)
+    same = len({read(os.path.join(folder, f"{it}.out")) for it in runs}) == 1
+    leaner = PLAIN[plain.index(min(plain))]
+    numbers = " ".join(f"{it:10.3f}" for it in (store, *plain))
+    print(f"{name:24} {len(lines):8} {numbers} {store / plain[0]:12.2f} {store / plain[1]:9.2f}  {leaner:9}  {'yes' if same else 'NO'}", flush=True)
 
 
 def main():
-    words = sys.argv[1:]
-    rounds = 5
-    if "--rounds" in words:
-        at = words.index("--rounds")
-        rounds = int(words[at + 1])
-        del words[at:at + 2]
-    program = os.path.abspath(words[0] if words else BUILT)
+    words = argparse.ArgumentParser(usage=__doc__)
+    words.add_argument("program", nargs="?", default=BUILT)
+    words.add_argument("--rounds", type=int, default=5)
+    words.add_argument("--only", default="")
+    words.add_argument("--instructions", action="store_true")
+    asked = words.parse_args()
+    program = os.path.abspath(asked.program)
     if not os.path.exists(program):
         sys.exit(f"{program} isn't there: build it by `rt run` in crates/tgstore, or name a program")
     with tempfile.TemporaryDirectory() as folder:
-        reference = os.path.join(folder, "reference")
-        subprocess.run(["rustc", "-O", "--edition", "2021", "-o", reference, os.path.join(HERE, "reference.rs")], check=True)
-        print(f"{'script':24} {'lines':>8} {'store s':>9} {'plain s':>9} {'journal s':>9} {'ratio':>7} {'of journal':>9}  same output")
-        for name in SCRIPTS:
-            measure(name, folder, program, reference, rounds)
+        for it in PLAIN:
+            subprocess.run(["rustc", "-O", "--edition", "2021", "-o", os.path.join(folder, it), os.path.join(HERE, f"{it}.rs")], check=True)
+        unit = "M" if asked.instructions else "s"
+        columns = " ".join(f"{f'{it} {unit}':>10}" for it in ("store", "ref.", "boxed"))
+        print(f"{'script':24} {'lines':>8} {columns} {'of reference':>12} {'of boxed':>9}  {'leaner':9}  same output")
+        for name in (it for it in SCRIPTS if asked.only in it):
+            if asked.instructions:
+                measure(name, folder, program, 1, instructions)
+            else:
+                measure(name, folder, program, asked.rounds, seconds)
 
 
 if __name__ == "__main__":
