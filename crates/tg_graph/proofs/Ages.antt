@@ -218,6 +218,14 @@ pub aged_at : (es : Entries) (old : ℕ) → AreAged es old → (name at : ℕ) 
 aged_at es old aged name at was =
     subst (λ (e : Entry). IsAged e.1) (slice_get_is es at (name, was.row) was.here) (aged.each at (name, was.row) (slice_get_within es at (name, was.row) was.here))
 
+-- the index that was written there
+pub written_there : (es : Entries) (name at : ℕ) (was : HasIndexAt es name at) (next : IndexedRow) → slice_get (set_value_at es at next) at ≡ Some (name, next)
+written_there es name at was next =
+    let e : Entry = (name, was.row) in
+    let inside = slice_get_within es at e was.here in
+    let key : (get_or es at e).0 ≡ name = ap (λ (x : Entry). x.0) (slice_get_is es at e was.here) in
+    slice_get-get_or (set_value_at es at next) at e (omega (arith, length-set_value_at es at next, inside)) ∙ ap (λ (x : Entry). Some x) (value_here es at next e inside ∙ ap (λ n. (n, next)) key)
+
 -- an index stays among the first ones only where it is of a row that is known to lie in Old whole
 pub old_or_behind : (es : Entries) (old : ℕ) → AreAged es old → (name at : ℕ) (was : HasIndexAt es name at) (later : IndexedRow) → (IsOldRow was.row → IsOldRow later) → (old ≤ at) ⊎ IsOldRow later
 old_or_behind es old aged name at was later still = by_place (cases_lt at old)

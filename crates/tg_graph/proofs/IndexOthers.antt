@@ -1,5 +1,5 @@
 -- The indexes of other rows, once rights were put where they go in one.
-use Rattle.std.proofs.Common.{◌≡◌, ◌≢◌, ℕ, ◌<◌, ◌≤◌, List, false, length, get_or, sym, subst, ◌∙◌}
+use Rattle.std.proofs.Common.{◌≡◌, ◌≢◌, ℕ, List, false, length, get_or}
 use Rattle.tg_rights.specs.RightSet.{RightSet, is_none_held}
 use Rattle.tg_word.specs.declared.Place.{Place}
 use Rattle.tg_block.specs.declared.CellKind.TheVariants.{Object}
@@ -8,7 +8,7 @@ use Rattle.tg_space.specs.SpaceTable.{SpaceTable, IsNursery, IsSpaceTable}
 use Rattle.tg_space.specs.Soundness.{IsKindAt}
 use Rattle.tg_space.specs.Rows.{chunks_from, link_at}
 use Rattle.tg_space.proofs.Tables.{table_list}
-use Rattle.tg_nursery.specs.Allocation.{HasLeft, room_made_for}
+use Rattle.tg_nursery.specs.Allocation.{HasLeft}
 use Rattle.tg_payload.specs.Table.{Payloads}
 use Rattle.tg_index.specs.Slots.{Slots}
 use Rattle.tg_graph.specs.Heap.{IsGraph}
@@ -18,10 +18,9 @@ use Rattle.tg_graph.specs.Spots.{IsSpotIn, cells_for, table_put, widened}
 use Rattle.tg_graph.specs.declared.rows.Spot.{Spot}
 use Rattle.tg_graph.specs.declared.rows.Spot.TheVariants.{Reference, Empty, Full}
 use Rattle.tg_graph.proofs.Finding.{reference_found}
-use Rattle.tg_graph.proofs.Growing.{left, room, there}
+use Rattle.tg_graph.proofs.Growing.{left}
 use Rattle.tg_graph.proofs.IndexExtend.{full_others}
 use Rattle.tg_graph.proofs.IndexKept.{other_index}
-use Rattle.tg_graph.proofs.IndexMoved.{kept_rows_index}
 use Rattle.tg_graph.proofs.IndexPut.{filled_others}
 use Rattle.tg_graph.proofs.Putting.{put_becomes}
 
@@ -35,16 +34,3 @@ module _ (t : SpaceTable) (table : IsSpaceTable t) (payloads : Payloads) (graph 
       other_index t.spaces payloads (table_list t table) graph p q i (widened (get_or (cell_at t.spaces q) i 0) rights) object reference.cell (reference.from, reference.to) sound r at other s places index
   others_put (Empty q i) found left = filled_others t table payloads graph p object name (Empty q i) found tt space left nursery to target named rights some r s places other at index
   others_put (Full last) found left = full_others t table payloads graph p object name last found space left nursery to target named rights some r s places other at index
-
-pub others_added : (t grown : SpaceTable) (payloads : Payloads) (table : IsSpaceTable t) (table_grown : IsSpaceTable grown) (graph : IsGraph t.spaces payloads) (space cells : ℕ) (low : space < length t.spaces) (made : grown ≡ room_made_for t space cells)
-    (from : Place) (object : IsKindAt t.spaces Object from) (name : ℕ) (spot : Spot) (found : IsSpotIn t.spaces name from (chunks_from t.spaces (length (cells_of t.spaces)) (link_at t.spaces from)) spot) (enough : HasLeft grown space cells) (counted : cells ≡ cells_for spot)
-    (to : Place) → IsKindAt t.spaces Object to → name ≡ name_at t.spaces to → (rights : RightSet) → is_none_held rights ≡ false → 2 ≤ space → (after : SpaceTable) → after ≡ table_put grown space spot rights to →
-    (r : Place) (s : Slots) (places : List Place) → r ≢ from → IsKindAt t.spaces Object r → IsRowIndex t.spaces r s places → IsRowIndex after.spaces r s places
-others_added t grown payloads table table_grown graph space cells low made from object name spot found enough counted to target named rights some young after is r s places other at index =
-    let wider = room t grown payloads table table_grown graph space cells low made from object name spot found enough counted in
-    let still = kept_rows_index t.spaces grown.spaces payloads (table_list t table) graph wider.rows r at s places index in
-    subst (λ (x : SpaceTable). IsRowIndex x.spaces r s places) (sym is)
-    (others_put grown table_grown payloads wider.becomes.graph from (wider.rows.objects from object) name space (young, subst (λ n. space < n) (sym wider.spaces) low)
-    to (wider.rows.objects to target) (wider.rows.names to target ∙ sym named) rights some r s places other (wider.rows.objects r at) still spot
-    (there t grown payloads table table_grown graph space cells low made from object name spot found enough counted)
-    (left t grown payloads table table_grown graph space cells low made from object name spot found enough counted))

@@ -1,5 +1,5 @@
 -- The indexes of a heap's rows, once one row was changed.
-use Rattle.std.proofs.Common.{◌≡◌, ◌≢◌, ℕ, Bool, true, false, cond, List, [], Option, Some, None, is_some, nat_eq, refl, sym, ap, subst, ◌∙◌}
+use Rattle.std.proofs.Common.{◌≡◌, ◌≢◌, ℕ, Bool, true, false, cond, List, Option, Some, None, is_some, nat_eq, refl, sym, ap, subst, ◌∙◌}
 use Rattle.std.specs.Map.{lookup}
 use Rattle.std.proofs.lemmas.Bool.Decides.{Decides-eqb}
 use Rattle.tg_word.specs.declared.Place.{Place}
@@ -59,10 +59,21 @@ module _ (h after : SpaceList) (vertices : (x : ℕ) (p : Place) → IsVertexAt 
           let ne : name ≢ own = λ e. let yes : nat_eq own name ≡ true = (Decides-eqb own name).1 (sym e) in let no : false ≡ true = sym other ∙ yes in absurd cc in
           other_stays name row ne (ap (λ (b : Bool). cond b (Some new) (lookup (nat_eq name) rows)) (sym other) ∙ sym (written name) ∙ found)
 
--- no row has an index
-pub no_indexes : (h : SpaceList) (remembered : List Place) (rows : Entries) → rows ≡ [] → AreIndexed h remembered rows
-no_indexes h remembered rows none name row found =
-    let nothing : ◌≡◌ {A = Option IndexedRow} None (Some row) = subst (λ (es : Entries). lookup (nat_eq name) es ≡ Some row) none found in absurd cc
+-- an index was replaced by another one of the same row
+pub indexes_replaced : (rows later : Entries) (own : ℕ) (row new : IndexedRow) → lookup (nat_eq own) rows ≡ Some row → ((q : ℕ) → lookup (nat_eq q) later ≡ cond (nat_eq own q) (Some new) (lookup (nat_eq q) rows)) →
+    ((h : SpaceList) (p : Place) → IsRowIndex h p row.names row.cells.items → IsRowIndex h p new.names new.cells.items) → ((places : List Place) → IsQuiet places row → IsQuiet places new) →
+    (h : SpaceList) (remembered : List Place) → AreIndexed h remembered rows → AreIndexed h remembered later
+indexes_replaced rows later own row new there written kept quiet h remembered indexed name shown found = by_name (nat_eq own name) refl
+  where
+    by_name : (b : Bool) → nat_eq own name ≡ b → IsIndexed h remembered name shown
+    by_name true same =
+        let name_is : own ≡ name = (Decides-eqb own name).0 same in
+        let one : Some new ≡ Some shown = ap (λ (b : Bool). cond b (Some new) (lookup (nat_eq name) rows)) (sym same) ∙ sym (written name) ∙ found in
+        let row_is : new ≡ shown = cc in
+        let is = indexed own row there in
+        subst (λ n. IsIndexed h remembered n shown) name_is
+        (subst (IsIndexed h remembered own) row_is (record { place = is.place; vertex = is.vertex; index = kept h is.place is.index; quiet = quiet remembered is.quiet }))
+    by_name false other = indexed name shown (ap (λ (b : Bool). cond b (Some new) (lookup (nat_eq name) rows)) (sym other) ∙ sym (written name) ∙ found)
 
 -- ---- which names have an index
 

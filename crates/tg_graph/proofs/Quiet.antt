@@ -7,12 +7,10 @@ use Rattle.std.proofs.lemmas.List.{get_or-map, get_or-take, get_or_default, leng
 use Rattle.std.proofs.lemmas.List.Elements.{All-nil, Contains-get_or}
 use Rattle.std.proofs.Math.Seq.{take-append-le}
 use Rattle.std.proofs.lemmas.Option.{none-some, slice_get-get_or}
-use Rattle.tg_rights.specs.RightSet.{RightSet}
 use Rattle.tg_word.specs.declared.Place.{Place}
 use Rattle.tg_block.specs.declared.CellKind.TheVariants.{Object}
 use Rattle.tg_remember.proofs.NoteLemmas.{Contains-noted}
 use Rattle.tg_space.specs.SpaceList.{SpaceList, IsSpaceList, cells_of}
-use Rattle.tg_space.specs.SpaceTable.{SpaceTable}
 use Rattle.tg_space.specs.Soundness.{AreSound, IsKindAt}
 use Rattle.tg_space.specs.Targets.{from_space, young_spaces}
 use Rattle.tg_space.specs.Rows.{chunks_from, link_at, row_of}
@@ -22,8 +20,8 @@ use Rattle.tg_payload.specs.Table.{Payloads}
 use Rattle.tg_index.specs.Slots.{Slots, IsFirstVacant}
 use Rattle.tg_graph.specs.Heap.{IsGraph}
 use Rattle.tg_graph.specs.Index.{IsOldPlace, IsPlaceOf, IsQuiet, IsQuietCell, IsRowIndex, known_notes, row_slots, followed_place}
-use Rattle.tg_graph.specs.Rows.{IsRow, name_at}
-use Rattle.tg_graph.specs.Spots.{IsMadeInRow, IsNoteIn, IsPutInRow, IsSpotFor, note_for, old_cell_if, with_note}
+use Rattle.tg_graph.specs.Rows.{IsRow}
+use Rattle.tg_graph.specs.Spots.{IsNoteIn, IsSpotFor, note_for, old_cell_if, with_note}
 use Rattle.tg_graph.specs.declared.index.IndexedRow.{IndexedRow}
 use Rattle.tg_graph.specs.declared.rows.Spot.{Spot}
 use Rattle.tg_graph.specs.declared.rows.Spot.TheVariants.{Reference, Empty, Full}
@@ -256,17 +254,3 @@ module _ (h : SpaceList) (is : IsSpaceList h) (sound : AreSound h []) (from : Pl
 pub quiet_lowered : (places : List Place) (note : Option Place) (row later : IndexedRow) → later.cells.items ≡ row.cells.items → later.quiet_cells ≤ row.quiet_cells → IfSome note (λ cell. Contains (take later.quiet_cells row.cells.items) cell → ⊥) → IsQuiet places row →
     IsQuiet places later × IsQuiet (with_note places note) later
 quiet_lowered places note row later same fewer apart is = (quiet_noted places None row later same fewer tt is, quiet_noted places note row later same fewer apart is)
-
--- ---- rights are put in a row
-
-module _ (t after : SpaceTable) (before now : List Place) (space : ℕ) (is : IsSpaceList t.spaces) (payloads : Payloads) (graph : IsGraph t.spaces payloads) (from : Place) (object : IsKindAt t.spaces Object from) where
-  pub others_quiet_put : {to : Place} {rights : RightSet} → IsPutInRow t after before now space from to rights → KeepsOthersQuiet t.spaces before now from
-  others_quiet_put {to = to} put =
-      others_quiet t.spaces is payloads graph from object (note_for put.spot (young_spaces to.space))
-      (record { name = name_at t.spaces to; spot = put.spot; young = young_spaces to.space; found = put.found; is = refl }) before now put.noted
-
-  pub others_quiet_made : {name : ℕ} {rights : RightSet} → IsMadeInRow t after before now space (name_at t.spaces from) name rights → KeepsOthersQuiet t.spaces before now from
-  others_quiet_made {name = name} made =
-      let same : made.row ≡ from = graph.names made.row from made.held.object object made.held.named in
-      others_quiet t.spaces is payloads graph from object (note_for made.spot true)
-      (record { name = name; spot = made.spot; young = true; found = subst (λ (p : Place). IsSpotFor t.spaces name p made.spot) same made.found; is = refl }) before now made.noted

@@ -1,5 +1,5 @@
 -- A row has at most one cell more, once rights were put where they go in it.
-use Rattle.std.proofs.Common.{◌≡◌, ℕ, ◌+◌, ◌<◌, ◌≤◌, List, [], ◌∷◌, false, length, get_or, ap, arith, sym, subst, ◌∙◌}
+use Rattle.std.proofs.Common.{◌≡◌, ℕ, ◌+◌, ◌≤◌, List, [], ◌∷◌, false, length, get_or, ap, arith}
 use Rattle.std.proofs.lemmas.List.{length-append}
 use Rattle.tg_rights.specs.RightSet.{RightSet, is_none_held}
 use Rattle.tg_word.specs.declared.Place.{Place}
@@ -10,7 +10,7 @@ use Rattle.tg_word.specs.Word.{word_at}
 use Rattle.tg_space.specs.Soundness.{IsKindAt}
 use Rattle.tg_space.specs.Rows.{chunks_from, link_at, row_of}
 use Rattle.tg_space.proofs.Tables.{table_list}
-use Rattle.tg_nursery.specs.Allocation.{HasLeft, room_made_for}
+use Rattle.tg_nursery.specs.Allocation.{HasLeft}
 use Rattle.tg_payload.specs.Table.{Payloads}
 use Rattle.tg_graph.specs.Heap.{IsGraph}
 use Rattle.tg_graph.specs.Rows.{name_at}
@@ -18,7 +18,7 @@ use Rattle.tg_graph.specs.Spots.{IsSpotIn, cells_for, table_put, widened}
 use Rattle.tg_graph.specs.declared.rows.Spot.{Spot}
 use Rattle.tg_graph.specs.declared.rows.Spot.TheVariants.{Reference, Empty, Full}
 use Rattle.tg_graph.proofs.Finding.{empty_found, reference_found}
-use Rattle.tg_graph.proofs.Growing.{left, room, there}
+use Rattle.tg_graph.proofs.Growing.{left}
 use Rattle.tg_graph.proofs.IndexExtend.{full_row}
 use Rattle.tg_graph.proofs.IndexKept.{written_row}
 use Rattle.tg_graph.proofs.Putting.{put_becomes}
@@ -40,17 +40,3 @@ module _ (t : SpaceTable) (table : IsSpaceTable t) (payloads : Payloads) (graph 
       let longer = ap (λ (ps : List Place). length ps) (full_row t table payloads graph p object name last found space left nursery to target named rights some) in
       let all = length-append (row_of t.spaces p) (place_in_space space (used_of t space) ∷ []) in
       omega (arith, longer, all)
-
-pub grown_added : (t grown : SpaceTable) (payloads : Payloads) (table : IsSpaceTable t) (table_grown : IsSpaceTable grown) (graph : IsGraph t.spaces payloads) (space cells : ℕ) (low : space < length t.spaces) (made : grown ≡ room_made_for t space cells)
-    (from : Place) (object : IsKindAt t.spaces Object from) (name : ℕ) (spot : Spot) (found : IsSpotIn t.spaces name from (chunks_from t.spaces (length (cells_of t.spaces)) (link_at t.spaces from)) spot) (enough : HasLeft grown space cells) (counted : cells ≡ cells_for spot)
-    (to : Place) → IsKindAt t.spaces Object to → name ≡ name_at t.spaces to → (rights : RightSet) → is_none_held rights ≡ false → 2 ≤ space → (after : SpaceTable) → after ≡ table_put grown space spot rights to →
-    length (row_of after.spaces from) ≤ length (row_of t.spaces from) + 1
-grown_added t grown payloads table table_grown graph space cells low made from object name spot found enough counted to target named rights some young after is =
-    let wider = room t grown payloads table table_grown graph space cells low made from object name spot found enough counted in
-    let same = ap (λ (ps : List Place). length ps) (wider.rows.rows from object) in
-    let put = grown_put grown table_grown payloads wider.becomes.graph from (wider.rows.objects from object) name space (young, subst (λ n. space < n) (sym wider.spaces) low)
-    to (wider.rows.objects to target) (wider.rows.names to target ∙ sym named) rights some spot
-    (there t grown payloads table table_grown graph space cells low made from object name spot found enough counted)
-    (left t grown payloads table table_grown graph space cells low made from object name spot found enough counted) in
-    let now = ap (λ (x : SpaceTable). length (row_of x.spaces from)) is in
-    omega (arith, same, put, now)

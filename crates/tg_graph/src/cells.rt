@@ -1,5 +1,5 @@
 //! The graph in the cells: what one change writes.
-ghost use Rattle.std.specs.Prelude.{◌≡◌, ◌+◌, ◌<◌, ◌≤◌, ◌⊎◌, ◌↔◌, ℕ, List, false, length, slice_index, slice_set, Err, IfErr, IfOk, IfSome, IsOk, None, OnErr, OnOk, Some, option_map};
+ghost use Rattle.std.specs.Prelude.{◌≡◌, ◌+◌, ◌<◌, ◌≤◌, ◌⊎◌, ◌↔◌, ℕ, List, false, true, length, slice_index, slice_set, Err, IfErr, IfOk, IfSome, IsOk, None, OnErr, OnOk, Some, option_map};
 ghost use Rattle.std.specs.List.{All, Contains};
 ghost use Rattle.tg_word.specs.declared.Place.{Place};
 ghost use Rattle.tg_rights.specs.RightSet.{is_none_held};
@@ -12,19 +12,20 @@ ghost use Rattle.tg_space.specs.SpaceList.{Holds, cell_at, space_of};
 ghost use Rattle.tg_space.specs.SpaceTable.{IsFull, IsSpaceTable, place_in_space, used_of};
 ghost use Rattle.tg_space.specs.Soundness.{IsKindAt};
 ghost use Rattle.tg_space.specs.Generations.{AreRemembered};
-ghost use Rattle.tg_space.specs.Rows.{row_of};
+ghost use Rattle.tg_space.specs.Targets.{young_spaces};
 ghost use Rattle.tg_nursery.specs.Allocation.{HasFewerLeft, HasLeft, room_made_for};
 ghost use Rattle.tg_graph.specs.Content.{IsNamed};
+ghost use Rattle.tg_graph.specs.Following.{IsRowPut};
 ghost use Rattle.tg_graph.specs.Heap.{IsGraph, content_in, rights_found};
 ghost use Rattle.tg_graph.specs.Index.{KeepsOtherIndexes};
 ghost use Rattle.tg_graph.specs.Rows.{IsVertexAt, name_at};
 ghost use Rattle.tg_graph.specs.Opened.{TakesOneCell};
-ghost use Rattle.tg_graph.specs.Spots.{IsMadeInRow, IsPutInRow, IsSpotFor, LacksCellsFor, narrowed, vertex_put, with_note, word_put};
+ghost use Rattle.tg_graph.specs.Spots.{IsMadeInRow, IsPutInRow, IsSpotFor, LacksCellsFor, narrowed, note_for, vertex_put, with_note, word_put};
 ghost use Rattle.tg_graph.specs.Steps.{ChangesTo, KeepsRows};
 
 use crate::heap::{Found, VertexRefused};
 use crate::references::{narrow, put};
-use crate::rows::{Spot, edges_of, find_spot};
+use crate::rows::{Spot, edges_of};
 use std::alloc::{AllocError, Global};
 use tg_block::{KEY, NAME, OBJECT_TAG};
 use tg_model::{EdgeList, Law, Numbers};
@@ -52,18 +53,6 @@ impl<P: Payload> Cells<P> {
         ensures { result ≡ name_at self.now.spaces.spaces at }
     {
         self.spaces.read(at, NAME)
-    }
-
-    /// The reference in the row of an object to the vertex with a name.
-    #[inline(always)]
-    pub(crate) fn find_edge(&self, from: Place, name: u64) -> Option<Found>
-        requires graph { IsGraph self.now.spaces.spaces self.now.payloads }
-        requires from { IsKindAt self.now.spaces.spaces Object from }
-        ensures rights { rights_found result ≡ (content_in self.now.spaces.spaces self.now.payloads).label (name_at self.now.spaces.spaces from) name }
-        ensures some { IfSome result (λ found. is_none_held found.rights ≡ false) }
-        ensures place { IfSome result (λ found. IsVertexAt self.now.spaces.spaces name found.place) }
-    {
-        self.found_at_spot(from, name, find_spot(&self.spaces, from, name))
     }
 
     /// What the reference at a spot says, if the spot has one.
@@ -154,19 +143,23 @@ impl<P: Payload> Cells<P> {
         self.payloads.write(cell[KEY], number)
     }
 
-    /// Gives one object rights over another, and notes the written cell if it has to be remembered. Growth comes first,
-    /// that of the spaces last: where it is refused, there may be room for one more note, and else nothing is changed.
-    pub(crate) fn add_edge(
+    /// Gives one object rights over another, at the spot for them, and notes the written cell if it has to be remembered. Growth
+    /// comes first, that of the spaces last: where it is refused, there may be room for one more note, and else nothing is
+    /// changed.
+    pub(crate) fn put_edge(
         &mut self,
         nursery: u64,
         from: Place,
         to: Place,
+        spot: Spot,
         rights: Rights,
     ) -> Result<(), AllocateFault>
+        requires table { IsSpaceTable self.old.spaces }
         requires nursery { nursery_space nursery < length self.old.spaces.spaces }
         requires graph { IsGraph self.old.spaces.spaces self.old.payloads }
         requires from { IsKindAt self.old.spaces.spaces Object from }
         requires to { IsKindAt self.old.spaces.spaces Object to }
+        requires spot { IsSpotFor self.old.spaces.spaces (name_at self.old.spaces.spaces to) from spot }
         requires some { is_none_held rights ≡ false }
         ensures added { let content = content_in self.old.spaces.spaces self.old.payloads in
             OnOk result (ChangesTo self.old.spaces self.new.spaces self.old.payloads (IsNamed content)
@@ -177,39 +170,17 @@ impl<P: Payload> Cells<P> {
             LacksCellsFor self.old.spaces (nursery_space nursery) 0 (name_at self.old.spaces.spaces from) (name_at self.old.spaces.spaces to) }
         ensures had_room { HasLeft self.old.spaces (nursery_space nursery) 1 → length (space_of self.old.spaces.spaces 0) ≡ 0 → IsOk result }
         ensures placed { OnOk result (IsPutInRow self.old.spaces self.new.spaces self.old.remembered.places self.new.remembered.places (nursery_space nursery) from to rights) }
-        ensures others { KeepsOtherIndexes self.old.spaces.spaces self.new.spaces.spaces from }
-        ensures grown { OnOk result (length (row_of self.new.spaces.spaces from) ≤ length (row_of self.old.spaces.spaces from) + 1) }
+        ensures put { OnOk result (IsRowPut self.old.spaces self.new.spaces self.old.remembered.places self.new.remembered.places from
+            (name_at self.old.spaces.spaces to) spot (note_for spot (young_spaces to.space))) }
         ensures one_cell { OnOk result (TakesOneCell self.old.spaces self.new.spaces (nursery_space nursery)) }
         ensures remembered { AreRemembered self.old.spaces.spaces self.old.remembered.places → AreRemembered self.new.spaces.spaces self.new.remembered.places }
         ensures places { OnErr result (self.new.remembered.places ≡ self.old.remembered.places) }
     {
-        let name = self.spaces.read(to, NAME);
-        let spot = find_spot(&self.spaces, from, name);
         let note = spot.note(Kind::Nursery.moves(to.space));
         self.make_room(nursery, note, spot.cells())?;
         put(&mut self.spaces, nursery, spot, to, rights);
         remember(&mut self.remembered, note);
         Ok(())
-    }
-
-    /// Takes rights over a vertex from an object. A reference that has none left becomes the empty word. What is
-    /// remembered stays.
-    pub(crate) fn drop_rights(&mut self, from: Place, name: u64, rights: Rights)
-        requires graph { IsGraph self.old.spaces.spaces self.old.payloads }
-        requires from { IsKindAt self.old.spaces.spaces Object from }
-        ensures dropped { let content = content_in self.old.spaces.spaces self.old.payloads in
-            ChangesTo self.old.spaces self.new.spaces self.old.payloads (IsNamed content)
-            (without_rights content.label (name_at self.old.spaces.spaces from) name rights) content.value }
-        ensures payloads { self.new.payloads ≡ self.old.payloads }
-        ensures remembered { AreRemembered self.old.spaces.spaces self.old.remembered.places → AreRemembered self.new.spaces.spaces self.old.remembered.places }
-        ensures places { self.new.remembered.places ≡ self.old.remembered.places }
-        ensures used { self.new.spaces.used ≡ self.old.spaces.used }
-        ensures blocks { (space : ℕ) → length (space_of self.new.spaces.spaces space) ≡ length (space_of self.old.spaces.spaces space) }
-        ensures others { KeepsOtherIndexes self.old.spaces.spaces self.new.spaces.spaces from }
-    {
-        if let Spot::Reference { cell, index } = find_spot(&self.spaces, from, name) {
-            self.narrow_reference(from, name, cell, index, rights);
-        }
     }
 
     /// Takes rights off the reference to a vertex in the row of an object. What is remembered stays.
@@ -234,25 +205,27 @@ impl<P: Payload> Cells<P> {
         ensures notes { self.new.remembered ≡ self.old.remembered }
         ensures used { self.new.spaces.used ≡ self.old.spaces.used }
         ensures blocks { (space : ℕ) → length (space_of self.new.spaces.spaces space) ≡ length (space_of self.old.spaces.spaces space) }
-        ensures others { KeepsOtherIndexes self.old.spaces.spaces self.new.spaces.spaces from }
     {
         narrow(&mut self.spaces, cell, index, rights);
     }
 
-    /// Makes an object with a name that none has, gives another one rights over it, and notes the written cell if it has
-    /// to be remembered. The answer is where the object is. Growth comes first, that of the spaces last: where it is refused,
-    /// there may be room for one more payload and one more note, and else nothing is changed.
-    pub(crate) fn new_vertex(
+    /// Makes an object with a name that none has, gives another one rights over it, at the spot for them, and notes the written
+    /// cell if it has to be remembered. The answer is where the object is. Growth comes first, that of the spaces last: where it
+    /// is refused, there may be room for one more payload and one more note, and else nothing is changed.
+    pub(crate) fn put_vertex(
         &mut self,
         nursery: u64,
         from: Place,
         name: u64,
+        spot: Spot,
         rights: Rights,
         draft: Draft<P>,
     ) -> Result<Place, VertexRefused<P>>
+        requires table { IsSpaceTable self.old.spaces }
         requires nursery { nursery_space nursery < length self.old.spaces.spaces }
         requires graph { IsGraph self.old.spaces.spaces self.old.payloads }
         requires from { IsKindAt self.old.spaces.spaces Object from }
+        requires spot { IsSpotFor self.old.spaces.spaces name from spot }
         requires some { is_none_held rights ≡ false }
         requires fresh { ¬ IsNamed (content_in self.old.spaces.spaces self.old.payloads) name }
         ensures made { let content = content_in self.old.spaces.spaces self.old.payloads in
@@ -266,12 +239,10 @@ impl<P: Payload> Cells<P> {
         ensures remembered { AreRemembered self.old.spaces.spaces self.old.remembered.places → AreRemembered self.new.spaces.spaces self.new.remembered.places }
         ensures placed { OnOk result (IsMadeInRow self.old.spaces self.new.spaces self.old.remembered.places self.new.remembered.places (nursery_space nursery)
             (name_at self.old.spaces.spaces from) name rights) }
-        ensures others { KeepsOtherIndexes self.old.spaces.spaces self.new.spaces.spaces from }
-        ensures grown { OnOk result (length (row_of self.new.spaces.spaces from) ≤ length (row_of self.old.spaces.spaces from) + 1) }
+        ensures put { OnOk result (IsRowPut self.old.spaces self.new.spaces self.old.remembered.places self.new.remembered.places from name spot (note_for spot true)) }
         ensures full { IfErr result (λ refused. refused.why ≡ AllocateFault.HeapFull →
             LacksCellsFor self.old.spaces (nursery_space nursery) 1 (name_at self.old.spaces.spaces from) name) }
     {
-        let spot = find_spot(&self.spaces, from, name);
         let note = spot.note(true);
         if let Err(why) = self.make_vertex_room(nursery, note, 1 + spot.cells()) {
             return Err(VertexRefused { draft, why });

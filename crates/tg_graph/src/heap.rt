@@ -193,7 +193,7 @@ impl<P: Payload> Heap<P> {
         ensures some { IsSome result ↔ HasEdge (content_of self.now).label (name_of self.now from) name }
         ensures place { IfSome result (λ found. IsVertexAt self.now.table.spaces name found.place) }
     {
-        self.cells.find_edge_in(&self.rows, from, name)
+        self.cells.find_edge(&self.rows, from, name)
     }
 
     /// The edges of the vertex at a place, by rising name of the target. Sorts once. Fails only when out of
@@ -301,7 +301,7 @@ impl<P: Payload> Heap<P> {
         // It tells what holds of all spaces (`IsSpaceTable`).
         let _ = self.cells.spaces.blocks();
         self.cells
-            .add_edge_in(&mut self.rows, worker.nursery, from, to, label.rights())
+            .add_edge(&mut self.rows, worker.nursery, from, to, label.rights())
     }
 
     /// Takes rights over the vertex with a name from the vertex at a place. A reference that has none left leaves an
@@ -317,7 +317,7 @@ impl<P: Payload> Heap<P> {
         ensures indexed { (x : ℕ) → Contains self.new.indexed x ↔ Contains self.old.indexed x }
     {
         self.cells
-            .drop_rights_in(&mut self.rows, from, name, label.rights());
+            .drop_rights(&mut self.rows, from, name, label.rights());
     }
 
     /// Makes a vertex with a name that none has, which stores the draft's payload, and gives the worker, an active subject,
@@ -376,7 +376,7 @@ impl<P: Payload> Heap<P> {
     {
         // It tells what holds of all spaces (`IsSpaceTable`).
         let _ = self.cells.spaces.blocks();
-        self.cells.new_vertex_in(
+        self.cells.new_vertex(
             &mut self.rows,
             worker.nursery,
             worker.place,

@@ -1,12 +1,27 @@
 //! The indexes of long rows, and which of them may have young cells. See 'Rows and their indexes' in docs/ARCHITECTURE.md.
-ghost use Rattle.std.specs.Prelude.{◌≡◌, ◌≤◌, ◌<◌, ℕ, [], None, Some, if◌then◌else◌, length, nat_eq, option_copied, IfSome, OnOk};
+ghost use Rattle.std.specs.Prelude.{◌≡◌, ◌≤◌, ◌<◌, ℕ, List, [], None, Some, if◌then◌else◌, length, nat_eq, option_copied, slice_get, IfSome, OnOk};
 ghost use Rattle.std.specs.Map.{lookup};
-ghost use Rattle.tg_graph.specs.Index.{HasIndexAt, IsAged};
+ghost use Rattle.tg_graph.specs.Following.{IsReadyAt};
+ghost use Rattle.tg_graph.specs.Index.{AreIndexed, HasIndexAt, IsAged, SameIndexed};
+ghost use Rattle.tg_space.specs.SpaceList.{SpaceList};
+ghost use Rattle.tg_word.specs.declared.Place.{Place};
+ghost use Rattle.tg_graph.specs.declared.index.IndexedRow.{IndexedRow as IndexedRowOf};
 
 use crate::index::IndexedRow;
 use indexmap::IndexMap;
 use std::alloc::{AllocError, Global};
 use std::marker::Model;
+
+/// How the row of an object is looked along.
+#[derive(Drop)]
+pub(crate) enum Way {
+    /// It has no index, and is walked along.
+    Walk,
+    /// By its index, which stands at this place.
+    Index(usize),
+    /// By this new index, which it gets with the change.
+    New(IndexedRow),
+}
 
 /// The indexes of long rows, each under the name of the row's vertex. First stand those of rows that are known to lie in Old
 /// whole, so a nursery collection begins behind them.
@@ -54,6 +69,18 @@ impl LongRows {
         self.indexes.get_index_of(&name)
     }
 
+    /// The index at a place. Takes no memory.
+    #[inline(always)]
+    pub(crate) fn index(&self, at: usize) -> &IndexedRow
+        requires { at < length self.now.entries }
+        ensures { (name : ℕ) (row : IndexedRowOf) → slice_get self.now.entries at ≡ Some (name, row) → result.now ≡ row }
+    {
+        match self.indexes.get_index(at) {
+            Some((_, row)) => row,
+            None => unreachable!(),
+        }
+    }
+
     /// Where the index of the row of the vertex with a name stands then, among those of rows that may have young cells, if it has
     /// one. Takes no memory.
     pub(crate) fn young_place(&mut self, name: u64) -> Option<usize>
@@ -64,6 +91,21 @@ impl LongRows {
     {
         let at = self.place(name)?;
         Some(self.make_young(at))
+    }
+
+    /// Makes room for one more name and one more cell in the index of the row of the vertex with a name, which stands at this
+    /// place, among those of rows that may have young cells.
+    pub(crate) fn reserve_at(&mut self, name: u64, at: usize) -> Result<(), AllocError>
+        requires there { HasIndexAt self.old.entries name at }
+        requires young { self.old.old_rows ≤ at }
+        ensures ready { OnOk result (IsReadyAt self.new name at) }
+        ensures indexed { (h : SpaceList) (places : List Place) → AreIndexed h places self.old.entries → AreIndexed h places self.new.entries }
+        ensures names { SameIndexed self.old.entries self.new.entries }
+    {
+        match self.indexes.get_index_mut(at) {
+            Some(row) => row.reserve(),
+            None => unreachable!(),
+        }
     }
 
     /// Makes room for the index of one more row. Nothing else changes.

@@ -22,6 +22,7 @@ ghost use Rattle.tg_graph.specs.Opened.{HasBlocks, HasNoBlocks, IsOpened, TakesO
 
 use crate::cells::Cells;
 use crate::heap::HeapRefused;
+use crate::rows::find_spot;
 use std::alloc::{AllocError, Global};
 use tg_model::{Edge, Opening};
 use tg_nursery::AllocateFault;
@@ -287,5 +288,6 @@ fn add_some<P: Payload>(cells: &mut Cells<P>, nursery: u64, from: Place, to: Pla
     if rights.is_empty() {
         return;
     }
-    cells.add_edge(nursery, from, to, rights).unwrap();
+    let spot = find_spot(&cells.spaces, from, cells.name_of(to));
+    cells.put_edge(nursery, from, to, spot, rights).unwrap();
 }

@@ -1,10 +1,11 @@
-use Rattle.std.proofs.Common.{◌≡◌, ◌∙◌, ℕ, true, refl, sym, ap, arith}
+use Rattle.std.proofs.Common.{◌≡◌, ◌∙◌, ℕ, true, refl, sym, ap, arith, subst}
 use Rattle.std.proofs.lemmas.Bool.{cond_both}
 use Rattle.tg_rights.specs.RightSet.{RightSet, is_none_held, union}
 use Rattle.tg_rights.specs.RightLaws.{none_held-same, union_none}
 use Rattle.tg_model.specs.Graph.{with_rights}
 use Rattle.tg_graph.specs.Heap.{content_in}
 use Rattle.tg_graph.specs.Rows.{name_at}
+use Rattle.tg_graph.specs.Spots.{IsSpotFor}
 use Rattle.tg_graph.proofs.opening.add_some.Goals as goal
 
 -- the empty set adds nothing
@@ -14,28 +15,40 @@ with_none label x y rights none a b =
     (λ _. sym (ap (union (label a b)) (none_held-same rights none) ∙ union_none (label a b)))
     (λ _. refl)
 
-pub add_edge-requires-clause-some : goal.add_edge-requires-clause-some
-add_edge-requires-clause-some g c = sym c.is_empty.ensures ∙ c.if-is_empty.false
+pub put_edge-requires-clause-some : goal.put_edge-requires-clause-some
+put_edge-requires-clause-some g c = sym c.is_empty.ensures ∙ c.if-is_empty.false
+
+pub find_spot-spot-requires-clause-sound : goal.find_spot-spot-requires-clause-sound
+find_spot-spot-requires-clause-sound g c = c.requires.graph.sound
+
+pub find_spot-spot-requires-clause-row : goal.find_spot-spot-requires-clause-row
+find_spot-spot-requires-clause-row g c = record { object = c.requires.from; ends = c.requires.graph.ends c.args.from c.requires.from }
+
+pub put_edge-requires-clause-table : goal.put_edge-requires-clause-table
+put_edge-requires-clause-table g c = c.find_spot-spot.ensures.table
+
+pub put_edge-requires-clause-spot : goal.put_edge-requires-clause-spot
+put_edge-requires-clause-spot g c = subst (λ n. IsSpotFor c.args.cells.now.spaces.spaces n c.args.from c.find_spot-spot.result) c.name_of.ensures c.find_spot-spot.ensures.spot
 
 pub unwrap-requires : goal.unwrap-requires
-unwrap-requires g c = c.add_edge.ensures.had_room (c.requires.room (sym c.is_empty.ensures ∙ c.if-is_empty.false)) c.requires.old
+unwrap-requires g c = c.put_edge.ensures.had_room (c.requires.room (sym c.is_empty.ensures ∙ c.if-is_empty.false)) c.requires.old
 
 pub returns-clause-added : goal.returns-clause-added
-returns-clause-added g c = rw c.unwrap.ensures at c.add_edge.ensures.added
+returns-clause-added g c = rw c.unwrap.ensures at c.put_edge.ensures.added
 
 pub returns-clause-one_cell : goal.returns-clause-one_cell
-returns-clause-one_cell g c = rw c.unwrap.ensures at c.add_edge.ensures.one_cell
+returns-clause-one_cell g c = rw c.unwrap.ensures at c.put_edge.ensures.one_cell
 
 pub returns-clause-payloads : goal.returns-clause-payloads
-returns-clause-payloads g c = c.add_edge.ensures.payloads
+returns-clause-payloads g c = c.put_edge.ensures.payloads
 
 pub returns-clause-remembered : goal.returns-clause-remembered
-returns-clause-remembered g c = c.add_edge.ensures.remembered
+returns-clause-remembered g c = c.put_edge.ensures.remembered
 
 pub returns-clause-blocks : goal.returns-clause-blocks
 returns-clause-blocks g c =
     let left = c.requires.room (sym c.is_empty.ensures ∙ c.if-is_empty.false) in
-    (rw c.unwrap.ensures at c.add_edge.ensures.one_cell).blocks left
+    (rw c.unwrap.ensures at c.put_edge.ensures.one_cell).blocks left
 
 pub returns-then-is_empty-clause-one_cell : goal.returns-then-is_empty-clause-one_cell
 returns-then-is_empty-clause-one_cell g c = record { here = omega arith; others = λ other apart. refl; blocks = λ left other. refl }

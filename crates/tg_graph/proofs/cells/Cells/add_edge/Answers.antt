@@ -1,116 +1,72 @@
-use Rattle.std.proofs.Common.{◌≡◌, ◌≢◌, ◌∙◌, List, Option, true, false, ap, arith, refl, subst, sym}
-use Rattle.tg_word.specs.Word.{nursery_space}
-use Rattle.tg_nursery.specs.Allocation.{room_made_for}
-use Rattle.tg_graph.specs.Spots.{IsSpotFor, cells_for, note_for, table_put, with_note}
-use Rattle.tg_space.specs.SpaceTable.{SpaceTable}
-use Rattle.tg_graph.specs.Opened.{TakesOneCell}
-use Rattle.tg_graph.proofs.Openings.{takes_one_cell}
+use Rattle.std.proofs.Common.{◌≡◌, ◌∙◌, List, Option, Err, true, refl, ap, sym, subst}
+use Rattle.std.proofs.lemmas.Result.{err_from_is_err_and}
 use Rattle.tg_word.specs.declared.Place.{Place}
-use Rattle.tg_graph.proofs.Growing.{added_can, added_changes, added_remembered}
-use Rattle.tg_graph.proofs.Remembering.{AreNoted, cells_few, is_young, nothing_noted}
-use Rattle.tg_graph.proofs.IndexOthers.{others_added}
-use Rattle.tg_graph.proofs.RowLengths.{grown_added}
+use Rattle.tg_space.specs.SpaceTable.{SpaceTable}
+use Rattle.tg_space.specs.Targets.{young_spaces}
+use Rattle.tg_space.specs.declared.allocate_fault.AllocateFault.{AllocateFault}
+use Rattle.tg_graph.specs.Following.{IsRowPut}
+use Rattle.tg_graph.specs.Index.{AreIndexed, MayIndex, indexed_in}
+use Rattle.tg_graph.specs.Rows.{name_at}
+use Rattle.tg_graph.specs.Spots.{IsSpotFor, note_for}
+use Rattle.tg_graph.proofs.Following.{ready_way}
+use Rattle.tg_graph.proofs.Heaps.{always_err}
+use Rattle.tg_graph.proofs.IndexedRows.{may_index, may_index_after}
 use Rattle.tg_graph.proofs.cells.Cells.add_edge.Goals as goal
 
-pub put-requires-clause-can : goal.put-requires-clause-can
-put-requires-clause-can g c =
-    let made = c.in_ok-make_room.ensures in
-    added_can c.args.self.now.spaces c.make_room.new.self.spaces c.args.self.now.payloads c.find_spot-spot.ensures.table made.table c.requires.graph (nursery_space c.args.nursery) c.cells.result c.requires.nursery made.spaces
-    c.args.from c.requires.from c.read-name.result c.find_spot-spot.result c.find_spot-spot.ensures.spot made.left c.cells.ensures
+pub spot-spot-requires-clause-way : goal.spot-spot-requires-clause-way
+spot-spot-requires-clause-way g c = ready_way c.args.self.now.spaces.spaces c.way_to_change.new.rows c.args.from c.in-Ok.way c.in-Ok.ensures.ready
 
-pub returns-clause-added : goal.returns-clause-added
-returns-clause-added g c =
-    let made = c.in_ok-make_room.ensures in
-    added_changes c.args.self.now.spaces c.make_room.new.self.spaces c.args.self.now.payloads c.find_spot-spot.ensures.table made.table c.requires.graph (nursery_space c.args.nursery) c.cells.result c.requires.nursery made.spaces
-    c.args.from c.requires.from c.read-name.result c.find_spot-spot.result c.find_spot-spot.ensures.spot made.left c.cells.ensures
-    c.args.to c.requires.to c.read-name.ensures c.args.rights c.requires.some (omega arith) c.put.new.spaces c.put.ensures
+pub put_edge-requires-clause-spot : goal.put_edge-requires-clause-spot
+put_edge-requires-clause-spot g c = subst (λ n. IsSpotFor c.args.self.now.spaces.spaces n c.args.from c.spot-spot.result) c.name_of-name.ensures c.spot-spot.ensures.spot
 
-pub returns-clause-one_cell : goal.returns-clause-one_cell
-returns-clause-one_cell g c =
-    let made = c.in_ok-make_room.ensures in
-    let can = added_can c.args.self.now.spaces c.make_room.new.self.spaces c.args.self.now.payloads c.find_spot-spot.ensures.table made.table c.requires.graph (nursery_space c.args.nursery) c.cells.result c.requires.nursery made.spaces
-    c.args.from c.requires.from c.read-name.result c.find_spot-spot.result c.find_spot-spot.ensures.spot made.left c.cells.ensures in
-    subst (λ (x : SpaceTable). TakesOneCell c.args.self.now.spaces x (nursery_space c.args.nursery)) (sym c.put.ensures)
-    (takes_one_cell c.args.self.now.spaces c.make_room.new.self.spaces (nursery_space c.args.nursery) c.cells.result c.find_spot-spot.result c.args.rights c.args.to c.requires.nursery (omega (arith, cells_few c.find_spot-spot.result, c.cells.ensures)) made.spaces made.table can)
-
-pub returns-clause-placed : goal.returns-clause-placed
-returns-clause-placed g c =
+pub follow-requires : goal.follow-requires
+follow-requires g c =
     let t = c.args.self.now.spaces in
-    let spot = c.find_spot-spot.result in
-    let space = nursery_space c.args.nursery in
-    let made : c.make_room.new.self.spaces ≡ room_made_for t space (cells_for spot) = c.in_ok-make_room.ensures.spaces ∙ ap (room_made_for t space) c.cells.ensures in
+    let new = c.put_edge.new.self.spaces in
+    let places = c.args.self.now.remembered.places in
+    let later = c.put_edge.new.self.remembered.places in
+    let spot = c.spot-spot.result in
     record {
-      spot = spot;
-      found = subst (λ n. IsSpotFor t.spaces n c.args.from spot) c.read-name.ensures c.find_spot-spot.ensures.spot;
-      put = c.put.ensures ∙ ap (λ (x : SpaceTable). table_put x space spot c.args.rights c.args.to) made;
-      noted = c.remember.ensures.noted ∙ ap (λ (ps : List Place). with_note ps c.note-note.result) c.make_room.ensures.remembered
-          ∙ ap (with_note c.args.self.now.remembered.places) (c.note-note.ensures ∙ ap (note_for spot) c.moves.ensures);
+      old = t;
+      payloads = c.args.self.now.payloads;
+      places = places;
+      table = c.spot-spot.ensures.table;
+      graph = c.requires.graph;
+      object = c.requires.from;
+      indexed = c.way_to_change.ensures.indexed;
+      looked = c.in-Ok.ensures.ready;
+      put = subst (λ (o : Option Place). IsRowPut t new places later c.args.from c.name_of-name.result spot o) (sym (c.note-note.ensures ∙ ap (note_for spot) c.moves.ensures))
+          (subst (λ n. IsRowPut t new places later c.args.from n spot (note_for spot (young_spaces c.args.to.space))) (sym c.name_of-name.ensures) c.in_ok-put_edge.ensures.put);
     }
 
-pub returns-clause-remembered : goal.returns-clause-remembered
-returns-clause-remembered g c =
-    λ before.
-    let t = c.args.self.now.spaces in
-    let made = c.in_ok-make_room.ensures in
-    let young = c.moves.result in
-    let tells : c.args.to.space ≢ 0 → young ≡ true = λ far. c.moves.ensures ∙ is_young c.args.to.space far in
-    let places = c.args.self.now.remembered.places in
-    let later = c.remember.new.remembered.places in
-    let noted = subst (λ (o : Option Place). AreNoted places later o) c.note-note.ensures (subst (λ (ps : List Place). AreNoted ps later c.note-note.result) c.make_room.ensures.remembered c.remember.ensures.members) in
-    added_remembered t c.make_room.new.self.spaces c.args.self.now.payloads c.find_spot-spot.ensures.table made.table c.requires.graph (nursery_space c.args.nursery) c.cells.result c.requires.nursery made.spaces
-    c.args.from c.requires.from c.read-name.result c.find_spot-spot.result c.find_spot-spot.ensures.spot made.left c.cells.ensures
-    (omega arith) c.args.to c.requires.to c.args.rights young tells c.args.self.now.remembered.places c.remember.new.remembered.places noted c.put.new.spaces c.put.ensures before
+pub returns-in_default-clause-names : goal.returns-in_default-clause-names
+returns-in_default-clause-names g c = may_index (name_at c.args.self.now.spaces.spaces c.args.from) c.args.rows.now.entries c.way_to_change.new.rows.entries c.way_to_change.ensures.names
 
-pub returns-in_err-make_room-clause-had_room : goal.returns-in_err-make_room-clause-had_room
-returns-in_err-make_room-clause-had_room g c =
-    λ left none.
-    let t = c.args.self.now.spaces in
-    let few = cells_few c.find_spot-spot.result in
-    let nothing = nothing_noted t c.find_spot-spot.ensures.table c.args.self.now.payloads c.requires.graph c.args.from c.requires.from none c.read-name.result c.find_spot-spot.result c.moves.result c.find_spot-spot.ensures.spot in
-    let ok : false ≡ true = c.in_err-make_room.ensures.had_room (omega (arith, left, few, c.cells.ensures)) (c.note-note.ensures ∙ nothing) in
-    absurd cc
+pub returns-in_err-put_edge-clause-full : goal.returns-in_err-put_edge-clause-full
+returns-in_err-put_edge-clause-full g c =
+    λ is.
+    let given = err_from_is_err_and c.from_residual.result c.from_residual.ensures.1 in
+    let refused : c.put_edge.result ≡ Err AllocateFault.HeapFull = cc (is, given.1, given.2, c.in_err-put_edge.was) in
+    c.put_edge.ensures.full refused
 
-pub returns-clause-others : goal.returns-clause-others
-returns-clause-others g c =
-    let made = c.in_ok-make_room.ensures in
-    λ r s places other at index.
-    others_added c.args.self.now.spaces c.make_room.new.self.spaces c.args.self.now.payloads c.find_spot-spot.ensures.table made.table c.requires.graph (nursery_space c.args.nursery) c.cells.result c.requires.nursery made.spaces
-    c.args.from c.requires.from c.read-name.result c.find_spot-spot.result c.find_spot-spot.ensures.spot made.left c.cells.ensures
-    c.args.to c.requires.to c.read-name.ensures c.args.rights c.requires.some (omega arith) c.put.new.spaces c.put.ensures r s places other at index
+pub returns-in_err-put_edge-clause-indexed : goal.returns-in_err-put_edge-clause-indexed
+returns-in_err-put_edge-clause-indexed g c =
+    subst (λ (x : SpaceTable). AreIndexed x.spaces c.put_edge.new.self.remembered.places c.way_to_change.new.rows.entries) (sym c.in_err-put_edge.ensures.refused)
+    (subst (λ (ps : List Place). AreIndexed c.args.self.now.spaces.spaces ps c.way_to_change.new.rows.entries) (sym c.in_err-put_edge.ensures.places) c.way_to_change.ensures.indexed)
 
-pub read-name-requires-clause-held : goal.read-name-requires-clause-held
-read-name-requires-clause-held g c = c.requires.to.held
+pub returns-in_err-put_edge-clause-names : goal.returns-in_err-put_edge-clause-names
+returns-in_err-put_edge-clause-names g c = may_index (name_at c.args.self.now.spaces.spaces c.args.from) c.args.rows.now.entries c.way_to_change.new.rows.entries c.way_to_change.ensures.names
 
-pub find_spot-spot-requires-clause-sound : goal.find_spot-spot-requires-clause-sound
-find_spot-spot-requires-clause-sound g c = c.requires.graph.sound
+pub returns-in_err-put_edge-clause-kept : goal.returns-in_err-put_edge-clause-kept
+returns-in_err-put_edge-clause-kept g c = always_err c.from_residual.result c.way_to_change.ensures.names
 
-pub find_spot-spot-requires-clause-row : goal.find_spot-spot-requires-clause-row
-find_spot-spot-requires-clause-row g c = record { object = c.requires.from; ends = c.requires.graph.ends c.args.from c.requires.from }
+pub returns-clause-long : goal.returns-clause-long
+returns-clause-long g c =
+    let own = (c.in_ok-put_edge.ensures.added.vertices (name_at c.args.self.now.spaces.spaces c.args.from) c.args.from (record { object = c.requires.from; named = refl })).named in
+    λ long. subst (λ n. indexed_in c.follow.new.rows.entries n ≡ true) own (c.follow.ensures.long long)
 
-pub make_room-requires-clause-few : goal.make_room-requires-clause-few
-make_room-requires-clause-few g c = let few = c.find_spot-spot.ensures.table.few in omega (arith, few, c.requires.nursery)
-
-pub make_room-requires-clause-few_cells : goal.make_room-requires-clause-few_cells
-make_room-requires-clause-few_cells g c = omega (arith, cells_few c.find_spot-spot.result, c.cells.ensures)
-
-pub make_room-requires-clause-nursery : goal.make_room-requires-clause-nursery
-make_room-requires-clause-nursery g c = c.requires.nursery
-
-pub remember-requires : goal.remember-requires
-remember-requires g c = c.in_ok-make_room.ensures.note
-
-pub returns-clause-payloads : goal.returns-clause-payloads
-returns-clause-payloads g c = c.make_room.ensures.payloads
-
-pub returns-clause-full : goal.returns-clause-full
-returns-clause-full g c = λ is. absurd (cc is)
-
-pub returns-clause-had_room : goal.returns-clause-had_room
-returns-clause-had_room g c = λ left none. refl
-
-pub returns-clause-grown : goal.returns-clause-grown
-returns-clause-grown g c =
-    let made = c.in_ok-make_room.ensures in
-    grown_added c.args.self.now.spaces c.make_room.new.self.spaces c.args.self.now.payloads c.find_spot-spot.ensures.table made.table c.requires.graph (nursery_space c.args.nursery) c.cells.result c.requires.nursery made.spaces
-    c.args.from c.requires.from c.read-name.result c.find_spot-spot.result c.find_spot-spot.ensures.spot made.left c.cells.ensures
-    c.args.to c.requires.to c.read-name.ensures c.args.rights c.requires.some (omega arith) c.put.new.spaces c.put.ensures
+pub returns-clause-names : goal.returns-clause-names
+returns-clause-names g c =
+    let own = (c.in_ok-put_edge.ensures.added.vertices (name_at c.args.self.now.spaces.spaces c.args.from) c.args.from (record { object = c.requires.from; named = refl })).named in
+    may_index_after (name_at c.args.self.now.spaces.spaces c.args.from) c.args.rows.now.entries c.way_to_change.new.rows.entries c.follow.new.rows.entries c.way_to_change.ensures.names
+    (subst (λ n. MayIndex n c.way_to_change.new.rows.entries c.follow.new.rows.entries) own c.follow.ensures.names)

@@ -9,8 +9,6 @@ use Rattle.tg_model.specs.Graph.{without_rights}
 use Rattle.tg_graph.specs.Content.{IsNamed}
 use Rattle.tg_graph.specs.Heap.{content_in}
 use Rattle.tg_graph.specs.Rows.{name_at}
-use Rattle.tg_graph.specs.Index.{IsRowIndex}
-use Rattle.tg_graph.proofs.IndexKept.{other_index}
 use Rattle.tg_graph.specs.Spots.{narrowed, word_put}
 use Rattle.tg_graph.specs.Steps.{ChangesTo}
 use Rattle.tg_graph.proofs.Changes.{shape_kept}
@@ -66,16 +64,3 @@ returns-clause-blocks g c =
     let later = slice_set words c.args.index (narrowed (slice_index words c.args.index) c.args.rights) in
     let shape = shape_kept t.spaces (table_list t c.requires.table) cell can.held later in
     λ space. ap (λ (x : SpaceTable). length (space_of x.spaces space)) c.narrow.ensures ∙ shape.blocks space
-
-pub returns-clause-others : goal.returns-clause-others
-returns-clause-others g c =
-    let t = c.args.self.now.spaces in
-    let q = c.args.cell in
-    let i = c.args.index in
-    let found = c.requires.spot in
-    let word = narrowed (slice_index (cell_at t.spaces q) i) c.args.rights in
-    let sound = (narrowed_becomes t c.requires.table c.args.self.now.payloads c.requires.graph c.args.from c.requires.from c.args.name c.args.rights q i found).graph.sound in
-    let reference = reference_found t.spaces c.args.from c.args.name q i found in
-    λ r s places other at index.
-    subst (λ (x : SpaceTable). IsRowIndex x.spaces r s places) (sym c.narrow.ensures)
-    (other_index t.spaces c.args.self.now.payloads (table_list t c.requires.table) c.requires.graph c.args.from q i word c.requires.from reference.cell (reference.from, reference.to) sound r at other s places index)
