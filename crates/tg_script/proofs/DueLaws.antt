@@ -1,11 +1,12 @@
--- A run ends for its limits only where they are at fault.
+-- A run ends for its limits only where they are at fault, and for its source only where that failed.
 use Rattle.std.specs.Prelude.{IfErr}
-use Rattle.std.proofs.Common.{◌≡◌, ℕ, List, Option, Result, Ok, Err, inl, inr, sym, subst, arith}
+use Rattle.std.proofs.Common.{◌≡◌, ℕ, List, Option, Result, Ok, Err, inl, inr, refl, sym, ap, subst, arith}
+use Rattle.std.proofs.lemmas.Bool.{false≢true}
 use Rattle.tg_model.specs.Opened.{Plan}
 use Rattle.tg_text.specs.declared.fault.ScriptFault.{ScriptFault}
 use Rattle.tg_text.specs.declared.fault.ScriptFault.TheVariants as fault
 use Rattle.tg_script.specs.Script.{Start}
-use Rattle.tg_script.specs.Lines.{IsOfReading, IsOfKeeping}
+use Rattle.tg_script.specs.Lines.{IsOfReading, IsOfKeeping, read_failures}
 use Rattle.tg_script.specs.Opening.{OpensStore}
 use Rattle.tg_script.specs.Running.{IsDue, Finishes}
 
@@ -44,3 +45,23 @@ pub finished_due : {T : Type 0} (start : Start) (outcome result : Result T Scrip
     IfErr outcome (IsDue start) → Finishes before failures outcome result after failures' → IfErr result (IsDue start)
 finished_due start outcome result before after failures failures' due (kept, inl h) = subst (λ r. IfErr r (IsDue start)) (sym h.0) due
 finished_due start outcome result before after failures failures' due (kept, inr h) = subst (λ r. IfErr r (IsDue start)) (sym h.1) tt
+
+-- ---- no more failures of the source are told
+
+-- where no store is opened
+pub opening_read : (T : Type 0) (p : Plan) (blocks : ℕ) (f : ScriptFault) → OpensStore p blocks (Err f) → read_failures {T = T} (Err f) ≡ 0
+opening_read T p blocks fault.ReadFailed h = absurd h
+opening_read T p blocks fault.InputTooLong h = refl
+opening_read T p blocks (fault.LineTooLong n) h = refl
+opening_read T p blocks (fault.BadLine n) h = refl
+opening_read T p blocks fault.WriteFailed h = refl
+opening_read T p blocks fault.OutOfMemory h = refl
+opening_read T p blocks fault.HeapFull h = refl
+opening_read T p blocks fault.BadLimits h = refl
+
+-- at the end
+pub finished_read : {T : Type 0} (outcome result : Result T ScriptFault) (before after : Option (List ℕ)) (failures failures' : ℕ) →
+    Finishes before failures outcome result after failures' → read_failures result ≡ read_failures outcome
+finished_read outcome result before after failures failures' (kept, inl h) = ap read_failures h.0
+finished_read (Err why) result before after failures failures' (kept, inr h) = absurd (false≢true h.0)
+finished_read (Ok done) result before after failures failures' (kept, inr h) = ap read_failures h.1

@@ -68,3 +68,8 @@ Behind s bytes front t rest =
 abbrev pub write_failures : {T : Type 0} → Result T ScriptFault → ℕ
 write_failures (Err fault.WriteFailed) = 1
 write_failures r = 0
+
+-- The source and the sink failed so many times more, by the counts that they keep of it.
+pub record CountsFailures {S K : Type 0} (read : S → ℕ) (written : K → ℕ) (source source' : S) (sink sink' : K) (reads writes : ℕ) : Type 0 where
+  pub read_failed : read source' ≡ read source + reads
+  pub write_failed : written sink' ≡ written sink + writes

@@ -1,5 +1,5 @@
 -- What a run's answer says of the bytes that were read and of those that were written.
-use Rattle.std.specs.Prelude.{◌≡◌, ◌≢◌, ◌⊎◌, ℕ, ◌+◌, ◌<◌, ◌≤◌, IsOk, List, [], ◌∷◌, ◌++◌, length, Option, Some, None, Result, Ok, Err}
+use Rattle.std.specs.Prelude.{◌≡◌, ◌≢◌, ◌⊎◌, ℕ, ◌+◌, ◌<◌, ◌≤◌, IsOk, IfErr, List, [], ◌∷◌, ◌++◌, length, Option, Some, None, Result, Ok, Err}
 use Rattle.tg_text.specs.declared.fault.ScriptFault.{ScriptFault}
 use Rattle.tg_text.specs.declared.fault.ScriptFault.TheVariants as fault
 use Rattle.tg_text.specs.Sinks.{KeepsBytes, Writes}
@@ -9,7 +9,7 @@ use Rattle.tg_text.specs.declared.answer.Answer.{Answer}
 use Rattle.tg_script.specs.declared.run.Run.{Run}
 use Rattle.tg_text.specs.Texts.{answer_text}
 use Rattle.tg_script.specs.Run.{Handles}
-use Rattle.tg_script.specs.Lines.{ReadsFrom, IsBehind, IsOfReading}
+use Rattle.tg_script.specs.Lines.{ReadsFrom, IsBehind, IsOfReading, read_failures}
 use Rattle.tg_text.specs.Reading.{ReadsScript}
 use Rattle.tg_script.specs.Script.{Scene, IsAdmissible, IsCut, Start, HasRoomForWorkers, CanOpen, IsScriptOutput, commands_of, scene_of}
 
@@ -53,6 +53,16 @@ abbrev pub IsDue : Start → ScriptFault → Type 0
 IsDue start fault.BadLimits = ¬ HasRoomForWorkers start
 IsDue start fault.HeapFull = start.blocks < start.workers
 IsDue start f = Unit {0}
+
+-- A run from this start, by what its source and its sink tell: of the bytes that are left, how often it was asked and has failed, and
+-- of the bytes that were taken.
+pub record RunsFrom {S K T : Type 0} (left : S → Option (List ℕ)) (asks failures : S → ℕ) (taken : K → Option (List ℕ))
+    (source source' : S) (sink sink' : K) (start : Start) (result : Result T ScriptFault) : Type 0 where
+  pub output : (bytes before : List ℕ) → left source ≡ Some bytes → taken sink ≡ Some before →
+      (rest : List ℕ) × (left source' ≡ Some rest) × Ran start bytes before result rest (taken sink')
+  pub due : IfErr result (IsDue start)
+  pub asked : asks source' ≤ asks source + 1048577
+  pub read_failed : failures source' ≡ failures source + read_failures result
 
 -- ---- parts of a run
 

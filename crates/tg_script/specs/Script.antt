@@ -160,6 +160,11 @@ start_with settings values stock = record {
   stock = stock;
 }
 
+-- a run may start with these settings, and with payloads of these values for its workers: one for each of from 1 to 64
+pub record MayStart (settings : Settings) (values : List Value) : Type 0 where
+  pub number : (1 ≤ settings.workers) × (settings.workers ≤ 64)
+  pub workers : length values ≡ settings.workers
+
 -- the scene that the edge lines of a script make
 abbrev pub scene_of : Start → List Line → Scene
 scene_of start lines = record {

@@ -1,12 +1,12 @@
 //! The run of a whole script.
-ghost use Rattle.std.specs.Prelude.{◌≡◌, ◌+◌, ◌<◌, ◌≤◌, ℕ, List, [], length, Option, Some, Err, true, false, IfErr, OnOk};
+ghost use Rattle.std.specs.Prelude.{◌≡◌, ◌+◌, ◌<◌, ◌≤◌, ℕ, List, [], length, Some, Err, true, false, IfErr, OnOk};
 ghost use Rattle.std.specs.List.{All};
 ghost use Rattle.tg_model.specs.Opened.{Plan, JoinsWorkers};
-ghost use Rattle.tg_script.specs.Lines.{IsOfReading, read_failures, write_failures};
+ghost use Rattle.tg_script.specs.Lines.{CountsFailures, IsOfReading, read_failures, write_failures};
 ghost use Rattle.tg_script.specs.Opening.{IsCommand};
 ghost use Rattle.tg_script.specs.Run.{OpensRun, Shows};
-ghost use Rattle.tg_script.specs.Running.{IsDue, Ran, TellsAll, Finishes, RunsLine};
-ghost use Rattle.tg_script.specs.Script.{Scene, start_with};
+ghost use Rattle.tg_script.specs.Running.{Finishes, IsDue, Ran, RunsFrom, RunsLine, TellsAll};
+ghost use Rattle.tg_script.specs.Script.{MayStart, Scene, start_with};
 
 use crate::collector::{Collector, OneThread};
 use crate::helpers::Helpers;
@@ -136,8 +136,7 @@ fn run_counted<P: Payload, C: Collector, A: Ledger, F: Ledger>(
     failures: Blank,
 ) -> InMemory
     requires ready { C.Ready }
-    requires number { (1 ≤ settings.workers) × (settings.workers ≤ 64) }
-    requires workers { length workers.items ≡ settings.workers }
+    requires startable { MayStart settings workers.items }
     requires asked { (asked.name ≡ A.name) × (asked.parts ≡ A.parts) × (0 < asked.parts) }
     requires failures { (failures.name ≡ F.name) × (failures.parts ≡ F.parts) × (0 < failures.parts) }
     ensures { (left : List ℕ) × Ran (start_with settings workers.items stock.items) script.now [] result.outcome left (Some result.written.items) }
@@ -185,13 +184,8 @@ fn run_lines<P: Payload, C: Collector, S: Source, K: Sink>(
     stock: Vec<Draft<P>>,
 ) -> Result<(), ScriptFault>
     requires ready { C.Ready }
-    requires number { (1 ≤ settings.workers) × (settings.workers ≤ 64) }
-    requires workers { length workers.items ≡ settings.workers }
-    ensures output { (bytes before : List ℕ) → S.left source.old ≡ Some bytes → K.taken sink.old ≡ Some before →
-        (left : List ℕ) × (S.left source.new ≡ Some left) × Ran (start_with settings workers.items stock.items) bytes before result left (K.taken sink.new) }
-    ensures due { IfErr result (IsDue (start_with settings workers.items stock.items)) }
-    ensures asked { S.asked source.new ≤ S.asked source.old + 1048577 }
-    ensures read_failed { S.failures source.new ≡ S.failures source.old + read_failures result }
+    requires startable { MayStart settings workers.items }
+    ensures ran { RunsFrom S.left S.asked S.failures K.taken source.old source.new sink.old sink.new (start_with settings workers.items stock.items) result }
     ensures write_failed { K.failures sink.new ≡ K.failures sink.old + write_failures result }
 {
     let mut script = Script::new(settings.workers);
@@ -218,9 +212,8 @@ fn open_run<P: Payload>(
     workers: Vec<Draft<P>>,
     stock: Vec<Draft<P>>,
 ) -> Result<Run<P>, ScriptFault>
-    requires number { (1 ≤ settings.workers) × (settings.workers ≤ 64) }
+    requires startable { MayStart settings workers.items }
     requires edges { All (JoinsWorkers settings.workers) edges.items }
-    requires workers { length workers.items ≡ settings.workers }
     ensures { let plan : Plan = record { workers = settings.workers; edges = edges.items; values = workers.items; limit = settings.max_vertices } in
         OpensRun plan settings.limits.max_blocks stock.items settings.helpers result }
 {
@@ -255,8 +248,7 @@ fn run_commands<P: Payload, C: Collector, S: Source, K: Sink>(
         (left : List ℕ) × (S.left source.new ≡ Some left) × TellsAll script.old rest t first before result left (K.taken sink.new) }
     ensures fault { IfErr result IsOfReading }
     ensures asked { S.asked source.new ≤ S.asked source.old + script.old.lines.room + 1 }
-    ensures read_failed { S.failures source.new ≡ S.failures source.old + read_failures result }
-    ensures write_failed { K.failures sink.new ≡ K.failures sink.old + write_failures result }
+    ensures failures { CountsFailures S.failures K.failures source.old source.new sink.old sink.new (read_failures result) (write_failures result) }
 {
     let mut line = first;
     'lines: loop {

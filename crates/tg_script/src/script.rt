@@ -22,9 +22,8 @@ pub(crate) struct Script {
 
 impl Script {
     ghost use Rattle.std.specs.Prelude.{◌≡◌, ◌+◌, ◌<◌, ◌≤◌, ℕ, List, Some, Ok, true, IfOk, IfErr, IfSome};
-    ghost use Rattle.tg_text.specs.Reading.{MayStand, opening_after};
     ghost use Rattle.tg_text.specs.Sinks.{KeepsBytes};
-    ghost use Rattle.tg_script.specs.Lines.{IsOfReading, NextLine, TakesLine, Follows, read_failures, write_failures};
+    ghost use Rattle.tg_script.specs.Lines.{CountsFailures, IsOfReading, NextLine, TakesLine, Follows, read_failures, write_failures};
 
     /// No line was read.
     pub(crate) fn new(workers: u64) -> Script
@@ -54,9 +53,8 @@ impl Script {
         ensures fault { IfErr result IsOfReading }
         ensures follows { IfOk result (λ next. IfSome next (λ line. Follows self.old line self.new)) }
         ensures shorter { IfOk result (λ next. IfSome next (λ _. self.new.lines.room < self.old.lines.room)) }
-        ensures failures { S.failures source.new ≡ S.failures source.old + read_failures result }
+        ensures failures { CountsFailures S.failures K.failures source.old source.new sink.old sink.new (read_failures result) (write_failures result) }
         ensures taken { KeepsBytes (K.taken sink.old) (K.taken sink.new) }
-        ensures write_failures { K.failures sink.new ≡ K.failures sink.old + write_failures result }
         ensures asked { S.asked source.new + self.new.lines.room ≤ S.asked source.old + self.old.lines.room + 1 }
         ensures asked_of_line { IfOk result (λ next. IfSome next (λ line. S.asked source.new + self.new.lines.room ≡ S.asked source.old + self.old.lines.room)) }
     {

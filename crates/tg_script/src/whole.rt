@@ -3,7 +3,7 @@ ghost use Rattle.std.specs.Prelude.{◌≡◌, ◌+◌, ℕ, ◌≤◌, List, So
 ghost use Rattle.std.specs.List.{All};
 ghost use Rattle.tg_model.specs.Opened.{JoinsWorkers};
 ghost use Rattle.tg_text.specs.Sinks.{KeepsBytes};
-ghost use Rattle.tg_script.specs.Lines.{IsOfKeeping, read_failures, write_failures};
+ghost use Rattle.tg_script.specs.Lines.{CountsFailures, IsOfKeeping, read_failures, write_failures};
 ghost use Rattle.tg_script.specs.Opening.{IsCommand};
 ghost use Rattle.tg_script.specs.Whole.{ReadsWhole, ReadsOn};
 
@@ -63,9 +63,8 @@ fn read_commands<S: Source, K: Sink>(
     ensures commands { OnOk result (All IsCommand lines.new.items) }
     ensures bytes { (bytes : List ℕ) → S.left source.old ≡ Some bytes → (left : List ℕ) × (S.left source.new ≡ Some left) × ReadsOn script.old bytes lines.old.items lines.new.items result left }
     ensures fault { IfErr result IsOfKeeping }
-    ensures read_failed { S.failures source.new ≡ S.failures source.old + read_failures result }
+    ensures failures { CountsFailures S.failures K.failures source.old source.new sink.old sink.new (read_failures result) (write_failures result) }
     ensures taken { KeepsBytes (K.taken sink.old) (K.taken sink.new) }
-    ensures write_failed { K.failures sink.new ≡ K.failures sink.old + write_failures result }
     ensures asked { S.asked source.new ≤ S.asked source.old + script.old.lines.room + 1 }
 {
     while let Some(line) = script.next(source, sink)? {

@@ -3,3 +3,4 @@ pub mod Faults
 pub mod Held
 pub mod Making
 pub mod Room
+pub mod Answering

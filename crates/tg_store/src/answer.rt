@@ -1,13 +1,11 @@
 //! How a command is answered on the heap, before anything is entered in the journal.
-ghost use Rattle.std.specs.Prelude.{◌≡◌, ◌≢◌, ◌↔◌, None, Err, Some, IsTrue, IfOk, OnOk, OnErr};
-ghost use Rattle.tg_model.specs.Graph.{ProtectionGraph, IsSubject};
-ghost use Rattle.tg_model.specs.Rules.{answer_of, denial_of, step};
-ghost use Rattle.tg_model.specs.declared.command.Deed.TheVariants.{Plain};
-ghost use Rattle.tg_graph.specs.Heap.{IsUnchangedHeap, content_of, subject_names};
-ghost use Rattle.tg_graph.specs.Standing.{IsContentOf};
+ghost use Rattle.std.specs.Prelude.{◌≡◌, ◌≢◌, ◌↔◌, None, Err, Some, IsTrue, IfOk};
+ghost use Rattle.tg_model.specs.Rules.{denial_of};
+ghost use Rattle.tg_graph.specs.Heap.{content_of};
 ghost use Rattle.tg_rules.specs.Effect.{AddsEdge, LacksCellsToServe, OnlyLooks};
 ghost use Rattle.tg_rules.specs.Parties.{AreParties};
 ghost use Rattle.tg_rules.specs.Verdict.{HasSubject};
+ghost use Rattle.tg_store.specs.Answering.{IsReplied, KeepsHeap};
 
 use crate::fault::ApplyFault;
 use std::alloc::Global;
@@ -35,17 +33,9 @@ pub(crate) fn answer_command<P: Payload>(
     command: &Command,
 ) -> Result<Replies, ApplyFault>
     requires { HasSubject heap.old subject }
-    ensures copy { IfOk result (λ answer. answer.copy ≡ answer.reply) }
-    ensures reply { (g : ProtectionGraph) → IsContentOf (content_of heap.old) g → IsSubject g subject.name →
-        IfOk result (λ answer. answer.reply ≡ answer_of g subject.name (Plain command.now)) }
-    ensures step { (g : ProtectionGraph) → IsContentOf (content_of heap.old) g → IsSubject g subject.name →
-        OnOk result (IsContentOf (content_of heap.new) (step g subject.name (Plain command.now))) }
+    ensures replied { IfOk result (IsReplied subject command.now heap.old heap.new) }
     ensures denied { (denial : Denial) → denial_of (content_of heap.old).label (content_of heap.old).value subject.name command.now ≡ Some denial → heap.new ≡ heap.old }
-    ensures subjects { (g : ProtectionGraph) → IsContentOf (content_of heap.old) g → IsSubject g subject.name → subject_names heap.old ≡ g.subjects →
-        OnOk result (subject_names heap.new ≡ (step g subject.name (Plain command.now)).subjects) }
-    ensures limits { heap.new.table.limits ≡ heap.old.table.limits }
-    ensures refused { OnErr result (IsUnchangedHeap heap.old heap.new) }
-    ensures worker { result ≢ Err ApplyFault.NoSuchWorker }
+    ensures kept { KeepsHeap heap.old heap.new result }
     ensures full { result ≡ Err ApplyFault.HeapFull → (denial_of (content_of heap.old).label (content_of heap.old).value subject.name command.now ≡ None)
         × AddsEdge command.now × LacksCellsToServe heap.old.table subject.nursery subject.name command.now }
 {
@@ -86,16 +76,8 @@ fn look<P: Payload>(
     requires parties { AreParties heap.old subject.name command.now parties }
     requires served { denial_of (content_of heap.old).label (content_of heap.old).value subject.name command.now ≡ None }
     requires looks { OnlyLooks command.now }
-    ensures copy { IfOk result (λ answer. answer.copy ≡ answer.reply) }
-    ensures reply { (g : ProtectionGraph) → IsContentOf (content_of heap.old) g → IsSubject g subject.name →
-        IfOk result (λ answer. answer.reply ≡ answer_of g subject.name (Plain command.now)) }
-    ensures step { (g : ProtectionGraph) → IsContentOf (content_of heap.old) g → IsSubject g subject.name →
-        OnOk result (IsContentOf (content_of heap.new) (step g subject.name (Plain command.now))) }
-    ensures subjects { (g : ProtectionGraph) → IsContentOf (content_of heap.old) g → IsSubject g subject.name → subject_names heap.old ≡ g.subjects →
-        OnOk result (subject_names heap.new ≡ (step g subject.name (Plain command.now)).subjects) }
-    ensures limits { heap.new.table.limits ≡ heap.old.table.limits }
-    ensures refused { OnErr result (IsUnchangedHeap heap.old heap.new) }
-    ensures worker { result ≢ Err ApplyFault.NoSuchWorker }
+    ensures replied { IfOk result (IsReplied subject command.now heap.old heap.new) }
+    ensures kept { KeepsHeap heap.old heap.new result }
     ensures full { result ≢ Err ApplyFault.HeapFull }
 {
     let reply = perform_between(heap, subject, command, parties)?;
@@ -115,16 +97,8 @@ fn change<P: Payload>(
     requires parties { AreParties heap.old subject.name command.now parties }
     requires served { denial_of (content_of heap.old).label (content_of heap.old).value subject.name command.now ≡ None }
     requires changes { ¬ OnlyLooks command.now }
-    ensures copy { IfOk result (λ answer. answer.copy ≡ answer.reply) }
-    ensures reply { (g : ProtectionGraph) → IsContentOf (content_of heap.old) g → IsSubject g subject.name →
-        IfOk result (λ answer. answer.reply ≡ answer_of g subject.name (Plain command.now)) }
-    ensures step { (g : ProtectionGraph) → IsContentOf (content_of heap.old) g → IsSubject g subject.name →
-        OnOk result (IsContentOf (content_of heap.new) (step g subject.name (Plain command.now))) }
-    ensures subjects { (g : ProtectionGraph) → IsContentOf (content_of heap.old) g → IsSubject g subject.name → subject_names heap.old ≡ g.subjects →
-        OnOk result (subject_names heap.new ≡ (step g subject.name (Plain command.now)).subjects) }
-    ensures limits { heap.new.table.limits ≡ heap.old.table.limits }
-    ensures refused { OnErr result (IsUnchangedHeap heap.old heap.new) }
-    ensures worker { result ≢ Err ApplyFault.NoSuchWorker }
+    ensures replied { IfOk result (IsReplied subject command.now heap.old heap.new) }
+    ensures kept { KeepsHeap heap.old heap.new result }
     ensures full { result ≡ Err ApplyFault.HeapFull → AddsEdge command.now × LacksCellsToServe heap.old.table subject.nursery subject.name command.now }
 {
     let _done = perform_between(heap, subject, command, parties)?;

@@ -43,11 +43,14 @@ returns-in_err-came-clause-written g c = λ t rest before shows left taken.
           (Some c.in_err-came.field-0.0) n.0 u w.1 wrote n.2.1),
     )
 
-pub returns-in_err-came-clause-write_failed : goal.returns-in_err-came-clause-write_failed
-returns-in_err-came-clause-write_failed g c =
+pub returns-in_err-came-clause-failures : goal.returns-in_err-came-clause-failures
+returns-in_err-came-clause-failures g c =
     let w = c.in-Ok.ensures in
     let p = err_from_is_err_and c.from_residual.result c.from_residual.ensures.1 in
-    rw (p.1, p.2) (omega (arith, c.in_err-came.ensures.write_failures, w.2.1, c.lines.invariant.wrote))
+    record {
+      read_failed = rw (p.1, p.2) (omega (arith, c.in_err-came.ensures.failures.read_failed, c.lines.invariant.read));
+      write_failed = rw (p.1, p.2) (omega (arith, c.in_err-came.ensures.failures.write_failed, w.2.1, c.lines.invariant.wrote));
+    }
 
 pub returns-in_default-came-clause-written : goal.returns-in_default-came-clause-written
 returns-in_default-came-clause-written g c = λ t rest before shows left taken.
@@ -80,7 +83,23 @@ lines-preserved g c =
       under = λ t rest before shows left taken.
           under_next c.args.script.now rest t c.args.first before c.lines.script c.lines.run c.lines.line (s.left c.lines.source) (k.taken c.lines.sink) w.0 c.run_line.new.run (k.taken c.next.new.sink)
           c.in-Some.next c.next.new.self (s.left c.next.new.source) (c.lines.invariant.under t rest before shows left taken) w.1 wrote came;
-      read = omega (arith, c.in_ok-came.ensures.failures, c.lines.invariant.read);
-      wrote = omega (arith, c.in_ok-came.ensures.write_failures, w.2.1, c.lines.invariant.wrote);
+      read = omega (arith, c.in_ok-came.ensures.failures.read_failed, c.lines.invariant.read);
+      wrote = omega (arith, c.in_ok-came.ensures.failures.write_failed, w.2.1, c.lines.invariant.wrote);
       asked = omega (arith, asked, c.lines.invariant.asked);
+    }
+
+pub returns-in_default-clause-failures : goal.returns-in_default-clause-failures
+returns-in_default-clause-failures g c =
+    let w = c.in_default.ensures in
+    record {
+      read_failed = omega (arith, c.lines.invariant.read);
+      write_failed = omega (arith, w.2.1, c.lines.invariant.wrote);
+    }
+
+pub returns-in_default-came-clause-failures : goal.returns-in_default-came-clause-failures
+returns-in_default-came-clause-failures g c =
+    let w = c.in-Ok.ensures in
+    record {
+      read_failed = omega (arith, c.in_ok-came.ensures.failures.read_failed, c.lines.invariant.read);
+      write_failed = omega (arith, c.in_ok-came.ensures.failures.write_failed, w.2.1, c.lines.invariant.wrote);
     }

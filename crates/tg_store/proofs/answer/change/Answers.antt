@@ -1,23 +1,20 @@
 -- The graph answers that it is done, and the heap stands for the next one.
-use Rattle.std.proofs.Common.{ℕ, List, ap, sym, ◌∙◌}
+use Rattle.std.proofs.Common.{ℕ, List, ap, sym, ◌∙◌, refl}
 use Rattle.tg_model.specs.Rules.{subjects_after}
 use Rattle.tg_graph.specs.Heap.{content_of}
 use Rattle.tg_graph.proofs.StandingLaws.{StandsFor-served}
 use Rattle.tg_store.proofs.AnswerLaws.{done-served, subjects-served}
 use Rattle.tg_store.proofs.answer.change.Goals as goal
 
-pub returns-clause-reply : goal.returns-clause-reply
-returns-clause-reply g c =
-    λ graph stands subject.
-    done-served (content_of c.args.heap.now) graph stands c.args.subject.name c.args.command.now subject c.requires.served c.requires.changes
-
-pub returns-clause-step : goal.returns-clause-step
-returns-clause-step g c =
-    λ graph stands subject.
-    StandsFor-served (content_of c.args.heap.now) (content_of c.perform_between.new.heap) graph stands c.args.subject.name subject c.args.command.now c.requires.served c.in_ok-_done.ensures.content
-
-pub returns-clause-subjects : goal.returns-clause-subjects
-returns-clause-subjects g c =
-    λ graph stands subject names.
-    c.in_ok-_done.ensures.subjects ∙ ap (λ (names : List ℕ). subjects_after names c.args.subject.name c.args.command.now) names
-    ∙ sym (subjects-served (content_of c.args.heap.now) graph stands c.args.subject.name c.args.command.now subject c.requires.served)
+pub returns-clause-replied : goal.returns-clause-replied
+returns-clause-replied g c =
+    record {
+      copy = refl;
+      reply = (λ graph stands subject.
+          done-served (content_of c.args.heap.now) graph stands c.args.subject.name c.args.command.now subject c.requires.served c.requires.changes);
+      step = (λ graph stands subject.
+          StandsFor-served (content_of c.args.heap.now) (content_of c.perform_between.new.heap) graph stands c.args.subject.name subject c.args.command.now c.requires.served c.in_ok-_done.ensures.content);
+      subjects = (λ graph stands subject names.
+          c.in_ok-_done.ensures.subjects ∙ ap (λ (names : List ℕ). subjects_after names c.args.subject.name c.args.command.now) names
+          ∙ sym (subjects-served (content_of c.args.heap.now) graph stands c.args.subject.name c.args.command.now subject c.requires.served));
+    }

@@ -6,18 +6,15 @@ use Rattle.tg_graph.proofs.StandingLaws.{StandsFor-served}
 use Rattle.tg_store.proofs.AnswerLaws.{reply-served, subjects-served}
 use Rattle.tg_store.proofs.answer.look.Goals as goal
 
-pub returns-clause-reply : goal.returns-clause-reply
-returns-clause-reply g c =
-    λ graph stands subject.
-    reply-served (content_of c.args.heap.now) graph stands c.args.subject.name c.args.command.now subject c.requires.served c.in_ok-reply.reply c.in_ok-reply.ensures.reply
-
-pub returns-clause-step : goal.returns-clause-step
-returns-clause-step g c =
-    λ graph stands subject.
-    StandsFor-served (content_of c.args.heap.now) (content_of c.perform_between.new.heap) graph stands c.args.subject.name subject c.args.command.now c.requires.served c.in_ok-reply.ensures.content
-
-pub returns-clause-subjects : goal.returns-clause-subjects
-returns-clause-subjects g c =
-    λ graph stands subject names.
-    c.in_ok-reply.ensures.subjects ∙ ap (λ (names : List ℕ). subjects_after names c.args.subject.name c.args.command.now) names
-    ∙ sym (subjects-served (content_of c.args.heap.now) graph stands c.args.subject.name c.args.command.now subject c.requires.served)
+pub returns-clause-replied : goal.returns-clause-replied
+returns-clause-replied g c =
+    record {
+      copy = c.in_ok-copy.ensures;
+      reply = (λ graph stands subject.
+          reply-served (content_of c.args.heap.now) graph stands c.args.subject.name c.args.command.now subject c.requires.served c.in_ok-reply.reply c.in_ok-reply.ensures.reply);
+      step = (λ graph stands subject.
+          StandsFor-served (content_of c.args.heap.now) (content_of c.perform_between.new.heap) graph stands c.args.subject.name subject c.args.command.now c.requires.served c.in_ok-reply.ensures.content);
+      subjects = (λ graph stands subject names.
+          c.in_ok-reply.ensures.subjects ∙ ap (λ (names : List ℕ). subjects_after names c.args.subject.name c.args.command.now) names
+          ∙ sym (subjects-served (content_of c.args.heap.now) graph stands c.args.subject.name c.args.command.now subject c.requires.served));
+    }

@@ -1,0 +1,27 @@
+-- What comes of a command on the heap, before anything is entered in the journal.
+use Rattle.std.specs.Prelude.{◌≡◌, ◌≢◌, Result, Err, OnErr}
+use Rattle.tg_model.specs.declared.command.Command.{Command}
+use Rattle.tg_model.specs.declared.command.Deed.TheVariants.{Plain}
+use Rattle.tg_model.specs.Graph.{ProtectionGraph, IsSubject}
+use Rattle.tg_model.specs.Rules.{answer_of, step}
+use Rattle.tg_subjects.specs.declared.subject.Subject.{Subject}
+use Rattle.tg_graph.specs.Heap.{HeapState, IsUnchangedHeap, content_of, subject_names}
+use Rattle.tg_graph.specs.Standing.{IsContentOf}
+use Rattle.tg_store.specs.declared.answer.Replies.{Replies}
+use Rattle.tg_store.specs.declared.fault.ApplyFault.{ApplyFault}
+use Rattle.tg_store.specs.declared.fault.ApplyFault.TheVariants.{NoSuchWorker}
+
+-- A command of a subject was served or denied. For each graph that the heap stood for the reply is that graph's, and the heap stands
+-- for the next one.
+pub record IsReplied (subject : Subject) (command : Command) (old new : HeapState) (answer : Replies) : Type 0 where
+  pub copy : answer.copy ≡ answer.reply
+  pub reply : (g : ProtectionGraph) → IsContentOf (content_of old) g → IsSubject g subject.name → answer.reply ≡ answer_of g subject.name (Plain command)
+  pub subjects : (g : ProtectionGraph) → IsContentOf (content_of old) g → IsSubject g subject.name → subject_names old ≡ g.subjects →
+      subject_names new ≡ (step g subject.name (Plain command)).subjects
+  pub step : (g : ProtectionGraph) → IsContentOf (content_of old) g → IsSubject g subject.name → IsContentOf (content_of new) (step g subject.name (Plain command))
+
+-- What stays whatever comes of a command, and what is never told.
+pub record KeepsHeap {T : Type 0} (old new : HeapState) (result : Result T ApplyFault) : Type 0 where
+  pub limits : new.table.limits ≡ old.table.limits
+  pub refused : OnErr result (IsUnchangedHeap old new)
+  pub worker : result ≢ Err NoSuchWorker
