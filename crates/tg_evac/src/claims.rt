@@ -132,8 +132,8 @@ impl Claims {
             return Err(CollectFault::HeapFull);
         }
         let word = link(space, number);
-        self.won.push_reserved(cell);
         self.forward.set(cell, word);
+        self.won.push_reserved(cell);
         self.next[space as usize] = number + 1;
         Ok(word)
     }

@@ -7,7 +7,7 @@ use Rattle.std.proofs.lemmas.List.{length_push, get_or_append_left, get_or_push,
 use Rattle.std.proofs.lemmas.List.Elements.{All-contains, All-nil, All-push, Contains-append_left, Contains-append_right, Contains-get_or, Contains-push, filter-append}
 use Rattle.tg_word.specs.declared.Place.{Place}
 use Rattle.tg_rights.specs.RightSet.{no_rights}
-use Rattle.tg_word.specs.Word.{IsPlace, link_to, numbered_place, place_in}
+use Rattle.tg_word.specs.Word.{IsPlace, link_to, place_in}
 use Rattle.tg_word.proofs.Packing.{place_in-word_at}
 use Rattle.tg_race.specs.declared.record.Record.{Record}
 use Rattle.tg_race.specs.Conditions.{blocks_of, can_claim_block, can_use, uses}
@@ -369,55 +369,41 @@ module _ (aged : Bool) (numbers : List ℕ) (used : ℕ) (few : get_or numbers (
   pub own_is_place : IsPlace (own_place aged numbers used)
   own_is_place = record { space = (let two = age_two aged in omega arith); block = few; cell = omega arith }
 
--- the word of the next place, and that place as it is read in it
+-- the place that is read in the word of the next one
 module _ (b : OwnBlocks) (ready : IsReady b) where
   abbrev next_own : Place
   next_own = own_place b.aged b.numbers.items b.used
 
-  block_is : b.next / 64 ≡ get_or b.numbers.items (b.used / 64) 0
-  block_is = let next = ready.next in omega arith
-
-  cell_is : b.next % 64 ≡ b.used % 64
-  cell_is = let next = ready.next in omega arith
-
-  number_is : numbered_place b.space b.next ≡ next_own
-  number_is = λ i. record { space = ready.space i; block = block_is i; cell = cell_is i }
-
   pub next_inside : IsPlace next_own
   next_inside = own_is_place b.aged b.numbers.items b.used ready.few
 
-  pub next_small : b.next < 2 ^ 26
-  next_small = let few = ready.few in let next = ready.next in omega arith
+  pub next_read : place_in b.next ≡ next_own
+  next_read = ap place_in ready.next ∙ place_in-word_at no_rights next_own next_inside
 
-  pub next_two : b.space < 66
-  next_two = let two = age_two b.aged in let is = ready.space in omega arith
-
-  module _ (word : ℕ) (is : word ≡ link_to (numbered_place b.space b.next)) where
-    pub next_word : word ≡ link_to next_own
-    next_word = is ∙ ap link_to number_is
-
-    pub next_read : place_in word ≡ next_own
-    next_read = ap place_in next_word ∙ place_in-word_at no_rights next_own next_inside
-
-    pub next_link : word ≡ link_to (place_in word)
-    next_link = next_word ∙ ap link_to (sym next_read)
+  pub next_link : b.next ≡ link_to (place_in b.next)
+  next_link = ready.next ∙ ap link_to (sym next_read)
 
 -- the word of a place is the link to the place that is read in it
 pub link_read : (p : Place) (word : ℕ) → IsPlace p → word ≡ link_to p → word ≡ link_to (place_in word)
 link_read p word inside is = is ∙ ap link_to (sym (ap place_in is ∙ place_in-word_at no_rights p inside))
 
+-- the place behind another one in its block
+abbrev place_behind : Place → Place
+place_behind p = record { space = p.space; block = p.block; cell = p.cell + 1 }
+
 -- after one more win the next place is the one behind, where some are left
-pub ready_more : (b : OwnBlocks) (used left next : ℕ) → IsReady b → used ≡ b.used + 1 → left + 1 ≡ b.left → next ≡ b.next + 1 → KnowsNext (record { aged = b.aged; numbers = b.numbers; used = used; space = b.space; next = next; left = left })
+pub ready_more : (b : OwnBlocks) (used left next : ℕ) → IsReady b → used ≡ b.used + 1 → left + 1 ≡ b.left → next ≡ link_to (place_behind (place_in b.next)) → KnowsNext (record { aged = b.aged; numbers = b.numbers; used = used; next = next; left = left })
 ready_more b used left next ready one less on some =
-    let l = ready.left in let room = ready.room in let old = ready.next in
+    let l = ready.left in let room = ready.room in
     let more : b.used % 64 < 63 = omega arith in
     let same : used / 64 ≡ b.used / 64 = omega arith in
     let block : get_or b.numbers.items (used / 64) 0 ≡ get_or b.numbers.items (b.used / 64) 0 = ap (λ (i : ℕ). get_or b.numbers.items i 0) same in
+    let cell : used % 64 ≡ b.used % 64 + 1 = omega arith in
     let few = ready.few in
+    let behind : place_behind (own_place b.aged b.numbers.items b.used) ≡ own_place b.aged b.numbers.items used = λ i. record { space = space_of_age b.aged; block = sym block i; cell = sym cell i } in
     record {
       room = omega arith;
       left = omega arith;
       few = omega arith;
-      space = ready.space;
-      next = omega arith;
+      next = on ∙ ap link_to (ap place_behind (next_read b ready) ∙ behind);
     }

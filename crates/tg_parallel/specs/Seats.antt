@@ -2,7 +2,7 @@
 use Rattle.std.specs.Prelude.{◌≡◌, ◌≢◌, ℕ, ◌+◌, ◌*◌, ◌/◌, ◌%◌, ◌^◌, ◌<◌, ◌≤◌, ◌==◌, Bool, true, false, not, List, [], ◌∷◌, ◌++◌, length, slice_index, slice_index_or}
 use Rattle.std.specs.List.{All, AllPairs, Contains, filter}
 use Rattle.tg_word.specs.declared.Place.{Place}
-use Rattle.tg_word.specs.Word.{IsPlace}
+use Rattle.tg_word.specs.Word.{IsPlace, link_to}
 use Rattle.tg_block.specs.Cells.{cell_of, free_cell}
 use Rattle.tg_space.specs.SpaceList.{SpaceList}
 use Rattle.tg_space.specs.Targets.{from_space, all_root_targets}
@@ -48,13 +48,12 @@ pub record AreFilled (aged : Bool) (v : Record) (numbers : List ℕ) (used : ℕ
   -- so many cells at least lie in each block
   pub many : (i n : ℕ) → i < length numbers → n ≤ 64 → 64 * i + n ≤ used → n ≤ used_in (space_of_age aged) (slice_index numbers i) v.won
 
--- There is a next place, in a block that the layout can name, and it is known. So many places at most are left in its block.
+-- There is a next place, in a block that the layout can name, and its word is known. So many places at most are left in its block.
 pub record IsReady (b : OwnBlocks) : Type 0 where
   pub room : b.used < 64 * length b.numbers.items
   pub left : b.left + b.used % 64 ≤ 64
   pub few : slice_index b.numbers.items (b.used / 64) < 2 ^ 20
-  pub space : b.space ≡ space_of_age b.aged
-  pub next : b.next ≡ 64 * slice_index b.numbers.items (b.used / 64) + b.used % 64
+  pub next : b.next ≡ link_to (own_place b.aged b.numbers.items b.used)
 
 -- where places are left, the next one is known
 abbrev pub KnowsNext : OwnBlocks → Type 0

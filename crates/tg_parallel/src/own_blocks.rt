@@ -13,7 +13,7 @@ use std::alloc::{AllocError, Global};
 use tg_block::CELLS;
 use tg_evac::CollectFault;
 use tg_race::{Claim, RaceTable};
-use tg_word::{AGED, OLD, Place, link, place_of};
+use tg_word::{AGED, OLD, Place, next_link, place_of};
 
 /// The blocks that a helper has claimed in a space, and how many places of them were given away.
 #[derive(Drop)]
@@ -24,9 +24,7 @@ pub struct OwnBlocks {
     pub numbers: Vec<u64>,
     /// How many places were given away, block after block.
     pub used: u64,
-    /// The space of the next place, where that is known.
-    pub space: u64,
-    /// The number that the next place has in its space, counted 64 a block.
+    /// The word of the next place, where that is known.
     pub next: u64,
     /// How many places are left in the block of the next one; none as long as that isn't known.
     pub left: u64,
@@ -44,7 +42,6 @@ impl OwnBlocks {
             aged,
             numbers: Vec::new(alloc),
             used: 0,
-            space: OLD,
             next: 0,
             left: 0,
         }
@@ -133,8 +130,7 @@ impl OwnBlocks {
     {
         self.make_room(winner, table)?;
         let place = self.next_place(limit)?;
-        self.space = place.space;
-        self.next = CELLS as u64 * place.block + place.cell;
+        self.next = word_to(place);
         self.left = CELLS as u64 - place.cell;
         Ok(())
     }
@@ -219,12 +215,12 @@ impl OwnBlocks {
         ensures known { IfOk result (λ word. (to : ℕ → PlaceOf) → HasPlaces winner.new.done to → to cell ≡ place_in word) }
         ensures refused { IfErr result (λ fault. fault ≡ CollectFault.OutOfMemory) }
     {
-        let word = link(self.space, self.next);
+        let word = self.next;
         match winner.claim_cell(table, cell, place_of(word))? {
             Claim::Won => {
                 self.used += 1;
                 self.left -= 1;
-                self.next += 1;
+                self.next = next_link(word);
                 Ok(word)
             }
             Claim::Lost(other) => Ok(word_to(other)),

@@ -7,7 +7,7 @@ ghost use Rattle.tg_space.specs.SpaceTable.{IsSpaceTable};
 
 use crate::spaces::Spaces;
 use tg_block::{CELLS, WORDS};
-use tg_word::{Place, number_of, place_of};
+use tg_word::{OLD, Place, number_of, place_of};
 
 impl Spaces {
     /// How many cells there are.
@@ -67,6 +67,15 @@ impl Spaces {
         ensures words { result.now ≡ slice_index_or (cells_of self.now.spaces) number [] }
         ensures whole { length result.now ≡ 8 }
     {
+        let of_old = Place {
+            space: OLD,
+            block: number / CELLS as u64,
+            cell: number % CELLS as u64,
+        };
+        // Most cells that are asked for are of Old, and need no search.
+        if of_old.block < self.len(OLD) {
+            return self.words(of_old);
+        }
         self.words(self.unflat(number))
     }
 }

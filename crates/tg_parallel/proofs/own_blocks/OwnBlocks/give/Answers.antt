@@ -7,24 +7,21 @@ use Rattle.tg_race.specs.declared.helper.Claim.{Claim}
 use Rattle.tg_race.specs.Race.{with_won}
 use Rattle.tg_race.specs.Seats.{Seated}
 use Rattle.tg_parallel.specs.Seats.{AreFilled}
-use Rattle.tg_parallel.proofs.Filled.{filled_won, finds_blocks, finds_seen, link_read, may_give, only_none, other_won, next_inside, next_link, next_read, next_small, next_two, ready_more, seen_known, seen_met, won_known, won_met}
+use Rattle.tg_parallel.proofs.Filled.{filled_won, finds_blocks, finds_seen, link_read, may_give, only_none, other_won, next_inside, next_link, next_read, ready_more, seen_known, seen_met, won_known, won_met}
 use Rattle.tg_parallel.proofs.Seating.{place_back}
 use Rattle.tg_parallel.proofs.own_blocks.OwnBlocks.give.Goals as goal
 
-pub link-word-requires-clause-space : goal.link-word-requires-clause-space
-link-word-requires-clause-space c = next_two c.args.self.now c.requires.ready
-
-pub link-word-requires-clause-number : goal.link-word-requires-clause-number
-link-word-requires-clause-number c = next_small c.args.self.now c.requires.ready
+pub next_link-self-requires : goal.next_link-self-requires
+next_link-self-requires c = next_link c.args.self.now c.requires.ready
 
 pub claim_cell-requires-clause-place : goal.claim_cell-requires-clause-place
 claim_cell-requires-clause-place c =
-    let at = c.place_of.ensures ∙ next_read c.args.self.now c.requires.ready c.link-word.result c.link-word.ensures in
+    let at = c.place_of.ensures ∙ next_read c.args.self.now c.requires.ready in
     subst IsPlace (sym at) (next_inside c.args.self.now c.requires.ready)
 
 pub claim_cell-requires-clause-allowed : goal.claim_cell-requires-clause-allowed
 claim_cell-requires-clause-allowed c =
-    let at = c.place_of.ensures ∙ next_read c.args.self.now c.requires.ready c.link-word.result c.link-word.ensures in
+    let at = c.place_of.ensures ∙ next_read c.args.self.now c.requires.ready in
     subst (λ (p : Place). can_use c.args.winner.now.done p ≡ true) (sym at) (may_give c.args.self.now.aged c.args.winner.now.done c.args.self.now.numbers.items c.args.self.now.used c.requires.filled c.requires.ready.room)
 
 pub returns-in_err-claim_cell-clause-finds : goal.returns-in_err-claim_cell-clause-finds
@@ -35,19 +32,19 @@ returns-in_err-claim_cell-clause-finds c =
 pub returns-in-Won-clause-filled : goal.returns-in-Won-clause-filled
 returns-in-Won-clause-filled c =
     let done = ap (λ (x : Seated). x.done) c.in_ok-claim_cell.ensures.done in
-    let at = c.place_of.ensures ∙ next_read c.args.self.now c.requires.ready c.link-word.result c.link-word.ensures in
+    let at = c.place_of.ensures ∙ next_read c.args.self.now c.requires.ready in
     rw (done, c.in-Won.is) (subst (λ (p : Place). AreFilled c.args.self.now.aged (with_won c.args.winner.now.done (c.args.cell, p)) c.args.self.now.numbers.items (c.args.self.now.used + 1)) (sym at)
     (filled_won c.args.self.now.aged c.args.winner.now.done c.args.self.now.numbers.items c.args.self.now.used c.args.cell c.requires.filled c.requires.ready.room c.requires.ready.few))
 
 pub returns-in-Won-clause-next : goal.returns-in-Won-clause-next
 returns-in-Won-clause-next c some =
     let left = c.requires.some in
-    ready_more c.args.self.now (c.args.self.now.used + 1) (c.args.self.now.left - 1) (c.args.self.now.next + 1) c.requires.ready refl (omega arith) refl some
+    ready_more c.args.self.now (c.args.self.now.used + 1) (c.args.self.now.left - 1) c.next_link-self.result c.requires.ready refl (omega arith) c.next_link-self.ensures some
 
 pub returns-in-Won-clause-other : goal.returns-in-Won-clause-other
 returns-in-Won-clause-other c =
     let done = ap (λ (x : Seated). x.done) c.in_ok-claim_cell.ensures.done in
-    let at = c.place_of.ensures ∙ next_read c.args.self.now c.requires.ready c.link-word.result c.link-word.ensures in
+    let at = c.place_of.ensures ∙ next_read c.args.self.now c.requires.ready in
     rw (done, c.in-Won.is) (other_won c.args.self.now.aged c.args.winner.now.done (c.args.cell, c.place_of.result) (ap (λ (p : Place). p.space) at))
 
 pub returns-in-Won-clause-met : goal.returns-in-Won-clause-met
@@ -56,12 +53,12 @@ returns-in-Won-clause-met c =
     rw (done, c.in-Won.is) (won_met c.args.winner.now.done c.args.cell c.place_of.result)
 
 pub returns-in-Won-clause-link : goal.returns-in-Won-clause-link
-returns-in-Won-clause-link c = next_link c.args.self.now c.requires.ready c.link-word.result c.link-word.ensures
+returns-in-Won-clause-link c = next_link c.args.self.now c.requires.ready
 
 pub returns-in-Won-clause-known : goal.returns-in-Won-clause-known
 returns-in-Won-clause-known c =
     let done = ap (λ (x : Seated). x.done) c.in_ok-claim_cell.ensures.done in
-    let at = c.place_of.ensures ∙ next_read c.args.self.now c.requires.ready c.link-word.result c.link-word.ensures in
+    let at = c.place_of.ensures ∙ next_read c.args.self.now c.requires.ready in
     rw (done, c.in-Won.is) (λ to has. won_known c.args.winner.now.done c.args.cell c.place_of.result (subst IsPlace (sym at) (next_inside c.args.self.now c.requires.ready)) to has ∙ c.place_of.ensures)
 
 pub returns-in-Lost-clause-finds : goal.returns-in-Lost-clause-finds
