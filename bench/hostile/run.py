@@ -35,9 +35,10 @@ def count_on(form, start=0, modulus=1 << 62):
 # ---- which names collide in an index: its hasher has one seed for all, so who writes a script may know them
 
 def index_hash(name):
+    """Four names that follow one another have one group, and the last two bits go to the tag, which no group is chosen by."""
     low = (1 << 64) - 1
-    product = (0x243F_6A88_85A3_08D3 ^ name) * (0x9E37_79B9_7F4A_7C15 ^ 16)
-    folded = (product & low) ^ (product >> 64)
+    product = (0x243F_6A88_85A3_08D3 ^ name // 4) * (0x9E37_79B9_7F4A_7C15 ^ 16)
+    folded = (product & low) ^ (product >> 64) ^ name % 4 << 24
     return (folded ^ folded >> 32) & ((1 << 32) - 1)
 
 
