@@ -50,8 +50,7 @@ fn draw_heading<R: Print>(rt: &R, frame: &Frame, shot: &Shot) -> io::Result<()> 
 fn draw_defaults<R: Print>(rt: &R, frame: &Frame) -> io::Result<()> {
     let are_many = frame.edges.len() > MOST_PLAIN;
     let lines = if are_many { " decorate=true" } else { "" };
-    println!(rt; "    node [fontname={FONT} fixedsize=true]")?;
-    println!(rt; "    edge [fontname={FONT}{lines}]")
+    println!(rt; "    node [fontname={FONT} fixedsize=true]\n    edge [fontname={FONT}{lines}]")
 }
 
 // All vertices of the frame.
