@@ -8,14 +8,15 @@
 //!
 //! The words of the command line are `options`' matter, and lines `script`'s, and `reason` says why one is bad. `run` runs them, and knows which edges there are, so that
 //! no pair of vertices is asked for its edge in vain. `drawing` prints the last graph. Of the steps, `shot` says what is shown at one and
-//! `told` what its line was answered, `look` how it looks, `frame` what all have in common, `picture` prints one, and `steps` all of them.
-//! A line of the grammar has a place in `run`, where it is taken and followed, and in `named` of `shot`.
+//! `told` what its line was answered, `marks` what stands out and `look` how that looks, `frame` what all have in common, `picture` prints
+//! one, and `steps` all of them. A line of the grammar has a place in `run`, where it is taken and followed, and in `named` of `marks`.
 #![tactic(auto)]
 
 mod drawing;
 mod fault;
 mod frame;
 mod look;
+mod marks;
 mod options;
 mod picture;
 mod reason;
@@ -31,7 +32,7 @@ use options::{DotOptions, read_words};
 use script::{Script, read_script};
 use std::env;
 use std::process::ExitCode;
-use steps::draw_steps;
+use steps::Steps;
 use tg_text::{StockItem, read_stock};
 
 fn main(rt: HostRuntime) -> ExitCode {
@@ -71,14 +72,22 @@ fn draw_lines(
     script: &Script,
     stock: &[StockItem],
 ) -> Result<(), DrawFault> {
+    let alloc = rt.alloc();
     let lines = script.lines.as_slice();
     if let Some(range) = options.steps {
-        draw_steps(rt, rt.alloc(), options, range, lines, stock)?;
+        let steps = Steps {
+            alloc,
+            options,
+            range,
+            lines,
+            stock,
+        };
+        steps.draw(rt)?;
     }
     match script.bad_line {
         Some(bad) => Err(DrawFault::BadLine(bad)),
         None if options.steps.is_some() => Ok(()),
-        None => draw_last(rt, rt.alloc(), options, lines, stock),
+        None => draw_last(rt, alloc, options, lines, stock),
     }
 }
 

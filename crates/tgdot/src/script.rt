@@ -12,6 +12,8 @@ const MOST_BYTES: usize = 256;
 /// A line of a script, and its text without the line feed.
 #[derive(Drop)]
 pub struct ScriptLine {
+    /// Its number, from 1 on.
+    pub number: u64,
     /// What the text says.
     pub line: Line,
     /// The text itself.
@@ -46,7 +48,7 @@ impl Script {
             if !read_text(rt, &mut text)? {
                 break;
             }
-            let read = line_of(alloc, text.as_str())?;
+            let read = line_of(alloc, number, text.as_str())?;
             if let Some(reason) = self.add(read, text.as_str(), &mut opening, workers)? {
                 self.bad_line = Some(BadLine { number, reason });
                 break;
@@ -89,7 +91,7 @@ fn read_text<R: Input>(rt: &R, text: &mut String) -> Result<bool, DrawFault> {
 }
 
 // The line of a text that ends with a line feed.
-fn line_of(alloc: Global, text: &str) -> Result<Option<ScriptLine>, AllocError> {
+fn line_of(alloc: Global, number: u64, text: &str) -> Result<Option<ScriptLine>, AllocError> {
     let Some(text) = text.strip_suffix('\n') else {
         return Ok(None);
     };
@@ -98,6 +100,7 @@ fn line_of(alloc: Global, text: &str) -> Result<Option<ScriptLine>, AllocError> 
     }
     match read_line(text.as_bytes()) {
         Some(line) => Ok(Some(ScriptLine {
+            number,
             line,
             text: String::from_str(alloc, text)?,
         })),
