@@ -4,10 +4,9 @@ use crate::fault::DrawFault;
 use crate::options::DotOptions;
 use crate::run::{Run, Vertex};
 use crate::script::ScriptLine;
-use std::alloc::Global;
+use std::alloc::{AllocError, Global};
 use std::collections::BTreeSet;
 use std::io;
-use tg_rights::Label;
 use tg_text::{Line, StockItem};
 
 /// Prints the graph that the lines leave as a digraph: its vertices by rising name, then its edges. What a collection would take is there
@@ -20,20 +19,24 @@ pub fn draw_last<R: Print>(
     stock: &[StockItem],
 ) -> Result<(), DrawFault> {
     let mut run = Run::start(alloc, options, lines, stock)?;
+    take_lines(&mut run, lines)?;
+    draw_run(rt, &run)
+}
+
+// Runs the lines that are no collection.
+fn take_lines(run: &mut Run, lines: &[ScriptLine]) -> Result<(), AllocError> {
     for line in lines {
-        match line.line {
-            Line::Full => (),
-            _ => take_line(&mut run, line)?,
+        if !matches!(line.line, Line::Full) {
+            run.take(&line.line)?;
         }
     }
-    let reached = run.reached()?;
-    draw_digraph(rt, &run, &reached)?;
     Ok(())
 }
 
-// Runs a line. What it is answered is no matter of the last graph.
-fn take_line(run: &mut Run, line: &ScriptLine) -> Result<(), DrawFault> {
-    let _event = run.take(&line.line)?;
+// Prints the graph of the run.
+fn draw_run<R: Print>(rt: &R, run: &Run) -> Result<(), DrawFault> {
+    let reached = run.reached()?;
+    draw_digraph(rt, run, &reached)?;
     Ok(())
 }
 
@@ -43,7 +46,7 @@ fn draw_digraph<R: Print>(rt: &R, run: &Run, reached: &BTreeSet<u64>) -> io::Res
     for (name, vertex) in run.vertices().iter() {
         draw_vertex(rt, run, *name, vertex, reached.contains(name))?;
     }
-    draw_rows(rt, run, reached)?;
+    draw_edges(rt, run, reached)?;
     println!(rt; "}}")
 }
 
@@ -62,25 +65,12 @@ fn draw_vertex<R: Print>(
     println!(rt; "    {name} [shape={shape}{border} color={colour} fontcolor={colour}]")
 }
 
-// The edges of all vertices.
-fn draw_rows<R: Print>(rt: &R, run: &Run, reached: &BTreeSet<u64>) -> io::Result<()> {
-    for (name, vertex) in run.vertices().iter() {
-        draw_edges(rt, run, *name, vertex, reached.contains(name))?;
-    }
-    Ok(())
-}
-
-// The edges of a vertex, each with the letters of its rights.
-fn draw_edges<R: Print>(
-    rt: &R,
-    run: &Run,
-    from: u64,
-    vertex: &Vertex,
-    reached: bool,
-) -> io::Result<()> {
-    let colour = colour_of(reached);
-    for to in vertex.targets.iter() {
-        if let Some(label) = Label::new(run.label(from, *to)) {
+// The edges, each with the letters of its rights.
+fn draw_edges<R: Print>(rt: &R, run: &Run, reached: &BTreeSet<u64>) -> io::Result<()> {
+    for ends in run.edges().iter() {
+        let (from, to) = *ends;
+        if let Some(label) = run.held(*ends) {
+            let colour = colour_of(reached.contains(&from));
             println!(rt;
                 "    {from} -> {to} [label=\"{label}\" color={colour} fontcolor={colour}]"
             )?;

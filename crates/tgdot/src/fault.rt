@@ -2,7 +2,7 @@
 
 use std::alloc::{AllocError, AllocFailed};
 use std::io;
-use tg_model::{ModelFault, OpeningFault};
+use tg_model::OpeningFault;
 use tg_text::StockFault;
 use thiserror::Error;
 
@@ -52,13 +52,6 @@ impl From<AllocError> for DrawFault {
 impl<T: Drop> From<AllocFailed<T>> for DrawFault {
     // What there was no memory for is dropped.
     fn from(_refused: AllocFailed<T>) -> DrawFault {
-        DrawFault::OutOfMemory
-    }
-}
-
-impl From<ModelFault> for DrawFault {
-    // A name that is no worker's is looked for before, so it was memory.
-    fn from(_fault: ModelFault) -> DrawFault {
         DrawFault::OutOfMemory
     }
 }

@@ -1,9 +1,10 @@
 //! What all steps of a run have in common.
 
-use crate::fault::DrawFault;
-use crate::shot::{EdgeView, Shot, VertexView};
-use std::alloc::Global;
+use crate::run::Run;
+use crate::shot::{EdgeView, Shot};
+use std::alloc::{AllocError, Global};
 use std::collections::BTreeMap;
+use std::fmt::Display;
 
 /// What a vertex takes up in each picture.
 #[derive(Clone, Copy)]
@@ -18,6 +19,7 @@ pub struct Room {
 /// places.
 #[derive(Drop)]
 pub struct Frame {
+    alloc: Global,
     /// The room of each vertex.
     pub vertices: BTreeMap<u64, Room>,
     /// For each edge, by its ends, the columns of its longest label.
@@ -30,6 +32,7 @@ impl Frame {
     /// A frame that holds nothing.
     pub fn new(alloc: Global) -> Frame {
         Frame {
+            alloc,
             vertices: BTreeMap::new(alloc),
             edges: BTreeMap::new(alloc),
             columns: 0,
@@ -37,17 +40,24 @@ impl Frame {
     }
 
     /// Widens the frame so that it holds the step.
-    pub fn widen(&mut self, shot: &Shot) -> Result<(), DrawFault> {
+    pub fn widen(&mut self, run: &Run, shot: &Shot) -> Result<(), AllocError> {
         self.columns = self.columns.max(shot.heading.len()).max(shot.told.len());
-        for (name, view) in shot.vertices.iter() {
-            self.widen_vertex(*name, view)?;
+        for name in run.vertices().keys() {
+            self.widen_vertex(run, shot, *name)?;
         }
-        self.widen_edges(shot)
+        if let Some((from, to)) = shot.marks.needed() {
+            self.widen_vertex(run, shot, from)?;
+            self.widen_vertex(run, shot, to)?;
+        }
+        self.widen_edges(run, shot)
     }
 
     // Widens the room of a vertex.
-    fn widen_vertex(&mut self, name: u64, view: &VertexView) -> Result<(), DrawFault> {
-        let columns = view.name.len().max(view.state.len());
+    fn widen_vertex(&mut self, run: &Run, shot: &Shot, name: u64) -> Result<(), AllocError> {
+        let Some(view) = shot.vertex(run, name) else {
+            return Ok(());
+        };
+        let columns = columns_of(self.alloc, view.name)?.max(columns_of(self.alloc, view.state)?);
         let ever_subject = view.ever_subject;
         let least = Room {
             columns,
@@ -59,18 +69,37 @@ impl Frame {
         Ok(())
     }
 
-    // Widens the room of each edge.
-    fn widen_edges(&mut self, shot: &Shot) -> Result<(), DrawFault> {
-        for (ends, view) in shot.edges.iter() {
-            self.widen_edge(*ends, view)?;
+    // Widens the room of each edge that the step shows.
+    fn widen_edges(&mut self, run: &Run, shot: &Shot) -> Result<(), AllocError> {
+        for ends in run.edges().iter() {
+            if let Some(view) = shot.edge(run, *ends) {
+                self.widen_edge(*ends, view)?;
+            }
+        }
+        if let Some(ends) = shot.marks.needed_edge() {
+            if let Some(view) = shot.edge(run, ends) {
+                self.widen_edge(ends, view)?;
+            }
         }
         Ok(())
     }
 
     // Widens the room of an edge.
-    fn widen_edge(&mut self, ends: (u64, u64), view: &EdgeView) -> Result<(), DrawFault> {
+    fn widen_edge(&mut self, ends: (u64, u64), view: EdgeView) -> Result<(), AllocError> {
+        let text = format!(in self.alloc; "{view}")?;
+        self.widen_label(ends, text.len())
+    }
+
+    // Widens the room of an edge to so many columns.
+    fn widen_label(&mut self, ends: (u64, u64), least: usize) -> Result<(), AllocError> {
         let columns = self.edges.entry(ends)?.or_insert(0);
-        *columns = (*columns).max(view.label.len());
+        *columns = (*columns).max(least);
         Ok(())
     }
+}
+
+/// How many columns a text takes.
+pub fn columns_of<D: Display + Drop>(alloc: Global, text: D) -> Result<usize, AllocError> {
+    let text = format!(in alloc; "{text}")?;
+    Ok(text.len())
 }

@@ -53,6 +53,24 @@ impl Look {
             }
         }
     }
+
+    /// The look of an edge that lacks rights for which a line was denied.
+    pub fn denied() -> Look {
+        Look {
+            colour: Colour::Red,
+            stroke: Stroke::Dashed,
+            is_bold: false,
+        }
+    }
+
+    /// The look of an edge that lost its last right.
+    pub fn lost() -> Look {
+        Look {
+            colour: Colour::Black,
+            stroke: Stroke::Dotted,
+            is_bold: true,
+        }
+    }
 }
 
 impl Display for Look {

@@ -8,14 +8,15 @@
 //!
 //! The words of the command line are `options`' matter, and lines `script`'s, and `reason` says why one is bad. `run` runs them, and knows which edges there are, so that
 //! no pair of vertices is asked for its edge in vain. `drawing` prints the last graph. Of the steps, `shot` says what is shown at one and
-//! `told` what its line was answered, `look` how it looks, `frame` what all have in common, `picture` prints one, and `steps` all of them.
-//! A line of the grammar has a place in `run`, where it is taken and followed, and in `named` of `shot`.
+//! `told` what its line was answered, `marks` what stands out and `look` how that looks, `frame` what all have in common, `picture` prints
+//! one, and `steps` all of them. A line of the grammar has a place in `run`, where it is taken and followed, and in `named` of `marks`.
 #![tactic(auto)]
 
 mod drawing;
 mod fault;
 mod frame;
 mod look;
+mod marks;
 mod options;
 mod picture;
 mod reason;
@@ -28,11 +29,11 @@ mod told;
 use drawing::draw_last;
 use fault::DrawFault;
 use options::{DotOptions, read_words};
-use script::read_script;
+use script::{Script, read_script};
 use std::env;
 use std::process::ExitCode;
-use steps::draw_steps;
-use tg_text::read_stock;
+use steps::Steps;
+use tg_text::{StockItem, read_stock};
 
 fn main(rt: HostRuntime) -> ExitCode {
     match obey(&rt) {
@@ -56,22 +57,38 @@ fn obey(rt: &HostRuntime) -> Result<u8, DrawFault> {
     }
 }
 
-// Draws what the script leaves, or its steps. A bad line ends the steps, and leaves nothing to be drawn else.
+// Draws what the script leaves, or its steps.
 fn draw_script(rt: &HostRuntime, options: DotOptions) -> Result<u8, DrawFault> {
     let stock = read_stock(rt.alloc(), options.stock.as_bytes())?;
     let script = read_script(rt, rt.alloc(), options.workers)?;
-    let bad_line = script.bad_line;
+    draw_lines(rt, options, &script, stock.as_slice())?;
+    Ok(0)
+}
+
+// Draws what the lines leave, or their steps. A bad line ends the steps, and leaves nothing to be drawn else.
+fn draw_lines(
+    rt: &HostRuntime,
+    options: DotOptions,
+    script: &Script,
+    stock: &[StockItem],
+) -> Result<(), DrawFault> {
+    let alloc = rt.alloc();
     let lines = script.lines.as_slice();
     if let Some(range) = options.steps {
-        draw_steps(rt, rt.alloc(), options, range, lines, stock.as_slice())?;
+        let steps = Steps {
+            alloc,
+            options,
+            range,
+            lines,
+            stock,
+        };
+        steps.draw(rt)?;
     }
-    if let Some(bad) = bad_line {
-        return Err(DrawFault::BadLine(bad));
+    match script.bad_line {
+        Some(bad) => Err(DrawFault::BadLine(bad)),
+        None if options.steps.is_some() => Ok(()),
+        None => draw_last(rt, alloc, options, lines, stock),
     }
-    if options.steps.is_none() {
-        draw_last(rt, rt.alloc(), options, lines, stock.as_slice())?;
-    }
-    Ok(0)
 }
 
 // The words of the command line. Each has to be text.

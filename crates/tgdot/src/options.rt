@@ -106,13 +106,20 @@ fn steps_of(matches: &ArgMatches) -> Option<LineRange> {
 
 // The command line.
 fn command<'a>(alloc: Global) -> Result<Command<'a>, AllocError> {
-    let mut command = Command::new(alloc, "tgdot")
+    let options = options(alloc)?;
+    Command::new(alloc, "tgdot")
         .about(ABOUT)
-        .after_help(EXAMPLE);
+        .after_help(EXAMPLE)
+        .args(options)
+}
+
+// All options.
+fn options<'a>(alloc: Global) -> Result<Vec<Arg<'a>>, AllocError> {
+    let mut options = Vec::new(alloc);
     for (name, takes, help) in OPTIONS {
-        command = command.arg(option(alloc, name, *takes, help)?)?;
+        options.push(option(alloc, name, *takes, help)?)?;
     }
-    Ok(command)
+    Ok(options)
 }
 
 // An option.

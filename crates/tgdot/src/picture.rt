@@ -1,7 +1,9 @@
 //! The picture of a step, as a text for `dot`.
 
-use crate::frame::{Frame, Room};
+use crate::frame::{Frame, Room, columns_of};
+use crate::run::Run;
 use crate::shot::{EdgeView, Shot, VertexView};
+use std::alloc::Global;
 use std::fmt::{Display, Formatter};
 use std::{fmt, io};
 
@@ -21,28 +23,30 @@ const CIRCLE_MARGIN: usize = 34;
 const MOST_PLAIN: usize = 8;
 
 /// Prints the step as a digraph with all that the frame has, by name. What the step doesn't have is invisible.
-pub fn draw_shot<R: Print>(rt: &R, frame: &Frame, shot: &Shot) -> io::Result<()> {
+pub fn draw_shot<R: Print>(
+    rt: &R,
+    alloc: Global,
+    frame: &Frame,
+    run: &Run,
+    shot: &Shot,
+) -> io::Result<()> {
     let number = shot.number;
     println!(rt; "digraph step_{number} {{")?;
     draw_heading(rt, frame, shot)?;
     draw_defaults(rt, frame)?;
-    draw_vertices(rt, frame, shot)?;
-    draw_edges(rt, frame, shot)?;
+    draw_vertices(rt, frame, run, shot)?;
+    draw_edges(rt, alloc, frame, run, shot)?;
     println!(rt; "}}")
 }
 
 // The line and its answer, above the picture.
 fn draw_heading<R: Print>(rt: &R, frame: &Frame, shot: &Shot) -> io::Result<()> {
-    let heading = Padded {
-        text: shot.heading.as_str(),
-        columns: frame.columns,
-    };
-    let told = Padded {
-        text: shot.told.as_str(),
-        columns: frame.columns,
-    };
+    let heading = shot.heading.as_str();
+    let behind_heading = Spaces(frame.columns.saturating_sub(heading.len()));
+    let told = shot.told.as_str();
+    let behind_told = Spaces(frame.columns.saturating_sub(told.len()));
     println!(rt;
-        "    graph [fontname={FONT} labelloc=t labeljust=l label=\"{heading}\\l{told}\\l\"]"
+        "    graph [fontname={FONT} labelloc=t labeljust=l label=\"{heading}{behind_heading}\\l{told}{behind_told}\\l\"]"
     )
 }
 
@@ -50,14 +54,13 @@ fn draw_heading<R: Print>(rt: &R, frame: &Frame, shot: &Shot) -> io::Result<()> 
 fn draw_defaults<R: Print>(rt: &R, frame: &Frame) -> io::Result<()> {
     let are_many = frame.edges.len() > MOST_PLAIN;
     let lines = if are_many { " decorate=true" } else { "" };
-    println!(rt; "    node [fontname={FONT} fixedsize=true]")?;
-    println!(rt; "    edge [fontname={FONT}{lines}]")
+    println!(rt; "    node [fontname={FONT} fixedsize=true]\n    edge [fontname={FONT}{lines}]")
 }
 
 // All vertices of the frame.
-fn draw_vertices<R: Print>(rt: &R, frame: &Frame, shot: &Shot) -> io::Result<()> {
+fn draw_vertices<R: Print>(rt: &R, frame: &Frame, run: &Run, shot: &Shot) -> io::Result<()> {
     for (name, room) in frame.vertices.iter() {
-        draw_vertex(rt, *name, *room, shot.vertices.get(name))?;
+        draw_vertex(rt, *name, *room, shot.vertex(run, *name))?;
     }
     Ok(())
 }
@@ -67,12 +70,12 @@ fn draw_vertex<R: Print>(
     rt: &R,
     name: u64,
     room: Room,
-    view: Option<&VertexView>,
+    view: Option<VertexView>,
 ) -> io::Result<()> {
     match view {
         Some(view) => {
-            let first = view.name.as_str();
-            let state = view.state.as_str();
+            let first = view.name;
+            let state = view.state;
             let look = view.look;
             println!(rt; "    {name} [{room} label=\"{first}\\n{state}\" {look}]")
         }
@@ -81,9 +84,15 @@ fn draw_vertex<R: Print>(
 }
 
 // All edges of the frame.
-fn draw_edges<R: Print>(rt: &R, frame: &Frame, shot: &Shot) -> io::Result<()> {
+fn draw_edges<R: Print>(
+    rt: &R,
+    alloc: Global,
+    frame: &Frame,
+    run: &Run,
+    shot: &Shot,
+) -> io::Result<()> {
     for (ends, columns) in frame.edges.iter() {
-        draw_edge(rt, *ends, *columns, shot.edges.get(ends))?;
+        draw_edge(rt, alloc, *ends, *columns, shot.edge(run, *ends))?;
     }
     Ok(())
 }
@@ -91,38 +100,32 @@ fn draw_edges<R: Print>(rt: &R, frame: &Frame, shot: &Shot) -> io::Result<()> {
 // An edge, with a label of its own width for all steps.
 fn draw_edge<R: Print>(
     rt: &R,
+    alloc: Global,
     ends: (u64, u64),
     columns: usize,
-    view: Option<&EdgeView>,
+    view: Option<EdgeView>,
 ) -> io::Result<()> {
     let (from, to) = ends;
     match view {
         Some(view) => {
-            let label = Padded {
-                text: view.label.as_str(),
-                columns,
-            };
+            let behind = Spaces(columns.saturating_sub(columns_of(alloc, view)?));
             let look = view.look;
-            println!(rt; "    {from} -> {to} [label=\" {label} \" {look}]")
+            println!(rt; "    {from} -> {to} [label=\" {view}{behind} \" {look}]")
         }
         None => {
-            let label = Padded { text: "", columns };
-            println!(rt; "    {from} -> {to} [label=\" {label} \" style=invis]")
+            let room = Spaces(columns);
+            println!(rt; "    {from} -> {to} [label=\" {room} \" style=invis]")
         }
     }
 }
 
-// A text with spaces behind it.
+// So many spaces.
 #[derive(Clone, Copy)]
-struct Padded<'a> {
-    text: &'a str,
-    columns: usize,
-}
+struct Spaces(usize);
 
-impl Display for Padded<'_> {
+impl Display for Spaces {
     fn fmt<W: fmt::Write>(&self, f: &mut Formatter<W>) -> fmt::Result {
-        f.write_str(self.text)?;
-        for _ in self.text.len()..self.columns {
+        for _ in 0..self.0 {
             f.write_char(' ')?;
         }
         Ok(())

@@ -11,6 +11,28 @@ const LETTERS: &[u8] = b"rwtgaluv";
 // The most bytes that a line may have.
 const MOST_BYTES: usize = 256;
 
+// The lines that stand alone, and the word of an edge line.
+const FULL: &[u8] = b"full";
+
+const MINOR: &[u8] = b"minor";
+
+const EDGE: &[u8] = b"edge";
+
+// The words of the commands, each with what stands behind it.
+const COMMANDS: &[(&[u8], &[Kind])] = &[
+    (b"create", &[Kind::Rights]),
+    (b"spawn", &[Kind::Rights]),
+    (b"list", &[]),
+    (b"retire", &[]),
+    (b"read", &[Kind::Number]),
+    (b"inspect", &[Kind::Number]),
+    (b"remove", &[Kind::Number, Kind::Rights]),
+    (b"write", &[Kind::Number, Kind::Number]),
+    (b"append", &[Kind::Number, Kind::Number]),
+    (b"take", &[Kind::Number, Kind::Number, Kind::Rights]),
+    (b"grant", &[Kind::Number, Kind::Number, Kind::Rights]),
+];
+
 // What a word behind a command's own is.
 #[derive(Clone, Copy, Drop)]
 enum Kind {
@@ -70,13 +92,23 @@ fn reason_of_spaces(line: &[u8]) -> Option<&'static str> {
         Some(": a space behind the last word")
     } else if has_two_spaces(line) {
         Some(": two spaces side by side")
-    } else if line.iter().any(|byte| byte.is_ascii_control()) {
-        Some(": a control character")
-    } else if line.iter().any(|byte| byte.is_ascii_uppercase()) {
-        Some(": a capital letter")
     } else {
-        None
+        reason_of_letters(line)
     }
+}
+
+// What is wrong in the letters.
+fn reason_of_letters(line: &[u8]) -> Option<&'static str> {
+    let mut reason = None;
+    for byte in line {
+        if byte.is_ascii_control() {
+            return Some(": a control character");
+        }
+        if byte.is_ascii_uppercase() {
+            reason = Some(": a capital letter");
+        }
+    }
+    reason
 }
 
 fn has_two_spaces(line: &[u8]) -> bool {
@@ -97,7 +129,7 @@ fn reason_of_words(line: &[u8]) -> &'static str {
     if is_collection(first) {
         return ": full and minor stand alone";
     }
-    if matches!(first, b"edge") {
+    if first == EDGE {
         return reason_of_arguments(&[Kind::Number, Kind::Number, Kind::Rights], rest);
     }
     if kinds_behind(first).is_some() {
@@ -110,7 +142,7 @@ fn reason_of_words(line: &[u8]) -> &'static str {
 }
 
 fn is_collection(word: &[u8]) -> bool {
-    matches!(word, b"full" | b"minor")
+    word == FULL || word == MINOR
 }
 
 // What is wrong behind the worker's name.
@@ -130,15 +162,12 @@ fn reason_of_command(rest: Option<&[u8]>) -> &'static str {
 
 // What stands behind the command's word, where it is one.
 fn kinds_behind(word: &[u8]) -> Option<&'static [Kind]> {
-    match word {
-        b"create" | b"spawn" => Some(&[Kind::Rights]),
-        b"list" | b"retire" => Some(&[]),
-        b"read" | b"inspect" => Some(&[Kind::Number]),
-        b"remove" => Some(&[Kind::Number, Kind::Rights]),
-        b"write" | b"append" => Some(&[Kind::Number, Kind::Number]),
-        b"take" | b"grant" => Some(&[Kind::Number, Kind::Number, Kind::Rights]),
-        _ => None,
+    for (command, kinds) in COMMANDS {
+        if *command == word {
+            return Some(*kinds);
+        }
     }
+    None
 }
 
 // What is wrong with the words behind the command's.
@@ -180,7 +209,7 @@ fn cut(words: &[u8]) -> (&[u8], Option<&[u8]>) {
 fn reason_of_number(word: &[u8]) -> Option<&'static str> {
     if word.starts_with(b"+") || word.starts_with(b"-") {
         Some(": a number has no sign")
-    } else if !word.iter().all(|byte| byte.is_ascii_digit()) {
+    } else if !is_number(word) {
         Some(": a word where a number stands")
     } else if word.starts_with(b"0") && word.len() > 1 {
         Some(": a number has no leading zero")
@@ -189,6 +218,15 @@ fn reason_of_number(word: &[u8]) -> Option<&'static str> {
     } else {
         None
     }
+}
+
+fn is_number(word: &[u8]) -> bool {
+    for byte in word {
+        if !byte.is_ascii_digit() {
+            return false;
+        }
+    }
+    true
 }
 
 fn is_too_large(digits: &[u8]) -> bool {
@@ -207,17 +245,34 @@ fn is_too_large(digits: &[u8]) -> bool {
 }
 
 fn reason_of_rights(word: &[u8]) -> Option<&'static str> {
+    let mut rest = LETTERS;
     let mut last = None;
     for letter in word {
-        let Some(place) = LETTERS.iter().position(|right| *right == *letter) else {
-            return Some(": rights are letters out of r w t g a l u v");
-        };
-        match last {
-            Some(before) if before == place => return Some(": a right twice"),
-            Some(before) if before > place => return Some(
-                ": rights stand in the order r w t g a l u v",
-            ),
-            _ => last = Some(place),
+        match behind(rest, *letter) {
+            Some(others) => rest = others,
+            None => return Some(reason_of_right(*letter, last)),
+        }
+        last = Some(*letter);
+    }
+    None
+}
+
+// Why a right may not stand behind the last one.
+fn reason_of_right(letter: u8, last: Option<u8>) -> &'static str {
+    if !LETTERS.contains(&letter) {
+        ": rights are letters out of r w t g a l u v"
+    } else if last == Some(letter) {
+        ": a right twice"
+    } else {
+        ": rights stand in the order r w t g a l u v"
+    }
+}
+
+// The letters behind this one, where it is among them.
+fn behind(letters: &[u8], letter: u8) -> Option<&[u8]> {
+    for (at, right) in letters.iter().enumerate() {
+        if *right == letter {
+            return Some(&letters[at + 1..]);
         }
     }
     None

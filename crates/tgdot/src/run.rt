@@ -5,17 +5,18 @@ use crate::options::DotOptions;
 use crate::script::ScriptLine;
 use std::alloc::{AllocError, Global};
 use std::collections::{BTreeMap, BTreeSet};
-use tg_model::{Command, Deed, Edge, Graph, Law, Numbers, Opening, Reply, Value};
-use tg_rights::{Label, Rights};
+use tg_model::{Command, Deed, Edge, Graph, Law, ModelFault, Numbers, Opening, Reply, Value};
+use tg_rights::Label;
 use tg_text::{Answer, Line, Refusal, StockItem};
 
-/// The run of a script. The plain graph says what the rules do. Beside it stand the vertices that no collection took: what each stores,
-/// and the targets of its edges, so that nobody has to ask each pair of vertices for its edge.
+/// The run of a script. The plain graph says what the rules do. Beside it stand the vertices that no collection took and the edges
+/// between them, so that nobody has to ask each pair of vertices for its edge.
 #[derive(Drop)]
 pub struct Run<'a> {
     alloc: Global,
     graph: Graph,
     vertices: BTreeMap<u64, Vertex>,
+    edges: BTreeSet<(u64, u64)>,
     stock: &'a [StockItem],
 }
 
@@ -26,17 +27,13 @@ pub struct Vertex {
     pub ever_subject: bool,
     /// What it stores.
     pub value: Value,
-    /// The vertices to which it has edges.
-    pub targets: BTreeSet<u64>,
 }
 
-/// What a line was answered, and the ends of the edge that it added to or took from.
+// What was reached, and those of it from which nothing was reached yet.
 #[derive(Drop)]
-pub struct Event {
-    /// The answer.
-    pub answer: Answer,
-    /// The ends of the edge.
-    pub changed: Option<(u64, u64)>,
+struct Reach {
+    reached: BTreeSet<u64>,
+    waiting: Vec<u64>,
 }
 
 impl<'a> Run<'a> {
@@ -47,27 +44,26 @@ impl<'a> Run<'a> {
         lines: &[ScriptLine],
         stock: &'a [StockItem],
     ) -> Result<Run<'a>, DrawFault> {
-        let edges = edges_of(alloc, lines)?;
-        let vertices = opened_vertices(alloc, options.workers, edges.as_slice())?;
-        let values = values_of(alloc, options.workers)?;
-        let opening = Opening::new(options.workers, edges, values, options.max_vertices)?;
-        let graph = Graph::open(alloc, &opening)?;
-        Ok(Run {
+        let graph = opened_graph(alloc, options, lines)?;
+        let mut run = Run {
             alloc,
             graph,
-            vertices,
+            vertices: BTreeMap::new(alloc),
+            edges: BTreeSet::new(alloc),
             stock,
-        })
+        };
+        run.open(options.workers, lines)?;
+        Ok(run)
     }
 
-    /// Runs a line. An edge line does nothing here: the graph began with its edge.
-    pub fn take(&mut self, line: &Line) -> Result<Event, DrawFault> {
+    /// Runs a line. What it is answered. An edge line does nothing here: the graph began with its edge.
+    pub fn take(&mut self, line: &Line) -> Result<Answer, AllocError> {
         match *line {
             Line::Create { worker, label } => self.make(worker, label, false),
             Line::Spawn { worker, label } => self.make(worker, label, true),
             Line::Plain { worker, command } => self.obey(worker, command),
             Line::Full => self.collect(),
-            Line::Minor | Line::Edge(_) => Ok(unchanged(Answer::Collected(None))),
+            Line::Minor | Line::Edge(_) => Ok(Answer::Collected(None)),
         }
     }
 
@@ -76,131 +72,163 @@ impl<'a> Run<'a> {
         &self.vertices
     }
 
+    /// The ends of the edges from these vertices.
+    pub fn edges(&self) -> &BTreeSet<(u64, u64)> {
+        &self.edges
+    }
+
     /// Whether the vertex of this name was a subject and is none any more.
     pub fn has_retired(&self, name: u64, vertex: &Vertex) -> bool {
         vertex.ever_subject && !self.graph.is_subject(name)
     }
 
-    /// The rights of one vertex over another.
-    pub fn label(&self, from: u64, to: u64) -> Rights {
-        self.graph.label(from, to)
+    /// The rights on the edge between these, where it is there.
+    pub fn held(&self, ends: (u64, u64)) -> Option<Label> {
+        let (from, to) = ends;
+        if self.edges.contains(&ends) {
+            Label::new(self.graph.label(from, to))
+        } else {
+            None
+        }
     }
 
     /// The vertices that a subject reaches along edges.
-    pub fn reached(&self) -> Result<BTreeSet<u64>, DrawFault> {
-        let mut reached = BTreeSet::new(self.alloc);
-        let mut waiting = Vec::new(self.alloc);
-        for name in self.graph.subjects() {
-            reached.insert(*name)?;
-            waiting.push(*name)?;
-        }
-        self.reach_on(&mut reached, &mut waiting)?;
-        Ok(reached)
+    pub fn reached(&self) -> Result<BTreeSet<u64>, AllocError> {
+        let mut reach = Reach {
+            reached: BTreeSet::new(self.alloc),
+            waiting: Vec::new(self.alloc),
+        };
+        self.reach_all(&mut reach)?;
+        Ok(reach.reached)
     }
 
-    // Adds what is reached from those that wait.
-    fn reach_on(
-        &self,
-        reached: &mut BTreeSet<u64>,
-        waiting: &mut Vec<u64>,
-    ) -> Result<(), DrawFault> {
+    // Adds what is reached from the subjects.
+    fn reach_all(&self, reach: &mut Reach) -> Result<(), AllocError> {
+        for name in self.graph.subjects() {
+            reach.add(*name)?;
+        }
         // Each vertex waits once.
         for _ in 0..self.vertices.len() {
-            let Some(from) = waiting.pop() else {
+            let Some(from) = reach.waiting.pop() else {
                 break;
             };
-            if let Some(vertex) = self.vertices.get(&from) {
-                reach_targets(vertex, reached, waiting)?;
+            self.reach_from(from, reach)?;
+        }
+        Ok(())
+    }
+
+    // Adds the targets of a vertex.
+    fn reach_from(&self, from: u64, reach: &mut Reach) -> Result<(), AllocError> {
+        for (source, to) in self.edges.range((from, 0)..) {
+            if *source != from {
+                break;
+            }
+            reach.add(*to)?;
+        }
+        Ok(())
+    }
+
+    // Adds the workers and their edges.
+    fn open(&mut self, workers: u64, lines: &[ScriptLine]) -> Result<(), AllocError> {
+        for name in 0..workers {
+            self.add_vertex(name, true, StockItem::Cell)?;
+        }
+        for line in lines {
+            if let Line::Edge(edge) = line.line {
+                self.edges.insert((edge.from, edge.to))?;
             }
         }
         Ok(())
     }
 
-    // Makes a subject or an object that stores the next box. Where none is made, the box stays.
-    fn make(&mut self, worker: u64, label: Label, as_subject: bool) -> Result<Event, DrawFault> {
-        let Some((kind, rest)) = self.stock.split_first() else {
-            return Ok(unchanged(Answer::Refused(Refusal::Stock)));
+    // Adds a vertex that stores a new box.
+    fn add_vertex(
+        &mut self,
+        name: u64,
+        ever_subject: bool,
+        kind: StockItem,
+    ) -> Result<(), AllocError> {
+        let value = value_of(kind);
+        let vertex = Vertex {
+            ever_subject,
+            value,
         };
-        if !self.graph.is_subject(worker) {
-            return Ok(unchanged(Answer::Refused(Refusal::Worker)));
-        }
-        let vertex = new_vertex(self.alloc, as_subject, value_of(*kind));
-        let deed = deed_of(label, value_of(*kind), as_subject);
-        // A new box fits its law, so no vertex is missed here.
-        if !deed.fits() {
-            return Ok(unchanged(Answer::Refused(Refusal::Stock)));
-        }
-        let reply = self.graph.apply(worker, &deed)?;
-        let Reply::Name(name) = reply else {
-            return Ok(unchanged(Answer::Reply(reply)));
-        };
-        self.stock = rest;
         self.vertices.insert(name, vertex)?;
-        let changed = self.join(worker, name)?;
-        Ok(Event {
-            answer: Answer::Reply(reply),
-            changed,
-        })
+        Ok(())
+    }
+
+    // Makes a subject or an object that stores the next box. Where none is made, the box stays.
+    fn make(&mut self, worker: u64, label: Label, as_subject: bool) -> Result<Answer, AllocError> {
+        let Some((kind, rest)) = self.stock.split_first() else {
+            return Ok(Answer::Refused(Refusal::Stock));
+        };
+        let answer = self.apply(worker, &deed_of(label, *kind, as_subject))?;
+        if let Answer::Reply(Reply::Name(name)) = answer {
+            self.stock = rest;
+            self.add_made(worker, name, as_subject, *kind)
+        } else {
+            Ok(answer)
+        }
+    }
+
+    // Adds a vertex that was made, and the edge to it. The answer.
+    fn add_made(
+        &mut self,
+        worker: u64,
+        name: u64,
+        as_subject: bool,
+        kind: StockItem,
+    ) -> Result<Answer, AllocError> {
+        self.add_vertex(name, as_subject, kind)?;
+        self.note_edge(worker, name)?;
+        Ok(Answer::Reply(Reply::Name(name)))
     }
 
     // Runs a command that makes no vertex.
-    fn obey(&mut self, worker: u64, command: Command) -> Result<Event, DrawFault> {
-        if !self.graph.is_subject(worker) {
-            return Ok(unchanged(Answer::Refused(Refusal::Worker)));
-        }
-        let deed = Deed::Plain(command);
-        let reply = self.graph.apply(worker, &deed)?;
-        let changed = self.follow(worker, &command, &reply)?;
-        Ok(Event {
-            answer: Answer::Reply(reply),
-            changed,
-        })
-    }
-
-    // Follows a command that was served. The ends of the edge that it changed.
-    fn follow(
-        &mut self,
-        worker: u64,
-        command: &Command,
-        reply: &Reply,
-    ) -> Result<Option<(u64, u64)>, DrawFault> {
-        if !matches!(reply, Reply::Done) {
-            return Ok(None);
-        }
-        match *command {
-            Command::Take { target, .. } => self.join(worker, target),
-            Command::Grant { via, target, .. } => self.join(via, target),
-            Command::Remove { target, .. } => Ok(self.part(worker, target)),
-            Command::Write { target, value } | Command::Append { target, value } => {
-                self.store(target, value)?;
-                Ok(None)
-            }
-            Command::Read { .. } | Command::Inspect { .. } | Command::List | Command::Retire => {
-                Ok(None)
-            }
+    fn obey(&mut self, worker: u64, command: Command) -> Result<Answer, AllocError> {
+        let answer = self.apply(worker, &Deed::Plain(command))?;
+        if let Answer::Reply(Reply::Done) = answer {
+            self.follow(worker, &command)
+        } else {
+            Ok(answer)
         }
     }
 
-    // Notes an edge.
-    fn join(&mut self, from: u64, to: u64) -> Result<Option<(u64, u64)>, DrawFault> {
-        if let Some(vertex) = self.vertices.get_mut(&from) {
-            vertex.targets.insert(to)?;
+    // Has the graph take a deed. A new box fits its law, so no vertex is missed here.
+    fn apply(&mut self, worker: u64, deed: &Deed) -> Result<Answer, AllocError> {
+        if !deed.fits() {
+            return Ok(Answer::Refused(Refusal::Stock));
         }
-        Ok(Some((from, to)))
+        match self.graph.apply(worker, deed) {
+            Ok(reply) => Ok(Answer::Reply(reply)),
+            Err(ModelFault::NoSuchWorker) => Ok(Answer::Refused(Refusal::Worker)),
+            Err(ModelFault::OutOfMemory) => Err(AllocError),
+        }
     }
 
-    // Forgets an edge whose last right was given up.
-    fn part(&mut self, from: u64, to: u64) -> Option<(u64, u64)> {
+    // Follows a command that was served. The answer.
+    fn follow(&mut self, worker: u64, command: &Command) -> Result<Answer, AllocError> {
+        if let Some((from, to)) = changed_by(worker, command) {
+            self.note_edge(from, to)?;
+        }
+        if let Command::Write { target, value } | Command::Append { target, value } = command {
+            self.store(*target, *value)?;
+        }
+        Ok(Answer::Reply(Reply::Done))
+    }
+
+    // Notes an edge, or forgets it where its last right was given up.
+    fn note_edge(&mut self, from: u64, to: u64) -> Result<(), AllocError> {
         if self.graph.label(from, to).is_empty() {
-            if let Some(vertex) = self.vertices.get_mut(&from) {
-                vertex.targets.remove(&to);
-            }
+            self.edges.remove(&(from, to));
+        } else {
+            self.edges.insert((from, to))?;
         }
-        Some((from, to))
+        Ok(())
     }
 
     // Notes a number that was written or added to a log.
-    fn store(&mut self, target: u64, number: u64) -> Result<(), DrawFault> {
+    fn store(&mut self, target: u64, number: u64) -> Result<(), AllocError> {
         if let Some(vertex) = self.vertices.get_mut(&target) {
             let law = vertex.value.law;
             law.write(self.alloc, &mut vertex.value.state, number)?;
@@ -209,33 +237,43 @@ impl<'a> Run<'a> {
     }
 
     // Collects what no subject reaches.
-    fn collect(&mut self) -> Result<Event, DrawFault> {
+    fn collect(&mut self) -> Result<Answer, AllocError> {
         let reached = self.reached()?;
         self.vertices.retain(|name, _| reached.contains(name));
-        Ok(unchanged(Answer::Collected(Some(reached.len() as u64))))
+        self.edges.retain(|(from, _)| reached.contains(from));
+        Ok(Answer::Collected(Some(reached.len() as u64)))
     }
 }
 
-// What is told of a line that changed no edge.
-fn unchanged(answer: Answer) -> Event {
-    Event {
-        answer,
-        changed: None,
-    }
-}
-
-// Adds the targets of the vertex, and lets those wait that weren't reached before.
-fn reach_targets(
-    vertex: &Vertex,
-    reached: &mut BTreeSet<u64>,
-    waiting: &mut Vec<u64>,
-) -> Result<(), DrawFault> {
-    for to in vertex.targets.iter() {
-        if reached.insert(*to)? {
-            waiting.push(*to)?;
+impl Reach {
+    // Adds a vertex, and lets it wait if it wasn't reached before.
+    fn add(&mut self, name: u64) -> Result<(), AllocError> {
+        if self.reached.insert(name)? {
+            self.waiting.push(name)?;
         }
+        Ok(())
     }
-    Ok(())
+}
+
+/// The ends of the edge that a command adds to or takes from, where it is served.
+pub fn changed_by(worker: u64, command: &Command) -> Option<(u64, u64)> {
+    match *command {
+        Command::Take { target, .. } | Command::Remove { target, .. } => Some((worker, target)),
+        Command::Grant { via, target, .. } => Some((via, target)),
+        _ => None,
+    }
+}
+
+// The graph of the edge lines, in which each worker stores a cell with 0.
+fn opened_graph(
+    alloc: Global,
+    options: DotOptions,
+    lines: &[ScriptLine],
+) -> Result<Graph, DrawFault> {
+    let edges = edges_of(alloc, lines)?;
+    let values = values_of(alloc, options.workers)?;
+    let opening = Opening::new(options.workers, edges, values, options.max_vertices)?;
+    Ok(Graph::open(alloc, &opening)?)
 }
 
 // The edges of the edge lines.
@@ -249,40 +287,6 @@ fn edges_of(alloc: Global, lines: &[ScriptLine]) -> Result<Vec<Edge>, AllocError
     Ok(edges)
 }
 
-// The workers, with the targets of these edges.
-fn opened_vertices(
-    alloc: Global,
-    workers: u64,
-    edges: &[Edge],
-) -> Result<BTreeMap<u64, Vertex>, DrawFault> {
-    let mut vertices = new_vertices(alloc, workers)?;
-    for edge in edges {
-        if let Some(vertex) = vertices.get_mut(&edge.from) {
-            vertex.targets.insert(edge.to)?;
-        }
-    }
-    Ok(vertices)
-}
-
-// The workers, without edges.
-fn new_vertices(alloc: Global, workers: u64) -> Result<BTreeMap<u64, Vertex>, DrawFault> {
-    let mut vertices = BTreeMap::new(alloc);
-    for name in 0..workers {
-        let value = value_of(StockItem::Cell);
-        vertices.insert(name, new_vertex(alloc, true, value))?;
-    }
-    Ok(vertices)
-}
-
-// A vertex without edges.
-fn new_vertex(alloc: Global, ever_subject: bool, value: Value) -> Vertex {
-    Vertex {
-        ever_subject,
-        value,
-        targets: BTreeSet::new(alloc),
-    }
-}
-
 // A new cell for each worker.
 fn values_of(alloc: Global, workers: u64) -> Result<Vec<Value>, AllocError> {
     let mut values = Vec::new(alloc);
@@ -292,9 +296,9 @@ fn values_of(alloc: Global, workers: u64) -> Result<Vec<Value>, AllocError> {
     Ok(values)
 }
 
-// The making of a subject or an object that stores the value.
-fn deed_of(label: Label, value: Value, as_subject: bool) -> Deed {
-    let Value { law, state } = value;
+// The making of a subject or an object that stores a new box.
+fn deed_of(label: Label, kind: StockItem, as_subject: bool) -> Deed {
+    let Value { law, state } = value_of(kind);
     if as_subject {
         Deed::Spawn { label, law, state }
     } else {

@@ -12,6 +12,8 @@ const MOST_BYTES: usize = 256;
 /// A line of a script, and its text without the line feed.
 #[derive(Drop)]
 pub struct ScriptLine {
+    /// Its number, from 1 on.
+    pub number: u64,
     /// What the text says.
     pub line: Line,
     /// The text itself.
@@ -29,32 +31,49 @@ pub struct Script {
 
 /// Reads the script on standard input. An edge stands before all other lines, and between workers.
 pub fn read_script<R: Input>(rt: &R, alloc: Global, workers: u64) -> Result<Script, DrawFault> {
-    let mut lines = Vec::new(alloc);
-    let mut text = String::new(alloc);
-    let mut opening = true;
-    for number in 1..u64::MAX {
-        if !read_text(rt, &mut text)? {
-            break;
-        }
-        let reason = match line_of(alloc, text.as_str())? {
-            None => reason_of(text.as_str()),
-            Some(read) => match misplaced(&read.line, &mut opening, workers) {
-                Some(reason) => reason,
-                None => {
-                    lines.push(read)?;
-                    continue;
-                }
-            },
-        };
-        return Ok(Script {
-            lines,
-            bad_line: Some(BadLine { number, reason }),
-        });
-    }
-    Ok(Script {
-        lines,
+    let mut script = Script {
+        lines: Vec::new(alloc),
         bad_line: None,
-    })
+    };
+    script.fill(rt, alloc, workers)?;
+    Ok(script)
+}
+
+impl Script {
+    // Adds the lines up to the first bad one.
+    fn fill<R: Input>(&mut self, rt: &R, alloc: Global, workers: u64) -> Result<(), DrawFault> {
+        let mut text = String::new(alloc);
+        let mut opening = true;
+        for number in 1..u64::MAX {
+            if !read_text(rt, &mut text)? {
+                break;
+            }
+            let read = line_of(alloc, number, text.as_str())?;
+            if let Some(reason) = self.add(read, text.as_str(), &mut opening, workers)? {
+                self.bad_line = Some(BadLine { number, reason });
+                break;
+            }
+        }
+        Ok(())
+    }
+
+    // Adds what was read of a text, or says why it is a bad line.
+    fn add(
+        &mut self,
+        read: Option<ScriptLine>,
+        text: &str,
+        opening: &mut bool,
+        workers: u64,
+    ) -> Result<Option<&'static str>, AllocError> {
+        let Some(read) = read else {
+            return Ok(Some(reason_of(text)));
+        };
+        let reason = misplaced(&read.line, opening, workers);
+        if reason.is_none() {
+            self.lines.push(read)?;
+        }
+        Ok(reason)
+    }
 }
 
 // Reads the next text up to its line feed, in place of the last one. Bytes that are no text leave none, which is a bad line. False at the
@@ -72,7 +91,7 @@ fn read_text<R: Input>(rt: &R, text: &mut String) -> Result<bool, DrawFault> {
 }
 
 // The line of a text that ends with a line feed.
-fn line_of(alloc: Global, text: &str) -> Result<Option<ScriptLine>, AllocError> {
+fn line_of(alloc: Global, number: u64, text: &str) -> Result<Option<ScriptLine>, AllocError> {
     let Some(text) = text.strip_suffix('\n') else {
         return Ok(None);
     };
@@ -81,6 +100,7 @@ fn line_of(alloc: Global, text: &str) -> Result<Option<ScriptLine>, AllocError> 
     }
     match read_line(text.as_bytes()) {
         Some(line) => Ok(Some(ScriptLine {
+            number,
             line,
             text: String::from_str(alloc, text)?,
         })),

@@ -1,17 +1,19 @@
 //! What a step shows.
 
-use crate::fault::DrawFault;
 use crate::look::{Colour, Look, Stroke};
-use crate::run::{Event, Run, Vertex};
+use crate::marks::Marks;
+use crate::run::{Run, Vertex};
 use crate::script::ScriptLine;
 use crate::told::told;
 use std::alloc::{AllocError, Global};
-use std::collections::{BTreeMap, BTreeSet};
-use tg_model::{Cause, Command, Law, Reply, Value};
-use tg_rights::{Label, Rights};
-use tg_text::{Answer, Line};
+use std::collections::BTreeSet;
+use std::fmt;
+use std::fmt::{Display, Formatter};
+use tg_model::{Law, Value};
+use tg_rights::Label;
+use tg_text::Answer;
 
-/// The graph after a line, as a picture has it.
+/// What a step shows of the graph of a run: what its line was answered, and what stands out.
 #[derive(Drop)]
 pub struct Shot {
     /// The number of the line.
@@ -20,294 +22,192 @@ pub struct Shot {
     pub heading: String,
     /// What the line was answered.
     pub told: String,
-    /// The vertices, by name.
-    pub vertices: BTreeMap<u64, VertexView>,
-    /// The edges, by their ends.
-    pub edges: BTreeMap<(u64, u64), EdgeView>,
+    /// What stands out.
+    pub marks: Marks,
+    reached: BTreeSet<u64>,
 }
 
 /// A vertex in a picture.
-#[derive(Drop)]
-pub struct VertexView {
+#[derive(Clone, Copy)]
+pub struct VertexView<'a> {
     /// Whether it is a subject, or was one until it retired.
     pub ever_subject: bool,
-    /// The first line of its text, its name.
-    pub name: String,
-    /// The second line, its law and its state.
-    pub state: String,
+    /// The first line of its text.
+    pub name: NameText,
+    /// The second line.
+    pub state: StateText<'a>,
     /// How it looks.
     pub look: Look,
 }
 
-/// An edge in a picture.
-#[derive(Drop)]
+/// The name of a vertex, and what is told of it.
+#[derive(Clone, Copy)]
+pub struct NameText {
+    name: u64,
+    is_unreached: bool,
+    is_twice: bool,
+}
+
+/// The law and the state of a vertex, or that it isn't there.
+#[derive(Clone, Copy)]
+pub struct StateText<'a> {
+    value: Option<&'a Value>,
+    lacks_log: bool,
+}
+
+/// An edge in a picture. Its text are the rights that are held, and those that are missing.
+#[derive(Clone, Copy)]
 pub struct EdgeView {
-    /// Its rights.
-    pub label: String,
+    held: Option<Label>,
+    missing: Option<Label>,
     /// How it looks.
     pub look: Look,
 }
 
-/// What is shown before the first command. The last edge line has this number, or 0 where there is none.
-pub fn shot_of_start(alloc: Global, run: &Run, number: u64) -> Result<Shot, DrawFault> {
-    let heading = String::from_str(alloc, "start")?;
-    shot_of_graph(alloc, run, number, heading, String::new(alloc))
-}
-
-/// What is shown after the line of this number.
-pub fn shot_of_line(
-    alloc: Global,
-    run: &Run,
-    number: u64,
-    line: &ScriptLine,
-    event: &Event,
-) -> Result<Shot, DrawFault> {
-    let text = line.text.as_str();
-    let heading = format!(in alloc; "{number}: {text}")?;
-    let told = told(alloc, &event.answer)?;
-    let mut shot = shot_of_graph(alloc, run, number, heading, told)?;
-    if let Some(ends) = event.changed {
-        mark_changed(alloc, &mut shot, ends)?;
+impl Shot {
+    /// What is shown before the first command. The last edge line has this number, or 0 where there is none.
+    pub fn of_start(alloc: Global, run: &Run, number: u64) -> Result<Shot, AllocError> {
+        Ok(Shot {
+            number,
+            heading: String::from_str(alloc, "start")?,
+            told: String::new(alloc),
+            marks: Marks::none(),
+            reached: run.reached()?,
+        })
     }
-    if let Answer::Reply(Reply::Denied(denial)) = &event.answer {
-        mark_cause(alloc, &mut shot, &line.line, denial.cause)?;
+
+    /// What is shown after a line.
+    pub fn of_line(
+        alloc: Global,
+        run: &Run,
+        line: &ScriptLine,
+        answer: &Answer,
+    ) -> Result<Shot, AllocError> {
+        let number = line.number;
+        let text = line.text.as_str();
+        Ok(Shot {
+            number,
+            heading: format!(in alloc; "{number}: {text}")?,
+            told: told(alloc, answer)?,
+            marks: Marks::of(&line.line, answer),
+            reached: run.reached()?,
+        })
     }
-    mark_named(&mut shot, &line.line);
-    Ok(shot)
-}
 
-// The graph as it is, with nothing marked.
-fn shot_of_graph(
-    alloc: Global,
-    run: &Run,
-    number: u64,
-    heading: String,
-    told: String,
-) -> Result<Shot, DrawFault> {
-    let reached = run.reached()?;
-    let vertices = vertices_of(alloc, run, &reached)?;
-    let edges = edges_of(alloc, run, &reached)?;
-    Ok(Shot {
-        number,
-        heading,
-        told,
-        vertices,
-        edges,
-    })
-}
-
-// The vertices that are there.
-fn vertices_of(
-    alloc: Global,
-    run: &Run,
-    reached: &BTreeSet<u64>,
-) -> Result<BTreeMap<u64, VertexView>, DrawFault> {
-    let mut views = BTreeMap::new(alloc);
-    for (name, vertex) in run.vertices().iter() {
-        let is_reached = reached.contains(name);
-        let look = Look::reached(is_reached);
-        let state = state_text(alloc, &vertex.value)?;
-        let mut view = VertexView {
-            ever_subject: vertex.ever_subject,
-            name: format!(in alloc; "{name}")?,
-            state,
-            look,
-        };
-        if run.has_retired(*name, vertex) {
-            mark_retired(&mut view, is_reached)?;
+    /// The vertex of this name, where it is shown. One that isn't there is shown where the picture needs it.
+    pub fn vertex<'a>(&self, run: &'a Run, name: u64) -> Option<VertexView<'a>> {
+        match run.vertices().get(&name) {
+            Some(vertex) => Some(self.view_of(name, vertex, run.has_retired(name, vertex))),
+            None if self.marks.needs(name) => Some(VertexView {
+                ever_subject: false,
+                name: self.name_of(name, false),
+                state: StateText {
+                    value: None,
+                    lacks_log: false,
+                },
+                look: self.look_of(name, false),
+            }),
+            None => None,
         }
-        views.insert(*name, view)?;
     }
-    Ok(views)
+
+    // A vertex that is there.
+    fn view_of<'a>(&self, name: u64, vertex: &'a Vertex, has_retired: bool) -> VertexView<'a> {
+        VertexView {
+            ever_subject: vertex.ever_subject,
+            name: self.name_of(name, has_retired),
+            state: StateText {
+                value: Some(&vertex.value),
+                lacks_log: self.marks.no_log == Some(name),
+            },
+            look: self.look_of(name, has_retired),
+        }
+    }
+
+    // The border of a subject that retired isn't dotted where no subject reaches it, so a word says that.
+    fn name_of(&self, name: u64, has_retired: bool) -> NameText {
+        NameText {
+            name,
+            is_unreached: has_retired && !self.reached.contains(&name),
+            is_twice: self.marks.twice == Some(name),
+        }
+    }
+
+    // How a vertex looks.
+    fn look_of(&self, name: u64, has_retired: bool) -> Look {
+        let named = Some(name);
+        let mut look = Look::reached(self.reached.contains(&name));
+        look.is_bold = self.marks.named.contains(&named);
+        if has_retired {
+            look.stroke = Stroke::Dashed;
+        }
+        if self.marks.twice == named || self.marks.no_log == named {
+            look.colour = Colour::Red;
+        }
+        look
+    }
+
+    /// The edge between these, where it is shown: it is there, or it lacks rights, or it lost its last one.
+    pub fn edge(&self, run: &Run, ends: (u64, u64)) -> Option<EdgeView> {
+        let held = run.held(ends);
+        let missing = self.marks.missing_at(ends);
+        let is_changed = self.marks.changed == Some(ends);
+        let look = match (missing, held) {
+            (Some(_), _) => Look::denied(),
+            (None, Some(_)) => Look {
+                is_bold: is_changed,
+                ..Look::reached(self.reached.contains(&ends.0))
+            },
+            (None, None) if is_changed => Look::lost(),
+            (None, None) => return None,
+        };
+        Some(EdgeView {
+            held,
+            missing,
+            look,
+        })
+    }
 }
 
-// Marks a subject that retired. Its border isn't dotted where no subject reaches it, so a word says that.
-fn mark_retired(view: &mut VertexView, is_reached: bool) -> Result<(), DrawFault> {
-    view.look.stroke = Stroke::Dashed;
-    if !is_reached {
-        view.name.push_str(" unreached")?;
-    }
-    Ok(())
-}
-
-// The edges that are there.
-fn edges_of(
-    alloc: Global,
-    run: &Run,
-    reached: &BTreeSet<u64>,
-) -> Result<BTreeMap<(u64, u64), EdgeView>, DrawFault> {
-    let mut views = BTreeMap::new(alloc);
-    for (from, vertex) in run.vertices().iter() {
-        let look = Look::reached(reached.contains(from));
-        add_edges(alloc, run, *from, vertex, look, &mut views)?;
-    }
-    Ok(views)
-}
-
-// Adds the edges of a vertex.
-fn add_edges(
-    alloc: Global,
-    run: &Run,
-    from: u64,
-    vertex: &Vertex,
-    look: Look,
-    views: &mut BTreeMap<(u64, u64), EdgeView>,
-) -> Result<(), DrawFault> {
-    for to in vertex.targets.iter() {
-        let label = rights_text(alloc, run.label(from, *to))?;
-        views.insert((from, *to), EdgeView { label, look })?;
-    }
-    Ok(())
-}
-
-// The letters of the rights; no letter where there is no right.
-fn rights_text(alloc: Global, rights: Rights) -> Result<String, AllocError> {
-    match Label::new(rights) {
-        Some(label) => format!(in alloc; "{label}"),
-        None => Ok(String::new(alloc)),
+impl Display for NameText {
+    fn fmt<W: fmt::Write>(&self, f: &mut Formatter<W>) -> fmt::Result {
+        let name = self.name;
+        let unreached = if self.is_unreached { " unreached" } else { "" };
+        let twice = if self.is_twice { " twice" } else { "" };
+        write!(f, "{name}{unreached}{twice}")
     }
 }
 
-// The law and the state of a value.
-fn state_text(alloc: Global, value: &Value) -> Result<String, AllocError> {
-    let law = match value.law {
+impl Display for StateText<'_> {
+    fn fmt<W: fmt::Write>(&self, f: &mut Formatter<W>) -> fmt::Result {
+        let Some(value) = self.value else {
+            return f.write_str("not there");
+        };
+        f.write_str(word_of(value.law))?;
+        for number in value.state.as_slice() {
+            write!(f, " {number}")?;
+        }
+        f.write_str(if self.lacks_log { " no log" } else { "" })
+    }
+}
+
+impl Display for EdgeView {
+    fn fmt<W: fmt::Write>(&self, f: &mut Formatter<W>) -> fmt::Result {
+        match (self.held, self.missing) {
+            (Some(held), Some(missing)) => write!(f, "{held} no {missing}"),
+            (Some(held), None) => write!(f, "{held}"),
+            (None, Some(missing)) => write!(f, "no {missing}"),
+            (None, None) => f.write_str("none"),
+        }
+    }
+}
+
+// The word for a law.
+fn word_of(law: Law) -> &'static str {
+    match law {
         Law::Cell => "cell",
         Law::Sum => "sum",
         Law::Max => "max",
         Law::Log(_) => "log",
-    };
-    let mut text = String::from_str(alloc, law)?;
-    for number in value.state.as_slice() {
-        write!(text, " {number}")?;
-    }
-    Ok(text)
-}
-
-// Has the edge stand out that the line added to or took from. One that lost its last right is shown once more.
-fn mark_changed(alloc: Global, shot: &mut Shot, ends: (u64, u64)) -> Result<(), DrawFault> {
-    if let Some(view) = shot.edges.get_mut(&ends) {
-        view.look.is_bold = true;
-        return Ok(());
-    }
-    let look = Look {
-        colour: Colour::Black,
-        stroke: Stroke::Dotted,
-        is_bold: true,
-    };
-    let label = String::from_str(alloc, "none")?;
-    shot.edges.insert(ends, EdgeView { label, look })?;
-    Ok(())
-}
-
-// Marks why the line was denied.
-fn mark_cause(alloc: Global, shot: &mut Shot, line: &Line, cause: Cause) -> Result<(), DrawFault> {
-    match cause {
-        Cause::Missing { from, to, rights } => {
-            add_absent(alloc, shot, from)?;
-            add_absent(alloc, shot, to)?;
-            mark_missing(alloc, shot, (from, to), rights)
-        }
-        Cause::NotDistinct => match named_twice(line) {
-            Some(name) => mark_twice(alloc, shot, name),
-            None => Ok(()),
-        },
-        Cause::NotLog => mark_no_log(shot, line),
-    }
-}
-
-// Marks the edge that lacks the rights.
-fn mark_missing(
-    alloc: Global,
-    shot: &mut Shot,
-    ends: (u64, u64),
-    rights: Rights,
-) -> Result<(), DrawFault> {
-    let look = Look {
-        colour: Colour::Red,
-        stroke: Stroke::Dashed,
-        is_bold: false,
-    };
-    let missing = rights_text(alloc, rights)?;
-    let missing = missing.as_str();
-    let label = match shot.edges.get(&ends) {
-        Some(view) => {
-            let held = view.label.as_str();
-            format!(in alloc; "{held} no {missing}")?
-        }
-        None => format!(in alloc; "no {missing}")?,
-    };
-    shot.edges.insert(ends, EdgeView { label, look })?;
-    Ok(())
-}
-
-// Marks the vertex that is named twice.
-fn mark_twice(alloc: Global, shot: &mut Shot, name: u64) -> Result<(), DrawFault> {
-    add_absent(alloc, shot, name)?;
-    if let Some(view) = shot.vertices.get_mut(&name) {
-        view.name.push_str(" twice")?;
-        view.look.colour = Colour::Red;
-    }
-    Ok(())
-}
-
-// Marks the vertex that should store a log.
-fn mark_no_log(shot: &mut Shot, line: &Line) -> Result<(), DrawFault> {
-    let [_, target, _] = named(line);
-    if let Some(view) = target.and_then(|name| shot.vertices.get_mut(&name)) {
-        view.state.push_str(" no log")?;
-        view.look.colour = Colour::Red;
-    }
-    Ok(())
-}
-
-// Shows a vertex that isn't there, since the picture needs it.
-fn add_absent(alloc: Global, shot: &mut Shot, name: u64) -> Result<(), DrawFault> {
-    if shot.vertices.contains_key(&name) {
-        return Ok(());
-    }
-    let view = VertexView {
-        ever_subject: false,
-        name: format!(in alloc; "{name}")?,
-        state: String::from_str(alloc, "not there")?,
-        look: Look::reached(false),
-    };
-    shot.vertices.insert(name, view)?;
-    Ok(())
-}
-
-// Has the vertices stand out that the line names.
-fn mark_named(shot: &mut Shot, line: &Line) {
-    for name in named(line).into_iter().flatten() {
-        if let Some(view) = shot.vertices.get_mut(&name) {
-            view.look.is_bold = true;
-        }
-    }
-}
-
-// The first vertex of the line that stands there twice.
-fn named_twice(line: &Line) -> Option<u64> {
-    match named(line) {
-        [first, second, third] if first == second || first == third => first,
-        [_, second, third] if second == third => second,
-        _ => None,
-    }
-}
-
-// The vertices that a line names: the one that acts, and those behind the word.
-fn named(line: &Line) -> [Option<u64>; 3] {
-    match *line {
-        Line::Create { worker, .. } | Line::Spawn { worker, .. } => [Some(worker), None, None],
-        Line::Plain { worker, command } => match command {
-            Command::Take { via, target, .. } | Command::Grant { via, target, .. } => {
-                [Some(worker), Some(via), Some(target)]
-            }
-            Command::Remove { target, .. }
-            | Command::Read { target }
-            | Command::Write { target, .. }
-            | Command::Append { target, .. }
-            | Command::Inspect { target } => [Some(worker), Some(target), None],
-            Command::List | Command::Retire => [Some(worker), None, None],
-        },
-        Line::Edge(_) | Line::Full | Line::Minor => [None, None, None],
     }
 }

@@ -1,8 +1,7 @@
 //! The text of an answer.
 ghost use Rattle.std.specs.Prelude.{None};
 
-use crate::fault::DrawFault;
-use std::alloc::Global;
+use std::alloc::{AllocError, Global};
 use std::str;
 use tg_text::{Answer, Put, Sink, write_reply};
 
@@ -38,7 +37,7 @@ impl Sink for InText {
 }
 
 /// The answer as a run of `tgstore` prints it, without the line feed.
-pub fn told(alloc: Global, answer: &Answer) -> Result<String, DrawFault> {
+pub fn told(alloc: Global, answer: &Answer) -> Result<String, AllocError> {
     let mut sink = InText {
         text: String::new(alloc),
         failed: false,
@@ -46,7 +45,7 @@ pub fn told(alloc: Global, answer: &Answer) -> Result<String, DrawFault> {
     };
     let written = write_reply(&mut sink, answer);
     if sink.failed || written.is_err() {
-        return Err(DrawFault::OutOfMemory);
+        return Err(AllocError);
     }
     let mut text = sink.text;
     let _ = text.pop();

@@ -1,0 +1,147 @@
+//! What stands out at a step.
+
+use crate::run::changed_by;
+use tg_model::{Cause, Command, Reply};
+use tg_rights::{Label, Rights};
+use tg_text::{Answer, Line};
+
+/// What stands out at a step, and why.
+#[derive(Clone, Copy)]
+pub struct Marks {
+    /// The vertices that the line names: the one that acts, and those behind the word.
+    pub named: [Option<u64>; 3],
+    /// The ends of the edge that the line added to or took from.
+    pub changed: Option<(u64, u64)>,
+    /// Where the line was denied for rights, these, and the ends of the edge that lacks them.
+    pub missing: Option<((u64, u64), Rights)>,
+    /// Where it was denied since it names a vertex twice, this one.
+    pub twice: Option<u64>,
+    /// Where it was denied since a vertex stores no log, this one.
+    pub no_log: Option<u64>,
+}
+
+impl Marks {
+    /// Nothing stands out.
+    pub fn none() -> Marks {
+        Marks::of_named([None, None, None])
+    }
+
+    /// What stands out after a line that was answered so.
+    pub fn of(line: &Line, answer: &Answer) -> Marks {
+        let mut marks = Marks::of_named(named(line));
+        if let Answer::Reply(reply) = answer {
+            marks.add_reply(line, reply);
+        }
+        marks
+    }
+
+    /// Whether the vertex has to be shown even where it isn't there.
+    pub fn needs(&self, name: u64) -> bool {
+        match self.needed() {
+            Some((from, to)) => name == from || name == to,
+            None => false,
+        }
+    }
+
+    /// The two vertices that have to be shown even where they aren't there. They are one where it is named twice.
+    pub fn needed(&self) -> Option<(u64, u64)> {
+        match (self.missing, self.twice) {
+            (Some((ends, _)), _) => Some(ends),
+            (None, Some(name)) => Some((name, name)),
+            (None, None) => None,
+        }
+    }
+
+    /// The edge that has to be shown even where it isn't there.
+    pub fn needed_edge(&self) -> Option<(u64, u64)> {
+        match self.missing {
+            Some((ends, _)) => Some(ends),
+            None => self.changed,
+        }
+    }
+
+    /// The rights that the edge between these lacks.
+    pub fn missing_at(&self, ends: (u64, u64)) -> Option<Label> {
+        match self.missing {
+            Some((at, rights)) if at == ends => Label::new(rights),
+            _ => None,
+        }
+    }
+
+    // The vertices stand out that a line names.
+    fn of_named(named: [Option<u64>; 3]) -> Marks {
+        Marks {
+            named,
+            changed: None,
+            missing: None,
+            twice: None,
+            no_log: None,
+        }
+    }
+
+    // Marks what a line changed, or why it was denied.
+    fn add_reply(&mut self, line: &Line, reply: &Reply) {
+        match reply {
+            Reply::Name(name) => self.changed = self.named[0].map(|worker| (worker, *name)),
+            Reply::Done => self.changed = changed_by_line(line),
+            Reply::Denied(denial) => self.add_cause(denial.cause),
+            _ => (),
+        }
+    }
+
+    // Marks why a line was denied.
+    fn add_cause(&mut self, cause: Cause) {
+        match cause {
+            Cause::Missing { from, to, rights } => self.missing = Some(((from, to), rights)),
+            Cause::NotDistinct => self.twice = twice_in(self.named),
+            Cause::NotLog => self.no_log = self.named[1],
+        }
+    }
+}
+
+// The ends of the edge that a line changes where it is served.
+fn changed_by_line(line: &Line) -> Option<(u64, u64)> {
+    match line {
+        Line::Plain { worker, command } => changed_by(*worker, command),
+        _ => None,
+    }
+}
+
+// The first of the vertices that stands there twice.
+fn twice_in(named: [Option<u64>; 3]) -> Option<u64> {
+    let [first, second, third] = named;
+    if first == second || first == third {
+        first
+    } else if second == third {
+        second
+    } else {
+        None
+    }
+}
+
+// The vertices that a line names: the one that acts, and those behind the word.
+fn named(line: &Line) -> [Option<u64>; 3] {
+    match *line {
+        Line::Create { worker, .. } | Line::Spawn { worker, .. } => [Some(worker), None, None],
+        Line::Plain { worker, command } => {
+            let [first, second] = named_behind(command);
+            [Some(worker), first, second]
+        }
+        Line::Edge(_) | Line::Full | Line::Minor => [None, None, None],
+    }
+}
+
+// The vertices that a command names behind its word.
+fn named_behind(command: Command) -> [Option<u64>; 2] {
+    match command {
+        Command::Take { via, target, .. } | Command::Grant { via, target, .. } => {
+            [Some(via), Some(target)]
+        }
+        Command::Remove { target, .. }
+        | Command::Read { target }
+        | Command::Write { target, .. }
+        | Command::Append { target, .. }
+        | Command::Inspect { target } => [Some(target), None],
+        Command::List | Command::Retire => [None, None],
+    }
+}
