@@ -30,7 +30,7 @@ use Rattle.tg_graph.specs.declared.rows.TheConstants.{SHORT}
 abbrev pub IsWay : SpaceList → List (ℕ × IndexedRow) → Place → Way → Type 0
 IsWay h rows from Walk = lookup (nat_eq (name_at h from)) rows ≡ None
 IsWay h rows from (Index at) = HasIndexAt rows (name_at h from) at
-IsWay h rows from (New row) = (lookup (nat_eq (name_at h from)) rows ≡ None) × IsRowIndex h from row.names row.cells.items
+IsWay h rows from (New row) = (lookup (nat_eq (name_at h from)) rows ≡ None) × IsRowIndex h from row.value.names row.value.cells.items
 
 -- there is room in the index of a row for one more name and one more cell
 pub record HasRoomIn (row : IndexedRow) : Type 0 where
@@ -61,7 +61,7 @@ pub record IsReadyNew (h : SpaceList) (rows : Indexes) (from : Place) (row : Ind
 abbrev pub IsReady : SpaceList → Indexes → Place → Way → Type 0
 IsReady h rows from Walk = IsReadyShort h rows from
 IsReady h rows from (Index at) = IsReadyAt rows (name_at h from) at
-IsReady h rows from (New row) = IsReadyNew h rows from row
+IsReady h rows from (New row) = IsReadyNew h rows from row.value
 
 -- ---- rights were put in a row
 

@@ -56,6 +56,7 @@ impl<P: Payload> Cells<P> {
     }
 
     /// What the reference at a spot says, if the spot has one.
+    #[inline(always)]
     pub(crate) fn found_at_spot(&self, from: Place, name: u64, spot: Spot) -> Option<Found>
         requires table { IsSpaceTable self.now.spaces }
         requires graph { IsGraph self.now.spaces.spaces self.now.payloads }

@@ -19,8 +19,8 @@ pub(crate) enum Way {
     Walk,
     /// By its index, which stands at this place.
     Index(usize),
-    /// By this new index, which it gets with the change.
-    New(IndexedRow),
+    /// By this new index, which it gets with the change. (It stands in a box, so that a way is small.)
+    New(Box<IndexedRow>),
 }
 
 /// The indexes of long rows, each under the name of the row's vertex. First stand those of rows that are known to lie in Old

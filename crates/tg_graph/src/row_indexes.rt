@@ -65,6 +65,7 @@ impl<P: Payload> Cells<P> {
 
     /// How the row of an object is looked along for a change. Its index has room for that then: its own, or a new one where the
     /// row may get long. Where memory was refused, no name has another index.
+    #[inline(always)]
     fn way_to_change(&self, rows: &mut LongRows, from: Place) -> Result<Way, AllocError>
         requires graph { IsGraph self.now.spaces.spaces self.now.payloads }
         requires from { IsKindAt self.now.spaces.spaces Object from }
@@ -95,11 +96,12 @@ impl<P: Payload> Cells<P> {
         rows.reserve()?;
         let mut row = self.index_of(from)?;
         row.reserve()?;
-        Ok(Way::New(row))
+        Ok(Way::New(Box::new(self.alloc, row)?))
     }
 
     // What follows in the indexes where rights over the vertex with a name were put at the spot for it in a row, which was looked
     // along so. The row has an index then, if it is long.
+    #[inline(always)]
     fn follow(
         &self,
         rows: &mut LongRows,
@@ -120,7 +122,8 @@ impl<P: Payload> Cells<P> {
                 Some(row) => row.follow(&self.spaces, from, name, spot, note),
                 None => unreachable!(),
             },
-            Way::New(mut row) => {
+            Way::New(row) => {
+                let mut row = Box::into_inner(row);
                 row.follow(&self.spaces, from, name, spot, note);
                 rows.add(self.name_of(from), row);
             }

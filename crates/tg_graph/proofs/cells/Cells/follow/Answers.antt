@@ -111,13 +111,13 @@ returns-in-Some-clause-names g c =
 pub follow-requires-in-New-clause-put : goal.follow-requires-in-New-clause-put
 follow-requires-in-New-clause-put g c =
     let b = c.requires in
-    let ready : IsReadyNew b.old.spaces c.args.rows.now c.args.from c.in-New.row = subst (λ (w : Way). IsReady b.old.spaces c.args.rows.now c.args.from w) c.in-New.is b.looked in
-    row_behind b c.in-New.row ready.index
+    let ready = subst (λ (r : IndexedRow). IsReadyNew b.old.spaces c.args.rows.now c.args.from r) (sym c.into_inner-row.ensures) (subst (λ (w : Way). IsReady b.old.spaces c.args.rows.now c.args.from w) c.in-New.is b.looked) in
+    row_behind b c.into_inner-row.result ready.index
 
 pub follow-requires-in-New-clause-room : goal.follow-requires-in-New-clause-room
 follow-requires-in-New-clause-room g c =
     let b = c.requires in
-    let ready : IsReadyNew b.old.spaces c.args.rows.now c.args.from c.in-New.row = subst (λ (w : Way). IsReady b.old.spaces c.args.rows.now c.args.from w) c.in-New.is b.looked in
+    let ready = subst (λ (r : IndexedRow). IsReadyNew b.old.spaces c.args.rows.now c.args.from r) (sym c.into_inner-row.ensures) (subst (λ (w : Way). IsReady b.old.spaces c.args.rows.now c.args.from w) c.in-New.is b.looked) in
     ready.room
 
 pub name_of-requires : goal.name_of-requires
@@ -126,26 +126,26 @@ name_of-requires g c = behind_object c.requires
 pub add-requires-clause-absent : goal.add-requires-clause-absent
 add-requires-clause-absent g c =
     let b = c.requires in
-    let ready : IsReadyNew b.old.spaces c.args.rows.now c.args.from c.in-New.row = subst (λ (w : Way). IsReady b.old.spaces c.args.rows.now c.args.from w) c.in-New.is b.looked in
+    let ready = subst (λ (r : IndexedRow). IsReadyNew b.old.spaces c.args.rows.now c.args.from r) (sym c.into_inner-row.ensures) (subst (λ (w : Way). IsReady b.old.spaces c.args.rows.now c.args.from w) c.in-New.is b.looked) in
     subst (λ n. lookup (nat_eq n) c.args.rows.now.entries ≡ None) (sym (c.name_of.ensures ∙ behind_own b)) ready.none
 
 pub add-requires-clause-aged : goal.add-requires-clause-aged
 add-requires-clause-aged g c =
     let b = c.requires in
-    let ready : IsReadyNew b.old.spaces c.args.rows.now c.args.from c.in-New.row = subst (λ (w : Way). IsReady b.old.spaces c.args.rows.now c.args.from w) c.in-New.is b.looked in
+    let ready = subst (λ (r : IndexedRow). IsReadyNew b.old.spaces c.args.rows.now c.args.from r) (sym c.into_inner-row.ensures) (subst (λ (w : Way). IsReady b.old.spaces c.args.rows.now c.args.from w) c.in-New.is b.looked) in
     c.follow-in-New.ensures.aged ready.aged
 
 pub add-requires-clause-room : goal.add-requires-clause-room
 add-requires-clause-room g c =
     let b = c.requires in
-    let ready : IsReadyNew b.old.spaces c.args.rows.now c.args.from c.in-New.row = subst (λ (w : Way). IsReady b.old.spaces c.args.rows.now c.args.from w) c.in-New.is b.looked in
+    let ready = subst (λ (r : IndexedRow). IsReadyNew b.old.spaces c.args.rows.now c.args.from r) (sym c.into_inner-row.ensures) (subst (λ (w : Way). IsReady b.old.spaces c.args.rows.now c.args.from w) c.in-New.is b.looked) in
     ready.spare
 
 pub returns-in-New-clause-indexed : goal.returns-in-New-clause-indexed
 returns-in-New-clause-indexed g c =
     let b = c.requires in
     let new = c.follow-in-New.new.self in
-    let ready : IsReadyNew b.old.spaces c.args.rows.now c.args.from c.in-New.row = subst (λ (w : Way). IsReady b.old.spaces c.args.rows.now c.args.from w) c.in-New.is b.looked in
+    let ready = subst (λ (r : IndexedRow). IsReadyNew b.old.spaces c.args.rows.now c.args.from r) (sym c.into_inner-row.ensures) (subst (λ (w : Way). IsReady b.old.spaces c.args.rows.now c.args.from w) c.in-New.is b.looked) in
     let quiet = subst (λ (ps : List Place). IsQuiet ps new) (sym b.put.remembered) (c.follow-in-New.ensures.quiet b.places (ready.quiet b.places)) in
     indexes_written b.old.spaces c.args.self.now.spaces.spaces (behind_vertices b) c.args.from b.object (behind_others b) b.places c.args.self.now.remembered.places (behind_quieter b) c.args.rows.now.entries b.indexed
     c.name_of.result (c.name_of.ensures ∙ behind_own b) c.add.new.self.entries new c.add.ensures c.follow-in-New.ensures.index quiet

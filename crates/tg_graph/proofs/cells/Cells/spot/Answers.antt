@@ -5,6 +5,7 @@ use Rattle.tg_graph.specs.Index.{HasIndexAt, IsRowIndex}
 use Rattle.tg_graph.specs.Rows.{name_at}
 use Rattle.tg_graph.specs.declared.index.IndexedRow.{IndexedRow}
 use Rattle.tg_graph.specs.declared.long_rows.Way.{Way}
+use Rattle.tg_graph.specs.declared.long_rows.Way.TheVariants.{New}
 use Rattle.tg_graph.proofs.IndexedRows.{index_at}
 use Rattle.tg_graph.proofs.cells.Cells.spot.Goals as goal
 
@@ -25,4 +26,5 @@ find_indexed-requires-clause-index g c =
 pub find_indexed-requires-in-New-clause-index : goal.find_indexed-requires-in-New-clause-index
 find_indexed-requires-in-New-clause-index g c =
     let h = c.args.self.now.spaces.spaces in
-    (subst (λ (w : Way). IsWay h c.args.rows.now.entries c.args.from w) c.in-New.is c.requires.way).1
+    let way : IsWay h c.args.rows.now.entries c.args.from (New c.in-New.row) = subst (λ (w : Way). IsWay h c.args.rows.now.entries c.args.from w) c.in-New.is c.requires.way in
+    subst (λ (r : IndexedRow). IsRowIndex h c.args.from r.names r.cells.items) (sym c.deref.ensures) way.1

@@ -2,7 +2,9 @@ use Rattle.std.proofs.Common.{◌≡◌, ◌<◌, None, true, length, nat_eq, sy
 use Rattle.std.proofs.lemmas.Bool.{cases_lt}
 use Rattle.std.specs.Map.{lookup}
 use Rattle.tg_space.specs.Rows.{row_of}
+use Rattle.tg_graph.specs.Following.{IsReadyNew}
 use Rattle.tg_graph.specs.Rows.{name_at}
+use Rattle.tg_graph.specs.declared.index.IndexedRow.{IndexedRow}
 use Rattle.tg_graph.specs.declared.rows.TheConstants.{SHORT}
 use Rattle.tg_graph.proofs.IndexedRows.{Entries}
 use Rattle.tg_graph.proofs.cells.Cells.way_unindexed.Goals as goal
@@ -24,6 +26,7 @@ returns-then-not-may_get_long-clause-ready g c =
 pub returns-clause-ready : goal.returns-clause-ready
 returns-clause-ready g c =
     let made = c.in_ok-row.ensures in
+    let ready : IsReadyNew c.args.self.now.spaces.spaces c.reserve.new.self c.args.from c.reserve-2.new.self =
     record {
       none = subst (λ (es : Entries). lookup (nat_eq (name_at c.args.self.now.spaces.spaces c.args.from)) es ≡ None) (sym c.reserve.ensures.entries) c.requires.none;
       spare = c.in_ok-reserve.ensures.room;
@@ -31,4 +34,5 @@ returns-clause-ready g c =
       aged = c.reserve-2.ensures.aged made.aged;
       quiet = λ places. c.reserve-2.ensures.quiet places (made.quiet places);
       room = record { names = c.in_ok-reserve-2.ensures.names; cells = c.in_ok-reserve-2.ensures.cells };
-    }
+    } in
+    subst (λ (r : IndexedRow). IsReadyNew c.args.self.now.spaces.spaces c.reserve.new.self c.args.from r) (sym c.in_ok-new.ensures.ok) ready
