@@ -3,7 +3,7 @@ use Rattle.std.proofs.Common.{◌≡◌, ◌≢◌, ℕ, ◌<◌, ◌≤◌, ◌
 use Rattle.std.specs.List.{All, Contains, flat_map}
 use Rattle.std.proofs.lemmas.Bool.{cases_eq, cases_lt}
 use Rattle.std.proofs.lemmas.Bool.Decides.{nat_tests}
-use Rattle.std.proofs.lemmas.List.{drop_at, get_or-append_right, get_or-map, get_or-replicate, get_or-take, get_or_append_left, get_or_default, get_or_past, length-append, length-drop, length-map, length-replicate, length-take, length-take-le}
+use Rattle.std.proofs.lemmas.List.{drop_at, get_or-append_right, get_or-map, get_or-replicate, get_or-take, get_or_append_left, get_or_default, get_or_past, length-append, length-map, length-replicate, length-take-le}
 use Rattle.std.proofs.lemmas.List.Concat.{get_or-flat_map}
 use Rattle.std.proofs.lemmas.List.Elements.{All-cons, All-contains, All-contains_itself, All-filter, All-from_get_or, All-get_or, All-nil, All-take, All-weaker, Contains-append_right, Contains-get_or}
 use Rattle.tg_word.specs.declared.Place.{Place}
@@ -25,12 +25,6 @@ use Rattle.tg_evac.proofs.Adopted.{find_place, free_is_not_young}
 use Rattle.tg_evac.proofs.Claiming.{in_none, is_in_one, place_back, stands}
 use Rattle.tg_evac.proofs.Copying.{same_place}
 use Rattle.tg_evac.proofs.Reasons.{all_in_old}
-
--- a copy has as many words as its original
-pub image_long : (from : ℕ → Bool) (h : SpaceList) (to : ℕ → Place) (words : List ℕ) → length (image_of from h to words) ≡ length words
-image_long from h to words =
-    let n = first_pointer (get_or words 0 0) in
-    omega (arith, length-append (take n words) (map (moved_word from h to) (drop n words)), length-map (drop n words) (moved_word from h to), length-take n words, length-drop n words)
 
 -- ---- cells in blocks, one after the other
 

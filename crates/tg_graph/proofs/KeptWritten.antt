@@ -16,7 +16,7 @@ use Rattle.tg_space.proofs.Writing.{other_cell}
 use Rattle.tg_graph.specs.declared.settle.Rewritten.{Rewritten}
 use Rattle.tg_graph.specs.Heap.{HeapState, IsWellFormed, roots_of}
 use Rattle.tg_graph.specs.Kept.{AreWritten, HasStayed, HasWritten, rewritten_at}
-use Rattle.tg_graph.proofs.Members.{Contains-from_map, Contains-map, Contains-none}
+use Rattle.tg_graph.proofs.Members.{Contains-from_map, Contains-map}
 use Rattle.tg_graph.proofs.Changes.{cell_written, same_or_other}
 use Rattle.tg_graph.proofs.KeptAdopted.{stays_held}
 use Rattle.tg_graph.proofs.KeptHeap.{no_row, remembered_cells, remembered_root}
@@ -31,16 +31,6 @@ mapped_more f xs i x found =
     let here : Some (get_or xs i x) ≡ Some x = sym (slice_get-get_or xs i x low) ∙ found in
     let same : get_or xs i x ≡ x = cc in
     ap (map f) (take_more xs i x low) ∙ map-append f (take i xs) (get_or xs i x ∷ []) ∙ ap (λ y. map f (take i xs) ++ f y ∷ []) same
-
-pub written_none : (t : SpaceTable) → AreWritten t t []
-written_none t = record {
-  limits = refl;
-  used = refl;
-  long = refl;
-  others = λ space young. refl;
-  held = λ p. (λ held. held, λ held. held);
-  written = λ p. inr (record { apart = λ cell has. absurd (Contains-none cell has); words = refl });
-}
 
 module _ (t now : SpaceTable) (cells : List Rewritten) (cell : Rewritten) (table : IsSpaceTable now) (before : AreWritten t now cells) (old : IsOldCell t.spaces cell.place) where
   abbrev next : SpaceList

@@ -90,10 +90,6 @@ take_none : {X : Type 0} (n : ℕ) → take {A = X} n [] ≡ []
 take_none zero = refl
 take_none (suc n) = refl
 
--- with no number the room is as it was
-pub shown_none : (room : List ℕ) → shown_in [] room ≡ room
-shown_none room = ap (λ (xs : List ℕ). xs ++ room) (take_none (length room))
-
 -- the next number goes behind those before it, where there is room
 pub shown_more : (numbers room : List ℕ) (x : ℕ) → set (shown_in numbers room) (length numbers) x ≡ shown_in (numbers ++ x ∷ []) room
 shown_more [] [] x = refl

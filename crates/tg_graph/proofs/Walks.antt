@@ -1,5 +1,5 @@
 -- Walks along rows, cell by cell.
-use Rattle.std.proofs.Common.{◌≡◌, ◌≢◌, ℕ, ◌+◌, ◌-◌, ◌<◌, ◌≤◌, ◌⊎◌, inl, inr, ◌==◌, not, Bool, true, false, List, [], ◌∷◌, ◌++◌, Option, Some, None, length, get_or, take, drop, refl, sym, ap, subst, arith, ◌∙◌, ⊎_elim, option_map, map, append_assoc, append-nil}
+use Rattle.std.proofs.Common.{◌≡◌, ◌≢◌, ℕ, ◌+◌, ◌-◌, ◌<◌, ◌⊎◌, inl, inr, ◌==◌, not, Bool, true, false, List, [], ◌∷◌, ◌++◌, Option, Some, None, length, get_or, take, drop, refl, sym, ap, subst, arith, ◌∙◌, option_map, map, append_assoc, append-nil}
 use Rattle.std.specs.Prelude.{nat_lt, position, slice_index}
 use Rattle.std.specs.List.{filter, position_or_len}
 use Rattle.std.specs.Option.{option_or}
@@ -58,14 +58,6 @@ row_goes_on h at left row ne =
     let step = chain_step h left (link_at h at) ne row.ends in
     (step.some, record { held = step.chunk.held; tag = inr ((chunk_tagged (cell_at h (place_in (link_at h at)))).0 step.chunk.is); ends = step.ends })
 
--- the references begin within the first half of the cell
-pub first_low : (h : SpaceList) (at : Place) (left : ℕ) → IsInRow h at left → first_pointer (slice_index (cell_at h at) 0) ≤ 4
-first_low h at left row =
-    ⊎_elim
-    (λ e. let is : first_pointer (slice_index (cell_at h at) 0) ≡ 4 = ap first_pointer e in omega (arith, is))
-    (λ e. let is : first_pointer (slice_index (cell_at h at) 0) ≡ 1 = ap first_pointer e in omega (arith, is))
-    row.tag
-
 -- the words of a cell's slice are its references
 pub slice_is : (h : SpaceList) (p : Place) (words : List ℕ) (first : ℕ) → words ≡ cell_at h p → first ≡ first_pointer (slice_index words 0) → take (7 - first) (drop first words) ≡ references_of (cell_at h p)
 slice_is h p words first are is =
@@ -113,9 +105,6 @@ pub record IsSearched (h : SpaceList) (name : ℕ) (from at : Place) (left : ℕ
   pub reference : word_where (refers_to h name) h (row_of h from) ≡ word_where (refers_to h name) h (rest_of h at left)
   pub places : word_where is_empty h (row_of h from) ≡ option_or empty (word_where is_empty h (rest_of h at left))
   pub last : last_of from (chunks_from h (length (cells_of h)) (link_at h from)) ≡ last_of at (chunks_from h left (link_at h at))
-
-pub search_begins : (h : SpaceList) (name : ℕ) (from : Place) → IsRow h from → IsSearched h name from from (length (cells_of h)) None
-search_begins h name from row = record { row = row_begins h from row; reference = refl; places = refl; last = refl }
 
 module _ (h : SpaceList) (name : ℕ) (from at : Place) (left : ℕ) (empty after : Option (Place × ℕ)) (words : List ℕ) (first : ℕ) (are : words ≡ cell_at h at) (is : first ≡ first_pointer (slice_index words 0))
     (searched : IsSearched h name from at left empty) where
@@ -188,9 +177,6 @@ edges_of_cell h at ps =
 pub record IsCollected (h : SpaceList) (from at : Place) (left : ℕ) (edges : List (ℕ × RightSet)) : Type 0 where
   pub row : IsInRow h at left
   pub all : edges_in h (row_words h from) ≡ edges ++ edges_in h (words_of h (rest_of h at left))
-
-pub collect_begins : (h : SpaceList) (from : Place) → IsRow h from → IsCollected h from from (length (cells_of h)) []
-collect_begins h from row = record { row = row_begins h from row; all = refl }
 
 module _ (h : SpaceList) (from at : Place) (left : ℕ) (edges more : List (ℕ × RightSet)) (words : List ℕ) (first : ℕ) (are : words ≡ cell_at h at) (is : first ≡ first_pointer (slice_index words 0))
     (collected : IsCollected h from at left edges) (pushed : more ≡ edges ++ edges_in h (take (7 - first) (drop first words))) where

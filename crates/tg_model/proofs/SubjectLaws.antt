@@ -2,11 +2,10 @@
 use Rattle.std.proofs.Common.{◌≡◌, ◌≢◌, ◌↔◌, ◌⊎◌, ⊎_elim, inl, inr, ℕ, zero, suc, ◌+◌, ◌<◌, ◌≤◌, ◌==◌, nat_lt, Bool, true, false, cond, List, [], ◌∷◌, ◌++◌, length, get_or, map, refl, sym, ap, ◌∙◌, subst, arith}
 use Rattle.std.proofs.lemmas.Bool.{eqb-false, ne_eqb, cond_both, cond-true}
 use Rattle.std.specs.Prelude.{not}
-use Rattle.std.specs.List.{Contains, range_with_len}
+use Rattle.std.specs.List.{Contains}
 use Rattle.std.specs.List.Sorted.{IsStrictlyIncreasing}
 use Rattle.std.proofs.lemmas.List.Elements.{All-contains, All-contains_itself, All-filter, Contains-get_or}
 use Rattle.std.proofs.lemmas.Bool.{cases_eq}
-use Rattle.std.proofs.lemmas.List.FromFn.{map-range_with_len_more}
 use Rattle.std.proofs.lemmas.List.Kept.{IsStrictlyIncreasing-filter}
 use Rattle.tg_model.specs.declared.command.Command.{Command}
 use Rattle.tg_model.specs.declared.command.Command.TheVariants.{Take, Grant, Remove, Read, Write, Append, Inspect, List as Listing, Retire}
@@ -35,10 +34,6 @@ there_or_not (y ∷ xs) x =
 map_same : (l : List ℕ) → map (λ n. n) l ≡ l
 map_same [] = refl
 map_same (n ∷ l) = ap (λ (m : List ℕ). n ∷ m) (map_same l)
-
-pub range_push : (n : ℕ) → range_with_len 0 (n + 1) ≡ range_with_len 0 n ++ n ∷ []
-range_push n =
-    sym (map_same (range_with_len 0 (n + 1))) ∙ (map-range_with_len_more (λ (m : ℕ). m) 0 n n (let e : 0 + n ≡ n = omega arith in e) ∙ ap (λ (l : List ℕ). l ++ n ∷ []) (map_same (range_with_len 0 n)))
 
 -- ---- one less
 

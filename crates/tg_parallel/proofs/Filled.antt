@@ -132,23 +132,6 @@ module _ (aged : Bool) (v : Record) (numbers : List ℕ) (used : ℕ) (filled : 
 
 -- ---- what the blocks are then
 
--- nothing was won: the same blocks
-pub filled_same : (aged : Bool) (v w : Record) (numbers : List ℕ) (used : ℕ) → w.won ≡ v.won → blocks_of aged w ≡ blocks_of aged v → AreFilled aged v numbers used → AreFilled aged w numbers used
-filled_same aged v w numbers used won blocks filled = record {
-  same = filled.same ∙ sym blocks;
-  rising = filled.rising;
-  room = filled.room;
-  close = filled.close;
-  few = filled.few;
-  ends = ap (λ (l : List (ℕ × Place)). length (pairs_in (space_of_age aged) l)) won ∙ filled.ends;
-  order = λ k low. ap (λ (l : List (ℕ × Place)). (pair_at (pairs_in (space_of_age aged) l) k).1) won ∙ filled.order k low;
-  many = λ i n low few le. subst (λ (l : List (ℕ × Place)). n ≤ used_in (space_of_age aged) (get_or numbers i 0) l) (sym won) (filled.many i n low few le);
-}
-
-other_blocks : (aged : Bool) (v : Record) (b : ℕ) → blocks_of (not aged) (with_claimed_block aged v b) ≡ blocks_of (not aged) v
-other_blocks true v b = refl
-other_blocks false v b = refl
-
 same_won : (aged : Bool) (v : Record) (b : ℕ) → (with_claimed_block aged v b).won ≡ v.won
 same_won true v b = refl
 same_won false v b = refl
@@ -157,15 +140,8 @@ more_blocks : (aged : Bool) (v : Record) (b : ℕ) → blocks_of aged (with_clai
 more_blocks true v b = refl
 more_blocks false v b = refl
 
-pub only_block : (aged : Bool) (v : Record) (b : ℕ) → OnlyBlocks v (with_claimed_block aged v b)
-only_block true v b = record { chunks = refl; won = refl; seen = refl; share = refl }
-only_block false v b = record { chunks = refl; won = refl; seen = refl; share = refl }
-
 pub only_none : (v : Record) → OnlyBlocks v v
 only_none v = record { chunks = refl; won = refl; seen = refl; share = refl }
-
-pub other_grown : (aged : Bool) (v : Record) (b : ℕ) → OtherStays aged v (with_claimed_block aged v b)
-other_grown aged v b numbers used filled = filled_same (not aged) v (with_claimed_block aged v b) numbers used (same_won aged v b) (other_blocks aged v b) filled
 
 module _ (aged : Bool) (v : Record) (numbers : List ℕ) (used n : ℕ) (filled : AreFilled aged v numbers used) (fresh : All (λ b. b < n) (blocks_of aged v)) (full : used ≡ 64 * length numbers) where
   index : (i : ℕ) → i < length numbers → get_or (numbers ++ n ∷ []) i 0 ≡ get_or numbers i 0
@@ -284,14 +260,6 @@ module _ (aged : Bool) (v : Record) (numbers : List ℕ) (used cell : ℕ) (fill
         order = order_more;
         many = many_more;
       }
-
--- a cell that was seen changes no blocks
-pub filled_seen : (aged : Bool) (v : Record) (numbers : List ℕ) (used : ℕ) (q : ℕ × Place) → AreFilled aged v numbers used → AreFilled aged (with_seen v q) numbers used
-filled_seen true v numbers used q filled = filled_same true v (with_seen v q) numbers used refl refl filled
-filled_seen false v numbers used q filled = filled_same false v (with_seen v q) numbers used refl refl filled
-
-pub other_seen : (aged : Bool) (v : Record) (q : ℕ × Place) → OtherStays aged v (with_seen v q)
-other_seen aged v q numbers used filled = filled_seen (not aged) v numbers used q filled
 
 -- ---- what a claim finds
 

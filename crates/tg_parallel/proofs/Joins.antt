@@ -91,9 +91,6 @@ module _ (space : ℕ) (copy : ℕ → List ℕ) (mine others : List (ℕ × Pla
     rest = λ i low none. has.rest i low (λ q held. none q (Contains-append_right others mine q held));
   }
 
-number_of_block : ℕ × List (List ℕ) → ℕ
-number_of_block b = b.0
-
 module _ (space : ℕ) (of : Record → List ℕ) (owned : (v : Record) (p : Place) → owns v p ≡ true → p.space ≡ space → 0 < weigh (one_at p.block) (of v))
     (copy : ℕ → List ℕ) (v w : Record) (once : AreOnce (of v ++ of w)) (ov : All (λ q. owns v q.1 ≡ true) v.won) (ow : All (λ q. owns w q.1 ≡ true) w.won)
     (a b : Numbered) (na : numbers_of a ≡ of v) (nb : numbers_of b ≡ of w) where

@@ -2,12 +2,8 @@
 use Rattle.std.proofs.Common.{◌≡◌, ◌≢◌, ℕ, zero, suc, ◌+◌, ◌-◌, ◌*◌, ◌/◌, ◌<◌, ◌≤◌, ◌==◌, ◌||◌, ◌++◌, if◌then◌else◌, List, [], ◌∷◌, Bool, true, false, length, get_or, take, drop, map, refl, sym, ap, subst, ◌∙◌, eqb, eqb-true, eq-eqb, ⊎_elim, arith}
 use Rattle.std.specs.List.{All, AllPairs, Contains, list_any, flat_map}
 use Rattle.std.proofs.lemmas.Bool.{cond-true, false≢true, cases_lt}
-use Rattle.std.proofs.lemmas.Bool.Decides.{Decides-eqb, nat_tests}
-use Rattle.std.proofs.lemmas.List.{get_or_default, get_or-map, length-map, length-append, get_or_append_left, get_or-append_right}
-use Rattle.std.proofs.lemmas.List.Elements.{All-contains, Contains-append_left, Contains-append_right, Contains-append_cases}
-use Rattle.std.proofs.lemmas.Map.Keys.{IsDistinct-from_apart}
-use Rattle.std.proofs.lemmas.Map.Steps.{length-le_from_distinct_below}
-use Rattle.std.proofs.lemmas.Map.Views.{Contains-from_any}
+use Rattle.std.proofs.lemmas.List.{get_or-map, length-map, length-append, get_or_append_left, get_or-append_right}
+use Rattle.std.proofs.lemmas.List.Elements.{Contains-append_left, Contains-append_right, Contains-append_cases}
 use Rattle.tg_race.specs.Weights.{weigh, one_at}
 use Rattle.tg_race.proofs.Drawn.{number_found, weighs_at}
 use Rattle.tg_race.proofs.Sums.{weigh-append, weigh_two}
@@ -153,16 +149,3 @@ once_differ (x ∷ xs) apart n = go (x == n) refl (once_differ xs (λ i j d lt l
     go : (b : Bool) → (x == n) ≡ b → weigh (one_at n) xs ≤ 1 → (if b then 1 else 0) + weigh (one_at n) xs ≤ 1
     go true e less = let none = none_after (eqb-true x n e) (weigh (one_at n) xs) refl in omega arith
     go false e less = omega arith
-
--- as many numbers as stand once below a bound
-pub few_long : (xs : List ℕ) (n : ℕ) → AreOnce xs → All (λ b. b < n) xs → length xs ≤ n
-few_long xs n once all = length-le_from_distinct_below xs n
-    (IsDistinct-from_apart eqb xs (λ i j d low high.
-    let ne : get_or xs i d ≢ get_or xs j d = λ e. (
-    let same : get_or xs i 0 ≡ get_or xs j 0 = get_or_default xs i 0 d (omega arith) ∙ e ∙ get_or_default xs j d 0 high in
-    let at = once_index xs once i j (omega arith) high same in
-    omega arith) in
-    grind (arith, nat_tests)))
-    (λ q any.
-    let held : Contains xs q = Contains-from_any {eq = eqb} (λ x y t. (Decides-eqb x y).0 t) q xs any in
-    All-contains (λ (b : ℕ). b < n) xs q all held)

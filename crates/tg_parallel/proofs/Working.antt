@@ -113,9 +113,6 @@ past_last before chunk s drawn late =
 
 -- ---- a further claim is allowed
 
-pub allowed_first : (s : Sitting) → s.done ≡ empty 1 → can_claim_roots s.board.counts s.done ≡ true
-allowed_first s none = rw none refl
-
 pub allowed_next : (before : List ℕ) (chunk : ℕ) (s : Sitting) → HasDrawn before chunk s → chunk < chunks_of s.board.counts → All (λ c. is_chunk s.board.counts c ≡ true) s.done.chunks
 allowed_next before chunk s drawn low =
     let here : is_chunk s.board.counts chunk ≡ true = grind (arith, nat_tests) in

@@ -20,12 +20,10 @@ use Rattle.tg_text.specs.declared.answer.Refusal.{Refusal}
 use Rattle.tg_text.specs.declared.answer.Refusal.TheVariants as refusal
 use Rattle.tg_shared.specs.declared.receipt.Receipt.{Receipt}
 use Rattle.tg_shared.specs.Receipts.{receipt_of}
-use Rattle.tg_rules.specs.Effect.{AddsEdge}
-use Rattle.tg_store.specs.declared.fault.ApplyFault.{ApplyFault}
 use Rattle.tg_store.specs.declared.fault.ApplyFault.TheVariants as apply
 use Rattle.tg_store.specs.declared.fault.CreateFault.{CreateFault}
 use Rattle.tg_store.specs.declared.fault.CreateFault.TheVariants as create
-use Rattle.tg_refusals.specs.Refusals.{apply_refusal, create_answer}
+use Rattle.tg_refusals.specs.Refusals.{create_answer}
 use Rattle.tg_shared.specs.Sessions.{IsAnswered, SessionState, SharedStart, KeepsReceipts}
 use Rattle.tg_threads.specs.declared.threads.ThreadsFault.{ThreadsFault}
 use Rattle.tg_threads.specs.declared.threads.ThreadsFault.TheVariants as threads
@@ -37,12 +35,6 @@ use Rattle.tg_threads.specs.Output.{EntersOrRefuses, IsMade, IsOfStore, IsServed
 use Rattle.tg_threads.specs.Tasks.{IsRunBy, HasAsked, HasMade, HasCollected, HasRun, RunsOne, Runs, is_deed, served_past}
 
 -- ---- why a session refuses
-
--- a command of a worker that is a subject
-pub refused_there : (command : Command) (why : ApplyFault) → why ≢ apply.NoSuchWorker → (why ≡ apply.HeapFull → AddsEdge command) → IsOfStore (deed.Plain command) (apply_refusal why)
-refused_there command apply.NoSuchWorker there full = absurd (there refl)
-refused_there command apply.OutOfMemory there full = tt
-refused_there command apply.HeapFull there full = full refl
 
 -- only the answers that there may be no more vertices, or no more subjects, are replies, and none is of a collection
 pub replied : (why : CreateFault) (r : Reply) → create_answer why ≡ answer.Reply r → ((why ≡ create.VerticesFull) × (reply.VerticesFull ≡ r)) ⊎ ((why ≡ create.WorkersFull) × (reply.WorkersFull ≡ r))
