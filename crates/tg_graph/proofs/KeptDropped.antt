@@ -1,7 +1,7 @@
 -- The payloads that a collection drops.
-use Rattle.std.proofs.Common.{◌≡◌, ◌≢◌, ◌↔◌, ℕ, ◌<◌, ◌≤◌, ◌+◌, ◌*◌, ◌⊎◌, ◌++◌, true, List, [], ◌∷◌, length, get_or, Option, None, IsSome, refl, sym, ap, subst, arith, ◌∙◌, inl, inr, ⊎_elim}
+use Rattle.std.proofs.Common.{◌≡◌, ◌≢◌, ◌↔◌, ℕ, ◌<◌, ◌≤◌, ◌+◌, ◌*◌, ◌⊎◌, ◌++◌, true, List, [], ◌∷◌, length, get_or, slice_index, Option, None, IsSome, refl, sym, ap, subst, arith, ◌∙◌, inl, inr, ⊎_elim}
 use Rattle.std.specs.List.{AllPairs, Contains}
-use Rattle.std.proofs.lemmas.Bool.{cases_eq}
+use Rattle.std.proofs.lemmas.Bool.{cases_eq, cases_lt}
 use Rattle.std.proofs.lemmas.List.Elements.{Contains-append_left, Contains-get_or, Contains-push, Contains-push_cases}
 use Rattle.std.proofs.lemmas.List.Quantifiers.{all_pairs_push}
 use Rattle.tg_model.specs.declared.value.Value.{Value}
@@ -88,6 +88,17 @@ module _ (h : SpaceList) (whole : IsSpaceList h) (forward : List ℕ) where
       by_number : (is.number ≡ n) ⊎ (is.number ≢ n) → IsDeadBelow h forward first n key
       by_number (inl last) = absurd (alive (subst (λ (m : ℕ). IsDeadAt h forward m key) last is.dead))
       by_number (inr other) = record { number = is.number; from_first = is.from_first; below = let low = is.below in omega arith; dead = is.dead }
+
+  -- between two numbers no cell is dead where each has a word
+  pub below_skip : (first n m key : ℕ) → n ≤ m → ((cell : ℕ) → n ≤ cell → cell < m → slice_index forward cell ≢ 0) → IsDeadBelow h forward first n key ↔ IsDeadBelow h forward first m key
+  below_skip first n m key up moved = (
+    λ is. record { number = is.number; from_first = is.from_first; below = let low = is.below in omega arith; dead = is.dead },
+    λ is. by_number is (cases_lt is.number n),
+  )
+    where
+      by_number : (is : IsDeadBelow h forward first m key) → (is.number < n) ⊎ (n ≤ is.number) → IsDeadBelow h forward first n key
+      by_number is (inl low) = record { number = is.number; from_first = is.from_first; below = low; dead = is.dead }
+      by_number is (inr high) = absurd (moved is.number high is.below is.dead.uncopied)
 
   -- each key is that of one number
   pub dead_once : HaveKeysApart h → (a b key : ℕ) → IsDeadAt h forward a key → IsDeadAt h forward b key → a ≡ b

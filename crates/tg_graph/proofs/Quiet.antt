@@ -4,7 +4,7 @@ use Rattle.std.specs.Prelude.{IfSome}
 use Rattle.std.specs.List.{All, Contains}
 use Rattle.std.proofs.lemmas.Bool.{cases_Bool}
 use Rattle.std.proofs.lemmas.List.{get_or-map, get_or-take, get_or_default, length-append, length-map, length-take-le}
-use Rattle.std.proofs.lemmas.List.Elements.{All-nil, Contains-get_or}
+use Rattle.std.proofs.lemmas.List.Elements.{All-nil, All-weaker, Contains-get_or}
 use Rattle.std.proofs.Math.Seq.{take-append-le}
 use Rattle.std.proofs.lemmas.Option.{none-some, slice_get-get_or}
 use Rattle.tg_word.specs.declared.Place.{Place}
@@ -96,6 +96,10 @@ quiet_noted places note row later same fewer apart is =
               (Contains-get_or (take later.quiet_cells row.cells.items) k d (omega (arith, length-take-le later.quiet_cells row.cells.items (omega arith))))))
               ((Contains-noted places cell (get_or row.cells.items k d)).0 has),
         )
+
+-- where none is remembered, the cells that lie in Old are quiet
+pub quiet_unnoted : (notes : List Place) → length notes ≡ 0 → (ps : List Place) → All IsOldPlace ps → All (IsQuietCell notes) ps
+quiet_unnoted notes none ps old = All-weaker IsOldPlace (IsQuietCell notes) (λ p here. (here, λ has. let low = has.1 in omega (arith, none))) ps old
 
 -- the quiet cells stay where they are, and none of them comes to be remembered
 pub quiet_moved : (kind : Kind) (starts : List ℕ) (to : ℕ → Place) (notes : List Place) (row : IndexedRow) (known : ℕ) → (kind ≡ FullKind → known ≡ 0) → (kind ≡ Nursery → known ≡ row.quiet_cells) → IsQuiet (known_notes kind notes) row → (cells : List Place) →

@@ -204,7 +204,7 @@ fn follow_row(
     };
     let known = known_quiet(kind, row);
     row.old_cells = follow_cells(numbering, kind, forward, &mut row.cells, first);
-    row.quiet_cells = count_quiet(noted, &row.cells, known);
+    row.quiet_cells = count_quiet(noted, &row.cells, row.old_cells, known);
     if row.old_cells.min(row.quiet_cells) < row.cells.len() {
         return Fate::Young;
     }
@@ -257,13 +257,19 @@ fn known_quiet(kind: Kind, row: &IndexedRow) -> usize
     }
 }
 
-// How many of the first cells lie in Old and aren't among the noted ones. So many are known to be.
-fn count_quiet(noted: &Remembered, cells: &[Place], known: usize) -> usize
+// How many of the first cells lie in Old and aren't among the noted ones. The first `old` are known to lie there, and the first
+// `known` not to be noted either.
+fn count_quiet(noted: &Remembered, cells: &[Place], old: usize, known: usize) -> usize
+    requires old_within { old ≤ length cells.now }
+    requires old { All IsOldPlace (take old cells.now) }
     requires within { known ≤ length cells.now }
     requires quiet { All (IsQuietCell noted.now.places) (take known cells.now) }
     ensures within { result ≤ length cells.now }
     ensures quiet { All (IsQuietCell noted.now.places) (take result cells.now) }
 {
+    if noted.len() == 0 {
+        return old;
+    }
     for count in known..cells.len() {
         if Kind::Nursery.moves(cells[count].space) || noted.contains(cells[count]) {
             return count;

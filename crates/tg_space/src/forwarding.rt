@@ -1,5 +1,5 @@
 //! Where the cells of a heap go.
-ghost use Rattle.std.specs.Prelude.{◌≡◌, ◌<◌, ◌≤◌, ◌++◌, length, replicate, slice_index, slice_set, IfOk};
+ghost use Rattle.std.specs.Prelude.{◌≡◌, ◌≢◌, ◌<◌, ◌≤◌, ◌++◌, ℕ, length, replicate, slice_index, slice_set, IfOk};
 ghost use Rattle.tg_space.specs.Forwarding.{words_in};
 
 use std::alloc::{AllocError, Global};
@@ -117,6 +117,23 @@ impl Forwarding {
             return 0;
         }
         self.words.word((cell - self.skipped) as usize)
+    }
+
+    /// The first cell from `from` on whose word is 0, or `end` where each of those before `end` has another.
+    pub fn next_unmoved(&self, from: u64, end: u64) -> u64
+        requires order { from ≤ end }
+        requires inside { end ≤ length self.now.words }
+        ensures behind { from ≤ result }
+        ensures before { result ≤ end }
+        ensures moved { (cell : ℕ) → from ≤ cell → cell < result → slice_index self.now.words cell ≢ 0 }
+        ensures unmoved { result < end → slice_index self.now.words result ≡ 0 }
+    {
+        for cell in from..end {
+            if self.word(cell) == 0 {
+                return cell;
+            }
+        }
+        end
     }
 }
 

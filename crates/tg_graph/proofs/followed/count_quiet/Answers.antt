@@ -1,7 +1,8 @@
-use Rattle.std.proofs.Common.{◌∙◌, false, arith, sym, subst}
+use Rattle.std.proofs.Common.{◌∙◌, false, arith, sym, subst, take}
 use Rattle.std.specs.Bool.{IsTrue}
 use Rattle.tg_graph.specs.Index.{IsQuietCell}
 use Rattle.tg_graph.proofs.Ages.{one_more}
+use Rattle.tg_graph.proofs.Quiet.{quiet_unnoted}
 use Rattle.tg_graph.proofs.followed.count_quiet.Goals as goal
 
 pub loop-count-preserved : goal.loop-count-preserved
@@ -11,3 +12,7 @@ loop-count-preserved c =
           (sym c.moves.ensures ∙ c.if-moves.false, λ has. let no : IsTrue false = subst IsTrue c.if-contains.false (c.contains.ensures.1 has) in absurd cc),
       omega arith,
     )
+
+pub returns-then-len-eq0-clause-quiet : goal.returns-then-len-eq0-clause-quiet
+returns-then-len-eq0-clause-quiet c =
+    quiet_unnoted c.args.noted.now.places (sym c.len.ensures.len ∙ c.if-len-eq0.true) (take c.args.old c.args.cells.now) c.requires.old

@@ -5,7 +5,7 @@ use Rattle.tg_space.specs.SpaceList.{cells_of}
 use Rattle.tg_space.specs.declared.kind.Kind.TheVariants.{Full}
 use Rattle.tg_space.proofs.Tables.{table_list}
 use Rattle.tg_graph.specs.Kept.{Drops, IsDeadKey}
-use Rattle.tg_graph.proofs.KeptDropped.{IsDeadBelow, all_begin, below_back, below_here, below_next, below_not, dead_keys_are, dead_other, dead_some, drops_more, drops_none, drops_same, drops_there, none_below}
+use Rattle.tg_graph.proofs.KeptDropped.{IsDeadBelow, all_begin, below_back, below_here, below_next, below_not, below_skip, dead_keys_are, dead_other, dead_some, drops_more, drops_same, drops_there}
 use Rattle.tg_graph.proofs.settle.drop_uncopied.Goals.{in-Some, in_default}
 use Rattle.tg_graph.proofs.settle.drop_uncopied.Goals as goal
 
@@ -13,44 +13,46 @@ pub take_out-requires : goal.take_out-requires
 take_out-requires g c =
     let h = c.args.spaces.now.spaces in
     let forward = c.args.forward.now.words in
-    let whole = table_list c.args.spaces.now c.cells-number-end.ensures.table in
+    let whole = table_list c.args.spaces.now c.cells-cells.ensures.table in
     let n = c.loop-number.number in
     let key = c.in-Some.key in
     let dead = c.in-Some.ensures.some in
-    drops_there c.args.payloads.now c.loop-number.payloads (IsDeadBelow h forward 0 n) key c.loop-number.invariant
+    drops_there c.args.payloads.now c.loop-number.payloads (IsDeadBelow h forward 0 n) key c.loop-number.invariant.dropped
     (below_not h whole forward c.requires.graph.keys 0 n key dead)
     (dead_some h whole forward c.args.payloads.now c.requires.graph n key dead)
-
-pub loop-number-init : goal.loop-number-init
-loop-number-init g c =
-    let h = c.args.spaces.now.spaces in
-    let whole = table_list c.args.spaces.now c.cells-number-end.ensures.table in
-    drops_none c.args.payloads.now (IsDeadBelow h c.args.forward.now.words 0 0) (none_below h whole c.args.forward.now.words 0)
 
 pub loop-number-preserved : goal.loop-number-preserved
 loop-number-preserved g c =
     let h = c.args.spaces.now.spaces in
     let forward = c.args.forward.now.words in
-    let whole = table_list c.args.spaces.now c.cells-number-end.ensures.table in
+    let whole = table_list c.args.spaces.now c.cells-cells.ensures.table in
     let n = c.loop-number.number in
-    elim c.match-dead_key.branch [
+    let next = c.next_unmoved-number-in-loop-number in
+    let dropped : Drops c.args.payloads.now c.match-dead_key.payloads (IsDeadBelow h forward 0 (n + 1)) = elim c.match-dead_key.branch [
       | in-Some w ↦
           subst (λ (now : Payloads). Drops c.args.payloads.now now (IsDeadBelow h forward 0 (n + 1))) (sym w.payloads-is)
-          (drops_more c.args.payloads.now c.loop-number.payloads w.take_out.new.self (IsDeadBelow h forward 0 n) (IsDeadBelow h forward 0 (n + 1)) w.in-Some.key c.loop-number.invariant w.take_out.ensures.gone
+          (drops_more c.args.payloads.now c.loop-number.payloads w.take_out.new.self (IsDeadBelow h forward 0 n) (IsDeadBelow h forward 0 (n + 1)) w.in-Some.key c.loop-number.invariant.dropped w.take_out.ensures.gone
           (below_here h whole forward 0 n w.in-Some.key (omega arith) w.in-Some.ensures.some)
           (below_next h whole forward 0 n)
           (λ k below other. below_back h whole forward 0 n k below (λ dead. dead_other h whole forward n k w.in-Some.key dead w.in-Some.ensures.some other)))
       | in_default w ↦
           subst (λ (now : Payloads). Drops c.args.payloads.now now (IsDeadBelow h forward 0 (n + 1))) (sym w.payloads-is)
-          (drops_same c.args.payloads.now c.loop-number.payloads (IsDeadBelow h forward 0 n) (IsDeadBelow h forward 0 (n + 1)) c.loop-number.invariant
+          (drops_same c.args.payloads.now c.loop-number.payloads (IsDeadBelow h forward 0 n) (IsDeadBelow h forward 0 (n + 1)) c.loop-number.invariant.dropped
           (λ key. (below_next h whole forward 0 n key, λ below. below_back h whole forward 0 n key below (w.in_default.ensures.none refl key))))
-    ]
+    ] in
+    record {
+      within = next.ensures.before;
+      dropped =
+          drops_same c.args.payloads.now c.match-dead_key.payloads (IsDeadBelow h forward 0 (n + 1)) (IsDeadBelow h forward 0 next.result) dropped
+          (λ key. below_skip h whole forward 0 (n + 1) next.result key next.ensures.behind next.ensures.moved);
+    }
 
 pub returns-clause-dropped : goal.returns-clause-dropped
 returns-clause-dropped g c =
     let h = c.args.spaces.now.spaces in
     let forward = c.args.forward.now.words in
-    let whole = table_list c.args.spaces.now c.cells-number-end.ensures.table in
-    let end : length (cells_of h) ≤ c.loop-number.number = omega (arith, c.cells-number-end.ensures.cells) in
-    drops_same c.args.payloads.now c.loop-number.payloads (IsDeadBelow h forward 0 c.loop-number.number) (IsDeadKey Full h forward) c.loop-number.invariant
+    let whole = table_list c.args.spaces.now c.cells-cells.ensures.table in
+    let behind = c.loop-number-test.false in
+    let end : length (cells_of h) ≤ c.loop-number.number = omega (arith, c.cells-cells.ensures.cells) in
+    drops_same c.args.payloads.now c.loop-number.payloads (IsDeadBelow h forward 0 c.loop-number.number) (IsDeadKey Full h forward) c.loop-number.invariant.dropped
     (dead_keys_are h whole forward Full 0 c.loop-number.number (all_begin h whole forward) end)

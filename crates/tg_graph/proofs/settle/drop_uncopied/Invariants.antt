@@ -1,6 +1,13 @@
+use Rattle.std.proofs.Common.{◌≤◌, ◌-◌}
 use Rattle.tg_graph.specs.Kept.{Drops}
 use Rattle.tg_graph.proofs.KeptDropped.{IsDeadBelow}
 use Rattle.tg_graph.proofs.settle.drop_uncopied.Given as goal
 
+abbrev pub decreases-loop-number : goal.decreases-loop-number
+decreases-loop-number g l = l.cells - l.number
+
 abbrev pub invariant-loop-number : goal.invariant-loop-number
-invariant-loop-number g l = Drops l.fn.payloads l.payloads (IsDeadBelow l.spaces.spaces l.forward.words 0 l.number)
+invariant-loop-number g l = record {
+  within : l.number ≤ l.cells;
+  dropped : Drops l.fn.payloads l.payloads (IsDeadBelow l.spaces.spaces l.forward.words 0 l.number);
+}
