@@ -28,9 +28,6 @@ use Rattle.tg_graph.proofs.KeptAdopted.{young_moves}
 none_some : (o : Option Value) → o ≡ None → IsSome o → ⊥
 none_some o none some = let no : IsSome {T = Value} None = subst (λ (v : Option Value). IsSome v) none some in cc
 
-pub drops_none : (payloads : Payloads) (dead : ℕ → Type 0) → ((key : ℕ) → dead key → ⊥) → Drops payloads payloads dead
-drops_none payloads dead none key = inr (none key, refl)
-
 pub drops_same : (payloads now : Payloads) (few many : ℕ → Type 0) → Drops payloads now few → ((key : ℕ) → few key ↔ many key) → Drops payloads now many
 drops_same payloads now few many drops same key =
     ⊎_elim

@@ -1,16 +1,17 @@
 //! The boxes of a run.
 //!
-//! Boxes are made here, and the run over them is generic in its payloads, because no contract can speak of boxes that a
-//! function gives to its caller.
-ghost use Rattle.std.specs.Prelude.{◌≡◌, ℕ, List, Some, IfErr};
+//! Boxes are made here, by a closure that says what is in each, and the run over them is generic in its payloads, because no
+//! contract can speak of boxes that a function gives to its caller.
+ghost use Rattle.std.specs.Prelude.{◌≡◌, ℕ, List, Some, IfErr, IfOk};
+ghost use Rattle.tg_program.specs.Boxes.{value_of};
 ghost use Rattle.tg_program.specs.Faults.{status_of_stop};
 ghost use Rattle.tg_program.specs.Serving.{Served};
 ghost use Rattle.tg_program.specs.Starts.{IsReady};
 
-use crate::serving::{RunPayloads, serve};
+use crate::making::serve_made;
 use crate::start::Start;
 use crate::stop::Stop;
-use std::alloc::Global;
+use std::alloc::{AllocError, Global};
 use std::sync::Wait;
 use std::thread::Threads;
 use tg_payload::{CellPayload, LogPayload, MaxPayload, PayloadBox, SumPayload};
@@ -32,20 +33,15 @@ pub(crate) fn serve_with_boxes<R: Threads + Wait + Sync, C: Collector, S: Source
     ensures output { (bytes before : List ℕ) → S.left source.old ≡ Some bytes → K.taken sink.old ≡ Some before →
         (left : List ℕ) × (S.left source.new ≡ Some left) × Served start.now bytes before result left (K.taken sink.new) }
 {
-    let mut workers: Vec<PayloadBox> = Vec::new(alloc);
-    for _ in 0..start.settings.workers {
-        workers.push(Box::new(alloc, CellPayload::new(0))?)?;
-    }
-    let mut stock: Vec<PayloadBox> = Vec::new(alloc);
-    for item in &start.stock {
-        let payload: PayloadBox = match item {
+    let make = |item: StockItem| -> Result<PayloadBox, AllocError>
+        ensures { IfOk result (λ payload. value payload ≡ value_of item) }
+    {
+        Ok(match item {
             StockItem::Cell => Box::new(alloc, CellPayload::new(0))?,
             StockItem::Sum => Box::new(alloc, SumPayload::new(0))?,
             StockItem::Max => Box::new(alloc, MaxPayload::new(0))?,
             StockItem::Log => Box::new(alloc, LogPayload::new(alloc, 4))?,
-        };
-        stock.push(payload)?;
-    }
-    let payloads = RunPayloads { workers, stock };
-    serve(rt, alloc, collector, source, sink, start, payloads)
+        })
+    };
+    serve_made(rt, alloc, collector, source, sink, start, make)
 }

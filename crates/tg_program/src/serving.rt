@@ -9,7 +9,7 @@ use crate::stop::Stop;
 use std::alloc::Global;
 use std::sync::Wait;
 use std::thread::Threads;
-use tg_payload::Payload;
+use tg_payload::{Draft, Payload};
 use tg_script::{Collector, Sink, Source, drafts_of, run_script_with};
 use tg_threads::{NoTurnstile, run_race};
 
@@ -19,11 +19,12 @@ pub struct RunPayloads<P: Payload> {
     /// What each worker stores, by rising name.
     pub workers: Vec<P>,
     /// What the vertices that are made store, in order.
-    pub stock: Vec<P>,
+    pub stock: Vec<Draft<P>>,
 }
 
 /// Runs the source's script from the start with these payloads, and puts the replies into the sink, as `run_script_with` does
-/// with the start's settings, or, where the start says so, as `run_race` does. Memory may be wanting for drafts of the payloads; then nothing is read or written.
+/// with the start's settings, or, where the start says so, as `run_race` does. Memory may be wanting for drafts of what the
+/// workers store; then nothing is read or written.
 pub fn serve<P: Payload + Send, R: Threads + Wait + Sync, C: Collector, S: Source, K: Sink>(
     rt: &R,
     alloc: Global,
@@ -35,7 +36,7 @@ pub fn serve<P: Payload + Send, R: Threads + Wait + Sync, C: Collector, S: Sourc
 ) -> Result<(), Stop>
     requires collector { C.Ready }
     requires ready { IsReady start.now }
-    requires payloads { HasPayloads start.now (map P.value payloads.workers.items) (map P.value payloads.stock.items) }
+    requires payloads { HasPayloads start.now (map P.value payloads.workers.items) payloads.stock.items }
     ensures status { IfErr result (λ stop. status_of_stop stop ≡ 1) }
     ensures output { (bytes before : List ℕ) → S.left source.old ≡ Some bytes → K.taken sink.old ≡ Some before →
         (left : List ℕ) × (S.left source.new ≡ Some left) × Served start.now bytes before result left (K.taken sink.new) }
@@ -44,8 +45,8 @@ pub fn serve<P: Payload + Send, R: Threads + Wait + Sync, C: Collector, S: Sourc
     ensures unfailed { OnOk result (K.failures sink.new ≡ K.failures sink.old) }
     ensures finished { WasBegun result → K.finished sink.new ≡ true }
 {
-    let workers = drafts_of(alloc, payloads.workers)?;
-    let stock = drafts_of(alloc, payloads.stock)?;
+    let RunPayloads { workers, stock } = payloads;
+    let workers = drafts_of(alloc, workers)?;
     if start.race {
         return run_race(
             rt,

@@ -15,18 +15,6 @@ returns-in_err-workers g c =
       finished = λ begun. absurd (not_begun c.from_residual.result is begun);
     }
 
-pub returns-in_err-stock : goal.returns-in_err-stock
-returns-in_err-stock g c =
-    let is = wanting c.from_residual-in_err-stock.result c.from_residual-in_err-stock.ensures.1 in
-    record {
-      status = wanting_status c.from_residual-in_err-stock.result is;
-      output = λ bytes before left taken. (bytes, left, served_none c.args.start.now bytes before c.from_residual-in_err-stock.result bytes _ is refl taken);
-      read_failed = wanting_read c.from_residual-in_err-stock.result _ is;
-      write_failed = wanting_write c.from_residual-in_err-stock.result _ is;
-      unfailed = wanting_unfailed c.from_residual-in_err-stock.result _ is;
-      finished = λ begun. absurd (not_begun c.from_residual-in_err-stock.result is begun);
-    }
-
 pub returns-then-start : goal.returns-then-start
 returns-then-start g c =
     let is = is_told stop.Race c.run_race.result c.map_err.result c.map_err.ensures.cases in
@@ -37,8 +25,8 @@ returns-then-start g c =
             had.0,
             had.1,
             served_race c.args.start.now bytes before c.run_race.result c.map_err.result had.0 (g.K.Sink.taken c.run_race.new.sink) is c.if-start.true
-                (raced_from c.args.start.now c.in_ok-workers.workers.items c.in_ok-stock.stock.items bytes before c.run_race.result had.0 (g.K.Sink.taken c.run_race.new.sink)
-                (c.in_ok-workers.ensures ∙ c.requires.payloads.0) (c.in_ok-stock.ensures ∙ c.requires.payloads.1) had.2),
+                (raced_from c.args.start.now c.in_ok-workers.workers.items c.args.payloads.stock.items bytes before c.run_race.result had.0 (g.K.Sink.taken c.run_race.new.sink)
+                (c.in_ok-workers.ensures ∙ c.requires.payloads.0) c.requires.payloads.1 had.2),
           );
       read_failed = c.run_race.ensures.read_failed ∙ ap (λ n. g.S.Source.failures c.args.source.now + n) (read_race c.run_race.result c.map_err.result is);
       write_failed = write_race c.run_race.result c.map_err.result _ _ is c.run_race.ensures.write_failed;
@@ -56,8 +44,8 @@ returns g c =
             had.0,
             had.1,
             served_run c.args.start.now bytes before c.run_script_with.result c.map_err-2.result had.0 (g.K.Sink.taken c.run_script_with.new.sink) is c.if-start.false
-                (ran_from c.args.start.now c.in_ok-workers.workers.items c.in_ok-stock.stock.items bytes before c.run_script_with.result had.0 (g.K.Sink.taken c.run_script_with.new.sink)
-                (c.in_ok-workers.ensures ∙ c.requires.payloads.0) (c.in_ok-stock.ensures ∙ c.requires.payloads.1) had.2),
+                (ran_from c.args.start.now c.in_ok-workers.workers.items c.args.payloads.stock.items bytes before c.run_script_with.result had.0 (g.K.Sink.taken c.run_script_with.new.sink)
+                (c.in_ok-workers.ensures ∙ c.requires.payloads.0) c.requires.payloads.1 had.2),
           );
       read_failed = c.run_script_with.ensures.read_failed ∙ ap (λ n. g.S.Source.failures c.args.source.now + n) (read_run c.run_script_with.result c.map_err-2.result is);
       write_failed = write_run c.run_script_with.result c.map_err-2.result _ _ is c.run_script_with.ensures.write_failed;
