@@ -1,19 +1,13 @@
-use Rattle.std.proofs.Common.{ℕ, List, get_or, subst, sym, ap, ◌∙◌}
-use Rattle.tg_space.proofs.Tables.{table_list}
-use Rattle.tg_graph.specs.Kept.{IsDeadAt}
-use Rattle.tg_graph.proofs.KeptDropped.{dead_numbered, dead_tagged}
+use Rattle.std.proofs.Common.{Option, Some, None, IfSome, sym, ◌∙◌}
 use Rattle.tg_graph.proofs.settle.dead_key.Goals as goal
 
-pub returns-then-words-ne-OBJECT_TAG-clause-none : goal.returns-then-words-ne-OBJECT_TAG-clause-none
-returns-then-words-ne-OBJECT_TAG-clause-none c _ key is =
-    let whole = table_list c.args.spaces.now c.requires.table in
-    let tag = dead_tagged c.args.spaces.now.spaces whole c.args.forward.now.words c.args.number key is in
-    c.if-words-ne-OBJECT_TAG.true (ap (λ (words : List ℕ). get_or words 0 0) c.numbered_words-words.ensures.words ∙ tag)
+weaker : {A : Type 0} (P Q : A → Type 0) (o : Option A) → IfSome o P → ((x : A) → P x → Q x) → IfSome o Q
+weaker P Q (Some x) is more = more x is
+weaker P Q None is more = tt
 
 pub returns-clause-some : goal.returns-clause-some
 returns-clause-some c =
-    let h = c.args.spaces.now.spaces in
-    let whole = table_list c.args.spaces.now c.requires.table in
-    let tag = ap (λ (words : List ℕ). get_or words 0 0) (sym c.numbered_words-words.ensures.words) ∙ c.if-words-ne-OBJECT_TAG.false in
-    subst (λ (words : List ℕ). IsDeadAt h c.args.forward.now.words c.args.number (get_or words 2 0)) (sym c.numbered_words-words.ensures.words)
-    (dead_numbered h whole c.args.forward.now.words c.args.number c.requires.inside (sym c.word.ensures ∙ c.if-word-ne0.false) tag)
+    weaker _ _ c.object_key.result c.object_key.ensures.some (λ key is. is c.args.forward.now.words (sym c.word.ensures ∙ c.if-word-ne0.false))
+
+pub returns-clause-none : goal.returns-clause-none
+returns-clause-none c none key = c.object_key.ensures.none none c.args.forward.now.words key
