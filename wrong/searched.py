@@ -60,7 +60,7 @@ class Ground:
     def named(self, crates, texts, files):
         """What is declared under the words in these texts, and the specs that these files cite, with what is named and cited there."""
         parts, words, todo = set(), set(), []
-        todo += [it for text in texts for it in WORD.findall(text)]
+        todo += [it for text in texts for it in WORD.findall(text) + cited(text)]
         todo += [it for crate, file in files for it in cited(read(f"{self.source(crate)}/{file}"))]
         while todo:
             word = todo.pop()
