@@ -8,7 +8,7 @@ import tempfile
 
 from bodies import BadBody, planted
 from lemmas import take_by_statement
-from taken import add_copy, copied, take_by_contract
+from taken import add_copy, answers_in, copied, take_by_contract
 
 # What an answer is told of where a name in it is gone: that says nothing of the clause.
 GONE = re.compile(r"has no field|is not a field|can be named from here|not in scope|is not defined|unknown name|has no `|arguments? but|no such")
@@ -132,13 +132,12 @@ def remove(path, goals):
         os.remove(path)
         return
     with open(path, encoding="utf-8") as it:
-        parts = re.split(r"^(?=pub )", it.read(), flags=re.M)
-    answers = {part.split()[1]: part for part in parts[1:]}
-    missing = [it for it in goals if it not in answers]
+        answers = answers_in(it.read())
+    missing = [it for it in goals if it not in dict(answers)]
     if missing:
         raise BadBody(f"{path}: no answer to {', '.join(missing)}")
     with open(path, "w", encoding="utf-8") as out:
-        out.write(parts[0] + "".join(text for goal, text in answers.items() if goal not in goals))
+        out.write("".join(text for goal, text in answers if goal not in goals))
 
 
 def seconds():
@@ -188,7 +187,7 @@ class Said:
     def is_proved(self, function):
         """Whether the function's own goals all hold. That one which it calls doesn't is no matter of its own."""
         lines = [line for _, line in self.lines_of(function)]
-        others = r"no proof: it calls `[^;]*$|depends on a hole in `"
+        others = r"no proof: it calls `[^;]*$|depends on a hole in (?:`|the same \d+ declarations as `)"
         return bool(lines) and all(it in ("no holes", "proved") or re.match(others, it) for it in lines)
 
 

@@ -145,6 +145,12 @@ def with_clauses(lines, wanted, answered):
     return kept + lines[end:], Clauses(left_out, there[0] if left_out and len(there) == 1 else "")
 
 
+def answers_in(text):
+    """The parts of a file of answers, each with the goal that it shows; what stands in front, and what is only named by answers, shows none."""
+    parts = re.split(r"^(?=pub |[^\s]+ : )", text, flags=re.M)
+    return [(it.split()[1] if it.startswith("pub ") else "", it) for it in parts]
+
+
 def add_proof(folder, crate, path, name, clauses):
     """Copies the folder of a function's proof for the copy of the function, whose goals it then names, without the answers to clauses that are left out."""
     at, to = (f"{folder}/proofs/{it.replace('::', '/')}" for it in (path, path_of(path, name)))
@@ -156,7 +162,6 @@ def add_proof(folder, crate, path, name, clauses):
         with open(f"{to}/{file}", encoding="utf-8") as it:
             text = own.sub(f"Rattle.{crate}.proofs.{path_of(path, name).replace('::', '.')}", it.read())
         if file == "Answers.antt":
-            parts = re.split(r"^(?=pub )", text, flags=re.M)
-            text = parts[0] + "".join(part for part in parts[1:] if not clauses.leaves_out(part.split()[1]))
+            text = "".join(part for goal, part in answers_in(text) if not clauses.leaves_out(goal))
         with open(f"{to}/{file}", "w", encoding="utf-8") as out:
             out.write(text)
