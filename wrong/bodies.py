@@ -1,9 +1,9 @@
 """Wrong bodies as they stand in their files, and how one is put in place of the right body. `wrong/run` has the manual."""
 import os
 import re
-from dataclasses import dataclass, field
+from dataclasses import dataclass, field, replace
 
-KEYS = ("what", "kind", "check", "refused", "public", "aside", "found", "wanted")
+KEYS = ("what", "kind", "check", "refused", "public", "aside", "breaks", "found", "wanted")
 
 
 class BadBody(Exception):
@@ -24,6 +24,8 @@ class Body:
     path: str
     words: dict = field(default_factory=dict)
     edits: list = field(default_factory=list)
+    # how it is judged: 'searched', by the 'answers' that it breaks, or 'kept' from an earlier search
+    how: str = "answers"
 
     def listed(self, key):
         return [it.strip() for it in self.words.get(key, "").split(",") if it.strip()]
@@ -41,8 +43,22 @@ class Body:
     @property
     def aside(self):
         """The answers that are set aside: pairs of a file and its goals, of which there are none where the whole file is meant."""
-        parts = [it.strip().partition(":") for it in self.words.get("aside", "").split(";") if it.strip()]
+        return self.answers("aside")
+
+    @property
+    def breaks(self):
+        """The answers that have to fail with the body in place, in the same form."""
+        return self.answers("breaks")
+
+    def answers(self, key):
+        parts = [it.strip().partition(":") for it in self.words.get(key, "").split(";") if it.strip()]
         return [(file.strip(), [it.strip() for it in goals.split(",") if it.strip()]) for file, _, goals in parts]
+
+    def searched(self):
+        """The body with the answers that it breaks set aside, so that the checker searches for a proof of its own."""
+        aside = "; ".join(it for it in (self.words.get("aside"), self.words.get("breaks")) if it)
+        words = {**self.words, "aside": aside}
+        return replace(self, words={key: it for key, it in words.items() if key != "breaks"}, how="searched")
 
     @property
     def is_found_by_run(self):

@@ -7,7 +7,8 @@ import subprocess
 import tempfile
 
 from bodies import BadBody, planted
-from taken import add_copy, copied, take_by_contract
+from lemmas import take_by_statement
+from taken import add_copy, answers_in, copied, take_by_contract
 
 # What an answer is told of where a name in it is gone: that says nothing of the clause.
 GONE = re.compile(r"has no field|is not a field|can be named from here|not in scope|is not defined|unknown name|has no `|arguments? but|no such")
@@ -63,16 +64,22 @@ class Checker:
         words += ["--links", f"{crate}=", "--jobs", "1"]
         return words + ["--crate-type", "staticlib"] * is_static
 
-    def run(self, folder, crate, functions):
-        """What the check of these functions says of the crate in the folder, and its processor seconds."""
-        take_by_contract(folder, crate, functions)
+    def run(self, folder, crate, functions, compiled):
+        """What the check of these functions says of the crate in the folder, and its processor seconds. Those that are only compiled keep their bodies."""
+        take_by_contract(folder, crate, functions, compiled)
+        take_by_statement(f"{folder}/proofs")
         root = "src/main.rt" if os.path.exists(f"{folder}/src/main.rt") else "src/lib.rt"
-        words = [f"{self.kit}/bin/rattle", "check", *self.words(crate, root), "--allow-holes"]
-        for name in functions:
+        words = [f"{self.kit}/bin/rattle", "check", *self.words(crate, root), "--allow-holes", "--progress"]
+        for name in functions or [""]:
             words += ["--only", name]
-        before = seconds()
-        ran = subprocess.run(words, cwd=folder, stdin=subprocess.DEVNULL, stdout=subprocess.PIPE, stderr=subprocess.STDOUT, text=True, errors="replace", check=False)
-        return ran.stdout, seconds() - before
+        with subprocess.Popen(words, cwd=folder, stdin=subprocess.DEVNULL, stdout=subprocess.PIPE, stderr=subprocess.STDOUT, text=True, errors="replace") as ran:
+            output, last = [], 0
+            for line in ran.stdout:
+                now = seconds_of(ran.pid)
+                # (what was read before the first is none of its own)
+                output.append(f"{line[:-1]}, {now - last:.1f} s\n" if re.match(r"checked \S+, (?!1 of)", line) else line)
+                last = now
+        return "".join(output), last
 
     def text_of(self, crate):
         """A reader of the crate's files."""
@@ -96,26 +103,19 @@ class Checker:
         with tempfile.TemporaryDirectory(prefix="wrong-") as room:
             folder = f"{room}/{crate}"
             shutil.copytree(f"{self.top}/crates/{crate}", folder, ignore=shutil.ignore_patterns("out"))
-            stand, others = apart(bodies)
+            copies, stand = ([it for it in bodies if bool(self.copied(it)) == is_copy] for is_copy in (True, False))
             for body in stand:
                 planted_in.update(planted(body, lambda file: planted_in[file] if file in planted_in else read(file)))
             for path, text in planted_in.items():
                 with open(f"{folder}/{path}", "w", encoding="utf-8") as out:
                     out.write(text)
-            for number, body in enumerate(others, 2):
+            for number, body in enumerate(copies, 2):
                 stand.append(add_copy(folder, crate, body, *self.copied(body), number))
             for path, goals in (it for body in stand for it in body.aside):
                 remove(f"{folder}/proofs/{path}", goals)
-            output, took = self.run(folder, crate, [it for body in stand for it in body.functions])
+            checked, compiled = ([it for body in stand if (body.how == "kept") == is_kept for it in body.functions] for is_kept in (False, True))
+            output, took = self.run(folder, crate, checked, compiled)
             return output, stand, took
-
-
-def apart(bodies):
-    """Those of the bodies of which no two are of one function or change one text, and the others."""
-    stand, others = [], []
-    for body in bodies:
-        (stand if all(are_apart(body, it) for it in stand) else others).append(body)
-    return stand, others
 
 
 def are_apart(body, other):
@@ -132,18 +132,23 @@ def remove(path, goals):
         os.remove(path)
         return
     with open(path, encoding="utf-8") as it:
-        parts = re.split(r"^(?=pub )", it.read(), flags=re.M)
-    answers = {part.split()[1]: part for part in parts[1:]}
-    missing = [it for it in goals if it not in answers]
+        answers = answers_in(it.read())
+    missing = [it for it in goals if it not in dict(answers)]
     if missing:
         raise BadBody(f"{path}: no answer to {', '.join(missing)}")
     with open(path, "w", encoding="utf-8") as out:
-        out.write(parts[0] + "".join(text for goal, text in answers.items() if goal not in goals))
+        out.write("".join(text for goal, text in answers if goal not in goals))
 
 
 def seconds():
     used = resource.getrusage(resource.RUSAGE_CHILDREN)
     return used.ru_utime + used.ru_stime
+
+
+def seconds_of(process):
+    """The processor seconds that a process took until now."""
+    with open(f"/proc/{process}/stat", encoding="utf-8") as it:
+        return sum(int(word) for word in it.read().rpartition(")")[2].split()[11:13]) / os.sysconf("SC_CLK_TCK")
 
 
 class Said:
@@ -153,6 +158,7 @@ class Said:
         self.output = output
         self.is_whole = bool(re.search(r"^only=\d+ holes=", output, re.M))
         self.lines = dict(re.findall(r"^fn \w+::(\S+): (.*)$", output, re.M))
+        self.took = {name: float(took) for name, took in re.findall(r"^checked \w+::(\S+), .*, ([\d.]+) s$", output, re.M)}
         self.errors = re.findall(r"^\./proofs/(\S+)\.antt:\d+:\d+: error: `([^`]+)`: (.*)$", output, re.M)
 
     def lines_of(self, function):
@@ -160,7 +166,8 @@ class Said:
         return [(name, it) for name, it in self.lines.items() if name == function or name.endswith(f"::{function}")]
 
     def goals(self, function):
-        """The goals of a function that weren't proved; the answers that don't show theirs, by file; and what was said of names that are gone."""
+        """The goals of a function that weren't proved; the answers that don't show theirs, by file, with what was said of each; and those that
+        name what is gone."""
         open_goals, unfit, gone = set(), [], []
         for name, line in self.lines_of(function):
             own = line.partition("`search` did not prove ")[2].partition(";")[0]
@@ -168,15 +175,19 @@ class Said:
             at = name.replace("::", "/")
             for file, goal, text in self.errors:
                 if file in (f"{at}/Answers", f"{at}/Invariants"):
-                    (gone.append(f"{goal}: {text}") if GONE.search(text) else unfit.append((f"{file}.antt", goal)))
+                    (gone if GONE.search(text) else unfit).append((f"{file}.antt", goal, text))
             if re.search(r"could not tell|expected invariants", line):
-                gone.append(line)
+                gone.append(("", "", line))
         return open_goals, unfit, gone
+
+    def seconds_of(self, functions):
+        """What the proofs of these functions took, with what was read for them."""
+        return sum(took for name, took in self.took.items() if any(name == it or name.endswith(f"::{it}") for it in functions))
 
     def is_proved(self, function):
         """Whether the function's own goals all hold. That one which it calls doesn't is no matter of its own."""
         lines = [line for _, line in self.lines_of(function)]
-        others = r"no proof: it calls `[^;]*$|depends on a hole in `"
+        others = r"no proof: it calls `[^;]*$|depends on a hole in (?:`|the same \d+ declarations as `)"
         return bool(lines) and all(it in ("no holes", "proved") or re.match(others, it) for it in lines)
 
 
@@ -193,6 +204,8 @@ def verdict(body, said):
     """One of 'refused', 'proves', 'elsewhere' and 'not judged', with what there is to say of it."""
     if not said.is_whole:
         return "not judged", first_error(said.output)
+    if body.how == "kept":
+        return "refused", "kept"
     open_goals, unfit, gone = set(), [], []
     for function in body.functions:
         if not said.lines_of(function):
@@ -203,23 +216,30 @@ def verdict(body, said):
         gone += names
     if not open_goals and not unfit and not gone and all(said.is_proved(it) for it in body.functions):
         return "proves", ""
+    breaks = {(file, goal) for file, goals in body.breaks for goal in goals}
+    failed = {(file, goal) for file, goal, _ in unfit + gone}
+    if breaks - failed:
+        return "not judged", f"what it is to break holds: {told(breaks - failed)}"
     function, clauses = body.refused
     here = {clause_of(goal) for at, goal in open_goals if at == function or at.endswith(f"::{function}") or function.endswith(f"::{at}")}
-    if set(clauses) <= here:
+    others = {(file, goal) for file, goal, _ in unfit} - breaks
+    if breaks and not others:
+        return "refused", "by answers"
+    if set(clauses) <= here and not breaks:
         return "refused", ", ".join(sorted(here))
-    if unfit:
-        return "not judged", f"set aside what doesn't show its goal any more: {told(unfit)}"
+    if others:
+        return "not judged", f"it breaks what doesn't show its goal any more: {told(others)}"
     if open_goals:
         return "elsewhere", ", ".join(sorted(f"{at}: {clause_of(goal)}" for at, goal in open_goals))
-    return "not judged", (gone or ["the check gives no goal"])[0][:200]
+    return "not judged", ": ".join(it for it in (gone or [("the check gives no goal",)])[0] if it)[:200]
 
 
 def told(answers):
-    """Answers in the form of a body's line `aside`."""
+    """Answers in the form of a body's line `breaks`."""
     files = {}
-    for file, goal in answers:
+    for file, goal in sorted(answers):
         files.setdefault(file, []).append(goal)
-    return "; ".join(f"{file}: {', '.join(dict.fromkeys(goals))}" for file, goals in files.items())
+    return "; ".join(f"{file}: {', '.join(goals)}" for file, goals in files.items())
 
 
 def first_error(output):
