@@ -86,7 +86,8 @@ impl Shot<'_> {
         }
     }
 
-    /// Writes the first line of a vertex. The border of a subject that retired isn't dotted where no subject reaches it, so a word says that.
+    /// Writes the first line of a vertex. The border of a subject that retired isn't dotted where no subject reaches it, so a word says
+    /// that.
     pub fn write_name(&self, draft: &mut Draft, view: VertexView) {
         draft.add_number(view.name);
         if view.has_retired && !self.reached.contains(&view.name) {
