@@ -1,20 +1,17 @@
 //! Collections that sessions ask for, and a race for one of its sessions.
-ghost use Rattle.std.specs.Prelude.{◌≡◌, ◌+◌};
-ghost use Rattle.tg_shared.specs.Sessions.{start_of_store};
 
 use crate::meeting::{MANY_TURNS, Meet};
-use crate::sessions::opened::{make, store_with};
+use crate::sessions::opened::{make, opening_with};
+use crate::sessions::story::{Story, seen_of};
 use std::alloc::Global;
-use std::marker::Brand;
 use std::sync::Wait;
-use std::sync::ledger::Blank;
 use std::test::Fail;
 use std::thread::Threads;
 use tg_model::Command;
 use tg_payload::CellPayload;
 use tg_rights::Label;
 use tg_script::Helpers;
-use tg_shared::{Round, Session, Shared, SharedStore};
+use tg_shared::{CloseFault, Round, Session, SharedStore};
 use tg_store::{Kind, Store};
 use tg_threads::collect_by;
 
@@ -82,35 +79,28 @@ fn left_by_each<L: Round, R: Threads + Wait + Sync>(
     Some([young_given_up, kept, old_given_up, collected_whole])
 }
 
-// The same of a store that is to be shared.
-fn seen_of<L: Round, R: Threads + Wait + Sync>(
-    rt: &R,
-    alloc: Global,
-    blank: Blank,
-    store: Store<CellPayload>,
-    by: Collectors<'_>,
-) -> Option<[u64; 4]>
-    requires name { blank.name ≡ L.name }
-    requires parts { (blank.parts ≡ L.parts) × (blank.parts ≡ store.opening.limit + 1) }
-    requires start { start_of_store store ≡ L.start }
-{
-    let Shared {
-        store,
-        mut sessions,
-    } = SharedStore::<L, CellPayload>::new(alloc, blank, store).ok()?;
-    let session = sessions.first_mut()?;
-    left_by_each(rt, alloc, &store, session, by)
-}
+impl<'a> Story for Collectors<'a> {
+    type Told = [u64; 4];
+    type Seen = [u64; 4];
 
-// The same of a store of two workers.
-fn seen_of_two<R: Threads + Wait + Sync>(
-    rt: &R,
-    alloc: Global,
-    by: Collectors<'_>,
-) -> Option<[u64; 4]> {
-    let store = store_with(alloc, "rw")?;
-    let blank = Blank::new(store.opening().max_vertices() + 1);
-    seen_of::<Brand, R>(rt, alloc, blank, store, by)
+    fn tell<L: Round + Send + Sync, R: Threads + Wait + Sync>(
+        &self,
+        rt: &R,
+        alloc: Global,
+        store: &SharedStore<L, CellPayload>,
+        sessions: &mut Vec<Session<L>>,
+    ) -> Option<[u64; 4]> {
+        left_by_each(rt, alloc, store, sessions.get_mut(0)?, *self)
+    }
+
+    fn look(
+        _alloc: Global,
+        told: [u64; 4],
+        _why_not_closed: CloseFault,
+        _store: &Store<CellPayload>,
+    ) -> Option<[u64; 4]> {
+        Some(told)
+    }
 }
 
 // The same, and how often the helpers passed a gate at which they met. None may miss another.
@@ -126,7 +116,7 @@ fn met_on_two<R: Threads + Wait + Sync>(
         gate: &gate,
         in_race,
     };
-    let left = seen_of_two(rt, alloc, by)?;
+    let left = seen_of(rt, alloc, &by, opening_with(alloc, "rw"))?;
     (!gate.is_missed()).then_some((left, gate.passes()))
 }
 

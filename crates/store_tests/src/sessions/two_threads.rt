@@ -1,19 +1,16 @@
 //! Two sessions on two threads.
-ghost use Rattle.std.specs.Prelude.{◌≡◌, ◌+◌};
-ghost use Rattle.tg_shared.specs.Sessions.{start_of_store};
 
-use crate::sessions::opened::{closed, opening_with, store_with};
+use crate::sessions::opened::opening_with;
+use crate::sessions::story::{Story, seen_of};
 use std::alloc::Global;
-use std::marker::Brand;
 use std::process::Abort;
 use std::sync::Wait;
-use std::sync::ledger::Blank;
 use std::test::Fail;
 use std::thread::{Threads, join};
-use tg_journal::{AuditFault, Journal, audit};
+use tg_journal::{AuditFault, audit};
 use tg_model::{Command, Reply};
 use tg_payload::CellPayload;
-use tg_shared::{NoGate, Round, Session, Shared, SharedStore};
+use tg_shared::{CloseFault, NoGate, Round, Session, SharedStore};
 use tg_store::{Kind, Store};
 
 // Whether the session may write the value to the target.
@@ -90,16 +87,6 @@ fn work_at_once<L: Round + Send + Sync, R: Threads + Wait + Sync>(
     )
 }
 
-// Does so with the first session and the last.
-fn work_by_both<L: Round + Send + Sync, R: Threads + Wait + Sync>(
-    rt: &R,
-    store: &SharedStore<L, CellPayload>,
-    sessions: &mut [Session<L>],
-) -> Option<(u64, u64)> {
-    let (first, others) = sessions.split_first_mut()?;
-    Some(work_at_once(rt, store, first, others.first_mut()?))
-}
-
 // What is seen of two sessions.
 #[derive(Clone, Copy, Debug, PartialEq, Eq)]
 struct Seen {
@@ -110,62 +97,38 @@ struct Seen {
     audited: Result<(), AuditFault>,
 }
 
-// Lets both sessions work, and closes.
-fn seen_of_shared<L: Round + Send + Sync, R: Threads + Wait + Sync>(
-    rt: &R,
-    alloc: Global,
-    shared: Shared<L, CellPayload>,
-) -> Option<Seen> {
-    let Shared {
-        store,
-        mut sessions,
-    } = shared;
-    let good = work_by_both(rt, &store, &mut sessions);
-    let store = closed(store, sessions)?;
-    seen_of_closed(alloc, good, store)
-}
+// Lets the first session and the last work.
+struct WorkByBoth;
 
-// What is seen, once the store is closed.
-fn seen_of_closed(
-    alloc: Global,
-    good: Option<(u64, u64)>,
-    store: Store<CellPayload>,
-) -> Option<Seen> {
-    let seen = seen_of_journal(alloc, good, store.journal());
-    drop(store);
-    seen
-}
+impl Story for WorkByBoth {
+    type Told = (u64, u64);
+    type Seen = Seen;
 
-// The same of its journal.
-fn seen_of_journal(alloc: Global, good: Option<(u64, u64)>, journal: &Journal) -> Option<Seen> {
-    let kept = opening_with(alloc, "rw")?;
-    Some(Seen {
-        good: good?,
-        entries: journal.len(),
-        audited: audit(alloc, &kept, journal.entries()),
-    })
-}
+    fn tell<L: Round + Send + Sync, R: Threads + Wait + Sync>(
+        &self,
+        rt: &R,
+        _alloc: Global,
+        store: &SharedStore<L, CellPayload>,
+        sessions: &mut Vec<Session<L>>,
+    ) -> Option<(u64, u64)> {
+        let (first, others) = sessions.split_first_mut()?;
+        Some(work_at_once(rt, store, first, others.first_mut()?))
+    }
 
-// The same of a store that is to be shared.
-fn seen_of<L: Round + Send + Sync, R: Threads + Wait + Sync>(
-    rt: &R,
-    alloc: Global,
-    blank: Blank,
-    store: Store<CellPayload>,
-) -> Option<Seen>
-    requires name { blank.name ≡ L.name }
-    requires parts { (blank.parts ≡ L.parts) × (blank.parts ≡ store.opening.limit + 1) }
-    requires start { start_of_store store ≡ L.start }
-{
-    let shared = SharedStore::<L, CellPayload>::new(alloc, blank, store).ok()?;
-    seen_of_shared(rt, alloc, shared)
-}
-
-// The same of a store whose workers have these rights over one another.
-fn seen_with<R: Threads + Wait + Sync>(rt: &R, alloc: Global, letters: &str) -> Option<Seen> {
-    let store = store_with(alloc, letters)?;
-    let blank = Blank::new(store.opening().max_vertices() + 1);
-    seen_of::<Brand, R>(rt, alloc, blank, store)
+    fn look(
+        alloc: Global,
+        good: (u64, u64),
+        _why_not_closed: CloseFault,
+        store: &Store<CellPayload>,
+    ) -> Option<Seen> {
+        let kept = opening_with(alloc, "rw")?;
+        let journal = store.journal();
+        Some(Seen {
+            good,
+            entries: journal.len(),
+            audited: audit(alloc, &kept, journal.entries()),
+        })
+    }
 }
 
 // Compares what is seen of a store whose workers have these rights over one another.
@@ -174,7 +137,9 @@ fn check(
     letters: &str,
     wanted: Seen,
 ) -> Result<(), Fail> {
-    let seen = seen_with(rt, rt.alloc(), letters).ok_or("a refusal")?;
+    let alloc = rt.alloc();
+    let opening = opening_with(alloc, letters);
+    let seen = seen_of(rt, alloc, &WorkByBoth, opening).ok_or("a refusal")?;
     assert_eq!(rt; seen, wanted);
     Ok(())
 }
