@@ -39,13 +39,13 @@ enum Want {
     NoSuchWorker,
 }
 
-// The rights of these letters; none where they are no text of rights.
-fn rights(letters: &str) -> Rights {
+/// The rights of these letters; none where they are no text of rights.
+pub(crate) fn rights(letters: &str) -> Rights {
     Rights::read_text(letters.as_bytes()).unwrap_or(Rights::empty())
 }
 
-// The label of these letters; that of r where there is none.
-fn label(letters: &str) -> Label {
+/// The label of these letters; that of r where there is none.
+pub(crate) fn label(letters: &str) -> Label {
     let read = Label::new(Rights::of(Right::R)).unwrap();
     Label::new(rights(letters)).unwrap_or(read)
 }
@@ -83,16 +83,16 @@ fn cells(alloc: Global, count: u64) -> Result<Vec<Value>, AllocError> {
     Ok(values)
 }
 
+// The opening of a run.
+fn opening_of(alloc: Global, run: &WorkedRun) -> Result<Opening, Fail> {
+    let values = cells(alloc, run.workers)?;
+    let edges = edges_of(alloc, run)?;
+    Ok(Opening::new(run.workers, edges, values, run.max_vertices)?)
+}
+
 // The graph that a run starts from.
 fn graph_of(alloc: Global, run: &WorkedRun) -> Result<Graph, Fail> {
-    let edges = edges_of(alloc, run)?;
-    let opening = Opening::new(
-        run.workers,
-        edges,
-        cells(alloc, run.workers)?,
-        run.max_vertices,
-    )?;
-    Ok(Graph::open(alloc, &opening)?)
+    Ok(Graph::open(alloc, &opening_of(alloc, run)?)?)
 }
 
 fn deed(ask: &Ask) -> Deed {
@@ -532,19 +532,37 @@ static RUNS: [WorkedRun<'static>; 20] = [
     },
 ];
 
+// How many lines of the run are answered as wanted, before the first that isn't.
+fn answered_in(alloc: Global, run: &WorkedRun) -> Result<usize, Fail> {
+    let mut graph = graph_of(alloc, run)?;
+    Ok(answered(&mut graph, run.lines))
+}
+
 // Each line is answered as wanted.
 #[test]
 fn worked_runs(rt: HostRuntime) -> Result<(), Fail> {
     for run in &RUNS {
-        let mut graph = graph_of(rt.alloc(), run)?;
-        assert_eq!(rt;
-            answered(&mut graph, run.lines),
-            run.lines.len(),
-            "{}",
-            run.name
-        );
+        let lines = answered_in(rt.alloc(), run)?;
+        assert_eq!(rt; lines, run.lines.len(), "{}", run.name);
     }
     Ok(())
+}
+
+// The first name up to 2000 that isn't the answer to another create of the one worker.
+fn first_other_name(graph: &mut Graph) -> Option<u64> {
+    let create = deed(&Ask::Create("r", Law::Cell));
+    for name in 1..=2000 {
+        if !is_answered(graph, 0, &create, &Want::Name(name)) {
+            return Some(name);
+        }
+    }
+    None
+}
+
+// The same in a graph of that worker.
+fn other_name_in(alloc: Global, run: &WorkedRun) -> Result<Option<u64>, Fail> {
+    let mut graph = graph_of(alloc, run)?;
+    Ok(first_other_name(&mut graph))
 }
 
 // The edges of one vertex may be as many as that.
@@ -557,10 +575,6 @@ fn a_row_of_two_thousand_edges(rt: HostRuntime) -> Result<(), Fail> {
         edges: &[],
         lines: &[],
     };
-    let mut graph = graph_of(rt.alloc(), &run)?;
-    let create = Ask::Create("r", Law::Cell);
-    for name in 1..=2000 {
-        assert!(rt; is_answered(&mut graph, 0, &deed(&create), &Want::Name(name)));
-    }
+    assert_eq!(rt; other_name_in(rt.alloc(), &run)?, None);
     Ok(())
 }
