@@ -72,7 +72,11 @@ fn are_replies(alloc: Global) -> Result<[bool; 6], AllocError> {
     Ok([
         is_reply(alloc, Reply::Done, "ok"),
         is_reply(alloc, Reply::Name(40), "ok 40"),
-        is_reply(alloc, Reply::Denied(not_distinct(Rule::Take)), "denied take distinct"),
+        is_reply(
+            alloc,
+            Reply::Denied(not_distinct(Rule::Take)),
+            "denied take distinct",
+        ),
         is_reply(alloc, values(alloc)?, "ok 7 18446744073709551615"),
         is_reply(alloc, edges(alloc, "rg")?, "ok 3:rg"),
         is_reply(alloc, edges(alloc, "rwtgaluv")?, "ok 3:rwtgaluv"),
@@ -84,7 +88,11 @@ fn are_denials(alloc: Global) -> [bool; 3] {
     [
         is_denial(alloc, &missing(), "denied write 1->2 w"),
         is_denial(alloc, &not_log(), "denied append law"),
-        is_denial(alloc, &not_distinct(Rule::Inspect), "denied inspect distinct"),
+        is_denial(
+            alloc,
+            &not_distinct(Rule::Inspect),
+            "denied inspect distinct",
+        ),
     ]
 }
 

@@ -81,6 +81,7 @@ fn left_by_each<L: Round, R: Threads + Wait + Sync>(
 
 impl<'a> Story for Collectors<'a> {
     type Told = [u64; 4];
+
     type Seen = [u64; 4];
 
     fn tell<L: Round + Send + Sync, R: Threads + Wait + Sync>(

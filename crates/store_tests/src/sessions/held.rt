@@ -62,6 +62,7 @@ struct MakeAndAsk;
 
 impl Story for MakeAndAsk {
     type Told = [u8; 2];
+
     type Seen = Seen;
 
     fn tell<L: Round + Send + Sync, R: Threads + Wait + Sync>(

@@ -93,6 +93,7 @@ struct InTurn;
 
 impl Story for InTurn {
     type Told = [Result<u64, CreateFault>; 3];
+
     type Seen = Seen;
 
     fn tell<L: Round + Send + Sync, R: Threads + Wait + Sync>(

@@ -111,6 +111,7 @@ struct SpawnAndWork;
 
 impl Story for SpawnAndWork {
     type Told = (u64, Worked, bool);
+
     type Seen = Seen;
 
     fn tell<L: Round + Send + Sync, R: Threads + Wait + Sync>(

@@ -102,6 +102,7 @@ struct WorkByBoth;
 
 impl Story for WorkByBoth {
     type Told = (u64, u64);
+
     type Seen = Seen;
 
     fn tell<L: Round + Send + Sync, R: Threads + Wait + Sync>(
