@@ -46,26 +46,34 @@ fn is_after<P: Payload>(
     Ok(table.law(key) == law && table.read(key)?.as_slice() == state)
 }
 
-// The same of the payload in a box.
-fn is_boxed_after<P: Payload + Send + 'static>(
-    alloc: Global,
-    payload: P,
-    numbers: (u64, u64, u64),
-    law: Law,
-    state: &[u64],
-) -> Result<bool, AllocError> {
-    let boxed: PayloadBox = Box::new(alloc, payload)?;
-    is_after(alloc, boxed, numbers, law, state)
+// A box of each kind.
+fn cell_box(alloc: Global) -> Result<PayloadBox, AllocError> {
+    let cell: PayloadBox = Box::new(alloc, CellPayload::new(7))?;
+    Ok(cell)
+}
+
+fn sum_box(alloc: Global) -> Result<PayloadBox, AllocError> {
+    let sum: PayloadBox = Box::new(alloc, SumPayload::new(u64::MAX))?;
+    Ok(sum)
+}
+
+fn max_box(alloc: Global) -> Result<PayloadBox, AllocError> {
+    let max: PayloadBox = Box::new(alloc, MaxPayload::new(7))?;
+    Ok(max)
+}
+
+fn log_box(alloc: Global) -> Result<PayloadBox, AllocError> {
+    let log: PayloadBox = Box::new(alloc, LogPayload::new(alloc, 2))?;
+    Ok(log)
 }
 
 #[test]
 fn log_and_sum_payloads(rt: HostRuntime) -> Result<(), Fail> {
     let alloc = rt.alloc();
-    let cell = is_boxed_after(alloc, CellPayload::new(7), (1, 2, 3), Law::Cell, &[3])?;
-    let sum = is_boxed_after(alloc, SumPayload::new(u64::MAX), (1, 2, 3), Law::Sum, &[5])?;
-    let max = is_boxed_after(alloc, MaxPayload::new(7), (5, 9, 8), Law::Max, &[9])?;
-    let log = LogPayload::new(alloc, 2);
-    let log = is_boxed_after(alloc, log, (1, 2, 3), Law::Log(2), &[2, 3])?;
+    let cell = is_after(alloc, cell_box(alloc)?, (1, 2, 3), Law::Cell, &[3])?;
+    let sum = is_after(alloc, sum_box(alloc)?, (1, 2, 3), Law::Sum, &[5])?;
+    let max = is_after(alloc, max_box(alloc)?, (5, 9, 8), Law::Max, &[9])?;
+    let log = is_after(alloc, log_box(alloc)?, (1, 2, 3), Law::Log(2), &[2, 3])?;
     assert_eq!(rt; [cell, sum, max, log], [true; 4]);
     Ok(())
 }

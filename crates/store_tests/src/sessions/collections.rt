@@ -2,7 +2,7 @@
 
 use crate::meeting::{MANY_TURNS, Meet};
 use crate::sessions::opened::{make, opening_with};
-use crate::sessions::story::{Story, seen_of};
+use crate::sessions::story::{Seen, Story, seen_of};
 use std::alloc::Global;
 use std::sync::Wait;
 use std::test::Fail;
@@ -11,8 +11,8 @@ use tg_model::Command;
 use tg_payload::CellPayload;
 use tg_rights::Label;
 use tg_script::Helpers;
-use tg_shared::{CloseFault, Round, Session, SharedStore};
-use tg_store::{Kind, Store};
+use tg_shared::{Round, Session, SharedStore};
+use tg_store::Kind;
 use tg_threads::collect_by;
 
 // Lets the session give up its rights over a vertex that it made.
@@ -29,9 +29,9 @@ fn give_up<L: Round, R: Wait>(
     Some(())
 }
 
-// Who collects.
+/// Who collects.
 #[derive(Clone, Copy)]
-struct Collectors<'a> {
+pub(crate) struct Collectors<'a> {
     helpers: u32,
     // what each of several helpers passes
     gate: &'a Meet,
@@ -59,15 +59,16 @@ fn collect<L: Round, R: Threads + Wait + Sync>(
         .ok()
 }
 
-// A vertex is made and given up, and a nursery collection follows. Another one is made, and lies in Old after a full collection; it is
-// given up too, and a collection of each kind follows. How many vertices the heap has after each of the four collections.
-fn left_by_each<L: Round, R: Threads + Wait + Sync>(
+/// A vertex is made and given up, and a nursery collection follows. Another one is made, and lies in Old after a full collection; it is
+/// given up too, and a collection of each kind follows. How many vertices the heap has after each of the four collections.
+pub(crate) fn left_by_each<L: Round, R: Threads + Wait + Sync>(
     rt: &R,
     alloc: Global,
     store: &SharedStore<L, CellPayload>,
-    session: &mut Session<L>,
+    sessions: &mut [Session<L>],
     by: Collectors<'_>,
 ) -> Option<[u64; 4]> {
+    let session = sessions.first_mut()?;
     let young = make(rt, alloc, store, session)?.ok()?;
     give_up(rt, store, session, young)?;
     let young_given_up = collect(rt, store, session, Kind::Nursery, by)?;
@@ -77,31 +78,6 @@ fn left_by_each<L: Round, R: Threads + Wait + Sync>(
     let old_given_up = collect(rt, store, session, Kind::Nursery, by)?;
     let collected_whole = collect(rt, store, session, Kind::Full, by)?;
     Some([young_given_up, kept, old_given_up, collected_whole])
-}
-
-impl<'a> Story for Collectors<'a> {
-    type Told = [u64; 4];
-
-    type Seen = [u64; 4];
-
-    fn tell<L: Round + Send + Sync, R: Threads + Wait + Sync>(
-        &self,
-        rt: &R,
-        alloc: Global,
-        store: &SharedStore<L, CellPayload>,
-        sessions: &mut Vec<Session<L>>,
-    ) -> Option<[u64; 4]> {
-        left_by_each(rt, alloc, store, sessions.get_mut(0)?, *self)
-    }
-
-    fn look(
-        _alloc: Global,
-        told: [u64; 4],
-        _why_not_closed: CloseFault,
-        _store: &Store<CellPayload>,
-    ) -> Option<[u64; 4]> {
-        Some(told)
-    }
 }
 
 // The same, and how often the helpers passed a gate at which they met. None may miss another.
@@ -117,7 +93,10 @@ fn met_on_two<R: Threads + Wait + Sync>(
         gate: &gate,
         in_race,
     };
-    let left = seen_of(rt, alloc, &by, opening_with(alloc, "rw"))?;
+    let opening = opening_with(alloc, "rw");
+    let Seen::Left(left) = seen_of(rt, alloc, Story::Collect(by), opening)? else {
+        return None;
+    };
     (!gate.is_missed()).then_some((left, gate.passes()))
 }
 

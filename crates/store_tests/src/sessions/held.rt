@@ -1,19 +1,18 @@
 //! What workers hold over vertices, asked of a store and of its sessions; and which vertices a store has.
 
 use crate::sessions::opened::{make, opening_with};
-use crate::sessions::story::{Story, seen_of};
+use crate::sessions::story::{Seen, Story, seen_of};
 use std::alloc::Global;
 use std::sync::Wait;
 use std::test::Fail;
-use std::thread::Threads;
 use tg_payload::CellPayload;
 use tg_rights::Label;
-use tg_shared::{CloseFault, Round, Session, SharedStore};
+use tg_shared::{Round, Session, SharedStore};
 use tg_store::Store;
 
-// What is seen once the first of two workers, who may read one another, has made vertex 2. Labels are seen by their bits.
+/// What is seen once the first of two workers, who may read one another, has made vertex 2. Labels are seen by their bits.
 #[derive(Clone, Copy)]
-struct Seen {
+pub(crate) struct Labels {
     // what the first worker holds over vertex 2, over the second worker and over itself
     of_first: [u8; 3],
     // what the second worker holds over vertex 2, and what one who is no worker holds over the first
@@ -57,40 +56,27 @@ fn held(store: &Store<CellPayload>, worker: u64, target: u64) -> u8 {
     bits_of(store.label(worker, target))
 }
 
-// Lets the first session make a vertex, and asks both what they hold over it.
-struct MakeAndAsk;
+/// Lets the first session make a vertex, and asks both what they hold over it.
+pub(crate) fn make_and_ask<L: Round, R: Wait>(
+    rt: &R,
+    alloc: Global,
+    store: &SharedStore<L, CellPayload>,
+    sessions: &mut [Session<L>],
+) -> Option<[u8; 2]> {
+    let _name = make(rt, alloc, store, sessions.get_mut(0)?)?.ok()?;
+    let by_first = asked_by(rt, store, sessions.get(0)?);
+    let by_second = asked_by(rt, store, sessions.get(1)?);
+    Some([by_first, by_second])
+}
 
-impl Story for MakeAndAsk {
-    type Told = [u8; 2];
-
-    type Seen = Seen;
-
-    fn tell<L: Round + Send + Sync, R: Threads + Wait + Sync>(
-        &self,
-        rt: &R,
-        alloc: Global,
-        store: &SharedStore<L, CellPayload>,
-        sessions: &mut Vec<Session<L>>,
-    ) -> Option<[u8; 2]> {
-        let _name = make(rt, alloc, store, sessions.get_mut(0)?)?.ok()?;
-        let by_first = asked_by(rt, store, sessions.get(0)?);
-        let by_second = asked_by(rt, store, sessions.get(1)?);
-        Some([by_first, by_second])
-    }
-
-    fn look(
-        _alloc: Global,
-        asked: [u8; 2],
-        _why_not_closed: CloseFault,
-        store: &Store<CellPayload>,
-    ) -> Option<Seen> {
-        Some(Seen {
-            of_first: [held(store, 0, 2), held(store, 0, 1), held(store, 0, 0)],
-            of_others: [held(store, 1, 2), held(store, 2, 0)],
-            asked,
-            names: names_of(store),
-            entries: store.journal().len(),
-        })
+/// What is seen of the store, once it is closed.
+pub(crate) fn labels_of(store: &Store<CellPayload>, asked: [u8; 2]) -> Labels {
+    Labels {
+        of_first: [held(store, 0, 2), held(store, 0, 1), held(store, 0, 0)],
+        of_others: [held(store, 1, 2), held(store, 2, 0)],
+        asked,
+        names: names_of(store),
+        entries: store.journal().len(),
     }
 }
 
@@ -99,7 +85,10 @@ impl Story for MakeAndAsk {
 #[test]
 fn labels_and_names_are_told(rt: HostRuntime) -> Result<(), Fail> {
     let alloc = rt.alloc();
-    let seen = seen_of(&rt, alloc, &MakeAndAsk, opening_with(alloc, "r")).ok_or("a refusal")?;
+    let opening = opening_with(alloc, "r");
+    let Some(Seen::Labels(seen)) = seen_of(&rt, alloc, Story::MakeAndAsk, opening) else {
+        return Err(Fail::from("a refusal"));
+    };
     assert_eq!(rt; seen.of_first, [3, 1, 0]);
     assert_eq!(rt; seen.of_others, [0, 0]);
     assert_eq!(rt; seen.asked, [3, 0]);

@@ -1,16 +1,15 @@
 //! Two sessions that take turns on one thread, what is answered where one of them is kept back, and what they have receipts of.
 
 use crate::sessions::opened::{make, opening_with};
-use crate::sessions::story::{Story, seen_of};
+use crate::sessions::story::{Seen, Story, seen_of};
 use std::alloc::Global;
 use std::sync::Wait;
 use std::test::Fail;
-use std::thread::Threads;
 use tg_journal::{Entry, Journal};
 use tg_model::{Cause, Command, Deed, Denial, Numbers, Reply, Rule};
 use tg_payload::CellPayload;
 use tg_shared::{CloseFault, Receipt, Round, Session, SharedStore, receipts_match};
-use tg_store::{CreateFault, Store};
+use tg_store::CreateFault;
 
 const WRITE: Command = Command::Write {
     target: 0,
@@ -30,9 +29,9 @@ const NOT_LOG: Denial = Denial {
     cause: Cause::NotLog,
 };
 
-// What is seen of two sessions in a store that has room for two more vertices.
+/// What is seen of two sessions in a store that has room for two more vertices.
 #[derive(Clone, Copy)]
-struct Seen {
+pub(crate) struct Turns {
     // what the first session is answered that makes a vertex, the second, and the first once more
     made: [Result<u64, CreateFault>; 3],
     // why the store isn't closed without the second session
@@ -88,42 +87,34 @@ fn seen_of_journal(alloc: Global, journal: &Journal) -> Option<(u64, [bool; 3])>
     Some((journal.len(), [as_it_was, altered, other_command]))
 }
 
-// Lets the first session make a vertex, the second one too, and the first once more, and then the second use the cell.
-struct InTurn;
+/// Lets the first session make a vertex, the second one too, and the first once more, and then the second use the cell.
+pub(crate) fn use_in_turn<L: Round, R: Wait>(
+    rt: &R,
+    alloc: Global,
+    store: &SharedStore<L, CellPayload>,
+    sessions: &mut [Session<L>],
+) -> Option<[Result<u64, CreateFault>; 3]> {
+    let by_first = make(rt, alloc, store, sessions.get_mut(0)?)?;
+    let by_second = make(rt, alloc, store, sessions.get_mut(1)?)?;
+    let then_by_first = make(rt, alloc, store, sessions.get_mut(0)?)?;
+    use_the_cell(rt, store, sessions.get_mut(1)?)?;
+    Some([by_first, by_second, then_by_first])
+}
 
-impl Story for InTurn {
-    type Told = [Result<u64, CreateFault>; 3];
-
-    type Seen = Seen;
-
-    fn tell<L: Round + Send + Sync, R: Threads + Wait + Sync>(
-        &self,
-        rt: &R,
-        alloc: Global,
-        store: &SharedStore<L, CellPayload>,
-        sessions: &mut Vec<Session<L>>,
-    ) -> Option<[Result<u64, CreateFault>; 3]> {
-        let by_first = make(rt, alloc, store, sessions.get_mut(0)?)?;
-        let by_second = make(rt, alloc, store, sessions.get_mut(1)?)?;
-        let then_by_first = make(rt, alloc, store, sessions.get_mut(0)?)?;
-        use_the_cell(rt, store, sessions.get_mut(1)?)?;
-        Some([by_first, by_second, then_by_first])
-    }
-
-    fn look(
-        alloc: Global,
-        made: [Result<u64, CreateFault>; 3],
-        why_not_closed: CloseFault,
-        store: &Store<CellPayload>,
-    ) -> Option<Seen> {
-        let (entries, matches) = seen_of_journal(alloc, store.journal())?;
-        Some(Seen {
-            made,
-            why_not_closed,
-            entries,
-            matches,
-        })
-    }
+/// What is seen, once the store is closed.
+pub(crate) fn turns_of(
+    alloc: Global,
+    made: [Result<u64, CreateFault>; 3],
+    why_not_closed: CloseFault,
+    journal: &Journal,
+) -> Option<Turns> {
+    let (entries, matches) = seen_of_journal(alloc, journal)?;
+    Some(Turns {
+        made,
+        why_not_closed,
+        entries,
+        matches,
+    })
 }
 
 // Two vertices are made, one by each session; there is room for no third, which has an entry of its own. The store isn't closed
@@ -131,7 +122,10 @@ impl Story for InTurn {
 #[test]
 fn sessions_in_turn(rt: HostRuntime) -> Result<(), Fail> {
     let alloc = rt.alloc();
-    let seen = seen_of(&rt, alloc, &InTurn, opening_with(alloc, "rwa")).ok_or("a refusal")?;
+    let opening = opening_with(alloc, "rwa");
+    let Some(Seen::Turns(seen)) = seen_of(&rt, alloc, Story::TakeTurns, opening) else {
+        return Err(Fail::from("a refusal"));
+    };
     let full = Err(CreateFault::VerticesFull);
     assert_eq!(rt; seen.made, [Ok(2), Ok(3), full]);
     assert_eq!(rt; seen.why_not_closed, CloseFault::SessionsMissing);

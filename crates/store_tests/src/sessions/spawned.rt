@@ -1,7 +1,7 @@
 //! A session that another one spawned, on a thread of its own.
 
 use crate::sessions::opened::{draft, opening_of};
-use crate::sessions::story::{Story, seen_of};
+use crate::sessions::story::{Seen, Story, seen_of};
 use std::alloc::Global;
 use std::sync::Wait;
 use std::test::Fail;
@@ -11,7 +11,7 @@ use tg_model::{Command, Reply};
 use tg_payload::CellPayload;
 use tg_rights::Label;
 use tg_shared::{CloseFault, Round, Session, SharedStore};
-use tg_store::{ApplyFault, Kind, Store};
+use tg_store::{ApplyFault, Kind};
 
 // What a session came to on its thread.
 #[derive(Clone, Copy, Debug, PartialEq, Eq)]
@@ -24,13 +24,19 @@ struct Worked {
     then: Option<ApplyFault>,
 }
 
-// What is seen of a spawned session.
+/// What a spawned session and the one that spawned it come to.
 #[derive(Clone, Copy)]
-struct Seen {
+pub(crate) struct Told {
     name: u64,
     worked: Worked,
-    // whether the spawning session then reads 0 of the new subject
+    // whether the spawning session then reads 0 of the new subject, and the other one collected
     read: bool,
+}
+
+/// What is seen of it.
+#[derive(Clone, Copy)]
+pub(crate) struct Spawned {
+    told: Told,
     why_not_closed: CloseFault,
     entries: u64,
     audited: Result<(), AuditFault>,
@@ -106,46 +112,39 @@ fn work_at_once<L: Round + Send + Sync, R: Threads + Wait + Sync>(
     )
 }
 
-// Lets the first session spawn one, which works on a thread while the second collects; and then read.
-struct SpawnAndWork;
+/// Lets the first session spawn one, which works on a thread while the second collects; and then read.
+pub(crate) fn spawn_and_work<L: Round + Send + Sync, R: Threads + Wait + Sync>(
+    rt: &R,
+    alloc: Global,
+    store: &SharedStore<L, CellPayload>,
+    sessions: &mut Vec<Session<L>>,
+) -> Option<Told> {
+    spawn(rt, alloc, store, sessions)?;
+    let (new, others) = sessions.split_last_mut()?;
+    let name = new.worker();
+    let (worked, collected) = work_at_once(rt, store, new, others.get(1)?);
+    let read = reads_zero(rt, store, others.get_mut(0)?, name);
+    Some(Told {
+        name,
+        worked,
+        read: collected && read,
+    })
+}
 
-impl Story for SpawnAndWork {
-    type Told = (u64, Worked, bool);
-
-    type Seen = Seen;
-
-    fn tell<L: Round + Send + Sync, R: Threads + Wait + Sync>(
-        &self,
-        rt: &R,
-        alloc: Global,
-        store: &SharedStore<L, CellPayload>,
-        sessions: &mut Vec<Session<L>>,
-    ) -> Option<(u64, Worked, bool)> {
-        spawn(rt, alloc, store, sessions)?;
-        let (new, others) = sessions.split_last_mut()?;
-        let name = new.worker();
-        let (worked, collected) = work_at_once(rt, store, new, others.get(1)?);
-        let read = reads_zero(rt, store, others.get_mut(0)?, name);
-        Some((name, worked, collected && read))
-    }
-
-    fn look(
-        alloc: Global,
-        told: (u64, Worked, bool),
-        why_not_closed: CloseFault,
-        store: &Store<CellPayload>,
-    ) -> Option<Seen> {
-        let (name, worked, read) = told;
-        let (entries, audited) = seen_of_journal(alloc, store.journal())?;
-        Some(Seen {
-            name,
-            worked,
-            read,
-            why_not_closed,
-            entries,
-            audited,
-        })
-    }
+/// What is seen, once the store is closed.
+pub(crate) fn spawned_of(
+    alloc: Global,
+    told: Told,
+    why_not_closed: CloseFault,
+    journal: &Journal,
+) -> Option<Spawned> {
+    let (entries, audited) = seen_of_journal(alloc, journal)?;
+    Some(Spawned {
+        told,
+        why_not_closed,
+        entries,
+        audited,
+    })
 }
 
 // How many entries the journal has, and what an audit finds.
@@ -160,15 +159,17 @@ fn seen_of_journal(alloc: Global, journal: &Journal) -> Option<(u64, Result<(), 
 fn a_spawned_session(rt: HostRuntime) -> Result<(), Fail> {
     let alloc = rt.alloc();
     let opening = opening_of(alloc, Vec::new(alloc));
-    let seen = seen_of(&rt, alloc, &SpawnAndWork, opening).ok_or("a refusal")?;
+    let Some(Seen::Spawned(seen)) = seen_of(&rt, alloc, Story::SpawnAndWork, opening) else {
+        return Err(Fail::from("a refusal"));
+    };
     let worked = Worked {
         empty: 10,
         retired: true,
         then: Some(ApplyFault::NoSuchWorker),
     };
-    assert_eq!(rt; seen.name, 2);
-    assert_eq!(rt; seen.worked, worked);
-    assert!(rt; seen.read);
+    assert_eq!(rt; seen.told.name, 2);
+    assert_eq!(rt; seen.told.worked, worked);
+    assert!(rt; seen.told.read);
     assert_eq!(rt; seen.why_not_closed, CloseFault::SessionsMissing);
     assert_eq!(rt; seen.entries, 13);
     assert_eq!(rt; seen.audited, Ok(()));

@@ -1,17 +1,17 @@
 //! Two sessions on two threads.
 
 use crate::sessions::opened::opening_with;
-use crate::sessions::story::{Story, seen_of};
+use crate::sessions::story::{Seen, Story, seen_of};
 use std::alloc::Global;
 use std::process::Abort;
 use std::sync::Wait;
 use std::test::Fail;
 use std::thread::{Threads, join};
-use tg_journal::{AuditFault, audit};
+use tg_journal::{AuditFault, Journal, audit};
 use tg_model::{Command, Reply};
 use tg_payload::CellPayload;
-use tg_shared::{CloseFault, NoGate, Round, Session, SharedStore};
-use tg_store::{Kind, Store};
+use tg_shared::{NoGate, Round, Session, SharedStore};
+use tg_store::Kind;
 
 // Whether the session may write the value to the target.
 fn writes<L: Round, R: Wait>(
@@ -87,9 +87,9 @@ fn work_at_once<L: Round + Send + Sync, R: Threads + Wait + Sync>(
     )
 }
 
-// What is seen of two sessions.
+/// What is seen of two sessions.
 #[derive(Clone, Copy, Debug, PartialEq, Eq)]
-struct Seen {
+pub(crate) struct Served {
     // how many calls of each were answered as they should
     good: (u64, u64),
     entries: u64,
@@ -97,57 +97,44 @@ struct Seen {
     audited: Result<(), AuditFault>,
 }
 
-// Lets the first session and the last work.
-struct WorkByBoth;
+/// Lets the first session and the last work.
+pub(crate) fn work_by_both<L: Round + Send + Sync, R: Threads + Wait + Sync>(
+    rt: &R,
+    store: &SharedStore<L, CellPayload>,
+    sessions: &mut [Session<L>],
+) -> Option<(u64, u64)> {
+    let (first, others) = sessions.split_first_mut()?;
+    Some(work_at_once(rt, store, first, others.first_mut()?))
+}
 
-impl Story for WorkByBoth {
-    type Told = (u64, u64);
-
-    type Seen = Seen;
-
-    fn tell<L: Round + Send + Sync, R: Threads + Wait + Sync>(
-        &self,
-        rt: &R,
-        _alloc: Global,
-        store: &SharedStore<L, CellPayload>,
-        sessions: &mut Vec<Session<L>>,
-    ) -> Option<(u64, u64)> {
-        let (first, others) = sessions.split_first_mut()?;
-        Some(work_at_once(rt, store, first, others.first_mut()?))
-    }
-
-    fn look(
-        alloc: Global,
-        good: (u64, u64),
-        _why_not_closed: CloseFault,
-        store: &Store<CellPayload>,
-    ) -> Option<Seen> {
-        let kept = opening_with(alloc, "rw")?;
-        let journal = store.journal();
-        Some(Seen {
-            good,
-            entries: journal.len(),
-            audited: audit(alloc, &kept, journal.entries()),
-        })
-    }
+/// What is seen, once the store is closed.
+pub(crate) fn writes_of(alloc: Global, good: (u64, u64), journal: &Journal) -> Option<Served> {
+    let kept = opening_with(alloc, "rw")?;
+    Some(Served {
+        good,
+        entries: journal.len(),
+        audited: audit(alloc, &kept, journal.entries()),
+    })
 }
 
 // Compares what is seen of a store whose workers have these rights over one another.
 fn check(
     rt: &(impl Abort + AllocGlobal + Threads + Wait + Sync),
     letters: &str,
-    wanted: Seen,
+    wanted: Served,
 ) -> Result<(), Fail> {
     let alloc = rt.alloc();
     let opening = opening_with(alloc, letters);
-    let seen = seen_of(rt, alloc, &WorkByBoth, opening).ok_or("a refusal")?;
+    let Some(Seen::Writes(seen)) = seen_of(rt, alloc, Story::WorkOnTwoThreads, opening) else {
+        return Err(Fail::from("a refusal"));
+    };
     assert_eq!(rt; seen, wanted);
     Ok(())
 }
 
 #[test]
 fn two_sessions_read_their_own_writes(rt: HostRuntime) -> Result<(), Fail> {
-    let wanted = Seen {
+    let wanted = Served {
         good: (102, 102),
         entries: 200,
         audited: Ok(()),
@@ -158,7 +145,7 @@ fn two_sessions_read_their_own_writes(rt: HostRuntime) -> Result<(), Fail> {
 // A store that was opened otherwise than its users were told is found out by an audit from the opening that they kept.
 #[test]
 fn another_opening_behind_the_lock(rt: HostRuntime) -> Result<(), Fail> {
-    let wanted = Seen {
+    let wanted = Served {
         good: (3, 3),
         entries: 200,
         audited: Err(AuditFault::BadEntry { at: 0 }),
