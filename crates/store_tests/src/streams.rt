@@ -142,7 +142,10 @@ fn run_one<S: Source, K: Sink>(
 ) -> Result<Result<(), ScriptFault>, AllocError> {
     let settings = settings_of(workers)?;
     let cells_of_workers = cells(alloc, workers)?;
-    if workers < 1 || 64 < workers || cells_of_workers.len() as u64 != settings.workers {
+    if settings.workers < 1
+        || 64 < settings.workers
+        || cells_of_workers.len() as u64 != settings.workers
+    {
         return Err(AllocError);
     }
     let stock = cells(alloc, 1)?;
