@@ -1,6 +1,7 @@
 //! The journal of the script `grant_then_denied_write`, written by hand, as it is, altered and damaged; and journals of appends and
 //! inspections, and of subjects that come and go.
 
+use crate::rows_on_the_plain_graph::label;
 use std::alloc::{AllocError, Global};
 use std::test::Fail;
 use tg_journal::{AuditFault, Entry, Journal, audit};
@@ -9,22 +10,15 @@ use tg_model::{
 };
 use tg_rights::{Label, Right, Rights};
 
-fn label(letters: &str) -> Result<Label, Fail> {
-    match Label::read_text(letters.as_bytes()) {
-        Some(label) => Ok(label),
-        None => Err(Fail::from("no label")),
-    }
-}
-
 // Two workers, with a cell of 0 each. The first may take from the second and grant to it.
 fn opening(alloc: Global) -> Result<Opening, Fail> {
-    let mut edges = Vec::new(alloc);
-    edges.push(Edge {
+    let values = cells(alloc)?;
+    let edge = Edge {
         from: 0,
         to: 1,
-        label: label("tg")?,
-    })?;
-    Ok(Opening::new(2, edges, cells(alloc)?, 8)?)
+        label: label("tg"),
+    };
+    Ok(Opening::new(2, vec![in alloc; edge]?, values, 8)?)
 }
 
 // Two cells of 0.
@@ -72,21 +66,21 @@ enum Said {
     Retired(u64),
 }
 
-fn entry(alloc: Global, said: Said) -> Result<Entry, Fail> {
+fn entry(alloc: Global, said: Said) -> Result<Entry, AllocError> {
     Ok(match said {
-        Said::Created => created(Law::Cell, Numbers::one(0), label("rw")?),
-        Said::Misfit => created(Law::Cell, Numbers::none(), label("rw")?),
-        Said::Granted => granted(1, 2, label("r")?),
+        Said::Created => created(Law::Cell, Numbers::one(0), label("rw")),
+        Said::Misfit => created(Law::Cell, Numbers::none(), label("rw")),
+        Said::Granted => granted(1, 2, label("r")),
         Said::Read(state) => read(state),
         Said::Denied(worker) => denied_write(worker),
-        Said::Appendable => created(Law::Cell, Numbers::one(0), label("a")?),
-        Said::Logged => created(Law::Log(4), Numbers::none(), label("gal")?),
+        Said::Appendable => created(Law::Cell, Numbers::one(0), label("a")),
+        Said::Logged => created(Law::Log(4), Numbers::none(), label("gal")),
         Said::Appended => appended(Reply::Done),
         Said::NotLog => appended(Reply::Denied(not_log())),
-        Said::Handed => granted(2, 1, label("t")?),
-        Said::Inspected(letters) => inspected(alloc, label(letters)?)?,
-        Said::Spawned => spawned(Reply::Name(2), label("r")?),
-        Said::Crowded => spawned(Reply::WorkersFull, label("r")?),
+        Said::Handed => granted(2, 1, label("t")),
+        Said::Inspected(letters) => inspected(alloc, label(letters))?,
+        Said::Spawned => spawned(Reply::Name(2), label("r")),
+        Said::Crowded => spawned(Reply::WorkersFull, label("r")),
         Said::Retired(worker) => retired(worker),
     })
 }
@@ -197,7 +191,7 @@ fn denied_write(worker: u64) -> Entry {
 }
 
 // Adds the entry.
-fn enter(alloc: Global, journal: &mut Journal, said: Said) -> Result<(), Fail> {
+fn enter(alloc: Global, journal: &mut Journal, said: Said) -> Result<(), AllocError> {
     journal.reserve()?;
     journal.push(entry(alloc, said)?);
     Ok(())
@@ -299,13 +293,18 @@ fn altered_and_damaged_journals(rt: HostRuntime) -> Result<(), Fail> {
 // What the audit finds in a journal of 3,002 entries, the last of them by this worker.
 fn audited_long(alloc: Global, last: u64) -> Result<Option<u64>, Fail> {
     let mut journal = Journal::new(alloc);
-    enter(alloc, &mut journal, Said::Created)?;
-    enter(alloc, &mut journal, Said::Granted)?;
-    for _ in 0..2999 {
-        enter(alloc, &mut journal, Said::Denied(1))?;
-    }
-    enter(alloc, &mut journal, Said::Denied(last))?;
+    enter_long(alloc, &mut journal, last)?;
     found_in(alloc, &journal)
+}
+
+// Enters these.
+fn enter_long(alloc: Global, journal: &mut Journal, last: u64) -> Result<(), AllocError> {
+    enter(alloc, journal, Said::Created)?;
+    enter(alloc, journal, Said::Granted)?;
+    for _ in 0..2999 {
+        enter(alloc, journal, Said::Denied(1))?;
+    }
+    enter(alloc, journal, Said::Denied(last))
 }
 
 #[test]

@@ -149,23 +149,39 @@ fn are_forwarded(words: &[u64]) -> bool {
     words.len() == 3 && words[2] == 0 && leads_to(words[0], FIRST) && leads_to(words[1], SECOND)
 }
 
+// Whether the events happen, whether one record is left that has all, and whether both cells have their places.
+fn race(world: &mut World) -> Result<(bool, bool, bool), AllocError> {
+    let happened = race_to_the_meeting(world)?;
+    let left = has_all(world.record_of(0)) && world.record_of(2).is_none();
+    Ok((happened, left, are_forwarded(world.words())))
+}
+
+fn race_in(alloc: Global) -> Result<(bool, bool, bool), AllocError> {
+    let mut world = three_cells(alloc)?;
+    race(&mut world)
+}
+
 #[test]
 fn race_of_three_cells(rt: HostRuntime) -> Result<(), Fail> {
-    let mut world = three_cells(rt.alloc())?;
-    assert!(rt; race_to_the_meeting(&mut world)?);
-    assert!(rt; has_all(world.record_of(0)) && world.record_of(2).is_none());
-    assert!(rt; are_forwarded(world.words()));
+    assert_eq!(rt; race_in(rt.alloc())?, (true, true, true));
     Ok(())
+}
+
+// What one helper is handed at a table: its chunk of roots, whether a cell has no place yet, a block of Old, an aged one, and how many
+// words it closes with.
+fn handed_at_the_table(alloc: Global) -> Result<(u64, bool, u64, u64, usize), Fail> {
+    // three blocks of Old stay, and five cells behind them may be moved
+    let (table, mut helper) = RaceTable::open(alloc, 197, 9, 3, 1)?;
+    let chunk = helper.claim_roots(&table);
+    let has_no_place = helper.look(&table, 196).is_none();
+    let old = helper.claim_block(&table, false);
+    let aged = helper.claim_block(&table, true);
+    let words = table.close(helper).len();
+    Ok((chunk, has_no_place, old, aged, words))
 }
 
 #[test]
 fn one_helper_at_the_table(rt: HostRuntime) -> Result<(), Fail> {
-    // three blocks of Old stay, and five cells behind them may be moved
-    let (table, mut helper) = RaceTable::open(rt.alloc(), 197, 9, 3, 1)?;
-    assert_eq!(rt; helper.claim_roots(&table), 0);
-    assert!(rt; helper.look(&table, 196).is_none());
-    assert_eq!(rt; helper.claim_block(&table, false), 3);
-    assert_eq!(rt; helper.claim_block(&table, true), 0);
-    assert_eq!(rt; table.close(helper).len(), 5);
+    assert_eq!(rt; handed_at_the_table(rt.alloc())?, (0, true, 3, 0, 5));
     Ok(())
 }

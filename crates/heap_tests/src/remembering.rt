@@ -1,5 +1,5 @@
 //! The remembered set.
-use std::alloc::AllocError;
+use std::alloc::{AllocError, Global};
 use std::test::Fail;
 use tg_remember::Remembered;
 use tg_word::Place;
@@ -23,6 +23,13 @@ fn are_remembered(remembered: &Remembered, places: &[Place]) -> bool {
     remembered.len() == places.len()
 }
 
+// Whether the places that are noted in a set are remembered as these.
+fn are_noted(alloc: Global, noted: &[Place], wanted: &[Place]) -> Result<bool, AllocError> {
+    let mut remembered = Remembered::new(alloc);
+    note_each(&mut remembered, noted)?;
+    Ok(are_remembered(&remembered, wanted))
+}
+
 #[test]
 fn each_place_once_in_the_order_of_first_notes(rt: HostRuntime) -> Result<(), Fail> {
     let first = Place {
@@ -35,8 +42,6 @@ fn each_place_once_in_the_order_of_first_notes(rt: HostRuntime) -> Result<(), Fa
         block: 0,
         cell: 63,
     };
-    let mut remembered = Remembered::new(rt.alloc());
-    note_each(&mut remembered, &[first, second, first])?;
-    assert!(rt; are_remembered(&remembered, &[first, second]));
+    assert!(rt; are_noted(rt.alloc(), &[first, second, first], &[first, second])?);
     Ok(())
 }

@@ -101,28 +101,42 @@ fn words_off_the_layout(rt: HostRuntime) {
     }
 }
 
+// What is answered for another cell of nursery 0 once it is full, and how many blocks there are then.
+fn next_of_full(alloc: Global) -> Result<(Option<Result<Place, AllocateFault>>, u64), Fail> {
+    let mut spaces = filled(alloc)?;
+    let next = next_cell(&mut spaces, 0);
+    Ok((next, spaces.blocks()))
+}
+
 #[test]
 fn nurseries_fill_and_refuse(rt: HostRuntime) -> Result<(), Fail> {
-    let mut spaces = filled(rt.alloc())?;
-    assert_eq!(rt;
-        next_cell(&mut spaces, 0),
-        Some(Err(AllocateFault::HeapFull))
-    );
-    assert_eq!(rt; spaces.blocks(), 2);
+    let seen = next_of_full(rt.alloc())?;
+    assert_eq!(rt; seen, (Some(Err(AllocateFault::HeapFull)), 2));
     Ok(())
+}
+
+// Whether the place has the flat number 64, and that the place.
+fn is_number_64(spaces: &Spaces, place: Place) -> (bool, bool) {
+    (
+        spaces.holds(place) && spaces.flat(place) == 64,
+        64 < spaces.cells() && spaces.unflat(64) == place,
+    )
+}
+
+fn is_number_64_of_filled(alloc: Global, place: Place) -> Result<(bool, bool), Fail> {
+    let spaces = filled(alloc)?;
+    Ok(is_number_64(&spaces, place))
 }
 
 // The first cell of nursery 1, which stands behind the 64 of nursery 0.
 #[test]
 fn flat_numbers(rt: HostRuntime) -> Result<(), Fail> {
-    let spaces = filled(rt.alloc())?;
     let place = Place {
         space: 3,
         block: 0,
         cell: 0,
     };
-    assert!(rt; spaces.holds(place) && spaces.flat(place) == 64);
-    assert!(rt; 64 < spaces.cells() && spaces.unflat(64) == place);
+    assert_eq!(rt; is_number_64_of_filled(rt.alloc(), place)?, (true, true));
     Ok(())
 }
 
@@ -149,10 +163,15 @@ fn has_one_old_block(spaces: &Spaces) -> bool {
         && spaces.used(3) == 0
 }
 
+// Whether that is so of filled spaces that adopt one.
+fn has_one_once_adopted(alloc: Global) -> Result<bool, Fail> {
+    let mut spaces = filled(alloc)?;
+    adopt_one(alloc, &mut spaces)?;
+    Ok(has_one_old_block(&spaces))
+}
+
 #[test]
 fn full_adoption(rt: HostRuntime) -> Result<(), Fail> {
-    let mut spaces = filled(rt.alloc())?;
-    adopt_one(rt.alloc(), &mut spaces)?;
-    assert!(rt; has_one_old_block(&spaces));
+    assert!(rt; has_one_once_adopted(rt.alloc())?);
     Ok(())
 }

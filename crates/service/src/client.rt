@@ -8,13 +8,6 @@ use tg_rights::Label;
 use tg_shared::{Round, Session, SharedStore};
 use tg_store::{ApplyFault, Kind, StoreFault};
 
-/// A client of the service: its session, and the document that was handed to it.
-#[derive(Drop)]
-pub struct Client<L: Round> {
-    pub session: Session<L>,
-    pub document: u64,
-}
-
 /// What a client sees as it leaves: how many vertices a full collection counts before its retire and after it, and why its next line
 /// is refused.
 #[derive(Clone, Copy, Debug)]
@@ -29,62 +22,105 @@ pub fn zero(alloc: Global) -> Result<Draft<SumPayload>, StoreFault> {
     Ok(Draft::new(alloc, SumPayload::new(0))?)
 }
 
-impl<L: Round> Client<L> {
-    /// Makes a document and spawns a client, with these rights over both. Hands those over the document on to the client, and gives up
-    /// those over the client: what the client makes is reached through itself alone.
-    pub fn welcome<R: Wait + AllocGlobal>(
-        rt: &R,
-        store: &SharedStore<L, SumPayload>,
-        service: &mut Session<L>,
-        rights: Label,
-    ) -> Result<Client<L>, StoreFault> {
-        let document = service.create(rt, store, rights, zero(rt.alloc())?)?;
-        let session = service.spawn(rt, store, rights, zero(rt.alloc())?)?;
-        let target = session.worker();
-        let grant = Command::Grant {
-            via: target,
-            target: document,
-            rights,
-        };
-        service.call(rt, store, grant)?;
-        service.call(rt, store, Command::Remove { target, rights })?;
-        Ok(Client { session, document })
-    }
+// Makes a vertex over which the session's subject has these rights. Answers its name.
+fn make<L: Round, R: Wait + AllocGlobal>(
+    rt: &R,
+    store: &SharedStore<L, SumPayload>,
+    session: &mut Session<L>,
+    rights: Label,
+) -> Result<u64, StoreFault> {
+    Ok(session.create(rt, store, rights, zero(rt.alloc())?)?)
+}
 
-    /// Adds 1 to the document, twenty times.
-    pub fn work<R: Wait>(
-        &mut self,
-        rt: &R,
-        store: &SharedStore<L, SumPayload>,
-    ) -> Result<(), StoreFault> {
-        let target = self.document;
-        for _ in 0..20 {
-            let write = Command::Write { target, value: 1 };
-            self.session.call(rt, store, write)?;
-        }
-        Ok(())
-    }
+// Lets the session's subject command. What is replied is passed over.
+fn command<L: Round, R: Wait>(
+    rt: &R,
+    store: &SharedStore<L, SumPayload>,
+    session: &mut Session<L>,
+    command: Command,
+) -> Result<(), StoreFault> {
+    let _reply = session.call(rt, store, command)?;
+    Ok(())
+}
 
-    /// Works, makes two notes that it alone has these rights over, and retires.
-    pub fn work_and_leave<R: Wait + AllocGlobal>(
-        &mut self,
-        rt: &R,
-        store: &SharedStore<L, SumPayload>,
-        rights: Label,
-    ) -> Result<Leave, StoreFault> {
-        self.work(rt, store)?;
-        let session = &mut self.session;
-        for _ in 0..2 {
-            session.create(rt, store, rights, zero(rt.alloc())?)?;
-        }
-        let before = session.collect(rt, store, Kind::Full)?;
-        session.call(rt, store, Command::Retire)?;
-        let refused = session.call(rt, store, Command::List).err();
-        let after = session.collect(rt, store, Kind::Full)?;
-        Ok(Leave {
-            before,
-            after,
-            refused,
-        })
+/// Makes a document and spawns a client, with these rights over both, and puts its session behind those of the other clients. Hands
+/// the rights over the document on to the client, and gives up those over the client: what the client makes is reached through itself
+/// alone. Answers the document's name.
+pub fn welcome<L: Round, R: Wait + AllocGlobal>(
+    rt: &R,
+    store: &SharedStore<L, SumPayload>,
+    service: &mut Session<L>,
+    clients: &mut Vec<Session<L>>,
+    rights: Label,
+) -> Result<u64, StoreFault> {
+    let document = make(rt, store, service, rights)?;
+    let client = spawn(rt, store, service, clients, rights)?;
+    let grant = Command::Grant {
+        via: client,
+        target: document,
+        rights,
+    };
+    command(rt, store, service, grant)?;
+    let target = client;
+    command(rt, store, service, Command::Remove { target, rights })?;
+    Ok(document)
+}
+
+// Spawns a client over which the service has these rights. Answers its name.
+fn spawn<L: Round, R: Wait + AllocGlobal>(
+    rt: &R,
+    store: &SharedStore<L, SumPayload>,
+    service: &mut Session<L>,
+    clients: &mut Vec<Session<L>>,
+    rights: Label,
+) -> Result<u64, StoreFault> {
+    let session = service.spawn(rt, store, rights, zero(rt.alloc())?)?;
+    let name = session.worker();
+    clients.push(session)?;
+    Ok(name)
+}
+
+/// Adds 1 to the document, twenty times.
+pub fn work<L: Round, R: Wait>(
+    rt: &R,
+    store: &SharedStore<L, SumPayload>,
+    client: &mut Session<L>,
+    document: u64,
+) -> Result<(), StoreFault> {
+    let target = document;
+    for _ in 0..20 {
+        command(rt, store, client, Command::Write { target, value: 1 })?;
     }
+    Ok(())
+}
+
+/// Works, makes two notes that the client alone has these rights over, and retires.
+pub fn work_and_leave<L: Round, R: Wait + AllocGlobal>(
+    rt: &R,
+    store: &SharedStore<L, SumPayload>,
+    client: &mut Session<L>,
+    document: u64,
+    rights: Label,
+) -> Result<Leave, StoreFault> {
+    work(rt, store, client, document)?;
+    for _ in 0..2 {
+        make(rt, store, client, rights)?;
+    }
+    retire(rt, store, client)
+}
+
+fn retire<L: Round, R: Wait>(
+    rt: &R,
+    store: &SharedStore<L, SumPayload>,
+    session: &mut Session<L>,
+) -> Result<Leave, StoreFault> {
+    let before = session.collect(rt, store, Kind::Full)?;
+    session.call(rt, store, Command::Retire)?;
+    let refused = session.call(rt, store, Command::List).err();
+    let after = session.collect(rt, store, Kind::Full)?;
+    Ok(Leave {
+        before,
+        after,
+        refused,
+    })
 }

@@ -9,8 +9,8 @@ ghost use Rattle.tg_shared.specs.Sessions.{start_of_store};
 
 mod client;
 
-use anyhow::{Context, Result};
-use client::{Client, Leave, zero};
+use anyhow::{Context, Error, Result};
+use client::{Leave, welcome, work, work_and_leave, zero};
 use std::alloc::Global;
 use std::marker::Brand;
 use std::sync::Wait;
@@ -18,7 +18,7 @@ use std::sync::ledger::Blank;
 use std::thread::{Threads, join};
 use tg_journal::audit;
 use tg_model::{Command, Opening, Reply};
-use tg_payload::{SumPayload, values_of};
+use tg_payload::{Draft, SumPayload, values_of};
 use tg_rights::Label;
 use tg_shared::{Round, Session, Shared, SharedStore, close};
 use tg_store::{Limits, Store, StoreFault};
@@ -31,12 +31,18 @@ fn main(rt: HostRuntime) -> Result<()> {
 
 // A store with the service alone, in which at most 12 vertices may ever be made.
 fn open_store(alloc: Global) -> Result<Store<SumPayload>, StoreFault> {
+    let limits = Limits::new(16, 4)?;
     let drafts = vec![in alloc; zero(alloc)?]?;
-    let opening = Opening::new(1, Vec::new(alloc), values_of(alloc, &drafts)?, 12)?;
-    Ok(Store::open(alloc, opening, Limits::new(16, 4)?, drafts)?)
+    let opening = opening_of(alloc, &drafts)?;
+    Ok(Store::open(alloc, opening, limits, drafts)?)
 }
 
-// Shares the store, serves, closes with all sessions, and audits the journal.
+fn opening_of(alloc: Global, drafts: &[Draft<SumPayload>]) -> Result<Opening, StoreFault> {
+    let values = values_of(alloc, drafts)?;
+    Ok(Opening::new(1, Vec::new(alloc), values, 12)?)
+}
+
+// Shares the store, serves, closes and audits.
 fn share<L: Round + Send + Sync, R: Threads + Wait + Sync + Print + AllocGlobal>(
     rt: &R,
     blank: Blank,
@@ -46,62 +52,134 @@ fn share<L: Round + Send + Sync, R: Threads + Wait + Sync + Print + AllocGlobal>
     requires parts { (blank.parts ≡ L.parts) × (blank.parts ≡ store.opening.limit + 1) }
     requires start { start_of_store store ≡ L.start }
 {
-    let shared = SharedStore::<L, SumPayload>::new(rt.alloc(), blank, store).ok();
-    let Shared { store, sessions } = shared.ok_or(StoreFault::OutOfMemory)?;
-    let sessions = serve(rt, &store, sessions)?;
+    match SharedStore::<L, SumPayload>::new(rt.alloc(), blank, store) {
+        Ok(shared) => serve_and_close(rt, shared),
+        Err(_) => Err(StoreFault::OutOfMemory.into()),
+    }
+}
+
+// Serves, closes with all sessions, and audits the journal.
+fn serve_and_close<L: Round + Send + Sync, R: Threads + Wait + Sync + Print + AllocGlobal>(
+    rt: &R,
+    shared: Shared<L, SumPayload>,
+) -> Result<()> {
+    let Shared {
+        store,
+        mut sessions,
+    } = shared;
+    serve(rt, &store, &mut sessions)?;
     let store = close(store, sessions).map_err(|refused| refused.why)?;
-    audit(rt.alloc(), store.opening(), store.journal().entries())?;
-    println!(rt; "audit ok, {} entries", store.journal().len())?;
+    let entries = audited(rt.alloc(), &store);
+    drop(store);
+    println!(rt; "audit ok, {} entries", entries?)?;
     Ok(())
 }
 
-// Lets three clients come, work, and one of them leave, and tells what came of it. Answers all sessions.
+// How many entries the store's journal has, which passed its audit.
+fn audited(alloc: Global, store: &Store<SumPayload>) -> Result<u64, StoreFault> {
+    audit(alloc, store.opening(), store.journal().entries())?;
+    Ok(store.journal().len())
+}
+
+// Lets the service, which has the only session, serve. The clients' sessions and its own stand there in the end.
 fn serve<L: Round + Send + Sync, R: Threads + Wait + Sync + Print + AllocGlobal>(
     rt: &R,
     store: &SharedStore<L, SumPayload>,
-    mut sessions: Vec<Session<L>>,
-) -> Result<Vec<Session<L>>> {
-    let rights = Label::read_text(b"rwg").context("bad label")?;
+    sessions: &mut Vec<Session<L>>,
+) -> Result<()> {
     let mut service = sessions.pop().context("no session")?;
-    let mut first = Client::welcome(rt, store, &mut service, rights)?;
-    let mut leaving = Client::welcome(rt, store, &mut service, rights)?;
-    let mut last = Client::welcome(rt, store, &mut service, rights)?;
-    let left = work_at_once(rt, store, rights, &mut first, &mut leaving, &mut last)?;
-    println!(rt; "{} vertices before a client leaves", left.before)?;
-    println!(rt; "{} vertices after it", left.after)?;
-    if let Some(fault) = left.refused {
-        println!(rt; "its next line is refused: {fault}")?;
-    }
-    for client in [first, leaving, last] {
-        let target = client.document;
-        if let Reply::Values(values) = service.call(rt, store, Command::Read { target })? {
-            println!(rt; "document {target} says {:?}", values.as_slice())?;
-        }
-        sessions.push(client.session)?;
-    }
+    let served = serve_clients(rt, store, &mut service, sessions);
     sessions.push(service)?;
-    Ok(sessions)
+    served
 }
 
-// Each client on a thread of its own.
+// Lets three clients come, work, and one of them leave, and tells what came of it.
+fn serve_clients<L: Round + Send + Sync, R: Threads + Wait + Sync + Print + AllocGlobal>(
+    rt: &R,
+    store: &SharedStore<L, SumPayload>,
+    service: &mut Session<L>,
+    clients: &mut Vec<Session<L>>,
+) -> Result<()> {
+    let rights = Label::read_text(b"rwg").context("bad label")?;
+    let documents = welcome_three(rt, store, service, clients, rights)?;
+    let left = work_at_once(rt, store, clients, documents, rights)?;
+    tell_leave(rt, left)?;
+    for document in documents {
+        tell_document(rt, store, service, document)?;
+    }
+    Ok(())
+}
+
+fn welcome_three<L: Round, R: Wait + AllocGlobal>(
+    rt: &R,
+    store: &SharedStore<L, SumPayload>,
+    service: &mut Session<L>,
+    clients: &mut Vec<Session<L>>,
+    rights: Label,
+) -> Result<[u64; 3], StoreFault> {
+    let first = welcome(rt, store, service, clients, rights)?;
+    let leaving = welcome(rt, store, service, clients, rights)?;
+    let last = welcome(rt, store, service, clients, rights)?;
+    Ok([first, leaving, last])
+}
+
 fn work_at_once<L: Round + Send + Sync, R: Threads + Wait + Sync + AllocGlobal>(
     rt: &R,
     store: &SharedStore<L, SumPayload>,
+    clients: &mut [Session<L>],
+    documents: [u64; 3],
     rights: Label,
-    first: &mut Client<L>,
-    leaving: &mut Client<L>,
-    last: &mut Client<L>,
+) -> Result<Leave> {
+    match clients {
+        [first, leaving, last] => {
+            Ok(work_on_threads(rt, store, first, leaving, last, documents, rights)?)
+        }
+        _ => Err(Error::msg("a client is missing")),
+    }
+}
+
+// Each client on a thread of its own.
+fn work_on_threads<L: Round + Send + Sync, R: Threads + Wait + Sync + AllocGlobal>(
+    rt: &R,
+    store: &SharedStore<L, SumPayload>,
+    first: &mut Session<L>,
+    leaving: &mut Session<L>,
+    last: &mut Session<L>,
+    documents: [u64; 3],
+    rights: Label,
 ) -> Result<Leave, StoreFault> {
+    let [of_first, of_leaving, of_last] = documents;
     let (left, (by_first, by_last)) = join(
         rt,
-        move || leaving.work_and_leave(rt, store, rights),
+        move || work_and_leave(rt, store, leaving, of_leaving, rights),
         move || join(
             rt,
-            move || first.work(rt, store),
-            move || last.work(rt, store),
+            move || work(rt, store, first, of_first),
+            move || work(rt, store, last, of_last),
         ),
     );
     by_first?;
     by_last?;
     left
+}
+
+fn tell_leave<R: Print>(rt: &R, left: Leave) -> Result<()> {
+    println!(rt; "{} vertices before a client leaves", left.before)?;
+    println!(rt; "{} vertices after it", left.after)?;
+    if let Some(fault) = left.refused {
+        println!(rt; "its next line is refused: {fault}")?;
+    }
+    Ok(())
+}
+
+fn tell_document<L: Round, R: Wait + Print>(
+    rt: &R,
+    store: &SharedStore<L, SumPayload>,
+    service: &mut Session<L>,
+    target: u64,
+) -> Result<()> {
+    if let Reply::Values(values) = service.call(rt, store, Command::Read { target })? {
+        println!(rt; "document {target} says {:?}", values.as_slice())?;
+    }
+    Ok(())
 }

@@ -1,5 +1,5 @@
 //! The numbers in the help.
-use std::alloc::Global;
+use std::alloc::{AllocError, Global};
 use std::test::Fail;
 use tg_block::CELLS;
 use tg_model::{MAX_VERTICES, MAX_WORKERS};
@@ -16,12 +16,9 @@ fn help_text(alloc: Global) -> Result<String, Fail> {
     }
 }
 
-// The help has each number as it is in the code.
-#[test]
-fn help_is_true(rt: HostRuntime) -> Result<(), Fail> {
-    let alloc = rt.alloc();
-    let text = help_text(alloc)?;
-    let lines: [(&str, u64, &str); 11] = [
+// Each number of the help, with what stands before it and behind it.
+fn numbers() -> [(&'static str, u64, &'static str); 11] {
+    [
         (
             "How many workers there are at first, from 1 to ",
             MAX_WORKERS,
@@ -49,10 +46,27 @@ fn help_is_true(rt: HostRuntime) -> Result<(), Fail> {
         ("[default: ", DEFAULT_BLOCKS, "]"),
         ("of at most ", MOST_LINE_BYTES as u64, " bytes"),
         ("at most ", u64::from(MOST_BYTES >> 20), " MiB in all"),
-    ];
-    for (before, number, after) in lines {
-        let line = format!(in alloc; "{before}{number}{after}")?;
-        assert!(rt; text.as_str().contains(line.as_str()), "{line}");
+    ]
+}
+
+// Whether the text has the number between these.
+fn has_number(alloc: Global, text: &str, number: (&str, u64, &str)) -> Result<bool, AllocError> {
+    let (before, number, after) = number;
+    let line = format!(in alloc; "{before}{number}{after}")?;
+    Ok(text.contains(line.as_str()))
+}
+
+// Whether the help has it.
+fn help_has_number(alloc: Global, number: (&str, u64, &str)) -> Result<bool, Fail> {
+    let text = help_text(alloc)?;
+    Ok(has_number(alloc, text.as_str(), number)?)
+}
+
+// The help has each number as it is in the code.
+#[test]
+fn help_is_true(rt: HostRuntime) -> Result<(), Fail> {
+    for number in numbers() {
+        assert!(rt; help_has_number(rt.alloc(), number)?, "{}", number.0);
     }
     Ok(())
 }

@@ -28,17 +28,31 @@ const BOTH_KINDS: Row<'static> = Row {
     written: b"ok\nok 2\n",
 };
 
+// Collects the store with so many helpers, the nurseries and then all. How often they passed the gate, where none missed another.
+fn passes_of_both<R: Threads + Wait + Sync>(
+    rt: &R,
+    alloc: Global,
+    store: &mut Store<CellPayload>,
+    helpers: u32,
+    gate: &Meet,
+) -> Option<u64>
+    requires { (1 ≤ helpers) × (helpers ≤ 8) }
+{
+    for kind in [Kind::Nursery, Kind::Full] {
+        let _left = collect_with(rt, alloc, store, kind, helpers, gate).ok()?;
+    }
+    (!gate.is_missed()).then_some(gate.passes())
+}
+
 // Collects a store of two workers in the same way. How often the helpers passed a gate at which they met, where none missed another.
 fn passes_of_a_store<R: Threads + Wait + Sync>(rt: &R, alloc: Global, helpers: u32) -> Option<u64>
     requires { (1 ≤ helpers) × (helpers ≤ 8) }
 {
     let gate = Meet::of(alloc, helpers, MANY_TURNS).ok()?;
     let mut store = store_with(alloc, "rw")?;
-    for kind in [Kind::Nursery, Kind::Full] {
-        let _left = collect_with(rt, alloc, &mut store, kind, helpers, &gate).ok()?;
-    }
+    let passes = passes_of_both(rt, alloc, &mut store, helpers, &gate);
     drop(store);
-    (!gate.is_missed()).then_some(gate.passes())
+    passes
 }
 
 // In each collection the gate is passed for the workers' rows, which are one chunk of roots, and once more by each helper.
@@ -124,22 +138,24 @@ fn serve_counted<C: Collector, A: Ledger, F: Ledger, R: Threads + Wait + Sync>(
     requires asked { (asked.name ≡ A.name) × (asked.parts ≡ A.parts) × (0 < asked.parts) }
     requires failures { (failures.name ≡ F.name) × (failures.parts ≡ F.parts) × (0 < failures.parts) }
 {
-    let mut source = Bytes::new(BOTH_KINDS.script, Count::<A>::new(asked));
-    let mut sink = Written::new(alloc, Count::<F>::new(failures));
+    let limits = settings_of(&BOTH_KINDS, 1)?.limits;
+    let workers = vec![in alloc; CellPayload::new(0)]?;
+    let payloads = RunPayloads {
+        workers,
+        stock: Vec::new(alloc),
+    };
     let start = Start {
         settings: Settings {
             workers: 1,
             helpers,
             max_vertices: 1,
-            limits: settings_of(&BOTH_KINDS, 1)?.limits,
+            limits,
         },
         race: false,
         stock: Vec::new(alloc),
     };
-    let payloads = RunPayloads {
-        workers: vec![in alloc; CellPayload::new(0)]?,
-        stock: Vec::new(alloc),
-    };
+    let mut source = Bytes::new(BOTH_KINDS.script, Count::<A>::new(asked));
+    let mut sink = Written::new(alloc, Count::<F>::new(failures));
     let served = serve(
         rt,
         alloc,
@@ -170,17 +186,28 @@ fn serve_both_kinds<C: Collector, R: Threads + Wait + Sync>(
     serve_counted::<C, Brand, Brand, R>(rt, alloc, collector, helpers, asked, failures)
 }
 
+// For how many helpers a run asks for a collection of each kind, where it writes what it should.
+fn asked_by_a_run(alloc: Global) -> Result<Option<(u64, u64)>, Fail> {
+    let keeps = Keeps::none();
+    let written = run_both_kinds(alloc, &keeps, 3)?;
+    Ok((written.as_slice() == BOTH_KINDS.written).then_some(keeps.kept()))
+}
+
+// The same of a run that is served.
+fn asked_by_a_served_run<R: Threads + Wait + Sync>(
+    rt: &R,
+    alloc: Global,
+) -> Result<Option<(u64, u64)>, Fail> {
+    let three = Helpers::new(3).ok_or("no helpers")?;
+    let keeps = Keeps::none();
+    let written = serve_both_kinds(rt, alloc, &keeps, three)?;
+    Ok((written.as_slice() == b"ok\nok 1\n".as_slice()).then_some(keeps.kept()))
+}
+
 // The collector of a run is asked for as many helpers as the settings say, for each collection.
 #[test]
 fn as_many_helpers_as_the_settings_say(rt: HostRuntime) -> Result<(), Fail> {
-    let alloc = rt.alloc();
-    let (run, served) = (Keeps::none(), Keeps::none());
-    let written = run_both_kinds(alloc, &run, 3)?;
-    assert_eq!(rt; written.as_slice(), BOTH_KINDS.written);
-    assert_eq!(rt; run.kept(), (3, 3));
-    let three = Helpers::new(3).ok_or("no helpers")?;
-    let written = serve_both_kinds(&rt, alloc, &served, three)?;
-    assert_eq!(rt; written.as_slice(), b"ok\nok 1\n".as_slice());
-    assert_eq!(rt; served.kept(), (3, 3));
+    assert_eq!(rt; asked_by_a_run(rt.alloc())?, Some((3, 3)));
+    assert_eq!(rt; asked_by_a_served_run(&rt, rt.alloc())?, Some((3, 3)));
     Ok(())
 }

@@ -46,17 +46,35 @@ fn is_after<P: Payload>(
     Ok(table.law(key) == law && table.read(key)?.as_slice() == state)
 }
 
+// A box of each kind.
+fn cell_box(alloc: Global) -> Result<PayloadBox, AllocError> {
+    let cell: PayloadBox = Box::new(alloc, CellPayload::new(7))?;
+    Ok(cell)
+}
+
+fn sum_box(alloc: Global) -> Result<PayloadBox, AllocError> {
+    let sum: PayloadBox = Box::new(alloc, SumPayload::new(u64::MAX))?;
+    Ok(sum)
+}
+
+fn max_box(alloc: Global) -> Result<PayloadBox, AllocError> {
+    let max: PayloadBox = Box::new(alloc, MaxPayload::new(7))?;
+    Ok(max)
+}
+
+fn log_box(alloc: Global) -> Result<PayloadBox, AllocError> {
+    let log: PayloadBox = Box::new(alloc, LogPayload::new(alloc, 2))?;
+    Ok(log)
+}
+
 #[test]
 fn log_and_sum_payloads(rt: HostRuntime) -> Result<(), Fail> {
     let alloc = rt.alloc();
-    let cell: PayloadBox = Box::new(alloc, CellPayload::new(7))?;
-    let sum: PayloadBox = Box::new(alloc, SumPayload::new(u64::MAX))?;
-    let max: PayloadBox = Box::new(alloc, MaxPayload::new(7))?;
-    let log: PayloadBox = Box::new(alloc, LogPayload::new(alloc, 2))?;
-    assert!(rt; is_after(alloc, cell, (1, 2, 3), Law::Cell, &[3])?);
-    assert!(rt; is_after(alloc, sum, (1, 2, 3), Law::Sum, &[5])?);
-    assert!(rt; is_after(alloc, max, (5, 9, 8), Law::Max, &[9])?);
-    assert!(rt; is_after(alloc, log, (1, 2, 3), Law::Log(2), &[2, 3])?);
+    let cell = is_after(alloc, cell_box(alloc)?, (1, 2, 3), Law::Cell, &[3])?;
+    let sum = is_after(alloc, sum_box(alloc)?, (1, 2, 3), Law::Sum, &[5])?;
+    let max = is_after(alloc, max_box(alloc)?, (5, 9, 8), Law::Max, &[9])?;
+    let log = is_after(alloc, log_box(alloc)?, (1, 2, 3), Law::Log(2), &[2, 3])?;
+    assert_eq!(rt; [cell, sum, max, log], [true; 4]);
     Ok(())
 }
 
@@ -80,12 +98,16 @@ fn dropped_in_turn<P: Payload>(
     Ok((before, between, drops.load(Ordering::SeqCst)))
 }
 
-#[test]
-fn two_counting_boxes(rt: HostRuntime) -> Result<(), Fail> {
-    let alloc = rt.alloc();
+// The same of two boxes with payloads that count their drops.
+fn boxes_dropped_in_turn(alloc: Global) -> Result<(u64, u64, u64), AllocError> {
     let drops = Arc::new(alloc, AtomicU64::new(0))?;
     let first = counting_box(alloc, 1, &drops)?;
     let second = counting_box(alloc, 2, &drops)?;
-    assert_eq!(rt; dropped_in_turn(alloc, first, second, &drops)?, (0, 1, 2));
+    dropped_in_turn(alloc, first, second, &drops)
+}
+
+#[test]
+fn two_counting_boxes(rt: HostRuntime) -> Result<(), Fail> {
+    assert_eq!(rt; boxes_dropped_in_turn(rt.alloc())?, (0, 1, 2));
     Ok(())
 }

@@ -1,4 +1,4 @@
 //! Scripts whose workers run their lines side by side.
 mod orders;
-mod raced;
+pub(crate) mod raced;
 mod turnstiles;

@@ -55,28 +55,29 @@ fn ran_with_counting(
     drops: &Arc<AtomicU64>,
     script: &[u8],
 ) -> Result<InMemory, Fail> {
-    let stock = counting_boxes(alloc, drops)?;
-    let workers = worker_boxes(alloc, 1)?;
     let settings = Settings {
         workers: 1,
         helpers: Helpers::one(),
         max_vertices: 2,
         limits: limits_of(4096)?,
     };
+    let workers = worker_boxes(alloc, 1)?;
+    let stock = counting_boxes(alloc, drops)?;
     Ok(run_with(alloc, &OneThread, settings, workers, stock, script)?)
+}
+
+// Whether the run of a script whose second create is refused writes what it should, and how many boxes are dropped by its end.
+fn dropped_by_a_run(alloc: Global) -> Result<(bool, u64), Fail> {
+    let drops = Arc::new(alloc, AtomicU64::new(0))?;
+    let script = b"0 create rw\n0 create rw\n0 read 1\n";
+    let ran = ran_with_counting(alloc, &drops, script.as_slice())?;
+    let is_wanted = ran.written.as_slice() == b"ok 1\nrefused vertices\nok 1\n".as_slice();
+    Ok((is_wanted, drops.load(Ordering::SeqCst)))
 }
 
 // The second create is refused; what is in the store, and what is left in the stock, is dropped once, at the end.
 #[test]
 fn two_counting_boxes(rt: HostRuntime) -> Result<(), Fail> {
-    let alloc = rt.alloc();
-    let drops = Arc::new(alloc, AtomicU64::new(0))?;
-    let script = b"0 create rw\n0 create rw\n0 read 1\n";
-    let ran = ran_with_counting(alloc, &drops, script.as_slice())?;
-    assert_eq!(rt;
-        ran.written.as_slice(),
-        b"ok 1\nrefused vertices\nok 1\n".as_slice()
-    );
-    assert_eq!(rt; drops.load(Ordering::SeqCst), 2);
+    assert_eq!(rt; dropped_by_a_run(rt.alloc())?, (true, 2));
     Ok(())
 }

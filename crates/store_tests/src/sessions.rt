@@ -4,4 +4,5 @@ mod held;
 mod in_turn;
 pub(crate) mod opened;
 mod spawned;
+mod story;
 mod two_threads;

@@ -57,25 +57,49 @@ fn not_log() -> Denial {
     }
 }
 
+// Whether the reply is shown so.
+fn is_reply(alloc: Global, reply: Reply, wanted: &str) -> bool {
+    is_shown(alloc, AsText(&reply), wanted)
+}
+
+// Whether the denial is shown so.
+fn is_denial(alloc: Global, denial: &Denial, wanted: &str) -> bool {
+    is_shown(alloc, AsText(denial), wanted)
+}
+
+// Whether each of the replies is shown as it should be.
+fn are_replies(alloc: Global) -> Result<[bool; 6], AllocError> {
+    Ok([
+        is_reply(alloc, Reply::Done, "ok"),
+        is_reply(alloc, Reply::Name(40), "ok 40"),
+        is_reply(
+            alloc,
+            Reply::Denied(not_distinct(Rule::Take)),
+            "denied take distinct",
+        ),
+        is_reply(alloc, values(alloc)?, "ok 7 18446744073709551615"),
+        is_reply(alloc, edges(alloc, "rg")?, "ok 3:rg"),
+        is_reply(alloc, edges(alloc, "rwtgaluv")?, "ok 3:rwtgaluv"),
+    ])
+}
+
+// The same of denials.
+fn are_denials(alloc: Global) -> [bool; 3] {
+    [
+        is_denial(alloc, &missing(), "denied write 1->2 w"),
+        is_denial(alloc, &not_log(), "denied append law"),
+        is_denial(
+            alloc,
+            &not_distinct(Rule::Inspect),
+            "denied inspect distinct",
+        ),
+    ]
+}
+
 #[test]
 fn replies_and_denials(rt: HostRuntime) -> Result<(), Fail> {
-    let alloc = rt.alloc();
-    let denied = Reply::Denied(not_distinct(Rule::Take));
-    assert!(rt; is_shown(alloc, AsText(&Reply::Done), "ok"));
-    assert!(rt; is_shown(alloc, AsText(&Reply::Name(40)), "ok 40"));
-    assert!(rt; is_shown(alloc, AsText(&denied), "denied take distinct"));
-    assert!(rt; is_shown(alloc, AsText(&missing()), "denied write 1->2 w"));
-    assert!(rt; is_shown(alloc, AsText(&not_log()), "denied append law"));
-    assert!(rt;
-        is_shown(
-            alloc,
-            AsText(&not_distinct(Rule::Inspect)),
-            "denied inspect distinct"
-        )
-    );
-    assert!(rt; is_shown(alloc, AsText(&values(alloc)?), "ok 7 18446744073709551615"));
-    assert!(rt; is_shown(alloc, AsText(&edges(alloc, "rg")?), "ok 3:rg"));
-    assert!(rt; is_shown(alloc, AsText(&edges(alloc, "rwtgaluv")?), "ok 3:rwtgaluv"));
+    assert_eq!(rt; are_replies(rt.alloc())?, [true; 6]);
+    assert_eq!(rt; are_denials(rt.alloc()), [true; 3]);
     Ok(())
 }
 

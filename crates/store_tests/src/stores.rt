@@ -153,18 +153,17 @@ fn dropped_in_turn<P: Payload>(
 }
 
 // What `dropped_in_turn` answers of two boxes with payloads that count their drops.
-fn boxes_in_turn(alloc: Global, drops: &Arc<AtomicU64>) -> Option<(CreateFault, u64, u64, u64)> {
+fn boxes_in_turn(alloc: Global) -> Option<(CreateFault, u64, u64, u64)> {
+    let drops = Arc::new(alloc, AtomicU64::new(0)).ok()?;
     let workers = cell_box(alloc, 0)?;
-    let first = counting_box(alloc, 1, drops).ok()?;
-    let second = counting_box(alloc, 2, drops).ok()?;
-    dropped_in_turn(alloc, workers, first, second, drops)
+    let first = counting_box(alloc, 1, &drops).ok()?;
+    let second = counting_box(alloc, 2, &drops).ok()?;
+    dropped_in_turn(alloc, workers, first, second, &drops)
 }
 
 #[test]
 fn two_counting_boxes(rt: HostRuntime) -> Result<(), Fail> {
-    let alloc = rt.alloc();
-    let drops = Arc::new(alloc, AtomicU64::new(0))?;
-    let seen = boxes_in_turn(alloc, &drops).ok_or("a refusal")?;
+    let seen = boxes_in_turn(rt.alloc()).ok_or("a refusal")?;
     assert_eq!(rt; seen, (CreateFault::VerticesFull, 0, 1, 2));
     Ok(())
 }

@@ -2,6 +2,7 @@
 //! waits for its replies.
 ghost use Rattle.std.specs.Prelude.{◌≡◌, ◌<◌};
 
+use crate::races::raced::cells;
 use std::alloc::{AllocError, Global};
 use std::io;
 use std::io::{BufRead, BufReader, ErrorKind, Read, Write};
@@ -10,10 +11,8 @@ use std::sync::Arc;
 use std::sync::atomic::{AtomicU64, Ordering};
 use std::sync::ledger::{Blank, Ledger};
 use std::test::Fail;
-use tg_payload::CellPayload;
 use tg_script::{
-    Count, Helpers, Limits, OfRead, OfWrite, ScriptFault, Settings, Sink, Source, drafts_of,
-    run_script_one,
+    Count, Helpers, Limits, OfRead, OfWrite, ScriptFault, Settings, Sink, Source, run_script_one,
 };
 
 const SCRIPT: &[u8] = b"0 create rw\n0 list\n";
@@ -121,6 +120,19 @@ fn run_between<R: Read + Drop, W: Write + Drop>(
     )
 }
 
+// The settings of a run of so many workers.
+fn settings_of(workers: u64) -> Result<Settings, AllocError> {
+    match Limits::new(4096, 1 << 20) {
+        Ok(limits) => Ok(Settings {
+            workers,
+            helpers: Helpers::one(),
+            max_vertices: 1_000_000,
+            limits,
+        }),
+        Err(_) => Err(AllocError),
+    }
+}
+
 // Runs the source's script with so many workers and a stock of one cell.
 fn run_one<S: Source, K: Sink>(
     alloc: Global,
@@ -128,25 +140,16 @@ fn run_one<S: Source, K: Sink>(
     source: &mut S,
     sink: &mut K,
 ) -> Result<Result<(), ScriptFault>, AllocError> {
-    let Ok(limits) = Limits::new(4096, 1 << 20) else {
-        return Err(AllocError);
-    };
-    let mut cells = Vec::new(alloc);
-    for _ in 0..workers {
-        cells.push(CellPayload::new(0))?;
-    }
-    let settings = Settings {
-        workers: cells.len() as u64,
-        helpers: Helpers::one(),
-        max_vertices: 1_000_000,
-        limits,
-    };
-    if settings.workers < 1 || 64 < settings.workers {
+    let settings = settings_of(workers)?;
+    let cells_of_workers = cells(alloc, workers)?;
+    if settings.workers < 1
+        || 64 < settings.workers
+        || cells_of_workers.len() as u64 != settings.workers
+    {
         return Err(AllocError);
     }
-    let workers = drafts_of(alloc, cells)?;
-    let stock = drafts_of(alloc, vec![in alloc; CellPayload::new(0)]?)?;
-    Ok(run_script_one(alloc, source, sink, settings, workers, stock))
+    let stock = cells(alloc, 1)?;
+    Ok(run_script_one(alloc, source, sink, settings, cells_of_workers, stock))
 }
 
 fn run_counted<A: Ledger, B: Ledger, C: Ledger, R: BufRead + Drop, W: Write + Drop>(
@@ -170,19 +173,20 @@ fn run_counted<A: Ledger, B: Ledger, C: Ledger, R: BufRead + Drop, W: Write + Dr
     Ok((writer, outcome))
 }
 
-// What is written for the reader's script of so many workers where the writer has this trouble, and how the run ends.
+// Whether this is written for the reader's script of so many workers where the writer has this trouble, and how the run ends.
 fn run_to_trickle<R: Read + Drop>(
     alloc: Global,
     workers: u64,
     reader: R,
     trouble: Trouble,
-) -> Result<(Vec<u8>, Result<(), ScriptFault>), AllocError> {
+    wanted: &[u8],
+) -> Result<(bool, Result<(), ScriptFault>), AllocError> {
     let writer = Trickle {
         taken: Vec::new(alloc),
         trouble,
     };
     let (writer, outcome) = run_between(alloc, workers, reader, writer)?;
-    Ok((writer.taken, outcome))
+    Ok((writer.taken.as_slice() == wanted, outcome))
 }
 
 // The second line comes after an error, once, and is not asked for again.
@@ -194,9 +198,8 @@ fn failing_reader(rt: HostRuntime) -> Result<(), Fail> {
         (false, REPLIES, Ok(())),
     ] {
         let reader = Cut { first, rest, fails };
-        let (taken, ended) = run_to_trickle(rt.alloc(), 1, reader, Trouble::Nothing)?;
-        assert_eq!(rt; taken.as_slice(), written);
-        assert_eq!(rt; ended, outcome);
+        let ran = run_to_trickle(rt.alloc(), 1, reader, Trouble::Nothing, written)?;
+        assert_eq!(rt; ran, (true, outcome));
     }
     Ok(())
 }
@@ -209,18 +212,16 @@ fn failing_writer(rt: HostRuntime) -> Result<(), Fail> {
         (Trouble::TakesNone, b"o"),
         (Trouble::CannotFlush, REPLIES),
     ] {
-        let (taken, ended) = run_to_trickle(rt.alloc(), 1, SCRIPT, trouble)?;
-        assert_eq!(rt; taken.as_slice(), written);
-        assert_eq!(rt; ended, Err(ScriptFault::WriteFailed));
+        let ran = run_to_trickle(rt.alloc(), 1, SCRIPT, trouble, written)?;
+        assert_eq!(rt; ran, (true, Err(ScriptFault::WriteFailed)));
     }
     Ok(())
 }
 
 #[test]
 fn one_byte_writer(rt: HostRuntime) -> Result<(), Fail> {
-    let (taken, ended) = run_to_trickle(rt.alloc(), 2, GRANT, Trouble::Nothing)?;
-    assert_eq!(rt; taken.as_slice(), GRANT_REPLIES);
-    assert_eq!(rt; ended, Ok(()));
+    let ran = run_to_trickle(rt.alloc(), 2, GRANT, Trouble::Nothing, GRANT_REPLIES)?;
+    assert_eq!(rt; ran, (true, Ok(())));
     Ok(())
 }
 
@@ -296,11 +297,10 @@ fn client_waits_for_its_replies(rt: HostRuntime) -> Result<(), Fail> {
         alloc,
         &[(0, b"0 create rw\n"), (5, b"0 list\n0 li"), (13, b"st\n")],
     )?;
-    assert_eq!(rt; waits.1, Ok(()));
     let whole = run_for_client(
         alloc,
         &[(0, b"0 create rw\n0 list\n0 list\n0 list\n0 list\n")],
     )?;
-    assert_eq!(rt; whole, (3, Ok(())));
+    assert_eq!(rt; (waits.1, whole), (Ok(()), (3, Ok(()))));
     Ok(())
 }

@@ -19,8 +19,8 @@ pub(crate) struct Raced {
     pub(crate) outcome: Result<(), RaceFault>,
 }
 
-// So many cells with 0.
-fn cells(alloc: Global, count: u64) -> Result<Vec<Draft<CellPayload>>, AllocError> {
+/// So many cells with 0.
+pub(crate) fn cells(alloc: Global, count: u64) -> Result<Vec<Draft<CellPayload>>, AllocError> {
     let mut payloads = Vec::new(alloc);
     for _ in 0..count {
         payloads.push(CellPayload::new(0))?;
@@ -70,13 +70,13 @@ fn race_counted<A: Ledger, F: Ledger, G: Turnstile + Sync, R: Threads + Wait + S
     requires asked { (asked.name ≡ A.name) × (asked.parts ≡ A.parts) × (0 < asked.parts) }
     requires failures { (failures.name ≡ F.name) × (failures.parts ≡ F.parts) × (0 < failures.parts) }
 {
-    let mut source = Bytes::new(script, Count::<A>::new(asked));
-    let mut sink = Written::new(alloc, Count::<F>::new(failures));
     let workers = cells(alloc, settings.workers)?;
-    let stock = cells(alloc, stock)?;
     if settings.workers < 1 || 64 < settings.workers || workers.len() as u64 != settings.workers {
         return Err(AllocError);
     }
+    let stock = cells(alloc, stock)?;
+    let mut source = Bytes::new(script, Count::<A>::new(asked));
+    let mut sink = Written::new(alloc, Count::<F>::new(failures));
     let outcome = run_race(
         rt,
         alloc,

@@ -3,7 +3,6 @@ use crate::meeting::{MANY_TURNS, Meet};
 use crate::races::raced::race_row;
 use crate::rows::Row;
 use std::alloc::Global;
-use std::process::Abort;
 use std::sync::Wait;
 use std::test::Fail;
 use std::thread::Threads;
@@ -24,24 +23,24 @@ const OF_ONE_THREAD: Row<'static> = Row {
     ..AT_ONE_GATE
 };
 
-// Whether a worker missed the other within so many turns, once what is written was compared.
-fn missed_within<R: Abort + Threads + Wait + Sync>(
+// Whether a worker missed the other within so many turns, where what is written is as it should be.
+fn missed_within<R: Threads + Wait + Sync>(
     rt: &R,
     alloc: Global,
     row: &Row,
     turns: u64,
-) -> Result<bool, Fail> {
+) -> Result<Option<bool>, Fail> {
     let turnstile = Meet::of(alloc, 2, turns)?;
     let ran = race_row(rt, alloc, &turnstile, row, 1)?;
-    assert_eq!(rt; ran.written.as_slice(), row.written);
-    Ok(turnstile.is_missed())
+    Ok((ran.written.as_slice() == row.written).then_some(turnstile.is_missed()))
 }
 
 // Two workers meet at a turnstile, and lines of one thread can't.
 #[test]
 fn workers_at_one_gate(rt: HostRuntime) -> Result<(), Fail> {
     let alloc = rt.alloc();
-    assert!(rt; !missed_within(&rt, alloc, &AT_ONE_GATE, MANY_TURNS)?);
-    assert!(rt; missed_within(&rt, alloc, &OF_ONE_THREAD, 1000)?);
+    let two = missed_within(&rt, alloc, &AT_ONE_GATE, MANY_TURNS)?;
+    let one = missed_within(&rt, alloc, &OF_ONE_THREAD, 1000)?;
+    assert_eq!(rt; (two, one), (Some(false), Some(true)));
     Ok(())
 }

@@ -1,21 +1,18 @@
 //! Collections that sessions ask for, and a race for one of its sessions.
-ghost use Rattle.std.specs.Prelude.{◌≡◌, ◌+◌};
-ghost use Rattle.tg_shared.specs.Sessions.{start_of_store};
 
 use crate::meeting::{MANY_TURNS, Meet};
-use crate::sessions::opened::{make, store_with};
+use crate::sessions::opened::{make, opening_with};
+use crate::sessions::story::{Seen, Story, seen_of};
 use std::alloc::Global;
-use std::marker::Brand;
 use std::sync::Wait;
-use std::sync::ledger::Blank;
 use std::test::Fail;
 use std::thread::Threads;
 use tg_model::Command;
 use tg_payload::CellPayload;
 use tg_rights::Label;
 use tg_script::Helpers;
-use tg_shared::{Round, Session, Shared, SharedStore};
-use tg_store::{Kind, Store};
+use tg_shared::{Round, Session, SharedStore};
+use tg_store::Kind;
 use tg_threads::collect_by;
 
 // Lets the session give up its rights over a vertex that it made.
@@ -32,9 +29,9 @@ fn give_up<L: Round, R: Wait>(
     Some(())
 }
 
-// Who collects.
+/// Who collects.
 #[derive(Clone, Copy)]
-struct Collectors<'a> {
+pub(crate) struct Collectors<'a> {
     helpers: u32,
     // what each of several helpers passes
     gate: &'a Meet,
@@ -62,15 +59,16 @@ fn collect<L: Round, R: Threads + Wait + Sync>(
         .ok()
 }
 
-// A vertex is made and given up, and a nursery collection follows. Another one is made, and lies in Old after a full collection; it is
-// given up too, and a collection of each kind follows. How many vertices the heap has after each of the four collections.
-fn left_by_each<L: Round, R: Threads + Wait + Sync>(
+/// A vertex is made and given up, and a nursery collection follows. Another one is made, and lies in Old after a full collection; it is
+/// given up too, and a collection of each kind follows. How many vertices the heap has after each of the four collections.
+pub(crate) fn left_by_each<L: Round, R: Threads + Wait + Sync>(
     rt: &R,
     alloc: Global,
     store: &SharedStore<L, CellPayload>,
-    session: &mut Session<L>,
+    sessions: &mut [Session<L>],
     by: Collectors<'_>,
 ) -> Option<[u64; 4]> {
+    let session = sessions.first_mut()?;
     let young = make(rt, alloc, store, session)?.ok()?;
     give_up(rt, store, session, young)?;
     let young_given_up = collect(rt, store, session, Kind::Nursery, by)?;
@@ -80,37 +78,6 @@ fn left_by_each<L: Round, R: Threads + Wait + Sync>(
     let old_given_up = collect(rt, store, session, Kind::Nursery, by)?;
     let collected_whole = collect(rt, store, session, Kind::Full, by)?;
     Some([young_given_up, kept, old_given_up, collected_whole])
-}
-
-// The same of a store that is to be shared.
-fn seen_of<L: Round, R: Threads + Wait + Sync>(
-    rt: &R,
-    alloc: Global,
-    blank: Blank,
-    store: Store<CellPayload>,
-    by: Collectors<'_>,
-) -> Option<[u64; 4]>
-    requires name { blank.name ≡ L.name }
-    requires parts { (blank.parts ≡ L.parts) × (blank.parts ≡ store.opening.limit + 1) }
-    requires start { start_of_store store ≡ L.start }
-{
-    let Shared {
-        store,
-        mut sessions,
-    } = SharedStore::<L, CellPayload>::new(alloc, blank, store).ok()?;
-    let session = sessions.first_mut()?;
-    left_by_each(rt, alloc, &store, session, by)
-}
-
-// The same of a store of two workers.
-fn seen_of_two<R: Threads + Wait + Sync>(
-    rt: &R,
-    alloc: Global,
-    by: Collectors<'_>,
-) -> Option<[u64; 4]> {
-    let store = store_with(alloc, "rw")?;
-    let blank = Blank::new(store.opening().max_vertices() + 1);
-    seen_of::<Brand, R>(rt, alloc, blank, store, by)
 }
 
 // The same, and how often the helpers passed a gate at which they met. None may miss another.
@@ -126,7 +93,10 @@ fn met_on_two<R: Threads + Wait + Sync>(
         gate: &gate,
         in_race,
     };
-    let left = seen_of_two(rt, alloc, by)?;
+    let opening = opening_with(alloc, "rw");
+    let Seen::Left(left) = seen_of(rt, alloc, Story::Collect(by), opening)? else {
+        return None;
+    };
     (!gate.is_missed()).then_some((left, gate.passes()))
 }
 

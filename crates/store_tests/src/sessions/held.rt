@@ -1,21 +1,18 @@
 //! What workers hold over vertices, asked of a store and of its sessions; and which vertices a store has.
-ghost use Rattle.std.specs.Prelude.{◌≡◌, ◌+◌};
-ghost use Rattle.tg_shared.specs.Sessions.{start_of_store};
 
-use crate::sessions::opened::{closed, make, store_with};
+use crate::sessions::opened::{make, opening_with};
+use crate::sessions::story::{Seen, Story, seen_of};
 use std::alloc::Global;
-use std::marker::Brand;
 use std::sync::Wait;
-use std::sync::ledger::Blank;
 use std::test::Fail;
 use tg_payload::CellPayload;
 use tg_rights::Label;
-use tg_shared::{Round, Session, Shared, SharedStore};
+use tg_shared::{Round, Session, SharedStore};
 use tg_store::Store;
 
-// What is seen once the first of two workers, who may read one another, has made vertex 2. Labels are seen by their bits.
+/// What is seen once the first of two workers, who may read one another, has made vertex 2. Labels are seen by their bits.
 #[derive(Clone, Copy)]
-struct Seen {
+pub(crate) struct Labels {
     // what the first worker holds over vertex 2, over the second worker and over itself
     of_first: [u8; 3],
     // what the second worker holds over vertex 2, and what one who is no worker holds over the first
@@ -45,19 +42,6 @@ fn asked_by<L: Round, R: Wait>(
     bits_of(session.label(rt, store, 2))
 }
 
-// Lets the first session make a vertex, and asks both what they hold over it.
-fn make_and_ask<L: Round, R: Wait>(
-    rt: &R,
-    alloc: Global,
-    store: &SharedStore<L, CellPayload>,
-    sessions: &mut [Session<L>],
-) -> Option<[u8; 2]> {
-    let _name = make(rt, alloc, store, sessions.get_mut(0)?)?.ok()?;
-    let by_first = asked_by(rt, store, sessions.get(0)?);
-    let by_second = asked_by(rt, store, sessions.get(1)?);
-    Some([by_first, by_second])
-}
-
 // How many vertices the store has, and what rooms of four 9s and of two are once their names were put there.
 fn names_of(store: &Store<CellPayload>) -> (u64, [u64; 4], [u64; 2]) {
     let mut wide = [9; 4];
@@ -72,9 +56,22 @@ fn held(store: &Store<CellPayload>, worker: u64, target: u64) -> u8 {
     bits_of(store.label(worker, target))
 }
 
-// What is seen of the store, once it is closed.
-fn seen_of_closed(store: &Store<CellPayload>, asked: [u8; 2]) -> Seen {
-    Seen {
+/// Lets the first session make a vertex, and asks both what they hold over it.
+pub(crate) fn make_and_ask<L: Round, R: Wait>(
+    rt: &R,
+    alloc: Global,
+    store: &SharedStore<L, CellPayload>,
+    sessions: &mut [Session<L>],
+) -> Option<[u8; 2]> {
+    let _name = make(rt, alloc, store, sessions.get_mut(0)?)?.ok()?;
+    let by_first = asked_by(rt, store, sessions.get(0)?);
+    let by_second = asked_by(rt, store, sessions.get(1)?);
+    Some([by_first, by_second])
+}
+
+/// What is seen of the store, once it is closed.
+pub(crate) fn labels_of(store: &Store<CellPayload>, asked: [u8; 2]) -> Labels {
+    Labels {
         of_first: [held(store, 0, 2), held(store, 0, 1), held(store, 0, 0)],
         of_others: [held(store, 1, 2), held(store, 2, 0)],
         asked,
@@ -83,50 +80,15 @@ fn seen_of_closed(store: &Store<CellPayload>, asked: [u8; 2]) -> Seen {
     }
 }
 
-// Lets the sessions ask, and closes.
-fn seen_of_shared<L: Round, R: Wait>(
-    rt: &R,
-    alloc: Global,
-    shared: Shared<L, CellPayload>,
-) -> Option<Seen> {
-    let Shared {
-        store,
-        mut sessions,
-    } = shared;
-    let asked = make_and_ask(rt, alloc, &store, &mut sessions);
-    let store = closed(store, sessions)?;
-    let seen = asked.map(|asked| seen_of_closed(&store, asked));
-    drop(store);
-    seen
-}
-
-// The same of a store that is to be shared.
-fn seen_of<L: Round, R: Wait>(
-    rt: &R,
-    alloc: Global,
-    blank: Blank,
-    store: Store<CellPayload>,
-) -> Option<Seen>
-    requires name { blank.name ≡ L.name }
-    requires parts { (blank.parts ≡ L.parts) × (blank.parts ≡ store.opening.limit + 1) }
-    requires start { start_of_store store ≡ L.start }
-{
-    let shared = SharedStore::<L, CellPayload>::new(alloc, blank, store).ok()?;
-    seen_of_shared(rt, alloc, shared)
-}
-
-// The same of a store of two workers.
-fn seen_of_two<R: Wait>(rt: &R, alloc: Global) -> Option<Seen> {
-    let store = store_with(alloc, "r")?;
-    let blank = Blank::new(store.opening().max_vertices() + 1);
-    seen_of::<Brand, R>(rt, alloc, blank, store)
-}
-
 // A worker is told its own label and no other, a session that of its own worker. The names stand in the order of their cells, of which
 // the first worker's come first. No entry is made of either.
 #[test]
 fn labels_and_names_are_told(rt: HostRuntime) -> Result<(), Fail> {
-    let seen = seen_of_two(&rt, rt.alloc()).ok_or("a refusal")?;
+    let alloc = rt.alloc();
+    let opening = opening_with(alloc, "r");
+    let Some(Seen::Labels(seen)) = seen_of(&rt, alloc, Story::MakeAndAsk, opening) else {
+        return Err(Fail::from("a refusal"));
+    };
     assert_eq!(rt; seen.of_first, [3, 1, 0]);
     assert_eq!(rt; seen.of_others, [0, 0]);
     assert_eq!(rt; seen.asked, [3, 0]);

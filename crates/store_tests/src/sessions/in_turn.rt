@@ -1,18 +1,15 @@
 //! Two sessions that take turns on one thread, what is answered where one of them is kept back, and what they have receipts of.
-ghost use Rattle.std.specs.Prelude.{◌≡◌, ◌+◌};
-ghost use Rattle.tg_shared.specs.Sessions.{start_of_store};
 
-use crate::sessions::opened::{close_twice, make, store_with};
+use crate::sessions::opened::{make, opening_with};
+use crate::sessions::story::{Seen, Story, seen_of};
 use std::alloc::Global;
-use std::marker::Brand;
 use std::sync::Wait;
-use std::sync::ledger::Blank;
 use std::test::Fail;
 use tg_journal::{Entry, Journal};
 use tg_model::{Cause, Command, Deed, Denial, Numbers, Reply, Rule};
 use tg_payload::CellPayload;
-use tg_shared::{CloseFault, Receipt, Round, Session, Shared, SharedStore, receipts_match};
-use tg_store::{CreateFault, Store};
+use tg_shared::{CloseFault, Receipt, Round, Session, SharedStore, receipts_match};
+use tg_store::CreateFault;
 
 const WRITE: Command = Command::Write {
     target: 0,
@@ -32,9 +29,9 @@ const NOT_LOG: Denial = Denial {
     cause: Cause::NotLog,
 };
 
-// What is seen of two sessions in a store that has room for two more vertices.
+/// What is seen of two sessions in a store that has room for two more vertices.
 #[derive(Clone, Copy)]
-struct Seen {
+pub(crate) struct Turns {
     // what the first session is answered that makes a vertex, the second, and the first once more
     made: [Result<u64, CreateFault>; 3],
     // why the store isn't closed without the second session
@@ -56,20 +53,6 @@ fn use_the_cell<L: Round, R: Wait>(
     let _read = session.call(rt, store, READ).ok()?;
     let _denied = session.call(rt, store, APPEND).ok()?;
     Some(())
-}
-
-// Lets the first session make a vertex, the second one too, and the first once more, and then the second use the cell.
-fn use_in_turn<L: Round, R: Wait>(
-    rt: &R,
-    alloc: Global,
-    store: &SharedStore<L, CellPayload>,
-    sessions: &mut [Session<L>],
-) -> Option<[Result<u64, CreateFault>; 3]> {
-    let by_first = make(rt, alloc, store, sessions.get_mut(0)?)?;
-    let by_second = make(rt, alloc, store, sessions.get_mut(1)?)?;
-    let then_by_first = make(rt, alloc, store, sessions.get_mut(0)?)?;
-    use_the_cell(rt, store, sessions.get_mut(1)?)?;
-    Some([by_first, by_second, then_by_first])
 }
 
 // A receipt of worker 1.
@@ -104,66 +87,45 @@ fn seen_of_journal(alloc: Global, journal: &Journal) -> Option<(u64, [bool; 3])>
     Some((journal.len(), [as_it_was, altered, other_command]))
 }
 
-// Lets both sessions take turns, and closes twice.
-fn seen_of_shared<L: Round, R: Wait>(
+/// Lets the first session make a vertex, the second one too, and the first once more, and then the second use the cell.
+pub(crate) fn use_in_turn<L: Round, R: Wait>(
     rt: &R,
     alloc: Global,
-    shared: Shared<L, CellPayload>,
-) -> Option<Seen> {
-    let Shared {
-        store,
-        mut sessions,
-    } = shared;
-    let made = use_in_turn(rt, alloc, &store, &mut sessions);
-    let closed = close_twice(store, sessions)?;
-    seen_of_closed(alloc, made, closed)
+    store: &SharedStore<L, CellPayload>,
+    sessions: &mut [Session<L>],
+) -> Option<[Result<u64, CreateFault>; 3]> {
+    let by_first = make(rt, alloc, store, sessions.get_mut(0)?)?;
+    let by_second = make(rt, alloc, store, sessions.get_mut(1)?)?;
+    let then_by_first = make(rt, alloc, store, sessions.get_mut(0)?)?;
+    use_the_cell(rt, store, sessions.get_mut(1)?)?;
+    Some([by_first, by_second, then_by_first])
 }
 
-// What is seen, once the store is closed.
-fn seen_of_closed(
+/// What is seen, once the store is closed.
+pub(crate) fn turns_of(
     alloc: Global,
-    made: Option<[Result<u64, CreateFault>; 3]>,
-    closed: (CloseFault, Store<CellPayload>),
-) -> Option<Seen> {
-    let (why_not_closed, store) = closed;
-    let seen = seen_of_journal(alloc, store.journal());
-    drop(store);
-    let (entries, matches) = seen?;
-    Some(Seen {
-        made: made?,
+    made: [Result<u64, CreateFault>; 3],
+    why_not_closed: CloseFault,
+    journal: &Journal,
+) -> Option<Turns> {
+    let (entries, matches) = seen_of_journal(alloc, journal)?;
+    Some(Turns {
+        made,
         why_not_closed,
         entries,
         matches,
     })
 }
 
-// The same of a store that is to be shared.
-fn seen_of<L: Round, R: Wait>(
-    rt: &R,
-    alloc: Global,
-    blank: Blank,
-    store: Store<CellPayload>,
-) -> Option<Seen>
-    requires name { blank.name ≡ L.name }
-    requires parts { (blank.parts ≡ L.parts) × (blank.parts ≡ store.opening.limit + 1) }
-    requires start { start_of_store store ≡ L.start }
-{
-    let shared = SharedStore::<L, CellPayload>::new(alloc, blank, store).ok()?;
-    seen_of_shared(rt, alloc, shared)
-}
-
-// The same of a store of two workers.
-fn seen_of_two<R: Wait>(rt: &R, alloc: Global) -> Option<Seen> {
-    let store = store_with(alloc, "rwa")?;
-    let blank = Blank::new(store.opening().max_vertices() + 1);
-    seen_of::<Brand, R>(rt, alloc, blank, store)
-}
-
 // Two vertices are made, one by each session; there is room for no third, which has an entry of its own. The store isn't closed
 // without the second session, whose receipts are those of what it did.
 #[test]
 fn sessions_in_turn(rt: HostRuntime) -> Result<(), Fail> {
-    let seen = seen_of_two(&rt, rt.alloc()).ok_or("a refusal")?;
+    let alloc = rt.alloc();
+    let opening = opening_with(alloc, "rwa");
+    let Some(Seen::Turns(seen)) = seen_of(&rt, alloc, Story::TakeTurns, opening) else {
+        return Err(Fail::from("a refusal"));
+    };
     let full = Err(CreateFault::VerticesFull);
     assert_eq!(rt; seen.made, [Ok(2), Ok(3), full]);
     assert_eq!(rt; seen.why_not_closed, CloseFault::SessionsMissing);

@@ -1,20 +1,17 @@
 //! A session that another one spawned, on a thread of its own.
-ghost use Rattle.std.specs.Prelude.{◌≡◌, ◌+◌};
-ghost use Rattle.tg_shared.specs.Sessions.{start_of_store};
 
-use crate::sessions::opened::{close_twice, draft, opening_of, store_of};
+use crate::sessions::opened::{draft, opening_of};
+use crate::sessions::story::{Seen, Story, seen_of};
 use std::alloc::Global;
-use std::marker::Brand;
 use std::sync::Wait;
-use std::sync::ledger::Blank;
 use std::test::Fail;
 use std::thread::{Threads, join};
 use tg_journal::{AuditFault, Journal, audit};
 use tg_model::{Command, Reply};
 use tg_payload::CellPayload;
 use tg_rights::Label;
-use tg_shared::{CloseFault, Round, Session, Shared, SharedStore};
-use tg_store::{ApplyFault, Kind, Store};
+use tg_shared::{CloseFault, Round, Session, SharedStore};
+use tg_store::{ApplyFault, Kind};
 
 // What a session came to on its thread.
 #[derive(Clone, Copy, Debug, PartialEq, Eq)]
@@ -27,13 +24,19 @@ struct Worked {
     then: Option<ApplyFault>,
 }
 
-// What is seen of a spawned session.
+/// What a spawned session and the one that spawned it come to.
 #[derive(Clone, Copy)]
-struct Seen {
+pub(crate) struct Told {
     name: u64,
     worked: Worked,
-    // whether the spawning session then reads 0 of the new subject
+    // whether the spawning session then reads 0 of the new subject, and the other one collected
     read: bool,
+}
+
+/// What is seen of it.
+#[derive(Clone, Copy)]
+pub(crate) struct Spawned {
+    told: Told,
     why_not_closed: CloseFault,
     entries: u64,
     audited: Result<(), AuditFault>,
@@ -82,49 +85,62 @@ fn reads_zero<L: Round, R: Wait>(
     }
 }
 
-// Lets the first session spawn one, which works on a thread while the second collects; and then read. The new session goes to the
-// others.
-fn spawn_and_work<L: Round + Send + Sync, R: Threads + Wait + Sync>(
+// Lets the first session spawn one, which goes behind the others.
+fn spawn<L: Round, R: Wait>(
     rt: &R,
     alloc: Global,
     store: &SharedStore<L, CellPayload>,
     sessions: &mut Vec<Session<L>>,
-) -> Option<(u64, Worked, bool)> {
+) -> Option<()> {
     let label = Label::read_text(b"rw")?;
-    let mut fresh = sessions
-        .get_mut(0)?
-        .spawn(rt, store, label, draft(alloc)?)
-        .ok()?;
-    let name = fresh.worker();
-    let second = sessions.get(1)?;
-    let new = &mut fresh;
-    let (worked, collected) = join(
-        rt,
-        move || work(rt, store, new),
-        move || second.collect(rt, store, Kind::Full).is_ok(),
-    );
-    let read = reads_zero(rt, store, sessions.get_mut(0)?, name);
-    sessions.push(fresh).ok()?;
-    Some((name, worked, collected && read))
+    let draft = draft(alloc)?;
+    let fresh = sessions.get_mut(0)?.spawn(rt, store, label, draft).ok()?;
+    sessions.push(fresh).ok()
 }
 
-// Does so, and closes without the new session and then with it.
-fn seen_of_shared<L: Round + Send + Sync, R: Threads + Wait + Sync>(
+// Lets the new session work on a thread while another one collects. What it came to, and whether that was served.
+fn work_at_once<L: Round + Send + Sync, R: Threads + Wait + Sync>(
+    rt: &R,
+    store: &SharedStore<L, CellPayload>,
+    new: &mut Session<L>,
+    other: &Session<L>,
+) -> (Worked, bool) {
+    join(
+        rt,
+        move || work(rt, store, new),
+        move || other.collect(rt, store, Kind::Full).is_ok(),
+    )
+}
+
+/// Lets the first session spawn one, which works on a thread while the second collects; and then read.
+pub(crate) fn spawn_and_work<L: Round + Send + Sync, R: Threads + Wait + Sync>(
     rt: &R,
     alloc: Global,
-    shared: Shared<L, CellPayload>,
-) -> Option<Seen> {
-    let Shared {
-        store,
-        mut sessions,
-    } = shared;
-    let (name, worked, read) = spawn_and_work(rt, alloc, &store, &mut sessions)?;
-    let (why_not_closed, store) = close_twice(store, sessions)?;
-    let (entries, audited) = seen_of_journal(alloc, store.journal())?;
-    Some(Seen {
+    store: &SharedStore<L, CellPayload>,
+    sessions: &mut Vec<Session<L>>,
+) -> Option<Told> {
+    spawn(rt, alloc, store, sessions)?;
+    let (new, others) = sessions.split_last_mut()?;
+    let name = new.worker();
+    let (worked, collected) = work_at_once(rt, store, new, others.get(1)?);
+    let read = reads_zero(rt, store, others.get_mut(0)?, name);
+    Some(Told {
         name,
         worked,
-        read,
+        read: collected && read,
+    })
+}
+
+/// What is seen, once the store is closed.
+pub(crate) fn spawned_of(
+    alloc: Global,
+    told: Told,
+    why_not_closed: CloseFault,
+    journal: &Journal,
+) -> Option<Spawned> {
+    let (entries, audited) = seen_of_journal(alloc, journal)?;
+    Some(Spawned {
+        told,
         why_not_closed,
         entries,
         audited,
@@ -137,41 +153,23 @@ fn seen_of_journal(alloc: Global, journal: &Journal) -> Option<(u64, Result<(), 
     Some((journal.len(), audit(alloc, &kept, journal.entries())))
 }
 
-// The same of a store that is to be shared.
-fn seen_of<L: Round + Send + Sync, R: Threads + Wait + Sync>(
-    rt: &R,
-    alloc: Global,
-    blank: Blank,
-    store: Store<CellPayload>,
-) -> Option<Seen>
-    requires name { blank.name ≡ L.name }
-    requires parts { (blank.parts ≡ L.parts) × (blank.parts ≡ store.opening.limit + 1) }
-    requires start { start_of_store store ≡ L.start }
-{
-    let shared = SharedStore::<L, CellPayload>::new(alloc, blank, store).ok()?;
-    seen_of_shared(rt, alloc, shared)
-}
-
-// The same of a store of two workers without edges.
-fn seen_of_two<R: Threads + Wait + Sync>(rt: &R, alloc: Global) -> Option<Seen> {
-    let store = store_of(alloc, opening_of(alloc, Vec::new(alloc))?)?;
-    let blank = Blank::new(store.opening().max_vertices() + 1);
-    seen_of::<Brand, R>(rt, alloc, blank, store)
-}
-
 // A new subject has a name, holds nothing, and is no subject any more once it has retired; its vertex stays, and is read by who
 // spawned it. The store isn't closed without its session.
 #[test]
 fn a_spawned_session(rt: HostRuntime) -> Result<(), Fail> {
-    let seen = seen_of_two(&rt, rt.alloc()).ok_or("a refusal")?;
+    let alloc = rt.alloc();
+    let opening = opening_of(alloc, Vec::new(alloc));
+    let Some(Seen::Spawned(seen)) = seen_of(&rt, alloc, Story::SpawnAndWork, opening) else {
+        return Err(Fail::from("a refusal"));
+    };
     let worked = Worked {
         empty: 10,
         retired: true,
         then: Some(ApplyFault::NoSuchWorker),
     };
-    assert_eq!(rt; seen.name, 2);
-    assert_eq!(rt; seen.worked, worked);
-    assert!(rt; seen.read);
+    assert_eq!(rt; seen.told.name, 2);
+    assert_eq!(rt; seen.told.worked, worked);
+    assert!(rt; seen.told.read);
     assert_eq!(rt; seen.why_not_closed, CloseFault::SessionsMissing);
     assert_eq!(rt; seen.entries, 13);
     assert_eq!(rt; seen.audited, Ok(()));

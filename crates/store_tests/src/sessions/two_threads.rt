@@ -1,20 +1,17 @@
 //! Two sessions on two threads.
-ghost use Rattle.std.specs.Prelude.{◌≡◌, ◌+◌};
-ghost use Rattle.tg_shared.specs.Sessions.{start_of_store};
 
-use crate::sessions::opened::{closed, opening_with, store_with};
+use crate::sessions::opened::opening_with;
+use crate::sessions::story::{Seen, Story, seen_of};
 use std::alloc::Global;
-use std::marker::Brand;
 use std::process::Abort;
 use std::sync::Wait;
-use std::sync::ledger::Blank;
 use std::test::Fail;
 use std::thread::{Threads, join};
 use tg_journal::{AuditFault, Journal, audit};
 use tg_model::{Command, Reply};
 use tg_payload::CellPayload;
-use tg_shared::{NoGate, Round, Session, Shared, SharedStore};
-use tg_store::{Kind, Store};
+use tg_shared::{NoGate, Round, Session, SharedStore};
+use tg_store::Kind;
 
 // Whether the session may write the value to the target.
 fn writes<L: Round, R: Wait>(
@@ -90,8 +87,18 @@ fn work_at_once<L: Round + Send + Sync, R: Threads + Wait + Sync>(
     )
 }
 
-// Does so with the first session and the last.
-fn work_by_both<L: Round + Send + Sync, R: Threads + Wait + Sync>(
+/// What is seen of two sessions.
+#[derive(Clone, Copy, Debug, PartialEq, Eq)]
+pub(crate) struct Served {
+    // how many calls of each were answered as they should
+    good: (u64, u64),
+    entries: u64,
+    // what an audit finds that starts from the opening with rw
+    audited: Result<(), AuditFault>,
+}
+
+/// Lets the first session and the last work.
+pub(crate) fn work_by_both<L: Round + Send + Sync, R: Threads + Wait + Sync>(
     rt: &R,
     store: &SharedStore<L, CellPayload>,
     sessions: &mut [Session<L>],
@@ -100,88 +107,34 @@ fn work_by_both<L: Round + Send + Sync, R: Threads + Wait + Sync>(
     Some(work_at_once(rt, store, first, others.first_mut()?))
 }
 
-// What is seen of two sessions.
-#[derive(Clone, Copy, Debug, PartialEq, Eq)]
-struct Seen {
-    // how many calls of each were answered as they should
-    good: (u64, u64),
-    entries: u64,
-    // what an audit finds that starts from the opening with rw
-    audited: Result<(), AuditFault>,
-}
-
-// Lets both sessions work, and closes.
-fn seen_of_shared<L: Round + Send + Sync, R: Threads + Wait + Sync>(
-    rt: &R,
-    alloc: Global,
-    shared: Shared<L, CellPayload>,
-) -> Option<Seen> {
-    let Shared {
-        store,
-        mut sessions,
-    } = shared;
-    let good = work_by_both(rt, &store, &mut sessions);
-    let store = closed(store, sessions)?;
-    seen_of_closed(alloc, good, store)
-}
-
-// What is seen, once the store is closed.
-fn seen_of_closed(
-    alloc: Global,
-    good: Option<(u64, u64)>,
-    store: Store<CellPayload>,
-) -> Option<Seen> {
-    let seen = seen_of_journal(alloc, good, store.journal());
-    drop(store);
-    seen
-}
-
-// The same of its journal.
-fn seen_of_journal(alloc: Global, good: Option<(u64, u64)>, journal: &Journal) -> Option<Seen> {
+/// What is seen, once the store is closed.
+pub(crate) fn writes_of(alloc: Global, good: (u64, u64), journal: &Journal) -> Option<Served> {
     let kept = opening_with(alloc, "rw")?;
-    Some(Seen {
-        good: good?,
+    Some(Served {
+        good,
         entries: journal.len(),
         audited: audit(alloc, &kept, journal.entries()),
     })
-}
-
-// The same of a store that is to be shared.
-fn seen_of<L: Round + Send + Sync, R: Threads + Wait + Sync>(
-    rt: &R,
-    alloc: Global,
-    blank: Blank,
-    store: Store<CellPayload>,
-) -> Option<Seen>
-    requires name { blank.name ≡ L.name }
-    requires parts { (blank.parts ≡ L.parts) × (blank.parts ≡ store.opening.limit + 1) }
-    requires start { start_of_store store ≡ L.start }
-{
-    let shared = SharedStore::<L, CellPayload>::new(alloc, blank, store).ok()?;
-    seen_of_shared(rt, alloc, shared)
-}
-
-// The same of a store whose workers have these rights over one another.
-fn seen_with<R: Threads + Wait + Sync>(rt: &R, alloc: Global, letters: &str) -> Option<Seen> {
-    let store = store_with(alloc, letters)?;
-    let blank = Blank::new(store.opening().max_vertices() + 1);
-    seen_of::<Brand, R>(rt, alloc, blank, store)
 }
 
 // Compares what is seen of a store whose workers have these rights over one another.
 fn check(
     rt: &(impl Abort + AllocGlobal + Threads + Wait + Sync),
     letters: &str,
-    wanted: Seen,
+    wanted: Served,
 ) -> Result<(), Fail> {
-    let seen = seen_with(rt, rt.alloc(), letters).ok_or("a refusal")?;
+    let alloc = rt.alloc();
+    let opening = opening_with(alloc, letters);
+    let Some(Seen::Writes(seen)) = seen_of(rt, alloc, Story::WorkOnTwoThreads, opening) else {
+        return Err(Fail::from("a refusal"));
+    };
     assert_eq!(rt; seen, wanted);
     Ok(())
 }
 
 #[test]
 fn two_sessions_read_their_own_writes(rt: HostRuntime) -> Result<(), Fail> {
-    let wanted = Seen {
+    let wanted = Served {
         good: (102, 102),
         entries: 200,
         audited: Ok(()),
@@ -192,7 +145,7 @@ fn two_sessions_read_their_own_writes(rt: HostRuntime) -> Result<(), Fail> {
 // A store that was opened otherwise than its users were told is found out by an audit from the opening that they kept.
 #[test]
 fn another_opening_behind_the_lock(rt: HostRuntime) -> Result<(), Fail> {
-    let wanted = Seen {
+    let wanted = Served {
         good: (3, 3),
         entries: 200,
         audited: Err(AuditFault::BadEntry { at: 0 }),
