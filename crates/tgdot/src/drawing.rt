@@ -1,120 +1,85 @@
 //! The picture of the last graph, as a text for `dot`.
 
-use crate::draft::Draft;
 use crate::fault::DrawFault;
-use crate::living::Vertex;
 use crate::options::DotOptions;
-use crate::run::Run;
+use crate::run::{Run, Vertex};
 use crate::script::ScriptLine;
 use std::alloc::{AllocError, Global};
 use std::collections::BTreeSet;
-use tg_rights::Label;
+use std::io;
 use tg_text::{Line, StockItem};
 
-/// The graph that the lines leave, as a digraph: its vertices by rising name, then its edges. What a collection would take is there too.
-pub fn draft_of_last(
+/// Prints the graph that the lines leave as a digraph: its vertices by rising name, then its edges. What a collection would take is there
+/// too.
+pub fn draw_last<R: Print>(
+    rt: &R,
     alloc: Global,
     options: DotOptions,
     lines: &[ScriptLine],
     stock: &[StockItem],
-) -> Result<Draft, DrawFault> {
-    match Run::start(alloc, options, lines, stock) {
-        Ok(mut run) => draft_behind(alloc, &mut run, lines),
-        Err(fault) => Err(fault),
-    }
-}
-
-// The graph behind the lines.
-fn draft_behind(alloc: Global, run: &mut Run, lines: &[ScriptLine]) -> Result<Draft, DrawFault> {
-    take_lines(run, lines)?;
-    match run.reached() {
-        Ok(reached) => Ok(draft_of(alloc, run, &reached)),
-        Err(_) => Err(DrawFault::OutOfMemory),
-    }
+) -> Result<(), DrawFault> {
+    let mut run = Run::start(alloc, options, lines, stock)?;
+    take_lines(&mut run, lines)?;
+    draw_run(rt, &run)
 }
 
 // Runs the lines that are no collection.
 fn take_lines(run: &mut Run, lines: &[ScriptLine]) -> Result<(), AllocError> {
     for line in lines {
-        take_line(run, &line.line)?;
+        if !matches!(line.line, Line::Full) {
+            run.take(&line.line)?;
+        }
     }
     Ok(())
 }
 
-fn take_line(run: &mut Run, line: &Line) -> Result<(), AllocError> {
-    if matches!(line, Line::Full) {
-        return Ok(());
-    }
-    match run.take(line) {
-        Ok(_) => Ok(()),
-        Err(error) => Err(error),
-    }
+// Prints the graph of the run.
+fn draw_run<R: Print>(rt: &R, run: &Run) -> Result<(), DrawFault> {
+    let reached = run.reached()?;
+    draw_digraph(rt, run, &reached)?;
+    Ok(())
 }
 
-// The graph of the run.
-fn draft_of(alloc: Global, run: &Run, reached: &BTreeSet<u64>) -> Draft {
-    let mut draft = Draft::new(alloc);
-    write_digraph(&mut draft, run, reached);
-    draft
-}
-
-fn write_digraph(draft: &mut Draft, run: &Run, reached: &BTreeSet<u64>) {
-    draft.add("digraph store {\n");
-    write_vertices(draft, run, reached);
-    write_edges(draft, run, reached);
-    draft.add("}\n");
-}
-
-fn write_vertices(draft: &mut Draft, run: &Run, reached: &BTreeSet<u64>) {
-    for name in run.names().iter() {
-        if let Some(vertex) = run.vertex(*name) {
-            write_vertex(draft, *name, vertex, run.has_retired(*name, vertex));
-            write_colour(draft, reached.contains(name));
-        }
+// Prints the digraph.
+fn draw_digraph<R: Print>(rt: &R, run: &Run, reached: &BTreeSet<u64>) -> io::Result<()> {
+    println!(rt; "digraph store {{")?;
+    for (name, vertex) in run.vertices().iter() {
+        draw_vertex(rt, run, *name, vertex, reached.contains(name))?;
     }
+    draw_edges(rt, run, reached)?;
+    println!(rt; "}}")
 }
 
 // A vertex: a box or a circle. The border of one who retired is dashed.
-fn write_vertex(draft: &mut Draft, name: u64, vertex: &Vertex, has_retired: bool) {
-    draft.add("    ");
-    draft.add_number(name);
-    draft.add(shape_of(vertex));
-    if has_retired {
-        draft.add(" style=dashed");
-    }
-}
-
-// What stands in front of the looks of a vertex.
-fn shape_of(vertex: &Vertex) -> &'static str {
-    if vertex.ever_subject {
-        " [shape=box"
-    } else {
-        " [shape=circle"
-    }
+fn draw_vertex<R: Print>(
+    rt: &R,
+    run: &Run,
+    name: u64,
+    vertex: &Vertex,
+    reached: bool,
+) -> io::Result<()> {
+    let shape = if vertex.ever_subject { "box" } else { "circle" };
+    let retired = run.has_retired(name, vertex);
+    let border = if retired { " style=dashed" } else { "" };
+    let colour = colour_of(reached);
+    println!(rt; "    {name} [shape={shape}{border} color={colour} fontcolor={colour}]")
 }
 
 // The edges, each with the letters of its rights.
-fn write_edges(draft: &mut Draft, run: &Run, reached: &BTreeSet<u64>) {
+fn draw_edges<R: Print>(rt: &R, run: &Run, reached: &BTreeSet<u64>) -> io::Result<()> {
     for ends in run.edges().iter() {
+        let (from, to) = *ends;
         if let Some(label) = run.held(*ends) {
-            write_edge(draft, *ends, label);
-            write_colour(draft, reached.contains(&ends.0));
+            let colour = colour_of(reached.contains(&from));
+            println!(rt;
+                "    {from} -> {to} [label=\"{label}\" color={colour} fontcolor={colour}]"
+            )?;
         }
     }
+    Ok(())
 }
 
-fn write_edge(draft: &mut Draft, ends: (u64, u64), label: Label) {
-    draft.add_ends(ends);
-    draft.add(" [label=\"");
-    draft.add_label(label);
-    draft.add("\"");
-}
-
-// The colour of what is reached, or of what isn't, and the end of the line.
-fn write_colour(draft: &mut Draft, reached: bool) {
-    draft.add(if reached {
-        " color=black fontcolor=black]\n"
-    } else {
-        " color=grey fontcolor=grey]\n"
-    });
+// The colour of what is reached, and of what isn't.
+fn colour_of(reached: bool) -> &'static str {
+    if reached { "black" } else { "grey" }
 }

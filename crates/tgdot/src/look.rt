@@ -1,6 +1,7 @@
 //! How vertices and edges of a step look.
 
-use crate::draft::Draft;
+use std::fmt;
+use std::fmt::{Display, Formatter};
 
 /// A colour. None of them says a thing alone.
 #[derive(Clone, Copy)]
@@ -36,19 +37,19 @@ pub struct Look {
 }
 
 impl Look {
-    /// The look of what a subject reaches, or of what none does, and of which the line of the script speaks or not.
-    pub fn reached(reached: bool, is_bold: bool) -> Look {
+    /// The look of what a subject reaches, or of what none does.
+    pub fn reached(reached: bool) -> Look {
         if reached {
             Look {
                 colour: Colour::Black,
                 stroke: Stroke::Solid,
-                is_bold,
+                is_bold: false,
             }
         } else {
             Look {
                 colour: Colour::Grey,
                 stroke: Stroke::Dotted,
-                is_bold,
+                is_bold: false,
             }
         }
     }
@@ -70,33 +71,25 @@ impl Look {
             is_bold: true,
         }
     }
+}
 
+impl Display for Look {
     /// Writes the attributes of the look.
-    pub fn write(self, draft: &mut Draft) {
+    fn fmt<W: fmt::Write>(&self, f: &mut Formatter<W>) -> fmt::Result {
         let weight = if self.is_bold { "bold," } else { "" };
-        let colour = word_of_colour(self.colour);
-        draft.add("style=\"");
-        draft.add(weight);
-        draft.add(word_of_stroke(self.stroke));
-        draft.add("\" color=");
-        draft.add(colour);
-        draft.add(" fontcolor=");
-        draft.add(colour);
-    }
-}
-
-fn word_of_stroke(stroke: Stroke) -> &'static str {
-    match stroke {
-        Stroke::Solid => "solid",
-        Stroke::Dashed => "dashed",
-        Stroke::Dotted => "dotted",
-    }
-}
-
-fn word_of_colour(colour: Colour) -> &'static str {
-    match colour {
-        Colour::Black => "black",
-        Colour::Grey => "grey40",
-        Colour::Red => "red3",
+        let stroke = match self.stroke {
+            Stroke::Solid => "solid",
+            Stroke::Dashed => "dashed",
+            Stroke::Dotted => "dotted",
+        };
+        let colour = match self.colour {
+            Colour::Black => "black",
+            Colour::Grey => "grey40",
+            Colour::Red => "red3",
+        };
+        write!(
+            f,
+            "style=\"{weight}{stroke}\" color={colour} fontcolor={colour}"
+        )
     }
 }

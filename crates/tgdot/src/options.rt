@@ -29,6 +29,25 @@ const FROM: &str = "With --steps: the first line that is shown [default: the fir
 
 const TO: &str = "With --steps: the last line that is shown [default: the last of all]";
 
+// What an option takes: nothing, a text, a number from 1 to this one, or, with the steps, the number of a line.
+#[derive(Clone, Copy, Drop)]
+enum Takes {
+    Nothing,
+    Text,
+    Number(i64),
+    Line,
+}
+
+// The options, each with what is told of it.
+const OPTIONS: &[(&str, Takes, &str)] = &[
+    ("workers", Takes::Number(64), WORKERS),
+    ("vertices", Takes::Number(16_777_216), VERTICES),
+    ("stock", Takes::Text, STOCK),
+    ("steps", Takes::Nothing, STEPS),
+    ("from", Takes::Line, FROM),
+    ("to", Takes::Line, TO),
+];
+
 /// What the words ask for.
 #[derive(Clone, Copy, Drop)]
 pub struct DotOptions<'a> {
@@ -60,18 +79,8 @@ impl LineRange {
 
 /// Reads the words, the first of which is the program's name. An `Err` is the text for the user, of the help as of a fault.
 pub fn read_words<'a, S: AsStr>(alloc: Global, words: &'a [S]) -> Result<DotOptions<'a>, Error> {
-    match matches_of(alloc, words) {
-        Ok(matches) => Ok(options_of(&matches)),
-        Err(error) => Err(error),
-    }
-}
-
-// What is found in the words.
-fn matches_of<'a, S: AsStr>(alloc: Global, words: &'a [S]) -> Result<ArgMatches<'a>, Error> {
-    match command(alloc) {
-        Ok(command) => command.try_get_matches_from(words),
-        Err(error) => Err(Error::from(error)),
-    }
+    let matches = command(alloc)?.try_get_matches_from(words)?;
+    Ok(options_of(&matches))
 }
 
 // The options that were found in the words, and the defaults of the others.
@@ -97,52 +106,36 @@ fn steps_of(matches: &ArgMatches) -> Option<LineRange> {
 
 // The command line.
 fn command<'a>(alloc: Global) -> Result<Command<'a>, AllocError> {
-    match options(alloc) {
-        Ok(options) => Command::new(alloc, "tgdot")
-            .about(ABOUT)
-            .after_help(EXAMPLE)
-            .args(options),
-        Err(error) => Err(error),
-    }
+    let options = options(alloc)?;
+    Command::new(alloc, "tgdot")
+        .about(ABOUT)
+        .after_help(EXAMPLE)
+        .args(options)
 }
 
 // All options.
 fn options<'a>(alloc: Global) -> Result<Vec<Arg<'a>>, AllocError> {
-    let options = first_options(alloc);
-    let steps = option(alloc, "steps", STEPS).action(ArgAction::SetTrue);
-    let options = with(options, Ok(steps));
-    let options = with(options, line(alloc, "from", FROM));
-    with(options, line(alloc, "to", TO))
-}
-
-// The options that say what the script runs on.
-fn first_options<'a>(alloc: Global) -> Result<Vec<Arg<'a>>, AllocError> {
-    let workers = with_number(option(alloc, "workers", WORKERS), 64);
-    let vertices = with_number(option(alloc, "vertices", VERTICES), 16_777_216);
-    let stock = with_value(option(alloc, "stock", STOCK), "TEXT");
-    let options = with(Ok(Vec::new(alloc)), Ok(workers));
-    let options = with(options, Ok(vertices));
-    with(options, Ok(stock))
-}
-
-// The list with one more item, where there was memory for all.
-fn with<T: Drop>(
-    list: Result<Vec<T>, AllocError>,
-    item: Result<T, AllocError>,
-) -> Result<Vec<T>, AllocError> {
-    let mut list = list?;
-    list.push(item?)?;
-    Ok(list)
-}
-
-// An option that takes the number of a line, with the steps.
-fn line<'a>(alloc: Global, name: &'a str, help: &'a str) -> Result<Arg<'a>, AllocError> {
-    with_number(option(alloc, name, help), i64::MAX).requires_arg("steps")
+    let mut options = Vec::new(alloc);
+    for (name, takes, help) in OPTIONS {
+        options.push(option(alloc, name, *takes, help)?)?;
+    }
+    Ok(options)
 }
 
 // An option.
-fn option<'a>(alloc: Global, name: &'a str, help: &'a str) -> Arg<'a> {
-    Arg::new(alloc, name).long(name).help(help)
+fn option<'a>(
+    alloc: Global,
+    name: &'a str,
+    takes: Takes,
+    help: &'a str,
+) -> Result<Arg<'a>, AllocError> {
+    let arg = Arg::new(alloc, name).long(name).help(help);
+    match takes {
+        Takes::Nothing => Ok(arg.action(ArgAction::SetTrue)),
+        Takes::Text => Ok(with_value(arg, "TEXT")),
+        Takes::Number(most) => Ok(with_number(arg, most)),
+        Takes::Line => with_number(arg, i64::MAX).requires_arg("steps"),
+    }
 }
 
 // The option with a number from 1 to `most` as its value.

@@ -1,9 +1,14 @@
 //! The picture of a step, as a text for `dot`.
 
-use crate::draft::Draft;
-use crate::frame::{Frame, Room};
+use crate::frame::{Frame, Room, columns_of};
 use crate::run::Run;
 use crate::shot::{EdgeView, Shot, VertexView};
+use std::alloc::Global;
+use std::fmt::{Display, Formatter};
+use std::{fmt, io};
+
+// The letters of all texts are equally wide, so that a text's columns tell its width.
+const FONT: &str = "Courier";
 
 // The width of a letter, the height of a vertex's text, and what stands round it, in hundredths of an inch.
 const LETTER: usize = 12;
@@ -17,127 +22,139 @@ const CIRCLE_MARGIN: usize = 34;
 // The most edges that dot draws without lines from their labels.
 const MOST_PLAIN: usize = 8;
 
-/// Writes the step as a digraph with all that the frame has, by name. What the step doesn't have is invisible.
-pub fn write_shot(draft: &mut Draft, frame: &Frame, run: &Run, shot: &Shot) {
-    draft.add("digraph step_");
-    draft.add_number(shot.number);
-    draft.add(" {\n");
-    write_heading(draft, frame, shot);
-    write_defaults(draft, frame);
-    write_vertices(draft, frame, run, shot);
-    write_edges(draft, frame, run, shot);
-    draft.add("}\n");
+/// Prints the step as a digraph with all that the frame has, by name. What the step doesn't have is invisible.
+pub fn draw_shot<R: Print>(
+    rt: &R,
+    alloc: Global,
+    frame: &Frame,
+    run: &Run,
+    shot: &Shot,
+) -> io::Result<()> {
+    let number = shot.number;
+    println!(rt; "digraph step_{number} {{")?;
+    draw_heading(rt, frame, shot)?;
+    draw_defaults(rt, frame)?;
+    draw_vertices(rt, frame, run, shot)?;
+    draw_edges(rt, alloc, frame, run, shot)?;
+    println!(rt; "}}")
 }
 
-// The line and its answer, above the picture. The letters of all texts are equally wide, so that a text's columns tell its width.
-fn write_heading(draft: &mut Draft, frame: &Frame, shot: &Shot) {
-    draft.add("    graph [fontname=Courier labelloc=t labeljust=l label=\"");
-    let first = draft.len();
-    shot.write_heading(draft);
-    draft.pad(first, frame.columns);
-    draft.add("\\l");
-    let first = draft.len();
-    shot.write_told(draft);
-    draft.pad(first, frame.columns);
-    draft.add("\\l\"]\n");
+// The line and its answer, above the picture.
+fn draw_heading<R: Print>(rt: &R, frame: &Frame, shot: &Shot) -> io::Result<()> {
+    let heading = shot.heading.as_str();
+    let behind_heading = Spaces(frame.columns.saturating_sub(heading.len()));
+    let told = shot.told.as_str();
+    let behind_told = Spaces(frame.columns.saturating_sub(told.len()));
+    println!(rt;
+        "    graph [fontname={FONT} labelloc=t labeljust=l label=\"{heading}{behind_heading}\\l{told}{behind_told}\\l\"]"
+    )
 }
 
 // What holds of all vertices and of all edges. Among many edges a line leads from each label to its own.
-fn write_defaults(draft: &mut Draft, frame: &Frame) {
-    draft.add("    node [fontname=Courier fixedsize=true]\n    edge [fontname=Courier");
-    if frame.edges.len() > MOST_PLAIN {
-        draft.add(" decorate=true");
-    }
-    draft.add("]\n");
+fn draw_defaults<R: Print>(rt: &R, frame: &Frame) -> io::Result<()> {
+    let are_many = frame.edges.len() > MOST_PLAIN;
+    let lines = if are_many { " decorate=true" } else { "" };
+    println!(rt; "    node [fontname={FONT} fixedsize=true]\n    edge [fontname={FONT}{lines}]")
 }
 
 // All vertices of the frame.
-fn write_vertices(draft: &mut Draft, frame: &Frame, run: &Run, shot: &Shot) {
+fn draw_vertices<R: Print>(rt: &R, frame: &Frame, run: &Run, shot: &Shot) -> io::Result<()> {
     for (name, room) in frame.vertices.iter() {
-        write_vertex(draft, *name, *room);
-        match shot.vertex(run, *name) {
-            Some(view) => write_looks(draft, shot, view),
-            None => draft.add(" label=\"\" style=invis]\n"),
-        }
+        draw_vertex(rt, *name, *room, shot.vertex(run, *name))?;
     }
+    Ok(())
 }
 
 // A vertex, in a shape of its own size for all steps.
-fn write_vertex(draft: &mut Draft, name: u64, room: Room) {
-    draft.add("    ");
-    draft.add_number(name);
-    draft.add(" [");
-    write_room(draft, room);
-}
-
-// The text of a vertex that is there, and how it looks.
-fn write_looks(draft: &mut Draft, shot: &Shot, view: VertexView) {
-    draft.add(" label=\"");
-    shot.write_name(draft, view);
-    draft.add("\\n");
-    shot.write_state(draft, view);
-    draft.add("\" ");
-    shot.look_of(view).write(draft);
-    draft.add("]\n");
-}
-
-// All edges of the frame.
-fn write_edges(draft: &mut Draft, frame: &Frame, run: &Run, shot: &Shot) {
-    for (ends, columns) in frame.edges.iter() {
-        draft.add_ends(*ends);
-        draft.add(" [label=\" ");
-        write_label(draft, *columns, shot.edge(run, *ends));
+fn draw_vertex<R: Print>(
+    rt: &R,
+    name: u64,
+    room: Room,
+    view: Option<VertexView>,
+) -> io::Result<()> {
+    match view {
+        Some(view) => {
+            let first = view.name;
+            let state = view.state;
+            let look = view.look;
+            println!(rt; "    {name} [{room} label=\"{first}\\n{state}\" {look}]")
+        }
+        None => println!(rt; "    {name} [{room} label=\"\" style=invis]"),
     }
 }
 
-// The label of an edge, of its own width for all steps, and how it looks.
-fn write_label(draft: &mut Draft, columns: usize, view: Option<EdgeView>) {
+// All edges of the frame.
+fn draw_edges<R: Print>(
+    rt: &R,
+    alloc: Global,
+    frame: &Frame,
+    run: &Run,
+    shot: &Shot,
+) -> io::Result<()> {
+    for (ends, columns) in frame.edges.iter() {
+        draw_edge(rt, alloc, *ends, *columns, shot.edge(run, *ends))?;
+    }
+    Ok(())
+}
+
+// An edge, with a label of its own width for all steps.
+fn draw_edge<R: Print>(
+    rt: &R,
+    alloc: Global,
+    ends: (u64, u64),
+    columns: usize,
+    view: Option<EdgeView>,
+) -> io::Result<()> {
+    let (from, to) = ends;
     match view {
-        Some(view) => write_shown(draft, columns, view),
+        Some(view) => {
+            let behind = Spaces(columns.saturating_sub(columns_of(alloc, view)?));
+            let look = view.look;
+            println!(rt; "    {from} -> {to} [label=\" {view}{behind} \" {look}]")
+        }
         None => {
-            let first = draft.len();
-            draft.pad(first, columns);
-            draft.add(" \" style=invis]\n");
+            let room = Spaces(columns);
+            println!(rt; "    {from} -> {to} [label=\" {room} \" style=invis]")
         }
     }
 }
 
-// The label of an edge that is shown, and how it looks.
-fn write_shown(draft: &mut Draft, columns: usize, view: EdgeView) {
-    let first = draft.len();
-    let look = view.look;
-    view.write(draft);
-    draft.pad(first, columns);
-    draft.add(" \" ");
-    look.write(draft);
-    draft.add("]\n");
-}
+// So many spaces.
+#[derive(Clone, Copy)]
+struct Spaces(usize);
 
-// Writes the shape and the size.
-fn write_room(draft: &mut Draft, room: Room) {
-    let text = room.columns.saturating_mul(LETTER);
-    if room.ever_subject {
-        draft.add("shape=box");
-        write_size(draft, text.saturating_add(BOX_MARGIN), HEIGHT);
-    } else {
-        let across = text.saturating_add(CIRCLE_MARGIN);
-        draft.add("shape=circle");
-        write_size(draft, across, across);
+impl Display for Spaces {
+    fn fmt<W: fmt::Write>(&self, f: &mut Formatter<W>) -> fmt::Result {
+        for _ in 0..self.0 {
+            f.write_char(' ')?;
+        }
+        Ok(())
     }
 }
 
-// Writes the width and the height.
-fn write_size(draft: &mut Draft, width: usize, height: usize) {
-    draft.add(" width=");
-    write_inches(draft, width);
-    draft.add(" height=");
-    write_inches(draft, height);
+impl Display for Room {
+    /// Writes the shape and the size.
+    fn fmt<W: fmt::Write>(&self, f: &mut Formatter<W>) -> fmt::Result {
+        let text = self.columns.saturating_mul(LETTER);
+        if self.ever_subject {
+            let width = Inches(text.saturating_add(BOX_MARGIN));
+            let height = Inches(HEIGHT);
+            write!(f, "shape=box width={width} height={height}")
+        } else {
+            let across = Inches(text.saturating_add(CIRCLE_MARGIN));
+            write!(f, "shape=circle width={across} height={across}")
+        }
+    }
 }
 
-// Writes hundredths of an inch as inches.
-fn write_inches(draft: &mut Draft, hundredths: usize) {
-    let rest = hundredths % 100;
-    draft.add_number((hundredths / 100) as u64);
-    draft.add(if rest < 10 { ".0" } else { "." });
-    draft.add_number(rest as u64);
+// Hundredths of an inch.
+#[derive(Clone, Copy)]
+struct Inches(usize);
+
+impl Display for Inches {
+    fn fmt<W: fmt::Write>(&self, f: &mut Formatter<W>) -> fmt::Result {
+        let whole = self.0 / 100;
+        let rest = self.0 % 100;
+        write!(f, "{whole}.{rest:02}")
+    }
 }

@@ -1,23 +1,39 @@
 //! A script, run on the plain graph.
 
 use crate::fault::DrawFault;
-use crate::living::{Living, Vertex, new_cell};
 use crate::options::DotOptions;
-use crate::reach::reached_along;
 use crate::script::ScriptLine;
 use std::alloc::{AllocError, Global};
-use std::collections::BTreeSet;
+use std::collections::{BTreeMap, BTreeSet};
 use tg_model::{Command, Deed, Edge, Graph, Law, ModelFault, Numbers, Opening, Reply, Value};
 use tg_rights::Label;
 use tg_text::{Answer, Line, Refusal, StockItem};
 
-/// The run of a script. The plain graph says what the rules do. Beside it stands what no collection took.
+/// The run of a script. The plain graph says what the rules do. Beside it stand the vertices that no collection took and the edges
+/// between them, so that nobody has to ask each pair of vertices for its edge.
 #[derive(Drop)]
 pub struct Run<'a> {
     alloc: Global,
     graph: Graph,
-    living: Living,
+    vertices: BTreeMap<u64, Vertex>,
+    edges: BTreeSet<(u64, u64)>,
     stock: &'a [StockItem],
+}
+
+/// A vertex that no collection took.
+#[derive(Drop)]
+pub struct Vertex {
+    /// Whether it is a subject, or was one until it retired.
+    pub ever_subject: bool,
+    /// What it stores.
+    pub value: Value,
+}
+
+// What was reached, and those of it from which nothing was reached yet.
+#[derive(Drop)]
+struct Reach {
+    reached: BTreeSet<u64>,
+    waiting: Vec<u64>,
 }
 
 impl<'a> Run<'a> {
@@ -28,30 +44,16 @@ impl<'a> Run<'a> {
         lines: &[ScriptLine],
         stock: &'a [StockItem],
     ) -> Result<Run<'a>, DrawFault> {
-        match opening_of(alloc, options, lines) {
-            Ok(opening) => Run::open(alloc, &opening, lines, stock),
-            Err(fault) => Err(fault),
-        }
-    }
-
-    // The run that begins so.
-    fn open(
-        alloc: Global,
-        opening: &Opening,
-        lines: &[ScriptLine],
-        stock: &'a [StockItem],
-    ) -> Result<Run<'a>, DrawFault> {
-        let graph = Graph::open(alloc, opening);
-        let living = Living::open(alloc, opening.workers(), lines);
-        match (graph, living) {
-            (Ok(graph), Ok(living)) => Ok(Run {
-                alloc,
-                graph,
-                living,
-                stock,
-            }),
-            _ => Err(DrawFault::OutOfMemory),
-        }
+        let graph = opened_graph(alloc, options, lines)?;
+        let mut run = Run {
+            alloc,
+            graph,
+            vertices: BTreeMap::new(alloc),
+            edges: BTreeSet::new(alloc),
+            stock,
+        };
+        run.open(options.workers, lines)?;
+        Ok(run)
     }
 
     /// Runs a line. What it is answered. An edge line does nothing here: the graph began with its edge.
@@ -65,19 +67,14 @@ impl<'a> Run<'a> {
         }
     }
 
-    /// The names of the vertices that no collection took.
-    pub fn names(&self) -> &BTreeSet<u64> {
-        &self.living.names
+    /// The vertices that no collection took, by rising name.
+    pub fn vertices(&self) -> &BTreeMap<u64, Vertex> {
+        &self.vertices
     }
 
-    /// The vertex of this name, where no collection took it.
-    pub fn vertex(&self, name: u64) -> Option<&Vertex> {
-        self.living.vertex(name)
-    }
-
-    /// The ends of the edges, some of which may begin at a vertex that was collected.
+    /// The ends of the edges from these vertices.
     pub fn edges(&self) -> &BTreeSet<(u64, u64)> {
-        &self.living.edges
+        &self.edges
     }
 
     /// Whether the vertex of this name was a subject and is none any more.
@@ -87,8 +84,9 @@ impl<'a> Run<'a> {
 
     /// The rights on the edge between these, where it is there.
     pub fn held(&self, ends: (u64, u64)) -> Option<Label> {
-        if self.living.names.contains(&ends.0) {
-            Label::new(self.graph.label(ends.0, ends.1))
+        let (from, to) = ends;
+        if self.edges.contains(&ends) {
+            Label::new(self.graph.label(from, to))
         } else {
             None
         }
@@ -96,95 +94,164 @@ impl<'a> Run<'a> {
 
     /// The vertices that a subject reaches along edges.
     pub fn reached(&self) -> Result<BTreeSet<u64>, AllocError> {
-        reached_along(self.alloc, self.graph.subjects(), &self.living.edges)
+        let mut reach = Reach {
+            reached: BTreeSet::new(self.alloc),
+            waiting: Vec::new(self.alloc),
+        };
+        self.reach_all(&mut reach)?;
+        Ok(reach.reached)
+    }
+
+    // Adds what is reached from the subjects.
+    fn reach_all(&self, reach: &mut Reach) -> Result<(), AllocError> {
+        for name in self.graph.subjects() {
+            reach.add(*name)?;
+        }
+        // Each vertex waits once.
+        for _ in 0..self.vertices.len() {
+            let Some(from) = reach.waiting.pop() else {
+                break;
+            };
+            self.reach_from(from, reach)?;
+        }
+        Ok(())
+    }
+
+    // Adds the targets of a vertex.
+    fn reach_from(&self, from: u64, reach: &mut Reach) -> Result<(), AllocError> {
+        for (source, to) in self.edges.range((from, 0)..) {
+            if *source != from {
+                break;
+            }
+            reach.add(*to)?;
+        }
+        Ok(())
+    }
+
+    // Adds the workers and their edges.
+    fn open(&mut self, workers: u64, lines: &[ScriptLine]) -> Result<(), AllocError> {
+        for name in 0..workers {
+            self.add_vertex(name, true, StockItem::Cell)?;
+        }
+        for line in lines {
+            if let Line::Edge(edge) = line.line {
+                self.edges.insert((edge.from, edge.to))?;
+            }
+        }
+        Ok(())
+    }
+
+    // Adds a vertex that stores a new box.
+    fn add_vertex(
+        &mut self,
+        name: u64,
+        ever_subject: bool,
+        kind: StockItem,
+    ) -> Result<(), AllocError> {
+        let value = value_of(kind);
+        let vertex = Vertex {
+            ever_subject,
+            value,
+        };
+        self.vertices.insert(name, vertex)?;
+        Ok(())
     }
 
     // Makes a subject or an object that stores the next box. Where none is made, the box stays.
     fn make(&mut self, worker: u64, label: Label, as_subject: bool) -> Result<Answer, AllocError> {
-        match self.stock.split_first() {
-            Some((kind, rest)) => self.make_kind(worker, label, as_subject, *kind, rest),
-            None => Ok(Answer::Refused(Refusal::Stock)),
+        let Some((kind, rest)) = self.stock.split_first() else {
+            return Ok(Answer::Refused(Refusal::Stock));
+        };
+        let answer = self.apply(worker, &deed_of(label, *kind, as_subject))?;
+        if let Answer::Reply(Reply::Name(name)) = answer {
+            self.stock = rest;
+            self.add_made(worker, name, as_subject, *kind)
+        } else {
+            Ok(answer)
         }
     }
 
-    // Makes a subject or an object that stores such a box. Where one is made, this is the rest of the stock.
-    fn make_kind(
+    // Adds a vertex that was made, and the edge to it. The answer.
+    fn add_made(
         &mut self,
         worker: u64,
-        label: Label,
+        name: u64,
         as_subject: bool,
         kind: StockItem,
-        rest: &'a [StockItem],
     ) -> Result<Answer, AllocError> {
-        let answer = self.apply(worker, &deed_of(label, kind, as_subject));
-        let noted = match name_in(&answer) {
-            Some(name) => {
-                self.stock = rest;
-                self.note_made((worker, name), as_subject, kind)
-            }
-            None => Ok(()),
-        };
-        answered(answer, noted)
-    }
-
-    // Notes a vertex that was made, and the edge to it.
-    fn note_made(
-        &mut self,
-        ends: (u64, u64),
-        as_subject: bool,
-        kind: StockItem,
-    ) -> Result<(), AllocError> {
-        self.living.add_vertex(ends.1, as_subject, value_of(kind))?;
-        self.note_edge(ends)
+        self.add_vertex(name, as_subject, kind)?;
+        self.note_edge(worker, name)?;
+        Ok(Answer::Reply(Reply::Name(name)))
     }
 
     // Runs a command that makes no vertex.
     fn obey(&mut self, worker: u64, command: Command) -> Result<Answer, AllocError> {
-        let answer = self.apply(worker, &Deed::Plain(command));
-        let noted = if is_done(&answer) {
+        let answer = self.apply(worker, &Deed::Plain(command))?;
+        if let Answer::Reply(Reply::Done) = answer {
             self.follow(worker, &command)
         } else {
-            Ok(())
-        };
-        answered(answer, noted)
+            Ok(answer)
+        }
     }
 
     // Has the graph take a deed. A new box fits its law, so no vertex is missed here.
     fn apply(&mut self, worker: u64, deed: &Deed) -> Result<Answer, AllocError> {
-        if deed.fits() {
-            answer_of(self.graph.apply(worker, deed))
-        } else {
-            Ok(Answer::Refused(Refusal::Stock))
+        if !deed.fits() {
+            return Ok(Answer::Refused(Refusal::Stock));
+        }
+        match self.graph.apply(worker, deed) {
+            Ok(reply) => Ok(Answer::Reply(reply)),
+            Err(ModelFault::NoSuchWorker) => Ok(Answer::Refused(Refusal::Worker)),
+            Err(ModelFault::OutOfMemory) => Err(AllocError),
         }
     }
 
-    // Follows a command that was served.
-    fn follow(&mut self, worker: u64, command: &Command) -> Result<(), AllocError> {
-        if let Some(ends) = changed_by(worker, command) {
-            self.note_edge(ends)
-        } else if let Some((target, number)) = stored_by(command) {
-            self.living.store(target, number)
-        } else {
-            Ok(())
+    // Follows a command that was served. The answer.
+    fn follow(&mut self, worker: u64, command: &Command) -> Result<Answer, AllocError> {
+        if let Some((from, to)) = changed_by(worker, command) {
+            self.note_edge(from, to)?;
         }
+        if let Command::Write { target, value } | Command::Append { target, value } = command {
+            self.store(*target, *value)?;
+        }
+        Ok(Answer::Reply(Reply::Done))
     }
 
     // Notes an edge, or forgets it where its last right was given up.
-    fn note_edge(&mut self, ends: (u64, u64)) -> Result<(), AllocError> {
-        let is_there = !self.graph.label(ends.0, ends.1).is_empty();
-        self.living.note_edge(ends, is_there)
+    fn note_edge(&mut self, from: u64, to: u64) -> Result<(), AllocError> {
+        if self.graph.label(from, to).is_empty() {
+            self.edges.remove(&(from, to));
+        } else {
+            self.edges.insert((from, to))?;
+        }
+        Ok(())
+    }
+
+    // Notes a number that was written or added to a log.
+    fn store(&mut self, target: u64, number: u64) -> Result<(), AllocError> {
+        if let Some(vertex) = self.vertices.get_mut(&target) {
+            let law = vertex.value.law;
+            law.write(self.alloc, &mut vertex.value.state, number)?;
+        }
+        Ok(())
     }
 
     // Collects what no subject reaches.
     fn collect(&mut self) -> Result<Answer, AllocError> {
-        match self.reached() {
-            Ok(reached) => {
-                let number = reached.len() as u64;
-                self.living.keep(reached);
-                Ok(Answer::Collected(Some(number)))
-            }
-            Err(error) => Err(error),
+        let reached = self.reached()?;
+        self.vertices.retain(|name, _| reached.contains(name));
+        self.edges.retain(|(from, _)| reached.contains(from));
+        Ok(Answer::Collected(Some(reached.len() as u64)))
+    }
+}
+
+impl Reach {
+    // Adds a vertex, and lets it wait if it wasn't reached before.
+    fn add(&mut self, name: u64) -> Result<(), AllocError> {
+        if self.reached.insert(name)? {
+            self.waiting.push(name)?;
         }
+        Ok(())
     }
 }
 
@@ -197,77 +264,23 @@ pub fn changed_by(worker: u64, command: &Command) -> Option<(u64, u64)> {
     }
 }
 
-// The vertex that a command has take a number in, and the number.
-fn stored_by(command: &Command) -> Option<(u64, u64)> {
-    match *command {
-        Command::Write { target, value } | Command::Append { target, value } => {
-            Some((target, value))
-        }
-        _ => None,
-    }
-}
-
-// The answer, once what it says was noted.
-fn answered(
-    answer: Result<Answer, AllocError>,
-    noted: Result<(), AllocError>,
-) -> Result<Answer, AllocError> {
-    match noted {
-        Ok(()) => answer,
-        Err(error) => Err(error),
-    }
-}
-
-// What the graph's answer is here.
-fn answer_of(replied: Result<Reply, ModelFault>) -> Result<Answer, AllocError> {
-    match replied {
-        Ok(reply) => Ok(Answer::Reply(reply)),
-        Err(ModelFault::NoSuchWorker) => Ok(Answer::Refused(Refusal::Worker)),
-        Err(ModelFault::OutOfMemory) => Err(AllocError),
-    }
-}
-
-// The name of the vertex that was made.
-fn name_in(answer: &Result<Answer, AllocError>) -> Option<u64> {
-    match answer {
-        Ok(Answer::Reply(Reply::Name(name))) => Some(*name),
-        _ => None,
-    }
-}
-
-// Whether a command was served that answers no more than that.
-fn is_done(answer: &Result<Answer, AllocError>) -> bool {
-    matches!(answer, Ok(Answer::Reply(Reply::Done)))
-}
-
-// What the graph begins with.
-fn opening_of(
+// The graph of the edge lines, in which each worker stores a cell with 0.
+fn opened_graph(
     alloc: Global,
     options: DotOptions,
     lines: &[ScriptLine],
-) -> Result<Opening, DrawFault> {
+) -> Result<Graph, DrawFault> {
     let edges = edges_of(alloc, lines)?;
-    opening_with(alloc, options, edges)
-}
-
-// What a graph of these edges begins with.
-fn opening_with(
-    alloc: Global,
-    options: DotOptions,
-    edges: Vec<Edge>,
-) -> Result<Opening, DrawFault> {
     let values = values_of(alloc, options.workers)?;
-    match Opening::new(options.workers, edges, values, options.max_vertices) {
-        Ok(opening) => Ok(opening),
-        Err(fault) => Err(DrawFault::Opening(fault)),
-    }
+    let opening = Opening::new(options.workers, edges, values, options.max_vertices)?;
+    Ok(Graph::open(alloc, &opening)?)
 }
 
 // The edges of the edge lines.
 fn edges_of(alloc: Global, lines: &[ScriptLine]) -> Result<Vec<Edge>, AllocError> {
     let mut edges = Vec::new(alloc);
     for line in lines {
-        if let Some(edge) = line.edge() {
+        if let Line::Edge(edge) = line.line {
             edges.push(edge)?;
         }
     }
@@ -278,7 +291,7 @@ fn edges_of(alloc: Global, lines: &[ScriptLine]) -> Result<Vec<Edge>, AllocError
 fn values_of(alloc: Global, workers: u64) -> Result<Vec<Value>, AllocError> {
     let mut values = Vec::new(alloc);
     for _ in 0..workers {
-        values.push(new_cell())?;
+        values.push(value_of(StockItem::Cell))?;
     }
     Ok(values)
 }

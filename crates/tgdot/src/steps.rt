@@ -1,16 +1,20 @@
 //! The steps of a script, each as a digraph.
 
-use crate::draft::Draft;
-use crate::fault::{DrawFault, MOST_STEPS};
+use crate::fault::DrawFault;
 use crate::frame::Frame;
-use crate::marks::Marks;
 use crate::options::{DotOptions, LineRange};
-use crate::picture::write_shot;
+use crate::picture::draw_shot;
 use crate::run::Run;
 use crate::script::ScriptLine;
-use crate::shot::{Shot, Show};
+use crate::shot::Shot;
 use std::alloc::Global;
-use tg_text::{Answer, StockItem};
+use tg_text::{Line, StockItem};
+
+// The most steps that are drawn at once.
+const MOST_STEPS: u64 = 400;
+
+// The most vertices that are drawn at once, in all steps together.
+const MOST_VERTICES: u64 = 100_000;
 
 /// The steps of the lines in a range.
 #[derive(Clone, Copy)]
@@ -27,113 +31,107 @@ pub struct Steps<'a> {
     pub stock: &'a [StockItem],
 }
 
-// Prints steps in a frame that holds them.
-#[derive(Drop)]
-struct Printer<'a, R> {
-    rt: &'a R,
-    frame: &'a Frame,
-    draft: Draft,
-}
-
-impl<R: Print> Show for Printer<'_, R> {
-    fn show(&mut self, run: &Run, shot: &Shot) -> Result<(), DrawFault> {
-        write_shot(&mut self.draft, self.frame, run, shot);
-        self.draft.print(self.rt)
-    }
+// What the lines are run for.
+#[derive(Clone, Copy)]
+enum Pass {
+    Measure,
+    Draw,
 }
 
 impl Steps<'_> {
     /// Prints a digraph for each of the lines that is no edge line, and one before the first of them, which has the number of the last
     /// edge line. All have the same vertices and edges, in the same order: so the lines are run twice, first to learn which there are.
     pub fn draw<R: Print>(&self, rt: &R) -> Result<(), DrawFault> {
-        let steps = self.count();
-        if steps > MOST_STEPS {
-            Err(DrawFault::TooManySteps)
-        } else {
-            self.draw_in(rt, Frame::new(self.alloc, steps))
+        if self.count() > MOST_STEPS {
+            return Err(DrawFault::TooManySteps { most: MOST_STEPS });
         }
-    }
-
-    // Prints the steps, once the frame holds them.
-    fn draw_in<R: Print>(&self, rt: &R, frame: Frame) -> Result<(), DrawFault> {
-        let mut frame = frame;
-        match self.pass(&mut frame) {
-            Ok(()) => self.print(rt, &frame),
-            Err(fault) => Err(fault),
-        }
-    }
-
-    // Prints the steps.
-    fn print<R: Print>(&self, rt: &R, frame: &Frame) -> Result<(), DrawFault> {
-        let draft = Draft::new(self.alloc);
-        let mut printer = Printer { rt, frame, draft };
-        self.pass(&mut printer)
+        let mut frame = Frame::new(self.alloc);
+        self.pass(rt, &mut frame, Pass::Measure)?;
+        self.pass(rt, &mut frame, Pass::Draw)
     }
 
     // Runs the lines once.
-    fn pass<V: Show>(&self, viewer: &mut V) -> Result<(), DrawFault> {
-        match Run::start(self.alloc, self.options, self.lines, self.stock) {
-            Ok(mut run) => self.show_all(&mut run, viewer),
-            Err(fault) => Err(fault),
-        }
+    fn pass<R: Print>(&self, rt: &R, frame: &mut Frame, pass: Pass) -> Result<(), DrawFault> {
+        let mut run = Run::start(self.alloc, self.options, self.lines, self.stock)?;
+        self.show_all(rt, &mut run, frame, pass)
     }
 
     // Shows the start, and then each line.
-    fn show_all<V: Show>(&self, run: &mut Run, viewer: &mut V) -> Result<(), DrawFault> {
-        match self.show_start(run, viewer) {
-            Ok(()) => self.show_lines(run, viewer),
-            Err(fault) => Err(fault),
-        }
-    }
-
-    // Runs each line, and shows those that are to be shown.
-    fn show_lines<V: Show>(&self, run: &mut Run, viewer: &mut V) -> Result<(), DrawFault> {
+    fn show_all<R: Print>(
+        &self,
+        rt: &R,
+        run: &mut Run,
+        frame: &mut Frame,
+        pass: Pass,
+    ) -> Result<(), DrawFault> {
+        self.show_start(rt, run, frame, pass)?;
         for line in self.lines {
             if line.number > self.range.to {
                 break;
             }
-            self.take(run, viewer, line)?;
+            self.take(rt, run, frame, line, pass)?;
         }
         Ok(())
     }
 
     // Shows the graph before the first command, if it is to be shown.
-    fn show_start<V: Show>(&self, run: &Run, viewer: &mut V) -> Result<(), DrawFault> {
-        let number = self.last_edge();
-        if self.range.contains(number) {
-            show_step(run, viewer, number, None, Marks::none())
-        } else {
-            Ok(())
-        }
-    }
-
-    // Runs a line, and shows its step if it is to be shown.
-    fn take<V: Show>(
+    fn show_start<R: Print>(
         &self,
-        run: &mut Run,
-        viewer: &mut V,
-        line: &ScriptLine,
-    ) -> Result<(), DrawFault> {
-        match run.take(&line.line) {
-            Ok(answer) => self.show_line(run, viewer, line, &answer),
-            Err(_) => Err(DrawFault::OutOfMemory),
-        }
-    }
-
-    // Shows what stands after a line that was answered so, if it is to be shown. The edge lines stand before the start.
-    fn show_line<V: Show>(
-        &self,
+        rt: &R,
         run: &Run,
-        viewer: &mut V,
-        line: &ScriptLine,
-        answer: &Answer,
+        frame: &mut Frame,
+        pass: Pass,
     ) -> Result<(), DrawFault> {
-        if self.range.contains(line.number) && line.edge().is_none() {
-            let marks = Marks::of(&line.line, answer);
-            show_step(run, viewer, line.number, Some((line, answer)), marks)
-        } else {
-            Ok(())
+        let number = self.last_edge();
+        if !self.range.contains(number) {
+            return Ok(());
         }
+        let shot = Shot::of_start(self.alloc, run, number)?;
+        self.show(rt, run, frame, &shot, pass)
+    }
+
+    // Runs a line, and shows its step if it is to be shown. The edge lines stand before the start.
+    fn take<R: Print>(
+        &self,
+        rt: &R,
+        run: &mut Run,
+        frame: &mut Frame,
+        line: &ScriptLine,
+        pass: Pass,
+    ) -> Result<(), DrawFault> {
+        let answer = run.take(&line.line)?;
+        if matches!(line.line, Line::Edge(_)) || !self.range.contains(line.number) {
+            return Ok(());
+        }
+        let shot = Shot::of_line(self.alloc, run, line, &answer)?;
+        self.show(rt, run, frame, &shot, pass)
+    }
+
+    // Shows a step.
+    fn show<R: Print>(
+        &self,
+        rt: &R,
+        run: &Run,
+        frame: &mut Frame,
+        shot: &Shot,
+        pass: Pass,
+    ) -> Result<(), DrawFault> {
+        match pass {
+            Pass::Measure => self.measure(run, frame, shot),
+            Pass::Draw => Ok(draw_shot(rt, self.alloc, frame, run, shot)?),
+        }
+    }
+
+    // Has the frame hold a step, while there is room for its vertices in all steps.
+    fn measure(&self, run: &Run, frame: &mut Frame, shot: &Shot) -> Result<(), DrawFault> {
+        frame.widen(run, shot)?;
+        let vertices = frame.vertices.len() as u64;
+        if vertices.saturating_mul(self.count()) > MOST_VERTICES {
+            return Err(DrawFault::TooManyVertices {
+                most: MOST_VERTICES,
+            });
+        }
+        Ok(())
     }
 
     // How many steps there are.
@@ -151,33 +149,11 @@ impl Steps<'_> {
     fn last_edge(&self) -> u64 {
         let mut last = 0;
         for line in self.lines {
-            if line.edge().is_none() {
-                break;
+            match line.line {
+                Line::Edge(_) => last = line.number,
+                _ => break,
             }
-            last = line.number;
         }
         last
-    }
-}
-
-// Shows a step.
-fn show_step<V: Show>(
-    run: &Run,
-    viewer: &mut V,
-    number: u64,
-    line: Option<(&ScriptLine, &Answer)>,
-    marks: Marks,
-) -> Result<(), DrawFault> {
-    match run.reached() {
-        Ok(reached) => viewer.show(
-            run,
-            &Shot {
-                number,
-                line,
-                marks,
-                reached: &reached,
-            },
-        ),
-        Err(_) => Err(DrawFault::OutOfMemory),
     }
 }
