@@ -22,7 +22,7 @@ ghost use Rattle.tg_graph.specs.Steps.{ChangesTo};
 
 use crate::cells::Cells;
 use crate::heap::{Found, VertexRefused};
-use crate::index::{IndexedRow, find_indexed};
+use crate::index::{IndexedRow, find_indexed, spot_for_new};
 use crate::long_rows::{LongRows, Way};
 use crate::rows::{Spot, find_spot, may_get_long, places_of};
 use std::alloc::AllocError;
@@ -144,6 +144,26 @@ impl<P: Payload> Cells<P> {
             Way::Walk => find_spot(&self.spaces, from, name),
             Way::Index(at) => find_indexed(&self.spaces, rows.index(*at), from, name),
             Way::New(row) => find_indexed(&self.spaces, row, from, name),
+        }
+    }
+
+    // Where the reference to a vertex that isn't made yet may be put in the row of an object. An index isn't asked for its name.
+    #[inline(always)]
+    fn spot_for_new(&self, rows: &LongRows, way: &Way, from: Place, name: u64) -> Spot
+        requires graph { IsGraph self.now.spaces.spaces self.now.payloads }
+        requires from { IsKindAt self.now.spaces.spaces Object from }
+        requires fresh { ¬ IsNamed (content_in self.now.spaces.spaces self.now.payloads) name }
+        requires indexed { AreIndexed self.now.spaces.spaces self.now.remembered.places rows.now.entries }
+        requires way { IsWay self.now.spaces.spaces rows.now.entries from way.now }
+        ensures table { IsSpaceTable self.now.spaces }
+        ensures spot { IsSpotFor self.now.spaces.spaces name from result }
+    {
+        // It tells what holds of all spaces (`IsSpaceTable`).
+        let _ = self.spaces.blocks();
+        match way {
+            Way::Walk => find_spot(&self.spaces, from, name),
+            Way::Index(at) => spot_for_new(&self.spaces, rows.index(*at), from, name),
+            Way::New(row) => spot_for_new(&self.spaces, row, from, name),
         }
     }
 
@@ -299,7 +319,7 @@ impl<P: Payload> Cells<P> {
             let why = AllocateFault::OutOfMemory;
             return Err(VertexRefused { draft, why });
         };
-        let spot = self.spot(rows, &way, from, name);
+        let spot = self.spot_for_new(rows, &way, from, name);
         let to = self.put_vertex(nursery, from, name, spot, rights, draft)?;
         self.follow(rows, way, from, name, spot, spot.note(true));
         Ok(to)

@@ -9,8 +9,8 @@ use Rattle.tg_graph.proofs.Heaps.{always_err}
 use Rattle.tg_graph.proofs.IndexedRows.{may_index, may_index_after}
 use Rattle.tg_graph.proofs.cells.Cells.new_vertex.Goals as goal
 
-pub spot-spot-requires-clause-way : goal.spot-spot-requires-clause-way
-spot-spot-requires-clause-way g c = ready_way c.args.self.now.spaces.spaces c.way_to_change.new.rows c.args.from c.in-Ok.way c.in-Ok.ensures.ready
+pub spot_for_new-spot-requires-clause-way : goal.spot_for_new-spot-requires-clause-way
+spot_for_new-spot-requires-clause-way g c = ready_way c.args.self.now.spaces.spaces c.way_to_change.new.rows c.args.from c.in-Ok.way c.in-Ok.ensures.ready
 
 pub follow-requires : goal.follow-requires
 follow-requires g c =
@@ -18,12 +18,12 @@ follow-requires g c =
     let new = c.put_vertex.new.self.spaces in
     let places = c.args.self.now.remembered.places in
     let later = c.put_vertex.new.self.remembered.places in
-    let spot = c.spot-spot.result in
+    let spot = c.spot_for_new-spot.result in
     record {
       old = t;
       payloads = c.args.self.now.payloads;
       places = places;
-      table = c.spot-spot.ensures.table;
+      table = c.spot_for_new-spot.ensures.table;
       graph = c.requires.graph;
       object = c.requires.from;
       indexed = c.way_to_change.ensures.indexed;

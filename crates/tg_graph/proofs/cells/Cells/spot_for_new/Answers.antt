@@ -1,0 +1,40 @@
+use Rattle.std.proofs.Common.{refl, sym, subst}
+use Rattle.std.proofs.lemmas.Option.{slice_get_within}
+use Rattle.tg_graph.specs.Following.{IsWay}
+use Rattle.tg_graph.specs.Index.{HasIndexAt, IsRowIndex}
+use Rattle.tg_graph.specs.Rows.{name_at}
+use Rattle.tg_graph.specs.declared.index.IndexedRow.{IndexedRow}
+use Rattle.tg_graph.specs.declared.long_rows.Way.{Way}
+use Rattle.tg_graph.specs.declared.long_rows.Way.TheVariants.{New}
+use Rattle.tg_space.proofs.Tables.{table_list}
+use Rattle.tg_graph.proofs.Finding.{fresh_lacks}
+use Rattle.tg_graph.proofs.IndexedRows.{index_at}
+use Rattle.tg_graph.proofs.cells.Cells.spot_for_new.Goals as goal
+
+pub index-requires : goal.index-requires
+index-requires g c =
+    let h = c.args.self.now.spaces.spaces in
+    let here : HasIndexAt c.args.rows.now.entries (name_at h c.args.from) c.in-Index.at = subst (λ (w : Way). IsWay h c.args.rows.now.entries c.args.from w) c.in-Index.is c.requires.way in
+    slice_get_within c.args.rows.now.entries c.in-Index.at (name_at h c.args.from, here.row) here.here
+
+pub spot_for_new-requires-clause-index : goal.spot_for_new-requires-clause-index
+spot_for_new-requires-clause-index g c =
+    let h = c.args.self.now.spaces.spaces in
+    let own = name_at h c.args.from in
+    let here : HasIndexAt c.args.rows.now.entries own c.in-Index.at = subst (λ (w : Way). IsWay h c.args.rows.now.entries c.args.from w) c.in-Index.is c.requires.way in
+    let is = index_at h c.args.self.now.payloads c.requires.graph c.args.self.now.remembered.places c.args.rows.now.entries c.requires.indexed c.args.from c.requires.from own refl here.row here.found in
+    subst (λ (r : IndexedRow). IsRowIndex h c.args.from r.names r.cells.items) (sym (c.index.ensures own here.row here.here)) is.0
+
+pub spot_for_new-requires-in-New-clause-index : goal.spot_for_new-requires-in-New-clause-index
+spot_for_new-requires-in-New-clause-index g c =
+    let h = c.args.self.now.spaces.spaces in
+    let way : IsWay h c.args.rows.now.entries c.args.from (New c.in-New.row) = subst (λ (w : Way). IsWay h c.args.rows.now.entries c.args.from w) c.in-New.is c.requires.way in
+    subst (λ (r : IndexedRow). IsRowIndex h c.args.from r.names r.cells.items) (sym c.deref.ensures) way.1
+
+pub spot_for_new-requires-clause-absent : goal.spot_for_new-requires-clause-absent
+spot_for_new-requires-clause-absent g c =
+    fresh_lacks c.args.self.now.spaces.spaces c.args.self.now.payloads (table_list c.args.self.now.spaces c.blocks-2.ensures.table) c.requires.graph c.args.from c.requires.from c.args.name c.requires.fresh
+
+pub spot_for_new-requires-in-New-clause-absent : goal.spot_for_new-requires-in-New-clause-absent
+spot_for_new-requires-in-New-clause-absent g c =
+    fresh_lacks c.args.self.now.spaces.spaces c.args.self.now.payloads (table_list c.args.self.now.spaces c.blocks-2.ensures.table) c.requires.graph c.args.from c.requires.from c.args.name c.requires.fresh
