@@ -351,10 +351,6 @@ module _ (b : OwnBlocks) (ready : IsReady b) where
   pub next_link : b.next ≡ link_to (place_in b.next)
   next_link = ready.next ∙ ap link_to (sym next_read)
 
--- the word of a place is the link to the place that is read in it
-pub link_read : (p : Place) (word : ℕ) → IsPlace p → word ≡ link_to p → word ≡ link_to (place_in word)
-link_read p word inside is = is ∙ ap link_to (sym (ap place_in is ∙ place_in-word_at no_rights p inside))
-
 -- the place behind another one in its block
 abbrev place_behind : Place → Place
 place_behind p = record { space = p.space; block = p.block; cell = p.cell + 1 }

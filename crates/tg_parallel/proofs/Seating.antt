@@ -27,7 +27,7 @@ use Rattle.tg_parallel.specs.Parts.{HasPlaceOf, HasPlaces, cells_met, win_of, wi
 use Rattle.tg_parallel.specs.Seats.{AreFilled, Finds, IsSeat, KnowsNext, OtherStays, pair_at, pairs_in, walked_at}
 use Rattle.tg_parallel.proofs.Lists.{all_left, any_has, map_found}
 
-pub place_back : (p : Place) → IsPlace p → place_in (link_to p) ≡ p
+place_back : (p : Place) → IsPlace p → place_in (link_to p) ≡ p
 place_back p inside = place_in-word_at no_rights p inside
 
 -- ---- at first

@@ -12,8 +12,8 @@ use crate::winner::Winner;
 use std::alloc::{AllocError, Global};
 use tg_block::CELLS;
 use tg_evac::CollectFault;
-use tg_race::{Claim, RaceTable};
-use tg_word::{AGED, OLD, Place, next_link, place_of};
+use tg_race::RaceTable;
+use tg_word::{AGED, OLD, Place, next_link};
 
 /// The blocks that a helper has claimed in a space, and how many places of them were given away.
 #[derive(Drop)]
@@ -216,14 +216,13 @@ impl OwnBlocks {
         ensures refused { IfErr result (λ fault. fault ≡ CollectFault.OutOfMemory) }
     {
         let word = self.next;
-        match winner.claim_cell(table, cell, place_of(word))? {
-            Claim::Won => {
-                self.used += 1;
-                self.left -= 1;
-                self.next = next_link(word);
-                Ok(word)
-            }
-            Claim::Lost(other) => Ok(word_to(other)),
+        let found = winner.claim_word(table, cell, word)?;
+        if found != 0 {
+            return Ok(found);
         }
+        self.used += 1;
+        self.left -= 1;
+        self.next = next_link(word);
+        Ok(word)
     }
 }

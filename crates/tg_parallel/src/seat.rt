@@ -10,7 +10,6 @@ ghost use Rattle.tg_evac.specs.Claimers.{AddsWins, IsLink, KnowsMore};
 ghost use Rattle.tg_parallel.specs.Parts.{HasClaimedPast, HasPlaces, cells_met, wins_of};
 ghost use Rattle.tg_parallel.specs.Seats.{AreFilled, walked_at};
 
-use crate::links::word_to;
 use crate::own_blocks::OwnBlocks;
 use crate::winner::Winner;
 use std::alloc::Global;
@@ -120,10 +119,11 @@ impl<'a> Seat<'a> {
         ensures link { IfOk result IsLink }
         ensures full { IfErr result (λ fault. fault ≡ CollectFault.HeapFull → HasClaimedPast self.exit.now.limit self.exit.now.done) }
     {
-        match self.winner.look(self.table, cell) {
-            Some(place) => Ok(word_to(place)),
-            None => self.give_word(cell, space),
+        let word = self.winner.look_word(self.table, cell);
+        if word != 0 {
+            return Ok(word);
         }
+        self.give_word(cell, space)
     }
 
     // Gives a cell that has no place the next one of a space, unless another helper does so first, and answers its word.

@@ -1,21 +1,18 @@
 //! A helper with the list of what it has won.
-ghost use Rattle.std.specs.Prelude.{◌≡◌, ◌*◌, ◌<◌, ◌≤◌, false, All, IfNone, IfOk, IfSome, IsTrue, Some, [], length};
+ghost use Rattle.std.specs.Prelude.{◌≡◌, ◌≢◌, ◌*◌, ◌<◌, ◌≤◌, false, All, IfOk, IsTrue, [], length};
 ghost use Rattle.std.specs.Result.{OnErr};
-ghost use Rattle.tg_word.specs.declared.Place.{Place as PlaceOf};
-ghost use Rattle.tg_word.specs.Word.{IsPlace};
-ghost use Rattle.tg_race.specs.Claims.{claimed, place_found};
+ghost use Rattle.tg_word.specs.Word.{IsPlace, place_in};
 ghost use Rattle.tg_race.specs.Conditions.{blocks_of, can_claim_block, can_claim_roots, can_use};
 ghost use Rattle.tg_race.specs.Course.{has_met};
-ghost use Rattle.tg_race.specs.Race.{with_claimed_block, with_chunk, with_seen};
+ghost use Rattle.tg_race.specs.Race.{with_claimed_block, with_chunk, with_seen, with_won};
 ghost use Rattle.tg_evac.specs.Claims.{win_at};
+ghost use Rattle.tg_evac.specs.Claimers.{IsLink};
 ghost use Rattle.tg_parallel.specs.Parts.{wins_of};
 
-use crate::links::word_to;
 use std::alloc::{AllocError, Global};
 use std::marker::Model;
 use tg_evac::Win;
-use tg_race::{Claim, Helper, RaceTable};
-use tg_word::Place;
+use tg_race::{Helper, RaceTable};
 
 /// A helper, and the cells that it has won, which its record has in proofs alone.
 #[derive(Drop)]
@@ -83,46 +80,43 @@ impl Winner {
         self.helper.claim_roots(table)
     }
 
-    /// The place that a cell has got, if it has one, as the helper sees it.
+    /// The word of the place that a cell has got, as the helper sees it, or 0 where it has none.
     #[inline(always)]
-    pub fn look(&mut self, table: &RaceTable, cell: u64) -> Option<Place>
+    pub fn look_word(&mut self, table: &RaceTable, cell: u64) -> u64
         requires own { self.old.table ≡ table.now.table }
         requires inside { cell < table.now.counts.cells }
         requires moved { 64 * table.now.counts.kept ≤ cell }
-        ensures none { IfNone result (self.new ≡ self.old) }
-        ensures some { IfSome result (λ p. self.new ≡ record self.old { done = with_seen self.old.done (cell, p) }) }
-        ensures place { IfSome result IsPlace }
-        ensures unmet { IfNone result (has_met self.old.done cell ≡ false) }
+        ensures none { result ≡ 0 → self.new ≡ self.old }
+        ensures some { result ≢ 0 → self.new ≡ record self.old { done = with_seen self.old.done (cell, place_in result) } }
+        ensures place { result ≢ 0 → IsPlace (place_in result) }
+        ensures link { result ≢ 0 → IsLink result }
+        ensures unmet { result ≡ 0 → has_met self.old.done cell ≡ false }
     {
-        self.helper.look(table, cell)
+        self.helper.look_word(table, cell)
     }
 
-    /// Gives a cell this place, if it has none. It is refused only where memory for the list was; then nothing is changed.
+    /// Gives a cell the place in a word, if it has none, and answers 0; else the word of the place that it has. It is refused only
+    /// where memory for the list was; then nothing is changed.
     #[inline(always)]
-    pub fn claim_cell(
-        &mut self,
-        table: &RaceTable,
-        cell: u64,
-        place: Place,
-    ) -> Result<Claim, AllocError>
+    pub fn claim_word(&mut self, table: &RaceTable, cell: u64, word: u64) -> Result<u64, AllocError>
         requires own { self.old.table ≡ table.now.table }
         requires inside { cell < table.now.counts.cells }
         requires moved { 64 * table.now.counts.kept ≤ cell }
-        requires place { IsPlace place }
-        requires allowed { IsTrue (can_use self.old.done place) }
-        ensures done { IfOk result (λ claim. self.new ≡ record self.old { done = claimed self.old.done cell place claim }) }
-        ensures place { IfOk result (λ claim. IsPlace (place_found place claim)) }
+        requires place { IsPlace (place_in word) }
+        requires link { IsLink word }
+        requires allowed { IsTrue (can_use self.old.done (place_in word)) }
+        ensures won { IfOk result (λ found. found ≡ 0 → self.new ≡ record self.old { done = with_won self.old.done (cell, place_in word) }) }
+        ensures lost { IfOk result (λ found. found ≢ 0 → self.new ≡ record self.old { done = with_seen self.old.done (cell, place_in found) }) }
+        ensures place { IfOk result (λ found. found ≢ 0 → IsPlace (place_in found)) }
+        ensures link { IfOk result (λ found. found ≢ 0 → IsLink found) }
         ensures refused { OnErr result (self.new ≡ self.old) }
     {
         self.won.reserve(1)?;
-        let claim = self.helper.claim_cell(table, cell, place);
-        if let Claim::Won = claim {
-            self.won.push_reserved(Win {
-                cell,
-                word: word_to(place),
-            });
+        let found = self.helper.claim_word(table, cell, word);
+        if found == 0 {
+            self.won.push_reserved(Win { cell, word });
         }
-        Ok(claim)
+        Ok(found)
     }
 
     /// Claims the next block of Aged or of Old, as the helper does.

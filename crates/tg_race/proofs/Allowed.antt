@@ -1,5 +1,5 @@
 -- Each step on the table keeps the rule.
-use Rattle.std.proofs.Common.{true, false, ◌≡◌, ◌≢◌, ℕ, zero, suc, ◌+◌, ◌-◌, ◌*◌, ◌%◌, ◌^◌, ◌<◌, ◌≤◌, ◌==◌, List, [], ◌∷◌, ◌++◌, length, map, replicate, get_or, drop, set, slice_index, if◌then◌else◌, eqb, eq-eqb, ne_eqb, sym, refl, ap, ◌∙◌, subst, ⊎_elim, mod-eq_of_lt, arith}
+use Rattle.std.proofs.Common.{true, false, ◌≡◌, ◌≢◌, ℕ, zero, suc, ◌+◌, ◌-◌, ◌*◌, ◌%◌, ◌^◌, ◌<◌, ◌≤◌, ◌==◌, List, [], ◌∷◌, ◌++◌, length, map, replicate, get_or, drop, set, slice_index, eqb, eq-eqb, ne_eqb, sym, refl, ap, ◌∙◌, subst, ⊎_elim, mod-eq_of_lt, arith}
 use Rattle.std.proofs.lemmas.Bool.{cond-true, cond-false, cases_eq}
 use mathlib.Core.Option.{some, some-injective, some-ne-none, none}
 use lib.ListN.{get_elem?}
@@ -270,11 +270,18 @@ pub looks : (k : Counts) (slots id d : ℕ) (m : Me ℕ View) → 0 < m.0.done.s
     → Allows (IsBoardOfRace k) slots id m (d + 3) (λ n. n) (looked (step slots (d + 3) 0 0 none) m)
 looks k slots id d m alive inside s h len at fits = ⊎_elim (looks_free k slots id m alive s h at d) (looks_taken k slots id m alive s h at d inside) (cases_eq (slice_index s.words (d + 3)) 0)
 
-pub tries : (k : Counts) (slots id d : ℕ) (p : Place) (m : Me ℕ View) → 0 < m.0.done.share → skipped_of k + d < k.cells → IsPlace p → 0 < claims_of p m.0.done → weigh (place_at p) m.0.done.won ≡ 0
+tries : (k : Counts) (slots id d : ℕ) (p : Place) (m : Me ℕ View) → 0 < m.0.done.share → skipped_of k + d < k.cells → IsPlace p → 0 < claims_of p m.0.done → weigh (place_at p) m.0.done.won ≡ 0
     → Allows (IsBoardOfRace k) slots id m (d + 3) (λ n. either (n == 0) (word_of p) n) (tried (step slots (d + 3) 0 (word_of p) none) m)
 tries k slots id d p m alive inside in' own fresh s h len at fits =
     exchanged (slice_index s.words (d + 3)) 0 (word_of p) (λ x. GoesOn k slots id m alive s h at (d + 3) x (tried (step slots (d + 3) 0 (word_of p) none) m (slice_index s.words (d + 3))))
     (tries_free k slots id m alive s h at d p inside in' own fresh) (tries_taken k slots id m alive s h at d p inside)
+
+-- the same for the word of a place
+pub tries_word : (k : Counts) (slots id d word : ℕ) (m : Me ℕ View) → 0 < m.0.done.share → skipped_of k + d < k.cells → IsForward word → 0 < claims_of (place_of word) m.0.done → weigh (place_at (place_of word)) m.0.done.won ≡ 0
+    → Allows (IsBoardOfRace k) slots id m (d + 3) (λ n. either (n == 0) word n) (tried (step slots (d + 3) 0 word none) m)
+tries_word k slots id d word m alive inside forward own fresh =
+    subst (λ (w : ℕ). Allows (IsBoardOfRace k) slots id m (d + 3) (λ n. either (n == 0) w n) (tried (step slots (d + 3) 0 w none) m)) forward.1
+    (tries k slots id d (place_of word) m alive inside forward.0 own fresh)
 
 pub cuts : (k : Counts) (id : ℕ) (u : View) → 1 < u.done.share → u.done ≡ empty u.done.share → Splits (IsBoardOfRace k) id u (does u (less_one u.done)) (does u (empty 1))
 cuts k id u many is s h at =
@@ -339,10 +346,3 @@ closes k id u ws xs final all =
       next_old = h.race.next_old;
       rule = subst (λ (l : List ℕ). Rule k (record { next_chunk = h.race.next_chunk; next_aged = h.race.next_aged; next_old = h.race.next_old; words = l; records = u.done ∷ [] })) is rule;
     }
-
--- what a claim of a cell leaves, where it found 0
-pub won_is : (v u : Record) (c d : ℕ) (p : Place) (w n : ℕ) → IsPlace p → d ≡ c → w ≡ word_of p → n ≡ 0
-    → (if n == 0 then with_won v (d, place_of w) else u) ≡ with_won v (c, p)
-won_is v u c d p w n in' here is free =
-    cond-true (eqb n 0) (with_won v (d, place_of w)) u (eq-eqb n 0 free)
-    ∙ (ap (λ (i : ℕ). with_won v (i, place_of w)) here ∙ ap (λ (q : Place). with_won v (c, q)) (ap place_of is ∙ place_of-word_of p in'))

@@ -1,8 +1,10 @@
 //! A helper: a seat at the table. Each call is one event of the race, and ensures what that event does to the record.
-ghost use Rattle.std.specs.Prelude.{◌≡◌, ◌*◌, ◌<◌, ◌≤◌, false, IfSome, IfNone, IsTrue, Some, All};
+ghost use Rattle.std.specs.Prelude.{◌≡◌, ◌≢◌, ◌*◌, ◌<◌, ◌≤◌, false, IfSome, IfNone, IsTrue, Some, All};
 ghost use Rattle.tg_word.specs.declared.Place.{Place as PlaceOf};
 ghost use Rattle.tg_word.specs.Word.{IsPlace};
-ghost use Rattle.tg_race.specs.Race.{HasMet, empty, with_chunk, with_seen, with_claimed_block, both, less_one};
+ghost use Rattle.tg_race.specs.Race.{HasMet, empty, with_chunk, with_seen, with_won, with_claimed_block, both, less_one};
+ghost use Rattle.tg_race.specs.Board.{IsKnown};
+ghost use Rattle.tg_race.specs.Words.{IsForward, place_of};
 ghost use Rattle.tg_race.specs.Conditions.{blocks_of, can_claim_roots, can_claim_block, can_use, can_part};
 ghost use Rattle.tg_race.specs.Course.{has_met};
 ghost use Rattle.tg_race.specs.Claims.{claimed, place_found};
@@ -91,15 +93,29 @@ impl Helper {
         ensures unmet { IfNone result (has_met self.old.done cell ≡ false) }
         ensures known { (p : PlaceOf) → IsPlace p → HasMet self.old.done cell p → result ≡ Some p }
     {
-        let word = table
-            .table
-            .shared
-            .load::<Look>(&mut self.seat, table.word_number(cell));
+        let word = self.look_word(table, cell);
         if word == 0 {
             None
         } else {
             Some(place_in(word))
         }
+    }
+
+    /// The word of the place that a cell has got, or 0 where it has none. The helper has then seen it.
+    #[inline(always)]
+    pub fn look_word(&mut self, table: &RaceTable, cell: u64) -> u64
+        requires own { self.old.table ≡ table.now.table }
+        requires inside { cell < table.now.counts.cells }
+        requires moved { 64 * table.now.counts.kept ≤ cell }
+        ensures none { result ≡ 0 → self.new ≡ self.old }
+        ensures some { result ≢ 0 → self.new ≡ record self.old { done = with_seen self.old.done (cell, place_of result) } }
+        ensures forward { result ≢ 0 → IsForward result }
+        ensures known { IsKnown self.old.done cell result }
+    {
+        table
+            .table
+            .shared
+            .load::<Look>(&mut self.seat, table.word_number(cell))
     }
 
     /// Gives a cell this place, if it has none. The place is unused, in a block that the helper has claimed.
@@ -115,14 +131,29 @@ impl Helper {
         ensures done { self.new ≡ record self.old { done = claimed self.old.done cell place result } }
         ensures place { IsPlace (place_found place result) }
     {
-        let found = table
-            .table
-            .shared
-            .compare_exchange::<Try>(&mut self.seat, table.word_number(cell), 0, word_to(place));
+        let found = self.claim_word(table, cell, word_to(place));
         if found == 0 {
             return Claim::Won;
         }
         Claim::Lost(place_in(found))
+    }
+
+    /// Gives a cell the place in a word, if it has none, and answers 0; else the word of the place that it has.
+    #[inline(always)]
+    pub fn claim_word(&mut self, table: &RaceTable, cell: u64, word: u64) -> u64
+        requires own { self.old.table ≡ table.now.table }
+        requires inside { cell < table.now.counts.cells }
+        requires moved { 64 * table.now.counts.kept ≤ cell }
+        requires forward { IsForward word }
+        requires allowed { IsTrue (can_use self.old.done (place_of word)) }
+        ensures won { result ≡ 0 → self.new ≡ record self.old { done = with_won self.old.done (cell, place_of word) } }
+        ensures lost { result ≢ 0 → self.new ≡ record self.old { done = with_seen self.old.done (cell, place_of result) } }
+        ensures forward { result ≢ 0 → IsForward result }
+    {
+        table
+            .table
+            .shared
+            .compare_exchange::<Try>(&mut self.seat, table.word_number(cell), 0, word)
     }
 
     /// Claims the next block of Aged or of Old, and answers its number, which is greater than those of all blocks of that
