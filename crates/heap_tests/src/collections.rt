@@ -1,5 +1,5 @@
 //! Collections that succeed, by one thread and by several helpers, and heaps to collect.
-ghost use Rattle.std.specs.Prelude.{◌≡◌, ◌<◌};
+ghost use Rattle.std.specs.Prelude.{◌≡◌, ◌<◌, length};
 ghost use Rattle.tg_space.specs.Soundness.{AreSound};
 ghost use Rattle.tg_word.specs.Word.{IsPlace};
 
@@ -12,10 +12,10 @@ use std::sync::Wait;
 use std::test::Fail;
 use std::thread::Threads;
 use tg_block::{CHUNK_TAG, OBJECT_TAG, WORDS};
-use tg_evac::{CollectFault, collect_one};
+use tg_evac::collect_one;
 use tg_parallel::{HelpersFault, NoGate, collect_many, collect_seated};
 use tg_rights::{Right, Rights};
-use tg_space::{Kind, Limits, Root, Spaces};
+use tg_space::{Forwarding, Kind, Limits, Root, Spaces};
 use tg_word::{Place, Slot, pack};
 
 // The cells of a heap with one block of Old, one of Aged and one of a nursery.
@@ -129,18 +129,29 @@ fn rows_of(alloc: Global, content: Content, count: u64) -> Result<Vec<Root>, Fai
     Ok(roots)
 }
 
-fn by_one(alloc: Global, spaces: &Spaces, roots: &[Root], kind: Kind) -> Result<(), CollectFault>
+// Whether a seat gives each cell the place that one thread gives it, or is refused as that is. No contract says so.
+fn same_at_a_seat(alloc: Global, spaces: &Spaces, roots: &[Root], kind: Kind) -> bool
     requires { AreSound spaces.now.spaces roots.now }
 {
-    drop(collect_one(alloc, spaces, roots, kind, Vec::new(alloc))?);
-    Ok(())
+    let one = collect_one(alloc, spaces, roots, kind, Vec::new(alloc));
+    let seated = collect_seated(alloc, spaces, roots, kind, Vec::new(alloc));
+    match (&one, &seated) {
+        (Ok(one), Ok(seated)) => have_same_words(&one.forward, &seated.forward, spaces.cells()),
+        (Err(one), Err(seated)) => one == seated,
+        _ => false,
+    }
 }
 
-fn at_a_seat(alloc: Global, spaces: &Spaces, roots: &[Root], kind: Kind) -> Result<(), CollectFault>
-    requires { AreSound spaces.now.spaces roots.now }
+// Whether these cells have the same forwarding words.
+fn have_same_words(one: &Forwarding, other: &Forwarding, cells: u64) -> bool
+    requires { (cells ≡ length one.now.words) × (cells ≡ length other.now.words) }
 {
-    drop(collect_seated(alloc, spaces, roots, kind, Vec::new(alloc))?);
-    Ok(())
+    for cell in 0..cells {
+        if one.word(cell) != other.word(cell) {
+            return false;
+        }
+    }
+    true
 }
 
 fn by_helpers<R: Threads + Wait + Sync>(
@@ -178,8 +189,9 @@ fn collect_each_way<R: Threads + Wait + Sync>(
     if !are_sound(spaces, roots) {
         return Err(Fail::from("no sound heap"));
     }
-    by_one(alloc, spaces, roots, kind)?;
-    at_a_seat(alloc, spaces, roots, kind)?;
+    if !same_at_a_seat(alloc, spaces, roots, kind) {
+        return Err(Fail::from("another collection at a seat"));
+    }
     Ok(by_helpers(rt, alloc, spaces, roots, kind)?)
 }
 

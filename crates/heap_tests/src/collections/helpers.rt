@@ -2,7 +2,7 @@
 ghost use Rattle.std.specs.Prelude.{◌≤◌};
 
 use super::sound::are_sound;
-use super::{CELLS, Content, heap_of, rows_of};
+use super::{CELLS, Content, heap_of, rows_of, same_at_a_seat};
 use std::alloc::{AllocError, Global};
 use std::sync::Wait;
 use std::sync::atomic::{AtomicU64, Ordering};
@@ -20,7 +20,7 @@ struct Heap {
     rows: u64,
 }
 
-// Why a full collection of a sound heap by so many helpers, who pass the gate, is refused.
+// Why a full collection of a sound heap by so many helpers, who pass the gate, is refused. One by a seat is as one by one thread.
 fn refusal_of<R: Threads + Wait + Sync, G: Gate>(
     rt: &R,
     alloc: Global,
@@ -33,6 +33,9 @@ fn refusal_of<R: Threads + Wait + Sync, G: Gate>(
 {
     if !are_sound(spaces, roots) {
         return Err(Fail::from("no sound heap"));
+    }
+    if !same_at_a_seat(alloc, spaces, roots, Kind::Full) {
+        return Err(Fail::from("another collection at a seat"));
     }
     let spare = Vec::new(alloc);
     Ok(collect_many(rt, alloc, spaces, roots, Kind::Full, helpers, gate, spare).err())
