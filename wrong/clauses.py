@@ -41,8 +41,10 @@ def broken_by(bodies):
         for clause in clauses:
             broken.setdefault((body.crate, function.rpartition("::")[2], clause), []).append((function, body.name))
         public = re.fullmatch(r"(\S+) of (\w+): (.+)", body.words.get("public", ""))
-        for clause in public[3].split(",") if public else []:
-            broken.setdefault((public[2], public[1].rpartition("::")[2], clause.strip()), []).append((public[1], body.name))
+        for words in public[3].split(",") if public else []:
+            clause, _, field = words.strip().partition(".")
+            name = f"{body.name} ({field})" if field else body.name
+            broken.setdefault((public[2], public[1].rpartition("::")[2], clause), []).append((public[1], name))
     return broken
 
 

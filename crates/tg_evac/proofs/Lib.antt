@@ -16,3 +16,4 @@ pub mod Behind
 pub mod OneCell
 pub mod Moved
 pub mod Passing
+pub mod Scanning

@@ -1,5 +1,5 @@
 -- The claim of one cell, which is moved.
-use Rattle.std.proofs.Common.{◌≡◌, ◌≢◌, ℕ, ◌==◌, Bool, true, false, List, [], ◌∷◌, refl, sym, subst, arith, lit<, ◌∙◌}
+use Rattle.std.proofs.Common.{◌≡◌, ◌≢◌, ℕ, ◌==◌, ◌<◌, ◌||◌, if◌then◌else◌, Bool, true, false, List, [], ◌∷◌, refl, sym, subst, arith, lit<, ◌∙◌}
 use Rattle.std.specs.List.{All, Contains}
 use Rattle.std.proofs.lemmas.Bool.Decides.{nat_tests}
 use Rattle.std.proofs.lemmas.List.Elements.{All-push}
@@ -11,6 +11,14 @@ use Rattle.tg_evac.specs.declared.win.Win.{Win}
 use Rattle.tg_evac.specs.Claims.{IsClaimOf, IsWinFor, space_for}
 use Rattle.tg_evac.specs.Claimers.{AddsWins, Walked}
 use Rattle.tg_evac.proofs.Walking.{wins_weaker}
+
+-- a copy goes to Old or to Aged
+zero_or_one : (straight : Bool) → (if straight then 0 else 1) < 2
+zero_or_one true = lit< tt
+zero_or_one false = lit< tt
+
+pub goes_to_two : (straight : Bool) (space : ℕ) → space_for straight space < 2
+goes_to_two straight space = zero_or_one (straight || (space == 1))
 
 -- a win of the cell at a place is a claim of that cell
 pub claims_one : {Fixed : Type 0} {a b : Walked Fixed} (h : SpaceList) (straight : Bool) (p : Place) (cell space : ℕ) (cells : List ℕ) →

@@ -1,14 +1,17 @@
 -- Where the copies of won cells stand, and which of them name young cells.
 use Rattle.std.specs.Prelude.{◌≡◌, ◌≢◌, ℕ, ◌-◌, ◌<◌, ◌≤◌, List, [], ◌++◌, length, replicate, slice_index_or}
 use Rattle.std.specs.List.{All, Contains, flat_map}
+use Rattle.std.specs.Vec.{vec_capacity}
+use Rattle.std.specs.declared.vec.Vec.{Vec}
 use Rattle.tg_block.specs.Cells.{free_cell, cell_of}
 use Rattle.tg_word.specs.declared.Place.{Place}
 use Rattle.tg_word.specs.Word.{IsPlace, link_to, place_in}
 use Rattle.tg_space.specs.Collection.{new_place}
-use Rattle.tg_space.specs.SpaceList.{SpaceList, BlockList, cell_at}
+use Rattle.tg_space.specs.SpaceList.{SpaceList, BlockList, IsSpace, cell_at, cells_of}
 use Rattle.tg_space.specs.Targets.{from_space, image_of}
 use Rattle.tg_space.specs.declared.kind.Kind.{Kind}
 use Rattle.tg_evac.specs.declared.win.Win.{Win}
+use Rattle.tg_evac.specs.Claims.{HavePointers}
 use Rattle.tg_evac.specs.Claimers.{image_at}
 
 -- the words of the cell at a place, with its references and its link moved
@@ -22,6 +25,12 @@ copy_of kind h forward = image_at kind h (new_place forward)
 -- each forwarding word that isn't 0 has a place in range
 abbrev pub HavePlaces : List ℕ → Type 0
 HavePlaces forward = All (λ word. IsPlace (place_in word)) forward
+
+-- what each cell names may be moved: it is a cell, which has a word, and each word that isn't 0 has a place in range
+pub record AreForwarded (h : SpaceList) (forward : List ℕ) : Type 0 where
+  pub pointers : HavePointers h
+  pub whole : length forward ≡ length (cells_of h)
+  pub places : HavePlaces forward
 
 -- each forwarding word is 0, or names a place of Old
 abbrev pub AreOld : List ℕ → Type 0
@@ -50,6 +59,12 @@ new_cell kept blocks p = cell_of (slice_index_or blocks (p.block - kept) []) p.c
 -- at most as many cells as a block has, each with as many words as a cell has
 abbrev pub IsOpenBlock : List (List ℕ) → Type 0
 IsOpenBlock cells = (length cells ≤ 64) × All (λ words. length words ≡ 8) cells
+
+-- full blocks of a space, and the cells of an open one, which has room for all that a block has
+pub record HaveOpenBlock {A : Type 0} (full : BlockList) (last : Vec (List ℕ) A) : Type 0 where
+  pub space : IsSpace full
+  pub fits : IsOpenBlock last.items
+  pub cells : 64 ≤ vec_capacity last
 
 -- the blocks have these cells one after the other, and free ones behind the last
 pub record HoldCells (cells : List (List ℕ)) (blocks : BlockList) : Type 0 where

@@ -2,3 +2,5 @@ pub mod Claims
 pub mod Claimers
 pub mod Copies
 pub mod Room
+pub mod Walks
+pub mod Collects

@@ -1,10 +1,10 @@
 //! What a walk over the cells asks of a table of claims.
-ghost use Rattle.std.specs.Prelude.{◌≡◌, ℕ, ◌*◌, ◌^◌, ◌<◌, ◌≤◌, IfErr, IfOk, OnOk, length};
-ghost use Rattle.std.specs.List.{Contains};
+ghost use Rattle.std.specs.Prelude.{◌≡◌, ℕ, ◌^◌, ◌<◌, ◌≤◌, length};
 ghost use Rattle.tg_word.specs.declared.Place.{Place as PlaceOf};
 ghost use Rattle.tg_word.specs.Word.{place_in};
-ghost use Rattle.tg_evac.specs.Claims.{IsWinFor, win_at, won_in};
-ghost use Rattle.tg_evac.specs.Claimers.{AddsWins, IsLink, KnowsMore, Walked};
+ghost use Rattle.tg_evac.specs.Claims.{win_at, won_in};
+ghost use Rattle.tg_evac.specs.Claimers.{Walked};
+ghost use Rattle.tg_evac.specs.Walks.{ClaimsCell, MayClaim};
 
 use crate::fault::CollectFault;
 use crate::win::Win;
@@ -43,13 +43,6 @@ pub trait Claimer {
     ///
     /// It may be refused with `OutOfMemory`, or with `HeapFull` where the space has no room.
     fn claim(&mut self, cell: u64, space: u64) -> Result<u64, CollectFault>
-        requires inside { cell < (walked self.old).cells }
-        requires moved { 64 * (walked self.old).kept ≤ cell }
-        requires space { space < 2 }
-        ensures added { AddsWins (IsWinFor cell space) (walked self.old) (walked self.new) }
-        ensures grows { KnowsMore (knows self.old) (knows self.new) }
-        ensures met { OnOk result (Contains (walked self.new).met cell) }
-        ensures known { IfOk result (λ word. (to : ℕ → PlaceOf) → knows self.new to → to cell ≡ place_in word) }
-        ensures link { IfOk result IsLink }
-        ensures full { IfErr result (λ fault. fault ≡ CollectFault.HeapFull → is_full self.new) };
+        requires { MayClaim (walked self.old) cell space }
+        ensures { ClaimsCell walked knows is_full cell space self.old self.new result };
 }

@@ -2,8 +2,9 @@
 ghost use Rattle.std.specs.Prelude.{◌≡◌, ◌≢◌, ℕ, ◌+◌, ◌<◌, ◌≤◌, ◌^◌, ◌*◌, [], length, slice_index, IfErr, IfOk};
 ghost use Rattle.std.specs.List.{Contains};
 ghost use Rattle.tg_word.specs.Word.{place_in};
-ghost use Rattle.tg_evac.specs.Claims.{HasFilledRoom, IsWinFor, win_at, won_in};
-ghost use Rattle.tg_evac.specs.Claimers.{AddsWins, HasPlacesOf, IsLink, walked_of};
+ghost use Rattle.tg_evac.specs.Claims.{HasFilledRoom, win_at, won_in};
+ghost use Rattle.tg_evac.specs.Claimers.{HasPlacesOf, IsLink, walked_of};
+ghost use Rattle.tg_evac.specs.Walks.{HasClaimed, MayClaim};
 
 use crate::claimer::Claimer;
 use crate::fault::CollectFault;
@@ -100,13 +101,8 @@ impl Claims {
     // The word of the place of a cell: the next of a space, unless it has one.
     #[inline(always)]
     fn claim_place(&mut self, cell: u64, space: u64) -> Result<u64, CollectFault>
-        requires inside { cell < length self.old.forward }
-        requires moved { 64 * self.old.plan.kept ≤ cell }
-        requires space { space < 2 }
-        ensures added { AddsWins (IsWinFor cell space) (walked_of self.old) (walked_of self.new) }
-        ensures held { IfOk result (λ word. Contains self.new.won (record { cell = cell; word = word })) }
-        ensures link { IfOk result IsLink }
-        ensures full { IfErr result (λ fault. fault ≡ CollectFault.HeapFull → HasFilledRoom self.new) }
+        requires { MayClaim (walked_of self.old) cell space }
+        ensures { HasClaimed cell space self.old self.new result }
     {
         let found = self.word(cell);
         if found != 0 {
@@ -118,14 +114,9 @@ impl Claims {
     // Gives a cell the next place of a space, and answers its word.
     #[inline(always)]
     fn give_place(&mut self, cell: u64, space: u64) -> Result<u64, CollectFault>
-        requires inside { cell < length self.old.forward }
-        requires moved { 64 * self.old.plan.kept ≤ cell }
+        requires claim { MayClaim (walked_of self.old) cell space }
         requires none { slice_index self.old.forward cell ≡ 0 }
-        requires space { space < 2 }
-        ensures added { AddsWins (IsWinFor cell space) (walked_of self.old) (walked_of self.new) }
-        ensures held { IfOk result (λ word. Contains self.new.won (record { cell = cell; word = word })) }
-        ensures link { IfOk result IsLink }
-        ensures full { IfErr result (λ fault. fault ≡ CollectFault.HeapFull → HasFilledRoom self.new) }
+        ensures { HasClaimed cell space self.old self.new result }
     {
         let number = self.next[space as usize];
         if self.plan.room <= number {

@@ -1,14 +1,13 @@
 //! The collection.
-ghost use Rattle.std.specs.Prelude.{◌≡◌, ℕ, ◌+◌, ◌*◌, ◌≤◌, [], length, IfErr, IfOk, OnOk};
+ghost use Rattle.std.specs.Prelude.{◌≡◌, ℕ, [], IfErr, IfOk, OnOk};
 ghost use Rattle.std.specs.List.{All};
 ghost use Rattle.tg_word.specs.declared.Place.{Place as PlaceOf};
-ghost use Rattle.tg_space.specs.Collection.{AreFewBlocks, IsCollection, copies_in, used_cells};
 ghost use Rattle.tg_space.specs.Soundness.{AreSound, IsRootIn};
-ghost use Rattle.tg_space.specs.SpaceList.{cells_of};
-ghost use Rattle.tg_space.specs.SpaceTable.{kept_blocks};
-ghost use Rattle.tg_evac.specs.Claims.{HasFilledRoom, HavePointers, IsTracedFrom, cells_won};
-ghost use Rattle.tg_evac.specs.Claimers.{HasPlacesOf, copies_to};
-ghost use Rattle.tg_evac.specs.Room.{IsReachedFrom, LacksRoomFor};
+ghost use Rattle.tg_evac.specs.Claims.{HasFilledRoom, IsTracedFrom, cells_won};
+ghost use Rattle.tg_evac.specs.Claimers.{HasPlacesOf, copies_to, walked_of};
+ghost use Rattle.tg_evac.specs.Collects.{Collects};
+ghost use Rattle.tg_evac.specs.Room.{IsReachedFrom};
+ghost use Rattle.tg_evac.specs.Walks.{MayWalk};
 
 use crate::claims::Claims;
 use crate::copies::Copies;
@@ -55,10 +54,7 @@ pub fn collect_one(
     spare: Vec<Block>,
 ) -> Result<Copied, CollectFault>
     requires { AreSound spaces.now.spaces roots.now }
-    ensures collected { IfOk result (λ copied. IsCollection kind spaces.now.spaces roots.now copied.forward.words copied.adoption.aged copied.adoption.old copied.remembered.places) }
-    ensures moved { IfOk result (λ copied. copies_in copied.forward.words 0 + copies_in copied.forward.words 1 ≤ used_cells kind spaces.now.spaces) }
-    ensures few { IfOk result (λ copied. AreFewBlocks spaces.now.limits.space_blocks (kept_blocks kind spaces.now.spaces) 0 copied.forward.words copied.adoption.aged copied.adoption.old) }
-    ensures full { IfErr result (λ fault. fault ≡ CollectFault.HeapFull → LacksRoomFor spaces.now.limits.space_blocks 1 (kept_blocks kind spaces.now.spaces) (IsReachedFrom kind spaces.now.spaces roots.now)) }
+    ensures { Collects CollectFault.HeapFull kind spaces.now roots.now 0 1 result }
 {
     match kind {
         Kind::Full => collect_kind(alloc, spaces, roots, Kind::Full, spare),
@@ -77,10 +73,7 @@ fn collect_kind(
     spare: Vec<Block>,
 ) -> Result<Copied, CollectFault>
     requires { AreSound spaces.now.spaces roots.now }
-    ensures collected { IfOk result (λ copied. IsCollection kind spaces.now.spaces roots.now copied.forward.words copied.adoption.aged copied.adoption.old copied.remembered.places) }
-    ensures moved { IfOk result (λ copied. copies_in copied.forward.words 0 + copies_in copied.forward.words 1 ≤ used_cells kind spaces.now.spaces) }
-    ensures few { IfOk result (λ copied. AreFewBlocks spaces.now.limits.space_blocks (kept_blocks kind spaces.now.spaces) 0 copied.forward.words copied.adoption.aged copied.adoption.old) }
-    ensures full { IfErr result (λ fault. fault ≡ CollectFault.HeapFull → LacksRoomFor spaces.now.limits.space_blocks 1 (kept_blocks kind spaces.now.spaces) (IsReachedFrom kind spaces.now.spaces roots.now)) }
+    ensures { Collects CollectFault.HeapFull kind spaces.now roots.now 0 1 result }
 {
     let cells = spaces.cells();
     let plan = Plan::of(kind, spaces);
@@ -115,11 +108,8 @@ fn trace(
     roots: &[Root],
     spare: Vec<Block>,
 ) -> Result<Copies, CollectFault>
-    requires pointers { HavePointers spaces.now.spaces }
+    requires walk { MayWalk kind spaces.now.spaces (walked_of claims.old) }
     requires roots { All (IsRootIn spaces.now.spaces) roots.now }
-    requires kind { claims.old.plan.kind ≡ kind }
-    requires whole { length claims.old.forward ≡ length (cells_of spaces.now.spaces) }
-    requires kept { claims.old.plan.kept ≡ kept_blocks claims.old.plan.kind spaces.now.spaces }
     requires none_yet { claims.old.won ≡ [] }
     ensures traced { OnOk result (IsTracedFrom claims.old.plan.kind spaces.now.spaces roots.now claims.new) }
     ensures plan { claims.new.plan ≡ claims.old.plan }

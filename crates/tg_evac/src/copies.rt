@@ -1,14 +1,13 @@
 //! The scan of won cells: each is copied, and what it names is claimed, until none is left.
-ghost use Rattle.std.specs.Prelude.{◌≡◌, ℕ, ◌+◌, ◌<◌, ◌≤◌, ◌^◌, true, false, List, [], IfErr, IfOk, OnOk, length};
+ghost use Rattle.std.specs.Prelude.{◌≡◌, ℕ, ◌+◌, ◌<◌, ◌≤◌, ◌^◌, true, false, [], IfOk, OnOk, length};
 ghost use Rattle.tg_space.specs.SpaceList.{IsSpace, cells_of};
-ghost use Rattle.tg_space.specs.SpaceTable.{kept_blocks};
-ghost use Rattle.tg_space.specs.declared.root.Root.{Root as RootOf};
 ghost use Rattle.tg_space.specs.Soundness.{IsPointer};
 ghost use Rattle.tg_space.specs.Targets.{cell_numbered, from_space, named_by, pointers_of};
-ghost use Rattle.std.specs.List.{All, Contains};
-ghost use Rattle.tg_evac.specs.Claims.{AreTraced, HavePointers, IsClaimOf, win_at, won_in};
+ghost use Rattle.std.specs.List.{All};
+ghost use Rattle.tg_evac.specs.Claims.{win_at, won_in};
 ghost use Rattle.tg_evac.specs.Copies.{HoldCells};
-ghost use Rattle.tg_evac.specs.Claimers.{AddsCopy, AddsWins, AreRead, AreScanned, KeepsWins, KnowsMore};
+ghost use Rattle.tg_evac.specs.Claimers.{AddsCopy, AreRead};
+ghost use Rattle.tg_evac.specs.Walks.{ClaimsAll, IsTableFor, IsUnderWay, Scans};
 
 use crate::claimer::Claimer;
 use crate::fault::CollectFault;
@@ -81,18 +80,13 @@ impl Copies {
         requires old_room { is_in_old ≡ true → length self.now.old < 2 ^ 26 }
         requires aged_room { is_in_old ≡ false → length self.now.aged < 2 ^ 26 }
         requires pointers { All (IsPointer spaces.now.spaces) (pointers_of words.now) }
-        requires kind { (C.walked claimer.old).kind ≡ kind }
-        requires whole { (C.walked claimer.old).cells ≡ length (cells_of spaces.now.spaces) }
-        requires kept { (C.walked claimer.old).kept ≡ kept_blocks (C.walked claimer.old).kind spaces.now.spaces }
-        ensures added { AddsWins (IsClaimOf spaces.now.spaces is_in_old (named_by (from_space (C.walked claimer.old).kind) spaces.now.spaces (pointers_of words.now))) (C.walked claimer.old) (C.walked claimer.new) }
-        ensures grows { KnowsMore (C.knows claimer.old) (C.knows claimer.new) }
-        ensures met { OnOk result (All (Contains (C.walked claimer.new).met) (named_by (from_space (C.walked claimer.old).kind) spaces.now.spaces (pointers_of words.now))) }
+        requires table { IsTableFor kind spaces.now.spaces (C.walked claimer.old) }
+        ensures claims { ClaimsAll C.walked C.knows C.is_full spaces.now.spaces is_in_old (named_by (from_space (C.walked claimer.old).kind) spaces.now.spaces (pointers_of words.now)) claimer.old claimer.new result }
         ensures old { OnOk result (is_in_old ≡ true → AddsCopy (C.walked claimer.old).kind spaces.now.spaces (C.knows claimer.new) words.now self.entry.now.old self.exit.now.old) }
         ensures old_kept { is_in_old ≡ false → self.exit.now.old ≡ self.entry.now.old }
         ensures aged { OnOk result (is_in_old ≡ false → AddsCopy (C.walked claimer.old).kind spaces.now.spaces (C.knows claimer.new) words.now self.entry.now.aged self.exit.now.aged) }
         ensures aged_kept { is_in_old ≡ true → self.exit.now.aged ≡ self.entry.now.aged }
         ensures scanned { self.exit.now.scanned ≡ self.entry.now.scanned }
-        ensures full { IfErr result (λ fault. fault ≡ CollectFault.HeapFull → C.is_full claimer.new) }
     {
         if is_in_old {
             return self
@@ -116,18 +110,9 @@ pub fn scan<C: Claimer>(
     kind: Kind,
     copies: &mut Copies,
 ) -> Result<(), CollectFault>
-    requires pointers { HavePointers spaces.now.spaces }
-    requires kind { (C.walked claimer.old).kind ≡ kind }
-    requires whole { (C.walked claimer.old).cells ≡ length (cells_of spaces.now.spaces) }
-    requires kept { (C.walked claimer.old).kept ≡ kept_blocks (C.walked claimer.old).kind spaces.now.spaces }
-    requires traced { (roots : List RootOf) × AreTraced (C.walked claimer.old).kind spaces.now.spaces roots (C.walked claimer.old).won }
-    requires scanned { AreScanned spaces.now.spaces (C.walked claimer.old) (C.knows claimer.old) copies.now.scanned copies.now.aged copies.now.old }
-    ensures traced { (roots : List RootOf) → AreTraced (C.walked claimer.old).kind spaces.now.spaces roots (C.walked claimer.old).won → AreTraced (C.walked claimer.old).kind spaces.now.spaces roots (C.walked claimer.new).won }
-    ensures keeps { KeepsWins (C.walked claimer.old) (C.walked claimer.new) }
-    ensures grows { KnowsMore (C.knows claimer.old) (C.knows claimer.new) }
-    ensures scanned { OnOk result (AreScanned spaces.now.spaces (C.walked claimer.new) (C.knows claimer.new) (length (C.walked claimer.new).won) copies.exit.now.aged copies.exit.now.old) }
+    requires { IsUnderWay C.walked C.knows kind spaces.now.spaces claimer.old copies.now.scanned copies.now.aged copies.now.old }
+    ensures scans { Scans C.walked C.knows C.is_full spaces.now.spaces claimer.old claimer.new (length (C.walked claimer.new).won) copies.exit.now.aged copies.exit.now.old result }
     ensures ended { OnOk result (copies.exit.now.scanned ≡ length (C.walked claimer.new).won) }
-    ensures full { IfErr result (λ fault. fault ≡ CollectFault.HeapFull → C.is_full claimer.new) }
 {
     if spaces.cells() < FAR {
         return scan_each(claimer, spaces, kind, copies);
@@ -143,18 +128,9 @@ fn scan_each<C: Claimer>(
     kind: Kind,
     copies: &mut Copies,
 ) -> Result<(), CollectFault>
-    requires pointers { HavePointers spaces.now.spaces }
-    requires kind { (C.walked claimer.old).kind ≡ kind }
-    requires whole { (C.walked claimer.old).cells ≡ length (cells_of spaces.now.spaces) }
-    requires kept { (C.walked claimer.old).kept ≡ kept_blocks (C.walked claimer.old).kind spaces.now.spaces }
-    requires traced { (roots : List RootOf) × AreTraced (C.walked claimer.old).kind spaces.now.spaces roots (C.walked claimer.old).won }
-    requires scanned { AreScanned spaces.now.spaces (C.walked claimer.old) (C.knows claimer.old) copies.now.scanned copies.now.aged copies.now.old }
-    ensures traced { (roots : List RootOf) → AreTraced (C.walked claimer.old).kind spaces.now.spaces roots (C.walked claimer.old).won → AreTraced (C.walked claimer.old).kind spaces.now.spaces roots (C.walked claimer.new).won }
-    ensures keeps { KeepsWins (C.walked claimer.old) (C.walked claimer.new) }
-    ensures grows { KnowsMore (C.knows claimer.old) (C.knows claimer.new) }
-    ensures scanned { OnOk result (AreScanned spaces.now.spaces (C.walked claimer.new) (C.knows claimer.new) (length (C.walked claimer.new).won) copies.exit.now.aged copies.exit.now.old) }
+    requires { IsUnderWay C.walked C.knows kind spaces.now.spaces claimer.old copies.now.scanned copies.now.aged copies.now.old }
+    ensures scans { Scans C.walked C.knows C.is_full spaces.now.spaces claimer.old claimer.new (length (C.walked claimer.new).won) copies.exit.now.aged copies.exit.now.old result }
     ensures ended { OnOk result (copies.exit.now.scanned ≡ length (C.walked claimer.new).won) }
-    ensures full { IfErr result (λ fault. fault ≡ CollectFault.HeapFull → C.is_full claimer.new) }
 {
     while copies.scanned < claimer.len() {
         let cell = claimer.win(copies.scanned).cell;
@@ -174,18 +150,9 @@ fn scan_apart<C: Claimer>(
     kind: Kind,
     copies: &mut Copies,
 ) -> Result<(), CollectFault>
-    requires pointers { HavePointers spaces.now.spaces }
-    requires kind { (C.walked claimer.old).kind ≡ kind }
-    requires whole { (C.walked claimer.old).cells ≡ length (cells_of spaces.now.spaces) }
-    requires kept { (C.walked claimer.old).kept ≡ kept_blocks (C.walked claimer.old).kind spaces.now.spaces }
-    requires traced { (roots : List RootOf) × AreTraced (C.walked claimer.old).kind spaces.now.spaces roots (C.walked claimer.old).won }
-    requires scanned { AreScanned spaces.now.spaces (C.walked claimer.old) (C.knows claimer.old) copies.now.scanned copies.now.aged copies.now.old }
-    ensures traced { (roots : List RootOf) → AreTraced (C.walked claimer.old).kind spaces.now.spaces roots (C.walked claimer.old).won → AreTraced (C.walked claimer.old).kind spaces.now.spaces roots (C.walked claimer.new).won }
-    ensures keeps { KeepsWins (C.walked claimer.old) (C.walked claimer.new) }
-    ensures grows { KnowsMore (C.knows claimer.old) (C.knows claimer.new) }
-    ensures scanned { OnOk result (AreScanned spaces.now.spaces (C.walked claimer.new) (C.knows claimer.new) (length (C.walked claimer.new).won) copies.exit.now.aged copies.exit.now.old) }
+    requires { IsUnderWay C.walked C.knows kind spaces.now.spaces claimer.old copies.now.scanned copies.now.aged copies.now.old }
+    ensures scans { Scans C.walked C.knows C.is_full spaces.now.spaces claimer.old claimer.new (length (C.walked claimer.new).won) copies.exit.now.aged copies.exit.now.old result }
     ensures ended { OnOk result (copies.exit.now.scanned ≡ length (C.walked claimer.new).won) }
-    ensures full { IfErr result (λ fault. fault ≡ CollectFault.HeapFull → C.is_full claimer.new) }
 {
     let mut near = [[0; WORDS]; NEAR];
     while copies.scanned < claimer.len() {
@@ -203,19 +170,10 @@ fn scan_some<C: Claimer>(
     copies: &mut Copies,
     near: &mut [[u64; WORDS]; NEAR],
 ) -> Result<(), CollectFault>
-    requires pointers { HavePointers spaces.now.spaces }
-    requires kind { (C.walked claimer.old).kind ≡ kind }
-    requires whole { (C.walked claimer.old).cells ≡ length (cells_of spaces.now.spaces) }
-    requires kept { (C.walked claimer.old).kept ≡ kept_blocks (C.walked claimer.old).kind spaces.now.spaces }
-    requires traced { (roots : List RootOf) × AreTraced (C.walked claimer.old).kind spaces.now.spaces roots (C.walked claimer.old).won }
-    requires scanned { AreScanned spaces.now.spaces (C.walked claimer.old) (C.knows claimer.old) copies.now.scanned copies.now.aged copies.now.old }
+    requires walk { IsUnderWay C.walked C.knows kind spaces.now.spaces claimer.old copies.now.scanned copies.now.aged copies.now.old }
     requires next { copies.now.scanned < length (C.walked claimer.old).won }
-    ensures traced { (roots : List RootOf) → AreTraced (C.walked claimer.old).kind spaces.now.spaces roots (C.walked claimer.old).won → AreTraced (C.walked claimer.old).kind spaces.now.spaces roots (C.walked claimer.new).won }
-    ensures keeps { KeepsWins (C.walked claimer.old) (C.walked claimer.new) }
-    ensures grows { KnowsMore (C.knows claimer.old) (C.knows claimer.new) }
-    ensures scanned { OnOk result (AreScanned spaces.now.spaces (C.walked claimer.new) (C.knows claimer.new) copies.exit.now.scanned copies.exit.now.aged copies.exit.now.old) }
+    ensures scans { Scans C.walked C.knows C.is_full spaces.now.spaces claimer.old claimer.new copies.exit.now.scanned copies.exit.now.aged copies.exit.now.old result }
     ensures further { OnOk result (copies.entry.now.scanned < copies.exit.now.scanned) }
-    ensures full { IfErr result (λ fault. fault ≡ CollectFault.HeapFull → C.is_full claimer.new) }
 {
     let count = read_some(claimer, spaces, copies.scanned, near);
     for i in 0..count {
@@ -257,21 +215,12 @@ fn scan_next<C: Claimer>(
     copies: &mut Copies,
     words: &[u64; WORDS],
 ) -> Result<(), CollectFault>
-    requires pointers { HavePointers spaces.now.spaces }
-    requires kind { (C.walked claimer.old).kind ≡ kind }
-    requires whole { (C.walked claimer.old).cells ≡ length (cells_of spaces.now.spaces) }
-    requires kept { (C.walked claimer.old).kept ≡ kept_blocks (C.walked claimer.old).kind spaces.now.spaces }
-    requires traced { (roots : List RootOf) × AreTraced (C.walked claimer.old).kind spaces.now.spaces roots (C.walked claimer.old).won }
-    requires scanned { AreScanned spaces.now.spaces (C.walked claimer.old) (C.knows claimer.old) copies.now.scanned copies.now.aged copies.now.old }
+    requires walk { IsUnderWay C.walked C.knows kind spaces.now.spaces claimer.old copies.now.scanned copies.now.aged copies.now.old }
     requires next { copies.now.scanned < length (C.walked claimer.old).won }
     requires words { words.now ≡ cell_numbered spaces.now.spaces (win_at (C.walked claimer.old).won copies.now.scanned).cell }
     requires room { (space : ℕ) → space < 2 → length (won_in space (C.walked claimer.old).won) ≤ 2 ^ 26 }
-    ensures traced { (roots : List RootOf) → AreTraced (C.walked claimer.old).kind spaces.now.spaces roots (C.walked claimer.old).won → AreTraced (C.walked claimer.old).kind spaces.now.spaces roots (C.walked claimer.new).won }
-    ensures keeps { KeepsWins (C.walked claimer.old) (C.walked claimer.new) }
-    ensures grows { KnowsMore (C.knows claimer.old) (C.knows claimer.new) }
-    ensures scanned { OnOk result (AreScanned spaces.now.spaces (C.walked claimer.new) (C.knows claimer.new) (copies.entry.now.scanned + 1) copies.exit.now.aged copies.exit.now.old) }
+    ensures scans { Scans C.walked C.knows C.is_full spaces.now.spaces claimer.old claimer.new (copies.entry.now.scanned + 1) copies.exit.now.aged copies.exit.now.old result }
     ensures next { copies.exit.now.scanned ≡ copies.entry.now.scanned }
-    ensures full { IfErr result (λ fault. fault ≡ CollectFault.HeapFull → C.is_full claimer.new) }
 {
     let win = claimer.win(copies.scanned);
     let straight = is_in_old(kind, place_of(win.word));

@@ -1,13 +1,12 @@
 //! The walk from roots: what they name is claimed, and all that this leads to is copied.
-ghost use Rattle.std.specs.Prelude.{◌≡◌, ℕ, IfErr, List, OnOk, length};
+ghost use Rattle.std.specs.Prelude.{◌≡◌, List, OnOk, length};
 ghost use Rattle.std.specs.List.{All, Contains};
 ghost use Rattle.tg_space.specs.Soundness.{IsRootIn};
-ghost use Rattle.tg_space.specs.SpaceList.{cells_of};
-ghost use Rattle.tg_space.specs.SpaceTable.{kept_blocks};
 ghost use Rattle.tg_space.specs.Targets.{all_root_targets, from_space, root_targets_of};
 ghost use Rattle.tg_space.specs.declared.root.Root.{Root as RootOf};
-ghost use Rattle.tg_evac.specs.Claims.{AreTraced, HavePointers};
-ghost use Rattle.tg_evac.specs.Claimers.{AreScanned, KeepsWins, KnowsMore};
+ghost use Rattle.tg_evac.specs.Claims.{AreTraced};
+ghost use Rattle.tg_evac.specs.Claimers.{AreScanned};
+ghost use Rattle.tg_evac.specs.Walks.{GoesOn, MayWalk};
 
 use crate::claimer::Claimer;
 use crate::copies::{Copies, scan};
@@ -30,20 +29,15 @@ pub fn walk<C: Claimer>(
     roots: &[Root],
     copies: &mut Copies,
 ) -> Result<(), CollectFault>
-    requires pointers { HavePointers spaces.now.spaces }
+    requires walk { MayWalk kind spaces.now.spaces (C.walked claimer.old) }
     requires roots { All (IsRootIn spaces.now.spaces) roots.now }
-    requires kind { (C.walked claimer.old).kind ≡ kind }
-    requires whole { (C.walked claimer.old).cells ≡ length (cells_of spaces.now.spaces) }
-    requires kept { (C.walked claimer.old).kept ≡ kept_blocks (C.walked claimer.old).kind spaces.now.spaces }
     requires traced { (all : List RootOf) × ((root : RootOf) → Contains roots.now root → Contains all root) × AreTraced (C.walked claimer.old).kind spaces.now.spaces all (C.walked claimer.old).won }
     requires scanned { AreScanned spaces.now.spaces (C.walked claimer.old) (C.knows claimer.old) copies.now.scanned copies.now.aged copies.now.old }
     ensures traced { (all : List RootOf) → ((root : RootOf) → Contains roots.now root → Contains all root) → AreTraced (C.walked claimer.old).kind spaces.now.spaces all (C.walked claimer.old).won → AreTraced (C.walked claimer.old).kind spaces.now.spaces all (C.walked claimer.new).won }
-    ensures keeps { KeepsWins (C.walked claimer.old) (C.walked claimer.new) }
-    ensures grows { KnowsMore (C.knows claimer.old) (C.knows claimer.new) }
+    ensures goes { GoesOn C.walked C.knows C.is_full claimer.old claimer.new result }
     ensures met { OnOk result (All (Contains (C.walked claimer.new).met) (all_root_targets (from_space (C.walked claimer.old).kind) spaces.now.spaces roots.now)) }
     ensures scanned { OnOk result (AreScanned spaces.now.spaces (C.walked claimer.new) (C.knows claimer.new) (length (C.walked claimer.new).won) copies.exit.now.aged copies.exit.now.old) }
     ensures ended { OnOk result (copies.exit.now.scanned ≡ length (C.walked claimer.new).won) }
-    ensures full { IfErr result (λ fault. fault ≡ CollectFault.HeapFull → C.is_full claimer.new) }
 {
     for root in roots {
         walk_root(claimer, spaces, kind, *root, copies)?;
@@ -60,19 +54,14 @@ fn walk_root<C: Claimer>(
     root: Root,
     copies: &mut Copies,
 ) -> Result<(), CollectFault>
-    requires pointers { HavePointers spaces.now.spaces }
+    requires walk { MayWalk kind spaces.now.spaces (C.walked claimer.old) }
     requires root { IsRootIn spaces.now.spaces root }
-    requires kind { (C.walked claimer.old).kind ≡ kind }
-    requires whole { (C.walked claimer.old).cells ≡ length (cells_of spaces.now.spaces) }
-    requires kept { (C.walked claimer.old).kept ≡ kept_blocks (C.walked claimer.old).kind spaces.now.spaces }
     requires traced { (all : List RootOf) × Contains all root × AreTraced (C.walked claimer.old).kind spaces.now.spaces all (C.walked claimer.old).won }
     requires scanned { AreScanned spaces.now.spaces (C.walked claimer.old) (C.knows claimer.old) copies.now.scanned copies.now.aged copies.now.old }
     ensures traced { (all : List RootOf) → Contains all root → AreTraced (C.walked claimer.old).kind spaces.now.spaces all (C.walked claimer.old).won → AreTraced (C.walked claimer.old).kind spaces.now.spaces all (C.walked claimer.new).won }
-    ensures keeps { KeepsWins (C.walked claimer.old) (C.walked claimer.new) }
-    ensures grows { KnowsMore (C.knows claimer.old) (C.knows claimer.new) }
+    ensures goes { GoesOn C.walked C.knows C.is_full claimer.old claimer.new result }
     ensures met { OnOk result (All (Contains (C.walked claimer.new).met) (root_targets_of (from_space (C.walked claimer.old).kind) spaces.now.spaces root)) }
     ensures scanned { OnOk result (AreScanned spaces.now.spaces (C.walked claimer.new) (C.knows claimer.new) copies.exit.now.scanned copies.exit.now.aged copies.exit.now.old) }
-    ensures full { IfErr result (λ fault. fault ≡ CollectFault.HeapFull → C.is_full claimer.new) }
 {
     claim_root(claimer, spaces, kind, root)?;
     match kind {

@@ -1,14 +1,12 @@
 //! The copy of a cell, whose words are moved where they stand. What they name is claimed.
-ghost use Rattle.std.specs.Prelude.{◌≡◌, ℕ, ◌≤◌, ◌++◌, drop, map, take, IfErr, OnOk, length};
-ghost use Rattle.std.specs.List.{All, Contains};
+ghost use Rattle.std.specs.Prelude.{◌≡◌, ℕ, ◌≤◌, ◌++◌, drop, map, take, OnOk, length};
+ghost use Rattle.std.specs.List.{All};
 ghost use Rattle.tg_word.specs.declared.Place.{Place as PlaceOf};
 ghost use Rattle.tg_word.specs.Word.{place_in, rights_in, word_at};
 ghost use Rattle.tg_space.specs.Soundness.{IsPointer};
-ghost use Rattle.tg_space.specs.SpaceList.{cells_of};
-ghost use Rattle.tg_space.specs.SpaceTable.{kept_blocks};
 ghost use Rattle.tg_space.specs.Targets.{from_space, image_of, moved_word, named_by, pointers_of, target_in};
-ghost use Rattle.tg_evac.specs.Claims.{IsClaimOf};
-ghost use Rattle.tg_evac.specs.Claimers.{AddsWins, IsLink, KnowsMore};
+ghost use Rattle.tg_evac.specs.Claimers.{IsLink};
+ghost use Rattle.tg_evac.specs.Walks.{ClaimsAll, IsTableFor};
 
 use crate::claimer::Claimer;
 use crate::fault::CollectFault;
@@ -27,15 +25,10 @@ pub fn move_cell<C: Claimer>(
     cell: &mut [u64; WORDS],
 ) -> Result<(), CollectFault>
     requires pointers { All (IsPointer spaces.now.spaces) (pointers_of cell.old) }
-    requires kind { (C.walked claimer.old).kind ≡ kind }
-    requires whole { (C.walked claimer.old).cells ≡ length (cells_of spaces.now.spaces) }
-    requires kept { (C.walked claimer.old).kept ≡ kept_blocks (C.walked claimer.old).kind spaces.now.spaces }
-    ensures added { AddsWins (IsClaimOf spaces.now.spaces straight (named_by (from_space (C.walked claimer.old).kind) spaces.now.spaces (pointers_of cell.old))) (C.walked claimer.old) (C.walked claimer.new) }
-    ensures grows { KnowsMore (C.knows claimer.old) (C.knows claimer.new) }
-    ensures met { OnOk result (All (Contains (C.walked claimer.new).met) (named_by (from_space (C.walked claimer.old).kind) spaces.now.spaces (pointers_of cell.old))) }
+    requires table { IsTableFor kind spaces.now.spaces (C.walked claimer.old) }
+    ensures claims { ClaimsAll C.walked C.knows C.is_full spaces.now.spaces straight (named_by (from_space (C.walked claimer.old).kind) spaces.now.spaces (pointers_of cell.old)) claimer.old claimer.new result }
     ensures long { length cell.new ≡ 8 }
     ensures image { OnOk result ((to : ℕ → PlaceOf) → C.knows claimer.new to → cell.new ≡ image_of (from_space (C.walked claimer.old).kind) spaces.now.spaces to cell.old) }
-    ensures full { IfErr result (λ fault. fault ≡ CollectFault.HeapFull → C.is_full claimer.new) }
 {
     // A loop from a known word on is laid out word by word.
     match cell[0] {
@@ -57,15 +50,10 @@ fn move_from<C: Claimer>(
 ) -> Result<(), CollectFault>
     requires inside { first ≤ 8 }
     requires pointers { All (IsPointer spaces.now.spaces) (drop first cell.old) }
-    requires kind { (C.walked claimer.old).kind ≡ kind }
-    requires whole { (C.walked claimer.old).cells ≡ length (cells_of spaces.now.spaces) }
-    requires kept { (C.walked claimer.old).kept ≡ kept_blocks (C.walked claimer.old).kind spaces.now.spaces }
-    ensures added { AddsWins (IsClaimOf spaces.now.spaces straight (named_by (from_space (C.walked claimer.old).kind) spaces.now.spaces (drop first cell.old))) (C.walked claimer.old) (C.walked claimer.new) }
-    ensures grows { KnowsMore (C.knows claimer.old) (C.knows claimer.new) }
-    ensures met { OnOk result (All (Contains (C.walked claimer.new).met) (named_by (from_space (C.walked claimer.old).kind) spaces.now.spaces (drop first cell.old))) }
+    requires table { IsTableFor kind spaces.now.spaces (C.walked claimer.old) }
+    ensures claims { ClaimsAll C.walked C.knows C.is_full spaces.now.spaces straight (named_by (from_space (C.walked claimer.old).kind) spaces.now.spaces (drop first cell.old)) claimer.old claimer.new result }
     ensures long { length cell.new ≡ 8 }
     ensures image { OnOk result ((to : ℕ → PlaceOf) → C.knows claimer.new to → cell.new ≡ take first cell.old ++ map (moved_word (from_space (C.walked claimer.old).kind) spaces.now.spaces to) (drop first cell.old)) }
-    ensures full { IfErr result (λ fault. fault ≡ CollectFault.HeapFull → C.is_full claimer.new) }
 {
     for i in first..WORDS {
         move_word(claimer, spaces, kind, straight, &mut cell[i])?;
@@ -84,14 +72,9 @@ fn move_word<C: Claimer>(
     word: &mut u64,
 ) -> Result<(), CollectFault>
     requires pointer { IsPointer spaces.now.spaces word.old }
-    requires kind { (C.walked claimer.old).kind ≡ kind }
-    requires whole { (C.walked claimer.old).cells ≡ length (cells_of spaces.now.spaces) }
-    requires kept { (C.walked claimer.old).kept ≡ kept_blocks (C.walked claimer.old).kind spaces.now.spaces }
-    ensures added { AddsWins (IsClaimOf spaces.now.spaces straight (target_in (from_space (C.walked claimer.old).kind) spaces.now.spaces word.old)) (C.walked claimer.old) (C.walked claimer.new) }
-    ensures grows { KnowsMore (C.knows claimer.old) (C.knows claimer.new) }
-    ensures met { OnOk result (All (Contains (C.walked claimer.new).met) (target_in (from_space (C.walked claimer.old).kind) spaces.now.spaces word.old)) }
+    requires table { IsTableFor kind spaces.now.spaces (C.walked claimer.old) }
+    ensures claims { ClaimsAll C.walked C.knows C.is_full spaces.now.spaces straight (target_in (from_space (C.walked claimer.old).kind) spaces.now.spaces word.old) claimer.old claimer.new result }
     ensures word { OnOk result ((to : ℕ → PlaceOf) → C.knows claimer.new to → word.new ≡ moved_word (from_space (C.walked claimer.old).kind) spaces.now.spaces to word.old) }
-    ensures full { IfErr result (λ fault. fault ≡ CollectFault.HeapFull → C.is_full claimer.new) }
 {
     let old = *word;
     if old == 0 {

@@ -44,8 +44,8 @@
 //! **Who may call.** The store calls [`collect_one`] with the rows of the heap's workers as roots, and for a nursery
 //! collection with its remembered cells, and hands what it gets to the heap's graph, which settles there. It may use that
 //! the forwarding words, the new blocks and the notes are a collection of the spaces (`IsCollection` of `tg_space`), with no
-//! more blocks than its copies need, and within the limit (`AreFewBlocks`). A collection that is refused has changed
-//! nothing.
+//! more blocks than its copies need, and within the limit (`AreFewBlocks`); `Collects` has all that it is promised. A
+//! collection that is refused has changed nothing.
 //!
 //! **What other collectors may use.** The walk asks of its table of claims only what [`Claimer`] says, so it serves any
 //! table: [`walk`] is generic, and [`Copies`] holds what it copies. That won pairs with their copies

@@ -1,14 +1,13 @@
 //! New blocks of a space, filled cell after cell.
-ghost use Rattle.std.specs.Prelude.{◌≡◌, ◌<◌, ◌≤◌, ◌-◌, ◌^◌, ◌++◌, ◌∷◌, [], length, replicate, vec_capacity, IfErr, IfOk, OnOk};
-ghost use Rattle.std.specs.List.{All, Contains, flat_map};
+ghost use Rattle.std.specs.Prelude.{◌≡◌, ◌<◌, ◌≤◌, ◌-◌, ◌^◌, ◌++◌, ◌∷◌, [], length, replicate, vec_capacity, IfOk, OnOk};
+ghost use Rattle.std.specs.List.{All, flat_map};
 ghost use Rattle.tg_block.specs.Cells.{IsBlock, free_cell};
 ghost use Rattle.tg_space.specs.Soundness.{IsPointer};
-ghost use Rattle.tg_space.specs.SpaceList.{IsSpace, cells_of};
-ghost use Rattle.tg_space.specs.SpaceTable.{kept_blocks};
+ghost use Rattle.tg_space.specs.SpaceList.{IsSpace};
 ghost use Rattle.tg_space.specs.Targets.{from_space, named_by, pointers_of};
-ghost use Rattle.tg_evac.specs.Claims.{IsClaimOf};
-ghost use Rattle.tg_evac.specs.Claimers.{AddsCopy, AddsWins, KnowsMore};
-ghost use Rattle.tg_evac.specs.Copies.{HoldCells, IsOpenBlock};
+ghost use Rattle.tg_evac.specs.Claimers.{AddsCopy};
+ghost use Rattle.tg_evac.specs.Copies.{HaveOpenBlock, HoldCells, IsOpenBlock};
+ghost use Rattle.tg_evac.specs.Walks.{ClaimsAll, IsTableFor};
 
 use crate::claimer::Claimer;
 use crate::fault::CollectFault;
@@ -71,14 +70,9 @@ impl NewBlocks {
     ) -> Result<(), CollectFault>
         requires room { length self.old < 2 ^ 26 }
         requires pointers { All (IsPointer spaces.now.spaces) (pointers_of words.now) }
-        requires kind { (C.walked claimer.old).kind ≡ kind }
-        requires whole { (C.walked claimer.old).cells ≡ length (cells_of spaces.now.spaces) }
-        requires kept { (C.walked claimer.old).kept ≡ kept_blocks (C.walked claimer.old).kind spaces.now.spaces }
-        ensures added { AddsWins (IsClaimOf spaces.now.spaces straight (named_by (from_space (C.walked claimer.old).kind) spaces.now.spaces (pointers_of words.now))) (C.walked claimer.old) (C.walked claimer.new) }
-        ensures grows { KnowsMore (C.knows claimer.old) (C.knows claimer.new) }
-        ensures met { OnOk result (All (Contains (C.walked claimer.new).met) (named_by (from_space (C.walked claimer.old).kind) spaces.now.spaces (pointers_of words.now))) }
+        requires table { IsTableFor kind spaces.now.spaces (C.walked claimer.old) }
+        ensures claims { ClaimsAll C.walked C.knows C.is_full spaces.now.spaces straight (named_by (from_space (C.walked claimer.old).kind) spaces.now.spaces (pointers_of words.now)) claimer.old claimer.new result }
         ensures copied { OnOk result (AddsCopy (C.walked claimer.old).kind spaces.now.spaces (C.knows claimer.new) words.now self.old self.new) }
-        ensures full { IfErr result (λ fault. fault ≡ CollectFault.HeapFull → C.is_full claimer.new) }
     {
         make_room(self.alloc, spare, &mut self.full, &mut self.last)?;
         let at = self.last.len();
@@ -113,9 +107,7 @@ fn make_room(
     requires fits { IsOpenBlock last.old.items }
     requires room { length (flat_map (λ block. block) full.old ++ last.old.items) < 2 ^ 26 }
     requires cells { 64 ≤ vec_capacity last.old }
-    ensures space { IsSpace full.new }
-    ensures fits { IsOpenBlock last.new.items }
-    ensures cells { 64 ≤ vec_capacity last.new }
+    ensures open { HaveOpenBlock full.new last.new }
     ensures ready { OnOk result (length last.new.items < 64) }
     ensures same { OnOk result (flat_map (λ block. block) full.new ++ last.new.items ≡ flat_map (λ block. block) full.old ++ last.old.items) }
 {
@@ -137,11 +129,9 @@ fn close(
     requires space { IsSpace full.old }
     requires room { length full.old < 2 ^ 20 }
     requires cells { 64 ≤ vec_capacity last.old }
-    ensures space { IsSpace full.new }
+    ensures open { HaveOpenBlock full.new last.new }
     ensures full { OnOk result (full.new ≡ full.old ++ last.old.items ∷ []) }
     ensures empty { OnOk result (last.new.items ≡ []) }
-    ensures fits { IsOpenBlock last.new.items }
-    ensures cells { 64 ≤ vec_capacity last.new }
 {
     let cells = mem::replace(last, open_cells(alloc, spare)?);
     full.push(Block::of(cells))

@@ -4,10 +4,8 @@ ghost use Rattle.std.specs.List.{All, Contains};
 ghost use Rattle.tg_word.specs.declared.Place.{Place as PlaceOf};
 ghost use Rattle.tg_space.specs.Generations.{NamesYoung};
 ghost use Rattle.tg_space.specs.Soundness.{IsRootIn};
-ghost use Rattle.tg_space.specs.SpaceList.{cells_of};
 ghost use Rattle.tg_space.specs.declared.root.Root.TheVariants.{Remembered as RememberedAt};
-ghost use Rattle.tg_evac.specs.Claims.{HavePointers};
-ghost use Rattle.tg_evac.specs.Copies.{HavePlaces, IsPlaceIn, moved_cell, new_cell};
+ghost use Rattle.tg_evac.specs.Copies.{AreForwarded, IsPlaceIn, moved_cell, new_cell};
 
 use std::alloc::{AllocError, Global};
 use tg_block::{CELLS, WORDS};
@@ -28,10 +26,8 @@ pub fn notes_of(
     old: &Space,
     kept: u64,
 ) -> Result<Remembered, AllocError>
-    requires pointers { HavePointers spaces.now.spaces }
+    requires forward { AreForwarded spaces.now.spaces forward.now.words }
     requires roots { All (IsRootIn spaces.now.spaces) roots.now }
-    requires whole { length forward.now.words ≡ length (cells_of spaces.now.spaces) }
-    requires places { HavePlaces forward.now.words }
     requires few { kept + length old.now ≤ 2 ^ 20 }
     requires full { kind ≡ Kind.Full → (p : PlaceOf) → IsPlaceIn 0 kept old.now p → NamesYoung (new_cell kept old.now p) → ⊥ }
     ensures { IfOk result (λ noted. (p : PlaceOf) → Contains noted.places p ↔ ((Contains roots.now (RememberedAt p) × NamesYoung (moved_cell kind spaces.now.spaces forward.now.words p)) ⊎ (IsPlaceIn 0 kept old.now p × NamesYoung (new_cell kept old.now p)))) }
@@ -55,10 +51,8 @@ fn note_roots(
     forward: &Forwarding,
     roots: &[Root],
 ) -> Result<(), AllocError>
-    requires pointers { HavePointers spaces.now.spaces }
+    requires forward { AreForwarded spaces.now.spaces forward.now.words }
     requires roots { All (IsRootIn spaces.now.spaces) roots.now }
-    requires whole { length forward.now.words ≡ length (cells_of spaces.now.spaces) }
-    requires places { HavePlaces forward.now.words }
     ensures { OnOk result ((p : PlaceOf) → Contains remembered.new.places p ↔ (Contains remembered.old.places p ⊎ (Contains roots.now (RememberedAt p) × NamesYoung (moved_cell kind spaces.now.spaces forward.now.words p)))) }
 {
     for root in roots {
@@ -75,10 +69,8 @@ fn note_root(
     forward: &Forwarding,
     root: Root,
 ) -> Result<(), AllocError>
-    requires pointers { HavePointers spaces.now.spaces }
+    requires forward { AreForwarded spaces.now.spaces forward.now.words }
     requires root { IsRootIn spaces.now.spaces root }
-    requires whole { length forward.now.words ≡ length (cells_of spaces.now.spaces) }
-    requires places { HavePlaces forward.now.words }
     ensures { OnOk result ((p : PlaceOf) → Contains remembered.new.places p ↔ (Contains remembered.old.places p ⊎ ((root ≡ RememberedAt p) × NamesYoung (moved_cell kind spaces.now.spaces forward.now.words p)))) }
 {
     match root {

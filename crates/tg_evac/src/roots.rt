@@ -1,13 +1,11 @@
 //! The targets of roots.
-ghost use Rattle.std.specs.Prelude.{◌≡◌, IfErr, OnOk, length};
-ghost use Rattle.std.specs.List.{All, Contains};
+ghost use Rattle.std.specs.Prelude.{length};
 ghost use Rattle.tg_space.specs.Soundness.{IsPointer, IsRootIn};
 ghost use Rattle.tg_space.specs.SpaceList.{Holds, cells_of};
-ghost use Rattle.tg_space.specs.SpaceTable.{kept_blocks};
 ghost use Rattle.tg_space.specs.Targets.{from_space, root_targets_of, targets_at};
 ghost use Rattle.tg_space.specs.declared.root.Root.TheVariants.{Row};
-ghost use Rattle.tg_evac.specs.Claims.{HavePointers, IsClaimOf, chunk_targets, is_straight as straight_from};
-ghost use Rattle.tg_evac.specs.Claimers.{AddsWins, KnowsMore};
+ghost use Rattle.tg_evac.specs.Claims.{chunk_targets, is_straight as straight_from};
+ghost use Rattle.tg_evac.specs.Walks.{ClaimsAll, MayWalk};
 
 use crate::claimer::Claimer;
 use crate::fault::CollectFault;
@@ -26,15 +24,9 @@ pub fn claim_root<C: Claimer>(
     kind: Kind,
     root: Root,
 ) -> Result<(), CollectFault>
-    requires pointers { HavePointers spaces.now.spaces }
+    requires walk { MayWalk kind spaces.now.spaces (C.walked claimer.old) }
     requires root { IsRootIn spaces.now.spaces root }
-    requires kind { (C.walked claimer.old).kind ≡ kind }
-    requires whole { (C.walked claimer.old).cells ≡ length (cells_of spaces.now.spaces) }
-    requires kept { (C.walked claimer.old).kept ≡ kept_blocks (C.walked claimer.old).kind spaces.now.spaces }
-    ensures added { AddsWins (IsClaimOf spaces.now.spaces (straight_from (C.walked claimer.old).kind root) (root_targets_of (from_space (C.walked claimer.old).kind) spaces.now.spaces root)) (C.walked claimer.old) (C.walked claimer.new) }
-    ensures grows { KnowsMore (C.knows claimer.old) (C.knows claimer.new) }
-    ensures met { OnOk result (All (Contains (C.walked claimer.new).met) (root_targets_of (from_space (C.walked claimer.old).kind) spaces.now.spaces root)) }
-    ensures full { IfErr result (λ fault. fault ≡ CollectFault.HeapFull → C.is_full claimer.new) }
+    ensures { ClaimsAll C.walked C.knows C.is_full spaces.now.spaces (straight_from (C.walked claimer.old).kind root) (root_targets_of (from_space (C.walked claimer.old).kind) spaces.now.spaces root) claimer.old claimer.new result }
 {
     let straight = is_straight(kind, root);
     match root {
@@ -52,15 +44,9 @@ fn claim_row<C: Claimer>(
     object: Place,
     straight: bool,
 ) -> Result<(), CollectFault>
-    requires pointers { HavePointers spaces.now.spaces }
+    requires walk { MayWalk kind spaces.now.spaces (C.walked claimer.old) }
     requires held { Holds spaces.now.spaces object }
-    requires kind { (C.walked claimer.old).kind ≡ kind }
-    requires whole { (C.walked claimer.old).cells ≡ length (cells_of spaces.now.spaces) }
-    requires kept { (C.walked claimer.old).kept ≡ kept_blocks (C.walked claimer.old).kind spaces.now.spaces }
-    ensures added { AddsWins (IsClaimOf spaces.now.spaces straight (root_targets_of (from_space (C.walked claimer.old).kind) spaces.now.spaces (Row object))) (C.walked claimer.old) (C.walked claimer.new) }
-    ensures grows { KnowsMore (C.knows claimer.old) (C.knows claimer.new) }
-    ensures met { OnOk result (All (Contains (C.walked claimer.new).met) (root_targets_of (from_space (C.walked claimer.old).kind) spaces.now.spaces (Row object))) }
-    ensures full { IfErr result (λ fault. fault ≡ CollectFault.HeapFull → C.is_full claimer.new) }
+    ensures { ClaimsAll C.walked C.knows C.is_full spaces.now.spaces straight (root_targets_of (from_space (C.walked claimer.old).kind) spaces.now.spaces (Row object)) claimer.old claimer.new result }
 {
     if kind.moves(object.space) {
         claimer.claim(spaces.flat(object), space_for(straight, object.space))?;
@@ -78,15 +64,9 @@ fn claim_chunks<C: Claimer>(
     first: u64,
     straight: bool,
 ) -> Result<(), CollectFault>
-    requires pointers { HavePointers spaces.now.spaces }
+    requires walk { MayWalk kind spaces.now.spaces (C.walked claimer.old) }
     requires link { IsPointer spaces.now.spaces first }
-    requires kind { (C.walked claimer.old).kind ≡ kind }
-    requires whole { (C.walked claimer.old).cells ≡ length (cells_of spaces.now.spaces) }
-    requires kept { (C.walked claimer.old).kept ≡ kept_blocks (C.walked claimer.old).kind spaces.now.spaces }
-    ensures added { AddsWins (IsClaimOf spaces.now.spaces straight (chunk_targets (from_space (C.walked claimer.old).kind) spaces.now.spaces (length (cells_of spaces.now.spaces)) first)) (C.walked claimer.old) (C.walked claimer.new) }
-    ensures grows { KnowsMore (C.knows claimer.old) (C.knows claimer.new) }
-    ensures met { OnOk result (All (Contains (C.walked claimer.new).met) (chunk_targets (from_space (C.walked claimer.old).kind) spaces.now.spaces (length (cells_of spaces.now.spaces)) first)) }
-    ensures full { IfErr result (λ fault. fault ≡ CollectFault.HeapFull → C.is_full claimer.new) }
+    ensures { ClaimsAll C.walked C.knows C.is_full spaces.now.spaces straight (chunk_targets (from_space (C.walked claimer.old).kind) spaces.now.spaces (length (cells_of spaces.now.spaces)) first) claimer.old claimer.new result }
 {
     let mut link = first;
     for _ in 0..spaces.cells() {
@@ -111,15 +91,9 @@ fn claim_targets<C: Claimer>(
     place: Place,
     straight: bool,
 ) -> Result<(), CollectFault>
-    requires pointers { HavePointers spaces.now.spaces }
+    requires walk { MayWalk kind spaces.now.spaces (C.walked claimer.old) }
     requires held { Holds spaces.now.spaces place }
-    requires kind { (C.walked claimer.old).kind ≡ kind }
-    requires whole { (C.walked claimer.old).cells ≡ length (cells_of spaces.now.spaces) }
-    requires kept { (C.walked claimer.old).kept ≡ kept_blocks (C.walked claimer.old).kind spaces.now.spaces }
-    ensures added { AddsWins (IsClaimOf spaces.now.spaces straight (targets_at (from_space (C.walked claimer.old).kind) spaces.now.spaces place)) (C.walked claimer.old) (C.walked claimer.new) }
-    ensures grows { KnowsMore (C.knows claimer.old) (C.knows claimer.new) }
-    ensures met { OnOk result (All (Contains (C.walked claimer.new).met) (targets_at (from_space (C.walked claimer.old).kind) spaces.now.spaces place)) }
-    ensures full { IfErr result (λ fault. fault ≡ CollectFault.HeapFull → C.is_full claimer.new) }
+    ensures { ClaimsAll C.walked C.knows C.is_full spaces.now.spaces straight (targets_at (from_space (C.walked claimer.old).kind) spaces.now.spaces place) claimer.old claimer.new result }
 {
     let mut words = *spaces.words(place);
     move_cell(claimer, spaces, kind, straight, &mut words)

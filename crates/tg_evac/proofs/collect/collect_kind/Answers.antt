@@ -1,5 +1,5 @@
 use Rattle.std.proofs.Common.{◌≡◌, ◌↔◌, ◌⊎◌, ℕ, ◌+◌, ◌≤◌, length, List, ap, sym, subst, arith, lit<, ◌∙◌}
-use Rattle.std.specs.List.{Contains}
+use Rattle.std.specs.List.{All, Contains}
 use Rattle.std.proofs.lemmas.List.{length-map}
 use Rattle.tg_word.specs.declared.Place.{Place}
 use Rattle.tg_space.proofs.Tables.{table_list}
@@ -12,10 +12,12 @@ use Rattle.tg_space.specs.declared.kind.Kind.TheVariants.{Full}
 use Rattle.tg_space.specs.declared.root.Root.TheVariants.{Remembered}
 use Rattle.tg_evac.specs.declared.plan.Plan.{Plan}
 use Rattle.tg_evac.specs.declared.win.Win.{Win}
-use Rattle.tg_evac.specs.Claims.{Claimed, IsTracedFrom, won_in, wins_at}
+use Rattle.tg_evac.specs.Claims.{Claimed, IsTracedFrom, cells_won, won_in, wins_at}
 use Rattle.tg_evac.specs.Claimers.{HasPlacesOf, copies_to, image_at}
-use Rattle.tg_evac.specs.Copies.{HavePlaces, HoldCells, IsPlaceIn, moved_cell, new_cell}
+use Rattle.tg_evac.specs.Copies.{AreForwarded, HoldCells, IsPlaceIn, moved_cell, new_cell}
 use Rattle.tg_evac.proofs.Claiming.{has_places, have_places, in_room}
+use Rattle.tg_evac.specs.Room.{IsReachedFrom}
+use Rattle.tg_evac.proofs.Passing.{collects_refused}
 use Rattle.tg_evac.proofs.Moved.{moved_few}
 use Rattle.tg_evac.proofs.Sound.{have_pointers}
 use Rattle.tg_evac.proofs.Collecting.{collected, few, none_young, old_few}
@@ -55,11 +57,17 @@ old_is c =
     let h = c.args.spaces.now.spaces in let to = new_place c.claims.inside.forward.words in
     c.in_ok-copies.ensures.old to (agrees c) ∙ ap (λ (k : Kind). copies_to 0 k h to c.trace.new.claims.won) (kind_is c) ∙ ap (λ (v : Claimed). copies_to 0 c.args.kind h to v.won) (sym c.claims.view_is)
 
-pub trace-requires-clause-pointers : goal.trace-requires-clause-pointers
-trace-requires-clause-pointers c = have_pointers c.args.spaces.now.spaces c.args.roots.now c.requires (table_list c.args.spaces.now c.cells-cells.ensures.table)
-
-pub notes_of-requires-clause-pointers : goal.notes_of-requires-clause-pointers
-notes_of-requires-clause-pointers c = have_pointers c.args.spaces.now.spaces c.args.roots.now c.requires (table_list c.args.spaces.now c.cells-cells.ensures.table)
+pub trace-requires-clause-walk : goal.trace-requires-clause-walk
+trace-requires-clause-walk c =
+    let h = c.args.spaces.now.spaces in let plan = c.of-plan.ensures.plan in
+    record {
+      pointers = have_pointers h c.args.roots.now c.requires (table_list c.args.spaces.now c.cells-cells.ensures.table);
+      table = record {
+        same = ap (λ (p : Plan). p.kind) c.in_ok-claims.ensures.plan ∙ plan.same;
+        whole = c.in_ok-claims.ensures.whole ∙ c.cells-cells.ensures.cells;
+        kept = ap (λ (p : Plan). p.kept) c.in_ok-claims.ensures.plan ∙ plan.kept ∙ ap (λ (k : Kind). kept_blocks k h) (sym plan.same ∙ ap (λ (p : Plan). p.kind) (sym c.in_ok-claims.ensures.plan));
+      };
+    }
 
 pub finish-requires-clause-aged : goal.finish-requires-clause-aged
 unfolding claims_of
@@ -77,11 +85,16 @@ finish-requires-clause-old c =
     let room = in_room (claims_of from) c.claims.invariant.0 0 (lit< tt) in
     omega arith
 
-pub notes_of-requires-clause-places : goal.notes_of-requires-clause-places
+pub notes_of-requires-clause-forward : goal.notes_of-requires-clause-forward
 unfolding claims_of
-notes_of-requires-clause-places c =
-    subst (λ (f : ForwardingWords). HavePlaces f.words) (sym c.into_forwarding-forward.ensures)
-    (have_places (claims_of (goal.at.notes_of-requires-clause-places c).In_ok-copies) c.claims.invariant.0)
+notes_of-requires-clause-forward c =
+    let from = (goal.at.notes_of-requires-clause-forward c).In_ok-copies in
+    subst (λ (f : ForwardingWords). AreForwarded c.args.spaces.now.spaces f.words) (sym c.into_forwarding-forward.ensures)
+    (record {
+      pointers = have_pointers c.args.spaces.now.spaces c.args.roots.now c.requires (table_list c.args.spaces.now c.cells-cells.ensures.table);
+      whole = (traced from).whole;
+      places = have_places (claims_of from) c.claims.invariant.0;
+    })
 
 pub notes_of-requires-clause-few : goal.notes_of-requires-clause-few
 unfolding claims_of
@@ -105,33 +118,57 @@ notes_of-requires-clause-full c =
     (subst (λ (cells : List (List ℕ)). HoldCells cells c.in_ok-adoption.adoption.aged) (aged_is from) c.in_ok-adoption.ensures.aged.0)
     (subst (λ (cells : List (List ℕ)). HoldCells cells c.in_ok-adoption.adoption.old) (old_is from) c.in_ok-adoption.ensures.old.0))
 
-pub returns-clause-moved : goal.returns-clause-moved
-unfolding claims_of
-returns-clause-moved c =
-    let from = (goal.at.returns-clause-moved c).In_ok-copies in
-    let is = table_list c.args.spaces.now c.cells-cells.ensures.table in
-    subst (λ (f : ForwardingWords). copies_in f.words 0 + copies_in f.words 1 ≤ used_cells c.args.kind c.args.spaces.now.spaces) (sym c.into_forwarding-forward.ensures)
-    (moved_few c.args.kind c.args.spaces.now.spaces is (have_pointers c.args.spaces.now.spaces c.args.roots.now c.requires is) c.args.roots.now c.requires.roots_held (claims_of from) c.claims.invariant.0 (traced from))
+pub returns-in_err-claims : goal.returns-in_err-claims
+returns-in_err-claims c = collects_refused c.from_residual.result _ c.from_residual.ensures.1 (λ is. absurd (let refused = c.in_err-claims.ensures.refused in cc))
 
-pub returns-clause-few : goal.returns-clause-few
-unfolding claims_of
-returns-clause-few c =
-    let from = (goal.at.returns-clause-few c).In_ok-copies in
-    subst (λ (f : ForwardingWords). AreFewBlocks c.args.spaces.now.limits.space_blocks (kept_blocks c.args.kind c.args.spaces.now.spaces) 0 f.words c.in_ok-adoption.adoption.aged c.in_ok-adoption.adoption.old) (sym c.into_forwarding-forward.ensures)
-    (few c.args.kind c.args.spaces.now c.args.roots.now c.of-plan.result c.of-plan.ensures.plan c.cells-cells.ensures.table (claims_of from) c.claims.invariant.0 (plan_is from) (traced from)
-    c.in_ok-adoption.adoption.aged c.in_ok-adoption.adoption.old c.in_ok-adoption.ensures.aged.1.1 c.in_ok-adoption.ensures.old.1.1
-    (subst (λ (cells : List (List ℕ)). HoldCells cells c.in_ok-adoption.adoption.aged) (aged_is from) c.in_ok-adoption.ensures.aged.0)
-    (subst (λ (cells : List (List ℕ)). HoldCells cells c.in_ok-adoption.adoption.old) (old_is from) c.in_ok-adoption.ensures.old.0) c.args.spaces.now.limits.space_blocks (ap (λ (p : Plan). p.room) (plan_is from) ∙ c.of-plan.ensures.plan.room))
+pub returns-in_err-copies : goal.returns-in_err-copies
+returns-in_err-copies c =
+    let h = c.args.spaces.now.spaces in let roots = c.args.roots.now in let plan = c.of-plan.ensures.plan in let claims = c.trace.new.claims in
+    let kind : c.in_ok-claims.claims.plan.kind ≡ c.args.kind = ap (λ (p : Plan). p.kind) c.in_ok-claims.ensures.plan ∙ plan.same in
+    let planned : claims.plan ≡ c.of-plan.result = c.trace.ensures.plan ∙ c.in_ok-claims.ensures.plan in
+    let kept = ap (λ (p : Plan). p.kept) planned ∙ plan.kept in
+    let room = ap (λ (p : Plan). p.room) planned ∙ plan.room in
+    collects_refused c.from_residual-in_err-copies.result _ c.from_residual-in_err-copies.ensures.1 (λ is.
+    let told = c.in_err-copies.ensures.full is in
+    let all = told.0.all in
+    record {
+      cells = cells_won claims.won;
+      once = told.0.distinct;
+      from = subst (λ (k : Kind). All (IsReachedFrom k h roots) (cells_won claims.won)) kind told.1;
+      many = omega arith;
+    })
 
-pub returns-clause-collected : goal.returns-clause-collected
+pub returns-in_err-adoption : goal.returns-in_err-adoption
+returns-in_err-adoption c = collects_refused c.from_residual-in_err-adoption.result _ c.from_residual-in_err-adoption.ensures.1 (λ is. absurd cc)
+
+pub returns-in_err-remembered : goal.returns-in_err-remembered
+returns-in_err-remembered c = collects_refused c.from_residual-in_err-remembered.result _ c.from_residual-in_err-remembered.ensures.1 (λ is. absurd cc)
+
+pub returns : goal.returns
 unfolding claims_of
-returns-clause-collected c =
-    let from = (goal.at.returns-clause-collected c).In_ok-copies in
+returns c =
+    let from = (goal.at.returns c).In_ok-copies in
     let h = c.args.spaces.now.spaces in let old = c.in_ok-adoption.adoption.old in let forward = c.claims.inside.forward.words in let noted = c.in_ok-remembered.remembered.places in
-    subst (λ (f : ForwardingWords). IsCollection c.args.kind h c.args.roots.now f.words c.in_ok-adoption.adoption.aged old noted) (sym c.into_forwarding-forward.ensures)
-    (collected c.args.kind c.args.spaces.now c.args.roots.now c.of-plan.result c.of-plan.ensures.plan c.cells-cells.ensures.table (claims_of from) c.claims.invariant.0 (plan_is from) (traced from)
-    c.in_ok-adoption.adoption.aged c.in_ok-adoption.adoption.old c.in_ok-adoption.ensures.aged.1.1 c.in_ok-adoption.ensures.old.1.1
-    (subst (λ (cells : List (List ℕ)). HoldCells cells c.in_ok-adoption.adoption.aged) (aged_is from) c.in_ok-adoption.ensures.aged.0)
-    (subst (λ (cells : List (List ℕ)). HoldCells cells c.in_ok-adoption.adoption.old) (old_is from) c.in_ok-adoption.ensures.old.0) noted
-    (subst (λ (n : ℕ). (p : Place) → Contains noted p ↔ ((Contains c.args.roots.now (Remembered p) × NamesYoung (moved_cell c.args.kind h forward p)) ⊎ (IsPlaceIn 0 n old p × NamesYoung (new_cell n old p)))) c.of-plan.ensures.plan.kept
-    (subst (λ (f : ForwardingWords). (p : Place) → Contains noted p ↔ ((Contains c.args.roots.now (Remembered p) × NamesYoung (moved_cell c.args.kind h f.words p)) ⊎ (IsPlaceIn 0 c.of-plan.result.kept old p × NamesYoung (new_cell c.of-plan.result.kept old p)))) c.into_forwarding-forward.ensures c.in_ok-remembered.ensures)))
+    let is = table_list c.args.spaces.now c.cells-cells.ensures.table in
+    let aged_cells = subst (λ (cells : List (List ℕ)). HoldCells cells c.in_ok-adoption.adoption.aged) (aged_is from) c.in_ok-adoption.ensures.aged.0 in
+    let old_cells = subst (λ (cells : List (List ℕ)). HoldCells cells c.in_ok-adoption.adoption.old) (old_is from) c.in_ok-adoption.ensures.old.0 in
+    record {
+      collected =
+          subst (λ (f : ForwardingWords). IsCollection c.args.kind h c.args.roots.now f.words c.in_ok-adoption.adoption.aged old noted) (sym c.into_forwarding-forward.ensures)
+          (collected c.args.kind c.args.spaces.now c.args.roots.now c.of-plan.result c.of-plan.ensures.plan c.cells-cells.ensures.table (claims_of from) c.claims.invariant.0 (plan_is from) (traced from)
+          c.in_ok-adoption.adoption.aged c.in_ok-adoption.adoption.old c.in_ok-adoption.ensures.aged.1.1 c.in_ok-adoption.ensures.old.1.1
+          aged_cells
+          old_cells noted
+          (subst (λ (n : ℕ). (p : Place) → Contains noted p ↔ ((Contains c.args.roots.now (Remembered p) × NamesYoung (moved_cell c.args.kind h forward p)) ⊎ (IsPlaceIn 0 n old p × NamesYoung (new_cell n old p)))) c.of-plan.ensures.plan.kept
+          (subst (λ (f : ForwardingWords). (p : Place) → Contains noted p ↔ ((Contains c.args.roots.now (Remembered p) × NamesYoung (moved_cell c.args.kind h f.words p)) ⊎ (IsPlaceIn 0 c.of-plan.result.kept old p × NamesYoung (new_cell c.of-plan.result.kept old p)))) c.into_forwarding-forward.ensures c.in_ok-remembered.ensures)));
+      moved =
+          subst (λ (f : ForwardingWords). copies_in f.words 0 + copies_in f.words 1 ≤ used_cells c.args.kind c.args.spaces.now.spaces) (sym c.into_forwarding-forward.ensures)
+          (moved_few c.args.kind c.args.spaces.now.spaces is (have_pointers c.args.spaces.now.spaces c.args.roots.now c.requires is) c.args.roots.now c.requires.roots_held (claims_of from) c.claims.invariant.0 (traced from));
+      few =
+          subst (λ (f : ForwardingWords). AreFewBlocks c.args.spaces.now.limits.space_blocks (kept_blocks c.args.kind c.args.spaces.now.spaces) 0 f.words c.in_ok-adoption.adoption.aged c.in_ok-adoption.adoption.old) (sym c.into_forwarding-forward.ensures)
+          (few c.args.kind c.args.spaces.now c.args.roots.now c.of-plan.result c.of-plan.ensures.plan c.cells-cells.ensures.table (claims_of from) c.claims.invariant.0 (plan_is from) (traced from)
+          c.in_ok-adoption.adoption.aged c.in_ok-adoption.adoption.old c.in_ok-adoption.ensures.aged.1.1 c.in_ok-adoption.ensures.old.1.1
+          aged_cells
+          old_cells c.args.spaces.now.limits.space_blocks (ap (λ (p : Plan). p.room) (plan_is from) ∙ c.of-plan.ensures.plan.room));
+      full = tt;
+    }

@@ -29,16 +29,16 @@ walk-requires-clause-scanned c =
     none_scanned c.args.spaces.now.spaces (walked_of c.args.claims.now) (HasPlacesOf c.args.claims.now.won) c.in_ok-copies.copies.scanned c.in_ok-copies.copies.aged c.in_ok-copies.copies.old c.in_ok-copies.ensures.scanned c.in_ok-copies.ensures.aged c.in_ok-copies.ensures.old
 
 pub returns-in_err-walk-clause-plan : goal.returns-in_err-walk-clause-plan
-returns-in_err-walk-clause-plan c = plan_kept c.args.claims.now c.walk.new.claimer c.walk.ensures.keeps
+returns-in_err-walk-clause-plan c = plan_kept c.args.claims.now c.walk.new.claimer c.walk.ensures.goes.keeps
 
 pub returns-in_err-walk-clause-full : goal.returns-in_err-walk-clause-full
 returns-in_err-walk-clause-full c =
     let p = err_from_is_err_and c.from_residual-in_err-walk.result c.from_residual-in_err-walk.ensures.1 in
     let kind = c.args.claims.now.plan.kind in let h = c.args.spaces.now.spaces in
-    rw (p.1, p.2) (λ is. (c.in_err-walk.ensures.full is, all_reached kind h c.args.roots.now c.walk.new.claimer.won (all_traced (goal.at.returns-in_err-walk-clause-full c).After-walk)))
+    rw (p.1, p.2) (λ is. (c.in_err-walk.ensures.goes.full is, all_reached kind h c.args.roots.now c.walk.new.claimer.won (all_traced (goal.at.returns-in_err-walk-clause-full c).After-walk)))
 
 pub returns-clause-plan : goal.returns-clause-plan
-returns-clause-plan c = plan_kept c.args.claims.now c.walk.new.claimer c.walk.ensures.keeps
+returns-clause-plan c = plan_kept c.args.claims.now c.walk.new.claimer c.walk.ensures.goes.keeps
 
 pub returns-clause-traced : goal.returns-clause-traced
 returns-clause-traced c =
@@ -47,9 +47,9 @@ returns-clause-traced c =
     let traced = all_traced (goal.at.returns-clause-traced c).After-walk in
     let held : All (Contains won) roots = c.in_ok-walk.ensures.met in
     let closed : IsClosed targets won (length won) =
-    subst (λ (k : Kind). IsClosed (targets_of (from_space k) h) won (length won)) c.walk.ensures.keeps.same_kind (closed_from h c.walk.new.claimer (HasPlacesOf c.walk.new.claimer.won) c.in_ok-walk.ensures.scanned) in
+    subst (λ (k : Kind). IsClosed (targets_of (from_space k) h) won (length won)) c.walk.ensures.goes.keeps.same_kind (closed_from h c.walk.new.claimer (HasPlacesOf c.walk.new.claimer.won) c.in_ok-walk.ensures.scanned) in
     record {
-      whole = c.walk.ensures.keeps.as_many ∙ c.requires.whole;
+      whole = c.walk.ensures.goes.keeps.as_many ∙ c.requires.walk.table.whole;
       traced = traced;
       reached = closure_is_won roots targets won (traced_cells kind h c.args.roots.now c.walk.new.claimer.won traced) (held, closed);
     }
@@ -58,10 +58,10 @@ pub returns-clause-aged : goal.returns-clause-aged
 returns-clause-aged c to agrees =
     let won = c.walk.new.claimer.won in let h = c.args.spaces.now.spaces in
     c.in_ok-walk.ensures.scanned.in_aged to agrees ∙ ap (copies_to 1 c.walk.new.claimer.plan.kind h to) (take_all (length won) won (omega arith))
-    ∙ ap (λ (k : Kind). copies_to 1 k h to won) c.walk.ensures.keeps.same_kind
+    ∙ ap (λ (k : Kind). copies_to 1 k h to won) c.walk.ensures.goes.keeps.same_kind
 
 pub returns-clause-old : goal.returns-clause-old
 returns-clause-old c to agrees =
     let won = c.walk.new.claimer.won in let h = c.args.spaces.now.spaces in
     c.in_ok-walk.ensures.scanned.in_old to agrees ∙ ap (copies_to 0 c.walk.new.claimer.plan.kind h to) (take_all (length won) won (omega arith))
-    ∙ ap (λ (k : Kind). copies_to 0 k h to won) c.walk.ensures.keeps.same_kind
+    ∙ ap (λ (k : Kind). copies_to 0 k h to won) c.walk.ensures.goes.keeps.same_kind

@@ -1,16 +1,11 @@
-use Rattle.std.proofs.Common.{◌≡◌, ◌+◌, List}
-use Rattle.tg_space.specs.declared.root.Root.{Root}
-use Rattle.tg_evac.specs.Claims.{AreTraced}
-use Rattle.tg_evac.specs.Claimers.{AreScanned, KeepsWins, KnowsMore}
+use Rattle.std.proofs.Common.{◌≡◌, ◌+◌, Ok}
+use Rattle.tg_evac.specs.Walks.{Scans}
 use Rattle.tg_evac.proofs.copies.scan_some.Given as goal
 
 abbrev pub invariant-loop-i : goal.invariant-loop-i
 invariant-loop-i g l =
     let m = g.C.Claimer in
     record {
-      traced : (roots : List Root) → AreTraced (m.walked l.initial.claimer).kind l.spaces.spaces roots (m.walked l.initial.claimer).won → AreTraced (m.walked l.initial.claimer).kind l.spaces.spaces roots (m.walked l.claimer).won;
-      keeps : KeepsWins (m.walked l.initial.claimer) (m.walked l.claimer);
-      grows : KnowsMore (m.knows l.initial.claimer) (m.knows l.claimer);
-      scanned : AreScanned l.spaces.spaces (m.walked l.claimer) (m.knows l.claimer) l.copies.scanned l.copies.aged l.copies.old;
+      scans : Scans m.walked m.knows m.is_full l.spaces.spaces l.initial.claimer l.claimer l.copies.scanned l.copies.aged l.copies.old (Ok (tt {0}));
       at : l.copies.scanned ≡ l.initial.copies.scanned + l.i;
     }

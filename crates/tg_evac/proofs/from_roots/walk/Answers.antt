@@ -1,4 +1,4 @@
-use Rattle.std.proofs.Common.{◌≡◌, ◌∙◌, List, sym, subst}
+use Rattle.std.proofs.Common.{List, sym, subst}
 use Rattle.std.specs.List.{All, Contains}
 use Rattle.std.proofs.lemmas.List.{take_all}
 use Rattle.std.proofs.lemmas.List.Elements.{All-nil, Contains-get_or}
@@ -6,10 +6,9 @@ use Rattle.tg_space.specs.Targets.{from_space, all_root_targets}
 use Rattle.tg_space.specs.declared.kind.Kind.{Kind}
 use Rattle.tg_space.specs.declared.root.Root.{Root}
 use Rattle.tg_space.specs.declared.root.Root.TheVariants.{Row}
-use Rattle.tg_evac.specs.declared.fault.CollectFault.TheVariants.{HeapFull}
 use Rattle.tg_evac.specs.declared.win.Win.{Win}
 use Rattle.tg_evac.specs.Claims.{AreTraced}
-use Rattle.tg_evac.proofs.Passing.{kept_still, passed_on}
+use Rattle.tg_evac.proofs.Passing.{goes_refused, walk_still}
 use Rattle.tg_evac.proofs.Pieces.{met_root, ok_always}
 use Rattle.tg_evac.proofs.Walking.{still_met, wins_none, wins_then}
 use Rattle.tg_evac.proofs.from_roots.walk.Goals as goal
@@ -43,35 +42,47 @@ returns-in_err-walk_root-clause-traced g c all held traced =
     let m = g.C.Claimer in let h = c.args.spaces.now.spaces in let i = c.loop-root.root-index in
     subst (λ (k : Kind). AreTraced k h all (m.walked c.loop-root.claimer).won → AreTraced k h all (m.walked c.walk_root.new.claimer).won) c.loop-root.invariant.keeps.same_kind (c.walk_root.ensures.traced all (held _ (Contains-get_or c.args.roots.now i no_root c.loop-root-test.true))) (c.loop-root.invariant.traced all held traced)
 
-pub returns-in_err-walk_root-clause-keeps : goal.returns-in_err-walk_root-clause-keeps
-returns-in_err-walk_root-clause-keeps g c = wins_then c.loop-root.invariant.keeps c.walk_root.ensures.keeps
+pub returns-in_err-walk_root-clause-goes : goal.returns-in_err-walk_root-clause-goes
+returns-in_err-walk_root-clause-goes g c =
+    let m = g.C.Claimer in
+    goes_refused m.walked m.knows m.is_full c.from_residual.result _ c.from_residual.ensures.1 (wins_then c.loop-root.invariant.keeps c.walk_root.ensures.goes.keeps)
+    (λ to agrees. c.loop-root.invariant.grows to (c.walk_root.ensures.goes.grows to agrees)) c.in_err-walk_root.ensures.goes.full
 
 pub loop-root-preserved : goal.loop-root-preserved
 unfolding no_root
 loop-root-preserved g c =
     let m = g.C.Claimer in let h = c.args.spaces.now.spaces in let roots = c.args.roots.now in let i = c.loop-root.root-index in let inside = c.loop-root-test.true in
-    let one = c.loop-root.invariant.keeps in let two = c.walk_root.ensures.keeps in
+    let one = c.loop-root.invariant.keeps in let two = c.walk_root.ensures.goes.keeps in
     record {
       traced = λ all held traced.
           subst (λ (k : Kind). AreTraced k h all (m.walked c.loop-root.claimer).won → AreTraced k h all (m.walked c.walk_root.new.claimer).won) one.same_kind (c.walk_root.ensures.traced all (held _ (Contains-get_or roots i no_root inside))) (c.loop-root.invariant.traced all held traced);
       keeps = wins_then one two;
-      grows = λ to agrees. c.loop-root.invariant.grows to (c.walk_root.ensures.grows to agrees);
+      grows = λ to agrees. c.loop-root.invariant.grows to (c.walk_root.ensures.goes.grows to agrees);
       met = met_root h roots i no_root inside one two c.loop-root.invariant.met c.in_ok-walk_root.ensures.met;
       scanned = c.in_ok-walk_root.ensures.scanned;
     }
 
-pub scan-requires-clause-traced : goal.scan-requires-clause-traced
-scan-requires-clause-traced g c =
+pub scan-requires : goal.scan-requires
+scan-requires g c =
     let h = c.args.spaces.now.spaces in let all = c.requires.traced.0 in
-    (all, subst (λ (k : Kind). AreTraced k h all (g.C.Claimer.walked c.loop-root.claimer).won) (sym c.loop-root.invariant.keeps.same_kind) (c.loop-root.invariant.traced all c.requires.traced.1 c.requires.traced.2))
+    record {
+      walk = walk_still c.loop-root.invariant.keeps c.requires.walk;
+      traced = (all, subst (λ (k : Kind). AreTraced k h all (g.C.Claimer.walked c.loop-root.claimer).won) (sym c.loop-root.invariant.keeps.same_kind) (c.loop-root.invariant.traced all c.requires.traced.1 c.requires.traced.2));
+      copies = c.loop-root.invariant.scanned;
+    }
 
 pub returns-clause-traced : goal.returns-clause-traced
 returns-clause-traced g c all held traced =
     let m = g.C.Claimer in let h = c.args.spaces.now.spaces in
-    subst (λ (k : Kind). AreTraced k h all (m.walked c.loop-root.claimer).won → AreTraced k h all (m.walked c.scan.new.claimer).won) c.loop-root.invariant.keeps.same_kind (c.scan.ensures.traced all) (c.loop-root.invariant.traced all held traced)
+    subst (λ (k : Kind). AreTraced k h all (m.walked c.loop-root.claimer).won → AreTraced k h all (m.walked c.scan.new.claimer).won) c.loop-root.invariant.keeps.same_kind (c.scan.ensures.scans.traced all) (c.loop-root.invariant.traced all held traced)
 
-pub returns-clause-keeps : goal.returns-clause-keeps
-returns-clause-keeps g c = wins_then c.loop-root.invariant.keeps c.scan.ensures.keeps
+pub returns-clause-goes : goal.returns-clause-goes
+returns-clause-goes g c =
+    record {
+      keeps = wins_then c.loop-root.invariant.keeps c.scan.ensures.scans.goes.keeps;
+      grows = λ to agrees. c.loop-root.invariant.grows to (c.scan.ensures.scans.goes.grows to agrees);
+      full = c.scan.ensures.scans.goes.full;
+    }
 
 pub returns-clause-met : goal.returns-clause-met
 returns-clause-met g c =
@@ -79,19 +90,7 @@ returns-clause-met g c =
     let all = take_all c.loop-root.root-index roots c.loop-root-test.false in
     let kind = (m.walked c.args.claimer.now).kind in let h = c.args.spaces.now.spaces in
     let met = subst (λ (rs : List Root). All (Contains (m.walked c.loop-root.claimer).met) (all_root_targets (from_space kind) h rs)) all c.loop-root.invariant.met in
-    ok_always c.scan.result (still_met c.scan.ensures.keeps (all_root_targets (from_space kind) h roots) met)
+    ok_always c.scan.result (still_met c.scan.ensures.scans.goes.keeps (all_root_targets (from_space kind) h roots) met)
 
-pub walk_root-requires-clause-whole : goal.walk_root-requires-clause-whole
-walk_root-requires-clause-whole g c = c.loop-root.invariant.keeps.as_many ∙ c.requires.whole
-
-pub walk_root-requires-clause-kept : goal.walk_root-requires-clause-kept
-walk_root-requires-clause-kept g c = kept_still c.args.spaces.now.spaces c.loop-root.invariant.keeps c.requires.kept
-
-pub scan-requires-clause-whole : goal.scan-requires-clause-whole
-scan-requires-clause-whole g c = c.loop-root.invariant.keeps.as_many ∙ c.requires.whole
-
-pub scan-requires-clause-kept : goal.scan-requires-clause-kept
-scan-requires-clause-kept g c = kept_still c.args.spaces.now.spaces c.loop-root.invariant.keeps c.requires.kept
-
-pub returns-in_err-walk_root-clause-full : goal.returns-in_err-walk_root-clause-full
-returns-in_err-walk_root-clause-full g c = passed_on c.from_residual.result (λ fault. fault ≡ HeapFull → g.C.Claimer.is_full c.walk_root.new.claimer) _ c.from_residual.ensures.1 c.in_err-walk_root.ensures.full
+pub walk_root-requires-clause-walk : goal.walk_root-requires-clause-walk
+walk_root-requires-clause-walk g c = walk_still c.loop-root.invariant.keeps c.requires.walk

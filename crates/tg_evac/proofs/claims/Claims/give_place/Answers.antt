@@ -1,4 +1,4 @@
-use Rattle.std.proofs.Common.{◌≡◌, ℕ, ◌<◌, ◌≤◌, ◌+◌, ◌-◌, ◌*◌, List, [], ◌∷◌, ◌++◌, length, get_or, set, ap, ◌∙◌, subst, sym, refl, lit<, arith}
+use Rattle.std.proofs.Common.{Err, ◌≡◌, ℕ, ◌<◌, ◌≤◌, ◌+◌, ◌-◌, ◌*◌, List, [], ◌∷◌, ◌++◌, length, get_or, set, ap, ◌∙◌, subst, sym, refl, lit<, arith}
 use Rattle.std.specs.List.{Contains}
 use Rattle.std.specs.Vec.{vec_capacity}
 use Rattle.std.proofs.lemmas.List.{length_push, length-set}
@@ -8,8 +8,11 @@ use Rattle.tg_word.specs.Word.{link_to, place_in}
 use Rattle.tg_space.specs.SpaceTable.{place_in_space}
 use Rattle.tg_evac.specs.declared.win.Win.{Win}
 use Rattle.tg_evac.specs.Claims.{Claimed, HasFilledRoom, IsWinFor, wins_at}
+use Rattle.tg_evac.specs.declared.fault.CollectFault.TheVariants.{HeapFull}
 use Rattle.tg_evac.specs.Claimers.{AddsWins, walked_of}
+use Rattle.tg_evac.specs.Walks.{HasClaimed}
 use Rattle.tg_evac.proofs.Claiming.{claims_more, adds_one, full_at, place_back, wins_more, won_behind, won_length, won_others}
+use Rattle.tg_evac.proofs.Walking.{wins_none}
 use Rattle.tg_evac.proofs.claims.Claims.give_place.Goals as goal
 
 pub push_reserved-requires : goal.push_reserved-requires
@@ -19,13 +22,13 @@ push_reserved-requires c =
     let same : v ≡ c.args.self.now = c.self.view_is in
     let number = get_or inside.next space 0 in
     let w : Win = record { cell = cell; word = c.link-word.result } in
-    let low : cell < length v.forward = subst (λ (x : Claimed). cell < length x.forward) (sym same) c.requires.inside in
+    let low : cell < length v.forward = subst (λ (x : Claimed). cell < length x.forward) (sym same) c.requires.claim.inside in
     let none : get_or v.forward cell 0 ≡ 0 = subst (λ (x : Claimed). get_or x.forward cell 0 ≡ 0) (sym same) c.requires.none in
-    let late : 64 * v.plan.kept ≤ cell = subst (λ (x : Claimed). 64 * x.plan.kept ≤ cell) (sym same) c.requires.moved in
+    let late : 64 * v.plan.kept ≤ cell = subst (λ (x : Claimed). 64 * x.plan.kept ≤ cell) (sym same) c.requires.claim.moved in
     let room : number < v.plan.room = omega arith in
     let is : c.link-word.result ≡ link_to (place_in_space space number) = c.link-word.ensures in
     let next : number ≡ get_or v.next space 0 = cc in
-    let more = claims_more v c.self.invariant.0 w space number c.requires.space next low none room is in
+    let more = claims_more v c.self.invariant.0 w space number c.requires.claim.two next low none room is in
     let few = won_behind (record { plan = v.plan; forward = set v.forward w.cell w.word; won = v.won ++ w ∷ []; next = set v.next space (number + 1) }) more (64 * v.plan.kept)
     (All-push (λ (x : Win). 64 * v.plan.kept ≤ x.cell) v.won w c.self.invariant.2 late) in
     let one = length_push v.won w in let long = length-set v.forward w.cell w.word in let cap = c.self.invariant.3 in
@@ -39,10 +42,10 @@ invariant_of-self c =
     let same : v ≡ c.args.self.now = c.self.view_is in
     let number = get_or inside.next space 0 in
     let w : Win = record { cell = cell; word = c.link-word.result } in
-    let low : cell < length v.forward = subst (λ (x : Claimed). cell < length x.forward) (sym same) c.requires.inside in
+    let low : cell < length v.forward = subst (λ (x : Claimed). cell < length x.forward) (sym same) c.requires.claim.inside in
     let none : get_or v.forward cell 0 ≡ 0 = subst (λ (x : Claimed). get_or x.forward cell 0 ≡ 0) (sym same) c.requires.none in
-    let late : 64 * v.plan.kept ≤ cell = subst (λ (x : Claimed). 64 * x.plan.kept ≤ cell) (sym same) c.requires.moved in
-    let two : space < 2 = c.requires.space in
+    let late : 64 * v.plan.kept ≤ cell = subst (λ (x : Claimed). 64 * x.plan.kept ≤ cell) (sym same) c.requires.claim.moved in
+    let two : space < 2 = c.requires.claim.two in
     let room : number < v.plan.room = omega arith in
     let is : c.link-word.result ≡ link_to (place_in_space space number) = c.link-word.ensures in
     let next : number ≡ get_or v.next space 0 = cc in
@@ -52,44 +55,40 @@ invariant_of-self c =
     rw (c.push_reserved.ensures.items, c.set.ensures.words, c.set.ensures.skipped, more)
     (claims_more v c.self.invariant.0 w space number two next low none room is, c.self.invariant.1, All-push (λ (x : Win). 64 * v.plan.kept ≤ x.cell) v.won w c.self.invariant.2 late, fits)
 
-pub returns-then-self-number-clause-full : goal.returns-then-self-number-clause-full
-returns-then-self-number-clause-full c _ =
+pub returns-then-self-number : goal.returns-then-self-number
+returns-then-self-number c =
     let inside = c.self.inside in
     let v : Claimed = record { plan = inside.plan; forward = inside.forward.words; won = wins_at inside.forward.words inside.won.items; next = inside.next } in
-    let full : HasFilledRoom v = full_at v c.self.invariant.0 c.args.space c.requires.space c.if-self-number.true in
-    subst (λ (x : Claimed). HasFilledRoom x) c.self.view_is full
+    let full : HasFilledRoom v = full_at v c.self.invariant.0 c.args.space c.requires.claim.two c.if-self-number.true in
+    subst (λ (x : Claimed). HasClaimed c.args.cell c.args.space x x (Err HeapFull)) c.self.view_is
+    (record { added = wins_none (IsWinFor c.args.cell c.args.space) (walked_of v); held = tt; link = tt; full = λ _. full })
 
-pub returns-clause-held : goal.returns-clause-held
-returns-clause-held c =
-    let inside = c.self.inside in let forward = inside.forward.words in let cells = inside.won.items in
-    let w : Win = record { cell = c.args.cell; word = c.link-word.result } in
-    let low : c.args.cell < length forward = subst (λ (x : Claimed). c.args.cell < length x.forward) (sym c.self.view_is) c.requires.inside in
-    let none : get_or forward c.args.cell 0 ≡ 0 = subst (λ (x : Claimed). get_or x.forward c.args.cell 0 ≡ 0) (sym c.self.view_is) c.requires.none in
-    let more = wins_more forward cells w low (won_others forward cells c.self.invariant.0.words.stand c.args.cell none) in
-    let after : wins_at c.set.new.self.words c.push_reserved.new.self.items ≡ wins_at forward cells ++ w ∷ [] =
-    ap (λ (words : List ℕ). wins_at words c.push_reserved.new.self.items) c.set.ensures.words ∙ ap (wins_at (set forward c.args.cell c.link-word.result)) c.push_reserved.ensures.items ∙ more in
-    let here : Contains (wins_at forward cells ++ w ∷ []) w = Contains-append_right (wins_at forward cells) (w ∷ []) w (0, lit< tt, refl) in
-    subst (λ (ws : List Win). Contains ws w) (sym after) here
-
-pub returns-clause-added : goal.returns-clause-added
-returns-clause-added c =
-    let inside = c.self.inside in let cell = c.args.cell in let space = c.args.space in
+pub returns : goal.returns
+returns c =
+    let inside = c.self.inside in let cell = c.args.cell in let space = c.args.space in let forward = inside.forward.words in
     let v : Claimed = record { plan = inside.plan; forward = inside.forward.words; won = wins_at inside.forward.words inside.won.items; next = inside.next } in
     let same : v ≡ c.args.self.now = c.self.view_is in
     let number = get_or inside.next space 0 in
     let w : Win = record { cell = cell; word = c.link-word.result } in
-    let low : cell < length v.forward = subst (λ (x : Claimed). cell < length x.forward) (sym same) c.requires.inside in
+    let low : cell < length v.forward = subst (λ (x : Claimed). cell < length x.forward) (sym same) c.requires.claim.inside in
     let none : get_or v.forward cell 0 ≡ 0 = subst (λ (x : Claimed). get_or x.forward cell 0 ≡ 0) (sym same) c.requires.none in
     let room : number < v.plan.room = omega arith in
     let few = c.self.invariant.0.room in
     let is : c.link-word.result ≡ link_to (place_in_space space number) = c.link-word.ensures in
     let next : number ≡ get_or v.next space 0 = cc in
-    let to : IsWinFor cell space w = record { number = refl; to = ap (λ (n : ℕ). (place_in n).space) is ∙ ap (λ (p : Place). p.space) (place_back space number c.requires.space (omega arith)) } in
-    let one = adds_one v c.self.invariant.0 w space number c.requires.space next low none room is (IsWinFor cell space) to in
+    let back : place_in c.link-word.result ≡ place_in_space space number = ap place_in is ∙ place_back space number c.requires.claim.two (omega arith) in
+    let to : IsWinFor cell space w = record { number = refl; to = ap (λ (n : ℕ). (place_in n).space) is ∙ ap (λ (p : Place). p.space) (place_back space number c.requires.claim.two (omega arith)) } in
+    let one = adds_one v c.self.invariant.0 w space number c.requires.claim.two next low none room is (IsWinFor cell space) to in
     let more = wins_more v.forward inside.won.items w low (won_others v.forward inside.won.items c.self.invariant.0.words.stand cell none) in
     let held : wins_at c.set.new.self.words c.push_reserved.new.self.items ≡ v.won ++ w ∷ [] =
     ap (λ (words : List ℕ). wins_at words c.push_reserved.new.self.items) c.set.ensures.words ∙ ap (wins_at (set v.forward cell c.link-word.result)) c.push_reserved.ensures.items ∙ more in
     let after : List Win → List ℕ → Claimed = λ (won : List Win) (forward : List ℕ). record { plan = v.plan; forward = forward; won = won; next = set v.next space (number + 1) } in
     let first = subst (λ (won : List Win). AddsWins (IsWinFor cell space) (walked_of v) (walked_of (after won (set v.forward cell c.link-word.result)))) (sym held) one in
     let then = subst (λ (forward : List ℕ). AddsWins (IsWinFor cell space) (walked_of v) (walked_of (after (wins_at c.set.new.self.words c.push_reserved.new.self.items) forward))) (sym c.set.ensures.words) first in
-    subst (λ (x : Claimed). AddsWins (IsWinFor cell space) (walked_of x) (walked_of (after (wins_at c.set.new.self.words c.push_reserved.new.self.items) c.set.new.self.words))) same then
+    let here : Contains (v.won ++ w ∷ []) w = Contains-append_right v.won (w ∷ []) w (0, lit< tt, refl) in
+    record {
+      added = subst (λ (x : Claimed). AddsWins (IsWinFor cell space) (walked_of x) (walked_of (after (wins_at c.set.new.self.words c.push_reserved.new.self.items) c.set.new.self.words))) same then;
+      held = subst (λ (ws : List Win). Contains ws w) (sym held) here;
+      link = is ∙ ap link_to (sym back);
+      full = tt;
+    }

@@ -1,7 +1,6 @@
 use Rattle.std.proofs.Common.{◌≡◌, List, ℕ, length, subst, arith, ◌∙◌}
-use Rattle.std.specs.List.{All, Contains}
-use Rattle.std.specs.Result.{OnOk}
 use Rattle.tg_space.specs.Targets.{from_space, named_by, pointers_of}
+use Rattle.tg_evac.specs.Walks.{ClaimsAll}
 use Rattle.tg_evac.proofs.Pushing.{one_copied, still_open, read_last}
 use Rattle.tg_evac.proofs.new_blocks.NewBlocks.push_copy.Goals as goal
 
@@ -10,15 +9,15 @@ invariant_of-self-2 g c =
     let last = c.make_room.new.last.items in
     let at : c.len-at.result ≡ length last = omega (arith, c.len-at.ensures, c.make_room.new.last.ok) in
     let items = c.push_reserved.new.self.items in
-    let fits = still_open last items c.args.words.now c.len-at.result at c.push_reserved.ensures.items c.move_cell.new.cell c.make_room.ensures.fits c.in_ok-make_room.ensures.ready c.move_cell.ensures.long in
-    (c.make_room.ensures.space, fits, omega (arith, c.make_room.ensures.cells, c.push_reserved.ensures.capacity))
+    let fits = still_open last items c.args.words.now c.len-at.result at c.push_reserved.ensures.items c.move_cell.new.cell c.make_room.ensures.open.fits c.in_ok-make_room.ensures.ready c.move_cell.ensures.long in
+    (c.make_room.ensures.open.space, fits, omega (arith, c.make_room.ensures.open.cells, c.push_reserved.ensures.capacity))
 
-pub returns-clause-met : goal.returns-clause-met
-returns-clause-met g c =
-    let m = g.C.Claimer in
+pub returns-clause-claims : goal.returns-clause-claims
+returns-clause-claims g c =
+    let m = g.C.Claimer in let h = c.args.spaces.now.spaces in let from = from_space (m.walked c.args.claimer.now).kind in
     let at : c.len-at.result ≡ length c.make_room.new.last.items = omega (arith, c.len-at.ensures, c.make_room.new.last.ok) in
     let same = read_last c.make_room.new.last.items c.push_reserved.new.self.items c.args.words.now c.len-at.result at c.push_reserved.ensures.items c.index_mut.result.now in
-    subst (λ (ws : List ℕ). OnOk c.move_cell.result (All (Contains (m.walked c.move_cell.new.claimer).met) (named_by (from_space (m.walked c.args.claimer.now).kind) c.args.spaces.now.spaces (pointers_of ws)))) (c.index_mut.ensures.value ∙ same) c.move_cell.ensures.met
+    subst (λ (ws : List ℕ). ClaimsAll m.walked m.knows m.is_full h c.args.straight (named_by from h (pointers_of ws)) c.args.claimer.now c.move_cell.new.claimer c.move_cell.result) (c.index_mut.ensures.value ∙ same) c.move_cell.ensures.claims
 
 pub returns-clause-copied : goal.returns-clause-copied
 returns-clause-copied g c =

@@ -1,0 +1,83 @@
+-- What a walk over the cells is handed, and what its steps promise, whatever table of claims it has: what the table has won,
+-- what is known of it, and what it tells where it is full, are told by three functions of the table.
+use Rattle.std.specs.Prelude.{◌≡◌, ℕ, ◌*◌, ◌<◌, ◌≤◌, Bool, List, length, Result, IfErr, IfOk, OnOk}
+use Rattle.std.specs.List.{All, Contains}
+use Rattle.tg_word.specs.declared.Place.{Place}
+use Rattle.tg_word.specs.Word.{place_in}
+use Rattle.tg_space.specs.SpaceList.{SpaceList, cells_of}
+use Rattle.tg_space.specs.SpaceTable.{kept_blocks}
+use Rattle.tg_space.specs.declared.kind.Kind.{Kind}
+use Rattle.tg_space.specs.declared.root.Root.{Root}
+use Rattle.tg_evac.specs.declared.fault.CollectFault.{CollectFault}
+use Rattle.tg_evac.specs.declared.fault.CollectFault.TheVariants.{HeapFull}
+use Rattle.tg_evac.specs.Claims.{AreTraced, Claimed, HasFilledRoom, HavePointers, IsClaimOf, IsWinFor}
+use Rattle.tg_evac.specs.Claimers.{AddsWins, AreScanned, IsLink, KeepsWins, KnowsMore, Walked, walked_of}
+
+-- ---- the claim of a cell
+
+-- the cell is one of those that are moved, and its new place is to be in Old or in Aged
+pub record MayClaim {Fixed : Type 0} (w : Walked Fixed) (cell space : ℕ) : Type 0 where
+  pub inside : cell < w.cells
+  pub moved : 64 * w.kept ≤ cell
+  pub two : space < 2
+
+-- the cell has a place, whose word is answered: a new one in the space, unless it had one
+pub record ClaimsCell {Table Fixed : Type 0} (walked : Table → Walked Fixed) (knows : Table → (ℕ → Place) → Type 0) (is_full : Table → Type 0)
+    (cell space : ℕ) (before after : Table) (result : Result ℕ CollectFault) : Type 0 where
+  pub added : AddsWins (IsWinFor cell space) (walked before) (walked after)
+  pub grows : KnowsMore (knows before) (knows after)
+  pub met : OnOk result (Contains (walked after).met cell)
+  pub known : IfOk result (λ word. (to : ℕ → Place) → knows after to → to cell ≡ place_in word)
+  pub link : IfOk result IsLink
+  pub full : IfErr result (λ fault. fault ≡ HeapFull → is_full after)
+
+-- the plain table has a pair of the cell with the word that is answered
+pub record HasClaimed (cell space : ℕ) (before after : Claimed) (result : Result ℕ CollectFault) : Type 0 where
+  pub added : AddsWins (IsWinFor cell space) (walked_of before) (walked_of after)
+  pub held : IfOk result (λ word. Contains after.won (record { cell = cell; word = word }))
+  pub link : IfOk result IsLink
+  pub full : IfErr result (λ fault. fault ≡ HeapFull → HasFilledRoom after)
+
+-- ---- the claims of what a cell or a root names
+
+-- the table is for a collection of this kind, of these spaces
+pub record IsTableFor {Fixed : Type 0} (kind : Kind) (h : SpaceList) (w : Walked Fixed) : Type 0 where
+  pub same : w.kind ≡ kind
+  pub whole : w.cells ≡ length (cells_of h)
+  pub kept : w.kept ≡ kept_blocks w.kind h
+
+-- and what the cells name may be claimed
+pub record MayWalk {Fixed : Type 0} (kind : Kind) (h : SpaceList) (w : Walked Fixed) : Type 0 where
+  pub pointers : HavePointers h
+  pub table : IsTableFor kind h w
+
+-- these cells have places, to which they go straight or not, and nothing else was claimed
+pub record ClaimsAll {Table Fixed T : Type 0} (walked : Table → Walked Fixed) (knows : Table → (ℕ → Place) → Type 0) (is_full : Table → Type 0)
+    (h : SpaceList) (straight : Bool) (cells : List ℕ) (before after : Table) (result : Result T CollectFault) : Type 0 where
+  pub added : AddsWins (IsClaimOf h straight cells) (walked before) (walked after)
+  pub grows : KnowsMore (knows before) (knows after)
+  pub met : OnOk result (All (Contains (walked after).met) cells)
+  pub full : IfErr result (λ fault. fault ≡ HeapFull → is_full after)
+
+-- ---- the scan of what was won
+
+-- what was won till now is traced from roots, and so many of the won cells were scanned
+pub record IsUnderWay {Table Fixed : Type 0} (walked : Table → Walked Fixed) (knows : Table → (ℕ → Place) → Type 0)
+    (kind : Kind) (h : SpaceList) (table : Table) (scanned : ℕ) (aged old : List (List ℕ)) : Type 0 where
+  pub walk : MayWalk kind h (walked table)
+  pub traced : (roots : List Root) × AreTraced (walked table).kind h roots (walked table).won
+  pub copies : AreScanned h (walked table) (knows table) scanned aged old
+
+-- more was won, and nothing that is known is forgotten
+pub record GoesOn {Table Fixed T : Type 0} (walked : Table → Walked Fixed) (knows : Table → (ℕ → Place) → Type 0) (is_full : Table → Type 0)
+    (before after : Table) (result : Result T CollectFault) : Type 0 where
+  pub keeps : KeepsWins (walked before) (walked after)
+  pub grows : KnowsMore (knows before) (knows after)
+  pub full : IfErr result (λ fault. fault ≡ HeapFull → is_full after)
+
+-- and it is traced from the roots from which what was won before is; then so many are scanned
+pub record Scans {Table Fixed T : Type 0} (walked : Table → Walked Fixed) (knows : Table → (ℕ → Place) → Type 0) (is_full : Table → Type 0)
+    (h : SpaceList) (before after : Table) (scanned : ℕ) (aged old : List (List ℕ)) (result : Result T CollectFault) : Type 0 where
+  pub goes : GoesOn walked knows is_full before after result
+  pub traced : (roots : List Root) → AreTraced (walked before).kind h roots (walked before).won → AreTraced (walked before).kind h roots (walked after).won
+  pub copies : OnOk result (AreScanned h (walked after) (knows after) scanned aged old)
