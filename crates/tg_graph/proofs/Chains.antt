@@ -1,8 +1,8 @@
 -- Chains of chunks, and rows: an object and the chunks to which its link leads.
 use Rattle.std.proofs.Common.{◌≡◌, ◌≢◌, ℕ, zero, suc, ◌<◌, ◌≤◌, ◌-◌, ◌⊎◌, ◌==◌, inl, inr, true, false, List, [], ◌∷◌, length, get_or, map, refl, sym, ap, subst, arith, ◌∙◌, ⊎_elim}
 use Rattle.std.specs.List.{All, IsDistinct, flat_map, list_any}
-use Rattle.std.proofs.lemmas.Bool.{cases_Bool}
-use Rattle.std.proofs.lemmas.Bool.Decides.{nat_tests, eqb_tells}
+use Rattle.std.proofs.lemmas.Bool.{cases_Bool, eqb-true}
+use Rattle.std.proofs.lemmas.Bool.Decides.{eqb_tells}
 use Rattle.std.proofs.lemmas.List.{get_or-map, length-map}
 use Rattle.std.proofs.lemmas.List.Elements.{All-nil, All-cons, All-head, All-tail, All-append}
 use Rattle.std.proofs.lemmas.Map.Keys.{IsDistinct-from_apart}
@@ -94,7 +94,7 @@ below_from_any (x ∷ xs) n all q has = by_test (cases_Bool (q == x)) (below_fro
     by_test : ((q == x) ≡ true) ⊎ ((q == x) ≡ false) → (list_any (λ y. q == y) xs ≡ true → q < n) → q < n
     by_test (inl t) _ =
         let low : x < n = All-head (λ y. y < n) x xs all in
-        let same : q ≡ x = grind (arith, nat_tests) in
+        let same : q ≡ x = eqb-true q x t in
         omega arith
     by_test (inr f) rest = rest (rw f at has)
 

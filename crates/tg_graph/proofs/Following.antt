@@ -95,12 +95,12 @@ module _ {new : SpaceTable} {from : Place} {name : ℕ} {spot : Spot} {note : Op
   pub empty_absent : (q : Place) (i : ℕ) → spot ≡ Empty q i → place_number row.names name ≡ None
   empty_absent q i is =
       let b = at_spot (Empty q i) is in
-      filled_absent b.old b.put.table b.put.payloads b.put.graph from b.put.object name (Empty q i) b.put.found tt row.names row.cells.items b.index
+      filled_absent b.old b.put.table b.put.payloads b.put.graph from b.put.object name q i b.put.found row.names row.cells.items b.index
 
   pub empty_vacant : (q : Place) (i : ℕ) → spot ≡ Empty q i → HasVacant row.names
   empty_vacant q i is =
       let b = at_spot (Empty q i) is in
-      filled_vacant b.old b.put.table b.put.payloads b.put.graph from b.put.object name (Empty q i) b.put.found tt row.names row.cells.items b.index
+      filled_vacant b.old b.put.table b.put.payloads b.put.graph from b.put.object name q i b.put.found row.names row.cells.items b.index
 
   pub index_filled : (q : Place) (i : ℕ) → spot ≡ Empty q i → (u : Slots) → u.len ≡ row.names.len →
       ((slots later : ℕ → Option ℕ) (n : ℕ) → IsIndexOf row.names slots → IsFirstVacant slots row.names.len (Some n) → PutsAt slots later n (Some name) → IsIndexOf u later) → IsRowIndex new.spaces from u row.cells.items
@@ -108,7 +108,7 @@ module _ {new : SpaceTable} {from : Place} {name : ℕ} {spot : Spot} {note : Op
       let b = at_spot (Empty q i) is in
       let put = b.put in
       subst (λ (t : SpaceTable). IsRowIndex t.spaces from u row.cells.items) (sym put.put)
-      (filled_index b.old put.table put.payloads put.graph from put.object name (Empty q i) put.found tt put.space put.left put.nursery put.to put.target.object put.target.named put.rights put.some row.names row.cells.items b.index u len puts)
+      (filled_index b.old put.table put.payloads put.graph from put.object name q i put.found put.space put.left put.nursery put.to put.target.object put.target.named put.rights put.some row.names row.cells.items b.index u len puts)
 
   -- a chunk came to the end of the row, with a reference
   pub full_lacks : (last : Place) → spot ≡ Full last → place_number row.names name ≡ None

@@ -30,9 +30,9 @@ pub either_way : {T E A B C : Type 0} (r : Result T E) → OnOk r A → OnErr r 
 either_way (Ok x) done refused f g = f done
 either_way (Err e) done refused f g = g refused
 
-pub always_err : {T E A : Type 0} (r : Result T E) → A → OnErr r A
-always_err (Ok x) a = tt
-always_err (Err e) a = a
+pub always_ok : {T E A : Type 0} (r : Result T E) → A → OnOk r A
+always_ok (Ok x) a = a
+always_ok (Err e) a = tt
 
 pub error_gives : {T E A B : Type 0} (r : Result T E) → (A → B) → OnErr r A → OnErr r B
 error_gives (Ok x) gives a = tt

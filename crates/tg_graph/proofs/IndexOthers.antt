@@ -32,5 +32,5 @@ module _ (t : SpaceTable) (table : IsSpaceTable t) (payloads : Payloads) (graph 
       let reference = reference_found t.spaces p name q i found in
       let sound = (put_becomes t table payloads graph p object name (Reference q i) found space left nursery to target named rights some).graph.sound in
       other_index t.spaces payloads (table_list t table) graph p q i (widened (get_or (cell_at t.spaces q) i 0) rights) object reference.cell (reference.from, reference.to) sound r at other s places index
-  others_put (Empty q i) found left = filled_others t table payloads graph p object name (Empty q i) found tt space left nursery to target named rights some r s places other at index
+  others_put (Empty q i) found left = filled_others t table payloads graph p object name q i found space left nursery to target named rights some r s places other at index
   others_put (Full last) found left = full_others t table payloads graph p object name last found space left nursery to target named rights some r s places other at index

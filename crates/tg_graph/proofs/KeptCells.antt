@@ -1,8 +1,8 @@
 -- The cells that a collection keeps: each stands at its new place, or where it was, with its references and its link moved.
-use Rattle.std.proofs.Common.{◌≡◌, ◌≢◌, ℕ, ◌<◌, ◌≤◌, ◌+◌, ◌-◌, ◌^◌, ◌/◌, ◌⊎◌, ◌==◌, Bool, true, false, List, [], length, get_or, take, drop, map, refl, sym, ap, subst, arith, ◌∙◌, inl, inr, lit<, ⊎_elim, if◌then◌else◌, IsTrue}
+use Rattle.std.proofs.Common.{[], ◌≡◌, ◌≢◌, ℕ, ◌<◌, ◌≤◌, ◌+◌, ◌-◌, ◌^◌, ◌/◌, ◌⊎◌, ◌==◌, Bool, true, false, List, length, get_or, take, drop, map, refl, sym, ap, subst, arith, ◌∙◌, inl, inr, lit<, ⊎_elim, if◌then◌else◌, IsTrue}
 use Rattle.std.specs.List.{All, Contains}
 use Rattle.std.proofs.lemmas.List.{get_or_append_left, get_or-append_right, get_or-take, get_or-drop, get_or-map, length-take, length-take-le, length-drop, drop_at, take-map, length-map}
-use Rattle.std.proofs.lemmas.List.Elements.{All-get_or, All-take, All-from_get_or, Contains-get_or}
+use Rattle.std.proofs.lemmas.List.Elements.{All-take, All-from_get_or, Contains-get_or}
 use Rattle.std.proofs.lemmas.Bool.Decides.{nat_tests, eqb_tells}
 use Rattle.tg_rights.specs.RightSet.{is_none_held}
 use Rattle.tg_word.specs.declared.Place.{Place}
@@ -11,15 +11,16 @@ use Rattle.tg_word.proofs.Packing.{place_in-word_at, rights_in-word_at, is_prese
 use Rattle.tg_block.specs.Cells.{kind_of, free_cell}
 use Rattle.tg_block.specs.declared.CellKind.{CellKind}
 use Rattle.tg_block.specs.declared.CellKind.TheVariants.{Object, Chunk, Bad}
-use Rattle.tg_space.specs.SpaceList.{SpaceList, IsSpace, IsSpaceList, Holds, cell_at}
+use Rattle.tg_space.specs.SpaceList.{SpaceList, IsSpaceList, Holds, cell_at}
 use Rattle.tg_space.specs.Targets.{first_pointer, pointers_of, moved_word, image_of}
 use Rattle.tg_space.specs.Soundness.{AreSound, HasLayout, HasLayoutOf, IsKindAt, IsReference, RefersTo, IsLink, LinksTo, IsPointer, NamesCell}
 use Rattle.tg_space.specs.Rows.{link_of, link_at}
 use Rattle.tg_space.proofs.Pointing.{pointers_from_layout}
 use Rattle.tg_graph.specs.Rows.{name_at, key_at, references_of}
 use Rattle.tg_graph.specs.Kept.{moved_place}
-use Rattle.tg_graph.proofs.Places.{cell_long, layout_at, links_apart, sound_from_places}
+use Rattle.tg_graph.proofs.Places.{cell_long, layout_at, links_apart, sound_from_places, held_place}
 use Rattle.tg_graph.proofs.Layouts.{KindCases, is_free, is_object, is_chunk, is_bad, kind_cases, object_tagged, chunk_tagged, free_zero, references_of_object, references_of_chunk, references_at, link_held, present_word, same_link}
+use Rattle.std.proofs.lemmas.Bool.{ne_eqb}
 
 -- ---- the copy of a cell, word by word
 
@@ -91,8 +92,8 @@ word_moved from h to word ne present inside = record {
 }
   where
     by_space : (b : Bool) → from (place_in word).space ≡ b → moved_word from h to word ≡ word_at (rights_in word) (moved_place from h to (place_in word))
-    by_space true f = let t : (word == 0) ≡ false = grind (arith, nat_tests) in rw (t, f) refl
-    by_space false f = let t : (word == 0) ≡ false = grind (arith, nat_tests) in rw (t, f) (sym (present_word word present))
+    by_space true f = let t : (word == 0) ≡ false = ne_eqb word 0 ne in rw (t, f) refl
+    by_space false f = let t : (word == 0) ≡ false = ne_eqb word 0 ne in rw (t, f) (sym (present_word word present))
 
     same : moved_word from h to word ≡ word_at (rights_in word) (moved_place from h to (place_in word))
     same = by_space (from (place_in word).space) refl
@@ -116,13 +117,6 @@ pub record Moves (from : ℕ → Bool) (h after : SpaceList) (to : ℕ → Place
   pub apart : (p q : Place) → kept p → kept q → moved_place from h to p ≡ moved_place from h to q → p ≡ q
   pub rest : (q : Place) → Holds after q → (cell_at after q ≡ free_cell) ⊎ ((p : Place) × kept p × (moved_place from h to p ≡ q))
 
--- each number of the place of a held cell is in its range
-pub held_in_range : (h : SpaceList) → IsSpaceList h → (p : Place) → Holds h p → IsPlace p
-held_in_range h is p holds =
-    let space = (All-get_or IsSpace h p.space [] holds.space is.spaces).0 in
-    let few = is.few in
-    record { space = let low = holds.space in omega arith; block = let low = holds.block in omega arith; cell = holds.cell }
-
 module _ {from : ℕ → Bool} {h after : SpaceList} {to : ℕ → Place} {kept : Place → Type 0} (move : Moves from h after to kept) where
   -- a word of a kept cell names a kept cell, if any
   abbrev pub IsKeptWord : ℕ → Type 0
@@ -140,7 +134,7 @@ module _ {from : ℕ → Bool} {h after : SpaceList} {to : ℕ → Place} {kept 
       let pointer : IsPointer h word = pointers_from_layout h (cell_at h p) (kept_long p keep) (kept_layout p keep) k d inside in
       let target : kept (place_in word) = move.closed p keep word (Contains-get_or (pointers_of (cell_at h p)) k d inside) ne in
       let present : IsTrue (is_present word) = ⊎_elim (λ z. absurd (ne z)) (λ (names : NamesCell h word). names.present) pointer in
-      (target, word_moved from h to word ne present (held_in_range after move.whole_after (moved_place from h to (place_in word)) (move.stands (place_in word) target)))
+      (target, word_moved from h to word ne present (held_place after move.whole_after (moved_place from h to (place_in word)) (move.stands (place_in word) target)))
 
   -- the kinds of kept cells
   pub kept_kind : (p : Place) → kept p → (kind_of (cell_at h p) ≡ Object) ⊎ (kind_of (cell_at h p) ≡ Chunk)

@@ -1,8 +1,7 @@
 -- A collection that keeps what is named leaves the cells of a graph: that of the kept objects, with their labels and values.
-use Rattle.std.proofs.Common.{◌≡◌, ◌≢◌, ℕ, ◌⊎◌, ◌↔◌, ◌==◌, ◌&&◌, not, Bool, true, false, List, [], ◌∷◌, length, Option, IsSome, refl, sym, ap, subst, arith, ◌∙◌, inl, inr, ⊎_elim}
+use Rattle.std.proofs.Common.{◌≡◌, ◌≢◌, ℕ, ◌⊎◌, ◌↔◌, ◌==◌, ◌&&◌, not, Bool, true, false, List, [], ◌∷◌, length, Option, IsSome, refl, sym, ap, subst, ◌∙◌, inl, inr, ⊎_elim}
 use Rattle.std.specs.List.{Contains, IsDistinct}
-use Rattle.std.proofs.lemmas.Bool.{cases_Bool, and_parts}
-use Rattle.std.proofs.lemmas.Bool.Decides.{nat_tests}
+use Rattle.std.proofs.lemmas.Bool.{cases_Bool, and_parts, eqb-true}
 use Rattle.std.proofs.lemmas.List.Elements.{All-contains}
 use Rattle.tg_rights.specs.RightSet.{is_none_held}
 use Rattle.tg_model.specs.Graph.{HasEdge}
@@ -41,7 +40,7 @@ rights_given h name (w ∷ words) e = by_test (cases_Bool (not (w == 0) && (name
         let both = and_parts (not (w == 0)) (name_in h w == name) t in
         let one : not (w == 0) ≡ true = both.0 in
         let two : (name_in h w == name) ≡ true = both.1 in
-        record { word = w; among = Contains-here w words; some = λ z. let zero_test : not (0 == 0) ≡ true = subst (λ (x : ℕ). not (x == 0) ≡ true) z one in let no : false ≡ true = zero_test in absurd cc; named = grind (arith, nat_tests) }
+        record { word = w; among = Contains-here w words; some = λ z. let zero_test : not (0 == 0) ≡ true = subst (λ (x : ℕ). not (x == 0) ≡ true) z one in let no : false ≡ true = zero_test in absurd cc; named = eqb-true (name_in h w) name two }
     by_test (inr f) again =
         let rest = again (rw f at e) in
         record { word = rest.word; among = Contains-more w words rest.word rest.among; some = rest.some; named = rest.named }

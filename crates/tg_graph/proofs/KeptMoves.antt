@@ -1,5 +1,5 @@
 -- A collection of either kind moves the cells that it keeps, once the remembered cells were written.
-use Rattle.std.proofs.Common.{◌≡◌, ◌≢◌, ◌↔◌, ℕ, zero, suc, ◌<◌, ◌⊎◌, ◌==◌, ◌++◌, Bool, true, false, List, [], ◌∷◌, length, get_or, take, drop, map, refl, sym, ap, subst, arith, ◌∙◌, inl, inr, ⊎_elim}
+use Rattle.std.proofs.Common.{[], ◌≡◌, ◌≢◌, ◌↔◌, ℕ, zero, suc, ◌<◌, ◌⊎◌, ◌==◌, ◌++◌, Bool, true, false, List, ◌∷◌, length, get_or, take, drop, map, refl, sym, ap, subst, arith, ◌∙◌, inl, inr, ⊎_elim}
 use Rattle.std.specs.List.{All, Contains}
 use Rattle.std.proofs.lemmas.Bool.{cases_eq, cases_Bool}
 use Rattle.std.proofs.lemmas.Bool.Decides.{eqb_tells}
@@ -26,9 +26,9 @@ use Rattle.tg_payload.specs.Table.{Payloads}
 use Rattle.tg_graph.specs.Heap.{IsGraph}
 use Rattle.tg_graph.specs.Kept.{IsKept, moved_place}
 use Rattle.tg_graph.proofs.Members.{Contains-flat_map, Contains-here, Contains-more}
-use Rattle.tg_graph.proofs.Places.{cell_long, layout_at}
+use Rattle.tg_graph.proofs.Places.{cell_long, layout_at, held_place}
 use Rattle.tg_graph.proofs.Layouts.{KindCases, is_free, is_object, is_chunk, is_bad, kind_cases, object_tagged, chunk_tagged, free_zero}
-use Rattle.tg_graph.proofs.KeptCells.{Moves, held_in_range}
+use Rattle.tg_graph.proofs.KeptCells.{Moves}
 use Rattle.tg_graph.proofs.KeptTargets.{IsWholeRoot, IsInFrom, next_target, reached_in_from, target_held, target_of_word}
 use Rattle.tg_graph.proofs.KeptAdopted.{adopted_cases, new_apart, stays_cell, stays_held, young_moves}
 
@@ -232,7 +232,7 @@ module _ (kind : Kind) (h after : SpaceList) (payloads : Payloads) (whole : IsSp
 
       by_search : IsNewPlace kind h aged old q → ((c : ℕ) × (c < length (cells_of h)) × (get_or forward c 0 ≡ link_to q)) ⊎ ((c : ℕ) → c < length (cells_of h) → get_or forward c 0 ≢ link_to q) →
           (cell_at after q ≡ free_cell) ⊎ ((a : Place) × IsKept kind h forward a × (moved_place from h to a ≡ q))
-      by_search new (inl (c, low, link)) = found (held_in_range after now.whole q holds) c low link
+      by_search new (inl (c, low, link)) = found (held_place after now.whole q holds) c low link
       by_search new (inr none) = inl (new_cell q new ∙ is.rest q new none)
 
       by_place : (Holds h q × (from q.space ≡ false)) ⊎ IsNewPlace kind h aged old q → (cell_at after q ≡ free_cell) ⊎ ((a : Place) × IsKept kind h forward a × (moved_place from h to a ≡ q))

@@ -20,10 +20,10 @@ use Rattle.tg_payload.specs.Table.{entry}
 use Rattle.tg_graph.specs.declared.index.IndexedRow.{IndexedRow}
 use Rattle.tg_graph.specs.declared.settle.Rewritten.{Rewritten}
 use Rattle.tg_graph.specs.Heap.{HeapState, IsWellFormed, roots_of}
-use Rattle.tg_graph.specs.Kept.{AreWritten, Drops, IsDeadKey, moved_place, rewritten_at}
+use Rattle.tg_graph.specs.Kept.{AreWritten, Drops, IsDeadKey, moved_place, rewritten_at, ArePlaced}
 use Rattle.tg_graph.proofs.KeptAdopted.{adopted_length}
 use Rattle.tg_graph.proofs.KeptDropped.{dead_some, dropped_keeps, drops_same}
-use Rattle.tg_graph.proofs.KeptHeap.{AreIndexesFollowed, ArePlaced, IsLeft, forward_in_range, left_by}
+use Rattle.tg_graph.proofs.KeptHeap.{AreIndexesFollowed, IsLeft, forward_in_range, left_by}
 use Rattle.tg_graph.proofs.KeptWritten.{after_adopted, after_written, cells_held}
 
 -- the items of a list that were mapped in place

@@ -14,6 +14,7 @@ use Rattle.tg_space.specs.Rows.{link_of, link_at}
 use Rattle.tg_space.specs.declared.root.Root.{Root}
 use Rattle.tg_graph.specs.Rows.{references_of}
 use Rattle.tg_graph.proofs.Places.{layout_at}
+use Rattle.std.proofs.lemmas.Bool.{eqb-true}
 
 -- ---- words
 
@@ -49,8 +50,8 @@ kind_cases words = by_tests (get_or words 0 0 == 0) refl (all_are_zero words) re
     by_tests : (z : Bool) → (get_or words 0 0 == 0) ≡ z → (a : Bool) → all_are_zero words ≡ a → (o : Bool) → (get_or words 0 0 == 1) ≡ o → (k : Bool) → (get_or words 0 0 == 2) ≡ k → KindCases words
     by_tests true z true a _ _ _ _ = is_free (rw (z, a) refl) a
     by_tests true z false a _ _ _ _ = is_bad (rw (z, a) refl)
-    by_tests false z _ _ true o _ _ = is_object (rw (z, o) refl) (grind (arith, nat_tests))
-    by_tests false z _ _ false o true k = is_chunk (rw (z, o, k) refl) (grind (arith, nat_tests))
+    by_tests false z _ _ true o _ _ = is_object (rw (z, o) refl) (eqb-true (get_or words 0 0) 1 o)
+    by_tests false z _ _ false o true k = is_chunk (rw (z, o, k) refl) (eqb-true (get_or words 0 0) 2 k)
     by_tests false z _ _ false o false k = is_bad (rw (z, o, k) refl)
 
 -- each word of a free cell is 0

@@ -1,5 +1,5 @@
 -- What the steps of an opening make of its cells.
-use Rattle.std.proofs.Common.{◌≡◌, ◌≢◌, ◌↔◌, ℕ, zero, suc, ◌+◌, ◌*◌, ◌<◌, ◌≤◌, ◌⊎◌, inl, inr, ◌==◌, ◌&&◌, Bool, true, false, cond, if◌then◌else◌, List, [], ◌∷◌, ◌++◌, length, get_or, replicate, set, take, drop, Option, Some, None, IsSome, refl, sym, ap, subst, arith, ◌∙◌, ⊎_elim, drop-cons, length-take, add-one}
+use Rattle.std.proofs.Common.{[], ◌≡◌, ◌≢◌, ◌↔◌, ℕ, zero, suc, ◌+◌, ◌*◌, ◌<◌, ◌≤◌, ◌⊎◌, inl, inr, ◌==◌, ◌&&◌, Bool, true, false, cond, if◌then◌else◌, List, ◌∷◌, ◌++◌, length, get_or, replicate, set, take, drop, Option, Some, None, IsSome, refl, sym, ap, subst, arith, ◌∙◌, ⊎_elim, drop-cons, length-take, add-one}
 use Rattle.std.specs.Prelude.{nat_lt, slice_get, slice_index, slice_index_or}
 use Rattle.std.specs.List.{All}
 use Rattle.std.proofs.lemmas.Bool.{cases_Bool, cases_eq, cases_lt}
@@ -109,7 +109,7 @@ takes_one_cell t grown space cells spot rights to low few made table can =
     put : (spot : Spot) → CanPut grown space spot → space < length grown.spaces →
         TakesOneCell grown (table_put grown space spot rights to) space × ((other : ℕ) → length (space_of (table_put grown space spot rights to).spaces other) ≡ length (space_of grown.spaces other))
     put (Reference q i) can inside =
-        let shape = shape_written grown.spaces q i (widened (slice_index (cell_at grown.spaces q) i) rights) can.0.held in
+        let shape = shape_written grown.spaces q i (widened (slice_index (cell_at grown.spaces q) i) rights) can.can.held in
         (record { here = omega arith; others = λ other ne. refl; blocks = λ left. shape.blocks }, shape.blocks)
     put (Empty q i) can inside =
         let shape = shape_written grown.spaces q i (word_at rights to) can.held in

@@ -1,11 +1,11 @@
 -- The places of a heap's cells, and what sound spaces say of the cell at each.
-use Rattle.std.proofs.Common.{◌≡◌, ◌≢◌, ℕ, zero, suc, ◌<◌, ◌≤◌, ◌+◌, ◌-◌, ◌/◌, ◌%◌, ◌⊎◌, inl, inr, List, [], length, map, sym, ap, subst, arith, ◌∙◌, add-one}
+use Rattle.std.proofs.Common.{[], ◌≡◌, ◌≢◌, ℕ, zero, suc, ◌<◌, ◌≤◌, ◌+◌, ◌-◌, ◌/◌, ◌%◌, ◌⊎◌, inl, inr, List, length, map, sym, ap, subst, arith, ◌∙◌, add-one, get_or}
 use Rattle.std.specs.List.{Contains, range_with_len}
 use Rattle.std.proofs.lemmas.Bool.{cases_lt}
 use Rattle.std.proofs.lemmas.List.Elements.{All-nil, All-get_or, All-from_get_or}
 use Rattle.tg_model.proofs.PlainLaws.{is_subject, is_worker}
 use Rattle.tg_word.specs.declared.Place.{Place}
-use Rattle.tg_space.specs.SpaceList.{SpaceList, IsSpaceList, Holds, space_of, cell_at, blocks_before, block_count, flat_of, cells_of}
+use Rattle.tg_space.specs.SpaceList.{SpaceList, IsSpaceList, Holds, space_of, cell_at, blocks_before, block_count, flat_of, cells_of, IsSpace}
 use Rattle.tg_space.specs.Soundness.{AreSound, HasLayout, IsRootIn}
 use Rattle.tg_space.specs.Rows.{link_of, link_at}
 use Rattle.tg_space.specs.Targets.{cell_numbered}
@@ -13,6 +13,7 @@ use Rattle.tg_space.specs.declared.root.Root.{Root}
 use Rattle.tg_space.proofs.Flat.{before_more, blocks_all, length-cells_of, flat_inside, get_or-flat_of, same_place, all_cells_whole}
 use Rattle.tg_graph.specs.Rows.{places_in, places_of}
 use Rattle.tg_graph.proofs.Members.{Contains-map, Contains-from_map, Contains-flat_map, Contains-from_flat_map}
+use Rattle.tg_word.specs.Word.{IsPlace}
 
 -- the cell with a number
 pub record NumberedPlace (h : SpaceList) (number : ℕ) : Type 0 where
@@ -105,3 +106,11 @@ module _ (h : SpaceList) (is : IsSpaceList h) where
         sym at.is ∙ ap (flat_of h) one ∙ to.is;
     roots_held = All-nil (IsRootIn h);
   }
+
+-- a cell that is there has a place in range
+pub held_place : (h : SpaceList) → IsSpaceList h → (p : Place) → Holds h p → IsPlace p
+held_place h is p held =
+    let few = is.few in
+    let space : IsSpace (get_or h p.space []) = All-get_or IsSpace h p.space [] held.space is.spaces in
+    let blocks = space.0 in
+    record { space = let low = held.space in omega arith; block = let low = held.block in omega arith; cell = held.cell }

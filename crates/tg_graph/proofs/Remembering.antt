@@ -1,8 +1,8 @@
 -- Which cells of Old are to be remembered once a word was written.
-use Rattle.std.proofs.Common.{◌≡◌, ◌≢◌, ◌↔◌, ℕ, ◌+◌, ◌-◌, ◌*◌, ◌<◌, ◌≤◌, ◌⊎◌, inl, inr, ◌==◌, not, ◌&&◌, Bool, true, false, cond, List, [], length, get_or, set, Option, Some, None, refl, sym, ap, subst, arith, ◌∙◌, ⊎_elim}
+use Rattle.std.proofs.Common.{[], ◌≡◌, ◌≢◌, ◌↔◌, ℕ, ◌+◌, ◌-◌, ◌*◌, ◌<◌, ◌≤◌, ◌⊎◌, inl, inr, ◌==◌, not, ◌&&◌, Bool, true, false, cond, List, length, get_or, set, Option, Some, None, refl, sym, ap, subst, arith, ◌∙◌, ⊎_elim}
 use Rattle.std.specs.Prelude.{nat_lt, slice_index}
 use Rattle.std.specs.List.{Contains}
-use Rattle.std.proofs.lemmas.Bool.{cases_eq}
+use Rattle.std.proofs.lemmas.Bool.{cases_eq, eq-eqb, eqb-true, ne_eqb}
 use Rattle.std.proofs.lemmas.Bool.Decides.{nat_tests}
 use Rattle.std.proofs.lemmas.List.{get_or-drop, get_or-set_same, get_or-set_other, get_or_default, length-drop, length-set}
 use Rattle.std.proofs.lemmas.List.Elements.{All-contains}
@@ -31,9 +31,8 @@ use Rattle.tg_graph.proofs.Chains.{chain_chunks}
 use Rattle.tg_graph.proofs.Finding.{cell_held, empty_found, found_refers, last_ends, reference_found}
 use Rattle.tg_graph.proofs.Fresh.{fresh_same}
 use Rattle.tg_graph.proofs.Layouts.{chunk_tagged, object_tagged, present_place}
-use Rattle.tg_graph.proofs.Linked.{held_place}
 use Rattle.tg_graph.proofs.Members.{Contains-cases, Contains-none}
-use Rattle.tg_graph.proofs.Places.{cell_long}
+use Rattle.tg_graph.proofs.Places.{cell_long, held_place}
 use Rattle.tg_graph.proofs.Written.{pointers_set}
 
 -- ---- one cell
@@ -149,7 +148,7 @@ noted_cell wanted cell p same = by_tests wanted (cell.space == 0) refl same
     by_tests false b test at = absurd cc
 
 pub is_young : (space : ℕ) → space ≢ 0 → from_space Nursery space ≡ true
-is_young space far = let test : (space == 0) ≡ false = grind (arith, nat_tests) in ap not test
+is_young space far = let test : (space == 0) ≡ false = ne_eqb space 0 far in ap not test
 
 -- a reference takes at most one cell
 pub cells_few : (spot : Spot) → cells_for spot ≤ 1
@@ -158,7 +157,7 @@ cells_few (Empty q i) = omega arith
 cells_few (Full last) = omega arith
 
 old_noted : (wanted : Bool) (cell : Place) → wanted ≡ true → cell.space ≡ 0 → old_cell_if wanted cell ≡ Some cell
-old_noted wanted cell is old = let test : (cell.space == 0) ≡ true = grind (arith, nat_tests) in rw (is, test) refl
+old_noted wanted cell is old = let test : (cell.space == 0) ≡ true = eq-eqb cell.space 0 old in rw (is, test) refl
 
 -- ---- a row
 
@@ -214,7 +213,7 @@ module _ (t : SpaceTable) (table : IsSpaceTable t) (payloads : Payloads) (graph 
         where
           by_tests : (w b : Bool) → (q.space == 0) ≡ b → cond (w && not (not b)) (Some q) None ≡ None
           by_tests true true test =
-              let old : q.space ≡ 0 = grind (arith, nat_tests) in
+              let old : q.space ≡ 0 = eqb-true q.space 0 test in
               let low : q.block < length (space_of t.spaces 0) = subst (λ s. q.block < length (space_of t.spaces s)) old held.block in
               absurd (omega (arith, low, none))
           by_tests true false test = refl

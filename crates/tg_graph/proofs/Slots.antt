@@ -1,8 +1,8 @@
 -- Lists of references: what they say of a name, and what one more reference changes.
-use Rattle.std.proofs.Common.{◌≡◌, ◌≢◌, ℕ, ◌⊎◌, inl, inr, true, false, cond, not, ◌&&◌, ◌==◌, if◌then◌else◌, List, [], ◌∷◌, ◌++◌, map, refl, sym, ap, subst, arith, ◌∙◌, ⊎_elim}
+use Rattle.std.proofs.Common.{◌≡◌, ◌≢◌, ℕ, ◌⊎◌, inl, inr, true, false, cond, not, ◌&&◌, ◌==◌, if◌then◌else◌, List, [], ◌∷◌, ◌++◌, map, refl, sym, ap, subst, ◌∙◌, ⊎_elim}
 use Rattle.std.specs.List.{All, IsDistinct, AllByRecursion, filter}
-use Rattle.std.proofs.lemmas.Bool.{cases_Bool}
-use Rattle.std.proofs.lemmas.Bool.Decides.{nat_tests, eqb_tells}
+use Rattle.std.proofs.lemmas.Bool.{cases_Bool, eqb-false}
+use Rattle.std.proofs.lemmas.Bool.Decides.{eqb_tells}
 use Rattle.std.proofs.lemmas.List.{append-nil, map-append}
 use Rattle.std.proofs.lemmas.List.Elements.{All-nil, All-cons, All-head, All-tail, All-append, All-weaker, All-from_recursion, recursion_from_All, filter-append}
 use Rattle.std.proofs.lemmas.Map.Keys.{IsDistinct-head, IsDistinct-tail, IsDistinct-cons}
@@ -25,7 +25,7 @@ apart_head n ns all =
 
 head_apart : (n : ℕ) (ns : List ℕ) → AllByRecursion (λ m. (n == m) ≡ false) ns → All (λ m. m ≢ n) ns
 head_apart n ns all =
-    All-weaker (λ m. (n == m) ≡ false) (λ m. m ≢ n) (λ m f e. let t = f in grind (arith, nat_tests)) ns
+    All-weaker (λ m. (n == m) ≡ false) (λ m. m ≢ n) (λ m f e. eqb-false n m f (sym e)) ns
     (All-from_recursion (λ m. (n == m) ≡ false) ns all)
 
 -- one more number among distinct ones, and one fewer

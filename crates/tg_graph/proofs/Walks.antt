@@ -3,7 +3,6 @@ use Rattle.std.proofs.Common.{◌≡◌, ◌≢◌, ℕ, ◌+◌, ◌-◌, ◌<�
 use Rattle.std.specs.Prelude.{nat_lt, position, slice_index}
 use Rattle.std.specs.List.{filter, position_or_len}
 use Rattle.std.specs.Option.{option_or}
-use Rattle.std.proofs.lemmas.Bool.Decides.{nat_tests}
 use Rattle.std.proofs.lemmas.List.{map-append}
 use Rattle.std.proofs.lemmas.List.Elements.{filter-append}
 use Rattle.std.proofs.lemmas.List.Concat.{flat_map-append}
@@ -18,26 +17,27 @@ use Rattle.tg_space.specs.Rows.{chunks_from, link_at, row_of}
 use Rattle.tg_graph.specs.Spots.{IsSpotIn, is_empty, last_of, refers_to, spot_for_new, word_in_cell, word_of_cell, word_where}
 use Rattle.tg_graph.proofs.Layouts.{object_tagged, chunk_tagged}
 use Rattle.tg_graph.proofs.Chains.{chain_none, chain_step}
+use Rattle.std.proofs.lemmas.Bool.{eq-eqb, le-ltb, lt-ltb, ne_eqb}
 
 -- ---- the first that passes
 
 pub position_is : {X : Type 0} (p : X → Bool) (xs : List X) (i : ℕ) (d : X) → i < length xs → ((k : ℕ) → k < i → p (get_or xs k d) ≡ false) → p (get_or xs i d) ≡ true → position p xs ≡ Some i
 position_is p xs i d inside before here =
     let at : position_or_len p xs ≡ i = position_or_len_is p xs i d (omega arith) before (λ _. here) in
-    let test : nat_lt i (length xs) ≡ true = grind (arith, nat_tests) in
+    let test : nat_lt i (length xs) ≡ true = lt-ltb i (length xs) inside in
     rw at (rw test refl)
 
 pub position_none : {X : Type 0} (p : X → Bool) (xs : List X) (d : X) → ((k : ℕ) → k < length xs → p (get_or xs k d) ≡ false) → position p xs ≡ None
 position_none p xs d fails =
     let at : position_or_len p xs ≡ length xs = position_or_len_is p xs (length xs) d (omega arith) fails (λ h. absurd (omega arith)) in
-    let test : nat_lt (length xs) (length xs) ≡ false = grind (arith, nat_tests) in
+    let test : nat_lt (length xs) (length xs) ≡ false = le-ltb (length xs) (length xs) (omega arith) in
     rw at (rw test refl)
 
 -- the test of a reference
 pub refers_is : (h : SpaceList) (name word : ℕ) → word ≢ 0 → name_in h word ≡ name → refers_to h name word ≡ true
 refers_is h name word ne same =
-    let some : (word == 0) ≡ false = grind (arith, nat_tests) in
-    let named : (name_in h word == name) ≡ true = grind (arith, nat_tests) in
+    let some : (word == 0) ≡ false = ne_eqb word 0 ne in
+    let named : (name_in h word == name) ≡ true = eq-eqb (name_in h word) name same in
     rw some (rw named refl)
 
 -- ---- cells of a row

@@ -1,5 +1,5 @@
--- What a change of a row leaves for its index to follow.
-use Rattle.std.specs.Prelude.{◌≡◌, ℕ, ◌<◌, ◌≤◌, Bool, List, [], Option, None, false, length, nat_eq, slice_index, vec_len}
+-- What a change of one row leaves for the indexes to follow.
+use Rattle.std.specs.Prelude.{[], ◌≡◌, ℕ, ◌<◌, ◌≤◌, Bool, List, Option, None, false, length, nat_eq, slice_index, vec_len}
 use Rattle.std.specs.Map.{lookup}
 use Rattle.std.specs.Vec.{vec_capacity}
 use Rattle.tg_rights.specs.RightSet.{RightSet, is_none_held}
@@ -36,6 +36,20 @@ IsWay h rows from (New row) = (lookup (nat_eq (name_at h from)) rows ≡ None) �
 pub record HasRoomIn (row : IndexedRow) : Type 0 where
   pub names : HasRoom row.names
   pub cells : vec_len row.cells < vec_capacity row.cells
+
+-- the index says the same, of each row and of how much of it is known
+pub record HasSameIndex (row later : IndexedRow) : Type 0 where
+  pub kept : (h : SpaceList) (p : Place) → IsRowIndex h p row.names row.cells.items → IsRowIndex h p later.names later.cells.items
+  pub len : later.names.len ≡ row.names.len
+  pub aged : IsAged row → IsAged later
+  pub quiet : (places : List Place) → IsQuiet places row → IsQuiet places later
+
+-- the index of the row of the object at a place was just made, and has room
+pub record IsFreshIndex (h : SpaceList) (from : Place) (row : IndexedRow) : Type 0 where
+  pub index : IsRowIndex h from row.names row.cells.items
+  pub aged : IsAged row
+  pub quiet : (places : List Place) → IsQuiet places row
+  pub room : HasRoomIn row
 
 -- a row may be changed that has no index, and then isn't long yet
 pub record IsReadyShort (h : SpaceList) (rows : Indexes) (from : Place) : Type 0 where
@@ -84,20 +98,20 @@ pub record IsPutAt (old new : SpaceTable) (from : Place) (name : ℕ) (spot : Sp
   pub put : new ≡ table_put old space spot rights to
   pub noted : note ≡ note_for spot young
 
--- the same, after the cells for them were made ready, of which no row was one; and the noted cell is remembered
+-- Rights were put so once there was room for them, which leaves all rows as they are; and the noted cell is remembered.
 pub record IsRowPut (old new : SpaceTable) (places later : List Place) (from : Place) (name : ℕ) (spot : Spot) (note : Option Place) : Type 0 where
   pub ready : SpaceTable
   pub rows : KeepsRows old.spaces ready.spaces
   pub put : IsPutAt ready new from name spot note
   pub remembered : later ≡ with_note places note
 
--- the index is that of the row before rights were put there
+-- this index is still that of the row before rights were put so
 pub record IsBehind (new : SpaceTable) (from : Place) (name : ℕ) (spot : Spot) (note : Option Place) (row : IndexedRow) : Type 0 where
   pub old : SpaceTable
   pub put : IsPutAt old new from name spot note
   pub index : IsRowIndex old.spaces from row.names row.cells.items
 
--- the indexes are those of the rows before rights were put in one, which was looked along so
+-- These indexes are still those of the rows before rights were put in one of them, which was looked along so and was ready for it.
 pub record AreBehind (new : SpaceTable) (later : List Place) (rows : Indexes) (way : Way) (from : Place) (name : ℕ) (spot : Spot) (note : Option Place) : Type 0 where
   pub old : SpaceTable
   pub payloads : Payloads
@@ -109,7 +123,7 @@ pub record AreBehind (new : SpaceTable) (later : List Place) (rows : Indexes) (w
   pub looked : IsReady old.spaces rows from way
   pub put : IsRowPut old new places later from name spot note
 
--- the cell, if there is one, is to be noted in the row of this index
+-- the cell, if there is one, is the one to be noted in the row that has this index
 pub record IsNotedIn (row : IndexedRow) (note : Option Place) : Type 0 where
   pub spaces : SpaceList
   pub from : Place
@@ -131,7 +145,7 @@ pub record IsNarrowed (old new : SpaceTable) (from : Place) (name : ℕ) (cell :
   pub found : IsSpotFor old.spaces name from (Reference cell index)
   pub written : new ≡ word_put old cell index (narrowed (slice_index (cell_at old.spaces cell) index) rights)
 
--- the indexes are those of the rows before rights were taken in one, which was looked along so
+-- these indexes are still those of the rows before rights were taken in one of them, which was looked along so
 pub record AreUncleared (new : SpaceTable) (places : List Place) (rows : List (ℕ × IndexedRow)) (way : Way) (from : Place) (name : ℕ) (cell : Place) (index : ℕ) : Type 0 where
   pub old : SpaceTable
   pub narrowed : IsNarrowed old new from name cell index

@@ -1,11 +1,11 @@
 -- What a collection keeps of a heap, and what is written and dropped once nothing more can be refused.
-use Rattle.std.specs.Prelude.{◌≡◌, ◌≢◌, ◌↔◌, ℕ, ◌<◌, ◌≤◌, ◌⊎◌, if◌then◌else◌, Bool, true, List, [], None, IsSome, AllPairs, length, map, slice_index}
-use Rattle.std.specs.List.{Contains}
+use Rattle.std.specs.Prelude.{[], ◌≡◌, ◌≢◌, ◌↔◌, ℕ, ◌<◌, ◌≤◌, ◌⊎◌, if◌then◌else◌, Bool, true, List, None, IsSome, AllPairs, length, map, slice_index, OnErr, OnOk, Result}
+use Rattle.std.specs.List.{Contains, All}
 use Rattle.tg_word.specs.declared.Place.{Place}
 use Rattle.tg_block.specs.declared.CellKind.TheVariants.{Object}
-use Rattle.tg_space.specs.SpaceList.{SpaceList, Holds, cell_at, flat_of, space_of}
-use Rattle.tg_space.specs.SpaceTable.{SpaceTable}
-use Rattle.tg_space.specs.Soundness.{IsKindAt}
+use Rattle.tg_space.specs.SpaceList.{SpaceList, Holds, cell_at, flat_of, space_of, BlockList, cells_of}
+use Rattle.tg_space.specs.SpaceTable.{SpaceTable, IsSpaceTable, with_adopted}
+use Rattle.tg_space.specs.Soundness.{IsKindAt, AreSound, IsOldCell}
 use Rattle.tg_space.specs.Targets.{from_space, image_of, young_spaces}
 use Rattle.tg_space.specs.Collection.{new_place}
 use Rattle.tg_space.specs.declared.kind.Kind.{Kind}
@@ -15,10 +15,12 @@ use Rattle.tg_graph.specs.declared.settle.Prepared.{Prepared}
 use Rattle.tg_graph.specs.declared.settle.Rewritten.{Rewritten}
 use Rattle.tg_space.specs.Generations.{AreNeeded}
 use Rattle.tg_graph.specs.Rows.{IsVertexAt, key_at}
-use Rattle.tg_subjects.specs.Subjects.{nurseries_of, places_of}
+use Rattle.tg_subjects.specs.Subjects.{nurseries_of, places_of, AreSubjects, names_of}
 use Rattle.tg_graph.specs.Heap.{HeapState, content_of, subject_names}
 use Rattle.tg_graph.specs.Content.{IsNamed}
 use Rattle.tg_graph.specs.Standing.{KeepsReached}
+use Rattle.tg_subjects.specs.declared.subject.Subject.{Subject}
+use Rattle.tg_word.specs.Word.{IsPlace, place_in}
 
 -- ---- cells
 
@@ -117,3 +119,40 @@ pub record IsSettled (kind : Kind) (old new : HeapState) : Type 0 where
   pub nurseries : nurseries_of new.subjects ≡ nurseries_of old.subjects
   -- the row of each vertex that is left has an index where it had one
   pub indexed : (x : ℕ) → IsNamed (content_of new) x → Contains new.indexed x ↔ Contains old.indexed x
+
+-- ---- what the steps are handed, and what they make
+
+-- there is a forwarding word for each cell, and a cell at the place
+pub record CanMove (h : SpaceList) (forward : List ℕ) (p : Place) : Type 0 where
+  pub held : Holds h p
+  pub whole : length forward ≡ length (cells_of h)
+
+-- the same, at each of these places
+pub record CanMoveAll (h : SpaceList) (forward : List ℕ) (ps : List Place) : Type 0 where
+  pub held : All (Holds h) ps
+  pub whole : length forward ≡ length (cells_of h)
+
+-- the cells are sound, there is a forwarding word with a place for each, and these places are of cells of Old
+pub record CanPrepareCells (h : SpaceList) (forward : List ℕ) (ps : List Place) : Type 0 where
+  pub sound : AreSound h []
+  pub whole : length forward ≡ length (cells_of h)
+  pub places : All (λ word. IsPlace (place_in word)) forward
+  pub held : All (IsOldCell h) ps
+
+-- a cell has this number
+pub record HasNumber (t : SpaceTable) (number : ℕ) : Type 0 where
+  pub table : IsSpaceTable t
+  pub inside : number < length (cells_of t.spaces)
+
+-- the same subjects, which are now at these places
+pub record ArePlaced (old new : List Subject) (places : List Place) : Type 0 where
+  pub names : names_of new ≡ names_of old
+  pub nurseries : nurseries_of new ≡ nurseries_of old
+  pub places_are : places_of new ≡ places
+  pub subjects : AreSubjects new
+
+-- What a nursery collection's forwarding words and new blocks make of a heap; where memory was refused, it is as it was.
+pub record SettlesNursery {A E : Type 0} (old new : HeapState) (forward : List ℕ) (aged grown : BlockList) (result : Result A E) : Type 0 where
+  pub written : OnOk result (AreWritten (with_adopted old.table Nursery aged grown) new.table (map (rewritten_at old.table.spaces forward) old.remembered))
+  pub settled : OnOk result (IsSettled Nursery old new)
+  pub refused : OnErr result (new ≡ old)

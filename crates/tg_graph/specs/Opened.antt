@@ -1,12 +1,17 @@
 -- What an opening has made of its cells on the way.
-use Rattle.std.specs.Prelude.{◌≡◌, ◌≢◌, ℕ, ◌+◌, ◌<◌, ◌≤◌, ◌==◌, nat_lt, if◌then◌else◌, List, [], length, slice_get, slice_index_or, Some}
+use Rattle.std.specs.Prelude.{[], ◌≡◌, ◌≢◌, ℕ, ◌+◌, ◌<◌, ◌≤◌, ◌==◌, nat_lt, if◌then◌else◌, List, length, slice_get, slice_index_or, Some}
 use Rattle.tg_rights.specs.RightSet.{RightSet, no_rights}
 use Rattle.tg_model.specs.declared.edge.Edge.{Edge}
 use Rattle.tg_model.specs.declared.value.Value.{Value}
 use Rattle.tg_model.specs.Opened.{label_in}
 use Rattle.tg_word.specs.Word.{nursery_space}
 use Rattle.tg_word.specs.declared.Place.{Place}
-use Rattle.tg_word.specs.declared.TheConstants.{SPACES}
+use Rattle.tg_word.specs.declared.TheConstants.{MAX_NURSERIES, SPACES}
+use Rattle.tg_subjects.specs.Subjects.{places_of}
+use Rattle.tg_subjects.specs.declared.subject.Subject.{Subject}
+use Rattle.tg_space.specs.Generations.{AreRemembered}
+use Rattle.tg_graph.specs.declared.cells.Cells.{Cells}
+use Rattle.tg_graph.specs.declared.opening.Room.{Room}
 use Rattle.tg_block.specs.Cells.{free_cell}
 use Rattle.tg_space.specs.SpaceList.{Holds, block_count, cell_at, space_of}
 use Rattle.tg_space.specs.SpaceTable.{SpaceTable, BlockLimits, used_of}
@@ -60,3 +65,32 @@ pub record TakesOneCell (old new : SpaceTable) (space : ℕ) : Type 0 where
   pub here : used_of new space ≤ used_of old space + 1
   pub others : (other : ℕ) → other ≢ space → used_of new other ≡ used_of old other
   pub blocks : HasLeft old space 1 → (other : ℕ) → length (space_of new.spaces other) ≡ length (space_of old.spaces other)
+
+-- ---- what the steps of an opening are handed, and what they keep
+
+-- there is a worker, and there are no more workers than nurseries
+pub record AreFewWorkers (workers : ℕ) : Type 0 where
+  pub some : 1 ≤ workers
+  pub few : workers ≤ MAX_NURSERIES
+
+-- nothing stands in the room yet, and it is enough for so many workers
+pub record IsRoomFor {P : Type 0} (workers : ℕ) (room : Room P) : Type 0 where
+  pub payloads : room.cells.payloads.entries ≡ []
+  pub spare : workers ≤ room.cells.payloads.spare
+  pub subjects : room.subjects ≡ []
+  pub row : length room.row.items ≡ workers
+  pub remembered : room.cells.remembered.places ≡ []
+
+-- the subjects are vertices of the graph in these cells, each with its number as its name, and Old has no block
+pub record AreWorkers {P : Type 0} (cells : Cells P) (workers : List Subject) : Type 0 where
+  pub few : length workers ≤ MAX_NURSERIES
+  pub graph : IsGraph cells.spaces.spaces cells.payloads
+  pub spaces : SPACES ≤ length cells.spaces.spaces
+  pub vertices : (x : ℕ) (p : Place) → slice_get (places_of workers) x ≡ Some p → IsVertexAt cells.spaces.spaces x p
+  pub old : length (space_of cells.spaces.spaces 0) ≡ 0
+
+-- payloads and blocks are as they were, and each cell of Old that has to be remembered still is
+pub record KeepsBlocks {P : Type 0} (old new : Cells P) : Type 0 where
+  pub payloads : new.payloads ≡ old.payloads
+  pub blocks : (space : ℕ) → length (space_of new.spaces.spaces space) ≡ length (space_of old.spaces.spaces space)
+  pub remembered : AreRemembered old.spaces.spaces old.remembered.places → AreRemembered new.spaces.spaces new.remembered.places

@@ -1,21 +1,25 @@
 -- Where the reference to a name stands in a row, or where it may be put.
-use Rattle.std.specs.Prelude.{◌≡◌, ℕ, ◌+◌, ◌<◌, ◌&&◌, if◌then◌else◌, ◌==◌, not, Bool, true, List, [], ◌∷◌, Option, Some, None, length, option_map, position, slice_index}
+use Rattle.std.specs.Prelude.{[], ◌≡◌, ℕ, ◌+◌, ◌<◌, ◌&&◌, if◌then◌else◌, ◌==◌, not, Bool, true, List, ◌∷◌, Option, Some, None, length, option_map, position, slice_index, IfSome}
 use Rattle.std.specs.Option.{option_or}
 use Rattle.tg_rights.specs.RightSet.{RightSet, is_none_held, minus, union}
 use Rattle.tg_word.specs.declared.Place.{Place}
-use Rattle.tg_word.specs.Word.{IsPlace, link_to, place_in, rights_in, word_at}
+use Rattle.tg_word.specs.Word.{IsPlace, link_to, place_in, rights_in, word_at, nursery_space}
 use Rattle.tg_block.specs.Cells.{chunk_tag}
 use Rattle.tg_space.specs.SpaceList.{SpaceList, Holds, cell_at, cells_of, with_cell_at, with_word_at}
-use Rattle.tg_space.specs.SpaceTable.{SpaceTable, IsHandedOut, place_in_space, used_of, with_one_used, with_spaces}
+use Rattle.tg_space.specs.SpaceTable.{SpaceTable, IsHandedOut, place_in_space, used_of, with_one_used, with_spaces, IsSpaceTable}
 use Rattle.tg_remember.specs.Notes.{noted}
 use Rattle.tg_nursery.specs.Allocation.{HasLeft, room_made_for}
 use Rattle.tg_space.specs.Targets.{first_pointer, young_spaces}
 use Rattle.tg_graph.specs.Heap.{IsOutOfCells}
-use Rattle.tg_graph.specs.Rows.{IsVertexAt, name_at, name_in, references_of}
+use Rattle.tg_graph.specs.Rows.{IsVertexAt, name_at, name_in, references_of, IsRow}
 use Rattle.tg_graph.specs.Steps.{vertex_words}
 use Rattle.tg_space.specs.Rows.{chunks_from, link_at}
 use Rattle.tg_graph.specs.declared.rows.Spot.{Spot}
 use Rattle.tg_graph.specs.declared.rows.Spot.TheVariants.{Reference, Empty, Full}
+use Rattle.tg_word.specs.declared.TheConstants.{MAX_NURSERIES}
+use Rattle.tg_graph.specs.Index.{IsRowIndex}
+use Rattle.tg_graph.specs.declared.index.IndexedRow.{IndexedRow}
+use Rattle.tg_space.specs.Soundness.{AreSound}
 
 -- the word is a reference to the vertex with this name
 abbrev pub refers_to : SpaceList → ℕ → ℕ → Bool
@@ -163,8 +167,50 @@ pub record CanWrite (t : SpaceTable) (cell : Place) (index : ℕ) : Type 0 where
   pub inside : index < 8
   pub handed_out : IsHandedOut t cell
 
+-- a word of a cell that is a reference may be written
+pub record CanRewrite (t : SpaceTable) (cell : Place) (index : ℕ) : Type 0 where
+  pub can : CanWrite t cell index
+  pub place : IsPlace (place_in (slice_index (cell_at t.spaces cell) index))
+
+-- a chunk may come behind the last cell of a row
+pub record CanExtend (t : SpaceTable) (n : ℕ) (last : Place) : Type 0 where
+  pub few : n < MAX_NURSERIES
+  pub nursery : nursery_space n < length t.spaces
+  pub last_can : CanWrite t last 7
+  pub left : HasLeft t (nursery_space n) 1
+
 -- rights may be put where they go
 abbrev pub CanPut : SpaceTable → ℕ → Spot → Type 0
-CanPut t space (Reference cell index) = CanWrite t cell index × IsPlace (place_in (slice_index (cell_at t.spaces cell) index))
+CanPut t space (Reference cell index) = CanRewrite t cell index
 CanPut t space (Empty cell index) = CanWrite t cell index
 CanPut t space (Full last) = CanWrite t last 7 × HasLeft t space 1
+
+-- rights over the object at a place may be put where they go in a row, with a chunk from a nursery if one is needed
+pub record CanPutRights (t : SpaceTable) (n : ℕ) (spot : Spot) (to : Place) : Type 0 where
+  pub few : n < MAX_NURSERIES
+  pub nursery : nursery_space n < length t.spaces
+  pub can : CanPut t (nursery_space n) spot
+  pub place : IsPlace to
+
+-- ---- walks
+
+-- the number of the first word that passes the test, if one does
+pub record IsPositionIn (test : ℕ → Bool) (words : List ℕ) (result : Option ℕ) : Type 0 where
+  pub is : result ≡ position test words
+  pub inside : IfSome result (λ k. k < length words)
+
+-- the row of an object of sound cells
+pub record IsSoundRow (h : SpaceList) (p : Place) : Type 0 where
+  pub sound : AreSound h []
+  pub row : IsRow h p
+
+-- the same, and this is its index
+pub record IsSoundIndex (h : SpaceList) (p : Place) (indexed : IndexedRow) : Type 0 where
+  pub sound : AreSound h []
+  pub row : IsRow h p
+  pub index : IsRowIndex h p indexed.names indexed.cells.items
+
+-- the spot for a name in the row of an object, beside what holds of all spaces
+pub record IsSpotOf (t : SpaceTable) (p : Place) (name : ℕ) (found : Spot) : Type 0 where
+  pub table : IsSpaceTable t
+  pub spot : IsSpotFor t.spaces name p found

@@ -1,27 +1,26 @@
 //! The graph in the cells: what one change writes.
-ghost use Rattle.std.specs.Prelude.{◌≡◌, ◌+◌, ◌<◌, ◌≤◌, ◌⊎◌, ◌↔◌, ℕ, List, false, true, length, slice_index, slice_set, Err, IfErr, IfOk, IfSome, IsOk, None, OnErr, OnOk, Some, option_map};
+ghost use Rattle.std.specs.Prelude.{◌≡◌, ◌+◌, ◌<◌, ◌≤◌, ◌⊎◌, ◌↔◌, ℕ, List, true, length, slice_index, slice_set, Err, IfOk, IfSome, IsOk, None, OnErr, OnOk, Some, option_map};
 ghost use Rattle.std.specs.List.{All, Contains};
 ghost use Rattle.tg_word.specs.declared.Place.{Place};
-ghost use Rattle.tg_rights.specs.RightSet.{is_none_held};
 ghost use Rattle.tg_word.specs.Word.{nursery_space, place_in, rights_in};
 ghost use Rattle.tg_word.specs.declared.TheConstants.{MAX_NURSERIES};
-ghost use Rattle.tg_model.specs.Graph.{listing_of, with_rights, without_rights};
+ghost use Rattle.tg_model.specs.Graph.{listing_of};
 ghost use Rattle.tg_model.specs.Rules.{state_of, with_value, written_at};
 ghost use Rattle.tg_block.specs.declared.CellKind.TheVariants.{Object};
 ghost use Rattle.tg_space.specs.SpaceList.{Holds, cell_at, space_of};
-ghost use Rattle.tg_space.specs.SpaceTable.{IsFull, IsSpaceTable, place_in_space, used_of};
+ghost use Rattle.tg_space.specs.SpaceTable.{IsSpaceTable, place_in_space, used_of};
 ghost use Rattle.tg_space.specs.Soundness.{IsKindAt};
 ghost use Rattle.tg_space.specs.Generations.{AreRemembered};
 ghost use Rattle.tg_space.specs.Targets.{young_spaces};
-ghost use Rattle.tg_nursery.specs.Allocation.{HasFewerLeft, HasLeft, room_made_for};
+ghost use Rattle.tg_nursery.specs.Allocation.{HasLeft};
 ghost use Rattle.tg_graph.specs.Content.{IsNamed};
 ghost use Rattle.tg_graph.specs.Following.{IsRowPut};
-ghost use Rattle.tg_graph.specs.Heap.{IsGraph, content_in, rights_found};
-ghost use Rattle.tg_graph.specs.Index.{KeepsOtherIndexes};
+ghost use Rattle.tg_graph.specs.Heap.{IsGraph, content_in};
 ghost use Rattle.tg_graph.specs.Rows.{IsVertexAt, name_at};
 ghost use Rattle.tg_graph.specs.Opened.{TakesOneCell};
-ghost use Rattle.tg_graph.specs.Spots.{IsMadeInRow, IsPutInRow, IsSpotFor, LacksCellsFor, narrowed, note_for, vertex_put, with_note, word_put};
+ghost use Rattle.tg_graph.specs.Spots.{narrowed, note_for, vertex_put, with_note, word_put};
 ghost use Rattle.tg_graph.specs.Steps.{ChangesTo, KeepsRows};
+ghost use Rattle.tg_graph.specs.Deeds.{AddsEdge, CanGive, CanMake, CanReserve, HasObject, HasSpot, IsEdgeFound, MakesRoom, MakesVertex, TakesRights};
 
 use crate::heap::{Found, VertexRefused};
 use crate::references::{narrow, put};
@@ -58,13 +57,8 @@ impl<P: Payload> Cells<P> {
     /// What the reference at a spot says, if the spot has one.
     #[inline(always)]
     pub(crate) fn found_at_spot(&self, from: Place, name: u64, spot: Spot) -> Option<Found>
-        requires table { IsSpaceTable self.now.spaces }
-        requires graph { IsGraph self.now.spaces.spaces self.now.payloads }
-        requires from { IsKindAt self.now.spaces.spaces Object from }
-        requires spot { IsSpotFor self.now.spaces.spaces name from spot }
-        ensures rights { rights_found result ≡ (content_in self.now.spaces.spaces self.now.payloads).label (name_at self.now.spaces.spaces from) name }
-        ensures some { IfSome result (λ found. is_none_held found.rights ≡ false) }
-        ensures place { IfSome result (λ found. IsVertexAt self.now.spaces.spaces name found.place) }
+        requires { HasSpot self.now from name spot }
+        ensures { IsEdgeFound self.now from name result }
     {
         match spot {
             Spot::Reference { cell, index } => Some(self.found_at(cell, index)),
@@ -89,8 +83,7 @@ impl<P: Payload> Cells<P> {
     /// The edges of an object, by rising name of the target.
     #[inline(always)]
     pub(crate) fn row(&self, from: Place) -> Result<EdgeList, AllocError>
-        requires graph { IsGraph self.now.spaces.spaces self.now.payloads }
-        requires from { IsKindAt self.now.spaces.spaces Object from }
+        requires { HasObject self.now from }
         ensures { let content = content_in self.now.spaces.spaces self.now.payloads in
             IfOk result (λ edges. (n : ℕ) → All (λ x. x < n) content.names → edges ≡ listing_of content.label n (name_at self.now.spaces.spaces from)) }
     {
@@ -102,8 +95,7 @@ impl<P: Payload> Cells<P> {
     /// The state that an object stores.
     #[inline(always)]
     pub(crate) fn state(&self, at: Place) -> Result<Numbers, AllocError>
-        requires graph { IsGraph self.now.spaces.spaces self.now.payloads }
-        requires at { IsKindAt self.now.spaces.spaces Object at }
+        requires { HasObject self.now at }
         ensures { IfOk result (λ state. state ≡ state_of ((content_in self.now.spaces.spaces self.now.payloads).value (name_at self.now.spaces.spaces at))) }
     {
         let cell = self.spaces.cell(at);
@@ -112,8 +104,7 @@ impl<P: Payload> Cells<P> {
 
     /// What an object stores, where it stands.
     pub(crate) fn payload(&self, at: Place) -> &P
-        requires graph { IsGraph self.now.spaces.spaces self.now.payloads }
-        requires at { IsKindAt self.now.spaces.spaces Object at }
+        requires { HasObject self.now at }
         ensures { (content_in self.now.spaces.spaces self.now.payloads).value (name_at self.now.spaces.spaces at) ≡ Some (P.value result.now) }
     {
         let cell = self.spaces.cell(at);
@@ -122,8 +113,7 @@ impl<P: Payload> Cells<P> {
 
     /// The law of what an object stores.
     pub(crate) fn law(&self, at: Place) -> Law
-        requires graph { IsGraph self.now.spaces.spaces self.now.payloads }
-        requires at { IsKindAt self.now.spaces.spaces Object at }
+        requires { HasObject self.now at }
         ensures { option_map (λ value. value.law) ((content_in self.now.spaces.spaces self.now.payloads).value (name_at self.now.spaces.spaces at)) ≡ Some result }
     {
         self.payload(at).law()
@@ -132,8 +122,7 @@ impl<P: Payload> Cells<P> {
     /// Writes a number to what an object stores. Where it is refused, nothing is changed.
     #[inline(always)]
     pub(crate) fn write(&mut self, at: Place, number: u64) -> Result<(), AllocError>
-        requires graph { IsGraph self.old.spaces.spaces self.old.payloads }
-        requires at { IsKindAt self.old.spaces.spaces Object at }
+        requires { HasObject self.old at }
         ensures written { let content = content_in self.old.spaces.spaces self.old.payloads in
             OnOk result (ChangesTo self.old.spaces self.new.spaces self.new.payloads (IsNamed content) content.label (written_at content.value (name_at self.old.spaces.spaces at) number)) }
         ensures spaces { self.new.spaces ≡ self.old.spaces }
@@ -155,27 +144,13 @@ impl<P: Payload> Cells<P> {
         spot: Spot,
         rights: Rights,
     ) -> Result<(), AllocateFault>
-        requires table { IsSpaceTable self.old.spaces }
-        requires nursery { nursery_space nursery < length self.old.spaces.spaces }
-        requires graph { IsGraph self.old.spaces.spaces self.old.payloads }
-        requires from { IsKindAt self.old.spaces.spaces Object from }
-        requires to { IsKindAt self.old.spaces.spaces Object to }
-        requires spot { IsSpotFor self.old.spaces.spaces (name_at self.old.spaces.spaces to) from spot }
-        requires some { is_none_held rights ≡ false }
-        ensures added { let content = content_in self.old.spaces.spaces self.old.payloads in
-            OnOk result (ChangesTo self.old.spaces self.new.spaces self.old.payloads (IsNamed content)
-            (with_rights content.label (name_at self.old.spaces.spaces from) (name_at self.old.spaces.spaces to) rights) content.value) }
-        ensures payloads { self.new.payloads ≡ self.old.payloads }
-        ensures refused { OnErr result (self.new.spaces ≡ self.old.spaces) }
-        ensures full { result ≡ Err AllocateFault.HeapFull →
-            LacksCellsFor self.old.spaces (nursery_space nursery) 0 (name_at self.old.spaces.spaces from) (name_at self.old.spaces.spaces to) }
+        requires row { HasSpot self.old from (name_at self.old.spaces.spaces to) spot }
+        requires gift { CanGive self.old nursery to rights }
+        ensures edge { AddsEdge self.old self.new nursery from to rights result }
         ensures had_room { HasLeft self.old.spaces (nursery_space nursery) 1 → length (space_of self.old.spaces.spaces 0) ≡ 0 → IsOk result }
-        ensures placed { OnOk result (IsPutInRow self.old.spaces self.new.spaces self.old.remembered.places self.new.remembered.places (nursery_space nursery) from to rights) }
         ensures put { OnOk result (IsRowPut self.old.spaces self.new.spaces self.old.remembered.places self.new.remembered.places from
             (name_at self.old.spaces.spaces to) spot (note_for spot (young_spaces to.space))) }
         ensures one_cell { OnOk result (TakesOneCell self.old.spaces self.new.spaces (nursery_space nursery)) }
-        ensures remembered { AreRemembered self.old.spaces.spaces self.old.remembered.places → AreRemembered self.new.spaces.spaces self.new.remembered.places }
-        ensures places { OnErr result (self.new.remembered.places ≡ self.old.remembered.places) }
     {
         let note = spot.note(Kind::Nursery.moves(to.space));
         self.make_room(nursery, note, spot.cells())?;
@@ -193,19 +168,10 @@ impl<P: Payload> Cells<P> {
         index: usize,
         rights: Rights,
     )
-        requires table { IsSpaceTable self.old.spaces }
-        requires graph { IsGraph self.old.spaces.spaces self.old.payloads }
-        requires from { IsKindAt self.old.spaces.spaces Object from }
-        requires spot { IsSpotFor self.old.spaces.spaces name from (Spot.Reference cell index) }
+        requires { HasSpot self.old from name (Spot.Reference cell index) }
+        ensures taken { TakesRights self.old self.new from name rights }
         ensures written { self.new.spaces ≡ word_put self.old.spaces cell index (narrowed (slice_index (cell_at self.old.spaces.spaces cell) index) rights) }
-        ensures dropped { let content = content_in self.old.spaces.spaces self.old.payloads in
-            ChangesTo self.old.spaces self.new.spaces self.old.payloads (IsNamed content)
-            (without_rights content.label (name_at self.old.spaces.spaces from) name rights) content.value }
-        ensures payloads { self.new.payloads ≡ self.old.payloads }
-        ensures remembered { AreRemembered self.old.spaces.spaces self.old.remembered.places → AreRemembered self.new.spaces.spaces self.old.remembered.places }
         ensures notes { self.new.remembered ≡ self.old.remembered }
-        ensures used { self.new.spaces.used ≡ self.old.spaces.used }
-        ensures blocks { (space : ℕ) → length (space_of self.new.spaces.spaces space) ≡ length (space_of self.old.spaces.spaces space) }
     {
         narrow(&mut self.spaces, cell, index, rights);
     }
@@ -222,27 +188,10 @@ impl<P: Payload> Cells<P> {
         rights: Rights,
         draft: Draft<P>,
     ) -> Result<Place, VertexRefused<P>>
-        requires table { IsSpaceTable self.old.spaces }
-        requires nursery { nursery_space nursery < length self.old.spaces.spaces }
-        requires graph { IsGraph self.old.spaces.spaces self.old.payloads }
-        requires from { IsKindAt self.old.spaces.spaces Object from }
-        requires spot { IsSpotFor self.old.spaces.spaces name from spot }
-        requires some { is_none_held rights ≡ false }
-        requires fresh { ¬ IsNamed (content_in self.old.spaces.spaces self.old.payloads) name }
-        ensures made { let content = content_in self.old.spaces.spaces self.old.payloads in
-            OnOk result (ChangesTo self.old.spaces self.new.spaces self.new.payloads (λ x. IsNamed content x ⊎ (x ≡ name))
-            (with_rights content.label (name_at self.old.spaces.spaces from) name rights) (with_value content.value name draft)) }
-        ensures vertex { IfOk result (IsVertexAt self.new.spaces.spaces name) }
-        ensures handed_back { IfErr result (λ refused. refused.draft ≡ draft) }
-        ensures spaces { OnErr result (self.new.spaces ≡ self.old.spaces) }
-        ensures payloads { OnErr result (self.new.payloads.entries ≡ self.old.payloads.entries) }
-        ensures places { OnErr result (self.new.remembered.places ≡ self.old.remembered.places) }
-        ensures remembered { AreRemembered self.old.spaces.spaces self.old.remembered.places → AreRemembered self.new.spaces.spaces self.new.remembered.places }
-        ensures placed { OnOk result (IsMadeInRow self.old.spaces self.new.spaces self.old.remembered.places self.new.remembered.places (nursery_space nursery)
-            (name_at self.old.spaces.spaces from) name rights) }
+        requires row { HasSpot self.old from name spot }
+        requires vertex { CanMake self.old nursery name rights }
+        ensures vertex { MakesVertex self.old self.new nursery from name rights draft result }
         ensures put { OnOk result (IsRowPut self.old.spaces self.new.spaces self.old.remembered.places self.new.remembered.places from name spot (note_for spot true)) }
-        ensures full { IfErr result (λ refused. refused.why ≡ AllocateFault.HeapFull →
-            LacksCellsFor self.old.spaces (nursery_space nursery) 1 (name_at self.old.spaces.spaces from) name) }
     {
         let note = spot.note(true);
         if let Err(why) = self.make_vertex_room(nursery, note, 1 + spot.cells()) {
@@ -261,18 +210,10 @@ impl<P: Payload> Cells<P> {
         note: Option<Place>,
         cells: u64,
     ) -> Result<(), AllocateFault>
-        requires few { nursery < MAX_NURSERIES }
-        requires few_cells { cells ≤ 64 }
-        requires nursery { nursery_space nursery < length self.old.spaces.spaces }
+        requires { CanReserve self.old nursery cells }
+        ensures room { MakesRoom self.old self.new nursery note cells result }
         ensures payloads { self.new.payloads.entries ≡ self.old.payloads.entries }
-        ensures remembered { self.new.remembered.places ≡ self.old.remembered.places }
         ensures spare { OnOk result (0 < self.new.payloads.spare) }
-        ensures note { OnOk result (IfSome note (λ _. 0 < self.new.remembered.spare)) }
-        ensures spaces { OnOk result (self.new.spaces ≡ room_made_for self.old.spaces (nursery_space nursery) cells) }
-        ensures table { OnOk result (IsSpaceTable self.new.spaces) }
-        ensures left { OnOk result (HasLeft self.new.spaces (nursery_space nursery) cells) }
-        ensures refused { OnErr result (self.new.spaces ≡ self.old.spaces) }
-        ensures full { result ≡ Err AllocateFault.HeapFull → HasFewerLeft self.old.spaces (nursery_space nursery) cells × IsFull self.old.spaces (nursery_space nursery) }
     {
         let Ok(()) = self.payloads.reserve(1) else {
             return Err(AllocateFault::OutOfMemory);
@@ -287,18 +228,10 @@ impl<P: Payload> Cells<P> {
         note: Option<Place>,
         cells: u64,
     ) -> Result<(), AllocateFault>
-        requires few { nursery < MAX_NURSERIES }
-        requires few_cells { cells ≤ 64 }
-        requires nursery { nursery_space nursery < length self.old.spaces.spaces }
+        requires { CanReserve self.old nursery cells }
+        ensures room { MakesRoom self.old self.new nursery note cells result }
         ensures payloads { self.new.payloads ≡ self.old.payloads }
-        ensures remembered { self.new.remembered.places ≡ self.old.remembered.places }
-        ensures note { OnOk result (IfSome note (λ _. 0 < self.new.remembered.spare)) }
-        ensures spaces { OnOk result (self.new.spaces ≡ room_made_for self.old.spaces (nursery_space nursery) cells) }
-        ensures table { OnOk result (IsSpaceTable self.new.spaces) }
-        ensures left { OnOk result (HasLeft self.new.spaces (nursery_space nursery) cells) }
         ensures had_room { HasLeft self.old.spaces (nursery_space nursery) cells → note ≡ None → IsOk result }
-        ensures refused { OnErr result (self.new.spaces ≡ self.old.spaces) }
-        ensures full { result ≡ Err AllocateFault.HeapFull → HasFewerLeft self.old.spaces (nursery_space nursery) cells × IsFull self.old.spaces (nursery_space nursery) }
     {
         let Ok(()) = reserve_note(&mut self.remembered, note) else {
             return Err(AllocateFault::OutOfMemory);

@@ -70,8 +70,7 @@ impl Numbering {
 
     // Where a collection of this kind has the cell at a place.
     fn followed(&self, kind: Kind, forward: &Forwarding, place: Place) -> Place
-        requires numbered { IsNumbered self.now.starts (length forward.now.words) place }
-        requires few { length forward.now.words ≤ 2 ^ 64 }
+        requires { IsNumbered self.now.starts (length forward.now.words) place }
         ensures { result ≡ followed_place (from_space kind) self.now.starts (new_place forward.now.words) place }
     {
         if kind.moves(place.space) {
@@ -83,8 +82,7 @@ impl Numbering {
 
     // Each of these places becomes the one where a collection of this kind has its cell.
     fn follow(&self, kind: Kind, forward: &Forwarding, places: &mut [Place])
-        requires numbered { All (IsNumbered self.now.starts (length forward.now.words)) places.old }
-        requires few { length forward.now.words ≤ 2 ^ 64 }
+        requires { All (IsNumbered self.now.starts (length forward.now.words)) places.old }
         ensures { places.new ≡ map (followed_place (from_space kind) self.now.starts (new_place forward.now.words)) places.old }
     {
         for place in places.iter_mut() {
@@ -104,8 +102,7 @@ impl LongRows {
         forward: &Forwarding,
         noted: &Remembered,
     )
-        requires few { length forward.now.words ≤ 2 ^ 64 }
-        requires rows { (name : ℕ) (row : RowOf) → lookup (nat_eq name) self.old.entries ≡ Some row → IsFollowable numbering.now.starts (length forward.now.words) (known_notes kind noted.now.places) row }
+        requires { (name : ℕ) (row : RowOf) → lookup (nat_eq name) self.old.entries ≡ Some row → IsFollowable numbering.now.starts (length forward.now.words) (known_notes kind noted.now.places) row }
         ensures { AreFollowed kind numbering.now.starts forward.now.words noted.now.places self.old.entries self.new.entries }
     {
         let old = match kind {
@@ -125,7 +122,6 @@ fn follow_rows(
     rows: &mut IndexMap<u64, IndexedRow>,
     first: usize,
 ) -> usize
-    requires few { length forward.now.words ≤ 2 ^ 64 }
     requires rows { (name : ℕ) (row : RowOf) → lookup (nat_eq name) rows.old.entries ≡ Some row → IsFollowable numbering.now.starts (length forward.now.words) (known_notes kind noted.now.places) row }
     requires aged { AreAged rows.old.entries first }
     requires full { kind ≡ Kind.Full → first ≡ 0 }
@@ -160,7 +156,6 @@ fn follow_row_at(
     at: usize,
 ) -> Fate
     requires inside { at < index_map_len rows.old }
-    requires few { length forward.now.words ≤ 2 ^ 64 }
     requires numbered { (row : RowOf) → slice_get (values rows.old) at ≡ Some row → All (IsNumbered numbering.now.starts (length forward.now.words)) row.cells.items }
     requires some { (row : RowOf) → slice_get (values rows.old) at ≡ Some row → 0 < length row.cells.items }
     requires aged { (row : RowOf) → slice_get (values rows.old) at ≡ Some row → IsAged row }
@@ -183,7 +178,6 @@ fn follow_row(
     noted: &Remembered,
     row: &mut IndexedRow,
 ) -> Fate
-    requires few { length forward.now.words ≤ 2 ^ 64 }
     requires numbered { All (IsNumbered numbering.now.starts (length forward.now.words)) row.old.cells.items }
     requires some { 0 < length row.old.cells.items }
     requires aged { IsAged row.old }
@@ -222,7 +216,6 @@ fn follow_cells(
     requires within { first ≤ length cells.old }
     requires old { All IsOldPlace (take first cells.old) }
     requires full { kind ≡ Kind.Full → first ≡ 0 }
-    requires few { length forward.now.words ≤ 2 ^ 64 }
     requires numbered { All (IsNumbered numbering.now.starts (length forward.now.words)) cells.old }
     ensures moved { cells.new ≡ map (followed_place (from_space kind) numbering.now.starts (new_place forward.now.words)) cells.old }
     ensures within { result ≤ length cells.new }

@@ -1,5 +1,5 @@
 //! Opening a heap.
-ghost use Rattle.std.specs.Prelude.{◌≡◌, ◌≢◌, ◌↔◌, ◌+◌, ◌<◌, ◌≤◌, ℕ, Some, false, true, [], length, slice_get, slice_index_or, slice_set, Err, IfErr, IfOk, IsErrAnd, OnOk};
+ghost use Rattle.std.specs.Prelude.{[], ◌≡◌, ◌≢◌, ◌↔◌, ◌<◌, ◌≤◌, ℕ, false, true, length, slice_index_or, slice_set, Err, IfErr, IfOk, IsErrAnd, OnOk};
 ghost use Rattle.std.specs.List.{All, range_with_len};
 ghost use Rattle.tg_rights.specs.RightSet.{is_none_held, no_rights, union};
 ghost use Rattle.tg_model.specs.Graph.{with_rights};
@@ -16,9 +16,9 @@ ghost use Rattle.tg_space.specs.Generations.{AreRemembered};
 ghost use Rattle.tg_nursery.specs.Allocation.{HasLeft};
 ghost use Rattle.tg_graph.specs.Content.{IsNamed};
 ghost use Rattle.tg_graph.specs.Heap.{AreAtHome, IsGraph, content_in};
-ghost use Rattle.tg_graph.specs.Rows.{IsVertexAt, name_at};
+ghost use Rattle.tg_graph.specs.Rows.{name_at};
 ghost use Rattle.tg_graph.specs.Steps.{ChangesTo};
-ghost use Rattle.tg_graph.specs.Opened.{HasBlocks, HasNoBlocks, IsOpened, TakesOneCell, no_labels, with_row};
+ghost use Rattle.tg_graph.specs.Opened.{HasBlocks, HasNoBlocks, IsOpened, TakesOneCell, no_labels, with_row, AreFewWorkers, AreWorkers, IsRoomFor, KeepsBlocks};
 
 use crate::cells::Cells;
 use crate::heap::HeapRefused;
@@ -81,15 +81,10 @@ fn with_room<P: Payload>(
     workers: u64,
     limits: Limits,
 ) -> Result<Room<P>, AllocateFault>
-    requires some { 1 ≤ workers }
-    requires few { workers ≤ MAX_NURSERIES }
+    requires { AreFewWorkers workers }
+    ensures room { IfOk result (IsRoomFor workers) }
     ensures ready { IfOk result (λ room. HasBlocks room.cells.spaces workers limits) }
     ensures table { IfOk result (λ room. IsSpaceTable room.cells.spaces) }
-    ensures payloads { IfOk result (λ room. room.cells.payloads.entries ≡ []) }
-    ensures spare { IfOk result (λ room. workers ≤ room.cells.payloads.spare) }
-    ensures subjects { IfOk result (λ room. room.subjects ≡ []) }
-    ensures row { IfOk result (λ room. length room.row.items ≡ workers) }
-    ensures remembered { IfOk result (λ room. room.cells.remembered.places ≡ []) }
     ensures full { IsErrAnd result (λ why. why ≡ AllocateFault.HeapFull) ↔ (limits.max_blocks < workers) }
 {
     if limits.max_blocks() < workers {
@@ -108,14 +103,9 @@ fn empty_room<P: Payload>(
     workers: u64,
     limits: Limits,
 ) -> Result<Room<P>, AllocError>
-    requires some { 1 ≤ workers }
-    requires few { workers ≤ MAX_NURSERIES }
+    requires { AreFewWorkers workers }
+    ensures room { IfOk result (IsRoomFor workers) }
     ensures spaces { IfOk result (λ room. room.cells.spaces ≡ no_blocks MAX_NURSERIES limits) }
-    ensures payloads { IfOk result (λ room. room.cells.payloads.entries ≡ []) }
-    ensures spare { IfOk result (λ room. workers ≤ room.cells.payloads.spare) }
-    ensures subjects { IfOk result (λ room. room.subjects ≡ []) }
-    ensures row { IfOk result (λ room. length room.row.items ≡ workers) }
-    ensures remembered { IfOk result (λ room. room.cells.remembered.places ≡ []) }
 {
     let subjects = Subjects::new(alloc)?;
     let row = vec![in alloc; Rights::empty(); workers as usize]?;
@@ -133,8 +123,7 @@ fn empty_cells<P: Payload>(
     workers: u64,
     limits: Limits,
 ) -> Result<Cells<P>, AllocError>
-    requires some { 1 ≤ workers }
-    requires few { workers ≤ MAX_NURSERIES }
+    requires { AreFewWorkers workers }
     ensures spaces { IfOk result (λ cells. cells.spaces ≡ no_blocks MAX_NURSERIES limits) }
     ensures payloads { IfOk result (λ cells. cells.payloads.entries ≡ []) }
     ensures spare { IfOk result (λ cells. workers ≤ cells.payloads.spare) }
@@ -153,8 +142,7 @@ fn empty_cells<P: Payload>(
 
 // Gives the nursery of each worker its first block.
 fn add_blocks(spaces: &mut Spaces, workers: u64) -> Result<(), AllocateFault>
-    requires some { 1 ≤ workers }
-    requires few { workers ≤ MAX_NURSERIES }
+    requires workers { AreFewWorkers workers }
     requires limits { AreLimits spaces.old.limits }
     requires empty { HasNoBlocks spaces.old }
     requires spaces { SPACES ≤ length spaces.old.spaces }
@@ -198,21 +186,15 @@ fn add_edges<P: Payload>(
     row: &mut [Rights],
     edges: &[Edge],
 )
-    requires few { length subjects.now ≤ MAX_NURSERIES }
+    requires workers { AreWorkers cells.old subjects.now }
     requires row { length row.old ≡ length subjects.now }
     requires edges { All (JoinsWorkers (length subjects.now)) edges.now }
-    requires graph { IsGraph cells.old.spaces.spaces cells.old.payloads }
-    requires spaces { SPACES ≤ length cells.old.spaces.spaces }
-    requires vertices { (x : ℕ) (p : Place) → slice_get (places_of subjects.now) x ≡ Some p → IsVertexAt cells.old.spaces.spaces x p }
     requires labels { (x y : ℕ) → (content_in cells.old.spaces.spaces cells.old.payloads).label x y ≡ no_rights }
     requires unused { (x : ℕ) → used_of cells.old.spaces (nursery_space x) ≤ 1 }
     requires blocks { (x : ℕ) → x < length subjects.now → 1 ≤ length (space_of cells.old.spaces.spaces (nursery_space x)) }
-    requires old { length (space_of cells.old.spaces.spaces 0) ≡ 0 }
+    ensures kept { KeepsBlocks cells.old cells.new }
     ensures added { let content = content_in cells.old.spaces.spaces cells.old.payloads in
         ChangesTo cells.old.spaces cells.new.spaces cells.old.payloads (IsNamed content) (label_in edges.now) content.value }
-    ensures payloads { cells.new.payloads ≡ cells.old.payloads }
-    ensures block_counts { (space : ℕ) → length (space_of cells.new.spaces.spaces space) ≡ length (space_of cells.old.spaces.spaces space) }
-    ensures remembered { AreRemembered cells.old.spaces.spaces cells.old.remembered.places → AreRemembered cells.new.spaces.spaces cells.new.remembered.places }
 {
     for from in 0..subjects.len() as u64 {
         read_row(edges, from, row);
@@ -244,23 +226,17 @@ fn unite(row: &mut [Rights], to: u64, rights: Rights)
 
 // Adds the edges of one worker, in whose nursery only its object is.
 fn add_row<P: Payload>(cells: &mut Cells<P>, from: u64, subjects: &[Subject], row: &[Rights])
+    requires workers { AreWorkers cells.old subjects.now }
     requires from { from < length subjects.now }
-    requires few { length subjects.now ≤ MAX_NURSERIES }
     requires row { length row.now ≡ length subjects.now }
     requires no_loop { slice_index_or row.now from no_rights ≡ no_rights }
-    requires graph { IsGraph cells.old.spaces.spaces cells.old.payloads }
-    requires spaces { SPACES ≤ length cells.old.spaces.spaces }
-    requires vertices { (x : ℕ) (p : Place) → slice_get (places_of subjects.now) x ≡ Some p → IsVertexAt cells.old.spaces.spaces x p }
     requires labels { (y : ℕ) → (content_in cells.old.spaces.spaces cells.old.payloads).label from y ≡ no_rights }
     requires unused { used_of cells.old.spaces (nursery_space from) ≤ 1 }
     requires block { 1 ≤ length (space_of cells.old.spaces.spaces (nursery_space from)) }
-    requires old { length (space_of cells.old.spaces.spaces 0) ≡ 0 }
+    ensures kept { KeepsBlocks cells.old cells.new }
     ensures added { let content = content_in cells.old.spaces.spaces cells.old.payloads in
         ChangesTo cells.old.spaces cells.new.spaces cells.old.payloads (IsNamed content) (with_row content.label from row.now) content.value }
-    ensures payloads { cells.new.payloads ≡ cells.old.payloads }
     ensures others { (space : ℕ) → space ≢ nursery_space from → used_of cells.new.spaces space ≡ used_of cells.old.spaces space }
-    ensures blocks { (space : ℕ) → length (space_of cells.new.spaces.spaces space) ≡ length (space_of cells.old.spaces.spaces space) }
-    ensures remembered { AreRemembered cells.old.spaces.spaces cells.old.remembered.places → AreRemembered cells.new.spaces.spaces cells.new.remembered.places }
 {
     for (to, rights) in row.iter().enumerate() {
         let holder = subjects[from as usize].place;
@@ -276,13 +252,11 @@ fn add_some<P: Payload>(cells: &mut Cells<P>, nursery: u64, from: Place, to: Pla
     requires to { IsKindAt cells.old.spaces.spaces Object to }
     requires room { is_none_held rights ≡ false → HasLeft cells.old.spaces (nursery_space nursery) 1 }
     requires old { length (space_of cells.old.spaces.spaces 0) ≡ 0 }
+    ensures kept { KeepsBlocks cells.old cells.new }
     ensures added { let content = content_in cells.old.spaces.spaces cells.old.payloads in
         ChangesTo cells.old.spaces cells.new.spaces cells.old.payloads (IsNamed content)
         (with_rights content.label (name_at cells.old.spaces.spaces from) (name_at cells.old.spaces.spaces to) rights) content.value }
-    ensures payloads { cells.new.payloads ≡ cells.old.payloads }
     ensures one_cell { TakesOneCell cells.old.spaces cells.new.spaces (nursery_space nursery) }
-    ensures blocks { (space : ℕ) → length (space_of cells.new.spaces.spaces space) ≡ length (space_of cells.old.spaces.spaces space) }
-    ensures remembered { AreRemembered cells.old.spaces.spaces cells.old.remembered.places → AreRemembered cells.new.spaces.spaces cells.new.remembered.places }
     ensures nothing { is_none_held rights ≡ true → cells.new.spaces ≡ cells.old.spaces }
 {
     if rights.is_empty() {

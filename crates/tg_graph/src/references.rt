@@ -1,11 +1,8 @@
 //! What a change of a row writes.
-ghost use Rattle.std.specs.Prelude.{◌≡◌, ◌+◌, ◌<◌, length, slice_index};
-ghost use Rattle.tg_rights.specs.RightSet.{is_none_held};
-ghost use Rattle.tg_word.specs.Word.{IsPlace, nursery_space, place_in, word_at};
-ghost use Rattle.tg_word.specs.declared.TheConstants.{MAX_NURSERIES};
+ghost use Rattle.std.specs.Prelude.{◌≡◌, slice_index};
+ghost use Rattle.tg_word.specs.Word.{IsPlace, nursery_space, word_at};
 ghost use Rattle.tg_space.specs.SpaceList.{cell_at};
-ghost use Rattle.tg_nursery.specs.Allocation.{HasLeft};
-ghost use Rattle.tg_graph.specs.Spots.{CanPut, CanWrite, chunk_put, narrowed, table_put, widened, word_put};
+ghost use Rattle.tg_graph.specs.Spots.{chunk_put, narrowed, table_put, widened, word_put, CanExtend, CanPutRights, CanRewrite};
 
 use crate::rows::Spot;
 use tg_block::{CHUNK_TAG, LINK};
@@ -16,10 +13,7 @@ use tg_word::{Place, Slot, nursery_space, pack, place_of, rights_of};
 /// Puts rights over the object at a place where they go in a row: the reference gets them too, or else the empty place
 /// gets a reference with them, or else a new chunk from a nursery, which has a cell left for it.
 pub(crate) fn put(spaces: &mut Spaces, nursery: u64, spot: Spot, to: Place, rights: Rights)
-    requires few { nursery < MAX_NURSERIES }
-    requires nursery { nursery_space nursery < length spaces.old.spaces }
-    requires can { CanPut spaces.old (nursery_space nursery) spot }
-    requires to { IsPlace to }
+    requires { CanPutRights spaces.old nursery spot to }
     ensures { spaces.new ≡ table_put spaces.old (nursery_space nursery) spot rights to }
 {
     let word = reference_to(to, rights);
@@ -32,8 +26,7 @@ pub(crate) fn put(spaces: &mut Spaces, nursery: u64, spot: Spot, to: Place, righ
 
 // Adds rights to a reference.
 fn widen(spaces: &mut Spaces, cell: Place, index: usize, rights: Rights)
-    requires can { CanWrite spaces.old cell index }
-    requires place { IsPlace (place_in (slice_index (cell_at spaces.old.spaces cell) index)) }
+    requires { CanRewrite spaces.old cell index }
     ensures { spaces.new ≡ word_put spaces.old cell index (widened (slice_index (cell_at spaces.old.spaces cell) index) rights) }
 {
     let word = spaces.read(cell, index);
@@ -43,8 +36,7 @@ fn widen(spaces: &mut Spaces, cell: Place, index: usize, rights: Rights)
 
 /// Takes rights off a reference, which becomes the empty word where it has none left.
 pub(crate) fn narrow(spaces: &mut Spaces, cell: Place, index: usize, rights: Rights)
-    requires can { CanWrite spaces.old cell index }
-    requires place { IsPlace (place_in (slice_index (cell_at spaces.old.spaces cell) index)) }
+    requires { CanRewrite spaces.old cell index }
     ensures { spaces.new ≡ word_put spaces.old cell index (narrowed (slice_index (cell_at spaces.old.spaces cell) index) rights) }
 {
     let word = spaces.read(cell, index);
@@ -59,10 +51,7 @@ pub(crate) fn narrow(spaces: &mut Spaces, cell: Place, index: usize, rights: Rig
 
 // Links the last cell of a row to a new chunk with this reference.
 fn extend(spaces: &mut Spaces, nursery: u64, last: Place, word: u64)
-    requires few { nursery < MAX_NURSERIES }
-    requires nursery { nursery_space nursery < length spaces.old.spaces }
-    requires last { CanWrite spaces.old last 7 }
-    requires left { HasLeft spaces.old (nursery_space nursery) 1 }
+    requires { CanExtend spaces.old nursery last }
     ensures { spaces.new ≡ chunk_put spaces.old (nursery_space nursery) last word }
 {
     let chunk = spaces.hand_out(nursery_space(nursery));

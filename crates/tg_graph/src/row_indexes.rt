@@ -1,24 +1,17 @@
 //! The graph in the cells, where some rows have an index: each call goes by the index of the row, if it has one, and else
 //! walks.
-ghost use Rattle.std.specs.Prelude.{◌≡◌, ◌<◌, ◌⊎◌, ℕ, List, None, false, length, nat_eq, Err, IfErr, IfOk, IfSome, IsTrue, OnErr, OnOk};
-ghost use Rattle.tg_rights.specs.RightSet.{is_none_held};
-ghost use Rattle.tg_word.specs.Word.{nursery_space};
+ghost use Rattle.std.specs.Prelude.{◌≡◌, ◌<◌, List, None, nat_eq, Err, IfOk, IsTrue};
 ghost use Rattle.tg_word.specs.declared.Place.{Place as PlaceOf};
-ghost use Rattle.tg_model.specs.Graph.{with_rights, without_rights};
-ghost use Rattle.tg_model.specs.Rules.{with_value};
 ghost use Rattle.tg_block.specs.declared.CellKind.TheVariants.{Object};
-ghost use Rattle.tg_space.specs.SpaceList.{space_of};
 ghost use Rattle.tg_space.specs.Soundness.{IsKindAt};
-ghost use Rattle.tg_space.specs.Generations.{AreRemembered};
 ghost use Rattle.tg_graph.specs.Content.{IsNamed};
-ghost use Rattle.tg_graph.specs.Following.{AreBehind, AreUncleared, IsReady, IsWay};
-ghost use Rattle.tg_graph.specs.Heap.{IsGraph, IsLongRow, content_in, rights_found};
-ghost use Rattle.tg_graph.specs.Index.{AreIndexed, IsAged, IsQuiet, IsRowIndex, MayIndex, SameIndexed, indexed_in};
+ghost use Rattle.tg_graph.specs.Following.{AreBehind, AreUncleared, IsReady, IsWay, IsFreshIndex};
+ghost use Rattle.tg_graph.specs.Heap.{IsLongRow, content_in};
+ghost use Rattle.tg_graph.specs.Index.{AreIndexed, IsAged, IsQuiet, IsRowIndex, MayIndex, indexed_in};
 ghost use Rattle.std.specs.Map.{lookup};
-ghost use Rattle.tg_graph.specs.Rows.{IsVertexAt, name_at};
-ghost use Rattle.tg_graph.specs.Spots.{IsMadeInRow, IsPutInRow, IsSpotFor, LacksCellsFor};
+ghost use Rattle.tg_graph.specs.Rows.{name_at};
 ghost use Rattle.tg_space.specs.SpaceTable.{IsSpaceTable};
-ghost use Rattle.tg_graph.specs.Steps.{ChangesTo};
+ghost use Rattle.tg_graph.specs.Deeds.{AddsEdge, CanGive, CanLook, CanMake, FollowsChange, HasObject, HasSpot, IsEdgeFound, KeepsIndexed, LooksAlong, MakesVertex, TakesRights};
 
 use crate::cells::Cells;
 use crate::heap::{Found, VertexRefused};
@@ -36,8 +29,7 @@ use tg_word::Place;
 impl<P: Payload> Cells<P> {
     /// The index of the row of an object, along which it walks once. Fails only when out of memory.
     pub(crate) fn index_of(&self, from: Place) -> Result<IndexedRow, AllocError>
-        requires graph { IsGraph self.now.spaces.spaces self.now.payloads }
-        requires from { IsKindAt self.now.spaces.spaces Object from }
+        requires { HasObject self.now from }
         ensures index { IfOk result (λ row. IsRowIndex self.now.spaces.spaces from row.names row.cells.items) }
         ensures aged { IfOk result IsAged }
         ensures quiet { (places : List PlaceOf) → IfOk result (IsQuiet places) }
@@ -67,11 +59,8 @@ impl<P: Payload> Cells<P> {
     /// row may get long. Where memory was refused, no name has another index.
     #[inline(always)]
     fn way_to_change(&self, rows: &mut LongRows, from: Place) -> Result<Way, AllocError>
-        requires graph { IsGraph self.now.spaces.spaces self.now.payloads }
-        requires from { IsKindAt self.now.spaces.spaces Object from }
-        requires indexed { AreIndexed self.now.spaces.spaces self.now.remembered.places rows.old.entries }
-        ensures indexed { AreIndexed self.now.spaces.spaces self.now.remembered.places rows.new.entries }
-        ensures names { SameIndexed rows.old.entries rows.new.entries }
+        requires { CanLook self.now rows.old from }
+        ensures rows { KeepsIndexed self.now rows.old rows.new }
         ensures ready { IfOk result (IsReady self.now.spaces.spaces rows.new from) }
     {
         let name = self.name_of(from);
@@ -84,8 +73,7 @@ impl<P: Payload> Cells<P> {
 
     // The same where the row has no index.
     fn way_unindexed(&self, rows: &mut LongRows, from: Place) -> Result<Way, AllocError>
-        requires graph { IsGraph self.now.spaces.spaces self.now.payloads }
-        requires from { IsKindAt self.now.spaces.spaces Object from }
+        requires row { HasObject self.now from }
         requires none { lookup (nat_eq (name_at self.now.spaces.spaces from)) rows.old.entries ≡ None }
         ensures entries { rows.new.entries ≡ rows.old.entries }
         ensures ready { IfOk result (IsReady self.now.spaces.spaces rows.new from) }
@@ -94,9 +82,19 @@ impl<P: Payload> Cells<P> {
             return Ok(Way::Walk);
         }
         rows.reserve()?;
+        let row = self.index_with_room(from)?;
+        Ok(Way::New(Box::new(self.alloc, row)?))
+    }
+
+    // The index of the row of an object, with room for one more name and one more cell.
+    #[inline(always)]
+    fn index_with_room(&self, from: Place) -> Result<IndexedRow, AllocError>
+        requires { HasObject self.now from }
+        ensures { IfOk result (IsFreshIndex self.now.spaces.spaces from) }
+    {
         let mut row = self.index_of(from)?;
         row.reserve()?;
-        Ok(Way::New(Box::new(self.alloc, row)?))
+        Ok(row)
     }
 
     // What follows in the indexes where rights over the vertex with a name were put at the spot for it in a row, which was looked
@@ -133,12 +131,8 @@ impl<P: Payload> Cells<P> {
     /// Where the reference to a name stands in the row of an object, or else where it may be put.
     #[inline(always)]
     pub(crate) fn spot(&self, rows: &LongRows, way: &Way, from: Place, name: u64) -> Spot
-        requires graph { IsGraph self.now.spaces.spaces self.now.payloads }
-        requires from { IsKindAt self.now.spaces.spaces Object from }
-        requires indexed { AreIndexed self.now.spaces.spaces self.now.remembered.places rows.now.entries }
-        requires way { IsWay self.now.spaces.spaces rows.now.entries from way.now }
-        ensures table { IsSpaceTable self.now.spaces }
-        ensures spot { IsSpotFor self.now.spaces.spaces name from result }
+        requires { LooksAlong self.now rows.now way.now from }
+        ensures { HasSpot self.now from name result }
     {
         match way {
             Way::Walk => find_spot(&self.spaces, from, name),
@@ -150,13 +144,9 @@ impl<P: Payload> Cells<P> {
     // Where the reference to a vertex that isn't made yet may be put in the row of an object. An index isn't asked for its name.
     #[inline(always)]
     fn spot_for_new(&self, rows: &LongRows, way: &Way, from: Place, name: u64) -> Spot
-        requires graph { IsGraph self.now.spaces.spaces self.now.payloads }
-        requires from { IsKindAt self.now.spaces.spaces Object from }
+        requires row { LooksAlong self.now rows.now way.now from }
         requires fresh { ¬ IsNamed (content_in self.now.spaces.spaces self.now.payloads) name }
-        requires indexed { AreIndexed self.now.spaces.spaces self.now.remembered.places rows.now.entries }
-        requires way { IsWay self.now.spaces.spaces rows.now.entries from way.now }
-        ensures table { IsSpaceTable self.now.spaces }
-        ensures spot { IsSpotFor self.now.spaces.spaces name from result }
+        ensures { HasSpot self.now from name result }
     {
         // It tells what holds of all spaces (`IsSpaceTable`).
         let _ = self.spaces.blocks();
@@ -170,12 +160,8 @@ impl<P: Payload> Cells<P> {
     /// The reference in the row of an object to the vertex with a name.
     #[inline(always)]
     pub(crate) fn find_edge(&self, rows: &LongRows, from: Place, name: u64) -> Option<Found>
-        requires graph { IsGraph self.now.spaces.spaces self.now.payloads }
-        requires from { IsKindAt self.now.spaces.spaces Object from }
-        requires indexed { AreIndexed self.now.spaces.spaces self.now.remembered.places rows.now.entries }
-        ensures rights { rights_found result ≡ (content_in self.now.spaces.spaces self.now.payloads).label (name_at self.now.spaces.spaces from) name }
-        ensures some { IfSome result (λ found. is_none_held found.rights ≡ false) }
-        ensures place { IfSome result (λ found. IsVertexAt self.now.spaces.spaces name found.place) }
+        requires { CanLook self.now rows.now from }
+        ensures { IsEdgeFound self.now from name result }
     {
         let way = self.way(rows, from);
         self.found_at_spot(from, name, self.spot(rows, &way, from, name))
@@ -192,26 +178,10 @@ impl<P: Payload> Cells<P> {
         to: Place,
         rights: Rights,
     ) -> Result<(), AllocateFault>
-        requires nursery { nursery_space nursery < length self.old.spaces.spaces }
-        requires graph { IsGraph self.old.spaces.spaces self.old.payloads }
-        requires from { IsKindAt self.old.spaces.spaces Object from }
-        requires to { IsKindAt self.old.spaces.spaces Object to }
-        requires some { is_none_held rights ≡ false }
-        requires indexed { AreIndexed self.old.spaces.spaces self.old.remembered.places rows.old.entries }
-        ensures added { let content = content_in self.old.spaces.spaces self.old.payloads in
-            OnOk result (ChangesTo self.old.spaces self.new.spaces self.old.payloads (IsNamed content)
-            (with_rights content.label (name_at self.old.spaces.spaces from) (name_at self.old.spaces.spaces to) rights) content.value) }
-        ensures payloads { self.new.payloads ≡ self.old.payloads }
-        ensures refused { OnErr result (self.new.spaces ≡ self.old.spaces) }
-        ensures full { result ≡ Err AllocateFault.HeapFull →
-            LacksCellsFor self.old.spaces (nursery_space nursery) 0 (name_at self.old.spaces.spaces from) (name_at self.old.spaces.spaces to) }
-        ensures placed { OnOk result (IsPutInRow self.old.spaces self.new.spaces self.old.remembered.places self.new.remembered.places (nursery_space nursery) from to rights) }
-        ensures remembered { AreRemembered self.old.spaces.spaces self.old.remembered.places → AreRemembered self.new.spaces.spaces self.new.remembered.places }
-        ensures places { OnErr result (self.new.remembered.places ≡ self.old.remembered.places) }
-        ensures indexed { AreIndexed self.new.spaces.spaces self.new.remembered.places rows.new.entries }
-        ensures long { OnOk result (IsLongRow self.new.spaces.spaces from → IsTrue (indexed_in rows.new.entries (name_at self.old.spaces.spaces from))) }
-        ensures names { MayIndex (name_at self.old.spaces.spaces from) rows.old.entries rows.new.entries }
-        ensures kept { OnErr result (SameIndexed rows.old.entries rows.new.entries) }
+        requires row { CanLook self.old rows.old from }
+        requires gift { CanGive self.old nursery to rights }
+        ensures edge { AddsEdge self.old self.new nursery from to rights result }
+        ensures rows { FollowsChange self.old self.new rows.old rows.new from result }
     {
         let Ok(way) = self.way_to_change(rows, from) else {
             return Err(AllocateFault::OutOfMemory);
@@ -233,19 +203,10 @@ impl<P: Payload> Cells<P> {
         name: u64,
         rights: Rights,
     )
-        requires graph { IsGraph self.old.spaces.spaces self.old.payloads }
-        requires from { IsKindAt self.old.spaces.spaces Object from }
-        requires indexed { AreIndexed self.old.spaces.spaces self.old.remembered.places rows.old.entries }
-        ensures dropped { let content = content_in self.old.spaces.spaces self.old.payloads in
-            ChangesTo self.old.spaces self.new.spaces self.old.payloads (IsNamed content)
-            (without_rights content.label (name_at self.old.spaces.spaces from) name rights) content.value }
-        ensures payloads { self.new.payloads ≡ self.old.payloads }
-        ensures remembered { AreRemembered self.old.spaces.spaces self.old.remembered.places → AreRemembered self.new.spaces.spaces self.old.remembered.places }
+        requires { CanLook self.old rows.old from }
+        ensures taken { TakesRights self.old self.new from name rights }
+        ensures rows { KeepsIndexed self.new rows.old rows.new }
         ensures places { self.new.remembered.places ≡ self.old.remembered.places }
-        ensures used { self.new.spaces.used ≡ self.old.spaces.used }
-        ensures blocks { (space : ℕ) → length (space_of self.new.spaces.spaces space) ≡ length (space_of self.old.spaces.spaces space) }
-        ensures indexed { AreIndexed self.new.spaces.spaces self.new.remembered.places rows.new.entries }
-        ensures kept { SameIndexed rows.old.entries rows.new.entries }
     {
         let way = self.way(rows, from);
         if let Spot::Reference { cell, index } = self.spot(rows, &way, from, name) {
@@ -265,8 +226,7 @@ impl<P: Payload> Cells<P> {
         index: usize,
     )
         requires { AreUncleared self.now.spaces self.now.remembered.places rows.old.entries way from name cell index }
-        ensures indexed { AreIndexed self.now.spaces.spaces self.now.remembered.places rows.new.entries }
-        ensures kept { SameIndexed rows.old.entries rows.new.entries }
+        ensures { KeepsIndexed self.now rows.old rows.new }
     {
         let Way::Index(at) = way else {
             return;
@@ -291,29 +251,10 @@ impl<P: Payload> Cells<P> {
         rights: Rights,
         draft: Draft<P>,
     ) -> Result<Place, VertexRefused<P>>
-        requires nursery { nursery_space nursery < length self.old.spaces.spaces }
-        requires graph { IsGraph self.old.spaces.spaces self.old.payloads }
-        requires from { IsKindAt self.old.spaces.spaces Object from }
-        requires some { is_none_held rights ≡ false }
-        requires fresh { ¬ IsNamed (content_in self.old.spaces.spaces self.old.payloads) name }
-        requires indexed { AreIndexed self.old.spaces.spaces self.old.remembered.places rows.old.entries }
-        ensures made { let content = content_in self.old.spaces.spaces self.old.payloads in
-            OnOk result (ChangesTo self.old.spaces self.new.spaces self.new.payloads (λ x. IsNamed content x ⊎ (x ≡ name))
-            (with_rights content.label (name_at self.old.spaces.spaces from) name rights) (with_value content.value name draft)) }
-        ensures vertex { IfOk result (IsVertexAt self.new.spaces.spaces name) }
-        ensures handed_back { IfErr result (λ refused. refused.draft ≡ draft) }
-        ensures spaces { OnErr result (self.new.spaces ≡ self.old.spaces) }
-        ensures payloads { OnErr result (self.new.payloads.entries ≡ self.old.payloads.entries) }
-        ensures places { OnErr result (self.new.remembered.places ≡ self.old.remembered.places) }
-        ensures remembered { AreRemembered self.old.spaces.spaces self.old.remembered.places → AreRemembered self.new.spaces.spaces self.new.remembered.places }
-        ensures placed { OnOk result (IsMadeInRow self.old.spaces self.new.spaces self.old.remembered.places self.new.remembered.places (nursery_space nursery)
-            (name_at self.old.spaces.spaces from) name rights) }
-        ensures full { IfErr result (λ refused. refused.why ≡ AllocateFault.HeapFull →
-            LacksCellsFor self.old.spaces (nursery_space nursery) 1 (name_at self.old.spaces.spaces from) name) }
-        ensures indexed { AreIndexed self.new.spaces.spaces self.new.remembered.places rows.new.entries }
-        ensures long { OnOk result (IsLongRow self.new.spaces.spaces from → IsTrue (indexed_in rows.new.entries (name_at self.old.spaces.spaces from))) }
-        ensures names { MayIndex (name_at self.old.spaces.spaces from) rows.old.entries rows.new.entries }
-        ensures kept { OnErr result (SameIndexed rows.old.entries rows.new.entries) }
+        requires row { CanLook self.old rows.old from }
+        requires vertex { CanMake self.old nursery name rights }
+        ensures vertex { MakesVertex self.old self.new nursery from name rights draft result }
+        ensures rows { FollowsChange self.old self.new rows.old rows.new from result }
     {
         let Ok(way) = self.way_to_change(rows, from) else {
             let why = AllocateFault::OutOfMemory;

@@ -1,13 +1,13 @@
 //! Walks along rows.
-ghost use Rattle.std.specs.Prelude.{◌≡◌, ◌↔◌, ◌+◌, ◌<◌, ◌≤◌, ◌++◌, [], length, map, option_map, position, IfOk, IfSome, IsTrue, OnOk};
+ghost use Rattle.std.specs.Prelude.{◌≡◌, ◌↔◌, ◌+◌, ◌<◌, ◌≤◌, ◌++◌, length, map, option_map, position, IfOk, IsTrue, OnOk, IfSome};
 ghost use Rattle.std.specs.Option.{option_or};
 ghost use Rattle.std.specs.List.{All};
 ghost use Rattle.tg_space.specs.SpaceTable.{IsSpaceTable};
-ghost use Rattle.tg_space.specs.Soundness.{AreSound, IsReference};
+ghost use Rattle.tg_space.specs.Soundness.{IsReference};
 ghost use Rattle.tg_graph.specs.Index.{name_referred};
 ghost use Rattle.tg_graph.specs.Rows.{IsRow, edges_in, row_words};
 ghost use Rattle.tg_space.specs.Rows.{row_of};
-ghost use Rattle.tg_graph.specs.Spots.{IsSpotFor, cells_for, is_empty, note_for, old_cell_if, refers_to, spot_for_new as new_spot};
+ghost use Rattle.tg_graph.specs.Spots.{cells_for, is_empty, note_for, old_cell_if, refers_to, spot_for_new as new_spot, IsPositionIn, IsSoundRow, IsSpotOf};
 
 use std::alloc::{AllocError, Global};
 use tg_block::{LINK, NAME};
@@ -82,10 +82,8 @@ pub(crate) fn may_get_long(spaces: &Spaces, from: Place) -> bool
 /// Finds where the reference to a name stands in the row of an object, or else the first empty place in chain order,
 /// or else the last cell. It walks the chain once, up to the reference if there is one.
 pub(crate) fn find_spot(spaces: &Spaces, from: Place, name: u64) -> Spot
-    requires sound { AreSound spaces.now.spaces [] }
-    requires row { IsRow spaces.now.spaces from }
-    ensures table { IsSpaceTable spaces.now }
-    ensures spot { IsSpotFor spaces.now.spaces name from result }
+    requires { IsSoundRow spaces.now.spaces from }
+    ensures { IsSpotOf spaces.now from name result }
 {
     let mut empty = None;
     let mut at = from;
@@ -113,8 +111,7 @@ pub(crate) fn find_spot(spaces: &Spaces, from: Place, name: u64) -> Spot
 #[inline(always)]
 fn position_of(spaces: &Spaces, words: &[u64], name: u64) -> Option<usize>
     requires { All (IsReference spaces.now.spaces) words.now }
-    ensures position { result ≡ position (refers_to spaces.now.spaces name) words.now }
-    ensures inside { IfSome result (λ k. k < length words.now) }
+    ensures { IsPositionIn (refers_to spaces.now.spaces name) words.now result }
 {
     for (k, word) in words.iter().enumerate() {
         if *word != 0 && spaces.read(place_of(*word), NAME) == name {
@@ -144,7 +141,7 @@ fn first_empty(
 
 // The number of the first empty place among these words.
 fn position_of_empty(words: &[u64]) -> Option<usize>
-    ensures position { result ≡ position is_empty words.now }
+    ensures is { result ≡ position is_empty words.now }
     ensures inside { IfSome result (λ k. k < length words.now) }
 {
     words.iter().position(|word| *word == 0)
@@ -168,8 +165,7 @@ pub(crate) fn edges_of(
     spaces: &Spaces,
     from: Place,
 ) -> Result<Vec<(u64, Label)>, AllocError>
-    requires sound { AreSound spaces.now.spaces [] }
-    requires row { IsRow spaces.now.spaces from }
+    requires { IsSoundRow spaces.now.spaces from }
     ensures table { OnOk result (IsSpaceTable spaces.now) }
     ensures edges { IfOk result (λ edges. edges.items ≡ edges_in spaces.now.spaces (row_words spaces.now.spaces from)) }
 {
@@ -213,8 +209,7 @@ pub(crate) fn places_of(
     spaces: &Spaces,
     from: Place,
 ) -> Result<(Vec<Option<u64>>, Vec<Place>), AllocError>
-    requires sound { AreSound spaces.now.spaces [] }
-    requires row { IsRow spaces.now.spaces from }
+    requires { IsSoundRow spaces.now.spaces from }
     ensures table { OnOk result (IsSpaceTable spaces.now) }
     ensures names { IfOk result (λ places. places.0.items ≡ map (name_referred spaces.now.spaces) (row_words spaces.now.spaces from)) }
     ensures cells { IfOk result (λ places. places.1.items ≡ row_of spaces.now.spaces from) }

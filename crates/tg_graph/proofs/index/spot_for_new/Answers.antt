@@ -11,28 +11,28 @@ place_of_number-index-requires c =
     let is = table_list c.args.spaces.now c.cells.ensures.table in
     let h = c.args.spaces.now.spaces in
     let cells = c.args.row.now.cells.items in
-    let first = subst (IsFirstVacant (row_slots h c.args.from) c.args.row.now.names.len) c.in-Some.is (c.first_empty.ensures.first (row_slots h c.args.from) c.requires.index.names) in
+    let first = subst (IsFirstVacant (row_slots h c.args.from) c.args.row.now.names.len) c.in-Some.is (c.first_empty.ensures.first (row_slots h c.args.from) c.requires.row.index.names) in
     let low = first.0 in
-    let long = places_long h is c.args.from c.requires.row c.args.row.now.names cells c.requires.index in
+    let long = places_long h is c.args.from c.requires.row.row c.args.row.now.names cells c.requires.row.index in
     let same = ap (λ (cs : List Place). length cs) c.deref.ensures.value in
     omega (arith, low, long, same)
 
-pub returns-in-Some-clause-spot : goal.returns-in-Some-clause-spot
-returns-in-Some-clause-spot c =
+pub returns-in-Some : goal.returns-in-Some
+returns-in-Some c =
     let is = table_list c.args.spaces.now c.cells.ensures.table in
     let h = c.args.spaces.now.spaces in
     let cells = c.args.row.now.cells.items in
     let e = c.place_of_number-index.result in
     let n = c.in-Some.number in
-    let first = subst (IsFirstVacant (row_slots h c.args.from) c.args.row.now.names.len) c.in-Some.is (c.first_empty.ensures.first (row_slots h c.args.from) c.requires.index.names) in
+    let first = subst (IsFirstVacant (row_slots h c.args.from) c.args.row.now.names.len) c.in-Some.is (c.first_empty.ensures.first (row_slots h c.args.from) c.requires.row.index.names) in
     let place = subst (λ (cs : List Place). IsPlaceOf cs n e) c.deref.ensures.value c.place_of_number-index.ensures in
-    (c.requires.absent, empty_nth h is c.args.from c.requires.row c.args.row.now.names cells c.requires.index n e.0 e.1 first place)
+    record { table = c.cells.ensures.table; spot = (c.requires.absent, empty_nth h is c.args.from c.requires.row.row c.args.row.now.names cells c.requires.row.index n e.0 e.1 first place) }
 
-pub returns-clause-spot : goal.returns-clause-spot
-returns-clause-spot c =
+pub returns : goal.returns
+returns c =
     let is = table_list c.args.spaces.now c.cells.ensures.table in
     let h = c.args.spaces.now.spaces in
     let cells = c.args.row.now.cells.items in
-    let full = subst (IsFirstVacant (row_slots h c.args.from) c.args.row.now.names.len) c.in_default.is (c.first_empty.ensures.first (row_slots h c.args.from) c.requires.index.names) in
-    let last = last_is h is c.args.from c.requires.row c.args.row.now.names cells c.requires.index c.index.result.now (subst (λ k. c.index.result.now ≡ get_or cells (k - 1) c.index.result.now) (c.len.ensures ∙ c.args.row.now.cells.ok.0) c.index.ensures) in
-    (c.requires.absent, empty_none h is c.args.from c.requires.row c.args.row.now.names cells c.requires.index full, last)
+    let full = subst (IsFirstVacant (row_slots h c.args.from) c.args.row.now.names.len) c.in_default.is (c.first_empty.ensures.first (row_slots h c.args.from) c.requires.row.index.names) in
+    let last = last_is h is c.args.from c.requires.row.row c.args.row.now.names cells c.requires.row.index c.index.result.now (subst (λ k. c.index.result.now ≡ get_or cells (k - 1) c.index.result.now) (c.len.ensures ∙ c.args.row.now.cells.ok.0) c.index.ensures) in
+    record { table = c.cells.ensures.table; spot = (c.requires.absent, empty_none h is c.args.from c.requires.row.row c.args.row.now.names cells c.requires.row.index full, last) }

@@ -1,9 +1,9 @@
-use Rattle.std.proofs.Common.{◌≡◌, ◌≢◌, ◌∙◌, ◌+◌, length, ap, subst, arith}
+use Rattle.std.proofs.Common.{◌≡◌, ◌≢◌, ◌∙◌, ◌+◌, length, ap, subst, arith, sym}
 use Rattle.tg_model.specs.Opened.{label_in}
 use Rattle.tg_word.specs.Word.{nursery_space}
 use Rattle.tg_payload.specs.Table.{Payloads}
 use Rattle.tg_graph.specs.Content.{IsNamed}
-use Rattle.tg_graph.specs.Heap.{content_in}
+use Rattle.tg_graph.specs.Heap.{content_in, IsGraph}
 use Rattle.tg_graph.specs.Opened.{labels_before, with_row}
 use Rattle.tg_graph.specs.Steps.{ChangesTo}
 use Rattle.tg_graph.proofs.Openings.{changes_more, changes_relabel, labels_before-all, labels_before-more, row_no_loop}
@@ -12,9 +12,6 @@ use Rattle.tg_graph.proofs.opening.add_edges.Goals as goal
 pub add_row-requires-clause-no_loop : goal.add_row-requires-clause-no_loop
 add_row-requires-clause-no_loop g c =
     c.read_row.ensures c.loop-from.from ∙ row_no_loop c.args.edges.now (length c.args.subjects.now) c.loop-from.from c.requires.edges
-
-pub add_row-requires-clause-vertices : goal.add_row-requires-clause-vertices
-add_row-requires-clause-vertices g c = λ x p at. c.loop-from.invariant.added.vertices x p (c.requires.vertices x p at)
 
 pub loop-from-preserved : goal.loop-from-preserved
 loop-from-preserved g c =
@@ -31,14 +28,14 @@ loop-from-preserved g c =
     let here : Step payloads = subst Step before.payloads step.added in
     record {
       added = changes_more t0 t1 t2 payloads (labels_before edges from) (labels_before edges (from + 1)) (λ l. with_row l from row) before.added here (labels_before-more edges from row c.read_row.ensures);
-      payloads = step.payloads ∙ before.payloads;
+      payloads = step.kept.payloads ∙ before.payloads;
       unused = λ x past.
           let few = before.unused x (omega arith) in
           let other : nursery_space x ≢ nursery_space from = λ e. omega arith in
           let same = step.others (nursery_space x) other in
           omega arith;
-      remembered = λ formed. step.remembered (before.remembered formed);
-      blocks = λ space. step.blocks space ∙ before.blocks space;
+      remembered = λ formed. step.kept.remembered (before.remembered formed);
+      blocks = λ space. step.kept.blocks space ∙ before.blocks space;
     }
 
 pub returns-clause-added : goal.returns-clause-added
@@ -51,3 +48,20 @@ returns-clause-added g c =
     let whole : c.loop-from.from ≡ workers = omega (arith, c.loop-from-test.false, c.loop-from.auto.from-end) in
     changes_relabel t0 c.loop-from.cells.spaces payloads (IsNamed content) (labels_before edges c.loop-from.from) (label_in edges) content.value
     (λ a b. ap (λ n. labels_before edges n a b) whole ∙ labels_before-all edges workers c.requires.edges a b) c.loop-from.invariant.added
+
+pub add_row-requires-clause-workers : goal.add_row-requires-clause-workers
+add_row-requires-clause-workers g c =
+    let before = c.loop-from.invariant in
+    let workers = c.requires.workers in
+    record {
+      few = workers.few;
+      graph = subst (λ (s : Payloads). IsGraph c.loop-from.cells.spaces.spaces s) (sym before.payloads) before.added.graph;
+      spaces = let same = before.added.spaces in let many = workers.spaces in omega (arith, same, many);
+      vertices = λ x p at. before.added.vertices x p (workers.vertices x p at);
+      old = before.blocks 0 ∙ workers.old;
+    }
+
+pub returns-clause-kept : goal.returns-clause-kept
+returns-clause-kept g c =
+    let done = c.loop-from.invariant in
+    record { payloads = done.payloads; blocks = done.blocks; remembered = done.remembered }

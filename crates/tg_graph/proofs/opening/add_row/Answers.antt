@@ -1,9 +1,9 @@
-use Rattle.std.proofs.Common.{◌≡◌, ◌∙◌, ◌+◌, ◌<◌, ℕ, List, true, Some, length, take, ap, subst, sym, arith, ⊎_elim}
+use Rattle.std.proofs.Common.{◌≡◌, ◌∙◌, ◌+◌, ◌<◌, ℕ, List, true, Some, length, take, ap, subst, sym, arith, ⊎_elim, refl, ◌==◌, ◌≤◌}
 use Rattle.std.specs.Prelude.{slice_get, slice_index_or}
-use Rattle.std.proofs.lemmas.Bool.{cases_eq, cases_lt}
-use Rattle.std.proofs.lemmas.List.{get_or-map, get_or_read, length-map}
+use Rattle.std.proofs.lemmas.Bool.{cases_eq, cases_lt, cond_both, eqb-true}
+use Rattle.std.proofs.lemmas.List.{get_or-map, get_or_read, length-map, take_all}
 use Rattle.std.proofs.lemmas.Option.{slice_get-get_or}
-use Rattle.tg_rights.specs.RightSet.{is_none_held, no_rights}
+use Rattle.tg_rights.specs.RightSet.{is_none_held, no_rights, RightSet}
 use Rattle.tg_model.specs.Graph.{with_rights}
 use Rattle.tg_word.specs.Word.{nursery_space}
 use Rattle.tg_word.specs.declared.Place.{Place}
@@ -34,7 +34,7 @@ vertex_numbered h subjects x at low =
 pub add_some-requires-clause-from : goal.add_some-requires-clause-from
 add_some-requires-clause-from g c =
     let subjects = c.args.subjects.now in
-    let vertex = vertex_numbered c.args.cells.now.spaces.spaces subjects c.args.from c.requires.vertices c.requires.from in
+    let vertex = vertex_numbered c.args.cells.now.spaces.spaces subjects c.args.from c.requires.workers.vertices c.requires.from in
     (c.loop-to.invariant.added.vertices c.args.from (slice_index_or subjects c.args.from nobody).place vertex).object
 
 pub add_some-requires-clause-to : goal.add_some-requires-clause-to
@@ -42,12 +42,12 @@ add_some-requires-clause-to g c =
     let subjects = c.args.subjects.now in
     let to = c.loop-to.to in
     let low : to < length subjects = let a = c.loop-to-test.true in let b = c.requires.row in omega (arith, a, b) in
-    let vertex = vertex_numbered c.args.cells.now.spaces.spaces subjects to c.requires.vertices low in
+    let vertex = vertex_numbered c.args.cells.now.spaces.spaces subjects to c.requires.workers.vertices low in
     (c.loop-to.invariant.added.vertices to (slice_index_or subjects to nobody).place vertex).object
 
 pub add_some-requires-clause-nursery : goal.add_some-requires-clause-nursery
 add_some-requires-clause-nursery g c =
-    let kept = c.loop-to.invariant.added.spaces in let spaces = c.requires.spaces in let from = c.requires.from in omega (arith, kept, spaces, from)
+    let kept = c.loop-to.invariant.added.spaces in let spaces = c.requires.workers.spaces in let from = c.requires.from in omega (arith, kept, spaces, from)
 
 pub add_some-requires-clause-graph : goal.add_some-requires-clause-graph
 add_some-requires-clause-graph g c =
@@ -66,7 +66,7 @@ add_some-requires-clause-room g c =
     let used = before.used in
     let blocks = before.blocks (nursery_space from) in
     let block = c.requires.block in
-    let few = c.requires.few in
+    let few = c.requires.workers.few in
     let long = c.requires.row in
     let low = c.requires.from in
     ⊎_elim
@@ -100,8 +100,8 @@ loop-to-preserved g c =
     let q = (slice_index_or subjects to nobody).place in
     let inside = c.loop-to-test.true in
     let low : to < length subjects = let b = c.requires.row in omega (arith, inside, b) in
-    let vertex_p = vertex_numbered t0.spaces subjects from c.requires.vertices c.requires.from in
-    let vertex_q = vertex_numbered t0.spaces subjects to c.requires.vertices low in
+    let vertex_p = vertex_numbered t0.spaces subjects from c.requires.workers.vertices c.requires.from in
+    let vertex_q = vertex_numbered t0.spaces subjects to c.requires.workers.vertices low in
     let name_p : name_at t1.spaces p ≡ from = (before.added.vertices from p vertex_p).named in
     let name_q : name_at t1.spaces q ≡ to = (before.added.vertices to q vertex_q).named in
     let Step : Payloads → ℕ → ℕ → Type 0 = λ s n m. ChangesTo t1 t2 s (IsNamed (content_in t1.spaces s)) (with_rights (content_in t1.spaces s).label n m r) (content_in t1.spaces s).value in
@@ -110,10 +110,10 @@ loop-to-preserved g c =
     let used_before = before.used in
     record {
       added = changes_more t0 t1 t2 payloads (with_row content.label from (take to row)) (with_row content.label from (take (to + 1) row)) (λ l. with_rights l from to r) before.added here (with_row-more content.label from row to r inside c.index-row-to.is);
-      payloads = step.payloads ∙ before.payloads;
+      payloads = step.kept.payloads ∙ before.payloads;
       others = λ space ne. step.one_cell.others space ne ∙ before.others space ne;
-      blocks = λ space. step.blocks space ∙ before.blocks space;
-      remembered = λ formed. step.remembered (before.remembered formed);
+      blocks = λ space. step.kept.blocks space ∙ before.blocks space;
+      remembered = λ formed. step.kept.remembered (before.remembered formed);
       used = omega arith;
       used_past = λ past.
           ⊎_elim
@@ -129,5 +129,44 @@ loop-to-preserved g c =
 pub returns-clause-others : goal.returns-clause-others
 returns-clause-others g c = c.loop-to.invariant.others
 
-pub returns-clause-blocks : goal.returns-clause-blocks
-returns-clause-blocks g c = c.loop-to.invariant.blocks
+pub add_some-requires-clause-old : goal.add_some-requires-clause-old
+add_some-requires-clause-old g c = c.loop-to.invariant.blocks 0 ∙ c.requires.workers.old
+
+pub returns-clause-kept : goal.returns-clause-kept
+returns-clause-kept g c =
+    let done = c.loop-to.invariant in
+    record { payloads = done.payloads; blocks = done.blocks; remembered = done.remembered }
+
+pub loop-to-init : goal.loop-to-init
+loop-to-init g c =
+    let h = c.args.cells.now.spaces.spaces in
+    let content = content_in h c.args.cells.now.payloads in
+    let from = c.args.from in
+    record {
+      added = record {
+        graph = c.requires.workers.graph;
+        content = record {
+          names = λ x. (λ is. is, λ is. is);
+          labels = λ x y. cond_both (x == from) _ _ (λ (s : RightSet). content.label x y ≡ s) (λ same. subst (λ n. content.label n y ≡ no_rights) (sym (eqb-true x from same)) (c.requires.labels y)) (λ _. refl);
+          values = λ x. refl;
+        };
+        vertices = λ x p is. is;
+        spaces = refl;
+        limits = refl;
+      };
+      payloads = refl;
+      others = λ space apart. refl;
+      blocks = λ space. refl;
+      remembered = λ before. before;
+      used = c.requires.unused;
+      used_past = λ past. absurd (omega arith);
+    }
+
+pub returns-clause-added : goal.returns-clause-added
+returns-clause-added g c =
+    let t = c.args.cells.now.spaces in
+    let payloads = c.args.cells.now.payloads in
+    let content = content_in t.spaces payloads in
+    let row = c.args.row.now in
+    let past : length row ≤ c.loop-to.to = c.loop-to-test.false in
+    subst (λ (rs : List RightSet). ChangesTo t c.loop-to.cells.spaces payloads (IsNamed content) (with_row content.label c.args.from rs) content.value) (take_all c.loop-to.to row past) c.loop-to.invariant.added

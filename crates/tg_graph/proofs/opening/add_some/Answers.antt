@@ -15,40 +15,14 @@ with_none label x y rights none a b =
     (λ _. sym (ap (union (label a b)) (none_held-same rights none) ∙ union_none (label a b)))
     (λ _. refl)
 
-pub put_edge-requires-clause-some : goal.put_edge-requires-clause-some
-put_edge-requires-clause-some g c = sym c.is_empty.ensures ∙ c.if-is_empty.false
-
-pub find_spot-spot-requires-clause-sound : goal.find_spot-spot-requires-clause-sound
-find_spot-spot-requires-clause-sound g c = c.requires.graph.sound
-
-pub find_spot-spot-requires-clause-row : goal.find_spot-spot-requires-clause-row
-find_spot-spot-requires-clause-row g c = record { object = c.requires.from; ends = c.requires.graph.ends c.args.from c.requires.from }
-
-pub put_edge-requires-clause-table : goal.put_edge-requires-clause-table
-put_edge-requires-clause-table g c = c.find_spot-spot.ensures.table
-
-pub put_edge-requires-clause-spot : goal.put_edge-requires-clause-spot
-put_edge-requires-clause-spot g c = subst (λ n. IsSpotFor c.args.cells.now.spaces.spaces n c.args.from c.find_spot-spot.result) c.name_of.ensures c.find_spot-spot.ensures.spot
-
 pub unwrap-requires : goal.unwrap-requires
 unwrap-requires g c = c.put_edge.ensures.had_room (c.requires.room (sym c.is_empty.ensures ∙ c.if-is_empty.false)) c.requires.old
 
 pub returns-clause-added : goal.returns-clause-added
-returns-clause-added g c = rw c.unwrap.ensures at c.put_edge.ensures.added
+returns-clause-added g c = rw c.unwrap.ensures at c.put_edge.ensures.edge.added
 
 pub returns-clause-one_cell : goal.returns-clause-one_cell
 returns-clause-one_cell g c = rw c.unwrap.ensures at c.put_edge.ensures.one_cell
-
-pub returns-clause-payloads : goal.returns-clause-payloads
-returns-clause-payloads g c = c.put_edge.ensures.payloads
-
-pub returns-clause-remembered : goal.returns-clause-remembered
-returns-clause-remembered g c = c.put_edge.ensures.remembered
-
-pub returns-clause-blocks : goal.returns-clause-blocks
-returns-clause-blocks g c =
-    let left = c.requires.room (sym c.is_empty.ensures ∙ c.if-is_empty.false) in
-    (rw c.unwrap.ensures at c.put_edge.ensures.one_cell).blocks left
 
 pub returns-then-is_empty-clause-one_cell : goal.returns-then-is_empty-clause-one_cell
 returns-then-is_empty-clause-one_cell g c = record { here = omega arith; others = λ other apart. refl; blocks = λ left other. refl }
@@ -65,3 +39,26 @@ returns-then-is_empty-clause-added g c =
       spaces = refl;
       limits = refl;
     }
+
+pub find_spot-spot-requires : goal.find_spot-spot-requires
+find_spot-spot-requires g c = record { sound = c.requires.graph.sound; row = record { object = c.requires.from; ends = c.requires.graph.ends c.args.from c.requires.from } }
+
+pub put_edge-requires-clause-row : goal.put_edge-requires-clause-row
+put_edge-requires-clause-row g c = record {
+  table = c.find_spot-spot.ensures.table;
+  graph = c.requires.graph;
+  from = c.requires.from;
+  spot = subst (λ n. IsSpotFor c.args.cells.now.spaces.spaces n c.args.from c.find_spot-spot.result) c.name_of.ensures c.find_spot-spot.ensures.spot;
+}
+
+pub put_edge-requires-clause-gift : goal.put_edge-requires-clause-gift
+put_edge-requires-clause-gift g c = record { nursery = c.requires.nursery; to = c.requires.to; some = sym c.is_empty.ensures ∙ c.if-is_empty.false }
+
+pub returns-clause-kept : goal.returns-clause-kept
+returns-clause-kept g c =
+    let left = c.requires.room (sym c.is_empty.ensures ∙ c.if-is_empty.false) in
+    let one = rw c.unwrap.ensures at c.put_edge.ensures.one_cell in
+    record { payloads = c.put_edge.ensures.edge.payloads; blocks = one.blocks left; remembered = c.put_edge.ensures.edge.remembered }
+
+pub returns-then-is_empty-clause-kept : goal.returns-then-is_empty-clause-kept
+returns-then-is_empty-clause-kept g c = record { payloads = refl; blocks = λ space. refl; remembered = λ before. before }

@@ -1,11 +1,14 @@
-use Rattle.std.proofs.Common.{◌∙◌, inl, inr, sym, ap, subst, arith, set, length}
+use Rattle.std.proofs.Common.{◌∙◌, inl, inr, sym, ap, subst, arith, set, length, ◌≤◌, List}
 use Rattle.std.specs.Prelude.{slice_index_or}
 use Rattle.std.proofs.lemmas.List.Elements.{All-get_or}
 use Rattle.tg_rights.specs.RightSet.{no_rights, union}
-use Rattle.tg_model.specs.Opened.{JoinsWorkers}
+use Rattle.tg_model.specs.Opened.{JoinsWorkers, label_in}
 use Rattle.tg_graph.proofs.Openings.{row_step}
 use Rattle.tg_graph.proofs.opening.read_row.Goals as goal
 use Rattle.tg_graph.proofs.opening.read_row.Goals.{then-edge-from, else-edge-from}
+use Rattle.tg_model.specs.declared.edge.Edge.{Edge}
+use Rattle.std.proofs.lemmas.List.{drop_all}
+use Rattle.tg_rights.specs.RightLaws.{union_none}
 
 pub loop-edge-preserved : goal.loop-edge-preserved
 loop-edge-preserved c =
@@ -26,3 +29,12 @@ loop-edge-preserved c =
       | else-edge-from w ↦ inr (λ e. w.if-edge-from.false (sym e), w.row-is)
     ])
     (c.loop-edge.invariant y)
+
+pub returns : goal.returns
+returns c =
+    λ y.
+    let edges = c.args.edges.now in
+    let i = c.loop-edge.edge-index in
+    let past : length edges ≤ i = c.loop-edge-test.false in
+    let own = slice_index_or c.loop-edge.row y no_rights in
+    sym (union_none own) ∙ ap (λ (es : List Edge). union own (label_in es c.args.from y)) (sym (drop_all i edges past)) ∙ c.loop-edge.invariant y

@@ -4,17 +4,17 @@ use Rattle.tg_graph.specs.Spots.{refers_to}
 use Rattle.tg_graph.proofs.Walks.{position_is, position_none, refers_is}
 use Rattle.tg_graph.proofs.rows.position_of.Goals as goal
 
-pub returns-then-read-name-clause-position : goal.returns-then-read-name-clause-position
-returns-then-read-name-clause-position c =
+pub returns-then-read-name : goal.returns-then-read-name
+returns-then-read-name c =
     let h = c.args.spaces.now.spaces in
     let words = c.args.words.now in
     let word = get_or words c.loop-k.k 0 in
     let named : name_at h c.place_of.result ≡ c.args.name = sym c.read.ensures ∙ c.if-read-name.true in
     let here = refers_is h c.args.name word c.if-word-ne0.true (ap (name_at h) (sym c.place_of.ensures) ∙ named) in
-    sym (position_is (refers_to h c.args.name) words c.loop-k.k 0 c.loop-k-test.true c.loop-k.invariant here)
+    record { is = sym (position_is (refers_to h c.args.name) words c.loop-k.k 0 c.loop-k-test.true c.loop-k.invariant here); inside = c.loop-k-test.true }
 
-pub returns-clause-position : goal.returns-clause-position
-returns-clause-position c =
+pub returns : goal.returns
+returns c =
     let h = c.args.spaces.now.spaces in
     let words = c.args.words.now in
-    sym (position_none (refers_to h c.args.name) words 0 (λ k inside. c.loop-k.invariant k (omega (arith, inside, c.loop-k-test.false))))
+    record { is = sym (position_none (refers_to h c.args.name) words 0 (λ k inside. c.loop-k.invariant k (omega (arith, inside, c.loop-k-test.false)))); inside = tt }

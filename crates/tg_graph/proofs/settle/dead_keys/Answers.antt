@@ -52,3 +52,6 @@ returns-clause-keys c key =
 
 pub returns-clause-each_once : goal.returns-clause-each_once
 returns-clause-each_once c = c.loop-number.invariant.keys.once
+
+pub dead_key-requires-clause-cell : goal.dead_key-requires-clause-cell
+dead_key-requires-clause-cell c = record { table = c.cells-cells.ensures.table; inside = omega (arith, c.loop-number-test.true, c.cells-cells.ensures.cells) }

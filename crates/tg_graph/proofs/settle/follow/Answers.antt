@@ -10,13 +10,6 @@ use Rattle.tg_graph.specs.Kept.{moved_place}
 use Rattle.tg_graph.proofs.Members.{still_at}
 use Rattle.tg_graph.proofs.settle.follow.Goals as goal
 
-pub followed-requires-clause-held : goal.followed-requires-clause-held
-followed-requires-clause-held c =
-    let h = c.args.spaces.now.spaces in
-    let d : Place = record { space = 0; block = 0; cell = 0 } in
-    let same = still_at Place (moved_place (from_space c.args.kind) h (new_place c.args.forward.now.words)) c.args.places.now c.loop-place.places c.loop-place.place-index d c.loop-place.invariant c.loop-place-test.true in
-    subst (Holds h) (sym same) (c.requires.held c.loop-place.place-index d c.loop-place-test.true)
-
 pub loop-place-preserved : goal.loop-place-preserved
 loop-place-preserved c =
     let f = moved_place (from_space c.args.kind) c.args.spaces.now.spaces (new_place c.args.forward.now.words) in
@@ -38,3 +31,10 @@ returns c =
     ∙ ap (λ (zs : List Place). map f zs ++ drop i xs) (take_all i xs past)
     ∙ ap (λ (zs : List Place). map f xs ++ zs) (drop_all i xs past)
     ∙ append-nil (map f xs)
+
+pub followed-requires : goal.followed-requires
+followed-requires c =
+    let h = c.args.spaces.now.spaces in
+    let d : Place = record { space = 0; block = 0; cell = 0 } in
+    let same = still_at Place (moved_place (from_space c.args.kind) h (new_place c.args.forward.now.words)) c.args.places.now c.loop-place.places c.loop-place.place-index d c.loop-place.invariant c.loop-place-test.true in
+    record { held = subst (Holds h) (sym same) (c.requires.held c.loop-place.place-index d c.loop-place-test.true); whole = c.requires.whole }

@@ -21,22 +21,6 @@ as_many xs ys same = sym (length-map ys (λ (x : Subject). x.name)) ∙ ap (λ (
 abbrev nobody : Subject
 nobody = record { name = 0; nursery = 0; place = record { space = 0; block = 0; cell = 0 } }
 
-pub followed-requires-clause-held : goal.followed-requires-clause-held
-followed-requires-clause-held c =
-    let h = c.args.spaces.now.spaces in
-    let f = moved_place (from_space Full) h (new_place c.args.forward.now.words) in
-    let before = c.loop-at.invariant in
-    let xs = places_of c.args.subjects.now in
-    let subjects = c.loop-at.subjects in
-    let i = c.loop-at.at in
-    let many = as_many c.args.subjects.now subjects before.names in
-    let long = length-map c.args.subjects.now (λ (x : Subject). x.place) in
-    let inside : i < length xs = let low = c.loop-at-test.true in let count = c.len-at-end.ensures.number in omega (arith, low, count, long) in
-    let low : i < length subjects = omega (arith, inside, many, long) in
-    let here : (get_or subjects i nobody).place ≡ get_or xs i nobody.place =
-    sym (get_or-map (λ (x : Subject). x.place) subjects i nobody nobody.place low) ∙ still_at Place f xs (places_of subjects) i nobody.place before.places inside in
-    subst (λ (ss : List Subject). Holds h (get_or ss i nobody).place) (sym c.as_slice.ensures.value) (subst (Holds h) (sym here) (c.requires.held i nobody.place inside))
-
 pub loop-at-preserved : goal.loop-at-preserved
 loop-at-preserved c =
     let f = moved_place (from_space Full) c.args.spaces.now.spaces (new_place c.args.forward.now.words) in
@@ -59,16 +43,35 @@ loop-at-preserved c =
       places = c.set_place.ensures.places ∙ ap (λ (place : Place). set ys i place) c.followed.ensures ∙ map_over_more f xs ys i p inside before.places (read ∙ get_or_default ys i nobody.place p within);
     }
 
-pub returns-clause-places : goal.returns-clause-places
-returns-clause-places c =
+pub followed-requires : goal.followed-requires
+followed-requires c =
+    let h = c.args.spaces.now.spaces in
+    let f = moved_place (from_space Full) h (new_place c.args.forward.now.words) in
+    let before = c.loop-at.invariant in
+    let xs = places_of c.args.subjects.now in
+    let subjects = c.loop-at.subjects in
+    let i = c.loop-at.at in
+    let many = as_many c.args.subjects.now subjects before.names in
+    let long = length-map c.args.subjects.now (λ (x : Subject). x.place) in
+    let inside : i < length xs = let low = c.loop-at-test.true in let count = c.len-at-end.ensures.number in omega (arith, low, count, long) in
+    let low : i < length subjects = omega (arith, inside, many, long) in
+    let here : (get_or subjects i nobody).place ≡ get_or xs i nobody.place =
+    sym (get_or-map (λ (x : Subject). x.place) subjects i nobody nobody.place low) ∙ still_at Place f xs (places_of subjects) i nobody.place before.places inside in
+    record { held = subst (λ (ss : List Subject). Holds h (get_or ss i nobody).place) (sym c.as_slice.ensures.value) (subst (Holds h) (sym here) (c.requires.held i nobody.place inside)); whole = c.requires.whole }
+
+pub returns : goal.returns
+returns c =
     let f = moved_place (from_space Full) c.args.spaces.now.spaces (new_place c.args.forward.now.words) in
     let xs = places_of c.args.subjects.now in
     let i = c.loop-at.at in
     let past : length xs ≤ i = let same = length-map c.args.subjects.now (λ (x : Subject). x.place) in let end = c.loop-at-test.false in let count = c.len-at-end.ensures.number in omega arith in
-    c.loop-at.invariant.places
-    ∙ ap (λ (zs : List Place). map f zs ++ drop i xs) (take_all i xs past)
-    ∙ ap (λ (zs : List Place). map f xs ++ zs) (drop_all i xs past)
-    ∙ append-nil (map f xs)
-
-pub returns-clause-subjects : goal.returns-clause-subjects
-returns-clause-subjects c = c.loop-at.invariant.subjects
+    let done = c.loop-at.invariant in
+    record {
+      names = done.names;
+      nurseries = done.nurseries;
+      places_are = done.places
+          ∙ ap (λ (zs : List Place). map f zs ++ drop i xs) (take_all i xs past)
+          ∙ ap (λ (zs : List Place). map f xs ++ zs) (drop_all i xs past)
+          ∙ append-nil (map f xs);
+      subjects = done.subjects;
+    }

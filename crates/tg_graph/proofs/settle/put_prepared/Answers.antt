@@ -1,4 +1,4 @@
-use Rattle.std.proofs.Common.{◌≢◌, ℕ, List, IsSome, AllPairs, sym, subst}
+use Rattle.std.proofs.Common.{◌≢◌, ℕ, List, IsSome, AllPairs, sym, subst, ◌∙◌}
 use Rattle.std.specs.List.{All, Contains}
 use Rattle.tg_payload.specs.Table.{entry}
 use Rattle.tg_space.specs.Soundness.{IsOldCell}
@@ -20,3 +20,8 @@ returns-clause-written g c = subst (λ (cells : List Rewritten). AreWritten c.ar
 
 pub returns-clause-dropped : goal.returns-clause-dropped
 returns-clause-dropped g c = subst (λ (keys : List ℕ). Drops c.args.cells.now.payloads c.drop_payloads.new.payloads (Contains keys)) c.deref-2.ensures.value c.drop_payloads.ensures
+
+pub returns-clause-subjects : goal.returns-clause-subjects
+returns-clause-subjects g c =
+    let put = c.put_places.ensures in
+    record { names = put.names; nurseries = put.nurseries; places_are = put.places ∙ c.deref-3.ensures.value; subjects = put.subjects }

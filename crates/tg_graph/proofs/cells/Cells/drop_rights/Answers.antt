@@ -1,4 +1,4 @@
-use Rattle.std.proofs.Common.{List, ap, sym, subst}
+use Rattle.std.proofs.Common.{List, ap, sym, subst, refl}
 use Rattle.tg_remember.specs.Notes.{Notes}
 use Rattle.tg_word.specs.declared.Place.{Place}
 use Rattle.tg_graph.specs.Index.{AreIndexed}
@@ -21,6 +21,20 @@ forget-requires g c = record {
   looked = c.way-way.ensures;
 }
 
-pub returns-in_default-clause-dropped : goal.returns-in_default-clause-dropped
-returns-in_default-clause-dropped g c =
-    nothing_dropped c.args.self.now.spaces c.args.self.now.payloads c.spot.ensures.table c.requires.graph c.args.from c.requires.from c.args.name c.spot.result c.spot.ensures.spot c.in_default.not-Reference c.args.rights
+pub returns-in_default-clause-taken : goal.returns-in_default-clause-taken
+returns-in_default-clause-taken g c = record {
+  dropped = nothing_dropped c.args.self.now.spaces c.args.self.now.payloads c.spot.ensures.table c.requires.graph c.args.from c.requires.from c.args.name c.spot.result c.spot.ensures.spot c.in_default.not-Reference c.args.rights;
+  payloads = refl;
+  remembered = λ before. before;
+  used = refl;
+  blocks = λ space. refl;
+}
+
+pub returns-in_default-clause-rows : goal.returns-in_default-clause-rows
+returns-in_default-clause-rows g c = record { indexed = c.requires.indexed; kept = λ x. refl }
+
+pub returns-in-Reference-clause-taken : goal.returns-in-Reference-clause-taken
+returns-in-Reference-clause-taken g c = c.narrow_reference.ensures.taken
+
+pub returns-in-Reference-clause-rows : goal.returns-in-Reference-clause-rows
+returns-in-Reference-clause-rows g c = c.forget.ensures

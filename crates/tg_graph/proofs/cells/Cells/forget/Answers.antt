@@ -72,8 +72,8 @@ invariant_of-rows g c =
     written_aged es (set_value_at es c.in-Index.at new) c.rows.inside.old_rows c.in-Index.at low c.rows.invariant new refl (still.0 (subst IsAged (sym same) (aged_at es c.rows.inside.old_rows c.rows.invariant own c.in-Index.at was)))
     (old_or_behind es c.rows.inside.old_rows c.rows.invariant own c.in-Index.at was new (λ is_old. still.1 (subst IsOldRow (sym same) is_old)))
 
-pub returns-clause-indexed : goal.returns-clause-indexed
-returns-clause-indexed g c =
+pub returns : goal.returns
+returns g c =
     let old = c.requires.old.spaces in
     let own = name_at old c.args.from in
     let es = c.rows.inside.indexes.entries in
@@ -88,13 +88,11 @@ returns-clause-indexed g c =
     let index = index_narrowed taken row.names row.cells.items is.0 c.read-word.result c.read-word.ensures new.names c.forget_if_empty.ensures.len c.forget_if_empty.ensures.gone c.forget_if_empty.ensures.kept in
     let cells = ap (λ (v : Vec Place Global). v.items) c.forget_if_empty.ensures.cells in
     let written = updates-with_value_at c.rows.inside.indexes c.in-Index.at new nat_eq_equiv c.get_index_mut.ensures.unique own was.row was.here in
-    indexes_written old c.args.self.now.spaces.spaces (narrowed_vertices taken) c.args.from taken.object (narrowed_others taken) places places (others_quiet_same old places places c.args.from refl) es indexed own refl
-    (set_value_at es c.in-Index.at new) new written.0 (subst (λ (ps : List Place). IsRowIndex c.args.self.now.spaces.spaces c.args.from new.names ps) (sym cells) index)
-    (quiet_same places row new c.forget_if_empty.ensures.cells c.forget_if_empty.ensures.quiet is.1)
-
-pub returns-clause-kept : goal.returns-clause-kept
-returns-clause-kept g c =
-    let es = c.rows.inside.indexes.entries in
     let rows = c.args.rows.now.entries in
     let first : SameIndexed rows es = subst (λ (s : Indexes). SameIndexed rows s.entries) (sym c.rows.view_is) (λ x. refl) in
-    written_indexed rows es c.in-Index.at c.forget_if_empty.new.self first
+    record {
+      indexed = indexes_written old c.args.self.now.spaces.spaces (narrowed_vertices taken) c.args.from taken.object (narrowed_others taken) places places (others_quiet_same old places places c.args.from refl) es indexed own refl
+          (set_value_at es c.in-Index.at new) new written.0 (subst (λ (ps : List Place). IsRowIndex c.args.self.now.spaces.spaces c.args.from new.names ps) (sym cells) index)
+          (quiet_same places row new c.forget_if_empty.ensures.cells c.forget_if_empty.ensures.quiet is.1);
+      kept = written_indexed rows es c.in-Index.at new first;
+    }

@@ -19,27 +19,6 @@ found_at-requires-clause-inside g c =
     let reference = reference_found h c.args.from c.args.name c.in-Reference.cell c.in-Reference.index (subst (λ (s : Spot). IsSpotFor h c.args.name c.args.from s) c.in-Reference.is c.requires.spot) in
     omega (arith, reference.to)
 
-pub returns-in-Reference-clause-rights : goal.returns-in-Reference-clause-rights
-returns-in-Reference-clause-rights g c =
-    let h = c.args.self.now.spaces.spaces in
-    let reference = reference_found h c.args.from c.args.name c.in-Reference.cell c.in-Reference.index (subst (λ (s : Spot). IsSpotFor h c.args.name c.args.from s) c.in-Reference.is c.requires.spot) in
-    ap (λ found. found.rights) c.found_at.ensures ∙ sym reference.rights
-    ∙ sym (label_is_read h c.args.self.now.payloads (table_list c.args.self.now.spaces c.requires.table) c.requires.graph c.args.from c.requires.from c.args.name)
-
-pub returns-in-Reference-clause-some : goal.returns-in-Reference-clause-some
-returns-in-Reference-clause-some g c =
-    let h = c.args.self.now.spaces.spaces in
-    let reference = reference_found h c.args.from c.args.name c.in-Reference.cell c.in-Reference.index (subst (λ (s : Spot). IsSpotFor h c.args.name c.args.from s) c.in-Reference.is c.requires.spot) in
-    let refers = found_refers h c.args.self.now.payloads (table_list c.args.self.now.spaces c.requires.table) c.requires.graph c.args.from c.requires.from c.args.name c.in-Reference.cell c.in-Reference.index reference in
-    rw c.found_at.ensures refers.rights
-
-pub returns-in-Reference-clause-place : goal.returns-in-Reference-clause-place
-returns-in-Reference-clause-place g c =
-    let h = c.args.self.now.spaces.spaces in
-    let reference = reference_found h c.args.from c.args.name c.in-Reference.cell c.in-Reference.index (subst (λ (s : Spot). IsSpotFor h c.args.name c.args.from s) c.in-Reference.is c.requires.spot) in
-    let refers = found_refers h c.args.self.now.payloads (table_list c.args.self.now.spaces c.requires.table) c.requires.graph c.args.from c.requires.from c.args.name c.in-Reference.cell c.in-Reference.index reference in
-    rw c.found_at.ensures (record { object = refers.object; named = reference.named })
-
 pub returns-in_default : goal.returns-in_default
 returns-in_default g c =
     let h = c.args.self.now.spaces.spaces in
@@ -48,4 +27,17 @@ returns-in_default g c =
       rights = sym (none_refers h c.args.self.now.payloads (table_list c.args.self.now.spaces c.requires.table) c.requires.graph c.args.from c.requires.from c.args.name none);
       some = tt;
       place = tt;
+    }
+
+pub returns-in-Reference : goal.returns-in-Reference
+returns-in-Reference g c =
+    let h = c.args.self.now.spaces.spaces in
+    let payloads = c.args.self.now.payloads in
+    let list = table_list c.args.self.now.spaces c.requires.table in
+    let reference = reference_found h c.args.from c.args.name c.in-Reference.cell c.in-Reference.index (subst (λ (s : Spot). IsSpotFor h c.args.name c.args.from s) c.in-Reference.is c.requires.spot) in
+    let refers = found_refers h payloads list c.requires.graph c.args.from c.requires.from c.args.name c.in-Reference.cell c.in-Reference.index reference in
+    record {
+      rights = ap (λ found. found.rights) c.found_at.ensures ∙ sym reference.rights ∙ sym (label_is_read h payloads list c.requires.graph c.args.from c.requires.from c.args.name);
+      some = rw c.found_at.ensures refers.rights;
+      place = rw c.found_at.ensures (record { object = refers.object; named = reference.named });
     }

@@ -19,48 +19,42 @@ use Rattle.tg_graph.proofs.Remembering.{narrowed_remembered}
 use Rattle.tg_graph.proofs.Putting.{can_write, narrowed_becomes}
 use Rattle.tg_graph.proofs.cells.Cells.narrow_reference.Goals as goal
 
-pub narrow-requires-clause-can : goal.narrow-requires-clause-can
-narrow-requires-clause-can g c =
-    let t = c.args.self.now.spaces in
-    let reference = reference_found t.spaces c.args.from c.args.name c.args.cell c.args.index c.requires.spot in
-    let to = reference.to in
-    can_write t c.requires.table c.args.self.now.payloads c.requires.graph c.args.from c.requires.from c.args.cell c.args.index reference.cell (omega arith)
-
-pub narrow-requires-clause-place : goal.narrow-requires-clause-place
-narrow-requires-clause-place g c =
-    let t = c.args.self.now.spaces in
-    let reference = reference_found t.spaces c.args.from c.args.name c.args.cell c.args.index c.requires.spot in
-    let refers = found_refers t.spaces c.args.self.now.payloads (table_list t c.requires.table) c.requires.graph c.args.from c.requires.from c.args.name c.args.cell c.args.index reference in
-    present_place (slice_index (cell_at t.spaces c.args.cell) c.args.index) refers.present
-
-pub returns-clause-dropped : goal.returns-clause-dropped
-returns-clause-dropped g c =
+pub returns-clause-taken : goal.returns-clause-taken
+returns-clause-taken g c =
     let t = c.args.self.now.spaces in
     let payloads = c.args.self.now.payloads in
+    let list = table_list t c.requires.table in
     let content = content_in t.spaces payloads in
     let cell = c.args.cell in
-    let word = slice_index (cell_at t.spaces cell) c.args.index in
-    let label = without_rights content.label (name_at t.spaces c.args.from) c.args.name c.args.rights in
-    let becomes = narrowed_becomes t c.requires.table payloads c.requires.graph c.args.from c.requires.from c.args.name c.args.rights cell c.args.index c.requires.spot in
-    subst (λ (x : SpaceTable). ChangesTo t x payloads (IsNamed content) label content.value) (sym c.narrow.ensures)
-    (changes t (word_put t cell c.args.index (narrowed word c.args.rights)) payloads (IsNamed content) label content.value becomes (length-set t.spaces cell.space _) refl)
-
-pub returns-clause-remembered : goal.returns-clause-remembered
-returns-clause-remembered g c =
-    λ before.
-    let t = c.args.self.now.spaces in
-    let places = c.args.self.now.remembered.places in
-    subst (λ (x : SpaceTable). AreRemembered x.spaces places) (sym c.narrow.ensures)
-    (narrowed_remembered t c.requires.table c.args.self.now.payloads c.requires.graph c.args.from c.requires.from c.args.name c.args.rights c.args.cell c.args.index c.requires.spot places before)
-
-pub returns-clause-blocks : goal.returns-clause-blocks
-returns-clause-blocks g c =
-    let t = c.args.self.now.spaces in
-    let cell = c.args.cell in
     let words = cell_at t.spaces cell in
-    let reference = reference_found t.spaces c.args.from c.args.name cell c.args.index c.requires.spot in
+    let word = slice_index words c.args.index in
+    let label = without_rights content.label (name_at t.spaces c.args.from) c.args.name c.args.rights in
+    record {
+      dropped =
+          subst (λ (x : SpaceTable). ChangesTo t x payloads (IsNamed content) label content.value) (sym c.narrow.ensures)
+          (changes t (word_put t cell c.args.index (narrowed word c.args.rights)) payloads (IsNamed content) label content.value
+          (narrowed_becomes t c.requires.table payloads c.requires.graph c.args.from c.requires.from c.args.name c.args.rights cell c.args.index c.requires.spot) (length-set t.spaces cell.space _) refl);
+      payloads = refl;
+      remembered = λ before.
+          let places = c.args.self.now.remembered.places in
+          subst (λ (x : SpaceTable). AreRemembered x.spaces places) (sym c.narrow.ensures)
+          (narrowed_remembered t c.requires.table payloads c.requires.graph c.args.from c.requires.from c.args.name c.args.rights cell c.args.index c.requires.spot places before);
+      used = ap (λ (x : SpaceTable). x.used) c.narrow.ensures;
+      blocks = λ space.
+          let reference = reference_found t.spaces c.args.from c.args.name cell c.args.index c.requires.spot in
+          let to = reference.to in
+          let can = can_write t c.requires.table payloads c.requires.graph c.args.from c.requires.from cell c.args.index reference.cell (omega arith) in
+          let shape = shape_kept t.spaces list cell can.held (slice_set words c.args.index (narrowed word c.args.rights)) in
+          ap (λ (x : SpaceTable). length (space_of x.spaces space)) c.narrow.ensures ∙ shape.blocks space;
+    }
+
+pub narrow-requires : goal.narrow-requires
+narrow-requires g c =
+    let t = c.args.self.now.spaces in
+    let reference = reference_found t.spaces c.args.from c.args.name c.args.cell c.args.index c.requires.spot in
     let to = reference.to in
-    let can = can_write t c.requires.table c.args.self.now.payloads c.requires.graph c.args.from c.requires.from cell c.args.index reference.cell (omega arith) in
-    let later = slice_set words c.args.index (narrowed (slice_index words c.args.index) c.args.rights) in
-    let shape = shape_kept t.spaces (table_list t c.requires.table) cell can.held later in
-    λ space. ap (λ (x : SpaceTable). length (space_of x.spaces space)) c.narrow.ensures ∙ shape.blocks space
+    let refers = found_refers t.spaces c.args.self.now.payloads (table_list t c.requires.table) c.requires.graph c.args.from c.requires.from c.args.name c.args.cell c.args.index reference in
+    record {
+      can = can_write t c.requires.table c.args.self.now.payloads c.requires.graph c.args.from c.requires.from c.args.cell c.args.index reference.cell (omega arith);
+      place = present_place (slice_index (cell_at t.spaces c.args.cell) c.args.index) refers.present;
+    }

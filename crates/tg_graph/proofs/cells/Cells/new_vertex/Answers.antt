@@ -5,12 +5,9 @@ use Rattle.tg_graph.specs.Following.{IsRowPut}
 use Rattle.tg_graph.specs.Index.{AreIndexed, MayIndex, indexed_in}
 use Rattle.tg_graph.specs.Rows.{name_at}
 use Rattle.tg_graph.proofs.Following.{ready_way}
-use Rattle.tg_graph.proofs.Heaps.{always_err}
 use Rattle.tg_graph.proofs.IndexedRows.{may_index, may_index_after}
+use Rattle.std.proofs.lemmas.Result.{err_from_is_err_and}
 use Rattle.tg_graph.proofs.cells.Cells.new_vertex.Goals as goal
-
-pub spot_for_new-spot-requires-clause-way : goal.spot_for_new-spot-requires-clause-way
-spot_for_new-spot-requires-clause-way g c = ready_way c.args.self.now.spaces.spaces c.way_to_change.new.rows c.args.from c.in-Ok.way c.in-Ok.ensures.ready
 
 pub follow-requires : goal.follow-requires
 follow-requires g c =
@@ -24,34 +21,83 @@ follow-requires g c =
       payloads = c.args.self.now.payloads;
       places = places;
       table = c.spot_for_new-spot.ensures.table;
-      graph = c.requires.graph;
-      object = c.requires.from;
-      indexed = c.way_to_change.ensures.indexed;
+      graph = c.requires.row.graph;
+      object = c.requires.row.from;
+      indexed = c.way_to_change.ensures.rows.indexed;
       looked = c.in-Ok.ensures.ready;
       put = subst (λ (o : Option Place). IsRowPut t new places later c.args.from c.args.name spot o) (sym c.note.ensures) c.in_ok-to.ensures.put;
     }
 
-pub returns-in_default-clause-names : goal.returns-in_default-clause-names
-returns-in_default-clause-names g c = may_index (name_at c.args.self.now.spaces.spaces c.args.from) c.args.rows.now.entries c.way_to_change.new.rows.entries c.way_to_change.ensures.names
+pub spot_for_new-spot-requires-clause-row : goal.spot_for_new-spot-requires-clause-row
+spot_for_new-spot-requires-clause-row g c = record {
+  graph = c.requires.row.graph;
+  from = c.requires.row.from;
+  indexed = c.way_to_change.ensures.rows.indexed;
+  way = ready_way c.args.self.now.spaces.spaces c.way_to_change.new.rows c.args.from c.in-Ok.way c.in-Ok.ensures.ready;
+}
 
-pub returns-in_err-to-clause-indexed : goal.returns-in_err-to-clause-indexed
-returns-in_err-to-clause-indexed g c =
-    subst (λ (x : SpaceTable). AreIndexed x.spaces c.put_vertex.new.self.remembered.places c.way_to_change.new.rows.entries) (sym c.in_err-to.ensures.spaces)
-    (subst (λ (ps : List Place). AreIndexed c.args.self.now.spaces.spaces ps c.way_to_change.new.rows.entries) (sym c.in_err-to.ensures.places) c.way_to_change.ensures.indexed)
+pub returns-in_default-clause-vertex : goal.returns-in_default-clause-vertex
+returns-in_default-clause-vertex g c = record {
+  made = tt;
+  vertex = tt;
+  handed_back = refl;
+  spaces = refl;
+  payloads = refl;
+  places = refl;
+  remembered = λ before. before;
+  placed = tt;
+  full = λ is. absurd (cc is);
+}
 
-pub returns-in_err-to-clause-names : goal.returns-in_err-to-clause-names
-returns-in_err-to-clause-names g c = may_index (name_at c.args.self.now.spaces.spaces c.args.from) c.args.rows.now.entries c.way_to_change.new.rows.entries c.way_to_change.ensures.names
+pub returns-in_default-clause-rows : goal.returns-in_default-clause-rows
+returns-in_default-clause-rows g c = record {
+  indexed = c.way_to_change.ensures.rows.indexed;
+  long = tt;
+  names = may_index (name_at c.args.self.now.spaces.spaces c.args.from) c.args.rows.now.entries c.way_to_change.new.rows.entries c.way_to_change.ensures.rows.kept;
+  kept = c.way_to_change.ensures.rows.kept;
+}
 
-pub returns-in_err-to-clause-kept : goal.returns-in_err-to-clause-kept
-returns-in_err-to-clause-kept g c = always_err c.from_residual.result c.way_to_change.ensures.names
+pub returns-in_err-to-clause-vertex : goal.returns-in_err-to-clause-vertex
+returns-in_err-to-clause-vertex g c =
+    let given = err_from_is_err_and c.from_residual.result c.from_residual.ensures.1 in
+    let was = c.in_err-to.ensures.vertex in
+    record {
+      made = rw given.1 tt;
+      vertex = rw given.1 tt;
+      handed_back = rw (given.1, given.2) was.handed_back;
+      spaces = rw given.1 was.spaces;
+      payloads = rw given.1 was.payloads;
+      places = rw given.1 was.places;
+      remembered = was.remembered;
+      placed = rw given.1 tt;
+      full = rw (given.1, given.2) was.full;
+    }
 
-pub returns-clause-long : goal.returns-clause-long
-returns-clause-long g c =
-    let own = (c.in_ok-to.ensures.made.vertices (name_at c.args.self.now.spaces.spaces c.args.from) c.args.from (record { object = c.requires.from; named = refl })).named in
-    λ long. subst (λ n. indexed_in c.follow.new.rows.entries n ≡ true) own (c.follow.ensures.long long)
+pub returns-in_err-to-clause-rows : goal.returns-in_err-to-clause-rows
+returns-in_err-to-clause-rows g c =
+    let given = err_from_is_err_and c.from_residual.result c.from_residual.ensures.1 in
+    let was = c.in_err-to.ensures.vertex in
+    let rows = c.way_to_change.ensures.rows in
+    record {
+      indexed = subst (λ (x : SpaceTable). AreIndexed x.spaces c.put_vertex.new.self.remembered.places c.way_to_change.new.rows.entries) (sym was.spaces)
+          (subst (λ (ps : List Place). AreIndexed c.args.self.now.spaces.spaces ps c.way_to_change.new.rows.entries) (sym was.places) rows.indexed);
+      long = rw given.1 tt;
+      names = may_index (name_at c.args.self.now.spaces.spaces c.args.from) c.args.rows.now.entries c.way_to_change.new.rows.entries rows.kept;
+      kept = rw given.1 rows.kept;
+    }
 
-pub returns-clause-names : goal.returns-clause-names
-returns-clause-names g c =
-    let own = (c.in_ok-to.ensures.made.vertices (name_at c.args.self.now.spaces.spaces c.args.from) c.args.from (record { object = c.requires.from; named = refl })).named in
-    may_index_after (name_at c.args.self.now.spaces.spaces c.args.from) c.args.rows.now.entries c.way_to_change.new.rows.entries c.follow.new.rows.entries c.way_to_change.ensures.names
-    (subst (λ n. MayIndex n c.way_to_change.new.rows.entries c.follow.new.rows.entries) own c.follow.ensures.names)
+pub returns-clause-rows : goal.returns-clause-rows
+returns-clause-rows g c =
+    let own = (c.in_ok-to.ensures.vertex.made.vertices (name_at c.args.self.now.spaces.spaces c.args.from) c.args.from (record { object = c.requires.row.from; named = refl })).named in
+    record {
+      indexed = c.follow.ensures.indexed;
+      long = λ long. subst (λ n. indexed_in c.follow.new.rows.entries n ≡ true) own (c.follow.ensures.long long);
+      names = may_index_after (name_at c.args.self.now.spaces.spaces c.args.from) c.args.rows.now.entries c.way_to_change.new.rows.entries c.follow.new.rows.entries c.way_to_change.ensures.rows.kept
+          (subst (λ n. MayIndex n c.way_to_change.new.rows.entries c.follow.new.rows.entries) own c.follow.ensures.names);
+      kept = tt;
+    }
+
+pub returns-clause-vertex : goal.returns-clause-vertex
+returns-clause-vertex g c =
+    let done = c.in_ok-to.ensures.vertex in
+    record { made = done.made; vertex = done.vertex; handed_back = tt; spaces = tt; payloads = tt; places = tt; remembered = done.remembered; placed = done.placed; full = tt }

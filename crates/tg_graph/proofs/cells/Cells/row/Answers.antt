@@ -22,6 +22,6 @@ returns g c =
     let sorted = IsNonDecreasingBy-from_sort_by_key (λ e. e.0) edges c.sort_unstable_by_key.ensures.sorted (λ a r q k. search rules) in
     c.from_vec.ensures
     ∙ listing_is h (row_words h from) (content_in h payloads).label (name_at h from) n edges
-    (label_is_read h payloads is c.requires.graph from c.requires.from) (words_are_references h payloads is c.requires.graph from c.requires.from) (c.requires.graph.targets from c.requires.from)
-    (λ word has some. All-contains (λ x. x < n) (content_in h payloads).names (name_in h word) below (target_named h payloads is c.requires.graph from c.requires.from word has some))
+    (label_is_read h payloads is c.requires.graph from c.requires.object) (words_are_references h payloads is c.requires.graph from c.requires.object) (c.requires.graph.targets from c.requires.object)
+    (λ word has some. All-contains (λ x. x < n) (content_in h payloads).names (name_in h word) below (target_named h payloads is c.requires.graph from c.requires.object word has some))
     permuted sorted

@@ -10,7 +10,7 @@ use Rattle.tg_graph.proofs.IndexedRows.{Entries}
 use Rattle.tg_graph.proofs.cells.Cells.way_unindexed.Goals as goal
 
 pub may_get_long-requires : goal.may_get_long-requires
-may_get_long-requires g c = record { object = c.requires.from; ends = c.requires.graph.ends c.args.from c.requires.from }
+may_get_long-requires g c = record { object = c.requires.row.object; ends = c.requires.row.graph.ends c.args.from c.requires.row.object }
 
 pub returns-then-not-may_get_long-clause-ready : goal.returns-then-not-may_get_long-clause-ready
 returns-then-not-may_get_long-clause-ready g c =
@@ -26,13 +26,16 @@ returns-then-not-may_get_long-clause-ready g c =
 pub returns-clause-ready : goal.returns-clause-ready
 returns-clause-ready g c =
     let made = c.in_ok-row.ensures in
-    let ready : IsReadyNew c.args.self.now.spaces.spaces c.reserve.new.self c.args.from c.reserve-2.new.self =
+    let ready : IsReadyNew c.args.self.now.spaces.spaces c.reserve.new.self c.args.from c.in_ok-row.row =
     record {
       none = subst (λ (es : Entries). lookup (nat_eq (name_at c.args.self.now.spaces.spaces c.args.from)) es ≡ None) (sym c.reserve.ensures.entries) c.requires.none;
       spare = c.in_ok-reserve.ensures.room;
-      index = c.reserve-2.ensures.kept c.args.self.now.spaces.spaces c.args.from made.index;
-      aged = c.reserve-2.ensures.aged made.aged;
-      quiet = λ places. c.reserve-2.ensures.quiet places (made.quiet places);
-      room = record { names = c.in_ok-reserve-2.ensures.names; cells = c.in_ok-reserve-2.ensures.cells };
+      index = made.index;
+      aged = made.aged;
+      quiet = made.quiet;
+      room = made.room;
     } in
     subst (λ (r : IndexedRow). IsReadyNew c.args.self.now.spaces.spaces c.reserve.new.self c.args.from r) (sym c.in_ok-new.ensures.ok) ready
+
+pub index_with_room-requires : goal.index_with_room-requires
+index_with_room-requires g c = c.requires.row

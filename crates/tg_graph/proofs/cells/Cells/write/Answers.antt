@@ -14,7 +14,7 @@ pub write-requires : goal.write-requires
 write-requires g c =
     let h = c.args.self.now.spaces.spaces in
     let key : get_or c.cell-cell.result 2 0 ≡ key_at h c.args.at = ap (λ (ws : List ℕ). get_or ws 2 0) c.cell-cell.ensures.words in
-    (c.requires.graph.payloads_used (get_or c.cell-cell.result 2 0)).1 (c.args.at, c.requires.at, sym key)
+    (c.requires.graph.payloads_used (get_or c.cell-cell.result 2 0)).1 (c.args.at, c.requires.object, sym key)
 
 pub returns-clause-written : goal.returns-clause-written
 returns-clause-written g c =
@@ -30,7 +30,7 @@ returns-clause-written g c =
     (λ _. ChangesTo t t new (IsNamed content) content.label values)
     (λ _ updates.
     changes t t new (IsNamed content) content.label values
-    (written_becomes h payloads new (table_list t c.cell-cell.ensures.table) c.requires.graph c.args.at c.requires.at c.args.number
+    (written_becomes h payloads new (table_list t c.cell-cell.ensures.table) c.requires.graph c.args.at c.requires.object c.args.number
     (subst (λ k. Updates payloads new k (option_map (written c.args.number) (entry payloads k))) key updates))
     refl refl)
     c.write.ensures.written

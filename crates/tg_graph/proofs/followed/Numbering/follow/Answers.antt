@@ -9,12 +9,12 @@ use Rattle.tg_graph.specs.Index.{IsNumbered, followed_place}
 use Rattle.tg_graph.proofs.Members.{still_at}
 use Rattle.tg_graph.proofs.followed.Numbering.follow.Goals as goal
 
-pub followed-requires-clause-numbered : goal.followed-requires-clause-numbered
-followed-requires-clause-numbered c =
+pub followed-requires : goal.followed-requires
+followed-requires c =
     let h = c.args.self.now.starts in
     let d : Place = record { space = 0; block = 0; cell = 0 } in
     let same = still_at Place (followed_place (from_space c.args.kind) h (new_place c.args.forward.now.words)) c.args.places.now c.loop-place.places c.loop-place.place-index d c.loop-place.invariant c.loop-place-test.true in
-    subst (IsNumbered h (length c.args.forward.now.words)) (sym same) (c.requires.numbered c.loop-place.place-index d c.loop-place-test.true)
+    subst (IsNumbered h (length c.args.forward.now.words)) (sym same) (c.requires c.loop-place.place-index d c.loop-place-test.true)
 
 pub loop-place-preserved : goal.loop-place-preserved
 loop-place-preserved c =

@@ -1,5 +1,5 @@
 -- The heap that a full collection leaves.
-use Rattle.std.proofs.Common.{◌≡◌, [], length, ap, arith, refl, subst}
+use Rattle.std.proofs.Common.{[], ◌≡◌, length, ap, arith, refl, subst}
 use Rattle.tg_space.specs.SpaceTable.{with_adopted}
 use Rattle.tg_space.specs.declared.kind.Kind.TheVariants.{Full}
 use Rattle.tg_graph.specs.Heap.{HeapState}
@@ -11,13 +11,6 @@ use Rattle.tg_graph.proofs.heap.Heap.keep_copied.Goals.{After-drop-self-inside-4
 use Rattle.tg_graph.specs.Index.{names_indexed}
 use Rattle.tg_space.proofs.Tables.{table_list}
 use Rattle.tg_graph.proofs.heap.Heap.keep_copied.Goals as goal
-
-pub follow_subjects-requires-clause-held : goal.follow_subjects-requires-clause-held
-follow_subjects-requires-clause-held g c =
-    let inside = c.self.inside in
-    let s : HeapState = record { table = inside.cells.spaces; payloads = inside.cells.payloads; subjects = inside.subjects; remembered = inside.cells.remembered.places; indexed = names_indexed inside.cells.spaces.spaces inside.rows.entries } in
-    let objects = subject_objects s.table.spaces s.subjects c.self.invariant.0.vertices in
-    λ k d low. (objects k d low).held
 
 -- the heap as its parts are once the blocks were adopted
 abbrev now : (g : Over) → After-drop-self-inside-4 g → HeapState
@@ -33,7 +26,7 @@ left g c =
     (rw c.unwrap.ensures at c.adopt.ensures.adopted)
     (rw c.unwrap.ensures at c.adopt.ensures.table)
     c.drop_uncopied.ensures.dropped
-    (record { names = c.follow_subjects.ensures.names; nurseries = c.follow_subjects.ensures.nurseries; places_are = c.follow_subjects.ensures.places; subjects = c.follow_subjects.ensures.subjects })
+    c.follow_subjects.ensures
     refl
     c.follow.new.self.entries
     (record {
@@ -46,19 +39,6 @@ left g c =
       after = refl;
     })
 
-pub follow-requires-clause-few : goal.follow-requires-clause-few
-follow-requires-clause-few g c =
-    let whole = collected_words Full c.self.inside.cells.spaces.spaces c.args.self.now c.args.forward.now.words c.args.adoption.aged c.args.adoption.old c.args.remembered.places (ap (λ (heap : HeapState). heap.table.spaces) c.self.view_is) c.requires in
-    let few = c.of-numbering.ensures.few in
-    omega (arith, whole, few)
-
-pub follow-requires-clause-rows : goal.follow-requires-clause-rows
-follow-requires-clause-rows g c =
-    let inside = c.self.inside in
-    let whole = collected_words Full inside.cells.spaces.spaces c.args.self.now c.args.forward.now.words c.args.adoption.aged c.args.adoption.old c.args.remembered.places (ap (λ (heap : HeapState). heap.table.spaces) c.self.view_is) c.requires in
-    followable inside.cells.spaces.spaces inside.cells.payloads (table_list inside.cells.spaces c.of-numbering.ensures.table) c.self.invariant.0.graph c.of-numbering.result.starts c.of-numbering.ensures.starts [] inside.rows.entries
-    (indexed_beside_none inside.cells.spaces.spaces inside.cells.remembered.places inside.rows.entries c.self.invariant.1) (length c.args.forward.now.words) whole
-
 pub invariant_of-self : goal.invariant_of-self
 invariant_of-self g c = ((left g c).well_formed, (left g c).indexed)
 
@@ -68,3 +48,19 @@ returns-clause-blocks g c =
 
 pub returns-clause-settled : goal.returns-clause-settled
 returns-clause-settled g c = (left g c).settled
+
+pub follow-requires : goal.follow-requires
+follow-requires g c =
+    let inside = c.self.inside in
+    let whole = collected_words Full inside.cells.spaces.spaces c.args.self.now c.args.forward.now.words c.args.adoption.aged c.args.adoption.old c.args.remembered.places (ap (λ (heap : HeapState). heap.table.spaces) c.self.view_is) c.requires in
+    let few = c.of-numbering.ensures.few in
+    followable inside.cells.spaces.spaces inside.cells.payloads (table_list inside.cells.spaces c.of-numbering.ensures.table) c.self.invariant.0.graph c.of-numbering.result.starts c.of-numbering.ensures.starts [] inside.rows.entries
+    (indexed_beside_none inside.cells.spaces.spaces inside.cells.remembered.places inside.rows.entries c.self.invariant.1) (length c.args.forward.now.words) whole (omega (arith, whole, few))
+
+pub follow_subjects-requires : goal.follow_subjects-requires
+follow_subjects-requires g c =
+    let inside = c.self.inside in
+    let s : HeapState = record { table = inside.cells.spaces; payloads = inside.cells.payloads; subjects = inside.subjects; remembered = inside.cells.remembered.places; indexed = names_indexed inside.cells.spaces.spaces inside.rows.entries } in
+    let objects = subject_objects s.table.spaces s.subjects c.self.invariant.0.vertices in
+    let whole = collected_words Full s.table.spaces c.args.self.now c.args.forward.now.words c.args.adoption.aged c.args.adoption.old c.args.remembered.places (ap (λ (heap : HeapState). heap.table.spaces) c.self.view_is) c.requires in
+    record { held = λ k d low. (objects k d low).held; whole = whole }

@@ -19,11 +19,6 @@ use Rattle.tg_graph.specs.Steps.{ChangesTo}
 use Rattle.tg_graph.proofs.Heaps.{both_errors, both_oks, content_after, indexed_named, is_indexed, names_same, new_unindexed, own_kept, still_indexed, either_way, error_gives, heap_with, nursery_inside, places_kept, success_gives, well_formed_after, well_formed_roomy, worker_there}
 use Rattle.tg_graph.proofs.heap.Heap.new_vertex_as.Goals as goal
 
-pub new_vertex-requires-clause-from : goal.new_vertex-requires-clause-from
-new_vertex-requires-clause-from g c =
-    let s : HeapState = record { table = c.self.inside.cells.spaces; payloads = c.self.inside.cells.payloads; subjects = c.self.inside.subjects; remembered = c.self.inside.cells.remembered.places; indexed = names_indexed c.self.inside.cells.spaces.spaces c.self.inside.rows.entries } in
-    (worker_there s c.args.self.now c.self.view_is c.self.invariant.0 c.args.worker c.requires.worker).object
-
 pub invariant_of-self : goal.invariant_of-self
 invariant_of-self g c =
     let s : HeapState = record { table = c.self.inside.cells.spaces; payloads = c.self.inside.cells.payloads; subjects = c.self.inside.subjects; remembered = c.self.inside.cells.remembered.places; indexed = names_indexed c.self.inside.cells.spaces.spaces c.self.inside.rows.entries } in
@@ -32,11 +27,11 @@ invariant_of-self g c =
     let named = λ (x : ℕ). IsNamed content x ⊎ (x ≡ c.args.name) in
     let label = with_rights content.label (name_of s c.args.worker.place) c.args.name c.rights.result in
     let values = with_value content.value c.args.name c.args.draft in (
-      either_way c.new_vertex.result c.new_vertex.ensures.made (both_errors ((new.spaces ≡ s.table) × (new.payloads.entries ≡ s.payloads.entries)) (new.remembered.places ≡ s.remembered) c.new_vertex.result
-          (both_errors (new.spaces ≡ s.table) (new.payloads.entries ≡ s.payloads.entries) c.new_vertex.result c.new_vertex.ensures.spaces c.new_vertex.ensures.payloads) c.new_vertex.ensures.places)
-          (λ to. well_formed_after s new.spaces new.payloads new.remembered.places (names_indexed new.spaces.spaces c.new_vertex.new.rows.entries) named label values to (c.new_vertex.ensures.remembered c.self.invariant.0.remembered) c.self.invariant.0)
+      either_way c.new_vertex.result c.new_vertex.ensures.vertex.made (both_errors ((new.spaces ≡ s.table) × (new.payloads.entries ≡ s.payloads.entries)) (new.remembered.places ≡ s.remembered) c.new_vertex.result
+          (both_errors (new.spaces ≡ s.table) (new.payloads.entries ≡ s.payloads.entries) c.new_vertex.result c.new_vertex.ensures.vertex.spaces c.new_vertex.ensures.vertex.payloads) c.new_vertex.ensures.vertex.places)
+          (λ to. well_formed_after s new.spaces new.payloads new.remembered.places (names_indexed new.spaces.spaces c.new_vertex.new.rows.entries) named label values to (c.new_vertex.ensures.vertex.remembered c.self.invariant.0.remembered) c.self.invariant.0)
           (λ same. well_formed_roomy s new.spaces new.payloads new.remembered.places (names_indexed new.spaces.spaces c.new_vertex.new.rows.entries) c.self.invariant.0 same.0.0 same.0.1 same.1),
-      c.new_vertex.ensures.indexed,
+      c.new_vertex.ensures.rows.indexed,
     )
 
 pub returns-clause-made : goal.returns-clause-made
@@ -57,7 +52,7 @@ returns-clause-made g c =
     let here : Made s (name_of s from) c.rights.result = content_after s new.spaces new.payloads new.remembered.places (names_indexed new.spaces.spaces c.new_vertex.new.rows.entries) named label values to in
     let by_worker : Made s c.args.worker.name c.rights.result = subst (λ n. Made s n c.rights.result) vertex.named here in
     subst (λ (x : HeapState). Made x c.args.worker.name c.args.label) c.self.view_is (subst (λ r. Made s c.args.worker.name r) c.rights.ensures.same by_worker))
-    c.new_vertex.ensures.made
+    c.new_vertex.ensures.vertex.made
 
 pub returns-clause-kept : goal.returns-clause-kept
 returns-clause-kept g c =
@@ -70,13 +65,7 @@ returns-clause-kept g c =
     let values = with_value content.value c.args.name c.args.draft in
     IfOk-weaker c.new_vertex.result (λ _. ChangesTo s.table new.spaces new.payloads named label values) (λ _. KeepsPlaces c.args.self.now after)
     (λ _ to. subst (λ (x : HeapState). KeepsPlaces x after) c.self.view_is (places_kept s new.spaces new.payloads new.remembered.places (names_indexed new.spaces.spaces c.new_vertex.new.rows.entries) named label values to))
-    c.new_vertex.ensures.made
-
-pub new_vertex-requires-clause-nursery : goal.new_vertex-requires-clause-nursery
-new_vertex-requires-clause-nursery g c =
-    let s : HeapState = record { table = c.self.inside.cells.spaces; payloads = c.self.inside.cells.payloads; subjects = c.self.inside.subjects; remembered = c.self.inside.cells.remembered.places; indexed = names_indexed c.self.inside.cells.spaces.spaces c.self.inside.rows.entries } in
-    let there : Contains s.subjects c.args.worker = subst (λ (x : HeapState). Contains x.subjects c.args.worker) (sym c.self.view_is) c.requires.worker in
-    nursery_inside s c.self.invariant.0 c.args.worker there
+    c.new_vertex.ensures.vertex.made
 
 pub returns-clause-placed : goal.returns-clause-placed
 returns-clause-placed g c =
@@ -90,7 +79,7 @@ returns-clause-placed g c =
     let by_worker : Placed s subject.nursery subject.name c.rights.result = subst (λ n. Placed s subject.nursery n c.rights.result) vertex.named placed in
     let by_label : Placed s subject.nursery subject.name c.args.label = subst (λ r. Placed s subject.nursery subject.name r) c.rights.ensures.same by_worker in
     subst (λ (x : HeapState). Placed x subject.nursery subject.name c.args.label) c.self.view_is by_label)
-    c.new_vertex.ensures.placed
+    c.new_vertex.ensures.vertex.placed
 
 pub returns-clause-full : goal.returns-clause-full
 returns-clause-full g c =
@@ -102,7 +91,7 @@ returns-clause-full g c =
     (λ refused lacks full.
     let by_worker : Lacks s subject.nursery subject.name = subst (λ n. Lacks s subject.nursery n) vertex.named (lacks full) in
     subst (λ (x : HeapState). Lacks x subject.nursery subject.name) c.self.view_is by_worker)
-    c.new_vertex.ensures.full
+    c.new_vertex.ensures.vertex.full
 
 pub returns-clause-indexed : goal.returns-clause-indexed
 returns-clause-indexed g c =
@@ -114,7 +103,7 @@ returns-clause-indexed g c =
     let own = name_of s from in
     let rows = c.self.inside.rows.entries in
     let later = c.new_vertex.new.rows.entries in
-    let may = c.new_vertex.ensures.names in
+    let may = c.new_vertex.ensures.rows.names in
     let whole = table_list s.table c.blocks-2.ensures.table in
     let named = λ (x : ℕ). IsNamed content x ⊎ (x ≡ c.args.name) in
     let label = with_rights content.label own c.args.name c.rights.result in
@@ -134,7 +123,7 @@ returns-clause-indexed g c =
           (cases_eq x c.args.name);
     } in
     subst (λ (x : HeapState). KeepsIndexes x after from) c.self.view_is here)
-    (both_oks (ChangesTo s.table new.spaces new.payloads named label values) (IsLongRow new.spaces.spaces from → IsTrue (indexed_in later own)) c.new_vertex.result c.new_vertex.ensures.made c.new_vertex.ensures.long)
+    (both_oks (ChangesTo s.table new.spaces new.payloads named label values) (IsLongRow new.spaces.spaces from → IsTrue (indexed_in later own)) c.new_vertex.result c.new_vertex.ensures.vertex.made c.new_vertex.ensures.rows.long)
 
 pub returns-clause-refused : goal.returns-clause-refused
 returns-clause-refused g c =
@@ -147,4 +136,23 @@ returns-clause-refused g c =
     (λ same. let here : IsUnchangedHeap s after = record { table = same.0.0.0; entries = same.0.0.1; subjects = refl; remembered = same.0.1; indexed = names_same s.table.spaces new.spaces.spaces c.self.inside.rows.entries later (ap (λ (t : SpaceTable). t.spaces) same.0.0.0) same.1 } in subst (λ (x : HeapState). IsUnchangedHeap x after) c.self.view_is here)
     (both_errors (((new.spaces ≡ s.table) × (new.payloads.entries ≡ s.payloads.entries)) × (new.remembered.places ≡ s.remembered)) Same c.new_vertex.result
     (both_errors ((new.spaces ≡ s.table) × (new.payloads.entries ≡ s.payloads.entries)) (new.remembered.places ≡ s.remembered) c.new_vertex.result
-    (both_errors (new.spaces ≡ s.table) (new.payloads.entries ≡ s.payloads.entries) c.new_vertex.result c.new_vertex.ensures.spaces c.new_vertex.ensures.payloads) c.new_vertex.ensures.places) c.new_vertex.ensures.kept)
+    (both_errors (new.spaces ≡ s.table) (new.payloads.entries ≡ s.payloads.entries) c.new_vertex.result c.new_vertex.ensures.vertex.spaces c.new_vertex.ensures.vertex.payloads) c.new_vertex.ensures.vertex.places) c.new_vertex.ensures.rows.kept)
+
+pub new_vertex-requires-clause-row : goal.new_vertex-requires-clause-row
+new_vertex-requires-clause-row g c =
+    let s : HeapState = record { table = c.self.inside.cells.spaces; payloads = c.self.inside.cells.payloads; subjects = c.self.inside.subjects; remembered = c.self.inside.cells.remembered.places; indexed = names_indexed c.self.inside.cells.spaces.spaces c.self.inside.rows.entries } in
+    record {
+      graph = c.self.invariant.0.graph;
+      from = (worker_there s c.args.self.now c.self.view_is c.self.invariant.0 c.args.worker c.requires.worker).object;
+      indexed = c.self.invariant.1;
+    }
+
+pub new_vertex-requires-clause-vertex : goal.new_vertex-requires-clause-vertex
+new_vertex-requires-clause-vertex g c =
+    let s : HeapState = record { table = c.self.inside.cells.spaces; payloads = c.self.inside.cells.payloads; subjects = c.self.inside.subjects; remembered = c.self.inside.cells.remembered.places; indexed = names_indexed c.self.inside.cells.spaces.spaces c.self.inside.rows.entries } in
+    let there : Contains s.subjects c.args.worker = subst (λ (x : HeapState). Contains x.subjects c.args.worker) (sym c.self.view_is) c.requires.worker in
+    record {
+      nursery = nursery_inside s c.self.invariant.0 c.args.worker there;
+      some = c.rights.ensures.held;
+      fresh = subst (λ (x : HeapState). IsNamed (content_of x) c.args.name → ⊥) (sym c.self.view_is) c.requires.fresh;
+    }

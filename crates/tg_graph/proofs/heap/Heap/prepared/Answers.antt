@@ -12,30 +12,10 @@ use Rattle.tg_graph.specs.Index.{names_indexed}
 use Rattle.tg_graph.specs.Heap.{HeapState}
 use Rattle.tg_graph.specs.Kept.{IsPrepared, moved_place}
 use Rattle.tg_graph.specs.declared.settle.Prepared.{Prepared}
-use Rattle.tg_graph.proofs.KeptHeap.{remembered_cells}
+use Rattle.tg_graph.proofs.KeptHeap.{collected_words, remembered_cells}
 use Rattle.tg_graph.proofs.KeptReached.{subject_objects}
 use Rattle.tg_graph.proofs.KeptSettled.{items_mapped, words_in_range}
 use Rattle.tg_graph.proofs.heap.Heap.prepared.Goals as goal
-
-pub rewritten_cells-requires-clause-places : goal.rewritten_cells-requires-clause-places
-rewritten_cells-requires-clause-places g c =
-    let inside = c.self.inside in
-    let s : HeapState = record { table = inside.cells.spaces; payloads = inside.cells.payloads; subjects = inside.subjects; remembered = inside.cells.remembered.places; indexed = names_indexed inside.cells.spaces.spaces inside.rows.entries } in
-    words_in_range s c.args.self.now c.self.view_is c.self.invariant.0 c.in_ok-dead.ensures.table c.args.forward.now.words c.args.adoption.now.aged c.args.adoption.now.old c.args.noted.now.places c.requires c.len.ensures.whole.0
-
-pub rewritten_cells-requires-clause-held : goal.rewritten_cells-requires-clause-held
-rewritten_cells-requires-clause-held g c =
-    let inside = c.self.inside in
-    let s : HeapState = record { table = inside.cells.spaces; payloads = inside.cells.payloads; subjects = inside.subjects; remembered = inside.cells.remembered.places; indexed = names_indexed inside.cells.spaces.spaces inside.rows.entries } in
-    remembered_cells s c.self.invariant.0
-
-pub follow-requires-clause-held : goal.follow-requires-clause-held
-follow-requires-clause-held g c =
-    let inside = c.self.inside in
-    let s : HeapState = record { table = inside.cells.spaces; payloads = inside.cells.payloads; subjects = inside.subjects; remembered = inside.cells.remembered.places; indexed = names_indexed inside.cells.spaces.spaces inside.rows.entries } in
-    let objects = subject_objects s.table.spaces s.subjects c.self.invariant.0.vertices in
-    let held : All (Holds s.table.spaces) (places_of s.subjects) = λ k d low. (objects k d low).held in
-    subst (All (Holds s.table.spaces)) (sym (c.deref_mut.ensures.value ∙ c.in_ok-places.ensures ∙ ap places_of c.as_slice.ensures.value)) held
 
 pub returns-clause-prepared : goal.returns-clause-prepared
 returns-clause-prepared g c =
@@ -52,3 +32,25 @@ returns-clause-prepared g c =
       cells = c.in_ok-cells.ensures;
       places = items_mapped c.in_ok-places.places f c.follow.new.places moved ∙ ap (map f) copied;
     })
+
+pub rewritten_cells-requires : goal.rewritten_cells-requires
+rewritten_cells-requires g c =
+    let inside = c.self.inside in
+    let s : HeapState = record { table = inside.cells.spaces; payloads = inside.cells.payloads; subjects = inside.subjects; remembered = inside.cells.remembered.places; indexed = names_indexed inside.cells.spaces.spaces inside.rows.entries } in
+    record {
+      sound = c.self.invariant.0.graph.sound;
+      whole = collected_words Nursery c.self.inside.cells.spaces.spaces c.args.self.now c.args.forward.now.words c.args.adoption.now.aged c.args.adoption.now.old c.args.noted.now.places (ap (λ (heap : HeapState). heap.table.spaces) c.self.view_is) c.requires;
+      places = words_in_range s c.args.self.now c.self.view_is c.self.invariant.0 c.in_ok-dead.ensures.table c.args.forward.now.words c.args.adoption.now.aged c.args.adoption.now.old c.args.noted.now.places c.requires c.len.ensures.whole.0;
+      held = remembered_cells s c.self.invariant.0;
+    }
+
+pub follow-requires : goal.follow-requires
+follow-requires g c =
+    let inside = c.self.inside in
+    let s : HeapState = record { table = inside.cells.spaces; payloads = inside.cells.payloads; subjects = inside.subjects; remembered = inside.cells.remembered.places; indexed = names_indexed inside.cells.spaces.spaces inside.rows.entries } in
+    let objects = subject_objects s.table.spaces s.subjects c.self.invariant.0.vertices in
+    let held : All (Holds s.table.spaces) (places_of s.subjects) = λ k d low. (objects k d low).held in
+    record {
+      held = subst (All (Holds s.table.spaces)) (sym (c.deref_mut.ensures.value ∙ c.in_ok-places.ensures ∙ ap places_of c.as_slice.ensures.value)) held;
+      whole = collected_words Nursery c.self.inside.cells.spaces.spaces c.args.self.now c.args.forward.now.words c.args.adoption.now.aged c.args.adoption.now.old c.args.noted.now.places (ap (λ (heap : HeapState). heap.table.spaces) c.self.view_is) c.requires;
+    }

@@ -10,7 +10,6 @@ use Rattle.tg_space.specs.Targets.{young_spaces}
 use Rattle.tg_space.specs.Collection.{IsCollection, new_place}
 use Rattle.tg_graph.specs.Heap.{HeapState, IsWellFormed, roots_of}
 use Rattle.tg_graph.specs.Kept.{IsPrepared, moved_place}
-use Rattle.tg_graph.proofs.Heaps.{always_err}
 use Rattle.tg_graph.proofs.KeptBlocks.{nursery_written}
 use Rattle.tg_graph.proofs.KeptHeap.{IsLeft, collected_words, followable, indexed_beside}
 use Rattle.tg_graph.proofs.KeptSettled.{cells_there, nursery_left, payloads_there}
@@ -18,23 +17,8 @@ use Rattle.tg_graph.proofs.heap.Heap.put_in_place.Given.{Over}
 use Rattle.tg_graph.proofs.heap.Heap.put_in_place.Goals.{After-drop-self-inside-4}
 use Rattle.tg_graph.specs.Index.{AreIndexed, names_indexed}
 use Rattle.tg_space.proofs.Tables.{table_list}
+use Rattle.std.proofs.lemmas.Result.{err_from_is_err_and}
 use Rattle.tg_graph.proofs.heap.Heap.put_in_place.Goals as goal
-
-pub follow-requires-clause-few : goal.follow-requires-clause-few
-follow-requires-clause-few g c =
-    let whole = collected_words Nursery c.self.inside.cells.spaces.spaces c.args.self.now c.args.forward.now.words c.args.adoption.aged c.args.adoption.old c.args.noted.places (ap (λ (heap : HeapState). heap.table.spaces) c.self.view_is) c.requires.collection in
-    let few = c.of-numbering.ensures.few in
-    omega (arith, whole, few)
-
-pub follow-requires-clause-rows : goal.follow-requires-clause-rows
-follow-requires-clause-rows g c =
-    let inside = c.self.inside in
-    let s : HeapState = record { table = inside.cells.spaces; payloads = inside.cells.payloads; subjects = inside.subjects; remembered = inside.cells.remembered.places; indexed = names_indexed inside.cells.spaces.spaces inside.rows.entries } in
-    let collected : IsCollection Nursery s.table.spaces (roots_of Nursery s) c.args.forward.now.words c.args.adoption.aged c.args.adoption.old c.args.noted.places =
-    subst (λ (heap : HeapState). IsCollection Nursery heap.table.spaces (roots_of Nursery heap) c.args.forward.now.words c.args.adoption.aged c.args.adoption.old c.args.noted.places) (sym c.self.view_is) c.requires.collection in
-    let whole = collected_words Nursery inside.cells.spaces.spaces c.args.self.now c.args.forward.now.words c.args.adoption.aged c.args.adoption.old c.args.noted.places (ap (λ (heap : HeapState). heap.table.spaces) c.self.view_is) c.requires.collection in
-    followable inside.cells.spaces.spaces inside.cells.payloads (table_list inside.cells.spaces c.of-numbering.ensures.table) c.self.invariant.0.graph c.of-numbering.result.starts c.of-numbering.ensures.starts c.args.noted.places inside.rows.entries
-    (indexed_beside s c.self.invariant.0 c.args.forward.now.words c.args.adoption.aged c.args.adoption.old c.args.noted.places collected inside.rows.entries c.self.invariant.1) (length c.args.forward.now.words) whole
 
 pub put_prepared-requires-clause-held : goal.put_prepared-requires-clause-held
 put_prepared-requires-clause-held g c =
@@ -87,7 +71,7 @@ left g c =
     c.put_prepared.ensures.written c.put_prepared.ensures.table
     prepared.keys
     c.put_prepared.ensures.dropped
-    (record { names = c.put_prepared.ensures.names; nurseries = c.put_prepared.ensures.nurseries; places_are = c.put_prepared.ensures.places ∙ prepared.places; subjects = c.put_prepared.ensures.subjects })
+    (let at = c.put_prepared.ensures.subjects in record { names = at.names; nurseries = at.nurseries; places_are = at.places_are ∙ prepared.places; subjects = at.subjects })
     refl
     c.follow.new.self.entries
     (record {
@@ -103,23 +87,40 @@ left g c =
 pub invariant_of-self-2 : goal.invariant_of-self-2
 invariant_of-self-2 g c = ((left g c).well_formed, (left g c).indexed)
 
-pub returns-clause-settled : goal.returns-clause-settled
-returns-clause-settled g c = (left g c).settled
-
-pub returns-clause-written : goal.returns-clause-written
-returns-clause-written g c =
-    let inside = c.self.inside in
-    let s : HeapState = record { table = inside.cells.spaces; payloads = inside.cells.payloads; subjects = inside.subjects; remembered = inside.cells.remembered.places; indexed = names_indexed inside.cells.spaces.spaces inside.rows.entries } in
-    let prepared : IsPrepared s c.args.forward.now.words c.args.prepared = subst (λ (heap : HeapState). IsPrepared heap c.args.forward.now.words c.args.prepared) (sym c.self.view_is) c.requires.prepared in
-    nursery_written s c.args.self.now c.args.forward.now.words c.args.adoption.aged c.args.adoption.old c.put_prepared.new.cells.spaces c.adopt.new.self c.args.prepared.cells.items c.self.view_is c.in_ok-adopt.ensures.adopted prepared.cells
-    c.put_prepared.ensures.written
-
 pub invariant_of-self : goal.invariant_of-self
 invariant_of-self g c =
     let inside = c.self.inside in
     subst (λ (t : SpaceTable). IsWellFormed (record { table = t; payloads = inside.cells.payloads; subjects = inside.subjects; remembered = inside.cells.remembered.places; indexed = names_indexed t.spaces inside.rows.entries }) × AreIndexed t.spaces inside.cells.remembered.places inside.rows.entries) (sym c.in_err-adopt.ensures.refused) c.self.invariant
 
-pub returns-in_err-adopt-clause-refused : goal.returns-in_err-adopt-clause-refused
-returns-in_err-adopt-clause-refused g c =
+pub follow-requires : goal.follow-requires
+follow-requires g c =
     let inside = c.self.inside in
-    always_err c.from_residual.result (subst (λ (t : SpaceTable). ◌≡◌ {A = HeapState} (record { table = t; payloads = inside.cells.payloads; subjects = inside.subjects; remembered = inside.cells.remembered.places; indexed = names_indexed t.spaces inside.rows.entries }) c.args.self.now) (sym c.in_err-adopt.ensures.refused) c.self.view_is)
+    let s : HeapState = record { table = inside.cells.spaces; payloads = inside.cells.payloads; subjects = inside.subjects; remembered = inside.cells.remembered.places; indexed = names_indexed inside.cells.spaces.spaces inside.rows.entries } in
+    let collected : IsCollection Nursery s.table.spaces (roots_of Nursery s) c.args.forward.now.words c.args.adoption.aged c.args.adoption.old c.args.noted.places =
+    subst (λ (heap : HeapState). IsCollection Nursery heap.table.spaces (roots_of Nursery heap) c.args.forward.now.words c.args.adoption.aged c.args.adoption.old c.args.noted.places) (sym c.self.view_is) c.requires.collection in
+    let whole = collected_words Nursery inside.cells.spaces.spaces c.args.self.now c.args.forward.now.words c.args.adoption.aged c.args.adoption.old c.args.noted.places (ap (λ (heap : HeapState). heap.table.spaces) c.self.view_is) c.requires.collection in
+    let few = c.of-numbering.ensures.few in
+    followable inside.cells.spaces.spaces inside.cells.payloads (table_list inside.cells.spaces c.of-numbering.ensures.table) c.self.invariant.0.graph c.of-numbering.result.starts c.of-numbering.ensures.starts c.args.noted.places inside.rows.entries
+    (indexed_beside s c.self.invariant.0 c.args.forward.now.words c.args.adoption.aged c.args.adoption.old c.args.noted.places collected inside.rows.entries c.self.invariant.1) (length c.args.forward.now.words) whole (omega (arith, whole, few))
+
+pub returns : goal.returns
+returns g c =
+    let inside = c.self.inside in
+    let s : HeapState = record { table = inside.cells.spaces; payloads = inside.cells.payloads; subjects = inside.subjects; remembered = inside.cells.remembered.places; indexed = names_indexed inside.cells.spaces.spaces inside.rows.entries } in
+    let prepared : IsPrepared s c.args.forward.now.words c.args.prepared = subst (λ (heap : HeapState). IsPrepared heap c.args.forward.now.words c.args.prepared) (sym c.self.view_is) c.requires.prepared in
+    record {
+      written = nursery_written s c.args.self.now c.args.forward.now.words c.args.adoption.aged c.args.adoption.old c.put_prepared.new.cells.spaces c.adopt.new.self c.args.prepared.cells.items c.self.view_is c.in_ok-adopt.ensures.adopted prepared.cells
+          c.put_prepared.ensures.written;
+      settled = (left g c).settled;
+      refused = tt;
+    }
+
+pub returns-in_err-adopt : goal.returns-in_err-adopt
+returns-in_err-adopt g c =
+    let inside = c.self.inside in
+    let given = err_from_is_err_and c.from_residual.result c.from_residual.ensures.1 in
+    record {
+      written = rw given.1 tt;
+      settled = rw given.1 tt;
+      refused = rw given.1 (subst (λ (t : SpaceTable). ◌≡◌ {A = HeapState} (record { table = t; payloads = inside.cells.payloads; subjects = inside.subjects; remembered = inside.cells.remembered.places; indexed = names_indexed t.spaces inside.rows.entries }) c.args.self.now) (sym c.in_err-adopt.ensures.refused) c.self.view_is);
+    }

@@ -5,7 +5,7 @@ use Rattle.tg_word.specs.declared.Place.{Place}
 use Rattle.tg_space.specs.SpaceTable.{SpaceTable}
 use Rattle.tg_space.specs.Generations.{AreRemembered}
 use Rattle.tg_graph.specs.Content.{IsContent, IsNamed}
-use Rattle.tg_graph.specs.Heap.{HeapState, KeepsPlaces, content_of, name_of}
+use Rattle.tg_graph.specs.Heap.{HeapState, KeepsPlaces, content_of, name_of, IsObject}
 use Rattle.tg_graph.specs.Index.{AreIndexed, names_indexed}
 use Rattle.tg_graph.specs.Steps.{ChangesTo}
 use Rattle.tg_graph.proofs.Heaps.{content_after, either_way, heap_with, places_kept, well_formed_after, well_formed_same}
@@ -43,3 +43,6 @@ returns-clause-kept g c =
     let values = written_at content.value (name_of s c.args.at) c.args.number in
     IfOk-weaker c.write.result (λ _. ChangesTo s.table new.spaces new.payloads (IsNamed content) content.label values) (λ _. KeepsPlaces c.args.self.now after)
     (λ _ to. subst (λ (x : HeapState). KeepsPlaces x after) c.self.view_is (places_kept s new.spaces new.payloads new.remembered.places (names_indexed new.spaces.spaces c.self.inside.rows.entries) (IsNamed content) content.label values to)) c.write.ensures.written
+
+pub write-requires : goal.write-requires
+write-requires g c = record { graph = c.self.invariant.0.graph; object = subst (λ (x : HeapState). IsObject x c.args.at) (sym c.self.view_is) c.requires }

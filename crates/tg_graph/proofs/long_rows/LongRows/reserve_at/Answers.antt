@@ -1,8 +1,5 @@
 use Rattle.std.proofs.Common.{◌≡◌, ◌∙◌, ◌<◌, ◌≤◌, Bool, Some, inl, cond, false, true, length, nat_eq, refl, sym, ap, subst}
 use Rattle.std.specs.Map.{lookup}
-use Rattle.std.specs.Prelude.{vec_len}
-use Rattle.std.specs.Vec.{vec_capacity}
-use Rattle.tg_index.specs.Slots.{HasRoom}
 use Rattle.std.proofs.lemmas.Bool.Decides.{Decides-eqb}
 use Rattle.std.proofs.lemmas.Cmp.{nat_eq_equiv}
 use Rattle.std.proofs.lemmas.Option.{slice_get_within}
@@ -10,8 +7,11 @@ use Rattle.indexmap.proofs.CallerLemmas.{updates-with_value_at}
 use Rattle.indexmap.specs.Layout.{set_value_at}
 use Rattle.tg_graph.specs.Index.{AreIndexed, HasIndexAt, Indexes, IsAged, SameIndexed}
 use Rattle.tg_graph.proofs.Ages.{aged_at, row_there, same_row, written_aged, written_there}
-use Rattle.tg_graph.proofs.Heaps.{both_oks, success_gives}
+use Rattle.tg_graph.proofs.Heaps.{success_gives, both_oks}
 use Rattle.tg_graph.proofs.IndexedRows.{indexes_replaced, written_indexed}
+use Rattle.tg_index.specs.Slots.{HasRoom}
+use Rattle.std.specs.Vec.{vec_capacity}
+use Rattle.std.specs.Prelude.{vec_len}
 use Rattle.tg_graph.proofs.long_rows.LongRows.reserve_at.Goals as goal
 
 pub unreachable-requires : goal.unreachable-requires
@@ -30,7 +30,7 @@ invariant_of-self c =
     let low : c.args.at < length es = slice_get_within es c.args.at (c.args.name, was.row) was.here in
     let next = c.reserve.new.self in
     let aged = subst IsAged (sym (same_row es c.args.name c.args.at was c.in-Some.row.now c.in-Some.ensures.value)) (aged_at es c.self.inside.old_rows c.self.invariant c.args.name c.args.at was) in
-    written_aged es (set_value_at es c.args.at next) c.self.inside.old_rows c.args.at low c.self.invariant next refl (c.reserve.ensures.aged aged) (inl behind)
+    written_aged es (set_value_at es c.args.at next) c.self.inside.old_rows c.args.at low c.self.invariant next refl (c.reserve.ensures.kept.aged aged) (inl behind)
 
 pub returns-clause-indexed : goal.returns-clause-indexed
 returns-clause-indexed c =
@@ -39,7 +39,7 @@ returns-clause-indexed c =
     let next = c.reserve.new.self in
     let written = updates-with_value_at c.self.inside.indexes c.args.at next nat_eq_equiv c.get_index_mut.ensures.unique c.args.name was.row was.here in
     λ h places indexed.
-    indexes_replaced es (set_value_at es c.args.at next) c.args.name c.in-Some.row.now next (row_there es c.args.name c.args.at was c.in-Some.row.now c.in-Some.ensures.value) written.0 c.reserve.ensures.kept c.reserve.ensures.quiet h places
+    indexes_replaced es (set_value_at es c.args.at next) c.args.name c.in-Some.row.now next (row_there es c.args.name c.args.at was c.in-Some.row.now c.in-Some.ensures.value) written.0 c.reserve.ensures.kept.kept c.reserve.ensures.kept.quiet h places
     (subst (λ (s : Indexes). AreIndexed h places s.entries) (sym c.self.view_is) indexed)
 
 pub returns-clause-names : goal.returns-clause-names
