@@ -1,7 +1,20 @@
-use Rattle.std.proofs.Common.{◌∙◌, ◌+◌, Some, cond, nat_eq, ap, refl}
+use Rattle.std.proofs.Common.{◌∙◌, ◌↔◌, ◌+◌, ℕ, Some, cond, nat_eq, ap, refl, subst, arith}
+use Rattle.std.specs.List.{Contains}
+use Rattle.tg_index.specs.Bits.{numbers_of}
 use Rattle.tg_index.specs.Slots.{Slots, place_number}
-use Rattle.tg_index.proofs.SlotLemmas.{named_next}
+use Rattle.tg_index.proofs.BitLemmas.{numbers_once}
+use Rattle.tg_index.proofs.SlotLemmas.{named_next, within_named, within_next}
 use Rattle.tg_index.proofs.RowIndex.name_next.Goals as goal
+
+pub invariant_of-self : goal.invariant_of-self
+invariant_of-self c =
+    let room = c.requires.room.places in
+    let low = c.requires.inside in
+    let next = ap (λ (v : Slots). v.next) c.self.view_is in
+    let most = ap (λ (v : Slots). v.room) c.self.view_is in
+    let len = ap (λ (v : Slots). v.len) c.self.view_is in
+    let updates = rw c.unwrap.ensures at c.insert.ensures.updates in
+    within_named _ _ _ _ (within_next _ _ _ _ c.self.invariant (omega (arith, room, next, most)) (omega (arith, low, next, len))) _ c.args.name c.self.inside.next (omega arith) updates.0
 
 pub returns-clause-set : goal.returns-clause-set
 returns-clause-set c =
@@ -9,7 +22,8 @@ returns-clause-set c =
     let view = c.self.view_is in
     let s = c.args.self.now in
     let next = ap (λ (v : Slots). v.next) view in
+    let holes = numbers_of c.self.inside.holes in
     let updates = rw c.unwrap.ensures at c.insert.ensures.updates in
     named_next s _ row later is s.next c.args.name refl (ap (λ n. n + 1) next) (ap (λ (v : Slots). v.len) view) c.requires.inside
-    (ap (λ (v : Slots). v.holes) view) absent puts
+    (subst (λ (v : Slots). (m : ℕ) → Contains holes m ↔ Contains v.holes m) view (λ m. (λ has. has, λ has. has))) (numbers_once c.self.inside.holes) absent puts
     (λ q. updates.0 q ∙ ap (λ (v : Slots). cond (nat_eq c.args.name q) (Some v.next) (place_number v q)) view)

@@ -1,11 +1,19 @@
-use Rattle.std.proofs.Common.{◌+◌, ◌∷◌, ℕ, ap, map, refl, subst}
-use Rattle.std.specs.BinaryHeap.{heap_items}
-use Rattle.std.specs.declared.cmp.Reverse.{Reverse}
-use Rattle.std.specs.List.Sorted.{IsPermutation}
-use Rattle.std.proofs.lemmas.List.Sorted.{IsPermutation-map}
+use Rattle.std.proofs.Common.{◌≡◌, ◌↔◌, ◌⊎◌, ◌+◌, ℕ, ap, refl, subst, arith}
+use Rattle.std.specs.List.{Contains}
+use Rattle.tg_index.specs.Bits.{numbers_of}
 use Rattle.tg_index.specs.Slots.{Slots, place_number}
-use Rattle.tg_index.proofs.SlotLemmas.{skipped_next}
+use Rattle.tg_index.proofs.BitLemmas.{numbers_more, numbers_once}
+use Rattle.tg_index.proofs.SlotLemmas.{skipped_next, within_more, within_next}
 use Rattle.tg_index.proofs.RowIndex.skip_next.Goals as goal
+
+pub invariant_of-self : goal.invariant_of-self
+invariant_of-self c =
+    let room = c.requires.room.places in
+    let low = c.requires.inside in
+    let next = ap (λ (v : Slots). v.next) c.self.view_is in
+    let most = ap (λ (v : Slots). v.room) c.self.view_is in
+    let len = ap (λ (v : Slots). v.len) c.self.view_is in
+    within_more _ _ _ _ (within_next _ _ _ _ c.self.invariant (omega (arith, room, next, most)) (omega (arith, low, next, len))) _ c.self.inside.next (omega arith) c.insert.ensures
 
 pub returns-clause-set : goal.returns-clause-set
 returns-clause-set c =
@@ -13,9 +21,8 @@ returns-clause-set c =
     let view = c.self.view_is in
     let s = c.args.self.now in
     let next = ap (λ (v : Slots). v.next) view in
-    let pushed = rw c.unwrap.ensures at c.push.ensures.permutation in
-    let moved = IsPermutation-map (λ (r : Reverse ℕ). r.0) _ _ pushed in
-    let after = map (λ (r : Reverse ℕ). r.0) (heap_items c.push.new.self) in
+    let after = c.insert.new.self in
+    let more = numbers_more c.self.inside.holes after c.self.inside.next c.insert.ensures in
     skipped_next s _ row later is s.next refl (ap (λ n. n + 1) next) (ap (λ (v : Slots). v.len) view) c.requires.inside
-    (subst (λ (v : Slots). IsPermutation (v.next ∷ v.holes) after) view moved) puts
+    (subst (λ (v : Slots). (m : ℕ) → Contains (numbers_of after) m ↔ ((m ≡ v.next) ⊎ Contains v.holes m)) view more) (numbers_once after) puts
     (λ q. ap (λ (v : Slots). place_number v q) view)

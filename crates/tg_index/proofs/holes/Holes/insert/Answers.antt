@@ -1,0 +1,7 @@
+use Rattle.std.proofs.Common.{◌≡◌, ℕ, arith, subst}
+use Rattle.tg_index.specs.Bits.{SetsBit}
+use Rattle.tg_index.proofs.BitLemmas.{marks_more}
+use Rattle.tg_index.proofs.holes.Holes.insert.Goals as goal
+
+pub invariant_of-self : goal.invariant_of-self
+invariant_of-self c = rw c.min-self-inside.ensures (marks_more _ _ _ c.self.invariant _ _ c.args.place c.insert.ensures c.insert-2.ensures)
