@@ -4,15 +4,10 @@
 //! over `tg_parallel`, because a library for C can't hold what starts threads or waits, and the store is part of one.
 #![tactic(auto)]
 
-ghost use Rattle.std.specs.Prelude.{◌≡◌, ◌≢◌, ◌↔◌, ◌≤◌, ℕ, [], Err, IfOk, OnErr, OnOk, length};
-ghost use Rattle.tg_model.specs.Graph.{ProtectionGraph, IsReachable};
-ghost use Rattle.tg_space.specs.Generations.{AreNeeded};
-ghost use Rattle.tg_space.specs.SpaceList.{space_of};
-ghost use Rattle.tg_graph.specs.Content.{IsNamed};
-ghost use Rattle.tg_graph.specs.Heap.{content_of};
-ghost use Rattle.tg_graph.specs.Kept.{VerticesOfOldStay};
+ghost use Rattle.std.specs.Prelude.{◌≡◌, ◌≢◌, ◌≤◌, Err, IfOk, OnOk};
+ghost use Rattle.tg_store.specs.Collecting.{IsSwept, KeepsHistory};
 ghost use Rattle.tg_store.specs.Room.{LacksRoomToCollect};
-ghost use Rattle.tg_store.specs.Store.{HasFewBlocks, IsCountOf, StandsFor};
+ghost use Rattle.tg_store.specs.Store.{HasFewBlocks};
 
 use std::alloc::Global;
 use std::sync::Wait;
@@ -41,22 +36,12 @@ pub fn collect_with<P: Payload, R: Threads + Wait + Sync, G: Gate>(
 ) -> Result<u64, HelpersFault>
     requires some { 1 ≤ helpers }
     requires few { helpers ≤ 8 }
-    ensures number { IfOk result (λ number. number ≡ length (content_of store.new.heap).names) }
-    ensures names { (g : ProtectionGraph) → StandsFor store.old g → OnOk result (kind ≡ Kind.Full → (x : ℕ) → IsNamed (content_of store.new.heap) x ↔ IsReachable g x) }
-    ensures reachable { (g : ProtectionGraph) → StandsFor store.old g → IfOk result (λ number. kind ≡ Kind.Full → IsCountOf (IsReachable g) number) }
-    ensures only_old { OnOk result (kind ≡ Kind.Full → (space : ℕ) → space ≢ 0 → space_of store.new.heap.table.spaces space ≡ []) }
-    ensures no_nursery { OnOk result ((space : ℕ) → 2 ≤ space → space_of store.new.heap.table.spaces space ≡ []) }
+    ensures swept { IfOk result (IsSwept kind store.old store.new) }
     ensures blocks { OnOk result (HasFewBlocks kind helpers store.old.heap.table store.new.heap.table) }
-    ensures needed { OnOk result (AreNeeded store.new.heap.table.spaces store.new.heap.remembered) }
-    ensures none_needed { OnOk result (kind ≡ Kind.Full → store.new.heap.remembered ≡ []) }
-    ensures stay { OnOk result (kind ≡ Kind.Nursery → VerticesOfOldStay store.old.heap.table.spaces store.new.heap.table.spaces) }
-    ensures entries { store.new.entries ≡ store.old.entries }
     ensures full { result ≡ Err HelpersFault.HeapFull →
         LacksRoomToCollect kind helpers store.old.heap }
     ensures alone { helpers ≡ 1 → result ≢ Err HelpersFault.NoThread }
-    ensures refused { OnErr result (store.new ≡ store.old) }
-    ensures opening { store.new.opening ≡ store.old.opening }
-    ensures limits { store.new.heap.table.limits ≡ store.old.heap.table.limits }
+    ensures history { KeepsHistory store.old store.new result }
 {
     let spare = store.take_spare();
     let roots = store.roots(kind)?;

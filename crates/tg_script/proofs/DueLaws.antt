@@ -1,12 +1,12 @@
 -- A run ends for its limits only where they are at fault, and for its source only where that failed.
-use Rattle.std.specs.Prelude.{IfErr}
-use Rattle.std.proofs.Common.{◌≡◌, ℕ, List, Option, Result, Ok, Err, inl, inr, refl, sym, ap, subst, arith}
+use Rattle.std.specs.Prelude.{IfErr, OnOk}
+use Rattle.std.proofs.Common.{◌≡◌, ◌∙◌, ◌+◌, ◌<◌, ℕ, List, Option, Result, Ok, Err, inl, inr, refl, sym, ap, subst, arith}
 use Rattle.std.proofs.lemmas.Bool.{false≢true}
 use Rattle.tg_model.specs.Opened.{Plan}
 use Rattle.tg_text.specs.declared.fault.ScriptFault.{ScriptFault}
 use Rattle.tg_text.specs.declared.fault.ScriptFault.TheVariants as fault
 use Rattle.tg_script.specs.Script.{Start}
-use Rattle.tg_script.specs.Lines.{IsOfReading, IsOfKeeping, read_failures}
+use Rattle.tg_script.specs.Lines.{IsOfReading, IsOfKeeping, read_failures, write_failures}
 use Rattle.tg_script.specs.Opening.{OpensStore}
 use Rattle.tg_script.specs.Running.{IsDue, Finishes}
 
@@ -46,7 +46,7 @@ pub finished_due : {T : Type 0} (start : Start) (outcome result : Result T Scrip
 finished_due start outcome result before after failures failures' due (kept, inl h) = subst (λ r. IfErr r (IsDue start)) (sym h.0) due
 finished_due start outcome result before after failures failures' due (kept, inr h) = subst (λ r. IfErr r (IsDue start)) (sym h.1) tt
 
--- ---- no more failures of the source are told
+-- ---- the failures that source and sink have counted are told
 
 -- where no store is opened
 pub opening_read : (T : Type 0) (p : Plan) (blocks : ℕ) (f : ScriptFault) → OpensStore p blocks (Err f) → read_failures {T = T} (Err f) ≡ 0
@@ -65,3 +65,15 @@ pub finished_read : {T : Type 0} (outcome result : Result T ScriptFault) (before
 finished_read outcome result before after failures failures' (kept, inl h) = ap read_failures h.0
 finished_read (Err why) result before after failures failures' (kept, inr h) = absurd (false≢true h.0)
 finished_read (Ok done) result before after failures failures' (kept, inr h) = ap read_failures h.1
+
+pub finished_write : {T : Type 0} (outcome result : Result T ScriptFault) (before after : Option (List ℕ)) (first failures failures' : ℕ) →
+    Finishes before failures outcome result after failures' → failures ≡ first + write_failures outcome → result ≡ Err fault.WriteFailed → first < failures'
+finished_write outcome result before after first failures failures' (kept, inl h) had is = omega (arith, ap write_failures (sym h.0 ∙ is), h.1, had)
+finished_write outcome result before after first failures failures' (kept, inr h) had is = omega (arith, h.2, had)
+
+pub finished_unfailed : {T : Type 0} (outcome result : Result T ScriptFault) (before after : Option (List ℕ)) (first failures failures' : ℕ) →
+    Finishes before failures outcome result after failures' → failures ≡ first + write_failures outcome → OnOk result (failures' ≡ first)
+finished_unfailed outcome (Err why) before after first failures failures' ended had = tt
+finished_unfailed (Err why) (Ok done) before after first failures failures' (kept, inl h) had = absurd cc
+finished_unfailed (Ok other) (Ok done) before after first failures failures' (kept, inl h) had = omega (arith, h.2 refl, had)
+finished_unfailed outcome (Ok done) before after first failures failures' (kept, inr h) had = absurd cc

@@ -1,7 +1,7 @@
 -- Each line is answered by the scene that the run shows.
 use mathlib.Core.Bool.{true≢false}
 use Rattle.std.proofs.Common.{◌≡◌, ◌≢◌, inl, inr, ◌↔◌, ℕ, ◌<◌, ◌≤◌, nat_lt, true, false, cond, eqb, length, List, [], ◌∷◌, ◌++◌, Result, Ok, Err, refl, sym, ap, ap₂, ◌∙◌, subst}
-use Rattle.std.specs.Prelude.{IfOk, OnOk, IfErr, OnErr, IsErrAnd}
+use Rattle.std.specs.Prelude.{IfOk, IfErr, OnErr, IsErrAnd}
 use Rattle.std.specs.List.{list_any}
 use Rattle.std.proofs.lemmas.Bool.{lt-ltb, le-ltb}
 use Rattle.std.proofs.lemmas.Map.Views.{Contains-from_any, list_any-from_Contains}
@@ -137,7 +137,7 @@ spawn_crowded g x label value (subject, room, many) =
 -- what a store says of the deed by which it was to make a vertex for x, with this value
 pub record Makes {P : Type 0} (old new : StoreState) (x : ℕ) (d : Deed) (value : Value) (made : Result ℕ (CreateRefused P)) : Type 0 where
   pub name : (g : ProtectionGraph) → StandsFor old g → IfOk made (λ n. answer_of g x d ≡ reply.Name n)
-  pub steps : (g : ProtectionGraph) → StandsFor old g → OnOk made (StandsFor new (step g x d))
+  pub steps : (g : ProtectionGraph) → StandsFor old g → IfOk made (λ _. StandsFor new (step g x d))
   pub no_such_worker : (g : ProtectionGraph) → StandsFor old g → IsErrAnd made (λ refused. refused.why ≡ create.NoSuchWorker) ↔ (¬ IsSubject g x)
   pub no_more : (g : ProtectionGraph) → StandsFor old g → IfErr made (λ refused. refused.why ≡ create.VerticesFull → IsFull g x d reply.VerticesFull)
   pub too_many : (g : ProtectionGraph) → StandsFor old g → IfErr made (λ refused. refused.why ≡ create.WorkersFull → IsFull g x d reply.WorkersFull)

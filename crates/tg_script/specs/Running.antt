@@ -1,5 +1,5 @@
 -- What a run's answer says of the bytes that were read and of those that were written.
-use Rattle.std.specs.Prelude.{◌≡◌, ◌≢◌, ◌⊎◌, ℕ, ◌+◌, ◌<◌, ◌≤◌, IsOk, IfErr, List, [], ◌∷◌, ◌++◌, length, Option, Some, None, Result, Ok, Err}
+use Rattle.std.specs.Prelude.{◌≡◌, ◌≢◌, ◌⊎◌, ℕ, ◌+◌, ◌<◌, ◌≤◌, IsOk, IfErr, OnOk, Bool, true, List, [], ◌∷◌, ◌++◌, length, Option, Some, None, Result, Ok, Err}
 use Rattle.tg_text.specs.declared.fault.ScriptFault.{ScriptFault}
 use Rattle.tg_text.specs.declared.fault.ScriptFault.TheVariants as fault
 use Rattle.tg_text.specs.Sinks.{KeepsBytes, Writes}
@@ -63,6 +63,12 @@ pub record RunsFrom {S K T : Type 0} (left : S → Option (List ℕ)) (asks fail
   pub due : IfErr result (IsDue start)
   pub asked : asks source' ≤ asks source + 1048577
   pub read_failed : failures source' ≡ failures source + read_failures result
+
+-- The sink was finished at the end of a run, and has failed where that is told.
+pub record FinishesSink {K T : Type 0} (failures : K → ℕ) (is_finished : K → Bool) (sink sink' : K) (result : Result T ScriptFault) : Type 0 where
+  pub write_failed : result ≡ Err fault.WriteFailed → failures sink < failures sink'
+  pub unfailed : OnOk result (failures sink' ≡ failures sink)
+  pub finished : is_finished sink' ≡ true
 
 -- ---- parts of a run
 

@@ -1,11 +1,11 @@
 //! The run of a whole script.
-ghost use Rattle.std.specs.Prelude.{◌≡◌, ◌+◌, ◌<◌, ◌≤◌, ℕ, List, [], length, Some, Err, true, false, IfErr, OnOk};
+ghost use Rattle.std.specs.Prelude.{◌≡◌, ◌+◌, ◌<◌, ◌≤◌, ℕ, List, [], Some, Err, true, false, IfErr};
 ghost use Rattle.std.specs.List.{All};
 ghost use Rattle.tg_model.specs.Opened.{Plan, JoinsWorkers};
 ghost use Rattle.tg_script.specs.Lines.{CountsFailures, IsOfReading, read_failures, write_failures};
 ghost use Rattle.tg_script.specs.Opening.{IsCommand};
 ghost use Rattle.tg_script.specs.Run.{OpensRun, Shows};
-ghost use Rattle.tg_script.specs.Running.{Finishes, IsDue, Ran, RunsFrom, RunsLine, TellsAll};
+ghost use Rattle.tg_script.specs.Running.{Finishes, FinishesSink, Ran, RunsFrom, RunsLine, TellsAll};
 ghost use Rattle.tg_script.specs.Script.{MayStart, Scene, start_with};
 
 use crate::collector::{Collector, OneThread};
@@ -54,16 +54,9 @@ pub fn run_script_with<P: Payload, C: Collector, S: Source, K: Sink>(
     stock: Vec<Draft<P>>,
 ) -> Result<(), ScriptFault>
     requires ready { C.Ready }
-    requires number { (1 ≤ settings.workers) × (settings.workers ≤ 64) }
-    requires workers { length workers.items ≡ settings.workers }
-    ensures output { (bytes before : List ℕ) → S.left source.old ≡ Some bytes → K.taken sink.old ≡ Some before →
-        (left : List ℕ) × (S.left source.new ≡ Some left) × Ran (start_with settings workers.items stock.items) bytes before result left (K.taken sink.new) }
-    ensures due { IfErr result (IsDue (start_with settings workers.items stock.items)) }
-    ensures asked { S.asked source.new ≤ S.asked source.old + 1048577 }
-    ensures read_failed { S.failures source.new ≡ S.failures source.old + read_failures result }
-    ensures write_failed { result ≡ Err ScriptFault.WriteFailed → K.failures sink.old < K.failures sink.new }
-    ensures unfailed { OnOk result (K.failures sink.new ≡ K.failures sink.old) }
-    ensures finished { K.finished sink.new ≡ true }
+    requires startable { MayStart settings workers.items }
+    ensures ran { RunsFrom S.left S.asked S.failures K.taken source.old source.new sink.old sink.new (start_with settings workers.items stock.items) result }
+    ensures finish { FinishesSink K.failures K.finished sink.old sink.new result }
 {
     let outcome = run_lines(alloc, collector, source, sink, settings, workers, stock);
     finish(sink, outcome)
@@ -79,16 +72,9 @@ pub fn run_script_one<P: Payload, S: Source, K: Sink>(
     workers: Vec<Draft<P>>,
     stock: Vec<Draft<P>>,
 ) -> Result<(), ScriptFault>
-    requires number { (1 ≤ settings.workers) × (settings.workers ≤ 64) }
-    requires workers { length workers.items ≡ settings.workers }
-    ensures output { (bytes before : List ℕ) → S.left source.old ≡ Some bytes → K.taken sink.old ≡ Some before →
-        (left : List ℕ) × (S.left source.new ≡ Some left) × Ran (start_with (record settings { helpers = 1 }) workers.items stock.items) bytes before result left (K.taken sink.new) }
-    ensures due { IfErr result (IsDue (start_with (record settings { helpers = 1 }) workers.items stock.items)) }
-    ensures asked { S.asked source.new ≤ S.asked source.old + 1048577 }
-    ensures read_failed { S.failures source.new ≡ S.failures source.old + read_failures result }
-    ensures write_failed { result ≡ Err ScriptFault.WriteFailed → K.failures sink.old < K.failures sink.new }
-    ensures unfailed { OnOk result (K.failures sink.new ≡ K.failures sink.old) }
-    ensures finished { K.finished sink.new ≡ true }
+    requires startable { MayStart settings workers.items }
+    ensures ran { RunsFrom S.left S.asked S.failures K.taken source.old source.new sink.old sink.new (start_with (record settings { helpers = 1 }) workers.items stock.items) result }
+    ensures finish { FinishesSink K.failures K.finished sink.old sink.new result }
 {
     let settings = Settings {
         helpers: Helpers::one(),
@@ -114,8 +100,7 @@ pub fn run_in_memory<P: Payload, C: Collector>(
     stock: Vec<Draft<P>>,
 ) -> InMemory
     requires ready { C.Ready }
-    requires number { (1 ≤ settings.workers) × (settings.workers ≤ 64) }
-    requires workers { length workers.items ≡ settings.workers }
+    requires startable { MayStart settings workers.items }
     ensures { (left : List ℕ) × Ran (start_with settings workers.items stock.items) script.now [] result.outcome left (Some result.written.items) }
 {
     let (asked, failures) = (Blank::new(1), Blank::new(1));

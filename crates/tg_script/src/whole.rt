@@ -33,9 +33,8 @@ pub fn read_script<S: Source, K: Sink>(
     ensures commands { IfOk result (λ whole. All IsCommand whole.lines.items) }
     ensures bytes { (bytes : List ℕ) → S.left source.old ≡ Some bytes → (left : List ℕ) × (S.left source.new ≡ Some left) × ReadsWhole workers bytes result left }
     ensures fault { IfErr result IsOfKeeping }
-    ensures read_failed { S.failures source.new ≡ S.failures source.old + read_failures result }
+    ensures failures { CountsFailures S.failures K.failures source.old source.new sink.old sink.new (read_failures result) (write_failures result) }
     ensures taken { KeepsBytes (K.taken sink.old) (K.taken sink.new) }
-    ensures write_failed { K.failures sink.new ≡ K.failures sink.old + write_failures result }
     ensures asked { S.asked source.new ≤ S.asked source.old + 1048577 }
 {
     let mut script = Script::new(workers);

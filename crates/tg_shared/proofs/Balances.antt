@@ -1,8 +1,9 @@
 -- What an entry makes of the balance behind the lock.
 use Rattle.std.proofs.Common.{◌≡◌, ℕ, ◌+◌, ◌<◌, ◌≤◌, Bool, true, false, cond, List, ◌∷◌, ◌++◌, [], length, length-append, drop, refl, sym, subst, ap, ◌∙◌, arith}
-use Rattle.std.specs.Prelude.{take}
+use Rattle.std.specs.Prelude.{Result, take}
 use Rattle.std.proofs.lemmas.List.{length-take, take-append-le, drop-append-le, drop_all}
 use Rattle.std.proofs.lemmas.List.Sums.{sum_by-append, sum_by-cons}
+use Rattle.std.proofs.lemmas.Result.{on_err_weaker}
 use Rattle.std.proofs.Math.Seq.{take-length}
 use Rattle.tg_rights.specs.RightSet.{RightSet}
 use Rattle.tg_model.specs.declared.law.Law.{Law}
@@ -18,9 +19,10 @@ use Rattle.tg_model.proofs.SubjectLaws.{few_from_rising, made-spawned}
 use Rattle.tg_journal.specs.declared.entry.Entry.{Entry}
 use Rattle.tg_journal.specs.History.{IsLegal, graph_after}
 use Rattle.tg_journal.proofs.HistoryLaws.{IsSound-opened, made-opened}
+use Rattle.tg_store.specs.Collecting.{KeepsHistory}
 use Rattle.tg_store.specs.Store.{StoreState, Enters, IsFaithful, graph_of_store}
 use Rattle.tg_store.proofs.StandLaws.{graph-entered}
-use Rattle.tg_shared.specs.Sessions.{GoesOn, IsBalanced, SharedStart, is_spawn, made_subject, sessions_made, spawned, start_of_store, subjects_at}
+use Rattle.tg_shared.specs.Sessions.{GoesOn, IsBalanced, KeepsLocked, LockedState, SharedStart, is_spawn, made_subject, sessions_made, spawned, start_of_store, subjects_at}
 
 -- ---- how many sessions were made
 
@@ -157,3 +159,18 @@ goes_on_start start s is = record {
   earlier = subst (λ (es : List Entry). take (length es) s.entries ≡ es) (ap (λ (b : SharedStart). b.entries) is) (take-length s.entries);
   limits = ap (λ (b : SharedStart). b.limits) is;
 }
+
+-- ---- what a collection leaves
+
+abbrev pub locked_as : StoreState → ℕ → LockedState
+locked_as store sessions = record { store = store; sessions = sessions }
+
+pub kept_locked : {T E : Type 0} (old new : StoreState) (sessions : ℕ) (before : LockedState) (result : Result T E) → locked_as old sessions ≡ before → KeepsHistory old new result
+    → KeepsLocked before (locked_as new sessions) result
+kept_locked old new sessions before result same history =
+    subst (λ (b : LockedState). KeepsLocked b (locked_as new sessions) result) same
+    (record {
+      history = history;
+      refused = on_err_weaker result (λ (is : new ≡ old). ap (λ (s : StoreState). locked_as s sessions) is) history.refused;
+      sessions = refl;
+    })

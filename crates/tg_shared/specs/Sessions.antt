@@ -1,16 +1,25 @@
 -- What contracts see of a session and of the value behind the lock, and what a call does to them.
-use Rattle.std.specs.Prelude.{◌≡◌, ◌≢◌, ℕ, ◌+◌, ◌≤◌, ◌==◌, Bool, true, false, Option, Some, None, List, [], ◌∷◌, ◌++◌, length, map, take, drop}
+use Rattle.std.specs.Prelude.{◌≡◌, ◌≢◌, ℕ, ◌+◌, ◌≤◌, ◌==◌, Bool, true, false, Option, Some, None, List, [], ◌∷◌, ◌++◌, Result, IfErr, OnErr, length, map, take, drop}
+use Rattle.std.specs.declared.sync.ledger.Blank.{Blank}
 use Rattle.std.specs.List.{All, AllPairs, count_by, filter, sum_by}
 use Rattle.tg_model.specs.declared.command.Deed.{Deed}
 use Rattle.tg_model.specs.declared.command.Deed.TheVariants.{Spawn}
 use Rattle.tg_model.specs.declared.reply.Reply.{Reply}
 use Rattle.tg_model.specs.declared.reply.Reply.TheVariants.{Name, VerticesFull, WorkersFull}
+use Rattle.tg_model.specs.declared.value.Value.{Value}
+use Rattle.tg_model.specs.Graph.{IsSubject}
 use Rattle.tg_model.specs.Opened.{Plan, start_of}
+use Rattle.tg_model.specs.Rules.{IsAllowed}
+use Rattle.tg_word.specs.Word.{nursery_space}
 use Rattle.tg_space.specs.SpaceTable.{BlockLimits}
 use Rattle.tg_journal.specs.declared.entry.Entry.{Entry}
 use Rattle.tg_journal.specs.History.{IsLegalEntry, graph_after}
+use Rattle.tg_graph.specs.Heap.{nursery_of}
+use Rattle.tg_graph.specs.Spots.{LacksCellsFor}
+use Rattle.tg_store.specs.Collecting.{KeepsHistory}
 use Rattle.tg_store.specs.declared.fault.CreateFault.{CreateFault}
 use Rattle.tg_store.specs.declared.fault.CreateFault.TheVariants as fault
+use Rattle.tg_store.specs.declared.fault.CreateRefused.{CreateRefused}
 use Rattle.tg_store.specs.Store.{StoreState, Enters, IsFaithful, IsUnchanged, graph_of_store}
 use Rattle.tg_shared.specs.declared.receipt.Receipt.{Receipt}
 use Rattle.tg_shared.specs.Receipts.{ReceiptsMatch, receipt_of}
@@ -36,6 +45,13 @@ pub record SharedStart : Type 0 where
 
 abbrev pub start_of_store : StoreState → SharedStart
 start_of_store s = record { opening = s.opening; entries = s.entries; limits = s.heap.table.limits }
+
+-- A store may be shared with a blank by the round that has this name, so many parts and this start: the blank is the round's, it has
+-- one part more than vertices may be made, and the round starts from the store.
+pub record MayShare (ledger whole : ℕ) (first : SharedStart) (blank : Blank) (store : StoreState) : Type 0 where
+  pub name : blank.name ≡ ledger
+  pub parts : (blank.parts ≡ whole) × (blank.parts ≡ store.opening.limit + 1)
+  pub start : start_of_store store ≡ first
 
 -- ---- how many sessions were made
 
@@ -100,6 +116,21 @@ pub record Records (old new : StoreState) (before after : SessionState) (deed : 
 -- the store is as it was but for room, and the receipts are the same
 abbrev pub RecordsNothing : StoreState → StoreState → SessionState → SessionState → Type 0
 RecordsNothing old new before after = IsUnchanged old new × KeepsReceipts before after
+
+-- When a session's deed makes no vertex, of a store that may have been behind the lock. Only where as many vertices were made as may be
+-- is a receipt added, and the draft is handed back.
+pub record MayRefuseAtSome {P T : Type 0} (start : SharedStart) (deed : Deed) (value : Value) (old new : SessionState) (result : Result T (CreateRefused P)) : Type 0 where
+  pub full : IfErr result (λ refused. refused.why ≡ fault.VerticesFull → IsAnswered start old new deed VerticesFull)
+  pub no_such_worker : IfErr result (λ refused. refused.why ≡ fault.NoSuchWorker → AtSome start (λ s. ¬ IsSubject (graph_of_store s) old.worker))
+  pub heap_full : IfErr result (λ refused. refused.why ≡ fault.HeapFull → AtSome start (λ s.
+      IsAllowed (graph_of_store s) old.worker deed × LacksCellsFor s.heap.table (nursery_space (nursery_of s.heap old.worker)) 1 old.worker (graph_of_store s).made))
+  pub handed_back : IfErr result (λ refused. refused.draft ≡ value)
+
+-- What a collection leaves behind the lock: what it leaves of the store, the number of sessions, and where it is refused, all.
+pub record KeepsLocked {T E : Type 0} (old new : LockedState) (result : Result T E) : Type 0 where
+  pub history : KeepsHistory old.store new.store result
+  pub refused : OnErr result (new ≡ old)
+  pub sessions : new.sessions ≡ old.sessions
 
 -- one session for each of the subjects, with no receipt
 abbrev pub AreFresh : List ℕ → List SessionState → Type 0

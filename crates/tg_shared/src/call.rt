@@ -3,15 +3,13 @@ ghost use Rattle.std.specs.Prelude.{◌≡◌, ◌≢◌, ◌≤◌, ℕ, [], If
 ghost use Rattle.tg_model.specs.Graph.{IsReachable, IsSubject};
 ghost use Rattle.tg_model.specs.Rules.{IsAllowed};
 ghost use Rattle.tg_model.specs.declared.command.Deed.TheVariants.{Create, Plain, Spawn};
-ghost use Rattle.tg_model.specs.declared.reply.Reply.TheVariants.{Name, VerticesFull, WorkersFull};
-ghost use Rattle.tg_word.specs.Word.{nursery_space};
+ghost use Rattle.tg_model.specs.declared.reply.Reply.TheVariants.{Name, WorkersFull};
 ghost use Rattle.tg_graph.specs.Heap.{content_of, nursery_of};
-ghost use Rattle.tg_graph.specs.Spots.{LacksCellsFor};
 ghost use Rattle.tg_rules.specs.Effect.{AddsEdge, LacksCellsToServe};
 ghost use Rattle.tg_store.specs.Held.{IsHeldOver};
 ghost use Rattle.tg_store.specs.Room.{LacksRoomToCollect};
 ghost use Rattle.tg_store.specs.Store.{IsCountOf, graph_of_store};
-ghost use Rattle.tg_shared.specs.Sessions.{AtSome, IsAnswered, KeepsReceipts};
+ghost use Rattle.tg_shared.specs.Sessions.{AtSome, IsAnswered, KeepsReceipts, MayRefuseAtSome};
 
 use crate::round::Round;
 use crate::session::Session;
@@ -68,14 +66,9 @@ impl<L: Round> Session<L> {
         draft: Draft<P>,
     ) -> Result<u64, CreateRefused<P>>
         ensures receipt { IfOk result (λ name. IsAnswered L.start self.old self.new (Create label draft.law draft.state) (Name name)) }
-        ensures full { IfErr result (λ refused. refused.why ≡ CreateFault.VerticesFull → IsAnswered L.start self.old self.new (Create label draft.law draft.state) VerticesFull) }
+        ensures refusals { MayRefuseAtSome L.start (Create label draft.law draft.state) draft self.old self.new result }
         ensures refused { IfErr result (λ refused. refused.why ≢ CreateFault.VerticesFull → KeepsReceipts self.old self.new) }
-        ensures no_such_worker { IfErr result (λ refused. refused.why ≡ CreateFault.NoSuchWorker → AtSome L.start (λ s. ¬ IsSubject (graph_of_store s) self.old.worker)) }
-        ensures heap_full { IfErr result (λ refused. refused.why ≡ CreateFault.HeapFull → AtSome L.start (λ s.
-            IsAllowed (graph_of_store s) self.old.worker (Create label draft.law draft.state)
-            × LacksCellsFor s.heap.table (nursery_space (nursery_of s.heap self.old.worker)) 1 self.old.worker (graph_of_store s).made)) }
         ensures no_workers_full { IfErr result (λ refused. refused.why ≢ CreateFault.WorkersFull) }
-        ensures handed_back { IfErr result (λ refused. refused.draft ≡ draft) }
     {
         if self.make_room(draft.value().state.as_slice()).is_err() {
             return Err(CreateRefused {
@@ -108,14 +101,9 @@ impl<L: Round> Session<L> {
     ) -> Result<Session<L>, CreateRefused<P>>
         ensures receipt { IfOk result (λ fresh. IsAnswered L.start self.old self.new (Spawn label draft.law draft.state) (Name fresh.worker)) }
         ensures fresh { IfOk result (λ fresh. fresh.receipts ≡ []) }
-        ensures full { IfErr result (λ refused. refused.why ≡ CreateFault.VerticesFull → IsAnswered L.start self.old self.new (Spawn label draft.law draft.state) VerticesFull) }
+        ensures refusals { MayRefuseAtSome L.start (Spawn label draft.law draft.state) draft self.old self.new result }
         ensures workers_full { IfErr result (λ refused. refused.why ≡ CreateFault.WorkersFull → IsAnswered L.start self.old self.new (Spawn label draft.law draft.state) WorkersFull) }
         ensures refused { IfErr result (λ refused. refused.why ≢ CreateFault.VerticesFull → refused.why ≢ CreateFault.WorkersFull → KeepsReceipts self.old self.new) }
-        ensures no_such_worker { IfErr result (λ refused. refused.why ≡ CreateFault.NoSuchWorker → AtSome L.start (λ s. ¬ IsSubject (graph_of_store s) self.old.worker)) }
-        ensures heap_full { IfErr result (λ refused. refused.why ≡ CreateFault.HeapFull → AtSome L.start (λ s.
-            IsAllowed (graph_of_store s) self.old.worker (Spawn label draft.law draft.state)
-            × LacksCellsFor s.heap.table (nursery_space (nursery_of s.heap self.old.worker)) 1 self.old.worker (graph_of_store s).made)) }
-        ensures handed_back { IfErr result (λ refused. refused.draft ≡ draft) }
     {
         if self.make_room(draft.value().state.as_slice()).is_err() {
             return Err(CreateRefused {

@@ -1,14 +1,11 @@
 //! Collections of the shared store by several helpers.
-ghost use Rattle.std.specs.Prelude.{◌≡◌, ◌≢◌, ◌↔◌, ◌≤◌, ℕ, [], Err, IfOk, IfErr, OnErr, OnOk, length};
-ghost use Rattle.tg_model.specs.Graph.{ProtectionGraph, IsReachable};
-ghost use Rattle.tg_space.specs.Generations.{AreNeeded};
-ghost use Rattle.tg_space.specs.SpaceList.{space_of};
-ghost use Rattle.tg_graph.specs.Content.{IsNamed};
+ghost use Rattle.std.specs.Prelude.{◌≡◌, ◌≢◌, ◌≤◌, Err, IfOk, IfErr, OnOk, length};
+ghost use Rattle.tg_model.specs.Graph.{IsReachable};
 ghost use Rattle.tg_graph.specs.Heap.{content_of};
-ghost use Rattle.tg_graph.specs.Kept.{VerticesOfOldStay};
+ghost use Rattle.tg_store.specs.Collecting.{IsSwept};
 ghost use Rattle.tg_store.specs.Room.{LacksRoomToCollect};
-ghost use Rattle.tg_store.specs.Store.{HasFewBlocks, IsCountOf, StandsFor, graph_of_store};
-ghost use Rattle.tg_shared.specs.Sessions.{AtSome};
+ghost use Rattle.tg_store.specs.Store.{HasFewBlocks, IsCountOf, graph_of_store};
+ghost use Rattle.tg_shared.specs.Sessions.{AtSome, KeepsLocked};
 
 use crate::locked::Locked;
 use crate::round::Round;
@@ -34,23 +31,12 @@ impl<L: Round, P: Payload> Locked<L, P> {
     ) -> Result<u64, HelpersFault>
         requires some { 1 ≤ helpers }
         requires few { helpers ≤ 8 }
-        ensures number { IfOk result (λ number. number ≡ length (content_of self.new.store.heap).names) }
-        ensures names { (g : ProtectionGraph) → StandsFor self.old.store g → OnOk result (kind ≡ Kind.Full → (x : ℕ) → IsNamed (content_of self.new.store.heap) x ↔ IsReachable g x) }
-        ensures reachable { (g : ProtectionGraph) → StandsFor self.old.store g → IfOk result (λ number. kind ≡ Kind.Full → IsCountOf (IsReachable g) number) }
-        ensures only_old { OnOk result (kind ≡ Kind.Full → (space : ℕ) → space ≢ 0 → space_of self.new.store.heap.table.spaces space ≡ []) }
-        ensures no_nursery { OnOk result ((space : ℕ) → 2 ≤ space → space_of self.new.store.heap.table.spaces space ≡ []) }
+        ensures swept { IfOk result (IsSwept kind self.old.store self.new.store) }
         ensures blocks { OnOk result (HasFewBlocks kind helpers self.old.store.heap.table self.new.store.heap.table) }
-        ensures needed { OnOk result (AreNeeded self.new.store.heap.table.spaces self.new.store.heap.remembered) }
-        ensures none_needed { OnOk result (kind ≡ Kind.Full → self.new.store.heap.remembered ≡ []) }
-        ensures stay { OnOk result (kind ≡ Kind.Nursery → VerticesOfOldStay self.old.store.heap.table.spaces self.new.store.heap.table.spaces) }
-        ensures entries { self.new.store.entries ≡ self.old.store.entries }
+        ensures kept { KeepsLocked self.old self.new result }
         ensures full { result ≡ Err HelpersFault.HeapFull →
             LacksRoomToCollect kind helpers self.old.store.heap }
         ensures alone { helpers ≡ 1 → result ≢ Err HelpersFault.NoThread }
-        ensures refused { OnErr result (self.new ≡ self.old) }
-        ensures opening { self.new.store.opening ≡ self.old.store.opening }
-        ensures limits { self.new.store.heap.table.limits ≡ self.old.store.heap.table.limits }
-        ensures sessions { self.new.sessions ≡ self.old.sessions }
     {
         collect_with(rt, alloc, &mut self.store, kind, helpers, gate)
     }

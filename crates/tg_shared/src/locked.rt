@@ -1,5 +1,5 @@
 //! The value behind the lock, and what each call does to it.
-ghost use Rattle.std.specs.Prelude.{◌≡◌, ◌≢◌, ◌↔◌, ◌⊎◌, ◌<◌, ◌≤◌, ◌+◌, ℕ, [], Err, Some, IfOk, IfErr, IsErrAnd, OnOk, OnErr, length};
+ghost use Rattle.std.specs.Prelude.{◌≡◌, ◌≢◌, ◌↔◌, ◌⊎◌, ◌<◌, ◌≤◌, ◌+◌, [], Err, Some, IfOk, IfErr, IsErrAnd, OnOk, OnErr, length};
 ghost use Rattle.tg_subjects.specs.Subjects.{names_of};
 ghost use Rattle.tg_shared.specs.Sessions.{AreFresh, reply_entered};
 
@@ -40,22 +40,18 @@ impl<L: Round, P: Payload> Model for Locked<L, P> {
 }
 
 impl<L: Round, P: Payload> Locked<L, P> {
-    ghost use Rattle.tg_model.specs.Graph.{ProtectionGraph, IsSubject, IsReachable};
+    ghost use Rattle.tg_model.specs.Graph.{ProtectionGraph, IsSubject};
     ghost use Rattle.tg_model.specs.Rules.{IsAllowed, step, answer_of};
     ghost use Rattle.tg_model.specs.declared.opening.TheConstants.{MAX_WORKERS};
     ghost use Rattle.tg_model.specs.declared.reply.Denial.{Denial};
-    ghost use Rattle.tg_space.specs.Generations.{AreNeeded};
-    ghost use Rattle.tg_space.specs.SpaceList.{space_of};
-    ghost use Rattle.tg_graph.specs.Content.{IsNamed};
-    ghost use Rattle.tg_word.specs.Word.{nursery_space};
-    ghost use Rattle.tg_graph.specs.Heap.{content_of, nursery_of};
-    ghost use Rattle.tg_graph.specs.Spots.{IsMadeInRow, LacksCellsFor};
-    ghost use Rattle.tg_graph.specs.Kept.{VerticesOfOldStay};
+    ghost use Rattle.tg_graph.specs.Heap.{nursery_of};
     ghost use Rattle.tg_rules.specs.Effect.{AddsEdge, LacksCellsToServe};
+    ghost use Rattle.tg_store.specs.Collecting.{IsSwept};
     ghost use Rattle.tg_store.specs.Held.{IsHeldOver};
+    ghost use Rattle.tg_store.specs.Made.{IsMadeFor, MayRefuse};
     ghost use Rattle.tg_store.specs.Room.{LacksRoomToCollect};
-    ghost use Rattle.tg_store.specs.Store.{HasFewBlocks, IsCountOf, IsFaithful, StandsFor};
-    ghost use Rattle.tg_shared.specs.Sessions.{AreFresh, GoesOn, Records, RecordsNothing, sessions_made, start_of_store, subjects_at};
+    ghost use Rattle.tg_store.specs.Store.{HasFewBlocks, IsFaithful, StandsFor};
+    ghost use Rattle.tg_shared.specs.Sessions.{AreFresh, GoesOn, KeepsLocked, MayShare, Records, RecordsNothing, sessions_made, subjects_at};
 
     /// The store. What holds whenever the lock is free is told here: the store's own promise, that its journal is a legal
     /// history of its opening and its heap stands for the graph after it; and it is the store that was shared, gone on: with its
@@ -82,9 +78,7 @@ impl<L: Round, P: Payload> Locked<L, P> {
         blank: Blank,
         store: Store<P>,
     ) -> Result<(Locked<L, P>, Vec<Session<L>>), Store<P>>
-        requires name { blank.name ≡ L.name }
-        requires parts { (blank.parts ≡ L.parts) × (blank.parts ≡ store.opening.limit + 1) }
-        requires start { start_of_store store ≡ L.start }
+        requires shareable { MayShare L.name L.parts L.start blank store }
         ensures store { IfOk result (λ opened. opened.0.store ≡ store) }
         ensures sessions { (g : ProtectionGraph) → StandsFor store g → IfOk result (λ opened. AreFresh g.subjects opened.1.items) }
         ensures number { IfOk result (λ opened. opened.0.sessions ≡ length opened.1.items) }
@@ -146,25 +140,12 @@ impl<L: Round, P: Payload> Locked<L, P> {
         requires room { 0 < session.old.spare }
         requires copy { session.old.copy ≡ draft.state }
         ensures entry { IfOk result (λ name. Records self.old.store self.new.store session.old session.new (Deed.Create label draft.law draft.state) (Reply.Name name)) }
-        ensures name { (g : ProtectionGraph) → StandsFor self.old.store g → IfOk result (λ name. answer_of g session.old.worker (Deed.Create label draft.law draft.state) ≡ Reply.Name name) }
-        ensures step { (g : ProtectionGraph) → StandsFor self.old.store g → OnOk result (StandsFor self.new.store (step g session.old.worker (Deed.Create label draft.law draft.state))) }
-        ensures stored { IfOk result (λ name. IsNamed (content_of self.new.store.heap) name × ((content_of self.new.store.heap).value name ≡ Some draft)) }
-        ensures placed { IfOk result (λ name. IsMadeInRow self.old.store.heap.table self.new.store.heap.table self.old.store.heap.remembered self.new.store.heap.remembered
-            (nursery_space (nursery_of self.old.store.heap session.old.worker)) session.old.worker name label) }
-        ensures no_such_worker { (g : ProtectionGraph) → StandsFor self.old.store g → IsErrAnd result (λ refused. refused.why ≡ CreateFault.NoSuchWorker) ↔ (¬ IsSubject g session.old.worker) }
-        ensures no_more { (g : ProtectionGraph) → StandsFor self.old.store g → IfErr result (λ refused. refused.why ≡ CreateFault.VerticesFull → IsSubject g session.old.worker × (g.limit ≤ g.made)) }
-        ensures exhausted { (g : ProtectionGraph) → StandsFor self.old.store g → IsSubject g session.old.worker → g.limit ≤ g.made →
-            IsErrAnd result (λ refused. (refused.why ≡ CreateFault.VerticesFull) ⊎ (refused.why ≡ CreateFault.OutOfMemory)) }
+        ensures made { IfOk result (IsMadeFor (Deed.Create label draft.law draft.state) session.old.worker label draft self.old.store self.new.store) }
+        ensures refusals { MayRefuse (Deed.Create label draft.law draft.state) session.old.worker draft self.old.store self.new.store result }
         ensures no_more_entry { IfErr result (λ refused. refused.why ≡ CreateFault.VerticesFull →
             Records self.old.store self.new.store session.old session.new (Deed.Create label draft.law draft.state) Reply.VerticesFull × (self.new.store.heap ≡ self.old.store.heap)) }
-        ensures full { (g : ProtectionGraph) → StandsFor self.old.store g → IfErr result (λ refused. refused.why ≡ CreateFault.HeapFull →
-            IsAllowed g session.old.worker (Deed.Create label draft.law draft.state) × LacksCellsFor self.old.store.heap.table (nursery_space (nursery_of self.old.store.heap session.old.worker)) 1 session.old.worker g.made) }
         ensures no_workers_full { IfErr result (λ refused. refused.why ≢ CreateFault.WorkersFull) }
         ensures refused { IfErr result (λ refused. refused.why ≢ CreateFault.VerticesFull → RecordsNothing self.old.store self.new.store session.old session.new) }
-        ensures same_graph { (g : ProtectionGraph) → StandsFor self.old.store g → OnErr result (StandsFor self.new.store g) }
-        ensures handed_back { IfErr result (λ refused. refused.draft ≡ draft) }
-        ensures opening { self.new.store.opening ≡ self.old.store.opening }
-        ensures limits { self.new.store.heap.table.limits ≡ self.old.store.heap.table.limits }
         ensures sessions { self.new.sessions ≡ self.old.sessions }
     {
         let at = self.store.journal().len();
@@ -207,15 +188,8 @@ impl<L: Round, P: Payload> Locked<L, P> {
         requires copy { session.old.copy ≡ draft.state }
         ensures entry { IfOk result (λ fresh. Records self.old.store self.new.store session.old session.new (Deed.Spawn label draft.law draft.state) (Reply.Name fresh.worker)) }
         ensures fresh { IfOk result (λ fresh. fresh.receipts ≡ []) }
-        ensures name { (g : ProtectionGraph) → StandsFor self.old.store g → IfOk result (λ fresh. answer_of g session.old.worker (Deed.Spawn label draft.law draft.state) ≡ Reply.Name fresh.worker) }
-        ensures step { (g : ProtectionGraph) → StandsFor self.old.store g → OnOk result (StandsFor self.new.store (step g session.old.worker (Deed.Spawn label draft.law draft.state))) }
-        ensures stored { IfOk result (λ fresh. IsNamed (content_of self.new.store.heap) fresh.worker × ((content_of self.new.store.heap).value fresh.worker ≡ Some draft)) }
-        ensures placed { IfOk result (λ fresh. IsMadeInRow self.old.store.heap.table self.new.store.heap.table self.old.store.heap.remembered self.new.store.heap.remembered
-            (nursery_space (nursery_of self.old.store.heap session.old.worker)) session.old.worker fresh.worker label) }
-        ensures no_such_worker { (g : ProtectionGraph) → StandsFor self.old.store g → IsErrAnd result (λ refused. refused.why ≡ CreateFault.NoSuchWorker) ↔ (¬ IsSubject g session.old.worker) }
-        ensures no_more { (g : ProtectionGraph) → StandsFor self.old.store g → IfErr result (λ refused. refused.why ≡ CreateFault.VerticesFull → IsSubject g session.old.worker × (g.limit ≤ g.made)) }
-        ensures exhausted { (g : ProtectionGraph) → StandsFor self.old.store g → IsSubject g session.old.worker → g.limit ≤ g.made →
-            IsErrAnd result (λ refused. (refused.why ≡ CreateFault.VerticesFull) ⊎ (refused.why ≡ CreateFault.OutOfMemory)) }
+        ensures made { IfOk result (λ fresh. IsMadeFor (Deed.Spawn label draft.law draft.state) session.old.worker label draft self.old.store self.new.store fresh.worker) }
+        ensures refusals { MayRefuse (Deed.Spawn label draft.law draft.state) session.old.worker draft self.old.store self.new.store result }
         ensures no_more_entry { IfErr result (λ refused. refused.why ≡ CreateFault.VerticesFull →
             Records self.old.store self.new.store session.old session.new (Deed.Spawn label draft.law draft.state) Reply.VerticesFull × (self.new.store.heap ≡ self.old.store.heap)) }
         ensures too_many { (g : ProtectionGraph) → StandsFor self.old.store g → IfErr result (λ refused. refused.why ≡ CreateFault.WorkersFull →
@@ -224,13 +198,7 @@ impl<L: Round, P: Payload> Locked<L, P> {
             IsErrAnd result (λ refused. (refused.why ≡ CreateFault.WorkersFull) ⊎ (refused.why ≡ CreateFault.OutOfMemory)) }
         ensures too_many_entry { IfErr result (λ refused. refused.why ≡ CreateFault.WorkersFull →
             Records self.old.store self.new.store session.old session.new (Deed.Spawn label draft.law draft.state) Reply.WorkersFull × (self.new.store.heap ≡ self.old.store.heap)) }
-        ensures full { (g : ProtectionGraph) → StandsFor self.old.store g → IfErr result (λ refused. refused.why ≡ CreateFault.HeapFull →
-            IsAllowed g session.old.worker (Deed.Spawn label draft.law draft.state) × LacksCellsFor self.old.store.heap.table (nursery_space (nursery_of self.old.store.heap session.old.worker)) 1 session.old.worker g.made) }
         ensures refused { IfErr result (λ refused. refused.why ≢ CreateFault.VerticesFull → refused.why ≢ CreateFault.WorkersFull → RecordsNothing self.old.store self.new.store session.old session.new) }
-        ensures same_graph { (g : ProtectionGraph) → StandsFor self.old.store g → OnErr result (StandsFor self.new.store g) }
-        ensures handed_back { IfErr result (λ refused. refused.draft ≡ draft) }
-        ensures opening { self.new.store.opening ≡ self.old.store.opening }
-        ensures limits { self.new.store.heap.table.limits ≡ self.old.store.heap.table.limits }
         ensures one_more { OnOk result (self.new.sessions ≡ self.old.sessions + 1) }
         ensures no_more_sessions { OnErr result (self.new.sessions ≡ self.old.sessions) }
     {
@@ -274,22 +242,11 @@ impl<L: Round, P: Payload> Locked<L, P> {
 
     /// Collects the heap, by one call of the store. The journal stays as it is, and no session is touched.
     pub fn collect(&mut self, kind: Kind) -> Result<u64, CollectFault>
-        ensures number { IfOk result (λ number. number ≡ length (content_of self.new.store.heap).names) }
-        ensures names { (g : ProtectionGraph) → StandsFor self.old.store g → OnOk result (kind ≡ Kind.Full → (x : ℕ) → IsNamed (content_of self.new.store.heap) x ↔ IsReachable g x) }
-        ensures reachable { (g : ProtectionGraph) → StandsFor self.old.store g → IfOk result (λ number. kind ≡ Kind.Full → IsCountOf (IsReachable g) number) }
-        ensures only_old { OnOk result (kind ≡ Kind.Full → (space : ℕ) → space ≢ 0 → space_of self.new.store.heap.table.spaces space ≡ []) }
-        ensures no_nursery { OnOk result ((space : ℕ) → 2 ≤ space → space_of self.new.store.heap.table.spaces space ≡ []) }
+        ensures swept { IfOk result (IsSwept kind self.old.store self.new.store) }
         ensures blocks { OnOk result (HasFewBlocks kind 0 self.old.store.heap.table self.new.store.heap.table) }
-        ensures needed { OnOk result (AreNeeded self.new.store.heap.table.spaces self.new.store.heap.remembered) }
-        ensures none_needed { OnOk result (kind ≡ Kind.Full → self.new.store.heap.remembered ≡ []) }
-        ensures stay { OnOk result (kind ≡ Kind.Nursery → VerticesOfOldStay self.old.store.heap.table.spaces self.new.store.heap.table.spaces) }
-        ensures entries { self.new.store.entries ≡ self.old.store.entries }
+        ensures kept { KeepsLocked self.old self.new result }
         ensures full { result ≡ Err CollectFault.HeapFull →
             LacksRoomToCollect kind 1 self.old.store.heap }
-        ensures refused { OnErr result (self.new ≡ self.old) }
-        ensures opening { self.new.store.opening ≡ self.old.store.opening }
-        ensures limits { self.new.store.heap.table.limits ≡ self.old.store.heap.table.limits }
-        ensures sessions { self.new.sessions ≡ self.old.sessions }
     {
         self.store.collect(kind)
     }

@@ -1,5 +1,5 @@
 //! The store behind its lock, from sharing it to closing it.
-ghost use Rattle.std.specs.Prelude.{◌≡◌, ◌↔◌, ◌<◌, ◌≤◌, ◌+◌, IfOk, IfErr, IsErrAnd, OnOk, drop, length};
+ghost use Rattle.std.specs.Prelude.{◌≡◌, ◌<◌, ◌≤◌, ◌+◌, IfOk, IfErr, IsErrAnd, drop, length};
 ghost use Rattle.tg_store.specs.Store.{IsFaithful};
 ghost use Rattle.tg_shared.specs.Sessions.{AreFresh, AreSharedOut, AtSome, GoesOn, MayClose, count_of, sessions_made, subjects_at};
 
@@ -43,7 +43,7 @@ pub struct CloseRefused<L: Round, P: Payload> {
 impl<L: Round, P: Payload> SharedStore<L, P> {
     ghost use Rattle.tg_model.specs.Graph.{ProtectionGraph};
     ghost use Rattle.tg_store.specs.Store.{StandsFor};
-    ghost use Rattle.tg_shared.specs.Sessions.{start_of_store};
+    ghost use Rattle.tg_shared.specs.Sessions.{MayShare};
 
     /// Shares a store: puts it behind a lock, and makes a session for each active subject of the graph that it stands for. The
     /// blank is spent, and has to have one part more than vertices may be made. Fails only when out of memory.
@@ -52,9 +52,7 @@ impl<L: Round, P: Payload> SharedStore<L, P> {
         blank: Blank,
         store: Store<P>,
     ) -> Result<Shared<L, P>, SharedRefused<P>>
-        requires name { blank.name ≡ L.name }
-        requires parts { (blank.parts ≡ L.parts) × (blank.parts ≡ store.opening.limit + 1) }
-        requires start { start_of_store store ≡ L.start }
+        requires shareable { MayShare L.name L.parts L.start blank store }
         ensures sessions { (g : ProtectionGraph) → StandsFor store g → IfOk result (λ shared. AreFresh g.subjects shared.sessions.items) }
         ensures handed_back { IfErr result (λ refused. refused.store ≡ store) }
     {

@@ -1,15 +1,24 @@
 -- What comes of a command on the heap, before anything is entered in the journal.
-use Rattle.std.specs.Prelude.{◌≡◌, ◌≢◌, Result, Err, OnErr}
+use Rattle.std.specs.Prelude.{◌≡◌, ◌≢◌, Result, None, Err, OnErr}
 use Rattle.tg_model.specs.declared.command.Command.{Command}
 use Rattle.tg_model.specs.declared.command.Deed.TheVariants.{Plain}
 use Rattle.tg_model.specs.Graph.{ProtectionGraph, IsSubject}
-use Rattle.tg_model.specs.Rules.{answer_of, step}
+use Rattle.tg_model.specs.Rules.{answer_of, denial_of, step}
 use Rattle.tg_subjects.specs.declared.subject.Subject.{Subject}
 use Rattle.tg_graph.specs.Heap.{HeapState, IsUnchangedHeap, content_of, subject_names}
 use Rattle.tg_graph.specs.Standing.{IsContentOf}
+use Rattle.tg_rules.specs.Parties.{AreParties}
+use Rattle.tg_rules.specs.Verdict.{HasSubject}
+use Rattle.tg_rules.specs.declared.vertex.Parties.{Parties}
 use Rattle.tg_store.specs.declared.answer.Replies.{Replies}
 use Rattle.tg_store.specs.declared.fault.ApplyFault.{ApplyFault}
 use Rattle.tg_store.specs.declared.fault.ApplyFault.TheVariants.{NoSuchWorker}
+
+-- A command of one who asks is to be served between these vertices: they are those that its checks met, and it isn't denied.
+pub record IsToServe (asker : Subject) (command : Command) (between : Parties) (heap : HeapState) : Type 0 where
+  pub subject : HasSubject heap asker
+  pub parties : AreParties heap asker.name command between
+  pub served : denial_of (content_of heap).label (content_of heap).value asker.name command ≡ None
 
 -- A command of a subject was served or denied. For each graph that the heap stood for the reply is that graph's, and the heap stands
 -- for the next one.

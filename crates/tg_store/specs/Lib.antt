@@ -4,3 +4,5 @@ pub mod Held
 pub mod Making
 pub mod Room
 pub mod Answering
+pub mod Collecting
+pub mod Made

@@ -3,9 +3,8 @@ ghost use Rattle.std.specs.Prelude.{◌≡◌, ◌≢◌, ◌↔◌, None, Err, 
 ghost use Rattle.tg_model.specs.Rules.{denial_of};
 ghost use Rattle.tg_graph.specs.Heap.{content_of};
 ghost use Rattle.tg_rules.specs.Effect.{AddsEdge, LacksCellsToServe, OnlyLooks};
-ghost use Rattle.tg_rules.specs.Parties.{AreParties};
 ghost use Rattle.tg_rules.specs.Verdict.{HasSubject};
-ghost use Rattle.tg_store.specs.Answering.{IsReplied, KeepsHeap};
+ghost use Rattle.tg_store.specs.Answering.{IsReplied, IsToServe, KeepsHeap};
 
 use crate::fault::ApplyFault;
 use std::alloc::Global;
@@ -72,9 +71,7 @@ fn look<P: Payload>(
     command: &Command,
     parties: Parties,
 ) -> Result<Replies, ApplyFault>
-    requires subject { HasSubject heap.old subject }
-    requires parties { AreParties heap.old subject.name command.now parties }
-    requires served { denial_of (content_of heap.old).label (content_of heap.old).value subject.name command.now ≡ None }
+    requires to_serve { IsToServe subject command.now parties heap.old }
     requires looks { OnlyLooks command.now }
     ensures replied { IfOk result (IsReplied subject command.now heap.old heap.new) }
     ensures kept { KeepsHeap heap.old heap.new result }
@@ -93,9 +90,7 @@ fn change<P: Payload>(
     command: &Command,
     parties: Parties,
 ) -> Result<Replies, ApplyFault>
-    requires subject { HasSubject heap.old subject }
-    requires parties { AreParties heap.old subject.name command.now parties }
-    requires served { denial_of (content_of heap.old).label (content_of heap.old).value subject.name command.now ≡ None }
+    requires to_serve { IsToServe subject command.now parties heap.old }
     requires changes { ¬ OnlyLooks command.now }
     ensures replied { IfOk result (IsReplied subject command.now heap.old heap.new) }
     ensures kept { KeepsHeap heap.old heap.new result }

@@ -46,33 +46,30 @@ impl<P: Payload> Model for Store<P> {
 }
 
 impl<P: Payload> Store<P> {
-    ghost use Rattle.tg_model.specs.Graph.{ProtectionGraph, IsSubject, IsReachable};
+    ghost use Rattle.tg_model.specs.Graph.{ProtectionGraph, IsSubject};
     ghost use Rattle.tg_model.specs.Opened.{start_of};
     ghost use Rattle.tg_model.specs.Rules.{IsAllowed, step, answer_of};
     ghost use Rattle.tg_model.specs.declared.opening.TheConstants.{MAX_WORKERS};
     ghost use Rattle.tg_model.specs.declared.reply.Denial.{Denial};
     ghost use Rattle.tg_space.specs.Collection.{AreFewBlocks, copies_in, IsCollection, used_cells};
-    ghost use Rattle.tg_space.specs.Generations.{AreNeeded};
     ghost use Rattle.tg_space.specs.Soundness.{AreSound};
     ghost use Rattle.tg_space.specs.SpaceList.{block_count, space_of};
     ghost use Rattle.tg_space.specs.SpaceTable.{kept_blocks};
     ghost use Rattle.tg_space.specs.Targets.{all_root_targets, from_space};
     ghost use Rattle.tg_payload.specs.Table.{count};
-    ghost use Rattle.tg_graph.specs.Content.{IsNamed};
-    ghost use Rattle.tg_word.specs.Word.{nursery_space};
     ghost use Rattle.tg_graph.specs.Heap.{CollectAlike, content_of, nursery_of, roots_of};
     ghost use Rattle.tg_graph.specs.Shown.{shown_in};
     ghost use Rattle.std.specs.Prelude.{◌==◌};
     ghost use Rattle.std.specs.List.{IsDistinct};
     ghost use Rattle.tg_subjects.specs.Subjects.{AreSubjects, names_of};
-    ghost use Rattle.tg_graph.specs.Spots.{IsMadeInRow, LacksCellsFor};
-    ghost use Rattle.tg_graph.specs.Kept.{VerticesOfOldStay};
     ghost use Rattle.tg_rules.specs.Effect.{AddsEdge, LacksCellsToServe};
+    ghost use Rattle.tg_store.specs.Collecting.{IsSwept, KeepsHistory};
     ghost use Rattle.tg_store.specs.Held.{IsHeldOver};
+    ghost use Rattle.tg_store.specs.Made.{IsMadeFor, MayRefuse};
     ghost use Rattle.tg_store.specs.Making.{IsLimitMet, deed_making};
     ghost use Rattle.tg_store.specs.declared.making.Limit.{Limit as LimitOf};
     ghost use Rattle.tg_store.specs.Room.{LacksRoomToCollect};
-    ghost use Rattle.tg_store.specs.Store.{Enters, HasAdopted, HasFewBlocks, IsCountOf, IsFaithful, IsUnchanged, OnlyEnters, StandsFor, graph_of_store};
+    ghost use Rattle.tg_store.specs.Store.{Enters, HasAdopted, HasFewBlocks, IsFaithful, IsUnchanged, OnlyEnters, StandsFor, graph_of_store};
 
     /// A store that starts from the opening, with the payloads of the drafts, one for each worker, and with no entry in
     /// its journal. Its heap takes a block for each worker and no more. `PayloadMismatch` is answered exactly where the
@@ -212,25 +209,12 @@ impl<P: Payload> Store<P> {
         draft: Draft<P>,
     ) -> Result<u64, CreateRefused<P>>
         ensures entry { IfOk result (λ name. Enters self.old self.new worker (Deed.Create label draft.law draft.state) (Reply.Name name)) }
-        ensures name { (g : ProtectionGraph) → StandsFor self.old g → IfOk result (λ name. answer_of g worker (Deed.Create label draft.law draft.state) ≡ Reply.Name name) }
-        ensures step { (g : ProtectionGraph) → StandsFor self.old g → OnOk result (StandsFor self.new (step g worker (Deed.Create label draft.law draft.state))) }
-        ensures stored { IfOk result (λ name. IsNamed (content_of self.new.heap) name × ((content_of self.new.heap).value name ≡ Some draft)) }
-        ensures placed { IfOk result (λ name. IsMadeInRow self.old.heap.table self.new.heap.table self.old.heap.remembered self.new.heap.remembered
-            (nursery_space (nursery_of self.old.heap worker)) worker name label) }
-        ensures no_such_worker { (g : ProtectionGraph) → StandsFor self.old g → IsErrAnd result (λ refused. refused.why ≡ CreateFault.NoSuchWorker) ↔ (¬ IsSubject g worker) }
-        ensures no_more { (g : ProtectionGraph) → StandsFor self.old g → IfErr result (λ refused. refused.why ≡ CreateFault.VerticesFull → IsSubject g worker × (g.limit ≤ g.made)) }
-        ensures exhausted { (g : ProtectionGraph) → StandsFor self.old g → IsSubject g worker → g.limit ≤ g.made →
-            IsErrAnd result (λ refused. (refused.why ≡ CreateFault.VerticesFull) ⊎ (refused.why ≡ CreateFault.OutOfMemory)) }
+        ensures made { IfOk result (IsMadeFor (Deed.Create label draft.law draft.state) worker label draft self.old self.new) }
+        ensures refusals { MayRefuse (Deed.Create label draft.law draft.state) worker draft self.old self.new result }
         ensures no_more_entry { IfErr result (λ refused. refused.why ≡ CreateFault.VerticesFull →
             OnlyEnters self.old self.new worker (Deed.Create label draft.law draft.state) Reply.VerticesFull) }
-        ensures full { (g : ProtectionGraph) → StandsFor self.old g → IfErr result (λ refused. refused.why ≡ CreateFault.HeapFull →
-            IsAllowed g worker (Deed.Create label draft.law draft.state) × LacksCellsFor self.old.heap.table (nursery_space (nursery_of self.old.heap worker)) 1 worker g.made) }
         ensures no_workers_full { IfErr result (λ refused. refused.why ≢ CreateFault.WorkersFull) }
         ensures refused { IfErr result (λ refused. refused.why ≢ CreateFault.VerticesFull → IsUnchanged self.old self.new) }
-        ensures same_graph { (g : ProtectionGraph) → StandsFor self.old g → OnErr result (StandsFor self.new g) }
-        ensures handed_back { IfErr result (λ refused. refused.draft ≡ draft) }
-        ensures opening { self.new.opening ≡ self.old.opening }
-        ensures limits { self.new.heap.table.limits ≡ self.old.heap.table.limits }
     {
         self.make(worker, Making::Object, label, draft)
     }
@@ -249,19 +233,10 @@ impl<P: Payload> Store<P> {
         draft: Draft<P>,
     ) -> Result<u64, CreateRefused<P>>
         ensures entry { IfOk result (λ name. Enters self.old self.new worker (Deed.Spawn label draft.law draft.state) (Reply.Name name)) }
-        ensures name { (g : ProtectionGraph) → StandsFor self.old g → IfOk result (λ name. answer_of g worker (Deed.Spawn label draft.law draft.state) ≡ Reply.Name name) }
-        ensures step { (g : ProtectionGraph) → StandsFor self.old g → OnOk result (StandsFor self.new (step g worker (Deed.Spawn label draft.law draft.state))) }
-        ensures stored { IfOk result (λ name. IsNamed (content_of self.new.heap) name × ((content_of self.new.heap).value name ≡ Some draft)) }
-        ensures placed { IfOk result (λ name. IsMadeInRow self.old.heap.table self.new.heap.table self.old.heap.remembered self.new.heap.remembered
-            (nursery_space (nursery_of self.old.heap worker)) worker name label) }
-        ensures no_such_worker { (g : ProtectionGraph) → StandsFor self.old g → IsErrAnd result (λ refused. refused.why ≡ CreateFault.NoSuchWorker) ↔ (¬ IsSubject g worker) }
-        ensures no_more { (g : ProtectionGraph) → StandsFor self.old g → IfErr result (λ refused. refused.why ≡ CreateFault.VerticesFull → IsSubject g worker × (g.limit ≤ g.made)) }
-        ensures exhausted { (g : ProtectionGraph) → StandsFor self.old g → IsSubject g worker → g.limit ≤ g.made →
-            IsErrAnd result (λ refused. (refused.why ≡ CreateFault.VerticesFull) ⊎ (refused.why ≡ CreateFault.OutOfMemory)) }
+        ensures made { IfOk result (IsMadeFor (Deed.Spawn label draft.law draft.state) worker label draft self.old self.new) }
+        ensures refusals { MayRefuse (Deed.Spawn label draft.law draft.state) worker draft self.old self.new result }
         ensures no_more_entry { IfErr result (λ refused. refused.why ≡ CreateFault.VerticesFull →
             OnlyEnters self.old self.new worker (Deed.Spawn label draft.law draft.state) Reply.VerticesFull) }
-        ensures full { (g : ProtectionGraph) → StandsFor self.old g → IfErr result (λ refused. refused.why ≡ CreateFault.HeapFull →
-            IsAllowed g worker (Deed.Spawn label draft.law draft.state) × LacksCellsFor self.old.heap.table (nursery_space (nursery_of self.old.heap worker)) 1 worker g.made) }
         ensures too_many { (g : ProtectionGraph) → StandsFor self.old g → IfErr result (λ refused. refused.why ≡ CreateFault.WorkersFull →
             IsSubject g worker × (g.made < g.limit) × (MAX_WORKERS ≤ length g.subjects)) }
         ensures crowded { (g : ProtectionGraph) → StandsFor self.old g → IsSubject g worker → g.made < g.limit → MAX_WORKERS ≤ length g.subjects →
@@ -269,10 +244,6 @@ impl<P: Payload> Store<P> {
         ensures too_many_entry { IfErr result (λ refused. refused.why ≡ CreateFault.WorkersFull →
             OnlyEnters self.old self.new worker (Deed.Spawn label draft.law draft.state) Reply.WorkersFull) }
         ensures refused { IfErr result (λ refused. refused.why ≢ CreateFault.VerticesFull → refused.why ≢ CreateFault.WorkersFull → IsUnchanged self.old self.new) }
-        ensures same_graph { (g : ProtectionGraph) → StandsFor self.old g → OnErr result (StandsFor self.new g) }
-        ensures handed_back { IfErr result (λ refused. refused.draft ≡ draft) }
-        ensures opening { self.new.opening ≡ self.old.opening }
-        ensures limits { self.new.heap.table.limits ≡ self.old.heap.table.limits }
     {
         self.make(worker, Making::Subject, label, draft)
     }
@@ -287,19 +258,10 @@ impl<P: Payload> Store<P> {
         draft: Draft<P>,
     ) -> Result<u64, CreateRefused<P>>
         ensures entry { IfOk result (λ name. Enters self.old self.new worker (deed_making kind label draft) (Reply.Name name)) }
-        ensures name { (g : ProtectionGraph) → StandsFor self.old g → IfOk result (λ name. answer_of g worker (deed_making kind label draft) ≡ Reply.Name name) }
-        ensures step { (g : ProtectionGraph) → StandsFor self.old g → OnOk result (StandsFor self.new (step g worker (deed_making kind label draft))) }
-        ensures stored { IfOk result (λ name. IsNamed (content_of self.new.heap) name × ((content_of self.new.heap).value name ≡ Some draft)) }
-        ensures placed { IfOk result (λ name. IsMadeInRow self.old.heap.table self.new.heap.table self.old.heap.remembered self.new.heap.remembered
-            (nursery_space (nursery_of self.old.heap worker)) worker name label) }
-        ensures no_such_worker { (g : ProtectionGraph) → StandsFor self.old g → IsErrAnd result (λ refused. refused.why ≡ CreateFault.NoSuchWorker) ↔ (¬ IsSubject g worker) }
-        ensures no_more { (g : ProtectionGraph) → StandsFor self.old g → IfErr result (λ refused. refused.why ≡ CreateFault.VerticesFull → IsSubject g worker × (g.limit ≤ g.made)) }
-        ensures exhausted { (g : ProtectionGraph) → StandsFor self.old g → IsSubject g worker → g.limit ≤ g.made →
-            IsErrAnd result (λ refused. (refused.why ≡ CreateFault.VerticesFull) ⊎ (refused.why ≡ CreateFault.OutOfMemory)) }
+        ensures made { IfOk result (IsMadeFor (deed_making kind label draft) worker label draft self.old self.new) }
+        ensures refusals { MayRefuse (deed_making kind label draft) worker draft self.old self.new result }
         ensures no_more_entry { IfErr result (λ refused. refused.why ≡ CreateFault.VerticesFull →
             OnlyEnters self.old self.new worker (deed_making kind label draft) Reply.VerticesFull) }
-        ensures full { (g : ProtectionGraph) → StandsFor self.old g → IfErr result (λ refused. refused.why ≡ CreateFault.HeapFull →
-            IsAllowed g worker (deed_making kind label draft) × LacksCellsFor self.old.heap.table (nursery_space (nursery_of self.old.heap worker)) 1 worker g.made) }
         ensures too_many { (g : ProtectionGraph) → StandsFor self.old g → IfErr result (λ refused. refused.why ≡ CreateFault.WorkersFull →
             (kind ≡ Making.Subject) × IsSubject g worker × (g.made < g.limit) × (MAX_WORKERS ≤ length g.subjects)) }
         ensures crowded { kind ≡ Making.Subject → (g : ProtectionGraph) → StandsFor self.old g → IsSubject g worker → g.made < g.limit → MAX_WORKERS ≤ length g.subjects →
@@ -307,10 +269,6 @@ impl<P: Payload> Store<P> {
         ensures too_many_entry { IfErr result (λ refused. refused.why ≡ CreateFault.WorkersFull →
             OnlyEnters self.old self.new worker (deed_making kind label draft) Reply.WorkersFull) }
         ensures refused { IfErr result (λ refused. refused.why ≢ CreateFault.VerticesFull → refused.why ≢ CreateFault.WorkersFull → IsUnchanged self.old self.new) }
-        ensures same_graph { (g : ProtectionGraph) → StandsFor self.old g → OnErr result (StandsFor self.new g) }
-        ensures handed_back { IfErr result (λ refused. refused.draft ≡ draft) }
-        ensures opening { self.new.opening ≡ self.old.opening }
-        ensures limits { self.new.heap.table.limits ≡ self.old.heap.table.limits }
     {
         let Some(_) = self.heap.subject(worker) else {
             return create_refused(draft, CreateFault::NoSuchWorker);
@@ -421,21 +379,11 @@ impl<P: Payload> Store<P> {
     /// `HeapFull` is answered only where the cells that are reached and would be moved may not fit into the blocks that a space
     /// may have, so never for what nobody reaches; else `OutOfMemory` alone. The store is then as it was.
     pub fn collect(&mut self, kind: Kind) -> Result<u64, CollectFault>
-        ensures number { IfOk result (λ number. number ≡ length (content_of self.new.heap).names) }
-        ensures names { (g : ProtectionGraph) → StandsFor self.old g → OnOk result (kind ≡ Kind.Full → (x : ℕ) → IsNamed (content_of self.new.heap) x ↔ IsReachable g x) }
-        ensures reachable { (g : ProtectionGraph) → StandsFor self.old g → IfOk result (λ number. kind ≡ Kind.Full → IsCountOf (IsReachable g) number) }
-        ensures only_old { OnOk result (kind ≡ Kind.Full → (space : ℕ) → space ≢ 0 → space_of self.new.heap.table.spaces space ≡ []) }
-        ensures no_nursery { OnOk result ((space : ℕ) → 2 ≤ space → space_of self.new.heap.table.spaces space ≡ []) }
+        ensures swept { IfOk result (IsSwept kind self.old self.new) }
         ensures blocks { OnOk result (HasFewBlocks kind 0 self.old.heap.table self.new.heap.table) }
-        ensures needed { OnOk result (AreNeeded self.new.heap.table.spaces self.new.heap.remembered) }
-        ensures none_needed { OnOk result (kind ≡ Kind.Full → self.new.heap.remembered ≡ []) }
-        ensures stay { OnOk result (kind ≡ Kind.Nursery → VerticesOfOldStay self.old.heap.table.spaces self.new.heap.table.spaces) }
-        ensures entries { self.new.entries ≡ self.old.entries }
         ensures full { result ≡ Err CollectFault.HeapFull →
             LacksRoomToCollect kind 1 self.old.heap }
-        ensures refused { OnErr result (self.new ≡ self.old) }
-        ensures opening { self.new.opening ≡ self.old.opening }
-        ensures limits { self.new.heap.table.limits ≡ self.old.heap.table.limits }
+        ensures history { KeepsHistory self.old self.new result }
     {
         if kind == Kind::Nursery && self.is_all_old() {
             return Ok(self.heap.vertices());
@@ -497,19 +445,9 @@ impl<P: Payload> Store<P> {
     /// many vertices the heap then has. Fails only when out of memory; the store is then as it was.
     pub fn settle(&mut self, kind: Kind, copied: Copied) -> Result<u64, AllocError>
         requires { IsCollection kind self.old.heap.table.spaces (roots_of kind self.old.heap) copied.forward.words copied.adoption.aged copied.adoption.old copied.remembered.places }
-        ensures number { IfOk result (λ number. number ≡ length (content_of self.new.heap).names) }
-        ensures names { (g : ProtectionGraph) → StandsFor self.old g → OnOk result (kind ≡ Kind.Full → (x : ℕ) → IsNamed (content_of self.new.heap) x ↔ IsReachable g x) }
-        ensures reachable { (g : ProtectionGraph) → StandsFor self.old g → IfOk result (λ number. kind ≡ Kind.Full → IsCountOf (IsReachable g) number) }
-        ensures only_old { OnOk result (kind ≡ Kind.Full → (space : ℕ) → space ≢ 0 → space_of self.new.heap.table.spaces space ≡ []) }
-        ensures no_nursery { OnOk result ((space : ℕ) → 2 ≤ space → space_of self.new.heap.table.spaces space ≡ []) }
-        ensures stay { OnOk result (kind ≡ Kind.Nursery → VerticesOfOldStay self.old.heap.table.spaces self.new.heap.table.spaces) }
-        ensures needed { OnOk result (AreNeeded self.new.heap.table.spaces self.new.heap.remembered) }
-        ensures none_needed { OnOk result (kind ≡ Kind.Full → self.new.heap.remembered ≡ []) }
+        ensures swept { IfOk result (IsSwept kind self.old self.new) }
         ensures adopted { OnOk result (HasAdopted kind self.old.heap self.new.heap copied.forward.words copied.adoption.aged copied.adoption.old) }
-        ensures entries { self.new.entries ≡ self.old.entries }
-        ensures refused { OnErr result (self.new ≡ self.old) }
-        ensures opening { self.new.opening ≡ self.old.opening }
-        ensures limits { self.new.heap.table.limits ≡ self.old.heap.table.limits }
+        ensures history { KeepsHistory self.old self.new result }
     {
         let Copied {
             forward,

@@ -1,11 +1,10 @@
 -- How few blocks are left, and what is settled.
-use Rattle.std.proofs.Common.{◌≡◌, ◌≤◌, ◌+◌, List, subst}
+use Rattle.std.proofs.Common.{◌∙◌, ◌≤◌, ◌+◌, List, ap, subst}
 use Rattle.std.proofs.lemmas.Result.{err_from_is_err_and}
 use Rattle.tg_space.specs.SpaceTable.{SpaceTable, kept_blocks}
 use Rattle.tg_space.specs.Collection.{AreFewBlocks, IsCollection, copies_in, used_cells}
 use Rattle.tg_space.specs.declared.root.Root.{Root}
-use Rattle.tg_space.specs.declared.kind.Kind.TheVariants.{Nursery}
-use Rattle.tg_graph.specs.Kept.{VerticesOfOldStay}
+use Rattle.tg_store.specs.Collecting.{IsSwept}
 use Rattle.tg_store.specs.Room.{LacksRoomToCollect}
 use Rattle.tg_store.specs.Store.{HasFewBlocks, StoreState}
 use Rattle.tg_store.proofs.BlockLaws.{few_left}
@@ -24,9 +23,9 @@ returns-clause-blocks g c =
     subst (λ (state : StoreState). HasFewBlocks kind c.args.helpers state.heap.table after) c.take_spare-spare.ensures
     (few_left c.args.helpers before.table after made.forward.words made.adoption.aged made.adoption.old kind few moved adopted.full before adopted.nursery)
 
-pub returns-clause-stay : goal.returns-clause-stay
-returns-clause-stay g c =
-    subst (λ (state : StoreState). c.args.kind ≡ Nursery → VerticesOfOldStay state.heap.table.spaces c.settle.new.self.heap.table.spaces) c.take_spare-spare.ensures c.in_ok-settle.ensures.stay
+pub returns-clause-swept : goal.returns-clause-swept
+returns-clause-swept g c =
+    subst (λ (state : StoreState). IsSwept c.args.kind state c.settle.new.self c.in_ok-settle.field-0) c.take_spare-spare.ensures c.in_ok-settle.ensures.swept
 
 pub settle-requires : goal.settle-requires
 settle-requires g c =
@@ -47,3 +46,42 @@ returns-in_err-copied-clause-full g c is =
     let told = p.1 in let why = p.2 in
     subst (λ (state : StoreState). LacksRoomToCollect kind c.args.helpers state.heap) c.take_spare-spare.ensures
     (lacks_from kind c.args.helpers heap _ c.deref.result.now c.in_ok-roots.roots.items c.spaces.ensures c.deref.ensures.value c.in_ok-roots.ensures.targets (c.in_err-copied.ensures.full cc))
+
+pub returns-clause-history : goal.returns-clause-history
+returns-clause-history g c =
+    record {
+      entries = c.settle.ensures.history.entries ∙ ap (λ (s : StoreState). s.entries) c.take_spare-spare.ensures;
+      refused = tt;
+      opening = c.settle.ensures.history.opening ∙ ap (λ (s : StoreState). s.opening) c.take_spare-spare.ensures;
+      limits = c.settle.ensures.history.limits ∙ ap (λ (s : StoreState). s.heap.table.limits) c.take_spare-spare.ensures;
+    }
+
+pub returns-in_err-roots-clause-history : goal.returns-in_err-roots-clause-history
+returns-in_err-roots-clause-history g c =
+    let given = err_from_is_err_and c.from_residual.result c.from_residual.ensures.1 in
+    record {
+      entries = ap (λ (s : StoreState). s.entries) c.take_spare-spare.ensures;
+      refused = rw given.1 c.take_spare-spare.ensures;
+      opening = ap (λ (s : StoreState). s.opening) c.take_spare-spare.ensures;
+      limits = ap (λ (s : StoreState). s.heap.table.limits) c.take_spare-spare.ensures;
+    }
+
+pub returns-in_err-copied-clause-history : goal.returns-in_err-copied-clause-history
+returns-in_err-copied-clause-history g c =
+    let given = err_from_is_err_and c.from_residual-in_err-copied.result c.from_residual-in_err-copied.ensures.1 in
+    record {
+      entries = ap (λ (s : StoreState). s.entries) c.take_spare-spare.ensures;
+      refused = rw given.1 c.take_spare-spare.ensures;
+      opening = ap (λ (s : StoreState). s.opening) c.take_spare-spare.ensures;
+      limits = ap (λ (s : StoreState). s.heap.table.limits) c.take_spare-spare.ensures;
+    }
+
+pub returns-in_err-settle-clause-history : goal.returns-in_err-settle-clause-history
+returns-in_err-settle-clause-history g c =
+    let given = err_from_is_err_and c.from_residual-in_err-settle.result c.from_residual-in_err-settle.ensures.1 in
+    record {
+      entries = c.in_err-settle.ensures.history.entries ∙ ap (λ (s : StoreState). s.entries) c.take_spare-spare.ensures;
+      refused = rw given.1 (c.in_err-settle.ensures.history.refused ∙ c.take_spare-spare.ensures);
+      opening = c.in_err-settle.ensures.history.opening ∙ ap (λ (s : StoreState). s.opening) c.take_spare-spare.ensures;
+      limits = c.in_err-settle.ensures.history.limits ∙ ap (λ (s : StoreState). s.heap.table.limits) c.take_spare-spare.ensures;
+    }

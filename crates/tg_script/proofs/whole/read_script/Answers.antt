@@ -1,4 +1,4 @@
-use Rattle.std.proofs.Common.{◌++◌, [], ◌∷◌, refl, ap, ◌∙◌, sym, subst, Some, None, List}
+use Rattle.std.proofs.Common.{◌++◌, [], ◌∷◌, refl, ap, ◌∙◌, sym, subst, arith, Some, None, List}
 use Rattle.std.proofs.lemmas.Result.{err_from_is_err_and}
 use Rattle.tg_text.specs.declared.line.Line.{Line}
 use Rattle.tg_text.specs.declared.fault.ScriptFault.TheVariants as fault
@@ -51,3 +51,33 @@ returns-clause-bytes g c = λ bytes known.
       subst (λ x. ReadsScript c.args.workers bytes (edges ++ x) None m.0) (sym (m.2.1 ∙ ap (λ (x : List Line). x ++ m.2.0) one))
           (behind_first_line c.new-script.result c.read_edges.new.script c.args.workers bytes n.0 edges c.in-Some.first m.2.0 None m.0 fresh n.2 m.2.2),
     )
+
+pub returns-in_err-edges-clause-failures : goal.returns-in_err-edges-clause-failures
+returns-in_err-edges-clause-failures g c =
+    let p = err_from_is_err_and c.from_residual.result c.from_residual.ensures.1 in
+    rw (p.1, p.2) c.in_err-edges.ensures.failures
+
+pub returns-in_default-clause-failures : goal.returns-in_default-clause-failures
+returns-in_default-clause-failures g c = c.in_ok-edges.ensures.failures
+
+pub returns-then-is_err-clause-failures : goal.returns-then-is_err-clause-failures
+returns-then-is_err-clause-failures g c = c.in_ok-edges.ensures.failures
+
+pub returns-in_err-read_commands-clause-failures : goal.returns-in_err-read_commands-clause-failures
+returns-in_err-read_commands-clause-failures g c =
+    let p = err_from_is_err_and c.from_residual-in_err-read_commands.result c.from_residual-in_err-read_commands.ensures.1 in
+    let first = c.in_ok-edges.ensures.failures in
+    let last = c.in_err-read_commands.ensures.failures in
+    record {
+      read_failed = rw (p.1, p.2) (omega (arith, last.read_failed, first.read_failed));
+      write_failed = rw (p.1, p.2) (omega (arith, last.write_failed, first.write_failed));
+    }
+
+pub returns-clause-failures : goal.returns-clause-failures
+returns-clause-failures g c =
+    let first = c.in_ok-edges.ensures.failures in
+    let last = c.in_ok-read_commands.ensures.failures in
+    record {
+      read_failed = omega (arith, last.read_failed, first.read_failed);
+      write_failed = omega (arith, last.write_failed, first.write_failed);
+    }

@@ -11,10 +11,10 @@ returns-clause-replied g c =
     record {
       copy = c.in_ok-copy.ensures;
       reply = (λ graph stands subject.
-          reply-served (content_of c.args.heap.now) graph stands c.args.subject.name c.args.command.now subject c.requires.served c.in_ok-reply.reply c.in_ok-reply.ensures.reply);
+          reply-served (content_of c.args.heap.now) graph stands c.args.subject.name c.args.command.now subject c.requires.to_serve.served c.in_ok-reply.reply c.in_ok-reply.ensures.reply);
       step = (λ graph stands subject.
-          StandsFor-served (content_of c.args.heap.now) (content_of c.perform_between.new.heap) graph stands c.args.subject.name subject c.args.command.now c.requires.served c.in_ok-reply.ensures.content);
+          StandsFor-served (content_of c.args.heap.now) (content_of c.perform_between.new.heap) graph stands c.args.subject.name subject c.args.command.now c.requires.to_serve.served c.in_ok-reply.ensures.content);
       subjects = (λ graph stands subject names.
           c.in_ok-reply.ensures.subjects ∙ ap (λ (names : List ℕ). subjects_after names c.args.subject.name c.args.command.now) names
-          ∙ sym (subjects-served (content_of c.args.heap.now) graph stands c.args.subject.name c.args.command.now subject c.requires.served));
+          ∙ sym (subjects-served (content_of c.args.heap.now) graph stands c.args.subject.name c.args.command.now subject c.requires.to_serve.served));
     }

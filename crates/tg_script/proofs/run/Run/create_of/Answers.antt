@@ -1,4 +1,4 @@
-use Rattle.std.proofs.lemmas.Result.{IfErr-weaker}
+use Rattle.std.proofs.lemmas.Result.{IfErr-weaker, IfOk-weaker}
 use Rattle.tg_text.specs.declared.line.Line.TheVariants as line
 use Rattle.tg_script.specs.Script.{create_of}
 use Rattle.tg_script.specs.Supply.{values_left}
@@ -17,14 +17,14 @@ returns g c =
     (
     handles_making old.store c.create-made.new.self old.helpers c.tell.new.self (line.Create x label) x (create_of label) draft (values_left old.supply) made (creating x label)
     (record {
-      name = store.name;
-      steps = store.step;
-      no_such_worker = store.no_such_worker;
-      no_more = λ h stands. IfErr-weaker made _ _ (λ refused full is. create_full h x label draft (full is)) (store.no_more h stands);
+      name = λ h stands. IfOk-weaker made _ _ (λ name is. is.name h stands) store.made;
+      steps = λ h stands. IfOk-weaker made _ _ (λ name is. is.step h stands) store.made;
+      no_such_worker = store.refusals.no_such_worker;
+      no_more = λ h stands. IfErr-weaker made _ _ (λ refused full is. create_full h x label draft (full is)) (store.refusals.no_more h stands);
       too_many = λ h stands. IfErr-weaker made _ _ (λ refused never is. absurd (never is)) store.no_workers_full;
-      full = λ h stands. IfErr-weaker made _ _ (λ refused full is. (full is).0) (store.full h stands);
-      same_graph = store.same_graph;
-      handed_back = store.handed_back;
+      full = λ h stands. IfErr-weaker made _ _ (λ refused full is. (full is).0) (store.refusals.full h stands);
+      same_graph = store.refusals.same_graph;
+      handed_back = store.refusals.handed_back;
     })
     c.tell.ensures.store c.tell.ensures.stock c.tell.ensures.helpers
     )

@@ -1,65 +1,28 @@
-use Rattle.std.proofs.Common.{OnOk, ◌≡◌, ◌∙◌, ap, length, subst}
-use Rattle.tg_space.specs.declared.kind.Kind.TheVariants.{Nursery}
-use Rattle.tg_graph.specs.Kept.{VerticesOfOldStay}
-use Rattle.tg_store.specs.Store.{HasFewBlocks, StoreState, graph_of_store}
-use Rattle.std.proofs.lemmas.Result.{on_err_weaker}
+use Rattle.std.specs.Prelude.{IfOk, OnOk}
+use Rattle.std.proofs.Common.{length, subst}
+use Rattle.tg_store.specs.Collecting.{IsSwept}
+use Rattle.tg_store.specs.Store.{HasFewBlocks, StoreState}
 use Rattle.tg_shared.specs.Sessions.{LockedState}
-use Rattle.tg_shared.proofs.Balances.{balanced_same, goes_on_same, made_same}
+use Rattle.tg_shared.proofs.Balances.{balanced_same, goes_on_same, kept_locked, made_same}
 use Rattle.tg_shared.proofs.locked.Locked.collect_with.Goals as goal
 
 pub invariant_of-self : goal.invariant_of-self
 invariant_of-self g c = (
-  balanced_same c.self.inside.store c.collect_with.new.store (length g.L.Round.start.entries) c.self.inside.sessions c.self.inside.book.total c.self.inside.rest.parts g.L.Ledger.parts c.self.invariant.0 c.collect_with.ensures.entries c.collect_with.ensures.opening,
+  balanced_same c.self.inside.store c.collect_with.new.store (length g.L.Round.start.entries) c.self.inside.sessions c.self.inside.book.total c.self.inside.rest.parts g.L.Ledger.parts c.self.invariant.0 c.collect_with.ensures.history.entries c.collect_with.ensures.history.opening,
   c.self.invariant.1,
   c.self.invariant.2,
-  goes_on_same g.L.Round.start c.self.inside.store c.collect_with.new.store c.self.invariant.3 c.collect_with.ensures.entries c.collect_with.ensures.opening c.collect_with.ensures.limits,
-  made_same g.L.Round.start c.self.inside.sessions c.self.inside.store.entries c.collect_with.new.store.entries c.self.invariant.4 c.collect_with.ensures.entries,
+  goes_on_same g.L.Round.start c.self.inside.store c.collect_with.new.store c.self.invariant.3 c.collect_with.ensures.history.entries c.collect_with.ensures.history.opening c.collect_with.ensures.history.limits,
+  made_same g.L.Round.start c.self.inside.sessions c.self.inside.store.entries c.collect_with.new.store.entries c.self.invariant.4 c.collect_with.ensures.history.entries,
 )
 
-pub returns-clause-reachable : goal.returns-clause-reachable
-returns-clause-reachable g c =
-    λ graph stands. c.collect_with.ensures.reachable graph (ap (λ (b : LockedState). graph_of_store b.store) c.self.view_is ∙ stands)
-
-pub returns-clause-only_old : goal.returns-clause-only_old
-returns-clause-only_old g c = c.collect_with.ensures.only_old
-
-pub returns-clause-no_nursery : goal.returns-clause-no_nursery
-returns-clause-no_nursery g c = c.collect_with.ensures.no_nursery
+pub returns-clause-swept : goal.returns-clause-swept
+returns-clause-swept g c =
+    subst (λ (b : LockedState). IfOk c.collect_with.result (IsSwept c.args.kind b.store c.collect_with.new.store)) c.self.view_is c.collect_with.ensures.swept
 
 pub returns-clause-blocks : goal.returns-clause-blocks
 returns-clause-blocks g c =
     let new : StoreState = c.collect_with.new.store in
     subst (λ (b : LockedState). OnOk c.collect_with.result (HasFewBlocks c.args.kind c.args.helpers b.store.heap.table new.heap.table)) c.self.view_is c.collect_with.ensures.blocks
 
-pub returns-clause-entries : goal.returns-clause-entries
-returns-clause-entries g c = c.collect_with.ensures.entries ∙ ap (λ (b : LockedState). b.store.entries) c.self.view_is
-
-pub returns-clause-refused : goal.returns-clause-refused
-returns-clause-refused g c =
-    on_err_weaker c.collect_with.result (λ same. (λ i. record { store = same i; sessions = c.self.inside.sessions }) ∙ c.self.view_is) c.collect_with.ensures.refused
-
-pub returns-clause-opening : goal.returns-clause-opening
-returns-clause-opening g c = c.collect_with.ensures.opening ∙ ap (λ (b : LockedState). b.store.opening) c.self.view_is
-
-pub returns-clause-limits : goal.returns-clause-limits
-returns-clause-limits g c = c.collect_with.ensures.limits ∙ ap (λ (b : LockedState). b.store.heap.table.limits) c.self.view_is
-
-pub returns-clause-sessions : goal.returns-clause-sessions
-returns-clause-sessions g c = ap (λ (b : LockedState). b.sessions) c.self.view_is
-
-pub returns-clause-number : goal.returns-clause-number
-returns-clause-number g c = c.collect_with.ensures.number
-
-pub returns-clause-names : goal.returns-clause-names
-returns-clause-names g c =
-    λ graph stands. c.collect_with.ensures.names graph (ap (λ (b : LockedState). graph_of_store b.store) c.self.view_is ∙ stands)
-
-pub returns-clause-stay : goal.returns-clause-stay
-returns-clause-stay g c =
-    subst (λ (b : LockedState). OnOk c.collect_with.result (c.args.kind ≡ Nursery → VerticesOfOldStay b.store.heap.table.spaces c.collect_with.new.store.heap.table.spaces)) c.self.view_is c.collect_with.ensures.stay
-
-pub returns-clause-needed : goal.returns-clause-needed
-returns-clause-needed g c = c.collect_with.ensures.needed
-
-pub returns-clause-none_needed : goal.returns-clause-none_needed
-returns-clause-none_needed g c = c.collect_with.ensures.none_needed
+pub returns-clause-kept : goal.returns-clause-kept
+returns-clause-kept g c = kept_locked c.self.inside.store c.collect_with.new.store c.self.inside.sessions c.args.self.now c.collect_with.result c.self.view_is c.collect_with.ensures.history

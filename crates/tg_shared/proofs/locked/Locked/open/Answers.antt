@@ -2,9 +2,7 @@ use Rattle.std.proofs.Common.{◌≡◌, ◌≤◌, ◌<◌, ◌+◌, ◌∙◌,
 use Rattle.std.proofs.lemmas.List.{length-map}
 use Rattle.tg_subjects.specs.declared.subject.Subject.{Subject}
 use Rattle.tg_journal.proofs.HistoryLaws.{made-opened}
-use Rattle.tg_model.specs.Opened.{Plan, start_of}
 use Rattle.tg_journal.specs.declared.entry.Entry.{Entry}
-use Rattle.tg_journal.specs.History.{graph_after}
 use Rattle.tg_store.specs.Store.{graph_of_store}
 use Rattle.tg_shared.specs.Sessions.{SessionState, SharedStart, AreFresh, sessions_made, subjects_at}
 use Rattle.tg_shared.proofs.Balances.{active_made, goes_on_start, sessions_start}
@@ -24,7 +22,7 @@ sessions_of-requires g c =
     let names : length c.subjects.result.now ≡ length (graph_of_store c.args.store).subjects = sym (length-map c.subjects.result.now (λ (s : Subject). s.name)) ∙ ap (λ (l : List ℕ). length l) (c.subjects.ensures.names (graph_of_store c.args.store) refl) in
     let low : length c.subjects.result.now ≤ (graph_of_store c.args.store).made = (let active = active_made c.args.store faithful in omega (arith, active, names)) in
     let within = made-opened c.args.store.opening c.args.store.entries faithful.plan in
-    let parts : c.open-book.result.1.parts ≡ c.args.store.opening.limit + 1 = c.open-book.ensures.parts ∙ (sym c.requires.parts.0 ∙ c.requires.parts.1) in
+    let parts : c.open-book.result.1.parts ≡ c.args.store.opening.limit + 1 = c.open-book.ensures.parts ∙ (sym c.requires.shareable.parts.0 ∙ c.requires.shareable.parts.1) in
     (few_enough (length c.subjects.result.now) (graph_of_store c.args.store).made c.args.store.opening.limit c.open-book.result.1.parts low within parts, c.open-book.ensures.amount)
 
 pub invariant_of-locked : goal.invariant_of-locked
@@ -40,19 +38,19 @@ invariant_of-locked g c =
     let parts : c.open-book.result.1.parts ≡ g.L.Ledger.parts = c.open-book.ensures.parts in
     let left : c.sessions_of.new.rest.parts + length c.subjects.result.now ≡ c.open-book.result.1.parts = c.in-Ok.ensures.rest.0 in
     let entries : c.journal.result.now.entries ≡ c.args.store.entries = c.journal.ensures.entries in
-    let shared : length c.args.store.entries ≡ length start.entries = ap (λ (s : SharedStart). length s.entries) c.requires.start in
+    let shared : length c.args.store.entries ≡ length start.entries = ap (λ (s : SharedStart). length s.entries) c.requires.shareable.start in
     let first : c.len-start.result ≡ length start.entries = c.len-start.ensures ∙ (ap (λ (es : List Entry). length es) entries ∙ shared) in
-    let at_start : length (graph_of_store c.args.store).subjects ≡ length (subjects_at start) = ap (λ (s : SharedStart). length (subjects_at s)) c.requires.start in
+    let at_start : length (graph_of_store c.args.store).subjects ≡ length (subjects_at start) = ap (λ (s : SharedStart). length (subjects_at s)) c.requires.shareable.start in
     let made : sessions_made start c.args.store.entries ≡ length (subjects_at start) =
-    ap (sessions_made start) (ap (λ (s : SharedStart). s.entries) c.requires.start) ∙ sessions_start start in (
+    ap (sessions_made start) (ap (λ (s : SharedStart). s.entries) c.requires.shareable.start) ∙ sessions_start start in (
       record {
         counted = shared ∙ (let e : length start.entries ≡ length start.entries + c.open-book.result.0.total = omega arith in e);
         cut = (let e : c.len.result + c.sessions_of.new.rest.parts ≡ g.L.Ledger.parts = omega arith in e);
-        enough = sym c.requires.parts.0 ∙ c.requires.parts.1;
+        enough = sym c.requires.shareable.parts.0 ∙ c.requires.shareable.parts.1;
         made = omega (arith, active, names, number);
       },
       first,
       c.in-Ok.ensures.rest.1,
-      goes_on_start start c.args.store c.requires.start,
+      goes_on_start start c.args.store c.requires.shareable.start,
       (let e : c.len.result ≡ sessions_made start c.args.store.entries = omega (arith, number, names, at_start, made) in e),
     )

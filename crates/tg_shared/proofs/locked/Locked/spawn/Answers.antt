@@ -1,14 +1,17 @@
-use Rattle.std.proofs.Common.{◌≡◌, ◌↔◌, ◌∙◌, ◌<◌, ◌≤◌, ◌+◌, ℕ, List, length, Bool, true, false, Option, Some, None, ap, arith, refl, subst, sym}
-use Rattle.tg_rights.specs.RightSet.{RightSet}
+use Rattle.std.proofs.Common.{◌≡◌, ◌∙◌, ◌<◌, ◌≤◌, ◌+◌, ℕ, length, false, Some, Ok, Err, ap, arith, refl, subst, sym}
 use Rattle.tg_model.specs.declared.command.Deed.{Deed}
 use Rattle.tg_model.specs.declared.reply.Reply.{Reply}
 use Rattle.tg_model.specs.declared.opening.TheConstants.{MAX_WORKERS}
-use Rattle.tg_model.specs.Graph.{IsSubject, ProtectionGraph}
+use Rattle.tg_model.specs.Graph.{IsSubject}
 use Rattle.tg_store.specs.declared.fault.CreateFault.{CreateFault}
 use Rattle.tg_store.specs.declared.fault.CreateFault.TheVariants as fault
+use Rattle.tg_store.specs.Made.{IsMadeFor, MayRefuse}
 use Rattle.tg_store.specs.Store.{Enters, StandsFor, StoreState, graph_of_store}
-use Rattle.tg_shared.specs.Sessions.{LockedState, made_subject, reply_entered, sessions_made}
+use Rattle.tg_shared.specs.declared.session.Session.{Session}
+use Rattle.tg_shared.specs.Sessions.{LockedState, made_subject, reply_entered}
 use Rattle.tg_shared.proofs.Balances.{balanced_entered, balanced_spawned, goes_on_entered, grown, made_more, part_left}
+use Rattle.tg_shared.proofs.Refusals.{refusals_made, refusals_none, refusals_same}
+use Rattle.tg_shared.proofs.locked.Locked.spawn.Goals.{in-Some, in_default+in-Many-1, in_default+in-None-1}
 use Rattle.tg_shared.proofs.locked.Locked.spawn.Goals as goal
 
 -- a refusal that makes an entry has one of two replies
@@ -39,10 +42,10 @@ invariant_of-self g c =
     let deed : Deed = Deed.Spawn c.args.label c.args.draft.law c.args.draft.state in
     let entry : Enters old new c.worker-worker.result deed (Reply.Name c.in-Ok.name) = c.in-Ok.ensures.entry in (
       balanced_spawned old new (length g.L.Round.start.entries) c.self.inside.sessions c.self.inside.book.total c.note.new.book.total c.self.inside.rest.parts c.split_off-share.new.self.parts g.L.Ledger.parts
-          c.worker-worker.result c.in-Ok.name c.args.label c.args.draft.law c.args.draft.state c.self.invariant.0 entry (c.in-Ok.ensures.name (graph_of_store old) refl) c.spawn.ensures.opening c.note.ensures.book c.split_off-share.ensures.parts_left,
+          c.worker-worker.result c.in-Ok.name c.args.label c.args.draft.law c.args.draft.state c.self.invariant.0 entry (c.in-Ok.ensures.made.name (graph_of_store old) refl) c.spawn.ensures.refusals.opening c.note.ensures.book c.split_off-share.ensures.parts_left,
       c.self.invariant.1,
       nothing_left c.split_off-share.new.self.amount c.self.inside.rest.amount c.split_off-share.ensures.amount_left c.self.invariant.2,
-      goes_on_entered g.L.Round.start old new c.worker-worker.result deed (Reply.Name c.in-Ok.name) c.self.invariant.3 entry c.spawn.ensures.opening c.spawn.ensures.limits,
+      goes_on_entered g.L.Round.start old new c.worker-worker.result deed (Reply.Name c.in-Ok.name) c.self.invariant.3 entry c.spawn.ensures.refusals.opening c.spawn.ensures.refusals.limits,
       one_more c.self.inside.sessions _ _ c.self.invariant.4 (made_more g.L.Round.start old new c.worker-worker.result deed (Reply.Name c.in-Ok.name) entry (grown g.L.Round.start old c.self.invariant.3)),
     )
 
@@ -57,33 +60,38 @@ invariant_of-self-in-Some g c =
     (λ why. ((c.in-Err.ensures.no_more_entry why).entry, refl)) (λ why. ((c.in-Err.ensures.too_many_entry why).entry, refl)) in
     let more = made_more g.L.Round.start old new c.worker-worker.result deed reply held.0 (grown g.L.Round.start old c.self.invariant.3) in (
       balanced_entered old new (length g.L.Round.start.entries) c.self.inside.sessions c.self.inside.book.total c.note-in-Some.new.book.total c.self.inside.rest.parts g.L.Ledger.parts
-          c.worker-worker.result deed reply c.self.invariant.0 held.0 c.spawn.ensures.opening c.note-in-Some.ensures.book,
+          c.worker-worker.result deed reply c.self.invariant.0 held.0 c.spawn.ensures.refusals.opening c.note-in-Some.ensures.book,
       c.self.invariant.1,
       c.self.invariant.2,
-      goes_on_entered g.L.Round.start old new c.worker-worker.result deed reply c.self.invariant.3 held.0 c.spawn.ensures.opening c.spawn.ensures.limits,
+      goes_on_entered g.L.Round.start old new c.worker-worker.result deed reply c.self.invariant.3 held.0 c.spawn.ensures.refusals.opening c.spawn.ensures.refusals.limits,
       as_many c.self.inside.sessions _ _ c.self.invariant.4 (rw held.1 at more),
     )
 
-pub returns-after-entered-clause-no_such_worker : goal.returns-after-entered-clause-no_such_worker
-returns-after-entered-clause-no_such_worker g c =
-    let worker : c.worker-worker.result ≡ c.args.session.now.worker = c.worker-worker.ensures in
-    λ graph stands.
-    let here : StandsFor c.self.inside.store graph = ap (λ (b : LockedState). graph_of_store b.store) c.self.view_is ∙ stands in
-    let told = c.in-Err.ensures.no_such_worker graph here in
-    subst (λ (w : ℕ). (c.in-Err.refused.why ≡ fault.NoSuchWorker) ↔ (¬ IsSubject graph w)) worker told
+pub returns-in-Ok-clause-made : goal.returns-in-Ok-clause-made
+returns-in-Ok-clause-made g c =
+    let deed : Deed = Deed.Spawn c.args.label c.args.draft.law c.args.draft.state in
+    let made : StoreState → ℕ → ℕ → Type 0 = λ s w name. IsMadeFor deed w c.args.label c.args.draft s c.spawn.new.self name in
+    let named = subst (made c.self.inside.store c.worker-worker.result) (sym c.new.ensures.0) c.in-Ok.ensures.made in
+    subst (λ (b : LockedState). made b.store c.args.session.now.worker c.new.result.worker) c.self.view_is (subst (λ (w : ℕ). made c.self.inside.store w c.new.result.worker) c.worker-worker.ensures named)
 
-pub returns-in-Ok-clause-no_such_worker : goal.returns-in-Ok-clause-no_such_worker
-returns-in-Ok-clause-no_such_worker g c =
-    λ graph stands.
-    let here : StandsFor c.self.inside.store graph = ap (λ (b : LockedState). graph_of_store b.store) c.self.view_is ∙ stands in
-    let told : ⊥ ↔ (¬ IsSubject graph c.worker-worker.result) = c.in-Ok.ensures.no_such_worker graph here in
-    subst (λ (w : ℕ). ⊥ ↔ (¬ IsSubject graph w)) c.worker-worker.ensures told
+pub returns-in-Ok-clause-refusals : goal.returns-in-Ok-clause-refusals
+returns-in-Ok-clause-refusals g c =
+    refusals_made _ _ _ _ _ c.in-Ok.name c.new.result
+    (refusals_same _ _ _ _ _ _ _ _ (ap (λ (b : LockedState). b.store) c.self.view_is) c.worker-worker.ensures c.in-Ok.ensures.refusals)
 
-pub returns-after-entered-clause-no_more : goal.returns-after-entered-clause-no_more
-returns-after-entered-clause-no_more g c =
-    λ graph stands.
-    let here : StandsFor c.self.inside.store graph = ap (λ (b : LockedState). graph_of_store b.store) c.self.view_is ∙ stands in
-    subst (λ (w : ℕ). c.in-Err.refused.why ≡ fault.VerticesFull → IsSubject graph w × (graph.limit ≤ graph.made)) c.worker-worker.ensures (c.in-Err.ensures.no_more graph here)
+pub returns-after-entered-clause-refusals : goal.returns-after-entered-clause-refusals
+returns-after-entered-clause-refusals g c =
+    let deed : Deed = Deed.Spawn c.args.label c.args.draft.law c.args.draft.state in
+    let told : StoreState → Type 0 = λ s. MayRefuse {P = g.row.P.Denot} {T = Session g.row.L.Denot} deed c.args.session.now.worker c.args.draft c.args.self.now.store s (Err c.in-Err.refused) in
+    let here : told c.spawn.new.self =
+    refusals_none _ _ _ _ _ c.in-Err.refused
+    (refusals_same _ _ _ _ _ _ _ _ (ap (λ (b : LockedState). b.store) c.self.view_is) c.worker-worker.ensures c.in-Err.ensures.refusals) in
+    let same : c.match-entered.self.store ≡ c.spawn.new.self = elim c.match-entered.branch [
+      | in-Some w ↦ ap (λ b. b.store) w.self-is
+      | in_default+in-Many-1 w ↦ ap (λ b. b.store) w.self-is
+      | in_default+in-None-1 w ↦ ap (λ b. b.store) w.self-is
+    ] in
+    subst told (sym same) here
 
 pub returns-after-entered-clause-too_many : goal.returns-after-entered-clause-too_many
 returns-after-entered-clause-too_many g c =

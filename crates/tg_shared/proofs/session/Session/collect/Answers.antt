@@ -19,8 +19,8 @@ pub returns : goal.returns
 returns g c =
     let next : StoreState = c.collect.new.self.store in
     let held = found g.L.Round.start c.deref-2.result.now c.collect.new.self c.deref-2.ensures c.store-2.ensures.gone_on c.store-2.ensures.faithful in
-    let same = graph_same c.deref_mut.result.now.store next c.collect.ensures.entries c.collect.ensures.opening in
+    let same = graph_same c.deref_mut.result.now.store next c.collect.ensures.kept.history.entries c.collect.ensures.kept.history.opening in
     record {
-      number = (next, held.0, held.1, (c.in_ok-left.ensures.number, c.in_ok-left.ensures.reachable (graph_of_store next) (sym same)));
+      number = (next, held.0, held.1, (c.in_ok-left.ensures.swept.number, c.in_ok-left.ensures.swept.reachable (graph_of_store next) (sym same)));
       full = tt;
     }

@@ -1,13 +1,10 @@
-use Rattle.std.proofs.Common.{◌≡◌, ◌<◌, ◌+◌, ◌∙◌, ℕ, refl, sym, subst}
-use Rattle.tg_model.specs.Graph.{IsSubject}
-use Rattle.tg_word.specs.Word.{nursery_space}
-use Rattle.tg_graph.specs.Heap.{nursery_of}
-use Rattle.tg_graph.specs.Spots.{LacksCellsFor}
+use Rattle.std.proofs.Common.{◌≡◌, ◌∙◌, refl, sym, subst}
 use Rattle.tg_store.specs.declared.fault.CreateFault.{CreateFault}
-use Rattle.tg_store.specs.Store.{StoreState, IsFaithful, graph_of_store}
+use Rattle.tg_store.specs.Store.{StoreState, IsFaithful}
 use Rattle.std.proofs.lemmas.Result.{IfErr-weaker, IfOk-weaker}
 use Rattle.tg_shared.specs.Sessions.{LockedState}
-use Rattle.tg_shared.proofs.Calls.{err_where, found, kept}
+use Rattle.tg_shared.proofs.Calls.{found, kept}
+use Rattle.tg_shared.proofs.Refusals.{refusals_at_some}
 use Rattle.tg_shared.proofs.Replies.{answered}
 use Rattle.tg_shared.proofs.session.Session.create.Goals as goal
 
@@ -26,12 +23,14 @@ not_heap is = cc
 pub returns-then-is_err : goal.returns-then-is_err
 returns-then-is_err g c = record {
   receipt = tt;
-  full = λ is. absurd (not_vertices is);
   refused = λ _. c.make_room.ensures.receipts;
-  no_such_worker = λ is. absurd (not_worker is);
-  heap_full = λ is. absurd (not_heap is);
   no_workers_full = not_workers;
-  handed_back = refl;
+  refusals = record {
+    full = λ is. absurd (not_vertices is);
+    no_such_worker = λ is. absurd (not_worker is);
+    heap_full = λ is. absurd (not_heap is);
+    handed_back = refl;
+  };
 }
 
 pub returns-clause-refused : goal.returns-clause-refused
@@ -43,41 +42,19 @@ returns-clause-refused g c =
 pub returns-clause-no_workers_full : goal.returns-clause-no_workers_full
 returns-clause-no_workers_full g c = c.create-created.ensures.no_workers_full
 
-pub returns-clause-handed_back : goal.returns-clause-handed_back
-returns-clause-handed_back g c = c.create-created.ensures.handed_back
-
 pub returns-clause-receipt : goal.returns-clause-receipt
 returns-clause-receipt g c =
     let s : StoreState = c.deref_mut.result.now.store in
     let held = found g.L.Round.start c.deref.result.now c.deref_mut.result.now (c.deref.ensures ∙ sym c.deref_mut.ensures.value) c.store.ensures.gone_on c.store.ensures.faithful in
     let after : IsFaithful c.create-created.new.self.store = subst (λ (b : LockedState). IsFaithful b.store) c.deref-2.ensures c.store-2.ensures.faithful in
     IfOk-weaker c.create-created.result _ _
-    (λ name records. answered g.L.Round.start s c.create-created.new.self.store c.args.self.now c.make_room.new.self c.create-created.new.session _ _ _ held.0 held.1 c.make_room.ensures.receipts records c.create-created.ensures.opening after refl)
+    (λ name records. answered g.L.Round.start s c.create-created.new.self.store c.args.self.now c.make_room.new.self c.create-created.new.session _ _ _ held.0 held.1 c.make_room.ensures.receipts records c.create-created.ensures.refusals.opening after refl)
     c.create-created.ensures.entry
 
-pub returns-clause-full : goal.returns-clause-full
-returns-clause-full g c =
+pub returns-clause-refusals : goal.returns-clause-refusals
+returns-clause-refusals g c =
     let s : StoreState = c.deref_mut.result.now.store in
     let held = found g.L.Round.start c.deref.result.now c.deref_mut.result.now (c.deref.ensures ∙ sym c.deref_mut.ensures.value) c.store.ensures.gone_on c.store.ensures.faithful in
     let after : IsFaithful c.create-created.new.self.store = subst (λ (b : LockedState). IsFaithful b.store) c.deref-2.ensures c.store-2.ensures.faithful in
-    IfErr-weaker c.create-created.result _ _
-    (λ refused told why. answered g.L.Round.start s c.create-created.new.self.store c.args.self.now c.make_room.new.self c.create-created.new.session _ _ _ held.0 held.1 c.make_room.ensures.receipts (told why).0 c.create-created.ensures.opening after refl)
-    c.create-created.ensures.no_more_entry
-
-pub returns-clause-no_such_worker : goal.returns-clause-no_such_worker
-returns-clause-no_such_worker g c =
-    let s : StoreState = c.deref_mut.result.now.store in
-    let held = found g.L.Round.start c.deref.result.now c.deref_mut.result.now (c.deref.ensures ∙ sym c.deref_mut.ensures.value) c.store.ensures.gone_on c.store.ensures.faithful in
-    let worker : c.make_room.new.self.worker ≡ c.args.self.now.worker = c.make_room.ensures.receipts.0 in
-    IfErr-weaker c.create-created.result _ _
-    (λ refused told why. (s, held.0, held.1, subst (λ (w : ℕ). ¬ IsSubject (graph_of_store s) w) worker (told why)))
-    (err_where c.create-created.result _ _ (c.create-created.ensures.no_such_worker (graph_of_store s) refl))
-
-pub returns-clause-heap_full : goal.returns-clause-heap_full
-returns-clause-heap_full g c =
-    let s : StoreState = c.deref_mut.result.now.store in
-    let held = found g.L.Round.start c.deref.result.now c.deref_mut.result.now (c.deref.ensures ∙ sym c.deref_mut.ensures.value) c.store.ensures.gone_on c.store.ensures.faithful in
-    let worker : c.make_room.new.self.worker ≡ c.args.self.now.worker = c.make_room.ensures.receipts.0 in
-    IfErr-weaker c.create-created.result _ _
-    (λ refused told why. (s, held.0, held.1, subst (λ (w : ℕ). (graph_of_store s).made < (graph_of_store s).limit × LacksCellsFor s.heap.table (nursery_space (nursery_of s.heap w)) 1 w (graph_of_store s).made) worker (told why)))
-    (c.create-created.ensures.full (graph_of_store s) refl)
+    refusals_at_some g.L.Round.start s c.create-created.new.self.store c.args.self.now c.make_room.new.self c.create-created.new.session _ _ c.create-created.result held.0 held.1 c.make_room.ensures.receipts after
+    c.create-created.ensures.no_more_entry c.create-created.ensures.refusals

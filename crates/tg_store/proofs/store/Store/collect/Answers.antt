@@ -1,11 +1,14 @@
 -- How few blocks are left, and which vertices stay: the spare blocks are none of the store that is seen.
-use Rattle.std.proofs.Common.{◌≡◌, subst}
+use Rattle.std.proofs.Common.{◌∙◌, ap, subst}
 use Rattle.std.proofs.lemmas.Result.{err_from_is_err_and}
-use Rattle.tg_space.specs.declared.kind.Kind.TheVariants.{Nursery}
-use Rattle.tg_graph.specs.Kept.{VerticesOfOldStay}
 use Rattle.tg_store.specs.Store.{HasFewBlocks, StoreState}
+use Rattle.tg_store.specs.Collecting.{IsSwept}
 use Rattle.tg_store.proofs.BlockLaws.{few_left}
 use Rattle.tg_store.proofs.store.Store.collect.Goals as goal
+
+pub returns-clause-swept : goal.returns-clause-swept
+returns-clause-swept g c =
+    subst (λ (state : StoreState). IsSwept c.args.kind state c.settle.new.self c.in_ok-settle.field-0) c.take_spare-spare.ensures c.in_ok-settle.ensures.swept
 
 pub returns-clause-blocks : goal.returns-clause-blocks
 returns-clause-blocks g c =
@@ -17,60 +20,43 @@ returns-clause-blocks g c =
     subst (λ (state : StoreState). HasFewBlocks kind 0 state.heap.table after) c.take_spare-spare.ensures
     (few_left 0 before.table after made.forward.words made.adoption.aged made.adoption.old kind c.in_ok-copied.ensures.few c.in_ok-copied.ensures.moved adopted.full before adopted.nursery)
 
-pub returns-clause-stay : goal.returns-clause-stay
-returns-clause-stay g c =
-    subst (λ (state : StoreState). c.args.kind ≡ Nursery → VerticesOfOldStay state.heap.table.spaces c.settle.new.self.heap.table.spaces) c.take_spare-spare.ensures c.in_ok-settle.ensures.stay
-
-pub returns-in_err-copied-clause-number : goal.returns-in_err-copied-clause-number
-returns-in_err-copied-clause-number g c = let given = err_from_is_err_and c.from_residual.result c.from_residual.ensures.1 in rw given.1 tt
-
-pub returns-in_err-copied-clause-only_old : goal.returns-in_err-copied-clause-only_old
-returns-in_err-copied-clause-only_old g c = let given = err_from_is_err_and c.from_residual.result c.from_residual.ensures.1 in rw given.1 tt
-
-pub returns-in_err-copied-clause-no_nursery : goal.returns-in_err-copied-clause-no_nursery
-returns-in_err-copied-clause-no_nursery g c = let given = err_from_is_err_and c.from_residual.result c.from_residual.ensures.1 in rw given.1 tt
+pub returns-in_err-copied-clause-swept : goal.returns-in_err-copied-clause-swept
+returns-in_err-copied-clause-swept g c = let given = err_from_is_err_and c.from_residual.result c.from_residual.ensures.1 in rw given.1 tt
 
 pub returns-in_err-copied-clause-blocks : goal.returns-in_err-copied-clause-blocks
 returns-in_err-copied-clause-blocks g c = let given = err_from_is_err_and c.from_residual.result c.from_residual.ensures.1 in rw given.1 tt
 
-pub returns-in_err-copied-clause-stay : goal.returns-in_err-copied-clause-stay
-returns-in_err-copied-clause-stay g c = let given = err_from_is_err_and c.from_residual.result c.from_residual.ensures.1 in rw given.1 tt
-
-pub returns-in_err-copied-clause-names : goal.returns-in_err-copied-clause-names
-returns-in_err-copied-clause-names g c = let given = err_from_is_err_and c.from_residual.result c.from_residual.ensures.1 in λ _ _. rw given.1 tt
-
-pub returns-in_err-copied-clause-reachable : goal.returns-in_err-copied-clause-reachable
-returns-in_err-copied-clause-reachable g c = let given = err_from_is_err_and c.from_residual.result c.from_residual.ensures.1 in λ _ _. rw given.1 tt
-
-pub returns-in_err-settle-clause-number : goal.returns-in_err-settle-clause-number
-returns-in_err-settle-clause-number g c = let given = err_from_is_err_and c.from_residual-in_err-settle.result c.from_residual-in_err-settle.ensures.1 in rw given.1 tt
-
-pub returns-in_err-settle-clause-only_old : goal.returns-in_err-settle-clause-only_old
-returns-in_err-settle-clause-only_old g c = let given = err_from_is_err_and c.from_residual-in_err-settle.result c.from_residual-in_err-settle.ensures.1 in rw given.1 tt
-
-pub returns-in_err-settle-clause-no_nursery : goal.returns-in_err-settle-clause-no_nursery
-returns-in_err-settle-clause-no_nursery g c = let given = err_from_is_err_and c.from_residual-in_err-settle.result c.from_residual-in_err-settle.ensures.1 in rw given.1 tt
+pub returns-in_err-settle-clause-swept : goal.returns-in_err-settle-clause-swept
+returns-in_err-settle-clause-swept g c = let given = err_from_is_err_and c.from_residual-in_err-settle.result c.from_residual-in_err-settle.ensures.1 in rw given.1 tt
 
 pub returns-in_err-settle-clause-blocks : goal.returns-in_err-settle-clause-blocks
 returns-in_err-settle-clause-blocks g c = let given = err_from_is_err_and c.from_residual-in_err-settle.result c.from_residual-in_err-settle.ensures.1 in rw given.1 tt
 
-pub returns-in_err-settle-clause-stay : goal.returns-in_err-settle-clause-stay
-returns-in_err-settle-clause-stay g c = let given = err_from_is_err_and c.from_residual-in_err-settle.result c.from_residual-in_err-settle.ensures.1 in rw given.1 tt
+pub returns-clause-history : goal.returns-clause-history
+returns-clause-history g c =
+    record {
+      entries = c.settle.ensures.history.entries ∙ ap (λ (s : StoreState). s.entries) c.take_spare-spare.ensures;
+      refused = tt;
+      opening = c.settle.ensures.history.opening ∙ ap (λ (s : StoreState). s.opening) c.take_spare-spare.ensures;
+      limits = c.settle.ensures.history.limits ∙ ap (λ (s : StoreState). s.heap.table.limits) c.take_spare-spare.ensures;
+    }
 
-pub returns-in_err-settle-clause-names : goal.returns-in_err-settle-clause-names
-returns-in_err-settle-clause-names g c = let given = err_from_is_err_and c.from_residual-in_err-settle.result c.from_residual-in_err-settle.ensures.1 in λ _ _. rw given.1 tt
+pub returns-in_err-copied-clause-history : goal.returns-in_err-copied-clause-history
+returns-in_err-copied-clause-history g c =
+    let given = err_from_is_err_and c.from_residual.result c.from_residual.ensures.1 in
+    record {
+      entries = ap (λ (s : StoreState). s.entries) c.take_spare-spare.ensures;
+      refused = rw given.1 c.take_spare-spare.ensures;
+      opening = ap (λ (s : StoreState). s.opening) c.take_spare-spare.ensures;
+      limits = ap (λ (s : StoreState). s.heap.table.limits) c.take_spare-spare.ensures;
+    }
 
-pub returns-in_err-settle-clause-reachable : goal.returns-in_err-settle-clause-reachable
-returns-in_err-settle-clause-reachable g c = let given = err_from_is_err_and c.from_residual-in_err-settle.result c.from_residual-in_err-settle.ensures.1 in λ _ _. rw given.1 tt
-
-pub returns-in_err-copied-clause-needed : goal.returns-in_err-copied-clause-needed
-returns-in_err-copied-clause-needed g c = let given = err_from_is_err_and c.from_residual.result c.from_residual.ensures.1 in rw given.1 tt
-
-pub returns-in_err-copied-clause-none_needed : goal.returns-in_err-copied-clause-none_needed
-returns-in_err-copied-clause-none_needed g c = let given = err_from_is_err_and c.from_residual.result c.from_residual.ensures.1 in rw given.1 tt
-
-pub returns-in_err-settle-clause-needed : goal.returns-in_err-settle-clause-needed
-returns-in_err-settle-clause-needed g c = let given = err_from_is_err_and c.from_residual-in_err-settle.result c.from_residual-in_err-settle.ensures.1 in rw given.1 tt
-
-pub returns-in_err-settle-clause-none_needed : goal.returns-in_err-settle-clause-none_needed
-returns-in_err-settle-clause-none_needed g c = let given = err_from_is_err_and c.from_residual-in_err-settle.result c.from_residual-in_err-settle.ensures.1 in rw given.1 tt
+pub returns-in_err-settle-clause-history : goal.returns-in_err-settle-clause-history
+returns-in_err-settle-clause-history g c =
+    let given = err_from_is_err_and c.from_residual-in_err-settle.result c.from_residual-in_err-settle.ensures.1 in
+    record {
+      entries = c.in_err-settle.ensures.history.entries ∙ ap (λ (s : StoreState). s.entries) c.take_spare-spare.ensures;
+      refused = rw given.1 (c.in_err-settle.ensures.history.refused ∙ c.take_spare-spare.ensures);
+      opening = c.in_err-settle.ensures.history.opening ∙ ap (λ (s : StoreState). s.opening) c.take_spare-spare.ensures;
+      limits = c.in_err-settle.ensures.history.limits ∙ ap (λ (s : StoreState). s.heap.table.limits) c.take_spare-spare.ensures;
+    }

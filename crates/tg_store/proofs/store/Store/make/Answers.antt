@@ -3,16 +3,17 @@ use Rattle.std.proofs.Common.{◌≡◌, ◌^◌, ◌<◌, ◌≤◌, ◌+◌, �
 use Rattle.std.proofs.lemmas.Result.{err_from_is_err_and}
 use Rattle.tg_model.specs.declared.value.Value.{Value}
 use Rattle.tg_model.specs.declared.command.Deed.{Deed}
-use Rattle.tg_model.specs.declared.command.Deed.TheVariants.{Create}
 use Rattle.tg_model.specs.declared.reply.Reply.{Reply}
 use Rattle.tg_model.specs.declared.reply.Reply.TheVariants.{Name, VerticesFull, WorkersFull}
 use Rattle.tg_model.specs.Graph.{ProtectionGraph}
 use Rattle.tg_model.specs.declared.opening.TheConstants.{MAX_WORKERS}
 use Rattle.tg_model.specs.Rules.{IsAllowed, answer_of}
+use Rattle.tg_model.specs.Opened.{start_of}
+use Rattle.tg_journal.specs.History.{graph_after}
 use Rattle.tg_word.specs.Word.{nursery_space}
-use Rattle.tg_subjects.specs.Subjects.{names_of}
+use Rattle.tg_space.specs.SpaceTable.{SpaceTable}
 use Rattle.tg_graph.specs.Heap.{IsActive, content_of, nursery_of}
-use Rattle.tg_graph.specs.Spots.{LacksCellsFor}
+use Rattle.tg_graph.specs.Spots.{IsMadeInRow, LacksCellsFor}
 use Rattle.tg_store.specs.Store.{StoreState, Enters, IsUnchanged, OnlyEnters, StandsFor, graph_of_store}
 use Rattle.tg_store.specs.declared.making.Limit.{Limit}
 use Rattle.tg_store.specs.Making.{IsLimitMet, deed_making, reply_at}
@@ -20,22 +21,25 @@ use Rattle.tg_store.proofs.MakingLaws as making
 use Rattle.tg_store.proofs.StandLaws.{IsStore-unchanged, StandsFor-entered, subject_here, active_here}
 use Rattle.tg_store.proofs.store.Store.make.Goals as goal
 
-pub returns-in_default-clause-no_such_worker : goal.returns-in_default-clause-no_such_worker
-returns-in_default-clause-no_such_worker g c =
+pub returns-in_default-clause-refusals : goal.returns-in_default-clause-refusals
+returns-in_default-clause-refusals g c =
     let old : StoreState = record { opening = c.self.inside.opening; entries = c.self.inside.journal.entries; heap = c.self.inside.heap } in
     let none : IsActive old.heap c.args.worker → ⊥ = λ is. let f : ⊥ = cc (c.in_default.ensures.active.1 is) in f in
-    λ graph stands.
-    let here : StandsFor old graph = ap graph_of_store c.self.view_is ∙ stands in
-    rw c.create_refused.ensures
-    (λ _ subject. none (active_here old c.self.invariant.faithful graph c.args.worker here subject), λ _. refl)
-
-pub returns-in_default-clause-exhausted : goal.returns-in_default-clause-exhausted
-returns-in_default-clause-exhausted g c =
-    let old : StoreState = record { opening = c.self.inside.opening; entries = c.self.inside.journal.entries; heap = c.self.inside.heap } in
-    let none : IsActive old.heap c.args.worker → ⊥ = λ is. let f : ⊥ = cc (c.in_default.ensures.active.1 is) in f in
-    λ graph stands subject _.
-    let here : StandsFor old graph = ap graph_of_store c.self.view_is ∙ stands in
-    absurd (none (active_here old c.self.invariant.faithful graph c.args.worker here subject))
+    record {
+      no_such_worker = (λ graph stands.
+          let here : StandsFor old graph = ap graph_of_store c.self.view_is ∙ stands in
+          rw c.create_refused.ensures
+          (λ _ subject. none (active_here old c.self.invariant.faithful graph c.args.worker here subject), λ _. refl));
+      no_more = (λ _ _. rw c.create_refused.ensures (λ e. let f : ⊥ = cc e in absurd f));
+      exhausted = (λ graph stands subject _.
+          let here : StandsFor old graph = ap graph_of_store c.self.view_is ∙ stands in
+          absurd (none (active_here old c.self.invariant.faithful graph c.args.worker here subject)));
+      full = (λ _ _. rw c.create_refused.ensures (λ e. let f : ⊥ = cc e in absurd f));
+      same_graph = (λ _ stands. rw c.create_refused.ensures stands);
+      handed_back = rw c.create_refused.ensures refl;
+      opening = refl;
+      limits = refl;
+    }
 
 pub invariant_of-self-in-Some-met : goal.invariant_of-self-in-Some-met
 invariant_of-self-in-Some-met g c =
@@ -51,38 +55,8 @@ invariant_of-self-in-Some-met g c =
     ∙ ap (λ (d : Deed). old.entries ++ (record { worker = c.args.worker; deed = d; reply = reply_at limit }) ∷ []) deed in
     making.IsStore-limited old c.self.inside.made c.self.invariant c.args.worker active c.args.kind c.args.label c.args.draft limit met new c.value.ensures.fits refl entry refl
 
-pub returns-in-Some-met-clause-no_such_worker : goal.returns-in-Some-met-clause-no_such_worker
-returns-in-Some-met-clause-no_such_worker g c =
-    let old : StoreState = record { opening = c.self.inside.opening; entries = c.self.inside.journal.entries; heap = c.self.inside.heap } in
-    let active : IsActive old.heap c.args.worker = c.in-Some.ensures.active.0 refl in
-    λ graph stands.
-    let here : StandsFor old graph = ap graph_of_store c.self.view_is ∙ stands in
-    rw (c.create_refused-in-Some-met.ensures, c.fault.ensures)
-    (λ e _. making.no_limit_such _ e, λ none. absurd (none (subject_here old c.self.invariant.faithful graph c.args.worker here active)))
-
-pub returns-in-Some-met-clause-no_more : goal.returns-in-Some-met-clause-no_more
-returns-in-Some-met-clause-no_more g c =
-    let old : StoreState = record { opening = c.self.inside.opening; entries = c.self.inside.journal.entries; heap = c.self.inside.heap } in
-    let active : IsActive old.heap c.args.worker = c.in-Some.ensures.active.0 refl in
-    let limit : Limit = c.in-Some-met.limit in
-    let met : IsLimitMet (graph_of_store old) c.args.kind (Some limit) = subst (λ (s : StoreState). IsLimitMet (graph_of_store s) c.args.kind (Some limit)) (sym c.self.view_is) c.in-Some-met.ensures.met in
-    λ graph stands.
-    let here : StandsFor old graph = ap graph_of_store c.self.view_is ∙ stands in
-    rw (c.create_refused-in-Some-met.ensures, c.fault.ensures)
-    (λ e. (subject_here old c.self.invariant.faithful graph c.args.worker here active, subst (λ (h : ProtectionGraph). h.limit ≤ h.made) here (making.vertices_full (graph_of_store old) c.args.kind limit met e)))
-
-pub returns-in-Some-met-clause-exhausted : goal.returns-in-Some-met-clause-exhausted
-returns-in-Some-met-clause-exhausted g c =
-    let old : StoreState = record { opening = c.self.inside.opening; entries = c.self.inside.journal.entries; heap = c.self.inside.heap } in
-    let active : IsActive old.heap c.args.worker = c.in-Some.ensures.active.0 refl in
-    let limit : Limit = c.in-Some-met.limit in
-    let met : IsLimitMet (graph_of_store old) c.args.kind (Some limit) = subst (λ (s : StoreState). IsLimitMet (graph_of_store s) c.args.kind (Some limit)) (sym c.self.view_is) c.in-Some-met.ensures.met in
-    λ graph stands subject all.
-    let here : StandsFor old graph = ap graph_of_store c.self.view_is ∙ stands in
-    rw (c.create_refused-in-Some-met.ensures, c.fault.ensures) (making.told_vertices (graph_of_store old) c.args.kind limit met (subst (λ (h : ProtectionGraph). h.limit ≤ h.made) (sym here) all))
-
-pub returns-in-Some-met-clause-same_graph : goal.returns-in-Some-met-clause-same_graph
-returns-in-Some-met-clause-same_graph g c =
+pub returns-in-Some-met-clause-refusals : goal.returns-in-Some-met-clause-refusals
+returns-in-Some-met-clause-refusals g c =
     let old : StoreState = record { opening = c.self.inside.opening; entries = c.self.inside.journal.entries; heap = c.self.inside.heap } in
     let active : IsActive old.heap c.args.worker = c.in-Some.ensures.active.0 refl in
     let limit : Limit = c.in-Some-met.limit in
@@ -93,10 +67,27 @@ returns-in-Some-met-clause-same_graph g c =
     c.push.ensures.entries ∙ ap (λ es. es ++ (record { worker = c.args.worker; deed = c.in-Ok.deed; reply = c.reply.result }) ∷ []) c.deed_to_enter.ensures.entries
     ∙ ap (λ (r : Reply). old.entries ++ (record { worker = c.args.worker; deed = c.in-Ok.deed; reply = r }) ∷ []) c.reply.ensures
     ∙ ap (λ (d : Deed). old.entries ++ (record { worker = c.args.worker; deed = d; reply = reply_at limit }) ∷ []) deed in
-    λ graph stands.
-    let here : StandsFor old graph = ap graph_of_store c.self.view_is ∙ stands in
-    let after : StandsFor new graph = making.StandsFor-limited old c.self.inside.made c.self.invariant c.args.worker active c.args.kind c.args.label c.args.draft limit met new graph refl entry here in
-    rw c.create_refused-in-Some-met.ensures after
+    record {
+      no_such_worker = (λ graph stands.
+          let here : StandsFor old graph = ap graph_of_store c.self.view_is ∙ stands in
+          rw (c.create_refused-in-Some-met.ensures, c.fault.ensures)
+          (λ e _. making.no_limit_such _ e, λ none. absurd (none (subject_here old c.self.invariant.faithful graph c.args.worker here active))));
+      no_more = (λ graph stands.
+          let here : StandsFor old graph = ap graph_of_store c.self.view_is ∙ stands in
+          rw (c.create_refused-in-Some-met.ensures, c.fault.ensures)
+          (λ e. (subject_here old c.self.invariant.faithful graph c.args.worker here active, subst (λ (h : ProtectionGraph). h.limit ≤ h.made) here (making.vertices_full (graph_of_store old) c.args.kind limit met e))));
+      exhausted = (λ graph stands subject all.
+          let here : StandsFor old graph = ap graph_of_store c.self.view_is ∙ stands in
+          rw (c.create_refused-in-Some-met.ensures, c.fault.ensures) (making.told_vertices (graph_of_store old) c.args.kind limit met (subst (λ (h : ProtectionGraph). h.limit ≤ h.made) (sym here) all)));
+      full = (λ _ _. rw (c.create_refused-in-Some-met.ensures, c.fault.ensures) (λ e. absurd (making.no_limit_heap _ e)));
+      same_graph = (λ graph stands.
+          let here : StandsFor old graph = ap graph_of_store c.self.view_is ∙ stands in
+          let after : StandsFor new graph = making.StandsFor-limited old c.self.inside.made c.self.invariant c.args.worker active c.args.kind c.args.label c.args.draft limit met new graph refl entry here in
+          rw c.create_refused-in-Some-met.ensures after);
+      handed_back = rw c.create_refused-in-Some-met.ensures refl;
+      opening = ap (λ (s : StoreState). s.opening) c.self.view_is;
+      limits = ap (λ (s : StoreState). s.heap.table.limits) c.self.view_is;
+    }
 
 pub add_vertex-requires-clause-fresh : goal.add_vertex-requires-clause-fresh
 add_vertex-requires-clause-fresh g c =
@@ -111,40 +102,35 @@ invariant_of-self-in_err-add_vertex g c =
     let unchanged : IsUnchanged old new = record { opening = refl; entries = c.deed_to_enter.ensures.entries; heap = c.in_err-add_vertex.ensures.refused } in
     IsStore-unchanged old new c.self.inside.made c.self.invariant unchanged
 
-pub returns-in_err-add_vertex-clause-no_such_worker : goal.returns-in_err-add_vertex-clause-no_such_worker
-returns-in_err-add_vertex-clause-no_such_worker g c =
-    let old : StoreState = record { opening = c.self.inside.opening; entries = c.self.inside.journal.entries; heap = c.self.inside.heap } in
-    let active : IsActive old.heap c.args.worker = c.in-Some.ensures.active.0 refl in
-    let given = err_from_is_err_and c.from_residual.result c.from_residual.ensures.1 in
-    λ graph stands.
-    let here : StandsFor old graph = ap graph_of_store c.self.view_is ∙ stands in
-    rw (given.1, given.2)
-    (λ e _. making.no_such_create_fault _ e, λ none. absurd (none (subject_here old c.self.invariant.faithful graph c.args.worker here active)))
-
-pub returns-in_err-add_vertex-clause-exhausted : goal.returns-in_err-add_vertex-clause-exhausted
-returns-in_err-add_vertex-clause-exhausted g c =
-    let old : StoreState = record { opening = c.self.inside.opening; entries = c.self.inside.journal.entries; heap = c.self.inside.heap } in
-    let active : IsActive old.heap c.args.worker = c.in-Some.ensures.active.0 refl in
-    let room : IsLimitMet (graph_of_store old) c.args.kind None = subst (λ (s : StoreState). IsLimitMet (graph_of_store s) c.args.kind None) (sym c.self.view_is) c.in_default-met.ensures.met in
-    λ graph stands subject all.
-    let here : StandsFor old graph = ap graph_of_store c.self.view_is ∙ stands in
-    let low = subst (λ (h : ProtectionGraph). h.made < h.limit) here room.0 in absurd (omega (arith, low, all))
-
-pub returns-in_err-add_vertex-clause-full : goal.returns-in_err-add_vertex-clause-full
-returns-in_err-add_vertex-clause-full g c =
+pub returns-in_err-add_vertex-clause-refusals : goal.returns-in_err-add_vertex-clause-refusals
+returns-in_err-add_vertex-clause-refusals g c =
     let old : StoreState = record { opening = c.self.inside.opening; entries = c.self.inside.journal.entries; heap = c.self.inside.heap } in
     let active : IsActive old.heap c.args.worker = c.in-Some.ensures.active.0 refl in
     let given = err_from_is_err_and c.from_residual.result c.from_residual.ensures.1 in
     let room : IsLimitMet (graph_of_store old) c.args.kind None = subst (λ (s : StoreState). IsLimitMet (graph_of_store s) c.args.kind None) (sym c.self.view_is) c.in_default-met.ensures.met in
-    λ graph stands.
-    let here : StandsFor old graph = ap graph_of_store c.self.view_is ∙ stands in
-    rw (given.1, given.2)
-    (λ e. (
-      subst (λ (h : ProtectionGraph). IsAllowed h c.args.worker (deed_making c.args.kind c.args.label c.args.draft)) here (making.allowed old c.self.inside.made c.self.invariant c.args.worker active c.args.kind c.args.label c.args.draft room),
-      subst (λ (h : ProtectionGraph). LacksCellsFor c.args.self.now.heap.table (nursery_space (nursery_of c.args.self.now.heap c.args.worker)) 1 c.args.worker h.made) here
-          (subst (λ n. LacksCellsFor c.args.self.now.heap.table (nursery_space (nursery_of c.args.self.now.heap c.args.worker)) 1 c.args.worker n) c.self.invariant.is_made
-          (subst (λ (s : StoreState). LacksCellsFor s.heap.table (nursery_space (nursery_of s.heap c.args.worker)) 1 c.args.worker c.self.inside.made) c.self.view_is (c.in_err-add_vertex.ensures.full (making.heap_full _ e)))),
-    ))
+    record {
+      no_such_worker = (λ graph stands.
+          let here : StandsFor old graph = ap graph_of_store c.self.view_is ∙ stands in
+          rw (given.1, given.2)
+          (λ e _. making.no_such_create_fault _ e, λ none. absurd (none (subject_here old c.self.invariant.faithful graph c.args.worker here active))));
+      no_more = (λ _ _. rw (given.1, given.2) (λ e. absurd (making.no_limit_fault _ (inl e))));
+      exhausted = (λ graph stands subject all.
+          let here : StandsFor old graph = ap graph_of_store c.self.view_is ∙ stands in
+          let low = subst (λ (h : ProtectionGraph). h.made < h.limit) here room.0 in absurd (omega (arith, low, all)));
+      full = (λ graph stands.
+          let here : StandsFor old graph = ap graph_of_store c.self.view_is ∙ stands in
+          rw (given.1, given.2)
+          (λ e. (
+            subst (λ (h : ProtectionGraph). IsAllowed h c.args.worker (deed_making c.args.kind c.args.label c.args.draft)) here (making.allowed old c.self.inside.made c.self.invariant c.args.worker active c.args.kind c.args.label c.args.draft room),
+            subst (λ (h : ProtectionGraph). LacksCellsFor c.args.self.now.heap.table (nursery_space (nursery_of c.args.self.now.heap c.args.worker)) 1 c.args.worker h.made) here
+                (subst (λ n. LacksCellsFor c.args.self.now.heap.table (nursery_space (nursery_of c.args.self.now.heap c.args.worker)) 1 c.args.worker n) c.self.invariant.is_made
+                (subst (λ (s : StoreState). LacksCellsFor s.heap.table (nursery_space (nursery_of s.heap c.args.worker)) 1 c.args.worker c.self.inside.made) c.self.view_is (c.in_err-add_vertex.ensures.full (making.heap_full _ e)))),
+          )));
+      same_graph = (λ graph stands. rw given.1 (ap (λ es. graph_after (start_of c.self.inside.opening) es) c.deed_to_enter.ensures.entries ∙ (ap graph_of_store c.self.view_is ∙ stands)));
+      handed_back = rw (given.1, given.2) c.in_err-add_vertex.ensures.handed_back;
+      opening = ap (λ (s : StoreState). s.opening) c.self.view_is;
+      limits = ap (λ (t : SpaceTable). t.limits) c.in_err-add_vertex.ensures.refused.table ∙ ap (λ (s : StoreState). s.heap.table.limits) c.self.view_is;
+    }
 
 pub invariant_of-self-2 : goal.invariant_of-self-2
 invariant_of-self-2 g c =
@@ -159,161 +145,93 @@ invariant_of-self-2 g c =
     making.IsStore-made old c.self.inside.made c.self.invariant c.args.worker active c.args.kind c.args.label c.args.draft room new c.value.ensures.fits refl entry
     c.in_ok-add_vertex.ensures.made c.in_ok-add_vertex.ensures.subjects
 
-pub returns-clause-name : goal.returns-clause-name
-returns-clause-name g c =
+pub returns-clause-made : goal.returns-clause-made
+returns-clause-made g c =
     let old : StoreState = record { opening = c.self.inside.opening; entries = c.self.inside.journal.entries; heap = c.self.inside.heap } in
     let active : IsActive old.heap c.args.worker = c.in-Some.ensures.active.0 refl in
     let room : IsLimitMet (graph_of_store old) c.args.kind None = subst (λ (s : StoreState). IsLimitMet (graph_of_store s) c.args.kind None) (sym c.self.view_is) c.in_default-met.ensures.met in
-    λ graph stands.
-    let here : StandsFor old graph = ap graph_of_store c.self.view_is ∙ stands in
-    ap (λ h. answer_of h c.args.worker (deed_making c.args.kind c.args.label c.args.draft)) (sym here)
-    ∙ making.answer-name old c.self.inside.made c.self.invariant c.args.worker active c.args.kind c.args.label c.args.draft room
-
-pub returns-clause-step : goal.returns-clause-step
-returns-clause-step g c =
-    let old : StoreState = record { opening = c.self.inside.opening; entries = c.self.inside.journal.entries; heap = c.self.inside.heap } in
     let new : StoreState = record { opening = c.self.inside.opening; entries = c.push-2.new.self.entries; heap = c.add_vertex.new.heap } in
     let deed : c.in-Ok.deed ≡ deed_making c.args.kind c.args.label c.args.draft = c.in-Ok.ensures.deed ∙ ap (λ (v : Value). deed_making c.args.kind c.args.label v) c.value.ensures.same in
     let entry : Enters old new c.args.worker (deed_making c.args.kind c.args.label c.args.draft) (Name c.self.inside.made) =
     c.push-2.ensures.entries ∙ ap (λ es. es ++ (record { worker = c.args.worker; deed = c.in-Ok.deed; reply = Name c.self.inside.made }) ∷ []) c.deed_to_enter.ensures.entries
     ∙ ap (λ (d : Deed). old.entries ++ (record { worker = c.args.worker; deed = d; reply = Name c.self.inside.made }) ∷ []) deed in
-    λ graph stands.
-    let here : StandsFor old graph = ap graph_of_store c.self.view_is ∙ stands in
-    StandsFor-entered old new c.args.worker (deed_making c.args.kind c.args.label c.args.draft) (Name c.self.inside.made) refl entry graph here
+    record {
+      name = (λ graph stands.
+          let here : StandsFor old graph = ap graph_of_store c.self.view_is ∙ stands in
+          ap (λ h. answer_of h c.args.worker (deed_making c.args.kind c.args.label c.args.draft)) (sym here)
+          ∙ making.answer-name old c.self.inside.made c.self.invariant c.args.worker active c.args.kind c.args.label c.args.draft room);
+      step = (λ graph stands.
+          let here : StandsFor old graph = ap graph_of_store c.self.view_is ∙ stands in
+          StandsFor-entered old new c.args.worker (deed_making c.args.kind c.args.label c.args.draft) (Name c.self.inside.made) refl entry graph here);
+      stored = making.stored (content_of c.self.inside.heap) (content_of c.add_vertex.new.heap) c.args.worker c.self.inside.made c.args.label c.args.draft c.in_ok-add_vertex.ensures.made;
+      placed = subst (λ (s : StoreState). IsMadeInRow s.heap.table c.add_vertex.new.heap.table s.heap.remembered c.add_vertex.new.heap.remembered (nursery_space (nursery_of s.heap c.args.worker)) c.args.worker c.self.inside.made c.args.label) c.self.view_is c.in_ok-add_vertex.ensures.placed;
+    }
 
-pub returns-clause-stored : goal.returns-clause-stored
-returns-clause-stored g c =
-    making.stored (content_of c.self.inside.heap) (content_of c.add_vertex.new.heap) c.args.worker c.self.inside.made c.args.label c.args.draft c.in_ok-add_vertex.ensures.made
-
-pub returns-clause-no_such_worker : goal.returns-clause-no_such_worker
-returns-clause-no_such_worker g c =
-    let old : StoreState = record { opening = c.self.inside.opening; entries = c.self.inside.journal.entries; heap = c.self.inside.heap } in
-    let active : IsActive old.heap c.args.worker = c.in-Some.ensures.active.0 refl in
-    λ graph stands.
-    let here : StandsFor old graph = ap graph_of_store c.self.view_is ∙ stands in
-    (λ e. absurd e, λ none. absurd (none (subject_here old c.self.invariant.faithful graph c.args.worker here active)))
-
-pub returns-clause-exhausted : goal.returns-clause-exhausted
-returns-clause-exhausted g c =
+pub returns-clause-refusals : goal.returns-clause-refusals
+returns-clause-refusals g c =
     let old : StoreState = record { opening = c.self.inside.opening; entries = c.self.inside.journal.entries; heap = c.self.inside.heap } in
     let active : IsActive old.heap c.args.worker = c.in-Some.ensures.active.0 refl in
     let room : IsLimitMet (graph_of_store old) c.args.kind None = subst (λ (s : StoreState). IsLimitMet (graph_of_store s) c.args.kind None) (sym c.self.view_is) c.in_default-met.ensures.met in
-    λ graph stands subject all.
-    let here : StandsFor old graph = ap graph_of_store c.self.view_is ∙ stands in
-    let low = subst (λ (h : ProtectionGraph). h.made < h.limit) here room.0 in absurd (omega (arith, low, all))
+    record {
+      no_such_worker = (λ graph stands.
+          let here : StandsFor old graph = ap graph_of_store c.self.view_is ∙ stands in
+          (λ e. absurd e, λ none. absurd (none (subject_here old c.self.invariant.faithful graph c.args.worker here active))));
+      no_more = λ _ _. tt;
+      exhausted = (λ graph stands subject all.
+          let here : StandsFor old graph = ap graph_of_store c.self.view_is ∙ stands in
+          let low = subst (λ (h : ProtectionGraph). h.made < h.limit) here room.0 in absurd (omega (arith, low, all)));
+      full = λ _ _. tt;
+      same_graph = λ _ _. tt;
+      handed_back = tt;
+      opening = ap (λ (s : StoreState). s.opening) c.self.view_is;
+      limits = c.in_ok-add_vertex.ensures.limits ∙ ap (λ (s : StoreState). s.heap.table.limits) c.self.view_is;
+    }
 
 pub returns-in_default-clause-entry : goal.returns-in_default-clause-entry
 returns-in_default-clause-entry g c = rw c.create_refused.ensures tt
 
-pub returns-in_default-clause-stored : goal.returns-in_default-clause-stored
-returns-in_default-clause-stored g c = rw c.create_refused.ensures tt
-
-pub returns-in_default-clause-placed : goal.returns-in_default-clause-placed
-returns-in_default-clause-placed g c = rw c.create_refused.ensures tt
-
-pub returns-in_default-clause-name : goal.returns-in_default-clause-name
-returns-in_default-clause-name g c = λ _ _. rw c.create_refused.ensures tt
-
-pub returns-in_default-clause-step : goal.returns-in_default-clause-step
-returns-in_default-clause-step g c = λ _ _. rw c.create_refused.ensures tt
-
-pub returns-in_default-clause-handed_back : goal.returns-in_default-clause-handed_back
-returns-in_default-clause-handed_back g c = rw c.create_refused.ensures refl
-
-pub returns-in_default-clause-opening : goal.returns-in_default-clause-opening
-returns-in_default-clause-opening g c = refl
-
-pub returns-in_default-clause-limits : goal.returns-in_default-clause-limits
-returns-in_default-clause-limits g c = refl
-
-pub returns-in_default-clause-no_more : goal.returns-in_default-clause-no_more
-returns-in_default-clause-no_more g c = λ _ _. rw c.create_refused.ensures (λ e. let f : ⊥ = cc e in absurd f)
+pub returns-in_default-clause-made : goal.returns-in_default-clause-made
+returns-in_default-clause-made g c = rw c.create_refused.ensures tt
 
 pub returns-in_default-clause-no_more_entry : goal.returns-in_default-clause-no_more_entry
 returns-in_default-clause-no_more_entry g c = rw c.create_refused.ensures (λ e. let f : ⊥ = cc e in absurd f)
 
-pub returns-in_default-clause-full : goal.returns-in_default-clause-full
-returns-in_default-clause-full g c = λ _ _. rw c.create_refused.ensures (λ e. let f : ⊥ = cc e in absurd f)
-
-pub returns-in_default-clause-same_graph : goal.returns-in_default-clause-same_graph
-returns-in_default-clause-same_graph g c = λ _ stands. rw c.create_refused.ensures stands
-
 pub returns-in-Some-met-clause-entry : goal.returns-in-Some-met-clause-entry
 returns-in-Some-met-clause-entry g c = rw c.create_refused-in-Some-met.ensures tt
 
-pub returns-in-Some-met-clause-stored : goal.returns-in-Some-met-clause-stored
-returns-in-Some-met-clause-stored g c = rw c.create_refused-in-Some-met.ensures tt
-
-pub returns-in-Some-met-clause-placed : goal.returns-in-Some-met-clause-placed
-returns-in-Some-met-clause-placed g c = rw c.create_refused-in-Some-met.ensures tt
-
-pub returns-in-Some-met-clause-name : goal.returns-in-Some-met-clause-name
-returns-in-Some-met-clause-name g c = λ _ _. rw c.create_refused-in-Some-met.ensures tt
-
-pub returns-in-Some-met-clause-step : goal.returns-in-Some-met-clause-step
-returns-in-Some-met-clause-step g c = λ _ _. rw c.create_refused-in-Some-met.ensures tt
-
-pub returns-in-Some-met-clause-handed_back : goal.returns-in-Some-met-clause-handed_back
-returns-in-Some-met-clause-handed_back g c = rw c.create_refused-in-Some-met.ensures refl
-
-pub returns-in-Some-met-clause-opening : goal.returns-in-Some-met-clause-opening
-returns-in-Some-met-clause-opening g c = ap (λ (s : StoreState). s.opening) c.self.view_is
-
-pub returns-in-Some-met-clause-limits : goal.returns-in-Some-met-clause-limits
-returns-in-Some-met-clause-limits g c = ap (λ (s : StoreState). s.heap.table.limits) c.self.view_is
+pub returns-in-Some-met-clause-made : goal.returns-in-Some-met-clause-made
+returns-in-Some-met-clause-made g c = rw c.create_refused-in-Some-met.ensures tt
 
 pub returns-in-Some-met-clause-refused : goal.returns-in-Some-met-clause-refused
 returns-in-Some-met-clause-refused g c =
     rw (c.create_refused-in-Some-met.ensures, c.fault.ensures) (λ first second. making.one_limit _ first second)
 
-pub returns-in-Some-met-clause-full : goal.returns-in-Some-met-clause-full
-returns-in-Some-met-clause-full g c =
-    λ _ _. rw (c.create_refused-in-Some-met.ensures, c.fault.ensures) (λ e. absurd (making.no_limit_heap _ e))
-
-pub returns-in_default-deed_to_enter-clause-no_such_worker : goal.returns-in_default-deed_to_enter-clause-no_such_worker
-returns-in_default-deed_to_enter-clause-no_such_worker g c =
+pub returns-in_default-deed_to_enter-clause-refusals : goal.returns-in_default-deed_to_enter-clause-refusals
+returns-in_default-deed_to_enter-clause-refusals g c =
     let old : StoreState = record { opening = c.self.inside.opening; entries = c.self.inside.journal.entries; heap = c.self.inside.heap } in
     let active : IsActive old.heap c.args.worker = c.in-Some.ensures.active.0 refl in
-    λ graph stands.
-    let here : StandsFor old graph = ap graph_of_store c.self.view_is ∙ stands in
-    rw c.create_refused-in_default-deed_to_enter.ensures
-    (λ e _. let f : ⊥ = cc e in f, λ none. absurd (none (subject_here old c.self.invariant.faithful graph c.args.worker here active)))
-
-pub returns-in_default-deed_to_enter-clause-exhausted : goal.returns-in_default-deed_to_enter-clause-exhausted
-returns-in_default-deed_to_enter-clause-exhausted g c = λ graph stands subject _. rw c.create_refused-in_default-deed_to_enter.ensures (inr refl)
+    record {
+      no_such_worker = (λ graph stands.
+          let here : StandsFor old graph = ap graph_of_store c.self.view_is ∙ stands in
+          rw c.create_refused-in_default-deed_to_enter.ensures
+          (λ e _. let f : ⊥ = cc e in f, λ none. absurd (none (subject_here old c.self.invariant.faithful graph c.args.worker here active))));
+      no_more = (λ _ _. rw c.create_refused-in_default-deed_to_enter.ensures (λ e. let f : ⊥ = cc e in absurd f));
+      exhausted = (λ graph stands subject _. rw c.create_refused-in_default-deed_to_enter.ensures (inr refl));
+      full = (λ _ _. rw c.create_refused-in_default-deed_to_enter.ensures (λ e. let f : ⊥ = cc e in absurd f));
+      same_graph = (λ graph stands. rw c.create_refused-in_default-deed_to_enter.ensures (ap (λ es. graph_after (start_of c.self.inside.opening) es) c.deed_to_enter.ensures.entries ∙ (ap graph_of_store c.self.view_is ∙ stands)));
+      handed_back = rw c.create_refused-in_default-deed_to_enter.ensures refl;
+      opening = ap (λ (s : StoreState). s.opening) c.self.view_is;
+      limits = ap (λ (s : StoreState). s.heap.table.limits) c.self.view_is;
+    }
 
 pub returns-in_default-deed_to_enter-clause-entry : goal.returns-in_default-deed_to_enter-clause-entry
 returns-in_default-deed_to_enter-clause-entry g c = rw c.create_refused-in_default-deed_to_enter.ensures tt
 
-pub returns-in_default-deed_to_enter-clause-stored : goal.returns-in_default-deed_to_enter-clause-stored
-returns-in_default-deed_to_enter-clause-stored g c = rw c.create_refused-in_default-deed_to_enter.ensures tt
-
-pub returns-in_default-deed_to_enter-clause-placed : goal.returns-in_default-deed_to_enter-clause-placed
-returns-in_default-deed_to_enter-clause-placed g c = rw c.create_refused-in_default-deed_to_enter.ensures tt
-
-pub returns-in_default-deed_to_enter-clause-name : goal.returns-in_default-deed_to_enter-clause-name
-returns-in_default-deed_to_enter-clause-name g c = λ _ _. rw c.create_refused-in_default-deed_to_enter.ensures tt
-
-pub returns-in_default-deed_to_enter-clause-step : goal.returns-in_default-deed_to_enter-clause-step
-returns-in_default-deed_to_enter-clause-step g c = λ _ _. rw c.create_refused-in_default-deed_to_enter.ensures tt
-
-pub returns-in_default-deed_to_enter-clause-handed_back : goal.returns-in_default-deed_to_enter-clause-handed_back
-returns-in_default-deed_to_enter-clause-handed_back g c = rw c.create_refused-in_default-deed_to_enter.ensures refl
-
-pub returns-in_default-deed_to_enter-clause-opening : goal.returns-in_default-deed_to_enter-clause-opening
-returns-in_default-deed_to_enter-clause-opening g c = ap (λ (s : StoreState). s.opening) c.self.view_is
-
-pub returns-in_default-deed_to_enter-clause-limits : goal.returns-in_default-deed_to_enter-clause-limits
-returns-in_default-deed_to_enter-clause-limits g c = ap (λ (s : StoreState). s.heap.table.limits) c.self.view_is
-
-pub returns-in_default-deed_to_enter-clause-no_more : goal.returns-in_default-deed_to_enter-clause-no_more
-returns-in_default-deed_to_enter-clause-no_more g c = λ _ _. rw c.create_refused-in_default-deed_to_enter.ensures (λ e. let f : ⊥ = cc e in absurd f)
+pub returns-in_default-deed_to_enter-clause-made : goal.returns-in_default-deed_to_enter-clause-made
+returns-in_default-deed_to_enter-clause-made g c = rw c.create_refused-in_default-deed_to_enter.ensures tt
 
 pub returns-in_default-deed_to_enter-clause-no_more_entry : goal.returns-in_default-deed_to_enter-clause-no_more_entry
 returns-in_default-deed_to_enter-clause-no_more_entry g c = rw c.create_refused-in_default-deed_to_enter.ensures (λ e. let f : ⊥ = cc e in absurd f)
-
-pub returns-in_default-deed_to_enter-clause-full : goal.returns-in_default-deed_to_enter-clause-full
-returns-in_default-deed_to_enter-clause-full g c = λ _ _. rw c.create_refused-in_default-deed_to_enter.ensures (λ e. let f : ⊥ = cc e in absurd f)
 
 pub returns-in-Some-met-clause-no_more_entry : goal.returns-in-Some-met-clause-no_more_entry
 returns-in-Some-met-clause-no_more_entry g c =
@@ -380,11 +298,6 @@ pub returns-in_err-add_vertex-clause-too_many : goal.returns-in_err-add_vertex-c
 returns-in_err-add_vertex-clause-too_many g c =
     let given = err_from_is_err_and c.from_residual.result c.from_residual.ensures.1 in
     λ _ _. rw (given.1, given.2) (λ e. absurd (making.no_limit_fault _ (inr e)))
-
-pub returns-in_err-add_vertex-clause-no_more : goal.returns-in_err-add_vertex-clause-no_more
-returns-in_err-add_vertex-clause-no_more g c =
-    let given = err_from_is_err_and c.from_residual.result c.from_residual.ensures.1 in
-    λ _ _. rw (given.1, given.2) (λ e. absurd (making.no_limit_fault _ (inl e)))
 
 pub returns-in_err-add_vertex-clause-too_many_entry : goal.returns-in_err-add_vertex-clause-too_many_entry
 returns-in_err-add_vertex-clause-too_many_entry g c =
