@@ -1,9 +1,9 @@
 -- What the calls of C do to a place and its store. Each but the opening is a call on a place: a closed one is refused
 -- as that, and on an open one the store's answer is told, of which the clauses of the store's own call hold.
-use Rattle.std.specs.Prelude.{◌≡◌, ◌≢◌, ◌↔◌, ◌⊎◌, ◌≤◌, ◌<◌, ◌==◌, ℕ, true, false, List, [], ◌∷◌, Some, Result, Ok, Err, IfOk, IfErr, OnOk, OnErr, length}
+use Rattle.std.specs.Prelude.{◌≡◌, ◌≢◌, ◌↔◌, ◌⊎◌, ◌≤◌, ◌<◌, ◌==◌, ℕ, true, false, List, [], ◌∷◌, Some, None, Result, Ok, Err, IfOk, IfErr, OnOk, OnErr, length}
 use Rattle.std.specs.List.{IsDistinct}
 use Rattle.tg_rights.specs.RightSet.{RightSet, bits_of}
-use Rattle.tg_model.specs.Graph.{ProtectionGraph, IsSubject, IsReachable}
+use Rattle.tg_model.specs.Graph.{ProtectionGraph, IsSubject}
 use Rattle.tg_model.specs.Rules.{IsAllowed, step, answer_of}
 use Rattle.tg_model.specs.Opened.{HasLimits, HasWorkers, start_of}
 use Rattle.tg_model.specs.declared.command.Command.{Command}
@@ -15,24 +15,23 @@ use Rattle.tg_model.specs.declared.reply.Reply.{Reply}
 use Rattle.tg_model.specs.declared.reply.Reply.TheVariants as reply
 use Rattle.tg_model.specs.declared.value.Value.{Value}
 use Rattle.tg_space.specs.declared.kind.Kind.{Kind}
-use Rattle.tg_space.specs.declared.kind.Kind.TheVariants.{Full, Nursery}
-use Rattle.tg_space.specs.SpaceList.{block_count, space_of}
+use Rattle.tg_space.specs.SpaceList.{block_count}
 use Rattle.tg_space.specs.SpaceTable.{AreLimits, limits_of}
 use Rattle.tg_payload.specs.Table.{count}
-use Rattle.tg_graph.specs.Content.{IsNamed}
 use Rattle.tg_word.specs.Word.{nursery_space}
 use Rattle.tg_graph.specs.Heap.{content_of, nursery_of}
-use Rattle.tg_graph.specs.Kept.{VerticesOfOldStay}
 use Rattle.tg_graph.specs.Shown.{shown_in}
-use Rattle.tg_graph.specs.Spots.{IsMadeInRow, LacksCellsFor}
+use Rattle.tg_graph.specs.Spots.{LacksCellsFor}
 use Rattle.tg_rules.specs.Effect.{AddsEdge, LacksCellsToServe}
 use Rattle.tg_evac.specs.declared.fault.CollectFault.{CollectFault}
 use Rattle.tg_evac.specs.declared.fault.CollectFault.TheVariants as collect
 use Rattle.tg_journal.specs.declared.entry.Entry.{Entry}
 use Rattle.tg_journal.specs.declared.replay.AuditFault.{AuditFault}
 use Rattle.tg_journal.specs.declared.replay.AuditFault.TheVariants as audit
+use Rattle.tg_store.specs.Collecting.{IsSwept, KeepsHistory}
+use Rattle.tg_store.specs.Made.{IsMadeFor}
 use Rattle.tg_store.specs.Room.{LacksRoomToCollect}
-use Rattle.tg_store.specs.Store.{StoreState, StandsFor, Enters, HasFewBlocks, OnlyEnters, IsCountOf, IsUnchanged}
+use Rattle.tg_store.specs.Store.{StoreState, StandsFor, Enters, HasFewBlocks, OnlyEnters, IsUnchanged}
 use Rattle.tg_store.specs.declared.census.Census.{Census}
 use Rattle.tg_store.specs.declared.fault.ApplyFault.{ApplyFault}
 use Rattle.tg_store.specs.declared.fault.ApplyFault.TheVariants as apply
@@ -44,7 +43,7 @@ use Rattle.tg_c.specs.declared.refusal.CallRefusal.TheVariants as refusal
 use Rattle.tg_c.specs.declared.forms.EdgeIn.{EdgeIn}
 use Rattle.tg_c.specs.declared.forms.LimitsIn.{LimitsIn}
 use Rattle.tg_c.specs.declared.forms.ValueIn.{ValueIn}
-use Rattle.tg_c.specs.Forms.{AreValues, HaveLabels, JoinWorkers, plan_of}
+use Rattle.tg_c.specs.Forms.{AreValues, HaveLabels, JoinWorkers, label_at, plan_of, value_at}
 use Rattle.tg_c.specs.Records.{entry_at}
 use Rattle.tg_c.specs.Statuses.{of_apply, of_audit, of_collect, of_create, refused_as, status_of}
 
@@ -89,6 +88,11 @@ pub record Applies (worker : ℕ) (asked : Command) (old new : StoreState) (answ
 
 abbrev pub Asks : StorePlace → StorePlace → ℕ → Command → (Result Reply CallRefusal → Type 0) → Type 0
 Asks old new worker asked = IsCall of_apply (Applies worker asked) old new
+
+-- A command with a label, of which C tells the bits: where they are none's it is refused, and else the store is asked.
+pub record AsksWithRights (old new : StorePlace) (worker rights : ℕ) (with_label : RightSet → Command) (tells : Result Reply CallRefusal → Type 0) : Type 0 where
+  pub asked : (label : RightSet) → label_at rights ≡ Some label → Asks old new worker (with_label label) tells
+  pub bad_rights : label_at rights ≡ None → Refuses old new tells refusal.BadRights
 
 -- which replies a command can have
 abbrev pub IsDoneOrDenied : Reply → Type 0
@@ -152,10 +156,7 @@ IsReplyTo command.Retire r = IsDone r
 -- the answer to a create of a worker: the clauses of the store's `create`
 pub record Creates (worker : ℕ) (label : RightSet) (value : Value) (old new : StoreState) (answer : Result ℕ CreateFault) : Type 0 where
   pub entry : IfOk answer (λ name. Enters old new worker (Create label value.law value.state) (reply.Name name))
-  pub named : (g : ProtectionGraph) → StandsFor old g → IfOk answer (λ name. answer_of g worker (Create label value.law value.state) ≡ reply.Name name)
-  pub next : (g : ProtectionGraph) → StandsFor old g → OnOk answer (StandsFor new (step g worker (Create label value.law value.state)))
-  pub stored : IfOk answer (λ name. IsNamed (content_of new.heap) name × ((content_of new.heap).value name ≡ Some value))
-  pub placed : IfOk answer (λ name. IsMadeInRow old.heap.table new.heap.table old.heap.remembered new.heap.remembered (nursery_space (nursery_of old.heap worker)) worker name label)
+  pub made : IfOk answer (IsMadeFor (Create label value.law value.state) worker label value old new)
   pub no_such_worker : (g : ProtectionGraph) → StandsFor old g → (answer ≡ Err create.NoSuchWorker) ↔ (¬ IsSubject g worker)
   pub no_more : (g : ProtectionGraph) → StandsFor old g → answer ≡ Err create.VerticesFull → IsSubject g worker × (g.limit ≤ g.made)
   pub exhausted : (g : ProtectionGraph) → StandsFor old g → IsSubject g worker → g.limit ≤ g.made →
@@ -175,10 +176,7 @@ Makes old new worker label value = IsCall of_create (Creates worker label value)
 -- the answer to a spawn of a worker: the clauses of the store's `spawn`
 pub record Spawns (worker : ℕ) (label : RightSet) (value : Value) (old new : StoreState) (answer : Result ℕ CreateFault) : Type 0 where
   pub entry : IfOk answer (λ name. Enters old new worker (Spawn label value.law value.state) (reply.Name name))
-  pub named : (g : ProtectionGraph) → StandsFor old g → IfOk answer (λ name. answer_of g worker (Spawn label value.law value.state) ≡ reply.Name name)
-  pub next : (g : ProtectionGraph) → StandsFor old g → OnOk answer (StandsFor new (step g worker (Spawn label value.law value.state)))
-  pub stored : IfOk answer (λ name. IsNamed (content_of new.heap) name × ((content_of new.heap).value name ≡ Some value))
-  pub placed : IfOk answer (λ name. IsMadeInRow old.heap.table new.heap.table old.heap.remembered new.heap.remembered (nursery_space (nursery_of old.heap worker)) worker name label)
+  pub made : IfOk answer (IsMadeFor (Spawn label value.law value.state) worker label value old new)
   pub no_such_worker : (g : ProtectionGraph) → StandsFor old g → (answer ≡ Err create.NoSuchWorker) ↔ (¬ IsSubject g worker)
   pub no_more : (g : ProtectionGraph) → StandsFor old g → answer ≡ Err create.VerticesFull → IsSubject g worker × (g.limit ≤ g.made)
   pub exhausted : (g : ProtectionGraph) → StandsFor old g → IsSubject g worker → g.limit ≤ g.made →
@@ -198,23 +196,22 @@ pub record Spawns (worker : ℕ) (label : RightSet) (value : Value) (old new : S
 abbrev pub MakesSubject : StorePlace → StorePlace → ℕ → RightSet → Value → (Result ℕ CallRefusal → Type 0) → Type 0
 MakesSubject old new worker label value = IsCall of_create (Spawns worker label value) old new
 
+-- A call that makes what stores this value, over which the worker is to have the rights of these bits: where the bits are no label's it is
+-- refused, or else where the value is of no law, and else the store is asked.
+pub record MakesOfForms (makes : StorePlace → StorePlace → ℕ → RightSet → Value → (Result ℕ CallRefusal → Type 0) → Type 0)
+    (old new : StorePlace) (worker rights : ℕ) (value : ValueIn) (tells : Result ℕ CallRefusal → Type 0) : Type 0 where
+  pub bad_rights : label_at rights ≡ None → Refuses old new tells refusal.BadRights
+  pub bad_law : (label : RightSet) → label_at rights ≡ Some label → value_at value ≡ None → Refuses old new tells refusal.BadLaw
+  pub made : (label : RightSet) → label_at rights ≡ Some label → (stored : Value) → value_at value ≡ Some stored → makes old new worker label stored tells
+
 -- ---- collections
 
 -- the answer to a collection: the clauses of the store's `collect`
 pub record Collects (kind : Kind) (old new : StoreState) (answer : Result ℕ CollectFault) : Type 0 where
-  pub number : IfOk answer (λ n. n ≡ length (content_of new.heap).names)
-  pub names : (g : ProtectionGraph) → StandsFor old g → OnOk answer (kind ≡ Full → (x : ℕ) → IsNamed (content_of new.heap) x ↔ IsReachable g x)
-  pub reachable : (g : ProtectionGraph) → StandsFor old g → IfOk answer (λ n. kind ≡ Full → IsCountOf (IsReachable g) n)
-  pub only_old : OnOk answer (kind ≡ Full → (space : ℕ) → space ≢ 0 → space_of new.heap.table.spaces space ≡ [])
-  pub no_nursery : OnOk answer ((space : ℕ) → 2 ≤ space → space_of new.heap.table.spaces space ≡ [])
+  pub swept : IfOk answer (IsSwept kind old new)
   pub blocks : OnOk answer (HasFewBlocks kind 0 old.heap.table new.heap.table)
-  pub stay : OnOk answer (kind ≡ Nursery → VerticesOfOldStay old.heap.table.spaces new.heap.table.spaces)
-  pub entries : new.entries ≡ old.entries
-  pub full : answer ≡ Err collect.HeapFull →
-      LacksRoomToCollect kind 1 old.heap
-  pub refused : OnErr answer (new ≡ old)
-  pub opening : new.opening ≡ old.opening
-  pub limits : new.heap.table.limits ≡ old.heap.table.limits
+  pub full : answer ≡ Err collect.HeapFull → LacksRoomToCollect kind 1 old.heap
+  pub history : KeepsHistory old new answer
 
 abbrev pub Sweeps : StorePlace → StorePlace → Kind → (Result ℕ CallRefusal → Type 0) → Type 0
 Sweeps old new kind = IsCall of_collect (Collects kind) old new

@@ -11,16 +11,8 @@ returns c =
     c.deref_mut.result.now.store c.collect-left.new.self c.collect-left.result
     c.in-Some.ensures.taken.0 c.put.ensures.open (sym (ap (λ s. s.store) (c.deref_mut.ensures.value ∙ c.in-Some.ensures.taken.1))) (ap (λ s. s.store) c.put.ensures.opened)
     (sym (ap (λ a. refused_as of_collect a) c.in_ok-left.was)) (record {
-      number = told.number;
-      names = told.names;
-      reachable = told.reachable;
-      only_old = told.only_old;
-      no_nursery = told.no_nursery;
+      swept = told.swept;
       blocks = told.blocks;
-      stay = told.stay;
-      entries = told.entries;
       full = told.full;
-      refused = told.refused;
-      opening = told.opening;
-      limits = told.limits;
+      history = told.history;
     })

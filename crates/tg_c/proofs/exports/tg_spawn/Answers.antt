@@ -1,9 +1,22 @@
+use Rattle.std.proofs.Common.{subst}
 use Rattle.tg_c.specs.Calls.{Spawns}
 use Rattle.tg_c.specs.Statuses.{TellsNumber, of_create}
 use Rattle.tg_c.proofs.CallLaws.{hears}
 use Rattle.tg_c.proofs.exports.tg_spawn.Goals as goal
 
-pub returns-clause-made : goal.returns-clause-made
-returns-clause-made c label is made is_made =
-    hears of_create (Spawns c.args.worker label made) c.args.store.now c.spawn.new.place c.spawn.result
-    (TellsNumber c.tell_number.result c.args.name.now c.tell_number.new.out) (c.spawn.ensures.made label is made is_made) c.tell_number.ensures
+pub returns : goal.returns
+returns c =
+    let told = TellsNumber c.tell_number.result c.args.name.now c.tell_number.new.out in
+    let made = c.spawn.ensures.made in
+    record {
+      made = record {
+        bad_rights = λ none.
+            let had = made.bad_rights none in
+            (had.0, subst told had.1 c.tell_number.ensures);
+        bad_law = λ label is none.
+            let had = made.bad_law label is none in
+            (had.0, subst told had.1 c.tell_number.ensures);
+        made = λ label is stored is_stored.
+            hears of_create (Spawns c.args.worker label stored) c.args.store.now c.spawn.new.place c.spawn.result told (made.made label is stored is_stored) c.tell_number.ensures;
+      };
+    }

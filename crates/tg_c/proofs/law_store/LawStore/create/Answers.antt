@@ -9,10 +9,7 @@ use Rattle.tg_c.proofs.law_store.LawStore.create.Goals as goal
 pub returns-then-not-is_subject : goal.returns-then-not-is_subject
 returns-then-not-is_subject c = record {
   entry = tt;
-  named = λ g stands. tt;
-  next = λ g stands. tt;
-  stored = tt;
-  placed = tt;
+  made = tt;
   no_such_worker = λ g stands. (
     (λ is. subst (λ (h : ProtectionGraph). ¬ IsSubject h c.args.worker) stands (λ subject. let holds = (c.is_subject.ensures (graph_of_store c.args.self.now.store) refl).1 subject in cc (holds, c.if-not-is_subject.true))),
     (λ none. refl),
@@ -34,20 +31,17 @@ returns-in-Ok-create c =
     let told = c.in-Ok-create.ensures in
     subst (λ (v : Value). Creates c.args.worker c.args.label v c.args.self.now.store c.create.new.self (Ok c.in-Ok-create.name)) c.in-Ok.ensures.made (record {
       entry = told.entry;
-      named = told.name;
-      next = told.step;
-      stored = told.stored;
-      placed = told.placed;
-      no_such_worker = λ g stands. ((λ is. absurd (cc is)), λ none. absurd ((told.no_such_worker g stands).1 none));
+      made = told.made;
+      no_such_worker = λ g stands. ((λ is. absurd (cc is)), λ none. absurd ((told.refusals.no_such_worker g stands).1 none));
       no_more = λ g stands is. absurd (cc is);
-      exhausted = λ g stands subject full. absurd (told.exhausted g stands subject full);
+      exhausted = λ g stands subject full. absurd (told.refusals.exhausted g stands subject full);
       no_more_entry = λ is. absurd (cc is);
       full = λ g stands is. absurd (cc is);
       no_workers_full = λ is. cc is;
       refused = tt;
       same_graph = λ g stands. tt;
-      opening = told.opening;
-      limits = told.limits;
+      opening = told.refusals.opening;
+      limits = told.refusals.limits;
     })
 
 pub returns-in-Err : goal.returns-in-Err
@@ -55,18 +49,15 @@ returns-in-Err c =
     let told = c.in-Err.ensures in
     subst (λ (v : Value). Creates c.args.worker c.args.label v c.args.self.now.store c.create.new.self (Err c.in-Err.refused.why)) c.in-Ok.ensures.made (record {
       entry = tt;
-      named = λ g stands. tt;
-      next = λ g stands. tt;
-      stored = tt;
-      placed = tt;
-      no_such_worker = λ g stands. ((λ is. (told.no_such_worker g stands).0 (cc is)), λ none. ap Err ((told.no_such_worker g stands).1 none));
-      no_more = λ g stands is. told.no_more g stands (cc is);
-      exhausted = λ g stands subject full. elim (told.exhausted g stands subject full) [ inl why ↦ inl (ap Err why) | inr why ↦ inr (ap Err why) ];
+      made = tt;
+      no_such_worker = λ g stands. ((λ is. (told.refusals.no_such_worker g stands).0 (cc is)), λ none. ap Err ((told.refusals.no_such_worker g stands).1 none));
+      no_more = λ g stands is. told.refusals.no_more g stands (cc is);
+      exhausted = λ g stands subject full. elim (told.refusals.exhausted g stands subject full) [ inl why ↦ inl (ap Err why) | inr why ↦ inr (ap Err why) ];
       no_more_entry = λ is. told.no_more_entry (cc is);
-      full = λ g stands is. told.full g stands (cc is);
+      full = λ g stands is. told.refusals.full g stands (cc is);
       no_workers_full = λ is. told.no_workers_full (cc is);
       refused = told.refused;
-      same_graph = told.same_graph;
-      opening = told.opening;
-      limits = told.limits;
+      same_graph = told.refusals.same_graph;
+      opening = told.refusals.opening;
+      limits = told.refusals.limits;
     })

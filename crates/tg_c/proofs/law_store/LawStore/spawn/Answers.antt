@@ -9,10 +9,7 @@ use Rattle.tg_c.proofs.law_store.LawStore.spawn.Goals as goal
 pub returns-then-not-is_subject : goal.returns-then-not-is_subject
 returns-then-not-is_subject c = record {
   entry = tt;
-  named = λ g stands. tt;
-  next = λ g stands. tt;
-  stored = tt;
-  placed = tt;
+  made = tt;
   no_such_worker = λ g stands. (
     (λ is. subst (λ (h : ProtectionGraph). ¬ IsSubject h c.args.worker) stands (λ subject. let holds = (c.is_subject.ensures (graph_of_store c.args.self.now.store) refl).1 subject in cc (holds, c.if-not-is_subject.true))),
     (λ none. refl),
@@ -37,13 +34,10 @@ returns-in-Ok-spawn c =
     let told = c.in-Ok-spawn.ensures in
     subst (λ (v : Value). Spawns c.args.worker c.args.label v c.args.self.now.store c.spawn.new.self (Ok c.in-Ok-spawn.name)) c.in-Ok.ensures.made (record {
       entry = told.entry;
-      named = told.name;
-      next = told.step;
-      stored = told.stored;
-      placed = told.placed;
-      no_such_worker = λ g stands. ((λ is. absurd (cc is)), λ none. absurd ((told.no_such_worker g stands).1 none));
+      made = told.made;
+      no_such_worker = λ g stands. ((λ is. absurd (cc is)), λ none. absurd ((told.refusals.no_such_worker g stands).1 none));
       no_more = λ g stands is. absurd (cc is);
-      exhausted = λ g stands subject full. absurd (told.exhausted g stands subject full);
+      exhausted = λ g stands subject full. absurd (told.refusals.exhausted g stands subject full);
       no_more_entry = λ is. absurd (cc is);
       full = λ g stands is. absurd (cc is);
       too_many = λ g stands is. absurd (cc is);
@@ -51,8 +45,8 @@ returns-in-Ok-spawn c =
       too_many_entry = λ is. absurd (cc is);
       refused = tt;
       same_graph = λ g stands. tt;
-      opening = told.opening;
-      limits = told.limits;
+      opening = told.refusals.opening;
+      limits = told.refusals.limits;
     })
 
 pub returns-in-Err : goal.returns-in-Err
@@ -60,20 +54,17 @@ returns-in-Err c =
     let told = c.in-Err.ensures in
     subst (λ (v : Value). Spawns c.args.worker c.args.label v c.args.self.now.store c.spawn.new.self (Err c.in-Err.refused.why)) c.in-Ok.ensures.made (record {
       entry = tt;
-      named = λ g stands. tt;
-      next = λ g stands. tt;
-      stored = tt;
-      placed = tt;
-      no_such_worker = λ g stands. ((λ is. (told.no_such_worker g stands).0 (cc is)), λ none. ap Err ((told.no_such_worker g stands).1 none));
-      no_more = λ g stands is. told.no_more g stands (cc is);
-      exhausted = λ g stands subject full. elim (told.exhausted g stands subject full) [ inl why ↦ inl (ap Err why) | inr why ↦ inr (ap Err why) ];
+      made = tt;
+      no_such_worker = λ g stands. ((λ is. (told.refusals.no_such_worker g stands).0 (cc is)), λ none. ap Err ((told.refusals.no_such_worker g stands).1 none));
+      no_more = λ g stands is. told.refusals.no_more g stands (cc is);
+      exhausted = λ g stands subject full. elim (told.refusals.exhausted g stands subject full) [ inl why ↦ inl (ap Err why) | inr why ↦ inr (ap Err why) ];
       no_more_entry = λ is. told.no_more_entry (cc is);
-      full = λ g stands is. told.full g stands (cc is);
+      full = λ g stands is. told.refusals.full g stands (cc is);
       too_many = λ g stands is. told.too_many g stands (cc is);
       crowded = λ g stands subject room many. elim (told.crowded g stands subject room many) [ inl why ↦ inl (ap Err why) | inr why ↦ inr (ap Err why) ];
       too_many_entry = λ is. told.too_many_entry (cc is);
       refused = told.refused;
-      same_graph = told.same_graph;
-      opening = told.opening;
-      limits = told.limits;
+      same_graph = told.refusals.same_graph;
+      opening = told.refusals.opening;
+      limits = told.refusals.limits;
     })
