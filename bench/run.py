@@ -4,8 +4,9 @@
 Runs the store on scripts that it makes, beside two plain programs that keep a journal as the store does: reference.rs, whose vertices
 hold their states, and boxed.rs, whose payloads are boxes and which counts cells. For each script it prints the seconds of processor time
 of the three (the median of the rounds, which take turns), the store's by each of the others', which of these is the leaner one, and
-whether all wrote the same. With --instructions it counts, by valgrind's callgrind and once each, instructions in place of seconds:
-in millions, and whatever else the machine does. With --only it runs the scripts alone whose name has the word. It asserts nothing.
+whether all wrote the same. With --instructions it counts, by valgrind and once each, instructions in place of seconds: in millions, and
+whatever else the machine does. Some scripts show one thing alone: of these what is taken counts, less what a script without it takes.
+With --only it runs the scripts alone whose name has the word. It asserts nothing.
 PROGRAM is crates/tgstore/out/tgstore unless it is given."""
 import argparse
 import os
@@ -14,6 +15,7 @@ import statistics
 import subprocess
 import sys
 import tempfile
+from concurrent.futures import ThreadPoolExecutor
 
 HERE = os.path.dirname(os.path.abspath(__file__))
 BUILT = os.path.join(HERE, "..", "crates", "tgstore", "out", "tgstore")
@@ -28,6 +30,11 @@ def lists():
 def creates():
     """One worker makes vertices, about as many as a script can ask for."""
     return ["--workers", "1", "--stock", "c100000"], ["0 create r"] * 95_000
+
+
+def creates_in_64_rows():
+    """64 workers make vertices in turn."""
+    return ["--workers", "64", "--stock", "c100000"], [f"{i % 64} create r" for i in range(88_000)]
 
 
 def reads_and_writes():
@@ -62,6 +69,22 @@ def collections():
     return ["--workers", "1", "--stock", "c20200"], lines
 
 
+def fulls(workers):
+    """200 full collections of 30,000 vertices in Old, in the rows of so many workers: what these take alone."""
+    words, lines = vertices_of(workers)
+    return words, lines + ["full"] * 201, lines + ["full"]
+
+
+def young(workers, kind):
+    """One collection of 30,000 young vertices: what this takes alone."""
+    words, lines = vertices_of(workers)
+    return words, lines + [kind], lines
+
+
+def vertices_of(workers):
+    return ["--workers", str(workers), "--stock", "c30000"], [f"{i % workers} create r" for i in range(30_000)]
+
+
 def holes():
     """A row of 30,000 edges, of which the newest is given up and another made in its place, 20,000 times."""
     lines = ["0 create r"] * 30_000
@@ -73,19 +96,29 @@ def holes():
 
 
 def minors():
-    """A row of 20,000 vertices, and then 100,000 nursery collections, with nothing made between them."""
-    return ["--workers", "1", "--stock", "c20000"], ["0 create r"] * 20_000 + ["minor"] * 100_000
+    """1,000 nursery collections beside a row of 20,000 vertices in Old, with nothing made between them: what these take alone."""
+    lines = ["0 create r"] * 20_000 + ["full"]
+    return ["--workers", "1", "--stock", "c20000"], lines + ["minor"] * 1_000, lines
 
 
 SCRIPTS = {
     "lists": lists,
     "creates": creates,
+    "creates in 64 rows": creates_in_64_rows,
     "reads and writes": reads_and_writes,
     "appends and inspections": appends_and_inspections,
     "takes": takes,
     "holes": holes,
     "collections": collections,
+    "fulls of 64 rows": lambda: fulls(64),
+    "fulls of one row": lambda: fulls(1),
+}
+
+# These are too short for a clock.
+COUNTED = {
     "minors": minors,
+    "a full of young cells": lambda: young(64, "full"),
+    "a minor of young cells": lambda: young(64, "minor"),
 }
 
 
@@ -102,13 +135,13 @@ def seconds(command, script, output):
 
 def instructions(command, script, output):
     """The instructions of one run, in millions."""
-    valgrind = ["valgrind", "--tool=callgrind", "--callgrind-out-file=/dev/null"]
+    valgrind = ["valgrind", "--tool=cachegrind", "--cache-sim=no", "--cachegrind-out-file=/dev/null"]
     with open(script, "rb") as source, open(output, "wb") as sink:
         ran = subprocess.run(valgrind + command, stdin=source, stdout=sink, stderr=subprocess.PIPE, text=True)
-    counted = re.search(r"Collected : (\d+)", ran.stderr)
+    counted = re.search(r"I\s+refs:\s+([\d,]+)", ran.stderr)
     if ran.returncode or not counted:
         sys.exit(f"{command[0]}: {ran.stderr[-500:]}")
-    return int(counted[1]) / 1e6
+    return int(counted[1].replace(",", "")) / 1e6
 
 
 def read(path):
@@ -116,17 +149,26 @@ def read(path):
         return file.read()
 
 
-def measure(name, folder, program, rounds, cost):
-    words, lines = SCRIPTS[name]()
-    script = os.path.join(folder, "script")
+def write_script(folder, name, lines):
+    script = os.path.join(folder, name)
     with open(script, "w") as file:
         file.write("".join(line + "\n" for line in lines))
+    return script
+
+
+def measure(name, script, folder, program, rounds, cost, jobs):
+    words, lines, *without = script()
+    whole, *part = [write_script(folder, f"script{i}", it) for i, it in enumerate([lines, *without])]
     runs = {"store": [program, *words], **{it: [os.path.join(folder, it), *words, "--journal"] for it in PLAIN}}
-    took = {it: [] for it in runs}
-    for _ in range(rounds):
-        for it, command in runs.items():
-            took[it].append(cost(command, script, os.path.join(folder, f"{it}.out")))
-    store, *plain = (statistics.median(took[it]) for it in runs)
+
+    def took(it):
+        output = os.path.join(folder, f"{it}.out")
+        less = sum(cost(runs[it], script, output) for script in part)
+        return cost(runs[it], whole, output) - less
+
+    with ThreadPoolExecutor(jobs) as pool:
+        in_turn = [list(pool.map(took, runs)) for _ in range(rounds)]
+    store, *plain = (statistics.median(it) for it in zip(*in_turn))
     same = len({read(os.path.join(folder, f"{it}.out")) for it in runs}) == 1
     leaner = PLAIN[plain.index(min(plain))]
     numbers = " ".join(f"{it:10.3f}" for it in (store, *plain))
@@ -149,11 +191,10 @@ def main():
         unit = "M" if asked.instructions else "s"
         columns = " ".join(f"{f'{it} {unit}':>10}" for it in ("store", "ref.", "boxed"))
         print(f"{'script':24} {'lines':>8} {columns} {'of reference':>12} {'of boxed':>9}  {'leaner':9}  same output")
-        for name in (it for it in SCRIPTS if asked.only in it):
-            if asked.instructions:
-                measure(name, folder, program, 1, instructions)
-            else:
-                measure(name, folder, program, asked.rounds, seconds)
+        scripts = {**SCRIPTS, **COUNTED} if asked.instructions else SCRIPTS
+        how = (1, instructions, len(PLAIN) + 1) if asked.instructions else (asked.rounds, seconds, 1)
+        for name in (it for it in scripts if asked.only in it):
+            measure(name, scripts[name], folder, program, *how)
 
 
 if __name__ == "__main__":

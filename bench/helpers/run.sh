@@ -5,6 +5,7 @@
 # a tree, and one whose cells are shuffled. It proves, builds and runs the program and proofs beside it (`main.rt.in`,
 # FUNCTION.FILE.antt.in), with the crates that it needs, in a temporary folder. The two take turns; a number is the best of three
 # medians. It prints two tables: malloc as it comes, which gives freed memory back to the system, and malloc that keeps it.
+# With --instructions it counts instead, by valgrind, what one thread and one seated helper take for a cell of the smaller heaps.
 # It wants cc and awk. Where ghc is found, GHC's own collector with one thread and with two stands below (GcBench.hs).
 set -eu
 here=$(cd "$(dirname "$0")" && pwd)
@@ -17,6 +18,21 @@ for proof in "$here"/*.antt.in; do
 done
 cc -O2 -pthread -o "$build/copier" "$here/copier.c"
 (cd "$program" && rt run) > "$build/built" 2>&1 || { cat "$build/built"; exit 1; }
+
+# How many instructions so many collections take, of a heap of this shape by this way, with all before them.
+instructions() {
+    valgrind --tool=cachegrind --cache-sim=no --cachegrind-out-file=/dev/null "$program/out/helpers" "$@" 2>&1 |
+        awk '/I +refs:/ { gsub(",", ""); print $NF }'
+}
+
+if test "${1-}" = --instructions; then
+    for way in one seated; do
+        for shape in rows tree random; do
+            echo "$way $shape $(instructions $shape $way 25) $(instructions $shape $way 5)"
+        done
+    done | awk '{ printf "%s, %s: %.1f instructions a cell\n", $1, $2, ($3 - $4) / 20 / 35008 }'
+    exit
+fi
 
 # Three rounds of both, in turn, as lines 'WHO SHAPE CELLS WAY NANOSECONDS'. A word is set for the two, as for env.
 rounds() {

@@ -129,14 +129,17 @@ fn rows_of(alloc: Global, content: Content, count: u64) -> Result<Vec<Root>, Fai
     Ok(roots)
 }
 
-// Whether a seat gives each cell the place that one thread gives it, or is refused as that is. No contract says so.
+// Whether a seat is served as one thread is, and gives each cell the same place in a full collection, which no contract says. In a
+// nursery collection it looks at eight roots at a time, so that other cells may go straight to Old.
 fn same_at_a_seat(alloc: Global, spaces: &Spaces, roots: &[Root], kind: Kind) -> bool
     requires { AreSound spaces.now.spaces roots.now }
 {
     let one = collect_one(alloc, spaces, roots, kind, Vec::new(alloc));
     let seated = collect_seated(alloc, spaces, roots, kind, Vec::new(alloc));
     match (&one, &seated) {
-        (Ok(one), Ok(seated)) => have_same_words(&one.forward, &seated.forward, spaces.cells()),
+        (Ok(one), Ok(seated)) => {
+            kind == Kind::Nursery || have_same_words(&one.forward, &seated.forward, spaces.cells())
+        }
         (Err(one), Err(seated)) => one == seated,
         _ => false,
     }

@@ -1,0 +1,44 @@
+#!/usr/bin/env python3
+"""vertex.py [PROGRAM]
+
+Prints how many bytes of malloc, with headers, a vertex takes with its payload, its entry of the journal and its reference, in the store
+and in both plain programs: what a script of twice as many creates holds at its end more, over how many these are. Vectors and tables
+that double are full or half empty by how many that is: so there are two numbers. It wants cc and rustc, and asserts nothing.
+PROGRAM is crates/tgstore/out/tgstore unless it is given."""
+import os
+import re
+import subprocess
+import sys
+import tempfile
+
+HERE = os.path.dirname(os.path.abspath(__file__))
+BENCH = os.path.dirname(HERE)
+BUILT = os.path.join(BENCH, "..", "crates", "tgstore", "out", "tgstore")
+PLAIN = ("reference", "boxed")
+VERTICES = (28_672, 32_767)
+
+
+def held(command, count, library):
+    """The bytes that are held once so many vertices were made."""
+    run = subprocess.run(
+        [*command, "--workers", "1", "--stock", f"c{count}"], input=b"0 create r\n" * count, env={"LD_PRELOAD": library},
+        stdout=subprocess.DEVNULL, stderr=subprocess.PIPE, check=True)
+    return int(re.search(rb"held: (\d+)", run.stderr)[1])
+
+
+def main():
+    program = os.path.abspath(sys.argv[1] if len(sys.argv) > 1 else BUILT)
+    with tempfile.TemporaryDirectory() as folder:
+        library = os.path.join(folder, "vertex.so")
+        subprocess.run(["cc", "-O2", "-fPIC", "-shared", "-o", library, os.path.join(HERE, "vertex.c"), "-ldl"], check=True)
+        commands = {"store": [program]}
+        for name in PLAIN:
+            commands[name] = [os.path.join(folder, name), "--journal"]
+            subprocess.run(["rustc", "-O", "--edition", "2021", "-o", commands[name][0], os.path.join(BENCH, f"{name}.rs")], check=True)
+        for count in VERTICES:
+            bytes_of = {name: (held(it, 2 * count, library) - held(it, count, library)) / count for name, it in commands.items()}
+            print(f"{count} vertices and twice as many:", ", ".join(f"{name} {it:.0f}" for name, it in bytes_of.items()), "bytes each")
+
+
+if __name__ == "__main__":
+    main()
