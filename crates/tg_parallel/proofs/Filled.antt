@@ -1,5 +1,5 @@
 -- A helper's own blocks of a space: one more block, one more place given away, and what changes elsewhere.
-use Rattle.std.proofs.Common.{◌≡◌, ◌≢◌, ℕ, zero, suc, ◌+◌, ◌-◌, ◌*◌, ◌/◌, ◌%◌, ◌^◌, ◌<◌, ◌≤◌, ◌==◌, ◌&&◌, ◌++◌, if◌then◌else◌, not, List, [], ◌∷◌, Bool, true, false, length, get_or, map, refl, sym, ap, subst, ◌∙◌, eqb-true, eq-eqb, inl, inr, ⊎_elim, arith}
+use Rattle.std.proofs.Common.{◌≡◌, ◌≢◌, ℕ, zero, suc, ◌+◌, ◌-◌, ◌*◌, ◌/◌, ◌%◌, ◌^◌, ◌<◌, ◌≤◌, ◌==◌, ◌&&◌, ◌++◌, if◌then◌else◌, not, List, [], ◌∷◌, Bool, true, false, length, get_or, map, refl, sym, ap, subst, ◌∙◌, eqb-true, eq-eqb, inl, inr, ⊎_elim, arith, Result, Ok, Err, IsErrAnd}
 use Rattle.std.specs.List.{All, Contains, filter, list_all}
 use Rattle.std.proofs.lemmas.Bool.{cases_lt, cases_eq, and_parts, cond-true}
 use Rattle.std.proofs.lemmas.Bool.Decides.{nat_tests}
@@ -12,11 +12,14 @@ use Rattle.tg_word.proofs.Packing.{place_in-word_at}
 use Rattle.tg_race.specs.declared.record.Record.{Record}
 use Rattle.tg_race.specs.Conditions.{blocks_of, can_claim_block, can_use, uses}
 use Rattle.tg_race.specs.Race.{has_number, has_room, owns, used_in, with_claimed_block, with_seen, with_won}
+use Rattle.tg_race.specs.Seats.{Board, Seated}
 use Rattle.tg_race.specs.Words.{lies_in, same_place, space_of_age}
 use Rattle.tg_race.proofs.Sums.{weigh_push}
+use Rattle.tg_evac.specs.declared.fault.CollectFault.{CollectFault}
+use Rattle.tg_evac.specs.declared.fault.CollectFault.TheVariants.{HeapFull}
 use Rattle.tg_parallel.specs.Parts.{HasClaimedPast, HasPlaceOf, HasPlaces, cells_met}
 use Rattle.tg_parallel.specs.declared.own_blocks.OwnBlocks.{OwnBlocks}
-use Rattle.tg_parallel.specs.Seats.{AreFilled, AreRising, Finds, IsReady, KnowsNext, OnlyBlocks, OtherStays, own_place, pair_at, pairs_in}
+use Rattle.tg_parallel.specs.Seats.{AreFilled, AreReady, AreRising, Finds, GivePlace, HaveRoom, IsHeldBy, IsReady, KnowsNext, OnlyBlocks, OtherStays, StayFilled, own_place, pair_at, pairs_in}
 use Rattle.tg_parallel.proofs.Lists.{any_at, any_found, map_has}
 
 -- ---- lists
@@ -371,3 +374,56 @@ ready_more b used left next ready one less on some =
       few = omega arith;
       next = on ∙ ap link_to (ap place_behind (next_read b ready) ∙ behind);
     }
+
+-- ---- what stays
+
+pub other_claimed : (aged : Bool) (v : Record) (b : ℕ) → OtherStays aged v (with_claimed_block aged v b)
+other_claimed true v b numbers used filled = record { same = filled.same; rising = filled.rising; room = filled.room; close = filled.close; few = filled.few; ends = filled.ends; order = filled.order; many = filled.many }
+other_claimed false v b numbers used filled = record { same = filled.same; rising = filled.rising; room = filled.room; close = filled.close; few = filled.few; ends = filled.ends; order = filled.order; many = filled.many }
+
+pub only_claimed : (aged : Bool) (v : Record) (b : ℕ) → OnlyBlocks v (with_claimed_block aged v b)
+only_claimed true v b = record { chunks = refl; won = refl; seen = refl; share = refl }
+only_claimed false v b = record { chunks = refl; won = refl; seen = refl; share = refl }
+
+filled_seen : (aged : Bool) (v : Record) (q : ℕ × Place) (numbers : List ℕ) (used : ℕ) → AreFilled aged v numbers used → AreFilled aged (with_seen v q) numbers used
+filled_seen aged v q numbers used filled = record { same = filled.same; rising = filled.rising; room = filled.room; close = filled.close; few = filled.few; ends = filled.ends; order = filled.order; many = filled.many }
+
+-- where nothing was done
+pub stay_none : (board : Board) (helper : Seated) (b : OwnBlocks) → IsHeldBy board helper b → StayFilled b helper b helper
+stay_none board helper b held = record { space = refl; seat = refl; filled = held.filled; other = λ numbers used filled. filled }
+
+-- where the cell was seen
+pub stay_seen : (board : Board) (helper : Seated) (b : OwnBlocks) → IsHeldBy board helper b → (q : ℕ × Place) → StayFilled b helper b (record helper { done = with_seen helper.done q })
+stay_seen board helper b held q = record {
+  space = refl;
+  seat = refl;
+  filled = filled_seen b.aged helper.done q b.numbers.items b.used held.filled;
+  other = λ numbers used filled. filled_seen (not b.aged) helper.done q numbers used filled;
+}
+
+module _ {before : OwnBlocks} {old : Seated} {after : OwnBlocks} {new : Seated} (stay : StayFilled before old after new) where
+  pub still_held : {board : Board} → IsHeldBy board old before → IsHeldBy board new after
+  still_held held = record { own = stay.seat ∙ held.own; filled = subst (λ (a : Bool). AreFilled a new.done after.numbers.items after.used) (sym stay.space) stay.filled }
+
+  pub stay_both : {last : OwnBlocks} {newest : Seated} → StayFilled after new last newest → StayFilled before old last newest
+  stay_both {last = last} {newest = newest} two = record {
+    space = two.space ∙ stay.space;
+    seat = two.seat ∙ stay.seat;
+    filled = subst (λ (a : Bool). AreFilled a newest.done last.numbers.items last.used) stay.space two.filled;
+    other = λ numbers used filled.
+        subst (λ (a : Bool). AreFilled (not a) new.done numbers used → AreFilled (not a) newest.done numbers used) stay.space (two.other numbers used) (stay.other numbers used filled);
+  }
+
+  -- where the claim was refused
+  pub room_refused : {T Fault : Type 0} (result : Result T Fault) (fault : Fault) → IsErrAnd result (λ x. x ≡ fault) → OnlyBlocks old.done new.done → after.left ≡ before.left → HaveRoom before old after new result
+  room_refused (Ok x) fault same only left = absurd same
+  room_refused (Err x) fault same only left = record { stay = stay; blocks = only; left = left; room = tt }
+
+  pub ready_refused : {T : Type 0} {limit : ℕ} (result : Result T CollectFault) (fault : CollectFault) → IsErrAnd result (λ x. x ≡ fault) → OnlyBlocks old.done new.done → KnowsNext after →
+      (fault ≡ HeapFull → HasClaimedPast limit new.done) → AreReady limit before old after new result
+  ready_refused (Ok x) fault same only next full = absurd same
+  ready_refused (Err x) fault same only next full = record { stay = stay; blocks = only; next = next; some = tt; full = λ is. full (sym same ∙ is) }
+
+  pub place_refused : {cell : ℕ} (result : Result ℕ CollectFault) (fault : CollectFault) → IsErrAnd result (λ x. x ≡ fault) → Finds cell before.aged old.done new.done → KnowsNext after → GivePlace cell before old after new result
+  place_refused (Ok x) fault same finds next = absurd same
+  place_refused (Err x) fault same finds next = record { stay = stay; finds = finds; next = next; met = tt; link = tt; known = tt }

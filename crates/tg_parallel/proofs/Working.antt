@@ -1,5 +1,5 @@
 -- The work of a helper, chunk by chunk: what was won is earned, and what was met grows.
-use Rattle.std.proofs.Common.{◌≡◌, ℕ, ◌+◌, ◌*◌, ◌/◌, ◌<◌, ◌≤◌, ◌++◌, if◌then◌else◌, List, [], ◌∷◌, true, false, length, take, refl, sym, ap, subst, ◌∙◌, arith, Result, Ok, Err}
+use Rattle.std.proofs.Common.{◌≡◌, ℕ, ◌+◌, ◌*◌, ◌/◌, ◌<◌, ◌≤◌, ◌++◌, if◌then◌else◌, List, [], ◌∷◌, true, false, length, take, refl, sym, ap, subst, ◌∙◌, arith, Result, Ok, Err, IsErrAnd}
 use Rattle.std.specs.Int.{div_ceil}
 use Rattle.std.specs.Result.{OnOk}
 use Rattle.std.specs.List.{All, Contains}
@@ -16,12 +16,15 @@ use Rattle.tg_race.specs.Conditions.{can_claim_roots}
 use Rattle.tg_race.specs.Race.{chunks_of, empty, is_chunk, past, with_chunk}
 use Rattle.tg_race.specs.Seats.{Board}
 use Rattle.tg_race.proofs.Sums.{weigh_push}
+use Rattle.tg_evac.specs.declared.copies.Copies.{Copies}
+use Rattle.tg_evac.specs.declared.fault.CollectFault.{CollectFault}
+use Rattle.tg_evac.specs.declared.fault.CollectFault.TheVariants.{HeapFull}
 use Rattle.tg_evac.specs.Claims.{AreTraced}
 use Rattle.tg_evac.specs.Claimers.{AreScanned, KeepsWins}
 use Rattle.tg_evac.proofs.Pieces.{none_scanned}
 use Rattle.tg_evac.proofs.Walking.{still_met}
-use Rattle.tg_parallel.specs.Parts.{AreCountsOf, AreEarned, HasPlaces, cells_met, roots_in, roots_of_chunk, win_of, wins_of}
-use Rattle.tg_parallel.specs.Seats.{HasCopied, HasDrawn, IsSameSeat, Sitting, walked_at}
+use Rattle.tg_parallel.specs.Parts.{AreCountsOf, AreEarned, HasClaimedPast, HasPlaces, cells_met, roots_in, roots_of_chunk, win_of, wins_of}
+use Rattle.tg_parallel.specs.Seats.{HasCopied, HasDrawn, HasWorkedAll, IsSameSeat, Sitting, walked_at}
 use Rattle.tg_parallel.proofs.Filled.{all_of}
 use Rattle.tg_parallel.proofs.Lists.{flat_has}
 use Rattle.tg_parallel.proofs.Traces.{traced_wider}
@@ -58,6 +61,21 @@ module _ (kind : Kind) (h : SpaceList) (roots : List Root) (before : List ℕ) (
           all = ended ∙ length-map t.done.won win_of;
           copies = subst (λ (k : ℕ). AreScanned h (walked_at t) (HasPlaces t.done) k aged_now old_now) (sym ended) scanned;
         }
+
+-- the seat is still the same one
+pub same_walk : (s t : Sitting) → KeepsWins (walked_at s) (walked_at t) → IsSameSeat s t
+same_walk s t keeps = record {
+  kind = keeps.same_kind;
+  limit = (let room : 64 * t.limit ≡ 64 * s.limit = keeps.same_room in omega arith);
+  board = λ i. (keeps.same_fixed i).0;
+  share = λ i. (keeps.same_fixed i).2;
+}
+
+-- what was done till the work was refused
+pub work_refused : {kind : Kind} {h : SpaceList} {roots : List Root} {before after : Sitting} (result : Result Copies CollectFault) (fault : CollectFault) → IsErrAnd result (λ x. x ≡ fault) →
+    IsSameSeat before after → AreEarned kind h roots after.done → (fault ≡ HeapFull → HasClaimedPast after.limit after.done) → HasWorkedAll kind h roots before after result
+work_refused (Ok x) fault told same earned full = absurd told
+work_refused (Err x) fault told same earned full = record { worked = record { same = same; earned = earned; full = λ is. full (sym told ∙ is) }; last = tt; copied = tt }
 
 -- ---- between two chunks
 

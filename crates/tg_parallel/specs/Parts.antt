@@ -4,6 +4,7 @@ use Rattle.std.specs.List.{All, Contains, flat_map}
 use Rattle.tg_word.specs.declared.Place.{Place}
 use Rattle.tg_word.specs.Word.{IsPlace, link_to}
 use Rattle.tg_block.specs.Cells.{cell_of, free_cell}
+use Rattle.tg_space.specs.Soundness.{AreSound}
 use Rattle.tg_space.specs.SpaceList.{SpaceList, cells_of}
 use Rattle.tg_space.specs.SpaceTable.{SpaceTable, kept_blocks}
 use Rattle.tg_space.specs.Targets.{from_space, targets_of, all_root_targets}
@@ -24,6 +25,11 @@ pub record AreCountsOf (kind : Kind) (h : SpaceList) (roots : List Root) (k : Co
   pub cells : k.cells ≡ length (cells_of h)
   pub root_count : k.roots ≡ length roots
   pub kept : k.kept ≡ kept_blocks kind h
+
+-- the spaces and roots may be collected, and the table was opened with their numbers
+pub record IsOpenedFor (kind : Kind) (h : SpaceList) (roots : List Root) (k : Counts) : Type 0 where
+  pub sound : AreSound h roots
+  pub counts : AreCountsOf kind h roots k
 
 -- ---- what was won
 

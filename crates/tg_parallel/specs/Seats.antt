@@ -1,21 +1,26 @@
 -- What a helper holds while it works: its record, and the places that it gives away in its own blocks, one after the other.
-use Rattle.std.specs.Prelude.{◌≡◌, ◌≢◌, ℕ, ◌+◌, ◌*◌, ◌/◌, ◌%◌, ◌^◌, ◌<◌, ◌≤◌, ◌==◌, Bool, true, false, not, List, [], ◌∷◌, ◌++◌, length, slice_index, slice_index_or}
+use Rattle.std.specs.Prelude.{◌≡◌, ◌≢◌, ℕ, ◌+◌, ◌*◌, ◌/◌, ◌%◌, ◌^◌, ◌<◌, ◌≤◌, ◌==◌, Bool, true, false, not, List, [], ◌∷◌, ◌++◌, length, slice_index, slice_index_or, Result, IfErr, IfOk, OnOk}
 use Rattle.std.specs.List.{All, AllPairs, Contains, filter}
 use Rattle.tg_word.specs.declared.Place.{Place}
-use Rattle.tg_word.specs.Word.{IsPlace, link_to}
+use Rattle.tg_word.specs.Word.{IsPlace, link_to, place_in}
 use Rattle.tg_block.specs.Cells.{cell_of, free_cell}
+use Rattle.tg_space.specs.Soundness.{IsRootIn}
 use Rattle.tg_space.specs.SpaceList.{SpaceList}
 use Rattle.tg_space.specs.Targets.{from_space, all_root_targets}
 use Rattle.tg_space.specs.declared.kind.Kind.{Kind}
 use Rattle.tg_space.specs.declared.root.Root.{Root}
 use Rattle.tg_race.specs.declared.record.Record.{Record}
 use Rattle.tg_race.specs.Conditions.{blocks_of}
-use Rattle.tg_race.specs.Race.{is_chunk, used_in}
+use Rattle.tg_race.specs.Race.{empty, is_chunk, past, used_in}
 use Rattle.tg_race.specs.Seats.{Board, Seated}
 use Rattle.tg_race.specs.Words.{space_of_age}
-use Rattle.tg_evac.specs.Claimers.{AreScanned, Walked}
+use Rattle.tg_evac.specs.declared.copies.Copies.{Copies}
+use Rattle.tg_evac.specs.declared.fault.CollectFault.{CollectFault}
+use Rattle.tg_evac.specs.declared.fault.CollectFault.TheVariants.{HeapFull}
+use Rattle.tg_evac.specs.Claims.{HavePointers}
+use Rattle.tg_evac.specs.Claimers.{AreScanned, IsLink, Walked}
 use Rattle.tg_parallel.specs.declared.own_blocks.OwnBlocks.{OwnBlocks}
-use Rattle.tg_parallel.specs.Parts.{HasPlaces, Numbered, cells_met, numbers_of, roots_in, wins_of}
+use Rattle.tg_parallel.specs.Parts.{AreCountsOf, AreEarned, HasClaimedPast, HasPlaces, Numbered, cells_met, numbers_of, roots_in, wins_of}
 
 -- ---- a helper's own blocks of one space
 
@@ -83,6 +88,49 @@ pub record Finds (cell : ℕ) (aged : Bool) (v w : Record) : Type 0 where
   pub chunks : w.chunks ≡ v.chunks
   pub share : w.share ≡ v.share
 
+-- ---- what the blocks of a space do for a claim
+
+-- the table has a word for the cell
+pub record HasWord (board : Board) (cell : ℕ) : Type 0 where
+  pub inside : cell < board.counts.cells
+  pub moved : 64 * board.counts.kept ≤ cell
+
+-- the helper sits at the table, and the blocks are those that it has claimed, filled in order with what it has won
+pub record IsHeldBy (board : Board) (helper : Seated) (b : OwnBlocks) : Type 0 where
+  pub own : helper.table ≡ board.table
+  pub filled : AreFilled b.aged helper.done b.numbers.items b.used
+
+-- they stay so, whatever else the helper has done, and the blocks of the other space stay as they are
+pub record StayFilled (before : OwnBlocks) (old : Seated) (after : OwnBlocks) (new : Seated) : Type 0 where
+  pub space : after.aged ≡ before.aged
+  pub seat : new.table ≡ old.table
+  pub filled : AreFilled before.aged new.done after.numbers.items after.used
+  pub other : OtherStays before.aged old.done new.done
+
+-- there is room for a cell, in a block that was claimed for it where all were full
+pub record HaveRoom {T Fault : Type 0} (before : OwnBlocks) (old : Seated) (after : OwnBlocks) (new : Seated) (result : Result T Fault) : Type 0 where
+  pub stay : StayFilled before old after new
+  pub blocks : OnlyBlocks old.done new.done
+  pub left : after.left ≡ before.left
+  pub room : OnOk result (after.used < 64 * length after.numbers.items)
+
+-- the next place is known; it is refused where that is past the limit
+pub record AreReady {T : Type 0} (limit : ℕ) (before : OwnBlocks) (old : Seated) (after : OwnBlocks) (new : Seated) (result : Result T CollectFault) : Type 0 where
+  pub stay : StayFilled before old after new
+  pub blocks : OnlyBlocks old.done new.done
+  pub next : KnowsNext after
+  pub some : OnOk result (0 < after.left)
+  pub full : IfErr result (λ fault. fault ≡ HeapFull → HasClaimedPast limit new.done)
+
+-- the cell has a place, whose word is answered: the next one of these blocks, unless it had one
+pub record GivePlace (cell : ℕ) (before : OwnBlocks) (old : Seated) (after : OwnBlocks) (new : Seated) (result : Result ℕ CollectFault) : Type 0 where
+  pub stay : StayFilled before old after new
+  pub finds : Finds cell before.aged old.done new.done
+  pub next : KnowsNext after
+  pub met : OnOk result (Contains (cells_met new.done) cell)
+  pub link : IfOk result IsLink
+  pub known : IfOk result (λ word. (to : ℕ → Place) → HasPlaces new.done to → to cell ≡ place_in word)
+
 -- ---- a seat
 
 -- the kind of the collection, how many blocks a space may have, the table, and what the helper has done
@@ -143,6 +191,30 @@ pub record HasCopied (kind : Kind) (h : SpaceList) (roots : List Root) (chunks :
   pub met : All (Contains (cells_met s.done)) (all_root_targets (from_space kind) h (roots_in roots chunks))
   pub all : scanned ≡ length s.done.won
   pub copies : AreScanned h (walked_at s) (HasPlaces s.done) scanned aged old
+
+-- a helper at a table that was opened for a collection of this kind, of these spaces, from these roots
+pub record MayWork (kind : Kind) (h : SpaceList) (roots : List Root) (s : Sitting) : Type 0 where
+  pub pointers : HavePointers h
+  pub roots_held : All (IsRootIn h) roots
+  pub same : s.kind ≡ kind
+  pub counts : AreCountsOf kind h roots s.board.counts
+
+-- and which has done nothing yet
+pub record MayBegin (kind : Kind) (h : SpaceList) (roots : List Root) (s : Sitting) : Type 0 where
+  pub seat : MayWork kind h roots s
+  pub fresh : s.done ≡ empty 1
+
+-- what it has won is earned, and it tells that the heap is full only where it has claimed a block past the limit
+pub record HasWorked {T : Type 0} (kind : Kind) (h : SpaceList) (roots : List Root) (before after : Sitting) (result : Result T CollectFault) : Type 0 where
+  pub same : IsSameSeat before after
+  pub earned : AreEarned kind h roots after.done
+  pub full : IfErr result (λ fault. fault ≡ HeapFull → HasClaimedPast after.limit after.done)
+
+-- all chunks of roots were claimed, and what the helper won was copied
+pub record HasWorkedAll (kind : Kind) (h : SpaceList) (roots : List Root) (before after : Sitting) (result : Result Copies CollectFault) : Type 0 where
+  pub worked : HasWorked kind h roots before after result
+  pub last : OnOk result (0 < past after.board.counts after.done)
+  pub copied : IfOk result (λ copies. HasCopied kind h roots after.done.chunks after copies.scanned copies.aged copies.old)
 
 -- ---- what is handed over
 

@@ -1,8 +1,11 @@
 -- What the one helper that is left hands over, where the table is closed.
-use Rattle.std.specs.Prelude.{ℕ, ◌<◌, List}
-use Rattle.tg_space.specs.SpaceTable.{SpaceTable}
+use Rattle.std.specs.Prelude.{ℕ, ◌^◌, ◌<◌, ◌≤◌, List}
+use Rattle.tg_space.specs.Soundness.{AreSound}
+use Rattle.tg_space.specs.SpaceTable.{IsSpaceTable, SpaceTable}
 use Rattle.tg_space.specs.declared.kind.Kind.{Kind}
 use Rattle.tg_space.specs.declared.root.Root.{Root}
+use Rattle.tg_evac.specs.declared.plan.Plan.{Plan}
+use Rattle.tg_evac.specs.Claims.{IsPlanFor}
 use Rattle.tg_race.specs.declared.record.Counts.{Counts}
 use Rattle.tg_race.specs.declared.record.Record.{Record}
 use Rattle.tg_race.specs.Board.{IsClosedTable}
@@ -17,3 +20,10 @@ pub record IsWholePart (kind : Kind) (t : SpaceTable) (roots : List Root) (k : C
   pub last : 0 < past k done
   pub earned : AreEarned kind t.spaces roots done
   pub part : IsPart kind t roots done aged old
+
+-- spaces and roots that may be collected by a plan
+pub record MayFinish (t : SpaceTable) (roots : List Root) (plan : Plan) : Type 0 where
+  pub sound : AreSound t.spaces roots
+  pub spaces : IsSpaceTable t
+  pub limit : t.limits.space_blocks ≤ 2 ^ 20
+  pub planned : IsPlanFor plan.kind t plan

@@ -1,24 +1,22 @@
 //! Collections by a helper at a table, and by several on threads.
 ghost use Rattle.std.specs.Prelude.{◌≡◌, ◌≢◌, ℕ, ◌+◌, ◌≤◌, ◌^◌, ◌↔◌, ◌⊎◌, All, Contains, IfErr, IfOk, List, OnOk, length};
 ghost use Rattle.tg_word.specs.declared.Place.{Place as PlaceOf};
-ghost use Rattle.tg_space.specs.Collection.{AreFewBlocks, IsCollection, copies_in, used_cells};
 ghost use Rattle.tg_space.specs.Generations.{NamesYoung};
 ghost use Rattle.tg_space.specs.Soundness.{AreSound};
-ghost use Rattle.tg_space.specs.SpaceTable.{IsSpaceTable, SpaceTable, kept_blocks};
+ghost use Rattle.tg_space.specs.SpaceTable.{SpaceTable, kept_blocks};
 ghost use Rattle.tg_space.specs.declared.kind.Kind.{Kind as KindOf};
 ghost use Rattle.tg_space.specs.declared.root.Root.{Root as RootOf};
 ghost use Rattle.tg_space.specs.declared.root.Root.TheVariants.{Remembered as RememberedAt};
 ghost use Rattle.tg_race.specs.declared.record.Counts.{Counts};
 ghost use Rattle.tg_race.specs.declared.record.Record.{Record};
 ghost use Rattle.tg_race.specs.Race.{empty};
-ghost use Rattle.tg_evac.specs.Claims.{IsPlanFor};
+ghost use Rattle.tg_evac.specs.Collects.{Collects};
 ghost use Rattle.tg_evac.specs.Copies.{IsPlaceIn, moved_cell, new_cell};
-ghost use Rattle.tg_evac.specs.Room.{IsReachedFrom, LacksRoomFor};
 ghost use Rattle.tg_parallel.specs.Faults.{IsNotStarted};
 ghost use Rattle.tg_parallel.specs.Helping.{AllHelped, IsHelped, IsNew};
 ghost use Rattle.tg_parallel.specs.Merged.{AreMerged};
-ghost use Rattle.tg_parallel.specs.Parts.{AreCountsOf};
-ghost use Rattle.tg_parallel.specs.Whole.{IsWholePart};
+ghost use Rattle.tg_parallel.specs.Parts.{AreCountsOf, IsOpenedFor};
+ghost use Rattle.tg_parallel.specs.Whole.{IsWholePart, MayFinish};
 
 use crate::fault::HelpersFault;
 use crate::gate::{Gate, NoGate};
@@ -45,10 +43,7 @@ pub fn collect_seated(
     spare: Vec<Block>,
 ) -> Result<Copied, CollectFault>
     requires { AreSound spaces.now.spaces roots.now }
-    ensures collected { IfOk result (λ copied. IsCollection kind spaces.now.spaces roots.now copied.forward.words copied.adoption.aged copied.adoption.old copied.remembered.places) }
-    ensures moved { IfOk result (λ copied. copies_in copied.forward.words 0 + copies_in copied.forward.words 1 ≤ used_cells kind spaces.now.spaces) }
-    ensures few { IfOk result (λ copied. AreFewBlocks spaces.now.limits.space_blocks (kept_blocks kind spaces.now.spaces) 1 copied.forward.words copied.adoption.aged copied.adoption.old) }
-    ensures full { IfErr result (λ fault. fault ≡ CollectFault.HeapFull → LacksRoomFor spaces.now.limits.space_blocks 1 (kept_blocks kind spaces.now.spaces) (IsReachedFrom kind spaces.now.spaces roots.now)) }
+    ensures { Collects CollectFault.HeapFull kind spaces.now roots.now 1 1 result }
 {
     collect_alone(alloc, spaces, roots, kind, &NoGate, spare)
 }
@@ -64,10 +59,7 @@ fn collect_alone<G: Gate>(
     spare: Vec<Block>,
 ) -> Result<Copied, CollectFault>
     requires { AreSound spaces.now.spaces roots.now }
-    ensures collected { IfOk result (λ copied. IsCollection kind spaces.now.spaces roots.now copied.forward.words copied.adoption.aged copied.adoption.old copied.remembered.places) }
-    ensures moved { IfOk result (λ copied. copies_in copied.forward.words 0 + copies_in copied.forward.words 1 ≤ used_cells kind spaces.now.spaces) }
-    ensures few { IfOk result (λ copied. AreFewBlocks spaces.now.limits.space_blocks (kept_blocks kind spaces.now.spaces) 1 copied.forward.words copied.adoption.aged copied.adoption.old) }
-    ensures full { IfErr result (λ fault. fault ≡ CollectFault.HeapFull → LacksRoomFor spaces.now.limits.space_blocks 1 (kept_blocks kind spaces.now.spaces) (IsReachedFrom kind spaces.now.spaces roots.now)) }
+    ensures { Collects CollectFault.HeapFull kind spaces.now roots.now 1 1 result }
 {
     let cells = spaces.cells();
     let plan = Plan::of(kind, spaces);
@@ -98,10 +90,7 @@ pub fn collect_many<R: Threads + Wait + Sync, G: Gate>(
     requires sound { AreSound spaces.now.spaces roots.now }
     requires some { 1 ≤ helpers }
     requires few { helpers ≤ 8 }
-    ensures collected { IfOk result (λ copied. IsCollection kind spaces.now.spaces roots.now copied.forward.words copied.adoption.aged copied.adoption.old copied.remembered.places) }
-    ensures moved { IfOk result (λ copied. copies_in copied.forward.words 0 + copies_in copied.forward.words 1 ≤ used_cells kind spaces.now.spaces) }
-    ensures few { IfOk result (λ copied. AreFewBlocks spaces.now.limits.space_blocks (kept_blocks kind spaces.now.spaces) helpers copied.forward.words copied.adoption.aged copied.adoption.old) }
-    ensures full { IfErr result (λ fault. fault ≡ HelpersFault.HeapFull → LacksRoomFor spaces.now.limits.space_blocks helpers (kept_blocks kind spaces.now.spaces) (IsReachedFrom kind spaces.now.spaces roots.now)) }
+    ensures collects { Collects HelpersFault.HeapFull kind spaces.now roots.now helpers helpers result }
     ensures alone { helpers ≡ 1 → IfErr result (λ fault. fault ≢ HelpersFault.NoThread) }
 {
     if helpers == 1 {
@@ -145,8 +134,7 @@ fn work_all<R: Threads + Wait + Sync, G: Gate>(
     gate: &G,
     spare: Vec<Block>,
 ) -> Result<Helped, HelpersFault>
-    requires sound { AreSound spaces.now.spaces roots.now }
-    requires counts { AreCountsOf kind spaces.now.spaces roots.now table.now.counts }
+    requires table { IsOpenedFor kind spaces.now.spaces roots.now table.now.counts }
     requires own { helper.table ≡ table.now.table }
     requires fresh { helper.done ≡ empty helpers }
     requires some { 1 ≤ helpers }
@@ -174,8 +162,7 @@ fn work_in_scope<R: Threads + Wait, G: Gate>(
     gate: &G,
     mut spare: Vec<Block>,
 ) -> Result<(Helped, Vec<Helped>), HelpersFault>
-    requires sound { AreSound spaces.now.spaces roots.now }
-    requires counts { AreCountsOf kind spaces.now.spaces roots.now table.now.counts }
+    requires table { IsOpenedFor kind spaces.now.spaces roots.now table.now.counts }
     requires new { IsNew table.now helper }
     requires others { All (IsNew table.now) others.items }
     ensures made { IfOk result (λ x. AllHelped kind spaces.now roots.now table.now (length others.items) x.0 x.1.items) }
@@ -185,7 +172,7 @@ fn work_in_scope<R: Threads + Wait, G: Gate>(
         thread::scope_env(),
         rt,
         |scope| -> Result<(Helped, Vec<Helped>), HelpersFault>
-            requires { AreSound spaces.now.spaces roots.now × AreCountsOf kind spaces.now.spaces roots.now table.now.counts × IsNew table.now helper × All (IsNew table.now) others.items }
+            requires { IsOpenedFor kind spaces.now.spaces roots.now table.now.counts × IsNew table.now helper × All (IsNew table.now) others.items }
             ensures { IfOk result (λ x. AllHelped kind spaces.entry.now roots.entry.now table.entry.now (length others.items) x.0 x.1.items) × IfErr result (IsNotStarted (length others.items)) }
         {
             let promise = Helps {
@@ -211,8 +198,7 @@ fn start_all<'s, E, G: Gate>(
     gate: &'s G,
     spare: &mut Vec<Block>,
 ) -> Result<Vec<PromisedHandle<Helped, Helps<'s>>>, HelpersFault>
-    requires sound { AreSound promise.spaces.now.spaces promise.roots.now }
-    requires counts { AreCountsOf promise.kind promise.spaces.now.spaces promise.roots.now promise.table.now.counts }
+    requires table { IsOpenedFor promise.kind promise.spaces.now.spaces promise.roots.now promise.table.now.counts }
     requires new { All (IsNew promise.table.now) others.items }
     ensures promises { IfOk result (λ children. All (λ child. child.promise ≡ promise.entry) children.items) }
     ensures many { IfOk result (λ children. length children.items ≡ length others.items) }
@@ -240,8 +226,7 @@ fn start<'s, E, G: Gate>(
     gate: &'s G,
     blocks: Vec<Block>,
 ) -> Result<PromisedHandle<Helped, Helps<'s>>, HelpersFault>
-    requires sound { AreSound promise.spaces.now.spaces promise.roots.now }
-    requires counts { AreCountsOf promise.kind promise.spaces.now.spaces promise.roots.now promise.table.now.counts }
+    requires table { IsOpenedFor promise.kind promise.spaces.now.spaces promise.roots.now promise.table.now.counts }
     requires new { IsNew promise.table.now other }
     ensures promise { IfOk result (λ child. child.promise ≡ promise.entry) }
     ensures refused { IfErr result (λ fault. fault ≡ HelpersFault.NoThread) }
@@ -255,7 +240,7 @@ fn start<'s, E, G: Gate>(
     let Ok(child) = scope.spawn_with(
         promise,
         move || -> Helped
-            requires { AreSound spaces.now.spaces roots.now × AreCountsOf kind spaces.now.spaces roots.now table.now.counts × (other.table ≡ table.now.table) × (other.done ≡ empty 1) }
+            requires { IsOpenedFor kind spaces.now.spaces roots.now table.now.counts × (other.table ≡ table.now.table) × (other.done ≡ empty 1) }
             ensures { IsHelped kind spaces.entry.now roots.entry.now table.entry.now 1 result }
         {
             help(
@@ -317,17 +302,11 @@ fn finish(
     plan: Plan,
     helped: Helped,
 ) -> Result<Copied, CollectFault>
-    requires sound { AreSound spaces.now.spaces roots.now }
-    requires spaces { IsSpaceTable spaces.now }
-    requires limit { spaces.now.limits.space_blocks ≤ 2 ^ 20 }
-    requires plan { IsPlanFor plan.kind spaces.now plan }
+    requires plan { MayFinish spaces.now roots.now plan }
     requires few { plan.kept ≤ 2 ^ 20 }
     requires counts { AreCountsOf plan.kind spaces.now.spaces roots.now table.counts }
     requires helped { IsHelped plan.kind spaces.now roots.now table table.counts.helpers helped }
-    ensures collected { IfOk result (λ copied. IsCollection plan.kind spaces.now.spaces roots.now copied.forward.words copied.adoption.aged copied.adoption.old copied.remembered.places) }
-    ensures moved { IfOk result (λ copied. copies_in copied.forward.words 0 + copies_in copied.forward.words 1 ≤ used_cells plan.kind spaces.now.spaces) }
-    ensures few { IfOk result (λ copied. AreFewBlocks spaces.now.limits.space_blocks (kept_blocks plan.kind spaces.now.spaces) table.counts.helpers copied.forward.words copied.adoption.aged copied.adoption.old) }
-    ensures full { IfErr result (λ fault. fault ≡ CollectFault.HeapFull → LacksRoomFor spaces.now.limits.space_blocks table.counts.helpers (kept_blocks plan.kind spaces.now.spaces) (IsReachedFrom plan.kind spaces.now.spaces roots.now)) }
+    ensures { Collects CollectFault.HeapFull plan.kind spaces.now roots.now table.counts.helpers table.counts.helpers result }
 {
     let Helped { helper, part } = helped;
     let forward = Forwarding::of_closed(CELLS as u64 * plan.kept, table.close(helper));
@@ -346,10 +325,7 @@ fn put_together(
     plan: Plan,
     part: Part,
 ) -> Result<Copied, AllocError>
-    requires sound { AreSound spaces.now.spaces roots.now }
-    requires spaces { IsSpaceTable spaces.now }
-    requires limit { spaces.now.limits.space_blocks ≤ 2 ^ 20 }
-    requires plan { IsPlanFor plan.kind spaces.now plan }
+    requires plan { MayFinish spaces.now roots.now plan }
     requires made { (k : Counts) × (done : Record) × IsWholePart plan.kind spaces.now roots.now k forward.words done part.aged.items part.old.items }
     ensures words { IfOk result (λ copied. copied.forward.words ≡ forward.words) }
     ensures merged { IfOk result (λ copied. AreMerged plan.kind (kept_blocks plan.kind spaces.now.spaces) part.aged.items part.old.items copied.adoption.aged copied.adoption.old) }

@@ -1,11 +1,7 @@
 //! The places that a helper gives away: in its own blocks of a space, one after the other.
-ghost use Rattle.std.specs.Prelude.{◌≡◌, ℕ, ◌/◌, ◌%◌, ◌<◌, ◌≤◌, ◌*◌, ◌^◌, All, Contains, [], IfErr, IfOk, OnOk, length, slice_index};
-ghost use Rattle.tg_race.specs.Race.{empty};
-ghost use Rattle.tg_word.specs.declared.Place.{Place as PlaceOf};
-ghost use Rattle.tg_word.specs.Word.{place_in};
-ghost use Rattle.tg_evac.specs.Claimers.{IsLink};
-ghost use Rattle.tg_parallel.specs.Parts.{HasClaimedPast, HasPlaces, cells_met};
-ghost use Rattle.tg_parallel.specs.Seats.{AreFilled, Finds, IsReady, KnowsNext, OnlyBlocks, OtherStays, own_place};
+ghost use Rattle.std.specs.Prelude.{◌≡◌, ◌/◌, ◌<◌, ◌≤◌, ◌*◌, ◌^◌, [], IfErr, IfOk, OnOk, length, slice_index};
+ghost use Rattle.tg_parallel.specs.Parts.{HasClaimedPast};
+ghost use Rattle.tg_parallel.specs.Seats.{AreReady, GivePlace, HasWord, HaveRoom, IsHeldBy, IsReady, KnowsNext, own_place};
 
 use crate::links::word_to;
 use crate::winner::Winner;
@@ -59,21 +55,11 @@ impl OwnBlocks {
         cell: u64,
         limit: u64,
     ) -> Result<u64, CollectFault>
-        requires own { winner.old.table ≡ table.now.table }
-        requires inside { cell < table.now.counts.cells }
-        requires moved { 64 * table.now.counts.kept ≤ cell }
+        requires held { IsHeldBy table.now winner.old self.now }
+        requires word { HasWord table.now cell }
         requires limit { limit ≤ 2 ^ 20 }
-        requires filled { AreFilled self.now.aged winner.old.done self.now.numbers.items self.now.used }
         requires next { KnowsNext self.now }
-        ensures space { self.exit.now.aged ≡ self.entry.now.aged }
-        ensures seat { winner.new.table ≡ winner.old.table }
-        ensures finds { Finds cell self.entry.now.aged winner.old.done winner.new.done }
-        ensures filled { AreFilled self.entry.now.aged winner.new.done self.exit.now.numbers.items self.exit.now.used }
-        ensures next { KnowsNext self.exit.now }
-        ensures other { OtherStays self.entry.now.aged winner.old.done winner.new.done }
-        ensures met { OnOk result (Contains (cells_met winner.new.done) cell) }
-        ensures link { IfOk result IsLink }
-        ensures known { IfOk result (λ word. (to : ℕ → PlaceOf) → HasPlaces winner.new.done to → to cell ≡ place_in word) }
+        ensures gives { GivePlace cell self.entry.now winner.old self.exit.now winner.new result }
         ensures full { IfErr result (λ fault. fault ≡ CollectFault.HeapFull → HasClaimedPast limit winner.new.done) }
     {
         self.make_ready(winner, table, limit)?;
@@ -88,18 +74,10 @@ impl OwnBlocks {
         table: &RaceTable,
         limit: u64,
     ) -> Result<(), CollectFault>
-        requires own { winner.old.table ≡ table.now.table }
+        requires held { IsHeldBy table.now winner.old self.now }
         requires limit { limit ≤ 2 ^ 20 }
-        requires filled { AreFilled self.now.aged winner.old.done self.now.numbers.items self.now.used }
         requires next { KnowsNext self.now }
-        ensures space { self.exit.now.aged ≡ self.entry.now.aged }
-        ensures seat { winner.new.table ≡ winner.old.table }
-        ensures blocks { OnlyBlocks winner.old.done winner.new.done }
-        ensures filled { AreFilled self.entry.now.aged winner.new.done self.exit.now.numbers.items self.exit.now.used }
-        ensures next { KnowsNext self.exit.now }
-        ensures other { OtherStays self.entry.now.aged winner.old.done winner.new.done }
-        ensures some { OnOk result (0 < self.exit.now.left) }
-        ensures full { IfErr result (λ fault. fault ≡ CollectFault.HeapFull → HasClaimedPast limit winner.new.done) }
+        ensures { AreReady limit self.entry.now winner.old self.exit.now winner.new result }
     {
         if self.left != 0 {
             return Ok(());
@@ -115,18 +93,10 @@ impl OwnBlocks {
         table: &RaceTable,
         limit: u64,
     ) -> Result<(), CollectFault>
-        requires own { winner.old.table ≡ table.now.table }
+        requires held { IsHeldBy table.now winner.old self.now }
         requires limit { limit ≤ 2 ^ 20 }
-        requires filled { AreFilled self.now.aged winner.old.done self.now.numbers.items self.now.used }
         requires none { self.now.left ≡ 0 }
-        ensures space { self.exit.now.aged ≡ self.entry.now.aged }
-        ensures seat { winner.new.table ≡ winner.old.table }
-        ensures blocks { OnlyBlocks winner.old.done winner.new.done }
-        ensures filled { AreFilled self.entry.now.aged winner.new.done self.exit.now.numbers.items self.exit.now.used }
-        ensures next { KnowsNext self.exit.now }
-        ensures other { OtherStays self.entry.now.aged winner.old.done winner.new.done }
-        ensures some { OnOk result (0 < self.exit.now.left) }
-        ensures full { IfErr result (λ fault. fault ≡ CollectFault.HeapFull → HasClaimedPast limit winner.new.done) }
+        ensures { AreReady limit self.entry.now winner.old self.exit.now winner.new result }
     {
         self.make_room(winner, table)?;
         let place = self.next_place(limit)?;
@@ -137,15 +107,8 @@ impl OwnBlocks {
 
     // Claims a block, where all are full.
     fn make_room(&mut self, winner: &mut Winner, table: &RaceTable) -> Result<(), AllocError>
-        requires own { winner.old.table ≡ table.now.table }
-        requires filled { AreFilled self.now.aged winner.old.done self.now.numbers.items self.now.used }
-        ensures space { self.exit.now.aged ≡ self.entry.now.aged }
-        ensures left { self.exit.now.left ≡ self.entry.now.left }
-        ensures seat { winner.new.table ≡ winner.old.table }
-        ensures blocks { OnlyBlocks winner.old.done winner.new.done }
-        ensures filled { AreFilled self.entry.now.aged winner.new.done self.exit.now.numbers.items self.exit.now.used }
-        ensures other { OtherStays self.entry.now.aged winner.old.done winner.new.done }
-        ensures room { OnOk result (self.exit.now.used < 64 * length self.exit.now.numbers.items) }
+        requires { IsHeldBy table.now winner.old self.now }
+        ensures { HaveRoom self.entry.now winner.old self.exit.now winner.new result }
     {
         if self.used < CELLS as u64 * self.numbers.len() as u64 {
             return Ok(());
@@ -155,16 +118,9 @@ impl OwnBlocks {
 
     // Claims a block. All are full.
     fn open_block(&mut self, winner: &mut Winner, table: &RaceTable) -> Result<(), AllocError>
-        requires own { winner.old.table ≡ table.now.table }
-        requires filled { AreFilled self.now.aged winner.old.done self.now.numbers.items self.now.used }
+        requires held { IsHeldBy table.now winner.old self.now }
         requires all { 64 * length self.now.numbers.items ≤ self.now.used }
-        ensures space { self.exit.now.aged ≡ self.entry.now.aged }
-        ensures left { self.exit.now.left ≡ self.entry.now.left }
-        ensures seat { winner.new.table ≡ winner.old.table }
-        ensures blocks { OnlyBlocks winner.old.done winner.new.done }
-        ensures filled { AreFilled self.entry.now.aged winner.new.done self.exit.now.numbers.items self.exit.now.used }
-        ensures other { OtherStays self.entry.now.aged winner.old.done winner.new.done }
-        ensures room { OnOk result (self.exit.now.used < 64 * length self.exit.now.numbers.items) }
+        ensures { HaveRoom self.entry.now winner.old self.exit.now winner.new result }
     {
         self.numbers.reserve(1)?;
         let number = winner.claim_block(table, self.aged);
@@ -198,21 +154,11 @@ impl OwnBlocks {
         table: &RaceTable,
         cell: u64,
     ) -> Result<u64, CollectFault>
-        requires own { winner.old.table ≡ table.now.table }
-        requires inside { cell < table.now.counts.cells }
-        requires moved { 64 * table.now.counts.kept ≤ cell }
-        requires filled { AreFilled self.now.aged winner.old.done self.now.numbers.items self.now.used }
+        requires held { IsHeldBy table.now winner.old self.now }
+        requires word { HasWord table.now cell }
         requires some { 0 < self.now.left }
         requires ready { IsReady self.now }
-        ensures space { self.exit.now.aged ≡ self.entry.now.aged }
-        ensures seat { winner.new.table ≡ winner.old.table }
-        ensures finds { Finds cell self.entry.now.aged winner.old.done winner.new.done }
-        ensures filled { AreFilled self.entry.now.aged winner.new.done self.exit.now.numbers.items self.exit.now.used }
-        ensures next { KnowsNext self.exit.now }
-        ensures other { OtherStays self.entry.now.aged winner.old.done winner.new.done }
-        ensures met { OnOk result (Contains (cells_met winner.new.done) cell) }
-        ensures link { IfOk result IsLink }
-        ensures known { IfOk result (λ word. (to : ℕ → PlaceOf) → HasPlaces winner.new.done to → to cell ≡ place_in word) }
+        ensures gives { GivePlace cell self.entry.now winner.old self.exit.now winner.new result }
         ensures refused { IfErr result (λ fault. fault ≡ CollectFault.OutOfMemory) }
     {
         let word = self.next;

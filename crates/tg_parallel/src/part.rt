@@ -3,10 +3,8 @@ ghost use Rattle.std.specs.Prelude.{◌≡◌, ◌<◌, ◌≤◌, ◌^◌, ◌�
 ghost use Rattle.std.specs.List.{list_all};
 ghost use Rattle.std.specs.Vec.Iter.{into_iter_items};
 ghost use Rattle.tg_block.specs.Cells.{free_block};
-ghost use Rattle.tg_space.specs.Soundness.{AreSound};
-ghost use Rattle.tg_race.specs.Race.{empty};
-ghost use Rattle.tg_parallel.specs.Parts.{AreCountsOf, AreOnce, numbers_of};
-ghost use Rattle.tg_parallel.specs.Helping.{IsHelped};
+ghost use Rattle.tg_parallel.specs.Parts.{AreOnce, IsOpenedFor, numbers_of};
+ghost use Rattle.tg_parallel.specs.Helping.{IsHelped, IsNew};
 ghost use Rattle.tg_parallel.specs.Seats.{AreLaidOut, block_at};
 
 use crate::gate::Gate;
@@ -120,10 +118,8 @@ pub fn help<G: Gate>(
     gate: &G,
     spare: Vec<Block>,
 ) -> Helped
-    requires sound { AreSound spaces.now.spaces roots.now }
-    requires counts { AreCountsOf kind spaces.now.spaces roots.now table.now.counts }
-    requires own { helper.table ≡ table.now.table }
-    requires fresh { helper.done ≡ empty 1 }
+    requires table { IsOpenedFor kind spaces.now.spaces roots.now table.now.counts }
+    requires new { IsNew table.now helper }
     ensures helped { IsHelped kind spaces.now roots.now table.now 1 result }
     ensures once { AreOnce result.helper.done.aged_blocks × AreOnce result.helper.done.old_blocks }
 {

@@ -1,13 +1,13 @@
 //! A helper at its seat, which claims cells at the table that it shares with others.
-ghost use Rattle.std.specs.Prelude.{◌≡◌, ℕ, ◌*◌, ◌<◌, ◌≤◌, ◌^◌, false, true, All, Contains, IfErr, IfOk, IsTrue, OnOk, length};
-ghost use Rattle.tg_word.specs.declared.Place.{Place as PlaceOf};
+ghost use Rattle.std.specs.Prelude.{◌≡◌, ℕ, ◌<◌, ◌≤◌, ◌^◌, false, true, All, IsTrue, length};
 ghost use Rattle.tg_word.specs.Word.{IsPlace, place_in};
 ghost use Rattle.tg_race.specs.Course.{has_met};
 ghost use Rattle.tg_race.specs.Conditions.{can_claim_roots};
-ghost use Rattle.tg_race.specs.Race.{empty, with_chunk};
-ghost use Rattle.tg_evac.specs.Claims.{IsWinFor, win_at, won_in};
-ghost use Rattle.tg_evac.specs.Claimers.{AddsWins, IsLink, KnowsMore};
-ghost use Rattle.tg_parallel.specs.Parts.{HasClaimedPast, HasPlaces, cells_met, wins_of};
+ghost use Rattle.tg_race.specs.Race.{with_chunk};
+ghost use Rattle.tg_evac.specs.Claims.{win_at, won_in};
+ghost use Rattle.tg_evac.specs.Walks.{ClaimsCell, MayClaim};
+ghost use Rattle.tg_parallel.specs.Helping.{IsNew};
+ghost use Rattle.tg_parallel.specs.Parts.{HasClaimedPast, HasPlaces, wins_of};
 ghost use Rattle.tg_parallel.specs.Seats.{AreFilled, walked_at};
 
 use crate::own_blocks::OwnBlocks;
@@ -44,8 +44,7 @@ impl<'a> Model for Seat<'a> {
 impl<'a> Seat<'a> {
     /// The seat of a helper that has done nothing yet.
     pub fn new(alloc: Global, table: &'a RaceTable, helper: Helper, kind: Kind, limit: u64) -> Self
-        requires own { helper.table ≡ table.now.table }
-        requires fresh { helper.done ≡ empty 1 }
+        requires new { IsNew table.now helper }
         requires few { limit ≤ 2 ^ 20 }
         ensures { result ≡ record { kind = kind; limit = limit; board = table.now; done = helper.done } }
     {
@@ -109,15 +108,8 @@ impl<'a> Seat<'a> {
     // The word of the place of a cell: a new one in a space, unless it has one.
     #[inline(always)]
     fn claim_place(&mut self, cell: u64, space: u64) -> Result<u64, CollectFault>
-        requires inside { cell < self.now.board.counts.cells }
-        requires moved { 64 * self.now.board.counts.kept ≤ cell }
-        requires space { space < 2 }
-        ensures added { AddsWins (IsWinFor cell space) (walked_at self.entry.now) (walked_at self.exit.now) }
-        ensures grows { KnowsMore (HasPlaces self.entry.now.done) (HasPlaces self.exit.now.done) }
-        ensures met { OnOk result (Contains (cells_met self.exit.now.done) cell) }
-        ensures known { IfOk result (λ word. (to : ℕ → PlaceOf) → HasPlaces self.exit.now.done to → to cell ≡ place_in word) }
-        ensures link { IfOk result IsLink }
-        ensures full { IfErr result (λ fault. fault ≡ CollectFault.HeapFull → HasClaimedPast self.exit.now.limit self.exit.now.done) }
+        requires { MayClaim (walked_at self.now) cell space }
+        ensures { ClaimsCell walked_at (λ s. HasPlaces s.done) (λ s. HasClaimedPast s.limit s.done) cell space self.entry.now self.exit.now result }
     {
         let word = self.winner.look_word(self.table, cell);
         if word != 0 {
@@ -129,16 +121,9 @@ impl<'a> Seat<'a> {
     // Gives a cell that has no place the next one of a space, unless another helper does so first, and answers its word.
     #[inline(always)]
     fn give_word(&mut self, cell: u64, space: u64) -> Result<u64, CollectFault>
-        requires inside { cell < self.now.board.counts.cells }
-        requires moved { 64 * self.now.board.counts.kept ≤ cell }
-        requires space { space < 2 }
+        requires claim { MayClaim (walked_at self.now) cell space }
         requires unmet { has_met self.now.done cell ≡ false }
-        ensures added { AddsWins (IsWinFor cell space) (walked_at self.entry.now) (walked_at self.exit.now) }
-        ensures grows { KnowsMore (HasPlaces self.entry.now.done) (HasPlaces self.exit.now.done) }
-        ensures met { OnOk result (Contains (cells_met self.exit.now.done) cell) }
-        ensures known { IfOk result (λ word. (to : ℕ → PlaceOf) → HasPlaces self.exit.now.done to → to cell ≡ place_in word) }
-        ensures link { IfOk result IsLink }
-        ensures full { IfErr result (λ fault. fault ≡ CollectFault.HeapFull → HasClaimedPast self.exit.now.limit self.exit.now.done) }
+        ensures { ClaimsCell walked_at (λ s. HasPlaces s.done) (λ s. HasClaimedPast s.limit s.done) cell space self.entry.now self.exit.now result }
     {
         if space == AGED {
             self.aged

@@ -1,5 +1,5 @@
 //! A helper with the list of what it has won.
-ghost use Rattle.std.specs.Prelude.{◌≡◌, ◌≢◌, ◌*◌, ◌<◌, ◌≤◌, false, All, IfOk, IsTrue, [], length};
+ghost use Rattle.std.specs.Prelude.{◌≡◌, ◌≢◌, ◌<◌, false, All, IfOk, IsTrue, [], length};
 ghost use Rattle.std.specs.Result.{OnErr};
 ghost use Rattle.tg_word.specs.Word.{IsPlace, place_in};
 ghost use Rattle.tg_race.specs.Conditions.{blocks_of, can_claim_block, can_claim_roots, can_use};
@@ -8,6 +8,7 @@ ghost use Rattle.tg_race.specs.Race.{with_claimed_block, with_chunk, with_seen, 
 ghost use Rattle.tg_evac.specs.Claims.{win_at};
 ghost use Rattle.tg_evac.specs.Claimers.{IsLink};
 ghost use Rattle.tg_parallel.specs.Parts.{wins_of};
+ghost use Rattle.tg_parallel.specs.Seats.{HasWord};
 
 use std::alloc::{AllocError, Global};
 use std::marker::Model;
@@ -84,8 +85,7 @@ impl Winner {
     #[inline(always)]
     pub fn look_word(&mut self, table: &RaceTable, cell: u64) -> u64
         requires own { self.old.table ≡ table.now.table }
-        requires inside { cell < table.now.counts.cells }
-        requires moved { 64 * table.now.counts.kept ≤ cell }
+        requires word { HasWord table.now cell }
         ensures none { result ≡ 0 → self.new ≡ self.old }
         ensures some { result ≢ 0 → self.new ≡ record self.old { done = with_seen self.old.done (cell, place_in result) } }
         ensures place { result ≢ 0 → IsPlace (place_in result) }
@@ -100,8 +100,7 @@ impl Winner {
     #[inline(always)]
     pub fn claim_word(&mut self, table: &RaceTable, cell: u64, word: u64) -> Result<u64, AllocError>
         requires own { self.old.table ≡ table.now.table }
-        requires inside { cell < table.now.counts.cells }
-        requires moved { 64 * table.now.counts.kept ≤ cell }
+        requires word { HasWord table.now cell }
         requires place { IsPlace (place_in word) }
         requires link { IsLink word }
         requires allowed { IsTrue (can_use self.old.done (place_in word)) }

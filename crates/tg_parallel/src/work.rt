@@ -1,10 +1,7 @@
 //! The work of a helper: chunks of roots are claimed until there are none left, and what they lead to is copied.
-ghost use Rattle.std.specs.Prelude.{◌≡◌, ℕ, ◌*◌, ◌<◌, ◌≤◌, [], List, All, IfErr, IfOk, OnOk, length};
-ghost use Rattle.tg_space.specs.Soundness.{IsRootIn};
-ghost use Rattle.tg_race.specs.Race.{empty, past};
-ghost use Rattle.tg_evac.specs.Claims.{HavePointers};
-ghost use Rattle.tg_parallel.specs.Parts.{AreCountsOf, AreEarned, HasClaimedPast, roots_of_chunk};
-ghost use Rattle.tg_parallel.specs.Seats.{HasCopied, HasDrawn, IsSameSeat};
+ghost use Rattle.std.specs.Prelude.{◌≡◌, ℕ, ◌*◌, ◌<◌, List, OnOk, length};
+ghost use Rattle.tg_parallel.specs.Parts.{AreEarned, roots_of_chunk};
+ghost use Rattle.tg_parallel.specs.Seats.{HasCopied, HasDrawn, HasWorked, HasWorkedAll, MayBegin, MayWork};
 
 use crate::gate::Gate;
 use crate::seat::Seat;
@@ -30,16 +27,8 @@ pub fn work<G: Gate>(
     gate: &G,
     spare: Vec<Block>,
 ) -> Result<Copies, CollectFault>
-    requires pointers { HavePointers spaces.now.spaces }
-    requires roots { All (IsRootIn spaces.now.spaces) roots.now }
-    requires kind { seat.now.kind ≡ kind }
-    requires counts { AreCountsOf kind spaces.now.spaces roots.now seat.now.board.counts }
-    requires fresh { seat.now.done ≡ empty 1 }
-    ensures same { IsSameSeat seat.entry.now seat.exit.now }
-    ensures earned { AreEarned kind spaces.now.spaces roots.now seat.exit.now.done }
-    ensures last { OnOk result (0 < past seat.exit.now.board.counts seat.exit.now.done) }
-    ensures copied { IfOk result (λ copies. HasCopied kind spaces.now.spaces roots.now seat.exit.now.done.chunks seat.exit.now copies.scanned copies.aged copies.old) }
-    ensures full { IfErr result (λ fault. fault ≡ CollectFault.HeapFull → HasClaimedPast seat.exit.now.limit seat.exit.now.done) }
+    requires { MayBegin kind spaces.now.spaces roots.now seat.now }
+    ensures { HasWorkedAll kind spaces.now.spaces roots.now seat.entry.now seat.exit.now result }
 {
     match kind {
         Kind::Full => work_kind(alloc, seat, number, spaces, roots, Kind::Full, gate, spare),
@@ -68,16 +57,8 @@ fn work_kind<G: Gate>(
     gate: &G,
     spare: Vec<Block>,
 ) -> Result<Copies, CollectFault>
-    requires pointers { HavePointers spaces.now.spaces }
-    requires roots { All (IsRootIn spaces.now.spaces) roots.now }
-    requires kind { seat.now.kind ≡ kind }
-    requires counts { AreCountsOf kind spaces.now.spaces roots.now seat.now.board.counts }
-    requires fresh { seat.now.done ≡ empty 1 }
-    ensures same { IsSameSeat seat.entry.now seat.exit.now }
-    ensures earned { AreEarned kind spaces.now.spaces roots.now seat.exit.now.done }
-    ensures last { OnOk result (0 < past seat.exit.now.board.counts seat.exit.now.done) }
-    ensures copied { IfOk result (λ copies. HasCopied kind spaces.now.spaces roots.now seat.exit.now.done.chunks seat.exit.now copies.scanned copies.aged copies.old) }
-    ensures full { IfErr result (λ fault. fault ≡ CollectFault.HeapFull → HasClaimedPast seat.exit.now.limit seat.exit.now.done) }
+    requires { MayBegin kind spaces.now.spaces roots.now seat.now }
+    ensures { HasWorkedAll kind spaces.now.spaces roots.now seat.entry.now seat.exit.now result }
 {
     let mut copies = Copies::new(alloc, spare)?;
     let chunks = (roots.len() as u64).div_ceil(CHUNK);
@@ -101,18 +82,13 @@ fn copy_chunk(
     chunk: u64,
     copies: &mut Copies,
 ) -> Result<(), CollectFault>
-    requires pointers { HavePointers spaces.now.spaces }
-    requires roots { All (IsRootIn spaces.now.spaces) roots.now }
-    requires kind { seat.now.kind ≡ kind }
-    requires counts { AreCountsOf kind spaces.now.spaces roots.now seat.now.board.counts }
+    requires seat { MayWork kind spaces.now.spaces roots.now seat.now }
     requires inside { 8 * chunk < length roots.now }
     requires earned { AreEarned kind spaces.now.spaces roots.now seat.now.done }
     requires drawn { (before : List ℕ) × HasDrawn before chunk seat.now × HasCopied kind spaces.now.spaces roots.now before seat.now copies.now.scanned copies.now.aged copies.now.old }
-    ensures same { IsSameSeat seat.entry.now seat.exit.now }
+    ensures worked { HasWorked kind spaces.now.spaces roots.now seat.entry.now seat.exit.now result }
     ensures chunks { seat.exit.now.done.chunks ≡ seat.entry.now.done.chunks }
-    ensures earned { AreEarned kind spaces.now.spaces roots.now seat.exit.now.done }
     ensures copied { OnOk result (HasCopied kind spaces.now.spaces roots.now seat.exit.now.done.chunks seat.exit.now copies.exit.now.scanned copies.exit.now.aged copies.exit.now.old) }
-    ensures full { IfErr result (λ fault. fault ≡ CollectFault.HeapFull → HasClaimedPast seat.exit.now.limit seat.exit.now.done) }
 {
     walk(seat, spaces, kind, chunk_of(roots, chunk), copies)
 }

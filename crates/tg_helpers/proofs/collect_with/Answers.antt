@@ -15,8 +15,8 @@ pub returns-clause-blocks : goal.returns-clause-blocks
 returns-clause-blocks g c =
     let made = c.in_ok-copied.copied in
     let kind = c.args.kind in
-    let few = subst (λ (t : SpaceTable). AreFewBlocks t.limits.space_blocks (kept_blocks kind t.spaces) c.args.helpers made.forward.words made.adoption.aged made.adoption.old) c.spaces.ensures c.in_ok-copied.ensures.few in
-    let moved = subst (λ (t : SpaceTable). copies_in made.forward.words 0 + copies_in made.forward.words 1 ≤ used_cells kind t.spaces) c.spaces.ensures c.in_ok-copied.ensures.moved in
+    let few = subst (λ (t : SpaceTable). AreFewBlocks t.limits.space_blocks (kept_blocks kind t.spaces) c.args.helpers made.forward.words made.adoption.aged made.adoption.old) c.spaces.ensures c.in_ok-copied.ensures.collects.few in
+    let moved = subst (λ (t : SpaceTable). copies_in made.forward.words 0 + copies_in made.forward.words 1 ≤ used_cells kind t.spaces) c.spaces.ensures c.in_ok-copied.ensures.collects.moved in
     let adopted = c.in_ok-settle.ensures.adopted in
     let before = c.take_spare-spare.new.self.heap in
     let after = c.settle.new.self.heap.table in
@@ -33,7 +33,7 @@ settle-requires g c =
     let made = c.in_ok-copied.copied in
     let heap = c.take_spare-spare.new.self.heap in
     let over_heap : IsCollection kind heap.table.spaces c.deref.result.now made.forward.words made.adoption.aged made.adoption.old made.remembered.places =
-    subst (λ (t : SpaceTable). IsCollection kind t.spaces c.deref.result.now made.forward.words made.adoption.aged made.adoption.old made.remembered.places) c.spaces.ensures c.in_ok-copied.ensures.collected in
+    subst (λ (t : SpaceTable). IsCollection kind t.spaces c.deref.result.now made.forward.words made.adoption.aged made.adoption.old made.remembered.places) c.spaces.ensures c.in_ok-copied.ensures.collects.collected in
     let collected : IsCollection kind heap.table.spaces c.in_ok-roots.roots.items made.forward.words made.adoption.aged made.adoption.old made.remembered.places =
     subst (λ (roots : List Root). IsCollection kind heap.table.spaces roots made.forward.words made.adoption.aged made.adoption.old made.remembered.places) c.deref.ensures.value over_heap in
     (c.in_ok-roots.ensures.roots made.forward.words made.adoption.aged made.adoption.old made.remembered.places).1 collected
@@ -45,7 +45,7 @@ returns-in_err-copied-clause-full g c is =
     let p = err_from_is_err_and c.from_residual-in_err-copied.result c.from_residual-in_err-copied.ensures.1 in
     let told = p.1 in let why = p.2 in
     subst (λ (state : StoreState). LacksRoomToCollect kind c.args.helpers state.heap) c.take_spare-spare.ensures
-    (lacks_from kind c.args.helpers heap _ c.deref.result.now c.in_ok-roots.roots.items c.spaces.ensures c.deref.ensures.value c.in_ok-roots.ensures.targets (c.in_err-copied.ensures.full cc))
+    (lacks_from kind c.args.helpers heap _ c.deref.result.now c.in_ok-roots.roots.items c.spaces.ensures c.deref.ensures.value c.in_ok-roots.ensures.targets (c.in_err-copied.ensures.collects.full cc))
 
 pub returns-clause-history : goal.returns-clause-history
 returns-clause-history g c =

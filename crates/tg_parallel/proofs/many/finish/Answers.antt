@@ -9,6 +9,7 @@ use Rattle.tg_evac.specs.declared.fault.CollectFault.TheVariants.{HeapFull}
 use Rattle.tg_parallel.specs.declared.part.Part.{Part}
 use Rattle.tg_parallel.specs.Parts.{IsPart, IsPastLimit}
 use Rattle.tg_parallel.specs.Whole.{IsWholePart}
+use Rattle.tg_evac.proofs.Passing.{collects_refused}
 use Rattle.tg_parallel.proofs.Finish.{finished}
 use Rattle.tg_parallel.proofs.Merging.{err_at, ok_at}
 use Rattle.tg_parallel.proofs.Room.{few_blocks, lacks, moved_few}
@@ -24,33 +25,37 @@ whole c =
     let v = c.args.helped.helper.done in let p = c.in-Ok.part in
     record {
       counts = c.requires.counts;
-      closed = subst (λ (ws : List ℕ). IsClosedTable c.args.table.counts ws v) (sym (words_are c.args.table.counts.kept c.args.plan.kept (c.requires.counts.kept ∙ sym c.requires.plan.kept) c.close.result c.of_closed-forward.result c.of_closed-forward.ensures)) c.close.ensures;
+      closed = subst (λ (ws : List ℕ). IsClosedTable c.args.table.counts ws v) (sym (words_are c.args.table.counts.kept c.args.plan.kept (c.requires.counts.kept ∙ sym c.requires.plan.planned.kept) c.close.result c.of_closed-forward.result c.of_closed-forward.ensures)) c.close.ensures;
       last = ok_at (λ (_ : Part). 0 < past c.args.table.counts v) c.args.helped.part p c.in-Ok.is c.requires.helped.last;
       earned = c.requires.helped.earned;
       part = ok_at (λ (q : Part). IsPart c.args.plan.kind c.args.spaces.now c.args.roots.now v q.aged.items q.old.items) c.args.helped.part p c.in-Ok.is c.requires.helped.whole;
     }
 
-pub returns-in_ok-put_together-in-Ok-clause-collected : goal.returns-in_ok-put_together-in-Ok-clause-collected
-returns-in_ok-put_together-in-Ok-clause-collected c =
-    let v = c.args.helped.helper.done in let p = c.in-Ok.part in let made = c.in_ok-put_together-in-Ok.field-0 in
-    subst (λ (ws : List ℕ). IsCollection c.args.plan.kind c.args.spaces.now.spaces c.args.roots.now ws made.adoption.aged made.adoption.old made.remembered.places) (sym c.in_ok-put_together-in-Ok.ensures.words)
-    (finished c.args.plan.kind c.args.spaces.now c.args.roots.now c.args.table.counts c.of_closed-forward.result.words v p.aged.items p.old.items c.requires.spaces c.requires.limit (whole c)
-    made.adoption.aged made.adoption.old c.in_ok-put_together-in-Ok.ensures.merged made.remembered.places c.in_ok-put_together-in-Ok.ensures.noted)
+pub returns-in_ok-put_together-in-Ok : goal.returns-in_ok-put_together-in-Ok
+returns-in_ok-put_together-in-Ok c =
+    let kind = c.args.plan.kind in let t = c.args.spaces.now in let roots = c.args.roots.now in let k = c.args.table.counts in
+    let v = c.args.helped.helper.done in let p = c.in-Ok.part in let made = c.in_ok-put_together-in-Ok.field-0 in let told = c.in_ok-put_together-in-Ok.ensures in
+    let words = c.of_closed-forward.result.words in let all = whole c in
+    record {
+      collected = subst (λ (ws : List ℕ). IsCollection kind t.spaces roots ws made.adoption.aged made.adoption.old made.remembered.places) (sym told.words)
+          (finished kind t roots k words v p.aged.items p.old.items c.requires.plan.spaces c.requires.plan.limit all made.adoption.aged made.adoption.old told.merged made.remembered.places told.noted);
+      moved = subst (λ (ws : List ℕ). copies_in ws 0 + copies_in ws 1 ≤ used_cells kind t.spaces) (sym told.words)
+          (moved_few kind t roots k words v c.requires.plan.spaces c.requires.plan.sound c.requires.counts all.closed all.earned);
+      few = subst (λ (ws : List ℕ). AreFewBlocks t.limits.space_blocks (kept_blocks kind t.spaces) k.helpers ws made.adoption.aged made.adoption.old) (sym told.words)
+          (few_blocks kind t roots k words v p.aged.items p.old.items all made.adoption.aged made.adoption.old told.merged);
+      full = tt;
+    }
 
-pub returns-in_ok-put_together-in-Ok-clause-moved : goal.returns-in_ok-put_together-in-Ok-clause-moved
-returns-in_ok-put_together-in-Ok-clause-moved c =
-    let all = whole c in
-    subst (λ (ws : List ℕ). copies_in ws 0 + copies_in ws 1 ≤ used_cells c.args.plan.kind c.args.spaces.now.spaces) (sym c.in_ok-put_together-in-Ok.ensures.words)
-    (moved_few c.args.plan.kind c.args.spaces.now c.args.roots.now c.args.table.counts c.of_closed-forward.result.words c.args.helped.helper.done c.requires.spaces c.requires.sound c.requires.counts all.closed all.earned)
+pub returns-in_err-put_together-in-Ok : goal.returns-in_err-put_together-in-Ok
+returns-in_err-put_together-in-Ok c = collects_refused c.from_residual.result _ c.from_residual.ensures.1 (λ is. absurd cc)
 
-pub returns-in_ok-put_together-in-Ok-clause-few : goal.returns-in_ok-put_together-in-Ok-clause-few
-returns-in_ok-put_together-in-Ok-clause-few c =
-    let v = c.args.helped.helper.done in let p = c.in-Ok.part in let made = c.in_ok-put_together-in-Ok.field-0 in
-    subst (λ (ws : List ℕ). AreFewBlocks c.args.spaces.now.limits.space_blocks (kept_blocks c.args.plan.kind c.args.spaces.now.spaces) c.args.table.counts.helpers ws made.adoption.aged made.adoption.old) (sym c.in_ok-put_together-in-Ok.ensures.words)
-    (few_blocks c.args.plan.kind c.args.spaces.now c.args.roots.now c.args.table.counts c.of_closed-forward.result.words v p.aged.items p.old.items (whole c)
-    made.adoption.aged made.adoption.old c.in_ok-put_together-in-Ok.ensures.merged)
-
-pub returns-in-Err-clause-full : goal.returns-in-Err-clause-full
-returns-in-Err-clause-full c = λ is.
-    let past = err_at (λ (fault : CollectFault). fault ≡ HeapFull → IsPastLimit c.args.spaces.now c.args.helped.helper.done) c.args.helped.part c.in-Err.fault c.in-Err.is c.requires.helped.full is in
-    lacks c.args.plan.kind c.args.spaces.now c.args.roots.now c.args.table.counts _ c.args.helped.helper.done c.requires.counts c.close.ensures c.requires.helped.earned past
+pub returns-in-Err : goal.returns-in-Err
+returns-in-Err c =
+    record {
+      collected = tt;
+      moved = tt;
+      few = tt;
+      full = λ is.
+          let past = err_at (λ (fault : CollectFault). fault ≡ HeapFull → IsPastLimit c.args.spaces.now c.args.helped.helper.done) c.args.helped.part c.in-Err.fault c.in-Err.is c.requires.helped.full is in
+          lacks c.args.plan.kind c.args.spaces.now c.args.roots.now c.args.table.counts _ c.args.helped.helper.done c.requires.counts c.close.ensures c.requires.helped.earned past;
+    }

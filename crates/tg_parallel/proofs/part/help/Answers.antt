@@ -1,4 +1,4 @@
-use Rattle.std.proofs.Common.{◌≡◌, ◌<◌, List, ℕ, true, false, ap, sym, subst, ◌∙◌}
+use Rattle.std.proofs.Common.{rules, ◌≡◌, ◌<◌, List, ℕ, true, false, ap, sym, subst, ◌∙◌}
 use Rattle.std.specs.List.{All}
 use Rattle.tg_space.specs.SpaceTable.{BlockLimits}
 use Rattle.tg_space.proofs.Tables.{table_list}
@@ -6,40 +6,52 @@ use Rattle.tg_race.specs.declared.record.Record.{Record}
 use Rattle.tg_race.specs.Race.{past}
 use Rattle.tg_race.specs.Seats.{Board}
 use Rattle.tg_evac.proofs.Sound.{have_pointers}
-use Rattle.tg_parallel.specs.Parts.{AreEarned, AreOnce, HasClaimedPast, IsPart}
+use Rattle.tg_parallel.specs.Parts.{AreCountsOf, AreEarned, AreOnce, HasClaimedPast, IsPart}
 use Rattle.tg_parallel.specs.Seats.{AreFilled, Sitting}
 use Rattle.tg_parallel.proofs.Handing.{aged_room, err_weaker, filled_once, is_part, ok_always, old_room, parts_are, past_limit}
 use Rattle.tg_parallel.proofs.part.help.Goals as goal
 
-pub work-worked-requires-clause-pointers : goal.work-worked-requires-clause-pointers
-work-worked-requires-clause-pointers g c = λ _ _. have_pointers c.args.spaces.now.spaces c.args.roots.now c.requires.sound (table_list c.args.spaces.now c.limits.ensures.table)
+pub work-worked-requires : goal.work-worked-requires
+work-worked-requires g c =
+    let h = c.args.spaces.now.spaces in let seat = c.new-seat.ensures in (
+      search rules,
+      record {
+        seat = record {
+          pointers = have_pointers h c.args.roots.now c.requires.table.sound (table_list c.args.spaces.now c.limits.ensures.table);
+          roots_held = c.requires.table.sound.roots_held;
+          same = ap (λ (x : Sitting). x.kind) seat;
+          counts = subst (λ (b : Board). AreCountsOf c.args.kind h c.args.roots.now b.counts) (sym (ap (λ (x : Sitting). x.board) seat)) c.requires.table.counts;
+        };
+        fresh = ap (λ (x : Sitting). x.done) seat ∙ c.requires.new.done;
+      },
+    )
 
 pub of-requires-clause-aged_room : goal.of-requires-clause-aged_room
 of-requires-clause-aged_room g c =
     let s = c.work-worked.new.seat in let e = c.into_parts-helper.ensures in
-    let kind = c.in-Ok.ensures.same.kind ∙ ap (λ (x : Sitting). x.kind) c.new-seat.ensures in
+    let kind = c.in-Ok.ensures.worked.same.kind ∙ ap (λ (x : Sitting). x.kind) c.new-seat.ensures in
     aged_room c.args.kind c.args.spaces.now c.args.roots.now s kind e.places c.in-Ok.ensures.copied c.into_parts-helper.result.1.items c.into_parts-helper.result.2.items e.aged.0 e.old.0 e.aged.1 e.old.1
 
 pub of-requires-clause-old_room : goal.of-requires-clause-old_room
 of-requires-clause-old_room g c =
     let s = c.work-worked.new.seat in let e = c.into_parts-helper.ensures in
-    let kind = c.in-Ok.ensures.same.kind ∙ ap (λ (x : Sitting). x.kind) c.new-seat.ensures in
+    let kind = c.in-Ok.ensures.worked.same.kind ∙ ap (λ (x : Sitting). x.kind) c.new-seat.ensures in
     old_room c.args.kind c.args.spaces.now c.args.roots.now s kind e.places c.in-Ok.ensures.copied c.into_parts-helper.result.1.items c.into_parts-helper.result.2.items e.aged.0 e.old.0 e.aged.1 e.old.1
 
 pub returns-in-Ok-clause-helped : goal.returns-in-Ok-clause-helped
 returns-in-Ok-clause-helped g c =
     let s = c.work-worked.new.seat in let e = c.into_parts-helper.ensures in
     let t = c.args.spaces.now in let h = t.spaces in let roots = c.args.roots.now in let kind = c.args.kind in
-    let same_kind : s.kind ≡ kind = c.in-Ok.ensures.same.kind ∙ ap (λ (x : Sitting). x.kind) c.new-seat.ensures in
-    let board : s.board ≡ c.args.table.now = c.in-Ok.ensures.same.board ∙ ap (λ (x : Sitting). x.board) c.new-seat.ensures in
+    let same_kind : s.kind ≡ kind = c.in-Ok.ensures.worked.same.kind ∙ ap (λ (x : Sitting). x.kind) c.new-seat.ensures in
+    let board : s.board ≡ c.args.table.now = c.in-Ok.ensures.worked.same.board ∙ ap (λ (x : Sitting). x.board) c.new-seat.ensures in
     let limit : c.space_blocks-limit.result ≡ t.limits.space_blocks = c.space_blocks-limit.ensures.value ∙ ap (λ (l : BlockLimits). l.space_blocks) c.limits.ensures.limits in
     let aged = c.deref.result.now in let old = c.deref-in-Ok.result.now in
     let in_aged : AreFilled true s.done aged e.aged.0 = subst (λ (l : List ℕ). AreFilled true s.done l e.aged.0) (sym c.deref.ensures.value) e.aged.1 in
     let in_old : AreFilled false s.done old e.old.0 = subst (λ (l : List ℕ). AreFilled false s.done l e.old.0) (sym c.deref-in-Ok.ensures.value) e.old.1 in
     record {
       seat = e.seat ∙ ap (λ (b : Board). b.table) board;
-      share = ap (λ (v : Record). v.share) e.done ∙ c.in-Ok.ensures.same.share ∙ ap (λ (x : Sitting). x.done.share) c.new-seat.ensures ∙ ap (λ (v : Record). v.share) c.requires.fresh;
-      earned = subst (λ (v : Record). AreEarned kind h roots v) (sym e.done) c.in-Ok.ensures.earned;
+      share = ap (λ (v : Record). v.share) e.done ∙ c.in-Ok.ensures.worked.same.share ∙ ap (λ (x : Sitting). x.done.share) c.new-seat.ensures ∙ ap (λ (v : Record). v.share) c.requires.new.done;
+      earned = subst (λ (v : Record). AreEarned kind h roots v) (sym e.done) c.in-Ok.ensures.worked.earned;
       last = ok_always c.of.result (subst (λ (v : Record). 0 < past c.args.table.now.counts v) (sym e.done) (subst (λ (b : Board). 0 < past b.counts s.done) board c.in-Ok.ensures.last));
       whole = parts_are c.of.result
           (λ part laid_aged laid_old few_aged few_old. subst (λ (v : Record). IsPart kind t roots v part.aged.items part.old.items) (sym e.done)

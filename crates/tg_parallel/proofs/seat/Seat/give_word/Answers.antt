@@ -10,39 +10,43 @@ use Rattle.tg_parallel.proofs.seat.Seat.give_word.Goals as goal
 
 pub invariant_of-self : goal.invariant_of-self
 invariant_of-self c =
-    let s = c.self.inside in let e = c.word_of.ensures in
-    let inside = subst (λ (x : Sitting). c.args.cell < x.board.counts.cells) (sym c.self.view_is) c.requires.inside in
+    let s = c.self.inside in let e = c.word_of.ensures.gives in let stay = e.stay in
+    let inside = subst (λ (x : Sitting). c.args.cell < x.board.counts.cells) (sym c.self.view_is) c.requires.claim.inside in
     let unmet = subst (λ (x : Sitting). has_met x.done c.args.cell ≡ false) (sym c.self.view_is) c.requires.unmet in
-    seat_aged s.limit s.table.now s.winner c.word_of.new.winner s.aged s.old c.self.invariant e.seat c.args.cell inside unmet c.word_of.new.self e.space e.finds e.filled e.other e.next
+    seat_aged s.limit s.table.now s.winner c.word_of.new.winner s.aged s.old c.self.invariant stay.seat c.args.cell inside unmet c.word_of.new.self stay.space e.finds stay.filled stay.other e.next
 
 pub invariant_of-self-else-space-eq-AGED : goal.invariant_of-self-else-space-eq-AGED
 invariant_of-self-else-space-eq-AGED c =
-    let s = c.self.inside in let e = c.word_of-else-space-eq-AGED.ensures in
-    let inside = subst (λ (x : Sitting). c.args.cell < x.board.counts.cells) (sym c.self.view_is) c.requires.inside in
+    let s = c.self.inside in let e = c.word_of-else-space-eq-AGED.ensures.gives in let stay = e.stay in
+    let inside = subst (λ (x : Sitting). c.args.cell < x.board.counts.cells) (sym c.self.view_is) c.requires.claim.inside in
     let unmet = subst (λ (x : Sitting). has_met x.done c.args.cell ≡ false) (sym c.self.view_is) c.requires.unmet in
-    seat_old s.limit s.table.now s.winner c.word_of-else-space-eq-AGED.new.winner s.aged s.old c.self.invariant e.seat c.args.cell inside unmet c.word_of-else-space-eq-AGED.new.self e.space e.finds e.filled e.other e.next
+    seat_old s.limit s.table.now s.winner c.word_of-else-space-eq-AGED.new.winner s.aged s.old c.self.invariant stay.seat c.args.cell inside unmet c.word_of-else-space-eq-AGED.new.self stay.space e.finds stay.filled stay.other e.next
 
-pub returns-then-space-eq-AGED-clause-added : goal.returns-then-space-eq-AGED-clause-added
-returns-then-space-eq-AGED-clause-added c =
-    let s = c.self.inside in let w = c.word_of.new.winner.done in
+pub returns-then-space-eq-AGED : goal.returns-then-space-eq-AGED
+returns-then-space-eq-AGED c =
+    let s = c.self.inside in let w = c.word_of.new.winner.done in let e = c.word_of.ensures.gives in
     let right : c.args.space ≡ space_of_age s.aged.aged = c.if-space-eq-AGED.true ∙ ap space_of_age (sym c.self.invariant.is_aged) in
-    subst (λ (x : Sitting). AddsWins (IsWinFor c.args.cell c.args.space) (walked_at x) (walked_at (record { kind = s.kind; limit = s.limit; board = s.table.now; done = w }))) c.self.view_is
-    (adds_found c.args.cell s.aged.aged s.winner.done w c.word_of.ensures.finds s.kind s.limit s.table.now c.args.space right)
+    record {
+      added = subst (λ (x : Sitting). AddsWins (IsWinFor c.args.cell c.args.space) (walked_at x) (walked_at (record { kind = s.kind; limit = s.limit; board = s.table.now; done = w }))) c.self.view_is
+          (adds_found c.args.cell s.aged.aged s.winner.done w e.finds s.kind s.limit s.table.now c.args.space right);
+      grows = λ to has. subst (λ (x : Sitting). HasPlaces x.done to) c.self.view_is (grows_more c.args.cell s.aged.aged s.winner.done w e.finds to has);
+      met = e.met;
+      known = e.known;
+      link = e.link;
+      full = c.word_of.ensures.full;
+    }
 
-pub returns-then-space-eq-AGED-clause-grows : goal.returns-then-space-eq-AGED-clause-grows
-returns-then-space-eq-AGED-clause-grows c to has =
-    let s = c.self.inside in
-    subst (λ (x : Sitting). HasPlaces x.done to) c.self.view_is (grows_more c.args.cell s.aged.aged s.winner.done c.word_of.new.winner.done c.word_of.ensures.finds to has)
-
-pub returns-else-space-eq-AGED-clause-added : goal.returns-else-space-eq-AGED-clause-added
-returns-else-space-eq-AGED-clause-added c =
-    let s = c.self.inside in let w = c.word_of-else-space-eq-AGED.new.winner.done in
-    let none : c.args.space ≡ 0 = (let two = c.requires.space in omega (arith, c.if-space-eq-AGED.false)) in
+pub returns-else-space-eq-AGED : goal.returns-else-space-eq-AGED
+returns-else-space-eq-AGED c =
+    let s = c.self.inside in let w = c.word_of-else-space-eq-AGED.new.winner.done in let e = c.word_of-else-space-eq-AGED.ensures.gives in
+    let none : c.args.space ≡ 0 = (let two = c.requires.claim.two in omega (arith, c.if-space-eq-AGED.false)) in
     let right : c.args.space ≡ space_of_age s.old.aged = none ∙ ap space_of_age (sym c.self.invariant.is_old) in
-    subst (λ (x : Sitting). AddsWins (IsWinFor c.args.cell c.args.space) (walked_at x) (walked_at (record { kind = s.kind; limit = s.limit; board = s.table.now; done = w }))) c.self.view_is
-    (adds_found c.args.cell s.old.aged s.winner.done w c.word_of-else-space-eq-AGED.ensures.finds s.kind s.limit s.table.now c.args.space right)
-
-pub returns-else-space-eq-AGED-clause-grows : goal.returns-else-space-eq-AGED-clause-grows
-returns-else-space-eq-AGED-clause-grows c to has =
-    let s = c.self.inside in
-    subst (λ (x : Sitting). HasPlaces x.done to) c.self.view_is (grows_more c.args.cell s.old.aged s.winner.done c.word_of-else-space-eq-AGED.new.winner.done c.word_of-else-space-eq-AGED.ensures.finds to has)
+    record {
+      added = subst (λ (x : Sitting). AddsWins (IsWinFor c.args.cell c.args.space) (walked_at x) (walked_at (record { kind = s.kind; limit = s.limit; board = s.table.now; done = w }))) c.self.view_is
+          (adds_found c.args.cell s.old.aged s.winner.done w e.finds s.kind s.limit s.table.now c.args.space right);
+      grows = λ to has. subst (λ (x : Sitting). HasPlaces x.done to) c.self.view_is (grows_more c.args.cell s.old.aged s.winner.done w e.finds to has);
+      met = e.met;
+      known = e.known;
+      link = e.link;
+      full = c.word_of-else-space-eq-AGED.ensures.full;
+    }

@@ -5,9 +5,9 @@ use Rattle.tg_parallel.proofs.seat.Seat.new.Goals as goal
 
 pub invariant_of-result : goal.invariant_of-result
 invariant_of-result c =
-    let done : c.new.result.done ≡ _ = ap (λ (x : Seated). x.done) c.new.ensures ∙ c.requires.fresh in
+    let done : c.new.result.done ≡ _ = ap (λ (x : Seated). x.done) c.new.ensures ∙ c.requires.new.done in
     record {
-      own = ap (λ (x : Seated). x.table) c.new.ensures ∙ c.requires.own;
+      own = ap (λ (x : Seated). x.table) c.new.ensures ∙ c.requires.new.seat;
       few = c.requires.few;
       differ = rw done (λ i j d lt low. absurd (omega arith));
       inside = rw done (λ k d low. absurd (omega arith));

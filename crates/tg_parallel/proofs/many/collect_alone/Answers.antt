@@ -1,0 +1,16 @@
+use Rattle.std.proofs.Common.{ℕ, ap, subst}
+use Rattle.tg_space.specs.declared.kind.Kind.{Kind}
+use Rattle.tg_race.specs.declared.record.Counts.{Counts}
+use Rattle.tg_evac.specs.declared.fault.CollectFault.TheVariants.{HeapFull}
+use Rattle.tg_evac.specs.Collects.{Collects}
+use Rattle.tg_evac.proofs.Passing.{collects_refused}
+use Rattle.tg_parallel.proofs.many.collect_alone.Goals as goal
+
+pub returns-in_err-table : goal.returns-in_err-table
+returns-in_err-table g c = collects_refused c.from_residual.result _ c.from_residual.ensures.1 (λ is. absurd cc)
+
+pub returns : goal.returns
+returns g c =
+    let t = c.args.spaces.now in let roots = c.args.roots.now in let helpers = c.in_ok-table.table.counts.helpers in
+    subst (λ (n : ℕ). Collects HeapFull c.args.kind t roots n n c.finish.result) (ap (λ (k : Counts). k.helpers) c.in_ok-table.ensures.counts)
+    (subst (λ (kind : Kind). Collects HeapFull kind t roots helpers helpers c.finish.result) c.of-plan.ensures.plan.same c.finish.ensures)
