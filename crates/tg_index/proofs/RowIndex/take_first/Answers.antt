@@ -1,8 +1,8 @@
-use Rattle.std.proofs.Common.{◌≡◌, ◌+◌, ℕ, ap, subst, arith}
+use Rattle.std.proofs.Common.{◌+◌, ℕ, ap, subst, arith}
 use Rattle.std.specs.List.{Contains}
 use Rattle.tg_index.specs.Bits.{numbers_of}
 use Rattle.tg_index.specs.Slots.{Slots, IsTaken}
-use Rattle.tg_index.proofs.BitLemmas.{bit_inside, none_number}
+use Rattle.tg_index.proofs.BitLemmas.{none_number}
 use Rattle.tg_index.proofs.SlotLemmas.{taken_hole, taken_next, vacant_next, within_less, within_next}
 use Rattle.tg_index.proofs.RowIndex.take_first.Goals as goal
 

@@ -1,5 +1,3 @@
-use Rattle.std.proofs.Common.{◌≡◌, ℕ, arith, subst}
-use Rattle.tg_index.specs.Bits.{SetsBit}
 use Rattle.tg_index.proofs.BitLemmas.{marks_more}
 use Rattle.tg_index.proofs.holes.Holes.insert.Goals as goal
 
