@@ -1,5 +1,5 @@
 -- What comes of a whole script whose workers run their lines side by side.
-use Rattle.std.specs.Prelude.{◌≡◌, ◌⊎◌, ℕ, ◌+◌, ◌<◌, ◌≤◌, List, ◌++◌, length, Option, Some, None, Result, Ok, Err, IsOk}
+use Rattle.std.specs.Prelude.{◌≡◌, ◌⊎◌, ℕ, ◌+◌, ◌<◌, ◌≤◌, List, ◌++◌, length, Option, Some, None, Result, Ok, Err, IsOk, IfErr}
 use Rattle.tg_model.specs.Opened.{Plan, start_of}
 use Rattle.tg_journal.specs.History.{IsLegal}
 use Rattle.tg_journal.specs.declared.replay.AuditFault.{AuditFault}
@@ -104,6 +104,16 @@ HasRaced start bytes before (Err fault.WriteFailed) left after =
 HasRaced start bytes before (Err (fault.Script f)) left after = IsNotRun start bytes f left × (after ≡ Some before)
 HasRaced start bytes before (Err fault.AuditFailed) left after = ⊥
 HasRaced start bytes before (Err f) left after = (lines : List Line) × IsWhole start bytes lines left × (after ≡ Some before)
+
+-- A race from this start, by what its source and its sink tell: of the bytes that are left, how often it was asked and has failed, and
+-- of the bytes that were taken.
+pub record RacesFrom {S K T : Type 0} (left : S → Option (List ℕ)) (asks failures : S → ℕ) (taken : K → Option (List ℕ))
+    (source source' : S) (sink sink' : K) (start : Start) (result : Result T RaceFault) : Type 0 where
+  pub output : (bytes before : List ℕ) → left source ≡ Some bytes → taken sink ≡ Some before →
+      (rest : List ℕ) × (left source' ≡ Some rest) × HasRaced start bytes before result rest (taken sink')
+  pub due : IfErr result (IsRaceDue start)
+  pub asked : asks source' ≤ asks source + 1048577
+  pub read_failed : failures source' ≡ failures source + race_read_failures result
 
 -- ---- parts of it
 

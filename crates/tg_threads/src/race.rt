@@ -6,9 +6,9 @@ ghost use Rattle.tg_model.specs.Opened.{start_of};
 ghost use Rattle.tg_journal.specs.History.{IsAuditFault, IsLegal};
 ghost use Rattle.tg_text.specs.Sinks.{KeepsBytes};
 ghost use Rattle.tg_script.specs.Opening.{IsCommand};
-ghost use Rattle.tg_script.specs.Script.{start_with};
-ghost use Rattle.tg_shared.specs.Sessions.{AreFresh, AreSharedOut, AtSome, MayClose, count_of, sessions_made, start_of_store};
-ghost use Rattle.tg_threads.specs.Race.{EndsRace, HasRaced, IsBeforeWriting, IsRaceDue, OpensRace, race_read_failures, race_write_failures};
+ghost use Rattle.tg_script.specs.Script.{MayStart, start_with};
+ghost use Rattle.tg_shared.specs.Sessions.{AreFresh, AreSharedOut, AtSome, MayClose, MayShare, count_of, sessions_made};
+ghost use Rattle.tg_threads.specs.Race.{EndsRace, HasRaced, IsBeforeWriting, IsRaceDue, OpensRace, RacesFrom, race_read_failures, race_write_failures};
 ghost use Rattle.tg_threads.specs.Tasks.{AreRaced};
 ghost use Rattle.tg_weave.specs.Boxes.{boxed};
 
@@ -59,13 +59,8 @@ pub fn run_race<
     workers: Vec<Draft<P>>,
     stock: Vec<Draft<P>>,
 ) -> Result<(), RaceFault>
-    requires number { (1 ≤ settings.workers) × (settings.workers ≤ 64) }
-    requires workers { length workers.items ≡ settings.workers }
-    ensures output { (bytes before : List ℕ) → S.left source.old ≡ Some bytes → K.taken sink.old ≡ Some before →
-        (left : List ℕ) × (S.left source.new ≡ Some left) × HasRaced (start_with settings workers.items stock.items) bytes before result left (K.taken sink.new) }
-    ensures due { IfErr result (IsRaceDue (start_with settings workers.items stock.items)) }
-    ensures asked { S.asked source.new ≤ S.asked source.old + 1048577 }
-    ensures read_failed { S.failures source.new ≡ S.failures source.old + race_read_failures result }
+    requires startable { MayStart settings workers.items }
+    ensures raced { RacesFrom S.left S.asked S.failures K.taken source.old source.new sink.old sink.new (start_with settings workers.items stock.items) result }
     ensures write_failed { K.failures sink.old + race_write_failures result ≤ K.failures sink.new }
     ensures unfailed { OnOk result (K.failures sink.new ≡ K.failures sink.old) }
     ensures finished { K.finished sink.new ≡ true }
@@ -99,8 +94,7 @@ fn race<P: Payload + Send, S: Source, K: Sink, G: Turnstile + Sync, R: Threads +
     workers: Vec<Draft<P>>,
     stock: Vec<Draft<P>>,
 ) -> Result<(), RaceFault>
-    requires number { (1 ≤ settings.workers) × (settings.workers ≤ 64) }
-    requires workers { length workers.items ≡ settings.workers }
+    requires startable { MayStart settings workers.items }
     ensures output { (bytes before : List ℕ) → S.left source.old ≡ Some bytes → K.taken sink.old ≡ Some before →
         (left : List ℕ) × (S.left source.new ≡ Some left) × HasRaced (start_with settings workers.items stock.items) bytes before result left (K.taken sink.new) }
     ensures due { IfErr result (IsRaceDue (start_with settings workers.items stock.items)) }
@@ -140,8 +134,7 @@ fn open_race<P: Payload, S: Source, K: Sink>(
     settings: Settings,
     workers: Vec<Draft<P>>,
 ) -> Result<Opened<P>, RaceFault>
-    requires number { (1 ≤ settings.workers) × (settings.workers ≤ 64) }
-    requires workers { length workers.items ≡ settings.workers }
+    requires startable { MayStart settings workers.items }
     ensures new { IfOk result (λ opened. (opened.store.opening.workers ≡ settings.workers) × (opened.store.entries ≡ [])) }
     ensures commands { IfOk result (λ opened. All IsCommand opened.lines.items) }
     ensures output { (bytes : List ℕ) → S.left source.old ≡ Some bytes →
@@ -234,9 +227,7 @@ fn share<L: Round + Send + Sync, P: Payload + Send, G: Turnstile + Sync, R: Thre
     stock: Vec<Draft<P>>,
     lines: &[Line],
 ) -> Result<Raced<P>, RaceFault>
-    requires name { blank.name ≡ L.name }
-    requires parts { (blank.parts ≡ L.parts) × (blank.parts ≡ store.opening.limit + 1) }
-    requires start { start_of_store store ≡ L.start }
+    requires shareable { MayShare L.name L.parts L.start blank store }
     requires new { (1 ≤ store.opening.workers) × (store.entries ≡ []) }
     requires commands { All IsCommand lines.now }
     ensures raced { IfOk result (λ raced. (raced.store.opening ≡ store.opening) × AreRaced helpers store.opening.workers (boxed stock.items lines.now) raced.store.entries raced.told.items) }

@@ -3,29 +3,24 @@ use Rattle.tg_script.specs.Script.{start_with}
 use Rattle.tg_threads.proofs.RaceLaws.{race_ended, ended_due, ended_read, ended_write, ended_unfailed}
 use Rattle.tg_threads.proofs.race.run_race.Goals as goal
 
-pub returns-clause-output : goal.returns-clause-output
-returns-clause-output g c = λ bytes before known taken.
+pub returns-clause-raced : goal.returns-clause-raced
+returns-clause-raced g c =
     let start = start_with c.args.settings c.args.workers.items c.args.stock.items in
-    let s = g.K.Sink in
-    let had = c.race-outcome.ensures.output bytes before known taken in (
-      had.0,
-      had.1,
-      race_ended c.race-outcome.result c.finish.result start bytes before had.0 (s.taken c.race-outcome.new.sink) (s.taken c.finish.new.sink)
-          (s.failures c.race-outcome.new.sink) (s.failures c.finish.new.sink) had.2 c.finish.ensures.outcome,
-    )
-
-pub returns-clause-due : goal.returns-clause-due
-returns-clause-due g c =
-    let start = start_with c.args.settings c.args.workers.items c.args.stock.items in
-    let s = g.K.Sink in
-    ended_due start c.race-outcome.result c.finish.result (s.taken c.race-outcome.new.sink) (s.taken c.finish.new.sink) (s.failures c.race-outcome.new.sink) (s.failures c.finish.new.sink)
-    c.race-outcome.ensures.due c.finish.ensures.outcome
-
-pub returns-clause-read_failed : goal.returns-clause-read_failed
-returns-clause-read_failed g c =
     let s = g.K.Sink in
     let same = ended_read c.race-outcome.result c.finish.result (s.taken c.race-outcome.new.sink) (s.taken c.finish.new.sink) (s.failures c.race-outcome.new.sink) (s.failures c.finish.new.sink) c.finish.ensures.outcome in
-    c.race-outcome.ensures.read_failed ∙ ap (λ n. g.S.Source.failures c.args.source.now + n) (sym same)
+    record {
+      output = (λ bytes before known taken.
+          let had = c.race-outcome.ensures.output bytes before known taken in (
+            had.0,
+            had.1,
+            race_ended c.race-outcome.result c.finish.result start bytes before had.0 (s.taken c.race-outcome.new.sink) (s.taken c.finish.new.sink)
+                (s.failures c.race-outcome.new.sink) (s.failures c.finish.new.sink) had.2 c.finish.ensures.outcome,
+          ));
+      due = (ended_due start c.race-outcome.result c.finish.result (s.taken c.race-outcome.new.sink) (s.taken c.finish.new.sink) (s.failures c.race-outcome.new.sink) (s.failures c.finish.new.sink)
+          c.race-outcome.ensures.due c.finish.ensures.outcome);
+      asked = c.race-outcome.ensures.asked;
+      read_failed = c.race-outcome.ensures.read_failed ∙ ap (λ n. g.S.Source.failures c.args.source.now + n) (sym same);
+    }
 
 pub returns-clause-write_failed : goal.returns-clause-write_failed
 returns-clause-write_failed g c =
