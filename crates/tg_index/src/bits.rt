@@ -54,6 +54,7 @@ impl Bits {
     {
         word * BITS + self.words[word].trailing_zeros() as usize
     }
+
     /// The first word from one on that isn't 0, or the number of words.
     pub(crate) fn first_word(&self, from: usize) -> usize
         requires { from ≤ length self.now.words.items }
