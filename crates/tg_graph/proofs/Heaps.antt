@@ -25,10 +25,23 @@ use Rattle.tg_graph.specs.Steps.{ChangesTo}
 use Rattle.tg_graph.proofs.Growing.{graph_entries}
 use Rattle.tg_graph.proofs.Lookups.{name_of_vertex}
 use Rattle.tg_graph.proofs.Members.{Contains-filter, Contains-from_filter}
+use Rattle.tg_space.specs.declared.allocate_fault.AllocateFault.TheVariants.{HeapFull, OutOfMemory}
+use Rattle.tg_space.specs.declared.allocate_fault.AllocateFault.{AllocateFault}
 
 pub either_way : {T E A B C : Type 0} (r : Result T E) → OnOk r A → OnErr r B → (A → C) → (B → C) → C
 either_way (Ok x) done refused f g = f done
 either_way (Err e) done refused f g = g refused
+
+-- a result is one of two
+pub ok_or_err : {T E : Type 0} (x : T) (e : E) → ◌≡◌ {A = Result T E} (Ok x) (Err e) → ⊥
+ok_or_err x e same = cc
+
+-- want of memory isn't told as a full heap
+pub memory_or_full : OutOfMemory ≡ HeapFull → ⊥
+memory_or_full same = cc
+
+pub no_full : {T : Type 0} → ◌≡◌ {A = Result T AllocateFault} (Err OutOfMemory) (Err HeapFull) → ⊥
+no_full same = let inside : OutOfMemory ≡ HeapFull = cc in memory_or_full inside
 
 pub always_ok : {T E A : Type 0} (r : Result T E) → A → OnOk r A
 always_ok (Ok x) a = a

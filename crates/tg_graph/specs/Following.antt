@@ -44,13 +44,6 @@ pub record HasSameIndex (row later : IndexedRow) : Type 0 where
   pub aged : IsAged row → IsAged later
   pub quiet : (places : List Place) → IsQuiet places row → IsQuiet places later
 
--- the index of the row of the object at a place was just made, and has room
-pub record IsFreshIndex (h : SpaceList) (from : Place) (row : IndexedRow) : Type 0 where
-  pub index : IsRowIndex h from row.names row.cells.items
-  pub aged : IsAged row
-  pub quiet : (places : List Place) → IsQuiet places row
-  pub room : HasRoomIn row
-
 -- a row may be changed that has no index, and then isn't long yet
 pub record IsReadyShort (h : SpaceList) (rows : Indexes) (from : Place) : Type 0 where
   pub none : lookup (nat_eq (name_at h from)) rows.entries ≡ None

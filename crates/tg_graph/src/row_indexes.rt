@@ -5,7 +5,7 @@ ghost use Rattle.tg_word.specs.declared.Place.{Place as PlaceOf};
 ghost use Rattle.tg_block.specs.declared.CellKind.TheVariants.{Object};
 ghost use Rattle.tg_space.specs.Soundness.{IsKindAt};
 ghost use Rattle.tg_graph.specs.Content.{IsNamed};
-ghost use Rattle.tg_graph.specs.Following.{AreBehind, AreUncleared, IsReady, IsWay, IsFreshIndex};
+ghost use Rattle.tg_graph.specs.Following.{AreBehind, AreUncleared, IsReady, IsWay};
 ghost use Rattle.tg_graph.specs.Heap.{IsLongRow, content_in};
 ghost use Rattle.tg_graph.specs.Index.{AreIndexed, IsAged, IsQuiet, IsRowIndex, MayIndex, indexed_in};
 ghost use Rattle.std.specs.Map.{lookup};
@@ -82,19 +82,9 @@ impl<P: Payload> Cells<P> {
             return Ok(Way::Walk);
         }
         rows.reserve()?;
-        let row = self.index_with_room(from)?;
-        Ok(Way::New(Box::new(self.alloc, row)?))
-    }
-
-    // The index of the row of an object, with room for one more name and one more cell.
-    #[inline(always)]
-    fn index_with_room(&self, from: Place) -> Result<IndexedRow, AllocError>
-        requires { HasObject self.now from }
-        ensures { IfOk result (IsFreshIndex self.now.spaces.spaces from) }
-    {
         let mut row = self.index_of(from)?;
         row.reserve()?;
-        Ok(row)
+        Ok(Way::New(Box::new(self.alloc, row)?))
     }
 
     // What follows in the indexes where rights over the vertex with a name were put at the spot for it in a row, which was looked

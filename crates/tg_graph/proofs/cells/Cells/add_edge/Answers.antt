@@ -10,6 +10,7 @@ use Rattle.tg_graph.specs.Rows.{name_at}
 use Rattle.tg_graph.specs.Spots.{IsSpotFor, note_for}
 use Rattle.tg_graph.proofs.Following.{ready_way}
 use Rattle.tg_graph.proofs.IndexedRows.{may_index, may_index_after}
+use Rattle.tg_graph.proofs.Heaps.{ok_or_err, no_full}
 use Rattle.tg_graph.proofs.cells.Cells.add_edge.Goals as goal
 
 pub follow-requires : goal.follow-requires
@@ -55,7 +56,7 @@ returns-in_default-clause-edge g c = record {
   added = tt;
   payloads = refl;
   refused = refl;
-  full = λ is. absurd (cc is);
+  full = λ is. absurd (no_full is);
   placed = tt;
   remembered = λ before. before;
   places = refl;
@@ -77,7 +78,7 @@ returns-in_err-put_edge-clause-edge g c =
       added = rw given.1 tt;
       payloads = was.payloads;
       refused = rw given.1 was.refused;
-      full = λ is. let refused : c.put_edge.result ≡ Err AllocateFault.HeapFull = cc (is, given.1, given.2, c.in_err-put_edge.was) in c.put_edge.ensures.edge.full refused;
+      full = λ is. let refused : c.put_edge.result ≡ Err AllocateFault.HeapFull = c.in_err-put_edge.was ∙ ap (λ (why : AllocateFault). Err why) (sym given.2) ∙ sym given.1 ∙ is in c.put_edge.ensures.edge.full refused;
       placed = rw given.1 tt;
       remembered = was.remembered;
       places = rw given.1 was.places;
@@ -99,7 +100,7 @@ returns-in_err-put_edge-clause-rows g c =
 pub returns-clause-edge : goal.returns-clause-edge
 returns-clause-edge g c =
     let done = c.in_ok-put_edge.ensures.edge in
-    record { added = done.added; payloads = done.payloads; refused = tt; full = λ is. absurd (cc is); placed = done.placed; remembered = done.remembered; places = tt }
+    record { added = done.added; payloads = done.payloads; refused = tt; full = λ is. absurd (ok_or_err _ _ is); placed = done.placed; remembered = done.remembered; places = tt }
 
 pub returns-clause-rows : goal.returns-clause-rows
 returns-clause-rows g c =

@@ -1,4 +1,5 @@
 use Rattle.std.proofs.Common.{refl}
+use Rattle.tg_graph.proofs.Heaps.{no_full}
 use Rattle.tg_graph.proofs.cells.Cells.make_vertex_room.Goals as goal
 
 pub returns-in_default-clause-room : goal.returns-in_default-clause-room
@@ -9,7 +10,7 @@ returns-in_default-clause-room g c = record {
   table = tt;
   left = tt;
   refused = refl;
-  full = λ is. absurd (cc is);
+  full = λ is. absurd (no_full is);
 }
 
 pub returns-clause-room : goal.returns-clause-room

@@ -7,6 +7,7 @@ use Rattle.tg_graph.specs.Rows.{name_at}
 use Rattle.tg_graph.proofs.Following.{ready_way}
 use Rattle.tg_graph.proofs.IndexedRows.{may_index, may_index_after}
 use Rattle.std.proofs.lemmas.Result.{err_from_is_err_and}
+use Rattle.tg_graph.proofs.Heaps.{memory_or_full}
 use Rattle.tg_graph.proofs.cells.Cells.new_vertex.Goals as goal
 
 pub follow-requires : goal.follow-requires
@@ -46,7 +47,7 @@ returns-in_default-clause-vertex g c = record {
   places = refl;
   remembered = λ before. before;
   placed = tt;
-  full = λ is. absurd (cc is);
+  full = λ is. absurd (memory_or_full is);
 }
 
 pub returns-in_default-clause-rows : goal.returns-in_default-clause-rows

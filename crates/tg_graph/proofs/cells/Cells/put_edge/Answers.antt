@@ -17,6 +17,8 @@ use Rattle.tg_space.specs.declared.allocate_fault.AllocateFault.TheVariants.{Hea
 use Rattle.std.proofs.lemmas.Result.{err_from_is_err_and}
 use Rattle.tg_space.proofs.Tables.{table_list}
 use Rattle.tg_graph.proofs.Places.{held_place}
+use Rattle.tg_space.specs.declared.allocate_fault.AllocateFault.{AllocateFault}
+use Rattle.tg_graph.proofs.Heaps.{ok_or_err}
 use Rattle.tg_graph.proofs.cells.Cells.put_edge.Goals as goal
 
 pub returns-clause-one_cell : goal.returns-clause-one_cell
@@ -102,7 +104,7 @@ returns-clause-edge g c =
       added = added_changes t grown payloads row.table made.table row.graph space c.cells.result gift.nursery made.spaces from row.from name spot row.spot made.left c.cells.ensures to gift.to refl c.args.rights gift.some (omega arith) c.put.new.spaces c.put.ensures;
       payloads = c.make_room.ensures.payloads;
       refused = tt;
-      full = λ is. absurd (cc is);
+      full = λ is. absurd (ok_or_err _ _ is);
       placed = record {
         spot = spot;
         found = row.spot;
@@ -129,7 +131,7 @@ returns-in_err-make_room-clause-edge g c =
       payloads = c.make_room.ensures.payloads;
       refused = rw given.1 c.in_err-make_room.ensures.room.refused;
       full = λ is.
-          let refused : c.make_room.result ≡ Err HeapFull = cc (is, given.1, given.2, c.in_err-make_room.was) in
+          let refused : c.make_room.result ≡ Err HeapFull = c.in_err-make_room.was ∙ ap (λ (why : AllocateFault). Err why) (sym given.2) ∙ sym given.1 ∙ is in
           let out = was.full refused in
           record {
             row = c.args.from;

@@ -26,16 +26,13 @@ returns-then-not-may_get_long-clause-ready g c =
 pub returns-clause-ready : goal.returns-clause-ready
 returns-clause-ready g c =
     let made = c.in_ok-row.ensures in
-    let ready : IsReadyNew c.args.self.now.spaces.spaces c.reserve.new.self c.args.from c.in_ok-row.row =
+    let ready : IsReadyNew c.args.self.now.spaces.spaces c.reserve.new.self c.args.from c.reserve-2.new.self =
     record {
       none = subst (λ (es : Entries). lookup (nat_eq (name_at c.args.self.now.spaces.spaces c.args.from)) es ≡ None) (sym c.reserve.ensures.entries) c.requires.none;
       spare = c.in_ok-reserve.ensures.room;
-      index = made.index;
-      aged = made.aged;
-      quiet = made.quiet;
-      room = made.room;
+      index = c.reserve-2.ensures.kept.kept c.args.self.now.spaces.spaces c.args.from made.index;
+      aged = c.reserve-2.ensures.kept.aged made.aged;
+      quiet = λ places. c.reserve-2.ensures.kept.quiet places (made.quiet places);
+      room = record { names = c.in_ok-reserve-2.ensures.names; cells = c.in_ok-reserve-2.ensures.cells };
     } in
     subst (λ (r : IndexedRow). IsReadyNew c.args.self.now.spaces.spaces c.reserve.new.self c.args.from r) (sym c.in_ok-new.ensures.ok) ready
-
-pub index_with_room-requires : goal.index_with_room-requires
-index_with_room-requires g c = c.requires.row
