@@ -1,6 +1,5 @@
 //! The story, from sharing the store to the audit.
-ghost use Rattle.std.specs.Prelude.{◌≡◌, ◌+◌};
-ghost use Rattle.tg_shared.specs.Sessions.{start_of_store};
+ghost use Rattle.tg_shared.specs.Sessions.{MayShare};
 
 use crate::errands::{Errands, hand_on, make, read_and_collect, run_errands};
 use crate::fault::RoundFault;
@@ -35,9 +34,7 @@ fn share<L: Round + Send + Sync, R: Threads + Wait + Sync>(
     blank: Blank,
     store: Store<CellPayload>,
 ) -> Result<(Ending, u64), RoundFault>
-    requires name { blank.name ≡ L.name }
-    requires parts { (blank.parts ≡ L.parts) × (blank.parts ≡ store.opening.limit + 1) }
-    requires start { start_of_store store ≡ L.start }
+    requires shareable { MayShare L.name L.parts L.start blank store }
 {
     let Some(shared) = SharedStore::<L, CellPayload>::new(alloc, blank, store).ok() else {
         return Err(RoundFault::Store(StoreFault::OutOfMemory));

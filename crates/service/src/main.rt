@@ -4,8 +4,7 @@
 //! them leaves. What it alone had a right over goes with it, though it gave up nothing; what it wrote to its document stays.
 #![tactic(auto)]
 
-ghost use Rattle.std.specs.Prelude.{◌≡◌, ◌+◌};
-ghost use Rattle.tg_shared.specs.Sessions.{start_of_store};
+ghost use Rattle.tg_shared.specs.Sessions.{MayShare};
 
 mod client;
 
@@ -48,9 +47,7 @@ fn share<L: Round + Send + Sync, R: Threads + Wait + Sync + Print + AllocGlobal>
     blank: Blank,
     store: Store<SumPayload>,
 ) -> Result<()>
-    requires name { blank.name ≡ L.name }
-    requires parts { (blank.parts ≡ L.parts) × (blank.parts ≡ store.opening.limit + 1) }
-    requires start { start_of_store store ≡ L.start }
+    requires shareable { MayShare L.name L.parts L.start blank store }
 {
     match SharedStore::<L, SumPayload>::new(rt.alloc(), blank, store) {
         Ok(shared) => serve_and_close(rt, shared),

@@ -1,10 +1,11 @@
 -- What a run reads and writes.
-use Rattle.std.specs.Prelude.{◌≡◌, ◌⊎◌, ℕ, true, false, List, map, replicate, Option, Some, Result, Ok, Err}
+use Rattle.std.specs.Prelude.{◌≡◌, ◌⊎◌, ℕ, true, false, List, map, replicate, Option, Some, Result, Ok, Err, IfErr}
 use Rattle.tg_text.specs.declared.stock.StockItem.TheVariants.{Cell}
 use Rattle.tg_script.specs.Script.{Start as ScriptStart, start_with}
 use Rattle.tg_script.specs.Running.{Ran}
 use Rattle.tg_threads.specs.Race.{HasRaced}
 use Rattle.tg_program.specs.Boxes.{value_of}
+use Rattle.tg_program.specs.Faults.{status_of_stop}
 use Rattle.tg_program.specs.declared.start.Start.{Start}
 use Rattle.tg_program.specs.declared.start.StartFault.TheVariants.{OutOfMemory}
 use Rattle.tg_program.specs.declared.stop.Stop.{Stop}
@@ -23,6 +24,11 @@ Served {T} start bytes before (Err (stop.Script fault)) left after = (start.race
 Served {T} start bytes before (Err (stop.Race fault)) left after = (start.race ≡ true) × HasRaced {T = T} (script_start_of start) bytes before (Err fault) left after
 Served {T} start bytes before (Err (stop.Start OutOfMemory)) left after = (left ≡ bytes) × (after ≡ Some before)
 Served {T} start bytes before (Err why) left after = ⊥
+
+-- A run from this start, by the bytes that its source and its sink tell of before it and after it. A fault that ends it is told as status 1.
+pub record ServesFrom {T : Type 0} (start : Start) (left left' taken taken' : Option (List ℕ)) (result : Result T Stop) : Type 0 where
+  pub status : IfErr result (λ why. status_of_stop why ≡ 1)
+  pub output : (bytes before : List ℕ) → left ≡ Some bytes → taken ≡ Some before → (rest : List ℕ) × (left' ≡ Some rest) × Served start bytes before result rest taken'
 
 -- the run was begun: memory wasn't wanting before it
 abbrev pub WasBegun : {T : Type 0} → Result T Stop → Type 0

@@ -2,10 +2,9 @@
 //!
 //! Boxes are made here, by a closure that says what is in each, and the run over them is generic in its payloads, because no
 //! contract can speak of boxes that a function gives to its caller.
-ghost use Rattle.std.specs.Prelude.{◌≡◌, ℕ, List, Some, IfErr, IfOk};
+ghost use Rattle.std.specs.Prelude.{◌≡◌, IfOk};
 ghost use Rattle.tg_program.specs.Boxes.{value_of};
-ghost use Rattle.tg_program.specs.Faults.{status_of_stop};
-ghost use Rattle.tg_program.specs.Serving.{Served};
+ghost use Rattle.tg_program.specs.Serving.{ServesFrom};
 ghost use Rattle.tg_program.specs.Starts.{IsReady};
 
 use crate::making::serve_made;
@@ -29,9 +28,7 @@ pub(crate) fn serve_with_boxes<R: Threads + Wait + Sync, C: Collector, S: Source
 ) -> Result<(), Stop>
     requires collector { C.Ready }
     requires ready { IsReady start.now }
-    ensures status { IfErr result (λ stop. status_of_stop stop ≡ 1) }
-    ensures output { (bytes before : List ℕ) → S.left source.old ≡ Some bytes → K.taken sink.old ≡ Some before →
-        (left : List ℕ) × (S.left source.new ≡ Some left) × Served start.now bytes before result left (K.taken sink.new) }
+    ensures served { ServesFrom start.now (S.left source.old) (S.left source.new) (K.taken sink.old) (K.taken sink.new) result }
 {
     let make = |item: StockItem| -> Result<PayloadBox, AllocError>
         ensures { IfOk result (λ payload. value payload ≡ value_of item) }

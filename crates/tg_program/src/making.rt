@@ -1,9 +1,8 @@
 //! A run whose payloads are made one by one.
-ghost use Rattle.std.specs.Prelude.{◌≡◌, ℕ, List, Some, IfErr, IfOk, map, replicate};
+ghost use Rattle.std.specs.Prelude.{◌≡◌, IfOk, map, replicate};
 ghost use Rattle.tg_text.specs.declared.stock.StockItem.TheVariants.{Cell};
 ghost use Rattle.tg_program.specs.Boxes.{MakesValues, value_of};
-ghost use Rattle.tg_program.specs.Faults.{status_of_stop};
-ghost use Rattle.tg_program.specs.Serving.{Served};
+ghost use Rattle.tg_program.specs.Serving.{ServesFrom};
 ghost use Rattle.tg_program.specs.Starts.{IsReady};
 
 use crate::serving::{RunPayloads, serve};
@@ -38,9 +37,7 @@ pub(crate) fn serve_made<
     requires ready { IsReady start.now }
     requires can { M.IsAlwaysCallable make }
     requires made { MakesValues (M.post make) P.value }
-    ensures status { IfErr result (λ stop. status_of_stop stop ≡ 1) }
-    ensures output { (bytes before : List ℕ) → S.left source.old ≡ Some bytes → K.taken sink.old ≡ Some before →
-        (left : List ℕ) × (S.left source.new ≡ Some left) × Served start.now bytes before result left (K.taken sink.new) }
+    ensures served { ServesFrom start.now (S.left source.old) (S.left source.new) (K.taken sink.old) (K.taken sink.new) result }
 {
     let workers = new_cells(alloc, start.settings.workers, &make)?;
     let stock = new_drafts(alloc, &start.stock, &make)?;

@@ -1,7 +1,7 @@
 //! A run with payloads, from a source to a sink.
-ghost use Rattle.std.specs.Prelude.{◌≡◌, ◌+◌, ◌<◌, ◌≤◌, ℕ, List, Some, true, IfErr, OnOk, map};
-ghost use Rattle.tg_program.specs.Faults.{status_of_stop, stop_read_failures, stop_write_failures};
-ghost use Rattle.tg_program.specs.Serving.{WasBegun, Served};
+ghost use Rattle.std.specs.Prelude.{◌≡◌, ◌+◌, ◌<◌, ◌≤◌, true, OnOk, map};
+ghost use Rattle.tg_program.specs.Faults.{stop_read_failures, stop_write_failures};
+ghost use Rattle.tg_program.specs.Serving.{ServesFrom, WasBegun};
 ghost use Rattle.tg_program.specs.Starts.{IsReady, HasPayloads};
 
 use crate::start::Start;
@@ -37,9 +37,7 @@ pub fn serve<P: Payload + Send, R: Threads + Wait + Sync, C: Collector, S: Sourc
     requires collector { C.Ready }
     requires ready { IsReady start.now }
     requires payloads { HasPayloads start.now (map P.value payloads.workers.items) payloads.stock.items }
-    ensures status { IfErr result (λ stop. status_of_stop stop ≡ 1) }
-    ensures output { (bytes before : List ℕ) → S.left source.old ≡ Some bytes → K.taken sink.old ≡ Some before →
-        (left : List ℕ) × (S.left source.new ≡ Some left) × Served start.now bytes before result left (K.taken sink.new) }
+    ensures served { ServesFrom start.now (S.left source.old) (S.left source.new) (K.taken sink.old) (K.taken sink.new) result }
     ensures read_failed { S.failures source.new ≡ S.failures source.old + stop_read_failures result }
     ensures write_failed { 1 ≤ stop_write_failures result → K.failures sink.old < K.failures sink.new }
     ensures unfailed { OnOk result (K.failures sink.new ≡ K.failures sink.old) }

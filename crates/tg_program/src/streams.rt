@@ -1,8 +1,8 @@
 //! A run between a reader and a writer.
-ghost use Rattle.std.specs.Prelude.{◌≡◌, ◌<◌, ℕ, List, Some, IfErr, IfOk};
+ghost use Rattle.std.specs.Prelude.{◌≡◌, ◌<◌, IfErr, IfOk};
 ghost use Rattle.std.specs.Io.Buffered.{reader_remaining, writer_contents};
 ghost use Rattle.tg_program.specs.Faults.{status_of_stop};
-ghost use Rattle.tg_program.specs.Serving.{Served};
+ghost use Rattle.tg_program.specs.Serving.{ServesFrom};
 ghost use Rattle.tg_program.specs.Starts.{IsReady};
 
 use crate::boxes::serve_with_boxes;
@@ -46,9 +46,8 @@ pub(crate) fn serve_buffered<
     requires collector { C.Ready }
     requires ready { IsReady start.now }
     ensures status { IfErr result (λ stop. status_of_stop stop ≡ 1) }
-    ensures ended_status { IfOk result (λ ended. IfErr ended.outcome (λ stop. status_of_stop stop ≡ 1)) }
-    ensures output { IfOk result (λ ended. (bytes before : List ℕ) → R.remaining reader ≡ Some bytes → W.contents writer ≡ Some before →
-        (left : List ℕ) × (reader_remaining R.remaining ended.reader ≡ Some left) × Served start.now bytes before ended.outcome left (writer_contents W.contents ended.writer)) }
+    ensures served { IfOk result (λ ended.
+        ServesFrom start.now (R.remaining reader) (reader_remaining R.remaining ended.reader) (W.contents writer) (writer_contents W.contents ended.writer) ended.outcome) }
 {
     let Ok(reader) = BufReader::with_capacity(alloc, BLOCK, reader) else {
         return Err(Stop::Start(StartFault::OutOfMemory));
@@ -95,9 +94,7 @@ fn serve_counted<
     requires read_failures { (read_failures.name ≡ B.name) × (read_failures.parts ≡ B.parts) × (0 < read_failures.parts) }
     requires write_failures { (write_failures.name ≡ F.name) × (write_failures.parts ≡ F.parts) × (0 < write_failures.parts) }
     requires ready { IsReady start.now }
-    ensures status { IfErr result.outcome (λ stop. status_of_stop stop ≡ 1) }
-    ensures output { (bytes before : List ℕ) → R.remaining reader ≡ Some bytes → W.contents writer ≡ Some before →
-        (left : List ℕ) × (R.remaining result.reader ≡ Some left) × Served start.now bytes before result.outcome left (W.contents result.writer) }
+    ensures served { ServesFrom start.now (R.remaining reader) (R.remaining result.reader) (W.contents writer) (W.contents result.writer) result.outcome }
 {
     let (asked, read_failures) = (Count::<A>::new(asked), Count::<B>::new(read_failures));
     let mut source = OfRead::new(reader, asked, read_failures);

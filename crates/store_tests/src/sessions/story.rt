@@ -1,6 +1,5 @@
 //! What sessions of a shared store do, and what is seen of the store once it is closed.
-ghost use Rattle.std.specs.Prelude.{◌≡◌, ◌+◌};
-ghost use Rattle.tg_shared.specs.Sessions.{start_of_store};
+ghost use Rattle.tg_shared.specs.Sessions.{MayShare};
 
 use crate::sessions::collections::{Collectors, left_by_each};
 use crate::sessions::held::{Labels, labels_of, make_and_ask};
@@ -106,9 +105,7 @@ fn seen_of_store<L: Round + Send + Sync, R: Threads + Wait + Sync>(
     blank: Blank,
     store: Store<CellPayload>,
 ) -> Option<Seen>
-    requires name { blank.name ≡ L.name }
-    requires parts { (blank.parts ≡ L.parts) × (blank.parts ≡ store.opening.limit + 1) }
-    requires start { start_of_store store ≡ L.start }
+    requires shareable { MayShare L.name L.parts L.start blank store }
 {
     let shared = SharedStore::<L, CellPayload>::new(alloc, blank, store).ok()?;
     seen_of_shared(rt, alloc, story, shared)

@@ -7,8 +7,10 @@ pub returns-in_err-workers : goal.returns-in_err-workers
 returns-in_err-workers g c =
     let is = wanting c.from_residual.result c.from_residual.ensures.1 in
     record {
-      status = wanting_status c.from_residual.result is;
-      output = λ bytes before left taken. (bytes, left, served_none c.args.start.now bytes before c.from_residual.result bytes _ is refl taken);
+      served = record {
+        status = wanting_status c.from_residual.result is;
+        output = λ bytes before left taken. (bytes, left, served_none c.args.start.now bytes before c.from_residual.result bytes _ is refl taken);
+      };
       read_failed = wanting_read c.from_residual.result _ is;
       write_failed = wanting_write c.from_residual.result _ is;
       unfailed = wanting_unfailed c.from_residual.result _ is;
@@ -19,16 +21,18 @@ pub returns-then-start : goal.returns-then-start
 returns-then-start g c =
     let is = is_told stop.Race c.run_race.result c.map_err.result c.map_err.ensures.cases in
     record {
-      status = status_told stop.Race c.run_race.result c.map_err.result is (λ fault. refl);
-      output = λ bytes before left taken.
-          let had = c.run_race.ensures.output bytes before left taken in (
-            had.0,
-            had.1,
-            served_race c.args.start.now bytes before c.run_race.result c.map_err.result had.0 (g.K.Sink.taken c.run_race.new.sink) is c.if-start.true
-                (raced_from c.args.start.now c.in_ok-workers.workers.items c.args.payloads.stock.items bytes before c.run_race.result had.0 (g.K.Sink.taken c.run_race.new.sink)
-                (c.in_ok-workers.ensures ∙ c.requires.payloads.0) c.requires.payloads.1 had.2),
-          );
-      read_failed = c.run_race.ensures.read_failed ∙ ap (λ n. g.S.Source.failures c.args.source.now + n) (read_race c.run_race.result c.map_err.result is);
+      served = record {
+        status = status_told stop.Race c.run_race.result c.map_err.result is (λ fault. refl);
+        output = λ bytes before left taken.
+            let had = c.run_race.ensures.raced.output bytes before left taken in (
+              had.0,
+              had.1,
+              served_race c.args.start.now bytes before c.run_race.result c.map_err.result had.0 (g.K.Sink.taken c.run_race.new.sink) is c.if-start.true
+                  (raced_from c.args.start.now c.in_ok-workers.workers.items c.args.payloads.stock.items bytes before c.run_race.result had.0 (g.K.Sink.taken c.run_race.new.sink)
+                  (c.in_ok-workers.ensures ∙ c.requires.payloads.0) c.requires.payloads.1 had.2),
+            );
+      };
+      read_failed = c.run_race.ensures.raced.read_failed ∙ ap (λ n. g.S.Source.failures c.args.source.now + n) (read_race c.run_race.result c.map_err.result is);
       write_failed = write_race c.run_race.result c.map_err.result _ _ is c.run_race.ensures.write_failed;
       unfailed = unfailed_told stop.Race c.run_race.result c.map_err.result _ is c.run_race.ensures.unfailed;
       finished = λ begun. c.run_race.ensures.finished;
@@ -38,17 +42,19 @@ pub returns : goal.returns
 returns g c =
     let is = is_told stop.Script c.run_script_with.result c.map_err-2.result c.map_err-2.ensures.cases in
     record {
-      status = status_told stop.Script c.run_script_with.result c.map_err-2.result is (λ fault. refl);
-      output = λ bytes before left taken.
-          let had = c.run_script_with.ensures.output bytes before left taken in (
-            had.0,
-            had.1,
-            served_run c.args.start.now bytes before c.run_script_with.result c.map_err-2.result had.0 (g.K.Sink.taken c.run_script_with.new.sink) is c.if-start.false
-                (ran_from c.args.start.now c.in_ok-workers.workers.items c.args.payloads.stock.items bytes before c.run_script_with.result had.0 (g.K.Sink.taken c.run_script_with.new.sink)
-                (c.in_ok-workers.ensures ∙ c.requires.payloads.0) c.requires.payloads.1 had.2),
-          );
-      read_failed = c.run_script_with.ensures.read_failed ∙ ap (λ n. g.S.Source.failures c.args.source.now + n) (read_run c.run_script_with.result c.map_err-2.result is);
-      write_failed = write_run c.run_script_with.result c.map_err-2.result _ _ is c.run_script_with.ensures.write_failed;
-      unfailed = unfailed_told stop.Script c.run_script_with.result c.map_err-2.result _ is c.run_script_with.ensures.unfailed;
-      finished = λ begun. c.run_script_with.ensures.finished;
+      served = record {
+        status = status_told stop.Script c.run_script_with.result c.map_err-2.result is (λ fault. refl);
+        output = λ bytes before left taken.
+            let had = c.run_script_with.ensures.ran.output bytes before left taken in (
+              had.0,
+              had.1,
+              served_run c.args.start.now bytes before c.run_script_with.result c.map_err-2.result had.0 (g.K.Sink.taken c.run_script_with.new.sink) is c.if-start.false
+                  (ran_from c.args.start.now c.in_ok-workers.workers.items c.args.payloads.stock.items bytes before c.run_script_with.result had.0 (g.K.Sink.taken c.run_script_with.new.sink)
+                  (c.in_ok-workers.ensures ∙ c.requires.payloads.0) c.requires.payloads.1 had.2),
+            );
+      };
+      read_failed = c.run_script_with.ensures.ran.read_failed ∙ ap (λ n. g.S.Source.failures c.args.source.now + n) (read_run c.run_script_with.result c.map_err-2.result is);
+      write_failed = write_run c.run_script_with.result c.map_err-2.result _ _ is c.run_script_with.ensures.finish.write_failed;
+      unfailed = unfailed_told stop.Script c.run_script_with.result c.map_err-2.result _ is c.run_script_with.ensures.finish.unfailed;
+      finished = λ begun. c.run_script_with.ensures.finish.finished;
     }
