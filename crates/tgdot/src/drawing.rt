@@ -1,85 +1,81 @@
 //! The picture of the last graph, as a text for `dot`.
 
 use crate::fault::DrawFault;
-use crate::options::DotOptions;
-use crate::run::{Run, Vertex};
-use crate::script::ScriptLine;
+use crate::run::{Run, opening_of};
+use crate::script::Script;
 use std::alloc::{AllocError, Global};
-use std::collections::BTreeSet;
-use std::io;
-use tg_text::{Line, StockItem};
+use tg_model::Opening;
+use tg_text::Line;
 
-/// Prints the graph that the lines leave as a digraph: its vertices by rising name, then its edges. What a collection would take is there
-/// too.
-pub fn draw_last<R: Print>(
-    rt: &R,
-    alloc: Global,
-    options: DotOptions,
-    lines: &[ScriptLine],
-    stock: &[StockItem],
-) -> Result<(), DrawFault> {
-    let mut run = Run::start(alloc, options, lines, stock)?;
-    take_lines(&mut run, lines)?;
-    draw_run(rt, &run)
+/// Writes the graph that a script leaves as a digraph: its vertices by rising name, then its edges. What a collection would take is there
+/// too. A bad line leaves nothing to be drawn.
+pub fn write_last(text: &mut String, alloc: Global, script: &Script) -> Result<(), DrawFault> {
+    script.whole()?;
+    let opening = opening_of(alloc, script)?;
+    Ok(write_opened(text, alloc, script, &opening)?)
 }
 
-// Runs the lines that are no collection.
-fn take_lines(run: &mut Run, lines: &[ScriptLine]) -> Result<(), AllocError> {
-    for line in lines {
+// Runs the lines, and writes the graph that they leave.
+fn write_opened(
+    text: &mut String,
+    alloc: Global,
+    script: &Script,
+    opening: &Opening,
+) -> Result<(), AllocError> {
+    let mut run = Run::start(alloc, opening)?;
+    take_lines(&mut run, script)?;
+    write_run(text, &run)
+}
+
+// Runs the lines that are no collection, and looks for what is reached then.
+fn take_lines(run: &mut Run, script: &Script) -> Result<(), AllocError> {
+    for line in script.lines.as_slice() {
         if !matches!(line.line, Line::Full) {
-            run.take(&line.line)?;
+            run.take(script.stock.as_slice(), &line.line)?;
         }
     }
-    Ok(())
+    run.reach()
 }
 
-// Prints the graph of the run.
-fn draw_run<R: Print>(rt: &R, run: &Run) -> Result<(), DrawFault> {
-    let reached = run.reached()?;
-    draw_digraph(rt, run, &reached)?;
-    Ok(())
-}
-
-// Prints the digraph.
-fn draw_digraph<R: Print>(rt: &R, run: &Run, reached: &BTreeSet<u64>) -> io::Result<()> {
-    println!(rt; "digraph store {{")?;
-    for (name, vertex) in run.vertices().iter() {
-        draw_vertex(rt, run, *name, vertex, reached.contains(name))?;
+// Writes the digraph.
+fn write_run(text: &mut String, run: &Run) -> Result<(), AllocError> {
+    writeln!(text, "digraph store {{")?;
+    for name in run.names.iter() {
+        write_vertex(text, run, *name)?;
     }
-    draw_edges(rt, run, reached)?;
-    println!(rt; "}}")
+    for ends in run.edges.iter() {
+        write_edge(text, run, *ends)?;
+    }
+    writeln!(text, "}}")
 }
 
 // A vertex: a box or a circle. The border of one who retired is dashed.
-fn draw_vertex<R: Print>(
-    rt: &R,
-    run: &Run,
-    name: u64,
-    vertex: &Vertex,
-    reached: bool,
-) -> io::Result<()> {
-    let shape = if vertex.ever_subject { "box" } else { "circle" };
-    let retired = run.has_retired(name, vertex);
-    let border = if retired { " style=dashed" } else { "" };
-    let colour = colour_of(reached);
-    println!(rt; "    {name} [shape={shape}{border} color={colour} fontcolor={colour}]")
+fn write_vertex(text: &mut String, run: &Run, name: u64) -> Result<(), AllocError> {
+    let is_subject = run.is_subject(name);
+    let shape = match run.vertex(name) {
+        Some(vertex) if vertex.ever_subject && is_subject => "box",
+        Some(vertex) if vertex.ever_subject => "box style=dashed",
+        _ => "circle",
+    };
+    let colour = colour_of(run, name);
+    writeln!(text, "    {name} [shape={shape} {colour}]")
 }
 
-// The edges, each with the letters of its rights.
-fn draw_edges<R: Print>(rt: &R, run: &Run, reached: &BTreeSet<u64>) -> io::Result<()> {
-    for ends in run.edges().iter() {
-        let (from, to) = *ends;
-        if let Some(label) = run.held(*ends) {
-            let colour = colour_of(reached.contains(&from));
-            println!(rt;
-                "    {from} -> {to} [label=\"{label}\" color={colour} fontcolor={colour}]"
-            )?;
-        }
-    }
-    Ok(())
+// An edge, with the letters of its rights.
+fn write_edge(text: &mut String, run: &Run, ends: (u64, u64)) -> Result<(), AllocError> {
+    let Some(label) = run.held(ends) else {
+        return Ok(());
+    };
+    let (from, to) = ends;
+    let colour = colour_of(run, from);
+    writeln!(text, "    {from} -> {to} [label=\"{label}\" {colour}]")
 }
 
 // The colour of what is reached, and of what isn't.
-fn colour_of(reached: bool) -> &'static str {
-    if reached { "black" } else { "grey" }
+fn colour_of(run: &Run, name: u64) -> &'static str {
+    if run.is_reached(name) {
+        "color=black fontcolor=black"
+    } else {
+        "color=grey fontcolor=grey"
+    }
 }

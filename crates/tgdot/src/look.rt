@@ -38,37 +38,16 @@ pub struct Look {
 
 impl Look {
     /// The look of what a subject reaches, or of what none does.
-    pub fn reached(reached: bool) -> Look {
-        if reached {
-            Look {
-                colour: Colour::Black,
-                stroke: Stroke::Solid,
-                is_bold: false,
-            }
+    pub fn reached(reached: bool, is_bold: bool) -> Look {
+        let (colour, stroke) = if reached {
+            (Colour::Black, Stroke::Solid)
         } else {
-            Look {
-                colour: Colour::Grey,
-                stroke: Stroke::Dotted,
-                is_bold: false,
-            }
-        }
-    }
-
-    /// The look of an edge that lacks rights for which a line was denied.
-    pub fn denied() -> Look {
+            (Colour::Grey, Stroke::Dotted)
+        };
         Look {
-            colour: Colour::Red,
-            stroke: Stroke::Dashed,
-            is_bold: false,
-        }
-    }
-
-    /// The look of an edge that lost its last right.
-    pub fn lost() -> Look {
-        Look {
-            colour: Colour::Black,
-            stroke: Stroke::Dotted,
-            is_bold: true,
+            colour,
+            stroke,
+            is_bold,
         }
     }
 }
@@ -76,20 +55,19 @@ impl Look {
 impl Display for Look {
     /// Writes the attributes of the look.
     fn fmt<W: fmt::Write>(&self, f: &mut Formatter<W>) -> fmt::Result {
-        let weight = if self.is_bold { "bold," } else { "" };
-        let stroke = match self.stroke {
-            Stroke::Solid => "solid",
-            Stroke::Dashed => "dashed",
-            Stroke::Dotted => "dotted",
+        let style = match (self.is_bold, self.stroke) {
+            (false, Stroke::Solid) => "solid",
+            (false, Stroke::Dashed) => "dashed",
+            (false, Stroke::Dotted) => "dotted",
+            (true, Stroke::Solid) => "bold,solid",
+            (true, Stroke::Dashed) => "bold,dashed",
+            (true, Stroke::Dotted) => "bold,dotted",
         };
         let colour = match self.colour {
-            Colour::Black => "black",
-            Colour::Grey => "grey40",
-            Colour::Red => "red3",
+            Colour::Black => "color=black fontcolor=black",
+            Colour::Grey => "color=grey40 fontcolor=grey40",
+            Colour::Red => "color=red3 fontcolor=red3",
         };
-        write!(
-            f,
-            "style=\"{weight}{stroke}\" color={colour} fontcolor={colour}"
-        )
+        write!(f, "style=\"{style}\" {colour}")
     }
 }

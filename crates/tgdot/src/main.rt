@@ -6,10 +6,11 @@
 //! subject reaches any more, which is what a collection of the whole heap frees. With `--steps` it prints a digraph for
 //! each line.
 //!
-//! The words of the command line are `options`' matter, and lines `script`'s, and `reason` says why one is bad. `run` runs them, and knows which edges there are, so that
-//! no pair of vertices is asked for its edge in vain. `drawing` prints the last graph. Of the steps, `shot` says what is shown at one and
-//! `told` what its line was answered, `marks` what stands out and `look` how that looks, `frame` what all have in common, `picture` prints
-//! one, and `steps` all of them. A line of the grammar has a place in `run`, where it is taken and followed, and in `named` of `marks`.
+//! The words of the command line are `options`' matter, and lines `script`'s, and `reason` says why one is bad. `run` runs them, and knows
+//! which edges there are, so that no pair of vertices is asked for its edge in vain; `reach` says what subjects reach. `drawing` writes the
+//! last graph. Of the steps, `shot` says what is shown at one and `told` what its line was answered, `marks` what stands out and `look` how
+//! that looks, `frame` what all have in common, `picture` writes one, and `steps` prints them. A line of the grammar has a place in `run`,
+//! where it is taken and followed, and in `named` of `marks`.
 #![tactic(auto)]
 
 mod drawing;
@@ -19,6 +20,7 @@ mod look;
 mod marks;
 mod options;
 mod picture;
+mod reach;
 mod reason;
 mod run;
 mod script;
@@ -26,14 +28,14 @@ mod shot;
 mod steps;
 mod told;
 
-use drawing::draw_last;
+use drawing::write_last;
 use fault::DrawFault;
-use options::{DotOptions, read_words};
+use options::{DotOptions, LineRange, read_words};
 use script::{Script, read_script};
+use std::alloc::Global;
 use std::env;
 use std::process::ExitCode;
-use steps::Steps;
-use tg_text::{StockItem, read_stock};
+use steps::write_steps;
 
 fn main(rt: HostRuntime) -> ExitCode {
     match obey(&rt) {
@@ -49,7 +51,10 @@ fn main(rt: HostRuntime) -> ExitCode {
 fn obey(rt: &HostRuntime) -> Result<u8, DrawFault> {
     let words = words_of(rt)?;
     match read_words(rt.alloc(), words.as_slice()) {
-        Ok(options) => draw_script(rt, options),
+        Ok(options) => {
+            draw_script(rt, rt.alloc(), options)?;
+            Ok(0)
+        }
         Err(error) => {
             error.print(rt)?;
             Ok(error.exit_code() as u8)
@@ -58,37 +63,29 @@ fn obey(rt: &HostRuntime) -> Result<u8, DrawFault> {
 }
 
 // Draws what the script leaves, or its steps.
-fn draw_script(rt: &HostRuntime, options: DotOptions) -> Result<u8, DrawFault> {
-    let stock = read_stock(rt.alloc(), options.stock.as_bytes())?;
-    let script = read_script(rt, rt.alloc(), options.workers)?;
-    draw_lines(rt, options, &script, stock.as_slice())?;
-    Ok(0)
+fn draw_script<R: Print + Input>(
+    rt: &R,
+    alloc: Global,
+    options: DotOptions,
+) -> Result<(), DrawFault> {
+    let script = read_script(rt, alloc, options)?;
+    draw(rt, alloc, options.steps, &script)
 }
 
-// Draws what the lines leave, or their steps. A bad line ends the steps, and leaves nothing to be drawn else.
-fn draw_lines(
-    rt: &HostRuntime,
-    options: DotOptions,
+// Draws what these lines leave, or their steps. A bad line ends the steps.
+fn draw<R: Print>(
+    rt: &R,
+    alloc: Global,
+    steps: Option<LineRange>,
     script: &Script,
-    stock: &[StockItem],
 ) -> Result<(), DrawFault> {
-    let alloc = rt.alloc();
-    let lines = script.lines.as_slice();
-    if let Some(range) = options.steps {
-        let steps = Steps {
-            alloc,
-            options,
-            range,
-            lines,
-            stock,
-        };
-        steps.draw(rt)?;
+    let mut text = String::new(alloc);
+    match steps {
+        Some(range) => write_steps(&mut text, alloc, range, script)?,
+        None => write_last(&mut text, alloc, script)?,
     }
-    match script.bad_line {
-        Some(bad) => Err(DrawFault::BadLine(bad)),
-        None if options.steps.is_some() => Ok(()),
-        None => draw_last(rt, alloc, options, lines, stock),
-    }
+    rt.print(text.as_str())?;
+    script.whole()
 }
 
 // The words of the command line. Each has to be text.

@@ -20,27 +20,26 @@ pub struct Marks {
     pub no_log: Option<u64>,
 }
 
-impl Marks {
-    /// Nothing stands out.
-    pub fn none() -> Marks {
-        Marks::of_named([None, None, None])
-    }
+/// Nothing stands out.
+pub const NO_MARKS: Marks = Marks {
+    named: [None, None, None],
+    changed: None,
+    missing: None,
+    twice: None,
+    no_log: None,
+};
 
+impl Marks {
     /// What stands out after a line that was answered so.
     pub fn of(line: &Line, answer: &Answer) -> Marks {
-        let mut marks = Marks::of_named(named(line));
-        if let Answer::Reply(reply) = answer {
-            marks.add_reply(line, reply);
+        let mut marks = NO_MARKS;
+        marks.named = named(line);
+        match answer {
+            Answer::Reply(Reply::Denied(denial)) => marks.add_cause(denial.cause),
+            Answer::Reply(reply) => marks.changed = changed(line, reply),
+            _ => (),
         }
         marks
-    }
-
-    /// Whether the vertex has to be shown even where it isn't there.
-    pub fn needs(&self, name: u64) -> bool {
-        match self.needed() {
-            Some((from, to)) => name == from || name == to,
-            None => false,
-        }
     }
 
     /// The two vertices that have to be shown even where they aren't there. They are one where it is named twice.
@@ -49,6 +48,14 @@ impl Marks {
             (Some((ends, _)), _) => Some(ends),
             (None, Some(name)) => Some((name, name)),
             (None, None) => None,
+        }
+    }
+
+    /// Whether the vertex has to be shown even where it isn't there.
+    pub fn needs(&self, name: u64) -> bool {
+        match self.needed() {
+            Some((from, to)) => name == from || name == to,
+            None => false,
         }
     }
 
@@ -68,27 +75,6 @@ impl Marks {
         }
     }
 
-    // The vertices stand out that a line names.
-    fn of_named(named: [Option<u64>; 3]) -> Marks {
-        Marks {
-            named,
-            changed: None,
-            missing: None,
-            twice: None,
-            no_log: None,
-        }
-    }
-
-    // Marks what a line changed, or why it was denied.
-    fn add_reply(&mut self, line: &Line, reply: &Reply) {
-        match reply {
-            Reply::Name(name) => self.changed = self.named[0].map(|worker| (worker, *name)),
-            Reply::Done => self.changed = changed_by_line(line),
-            Reply::Denied(denial) => self.add_cause(denial.cause),
-            _ => (),
-        }
-    }
-
     // Marks why a line was denied.
     fn add_cause(&mut self, cause: Cause) {
         match cause {
@@ -99,10 +85,13 @@ impl Marks {
     }
 }
 
-// The ends of the edge that a line changes where it is served.
-fn changed_by_line(line: &Line) -> Option<(u64, u64)> {
-    match line {
-        Line::Plain { worker, command } => changed_by(*worker, command),
+// The ends of the edge that a line changed, where it was answered so.
+fn changed(line: &Line, reply: &Reply) -> Option<(u64, u64)> {
+    match (*line, reply) {
+        (Line::Create { worker, .. } | Line::Spawn { worker, .. }, Reply::Name(name)) => {
+            Some((worker, *name))
+        }
+        (Line::Plain { worker, command }, Reply::Done) => changed_by(worker, &command),
         _ => None,
     }
 }
@@ -122,26 +111,22 @@ fn twice_in(named: [Option<u64>; 3]) -> Option<u64> {
 // The vertices that a line names: the one that acts, and those behind the word.
 fn named(line: &Line) -> [Option<u64>; 3] {
     match *line {
+        Line::Plain { worker, command } => named_by(worker, command),
         Line::Create { worker, .. } | Line::Spawn { worker, .. } => [Some(worker), None, None],
-        Line::Plain { worker, command } => {
-            let [first, second] = named_behind(command);
-            [Some(worker), first, second]
-        }
         Line::Edge(_) | Line::Full | Line::Minor => [None, None, None],
     }
 }
 
-// The vertices that a command names behind its word.
-fn named_behind(command: Command) -> [Option<u64>; 2] {
+fn named_by(worker: u64, command: Command) -> [Option<u64>; 3] {
     match command {
         Command::Take { via, target, .. } | Command::Grant { via, target, .. } => {
-            [Some(via), Some(target)]
+            [Some(worker), Some(via), Some(target)]
         }
         Command::Remove { target, .. }
         | Command::Read { target }
         | Command::Write { target, .. }
         | Command::Append { target, .. }
-        | Command::Inspect { target } => [Some(target), None],
-        Command::List | Command::Retire => [None, None],
+        | Command::Inspect { target } => [Some(worker), Some(target), None],
+        Command::List | Command::Retire => [Some(worker), None, None],
     }
 }

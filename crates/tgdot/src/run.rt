@@ -1,26 +1,33 @@
 //! A script, run on the plain graph.
 
 use crate::fault::DrawFault;
-use crate::options::DotOptions;
-use crate::script::ScriptLine;
+use crate::reach::Reach;
+use crate::script::Script;
 use std::alloc::{AllocError, Global};
 use std::collections::{BTreeMap, BTreeSet};
-use tg_model::{Command, Deed, Edge, Graph, Law, ModelFault, Numbers, Opening, Reply, Value};
+use std::mem;
+use tg_model::{Command, Deed, Graph, Law, ModelFault, Numbers, Opening, Reply, Value};
 use tg_rights::Label;
 use tg_text::{Answer, Line, Refusal, StockItem};
 
-/// The run of a script. The plain graph says what the rules do. Beside it stand the vertices that no collection took and the edges
-/// between them, so that nobody has to ask each pair of vertices for its edge.
+/// The run of a script. The plain graph says what the rules do. Beside it stand what each vertex stores, and between which vertices there
+/// are edges, so that nobody has to ask each pair of vertices for its edge.
 #[derive(Drop)]
-pub struct Run<'a> {
+pub struct Run {
     alloc: Global,
     graph: Graph,
     vertices: BTreeMap<u64, Vertex>,
-    edges: BTreeSet<(u64, u64)>,
-    stock: &'a [StockItem],
+    /// The names of the vertices that no collection took.
+    pub names: BTreeSet<u64>,
+    /// The ends of the edges, those from vertices that a collection took too.
+    pub edges: BTreeSet<(u64, u64)>,
+    // What the subjects reached when this was last looked for.
+    reached: Reach,
+    // How many boxes of the stock were taken.
+    taken: usize,
 }
 
-/// A vertex that no collection took.
+/// A vertex.
 #[derive(Drop)]
 pub struct Vertex {
     /// Whether it is a subject, or was one until it retired.
@@ -29,114 +36,75 @@ pub struct Vertex {
     pub value: Value,
 }
 
-// What was reached, and those of it from which nothing was reached yet.
-#[derive(Drop)]
-struct Reach {
-    reached: BTreeSet<u64>,
-    waiting: Vec<u64>,
-}
-
-impl<'a> Run<'a> {
-    /// The run before its first command: the graph of the edge lines, in which each worker stores a cell with 0.
-    pub fn start(
-        alloc: Global,
-        options: DotOptions,
-        lines: &[ScriptLine],
-        stock: &'a [StockItem],
-    ) -> Result<Run<'a>, DrawFault> {
-        let graph = opened_graph(alloc, options, lines)?;
+impl Run {
+    /// The run before its first command.
+    pub fn start(alloc: Global, opening: &Opening) -> Result<Run, AllocError> {
+        let graph = Graph::open(alloc, opening)?;
         let mut run = Run {
             alloc,
             graph,
             vertices: BTreeMap::new(alloc),
+            names: BTreeSet::new(alloc),
             edges: BTreeSet::new(alloc),
-            stock,
+            reached: Reach::new(alloc),
+            taken: 0,
         };
-        run.open(options.workers, lines)?;
+        run.open(opening)?;
         Ok(run)
     }
 
-    /// Runs a line. What it is answered. An edge line does nothing here: the graph began with its edge.
-    pub fn take(&mut self, line: &Line) -> Result<Answer, AllocError> {
+    /// Runs a line with the boxes of this stock. What it is answered. An edge line does nothing here: the graph began with its edge.
+    pub fn take(&mut self, stock: &[StockItem], line: &Line) -> Result<Answer, AllocError> {
         match *line {
-            Line::Create { worker, label } => self.make(worker, label, false),
-            Line::Spawn { worker, label } => self.make(worker, label, true),
+            Line::Create { worker, label } => self.make(stock, worker, label, false),
+            Line::Spawn { worker, label } => self.make(stock, worker, label, true),
             Line::Plain { worker, command } => self.obey(worker, command),
             Line::Full => self.collect(),
             Line::Minor | Line::Edge(_) => Ok(Answer::Collected(None)),
         }
     }
 
-    /// The vertices that no collection took, by rising name.
-    pub fn vertices(&self) -> &BTreeMap<u64, Vertex> {
-        &self.vertices
+    /// The vertex of this name, where it was made and no collection took it.
+    pub fn vertex(&self, name: u64) -> Option<&Vertex> {
+        if self.names.contains(&name) {
+            self.vertices.get(&name)
+        } else {
+            None
+        }
     }
 
-    /// The ends of the edges from these vertices.
-    pub fn edges(&self) -> &BTreeSet<(u64, u64)> {
-        &self.edges
-    }
-
-    /// Whether the vertex of this name was a subject and is none any more.
-    pub fn has_retired(&self, name: u64, vertex: &Vertex) -> bool {
-        vertex.ever_subject && !self.graph.is_subject(name)
+    /// Whether the vertex is an active subject.
+    pub fn is_subject(&self, name: u64) -> bool {
+        self.graph.is_subject(name)
     }
 
     /// The rights on the edge between these, where it is there.
     pub fn held(&self, ends: (u64, u64)) -> Option<Label> {
         let (from, to) = ends;
-        if self.edges.contains(&ends) {
+        if self.names.contains(&from) && self.edges.contains(&ends) {
             Label::new(self.graph.label(from, to))
         } else {
             None
         }
     }
 
-    /// The vertices that a subject reaches along edges.
-    pub fn reached(&self) -> Result<BTreeSet<u64>, AllocError> {
-        let mut reach = Reach {
-            reached: BTreeSet::new(self.alloc),
-            waiting: Vec::new(self.alloc),
-        };
-        self.reach_all(&mut reach)?;
-        Ok(reach.reached)
+    /// Looks anew for what the subjects reach.
+    pub fn reach(&mut self) -> Result<(), AllocError> {
+        self.reached.fill(&self.graph, &self.edges)
     }
 
-    // Adds what is reached from the subjects.
-    fn reach_all(&self, reach: &mut Reach) -> Result<(), AllocError> {
-        for name in self.graph.subjects() {
-            reach.add(*name)?;
-        }
-        // Each vertex waits once.
-        for _ in 0..self.vertices.len() {
-            let Some(from) = reach.waiting.pop() else {
-                break;
-            };
-            self.reach_from(from, reach)?;
-        }
-        Ok(())
-    }
-
-    // Adds the targets of a vertex.
-    fn reach_from(&self, from: u64, reach: &mut Reach) -> Result<(), AllocError> {
-        for (source, to) in self.edges.range((from, 0)..) {
-            if *source != from {
-                break;
-            }
-            reach.add(*to)?;
-        }
-        Ok(())
+    /// Whether a subject reached the vertex when this was last looked for.
+    pub fn is_reached(&self, name: u64) -> bool {
+        self.reached.names.contains(&name)
     }
 
     // Adds the workers and their edges.
-    fn open(&mut self, workers: u64, lines: &[ScriptLine]) -> Result<(), AllocError> {
-        for name in 0..workers {
+    fn open(&mut self, opening: &Opening) -> Result<(), AllocError> {
+        for name in 0..opening.workers() {
             self.add_vertex(name, true, StockItem::Cell)?;
         }
-        for line in lines {
-            if let Line::Edge(edge) = line.line {
-                self.edges.insert((edge.from, edge.to))?;
-            }
+        for edge in opening.edges() {
+            self.edges.insert((edge.from, edge.to))?;
         }
         Ok(())
     }
@@ -148,6 +116,7 @@ impl<'a> Run<'a> {
         ever_subject: bool,
         kind: StockItem,
     ) -> Result<(), AllocError> {
+        self.names.insert(name)?;
         let value = value_of(kind);
         let vertex = Vertex {
             ever_subject,
@@ -158,16 +127,22 @@ impl<'a> Run<'a> {
     }
 
     // Makes a subject or an object that stores the next box. Where none is made, the box stays.
-    fn make(&mut self, worker: u64, label: Label, as_subject: bool) -> Result<Answer, AllocError> {
-        let Some((kind, rest)) = self.stock.split_first() else {
+    fn make(
+        &mut self,
+        stock: &[StockItem],
+        worker: u64,
+        label: Label,
+        as_subject: bool,
+    ) -> Result<Answer, AllocError> {
+        let Some(kind) = stock.get(self.taken) else {
             return Ok(Answer::Refused(Refusal::Stock));
         };
-        let answer = self.apply(worker, &deed_of(label, *kind, as_subject))?;
-        if let Answer::Reply(Reply::Name(name)) = answer {
-            self.stock = rest;
-            self.add_made(worker, name, as_subject, *kind)
-        } else {
-            Ok(answer)
+        match self.apply(worker, &deed_of(label, *kind, as_subject)) {
+            Ok(Answer::Reply(Reply::Name(name))) => {
+                self.taken = self.taken.saturating_add(1);
+                self.add_made(worker, name, as_subject, *kind)
+            }
+            answer => answer,
         }
     }
 
@@ -180,17 +155,15 @@ impl<'a> Run<'a> {
         kind: StockItem,
     ) -> Result<Answer, AllocError> {
         self.add_vertex(name, as_subject, kind)?;
-        self.note_edge(worker, name)?;
+        self.edges.insert((worker, name))?;
         Ok(Answer::Reply(Reply::Name(name)))
     }
 
     // Runs a command that makes no vertex.
     fn obey(&mut self, worker: u64, command: Command) -> Result<Answer, AllocError> {
-        let answer = self.apply(worker, &Deed::Plain(command))?;
-        if let Answer::Reply(Reply::Done) = answer {
-            self.follow(worker, &command)
-        } else {
-            Ok(answer)
+        match self.apply(worker, &Deed::Plain(command)) {
+            Ok(Answer::Reply(Reply::Done)) => self.follow(worker, &command),
+            answer => answer,
         }
     }
 
@@ -208,8 +181,8 @@ impl<'a> Run<'a> {
 
     // Follows a command that was served. The answer.
     fn follow(&mut self, worker: u64, command: &Command) -> Result<Answer, AllocError> {
-        if let Some((from, to)) = changed_by(worker, command) {
-            self.note_edge(from, to)?;
+        if let Some(ends) = changed_by(worker, command) {
+            self.note_edge(ends)?;
         }
         if let Command::Write { target, value } | Command::Append { target, value } = command {
             self.store(*target, *value)?;
@@ -218,11 +191,11 @@ impl<'a> Run<'a> {
     }
 
     // Notes an edge, or forgets it where its last right was given up.
-    fn note_edge(&mut self, from: u64, to: u64) -> Result<(), AllocError> {
-        if self.graph.label(from, to).is_empty() {
-            self.edges.remove(&(from, to));
+    fn note_edge(&mut self, ends: (u64, u64)) -> Result<(), AllocError> {
+        if self.graph.label(ends.0, ends.1).is_empty() {
+            self.edges.remove(&ends);
         } else {
-            self.edges.insert((from, to))?;
+            self.edges.insert(ends)?;
         }
         Ok(())
     }
@@ -238,20 +211,9 @@ impl<'a> Run<'a> {
 
     // Collects what no subject reaches.
     fn collect(&mut self) -> Result<Answer, AllocError> {
-        let reached = self.reached()?;
-        self.vertices.retain(|name, _| reached.contains(name));
-        self.edges.retain(|(from, _)| reached.contains(from));
-        Ok(Answer::Collected(Some(reached.len() as u64)))
-    }
-}
-
-impl Reach {
-    // Adds a vertex, and lets it wait if it wasn't reached before.
-    fn add(&mut self, name: u64) -> Result<(), AllocError> {
-        if self.reached.insert(name)? {
-            self.waiting.push(name)?;
-        }
-        Ok(())
+        self.reach()?;
+        mem::swap(&mut self.names, &mut self.reached.names);
+        Ok(Answer::Collected(Some(self.names.len() as u64)))
     }
 }
 
@@ -264,27 +226,11 @@ pub fn changed_by(worker: u64, command: &Command) -> Option<(u64, u64)> {
     }
 }
 
-// The graph of the edge lines, in which each worker stores a cell with 0.
-fn opened_graph(
-    alloc: Global,
-    options: DotOptions,
-    lines: &[ScriptLine],
-) -> Result<Graph, DrawFault> {
-    let edges = edges_of(alloc, lines)?;
-    let values = values_of(alloc, options.workers)?;
-    let opening = Opening::new(options.workers, edges, values, options.max_vertices)?;
-    Ok(Graph::open(alloc, &opening)?)
-}
-
-// The edges of the edge lines.
-fn edges_of(alloc: Global, lines: &[ScriptLine]) -> Result<Vec<Edge>, AllocError> {
-    let mut edges = Vec::new(alloc);
-    for line in lines {
-        if let Line::Edge(edge) = line.line {
-            edges.push(edge)?;
-        }
-    }
-    Ok(edges)
+/// What the graph of a script begins with: the edges of its edge lines, and for each worker a cell with 0.
+pub fn opening_of(alloc: Global, script: &Script) -> Result<Opening, DrawFault> {
+    let edges = Vec::from_slice(alloc, script.edges.as_slice())?;
+    let values = values_of(alloc, script.workers)?;
+    Ok(Opening::new(script.workers, edges, values, script.max_vertices)?)
 }
 
 // A new cell for each worker.

@@ -1,13 +1,12 @@
 //! The lines of a script.
 
-use crate::fault::{BadLine, DrawFault};
-use crate::reason::{reason_of, reason_of_edge};
+use crate::fault::DrawFault;
+use crate::options::DotOptions;
+use crate::reason::reason_of;
 use std::alloc::{AllocError, Global};
 use std::io::{ErrorKind, Input};
-use tg_text::{Line, read_line};
-
-// The most bytes that a line may have.
-const MOST_BYTES: usize = 256;
+use tg_model::Edge;
+use tg_text::{Line, StockItem, read_line, read_stock};
 
 /// A line of a script, and its text without the line feed.
 #[derive(Drop)]
@@ -20,36 +19,80 @@ pub struct ScriptLine {
     pub text: String,
 }
 
-/// A script as far as its first bad line.
+// A bad line of a script: its number, and why it is one, or nothing where that isn't known.
+#[derive(Clone, Copy)]
+struct BadLine {
+    number: u64,
+    reason: &'static str,
+}
+
+/// A script as far as its first bad line, and what it runs on.
 #[derive(Drop)]
 pub struct Script {
-    /// The lines before the bad one, or all of them.
+    /// How many workers there are at first.
+    pub workers: u64,
+    /// How many vertices may ever be made.
+    pub max_vertices: u64,
+    /// The boxes that creates and spawns take.
+    pub stock: Vec<StockItem>,
+    /// The edges of the edge lines, which stand before all other lines.
+    pub edges: Vec<Edge>,
+    /// The other lines before the bad one, or all of them.
     pub lines: Vec<ScriptLine>,
-    /// The bad line.
-    pub bad_line: Option<BadLine>,
+    bad_line: Option<BadLine>,
 }
 
 /// Reads the script on standard input. An edge stands before all other lines, and between workers.
-pub fn read_script<R: Input>(rt: &R, alloc: Global, workers: u64) -> Result<Script, DrawFault> {
-    let mut script = Script {
-        lines: Vec::new(alloc),
-        bad_line: None,
-    };
-    script.fill(rt, alloc, workers)?;
+pub fn read_script<R: Input>(
+    rt: &R,
+    alloc: Global,
+    options: DotOptions,
+) -> Result<Script, DrawFault> {
+    let mut script = empty_script(alloc, options)?;
+    read_lines(rt, alloc, &mut script)?;
     Ok(script)
 }
 
+// A script with no line.
+fn empty_script(alloc: Global, options: DotOptions) -> Result<Script, DrawFault> {
+    let stock = read_stock(alloc, options.stock.as_bytes())?;
+    Ok(Script {
+        workers: options.workers,
+        max_vertices: options.max_vertices,
+        stock,
+        edges: Vec::new(alloc),
+        lines: Vec::new(alloc),
+        bad_line: None,
+    })
+}
+
+// Adds the lines of standard input. One text after the other stands in the same memory.
+fn read_lines<R: Input>(rt: &R, alloc: Global, script: &mut Script) -> Result<(), DrawFault> {
+    let mut text = String::new(alloc);
+    script.fill(rt, alloc, &mut text)
+}
+
 impl Script {
+    /// An error where there is a bad line.
+    pub fn whole(&self) -> Result<(), DrawFault> {
+        match self.bad_line {
+            Some(BadLine { number, reason }) => Err(DrawFault::BadLine { number, reason }),
+            None => Ok(()),
+        }
+    }
+
     // Adds the lines up to the first bad one.
-    fn fill<R: Input>(&mut self, rt: &R, alloc: Global, workers: u64) -> Result<(), DrawFault> {
-        let mut text = String::new(alloc);
-        let mut opening = true;
+    fn fill<R: Input>(
+        &mut self,
+        rt: &R,
+        alloc: Global,
+        text: &mut String,
+    ) -> Result<(), DrawFault> {
         for number in 1..u64::MAX {
-            if !read_text(rt, &mut text)? {
+            if !read_text(rt, text)? {
                 break;
             }
-            let read = line_of(alloc, number, text.as_str())?;
-            if let Some(reason) = self.add(read, text.as_str(), &mut opening, workers)? {
+            if let Some(reason) = self.add(alloc, number, text.as_str())? {
                 self.bad_line = Some(BadLine { number, reason });
                 break;
             }
@@ -57,22 +100,36 @@ impl Script {
         Ok(())
     }
 
-    // Adds what was read of a text, or says why it is a bad line.
+    // Adds the line of a text, or says why it is a bad one.
     fn add(
         &mut self,
-        read: Option<ScriptLine>,
+        alloc: Global,
+        number: u64,
         text: &str,
-        opening: &mut bool,
-        workers: u64,
     ) -> Result<Option<&'static str>, AllocError> {
-        let Some(read) = read else {
-            return Ok(Some(reason_of(text)));
-        };
-        let reason = misplaced(&read.line, opening, workers);
-        if reason.is_none() {
-            self.lines.push(read)?;
+        match line_of(text) {
+            Some(Line::Edge(edge)) => self.add_edge(edge),
+            Some(line) => {
+                let text = String::from_str(alloc, text.trim_end_matches('\n'))?;
+                self.lines.push(ScriptLine { number, line, text })?;
+                Ok(None)
+            }
+            None => Ok(Some(reason_of(text))),
         }
-        Ok(reason)
+    }
+
+    // Adds an edge, or says why it may not stand where it stands.
+    fn add_edge(&mut self, edge: Edge) -> Result<Option<&'static str>, AllocError> {
+        if !self.lines.is_empty() {
+            Ok(Some(": an edge line stands before all others"))
+        } else if edge.from == edge.to {
+            Ok(Some(": an edge joins two different workers"))
+        } else if !edge.joins_workers(self.workers) {
+            Ok(Some(": an edge to or from no worker"))
+        } else {
+            self.edges.push(edge)?;
+            Ok(None)
+        }
     }
 }
 
@@ -82,40 +139,17 @@ fn read_text<R: Input>(rt: &R, text: &mut String) -> Result<bool, DrawFault> {
     text.clear();
     match rt.read_line(text) {
         Ok(count) => Ok(count > 0),
-        Err(error) if error.kind() == ErrorKind::InvalidData => {
-            text.clear();
-            Ok(true)
-        }
-        Err(error) => Err(DrawFault::Stream(error)),
+        Err(error) => match error.kind() {
+            ErrorKind::InvalidData => {
+                text.clear();
+                Ok(true)
+            }
+            _ => Err(DrawFault::Stream(error)),
+        },
     }
 }
 
 // The line of a text that ends with a line feed.
-fn line_of(alloc: Global, number: u64, text: &str) -> Result<Option<ScriptLine>, AllocError> {
-    let Some(text) = text.strip_suffix('\n') else {
-        return Ok(None);
-    };
-    if text.len() > MOST_BYTES {
-        return Ok(None);
-    }
-    match read_line(text.as_bytes()) {
-        Some(line) => Ok(Some(ScriptLine {
-            number,
-            line,
-            text: String::from_str(alloc, text)?,
-        })),
-        None => Ok(None),
-    }
-}
-
-// Why the line may not stand behind those before it, where it may not. The opening ends with the first line that is no edge.
-fn misplaced(line: &Line, opening: &mut bool, workers: u64) -> Option<&'static str> {
-    match line {
-        Line::Edge(edge) if *opening && edge.joins_workers(workers) => None,
-        Line::Edge(edge) => Some(reason_of_edge(edge, *opening)),
-        _ => {
-            *opening = false;
-            None
-        }
-    }
+fn line_of(text: &str) -> Option<Line> {
+    read_line(text.strip_suffix('\n')?.as_bytes())
 }

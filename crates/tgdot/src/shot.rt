@@ -1,19 +1,18 @@
 //! What a step shows.
 
 use crate::look::{Colour, Look, Stroke};
-use crate::marks::Marks;
-use crate::run::{Run, Vertex};
+use crate::marks::{Marks, NO_MARKS};
+use crate::run::Run;
 use crate::script::ScriptLine;
-use crate::told::told;
+use crate::told::Told;
 use std::alloc::{AllocError, Global};
-use std::collections::BTreeSet;
 use std::fmt;
 use std::fmt::{Display, Formatter};
-use tg_model::{Law, Value};
+use tg_model::{Law, Opening, Value};
 use tg_rights::Label;
-use tg_text::Answer;
+use tg_text::{Answer, StockItem};
 
-/// What a step shows of the graph of a run: what its line was answered, and what stands out.
+/// The graph of a run at a step, what its line was answered, and what stands out.
 #[derive(Drop)]
 pub struct Shot {
     /// The number of the line.
@@ -21,31 +20,24 @@ pub struct Shot {
     /// The number and the line.
     pub heading: String,
     /// What the line was answered.
-    pub told: String,
+    pub told: Told,
     /// What stands out.
     pub marks: Marks,
-    reached: BTreeSet<u64>,
+    /// The run.
+    pub run: Run,
 }
 
-/// A vertex in a picture.
+/// A vertex in a picture. The first line of its text is its name and the note, and its state the second.
 #[derive(Clone, Copy)]
 pub struct VertexView<'a> {
     /// Whether it is a subject, or was one until it retired.
     pub ever_subject: bool,
-    /// The first line of its text.
-    pub name: NameText,
+    /// What is told behind its name.
+    pub note: &'static str,
     /// The second line.
     pub state: StateText<'a>,
     /// How it looks.
     pub look: Look,
-}
-
-/// The name of a vertex, and what is told of it.
-#[derive(Clone, Copy)]
-pub struct NameText {
-    name: u64,
-    is_unreached: bool,
-    is_twice: bool,
 }
 
 /// The law and the state of a vertex, or that it isn't there.
@@ -65,79 +57,70 @@ pub struct EdgeView {
 }
 
 impl Shot {
-    /// What is shown before the first command. The last edge line has this number, or 0 where there is none.
-    pub fn of_start(alloc: Global, run: &Run, number: u64) -> Result<Shot, AllocError> {
+    /// What is shown before the first command. The number is that of the last edge line, or 0.
+    pub fn start(alloc: Global, opening: &Opening) -> Result<Shot, AllocError> {
+        let heading = String::from_str(alloc, "start")?;
+        let run = Run::start(alloc, opening)?;
         Ok(Shot {
-            number,
-            heading: String::from_str(alloc, "start")?,
-            told: String::new(alloc),
-            marks: Marks::none(),
-            reached: run.reached()?,
+            number: opening.edges().len() as u64,
+            heading,
+            told: Told::new(alloc),
+            marks: NO_MARKS,
+            run,
         })
     }
 
-    /// What is shown after a line.
-    pub fn of_line(
-        alloc: Global,
-        run: &Run,
-        line: &ScriptLine,
-        answer: &Answer,
-    ) -> Result<Shot, AllocError> {
+    /// Runs a line with the boxes of this stock, and shows what is after it.
+    pub fn take(&mut self, stock: &[StockItem], line: &ScriptLine) -> Result<(), AllocError> {
+        let answer = self.run.take(stock, &line.line)?;
+        self.tell(line, &answer)
+    }
+
+    // Shows a line and its answer.
+    fn tell(&mut self, line: &ScriptLine, answer: &Answer) -> Result<(), AllocError> {
         let number = line.number;
         let text = line.text.as_str();
-        Ok(Shot {
-            number,
-            heading: format!(in alloc; "{number}: {text}")?,
-            told: told(alloc, answer)?,
-            marks: Marks::of(&line.line, answer),
-            reached: run.reached()?,
-        })
+        self.number = number;
+        self.marks = Marks::of(&line.line, answer);
+        self.heading.clear();
+        write!(self.heading, "{number}: {text}")?;
+        self.told.set(answer)
     }
 
     /// The vertex of this name, where it is shown. One that isn't there is shown where the picture needs it.
-    pub fn vertex<'a>(&self, run: &'a Run, name: u64) -> Option<VertexView<'a>> {
-        match run.vertices().get(&name) {
-            Some(vertex) => Some(self.view_of(name, vertex, run.has_retired(name, vertex))),
-            None if self.marks.needs(name) => Some(VertexView {
-                ever_subject: false,
-                name: self.name_of(name, false),
-                state: StateText {
-                    value: None,
-                    lacks_log: false,
-                },
-                look: self.look_of(name, false),
-            }),
-            None => None,
-        }
-    }
-
-    // A vertex that is there.
-    fn view_of<'a>(&self, name: u64, vertex: &'a Vertex, has_retired: bool) -> VertexView<'a> {
-        VertexView {
-            ever_subject: vertex.ever_subject,
-            name: self.name_of(name, has_retired),
-            state: StateText {
-                value: Some(&vertex.value),
-                lacks_log: self.marks.no_log == Some(name),
-            },
+    pub fn vertex(&self, name: u64) -> Option<VertexView<'_>> {
+        let (ever_subject, value) = match self.run.vertex(name) {
+            Some(vertex) => (vertex.ever_subject, Some(&vertex.value)),
+            None if self.marks.needs(name) => (false, None),
+            None => return None,
+        };
+        let has_retired = ever_subject && !self.run.is_subject(name);
+        let lacks_log = self.marks.no_log == Some(name);
+        Some(VertexView {
+            ever_subject,
+            note: self.note_of(name, has_retired),
+            state: StateText { value, lacks_log },
             look: self.look_of(name, has_retired),
-        }
+        })
     }
 
-    // The border of a subject that retired isn't dotted where no subject reaches it, so a word says that.
-    fn name_of(&self, name: u64, has_retired: bool) -> NameText {
-        NameText {
-            name,
-            is_unreached: has_retired && !self.reached.contains(&name),
-            is_twice: self.marks.twice == Some(name),
+    // What is told behind a name. The border of a subject that retired isn't dotted where no subject reaches it, so a word says that.
+    fn note_of(&self, name: u64, has_retired: bool) -> &'static str {
+        let is_unreached = has_retired && !self.run.is_reached(name);
+        let is_twice = self.marks.twice == Some(name);
+        match (is_unreached, is_twice) {
+            (true, true) => " unreached twice",
+            (true, false) => " unreached",
+            (false, true) => " twice",
+            (false, false) => "",
         }
     }
 
     // How a vertex looks.
     fn look_of(&self, name: u64, has_retired: bool) -> Look {
         let named = Some(name);
-        let mut look = Look::reached(self.reached.contains(&name));
-        look.is_bold = self.marks.named.contains(&named);
+        let is_bold = self.marks.named.contains(&named);
+        let mut look = Look::reached(self.run.is_reached(name), is_bold);
         if has_retired {
             look.stroke = Stroke::Dashed;
         }
@@ -148,17 +131,22 @@ impl Shot {
     }
 
     /// The edge between these, where it is shown: it is there, or it lacks rights, or it lost its last one.
-    pub fn edge(&self, run: &Run, ends: (u64, u64)) -> Option<EdgeView> {
-        let held = run.held(ends);
+    pub fn edge(&self, ends: (u64, u64)) -> Option<EdgeView> {
+        let held = self.run.held(ends);
         let missing = self.marks.missing_at(ends);
         let is_changed = self.marks.changed == Some(ends);
+        let look = Look::reached(self.run.is_reached(ends.0), is_changed);
         let look = match (missing, held) {
-            (Some(_), _) => Look::denied(),
-            (None, Some(_)) => Look {
-                is_bold: is_changed,
-                ..Look::reached(self.reached.contains(&ends.0))
+            (Some(_), _) => Look {
+                colour: Colour::Red,
+                stroke: Stroke::Dashed,
+                ..look
             },
-            (None, None) if is_changed => Look::lost(),
+            (None, Some(_)) => look,
+            (None, None) if is_changed => Look {
+                stroke: Stroke::Dotted,
+                ..look
+            },
             (None, None) => return None,
         };
         Some(EdgeView {
@@ -169,26 +157,23 @@ impl Shot {
     }
 }
 
-impl Display for NameText {
-    fn fmt<W: fmt::Write>(&self, f: &mut Formatter<W>) -> fmt::Result {
-        let name = self.name;
-        let unreached = if self.is_unreached { " unreached" } else { "" };
-        let twice = if self.is_twice { " twice" } else { "" };
-        write!(f, "{name}{unreached}{twice}")
-    }
-}
-
 impl Display for StateText<'_> {
     fn fmt<W: fmt::Write>(&self, f: &mut Formatter<W>) -> fmt::Result {
         let Some(value) = self.value else {
             return f.write_str("not there");
         };
         f.write_str(word_of(value.law))?;
-        for number in value.state.as_slice() {
-            write!(f, " {number}")?;
-        }
+        write_numbers(f, value.state.as_slice())?;
         f.write_str(if self.lacks_log { " no log" } else { "" })
     }
+}
+
+// Writes the numbers of a state, each behind a space.
+fn write_numbers<W: fmt::Write>(f: &mut Formatter<W>, numbers: &[u64]) -> fmt::Result {
+    for number in numbers {
+        write!(f, " {number}")?;
+    }
+    Ok(())
 }
 
 impl Display for EdgeView {

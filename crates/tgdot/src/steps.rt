@@ -2,13 +2,13 @@
 
 use crate::fault::DrawFault;
 use crate::frame::Frame;
-use crate::options::{DotOptions, LineRange};
-use crate::picture::draw_shot;
-use crate::run::Run;
-use crate::script::ScriptLine;
+use crate::options::LineRange;
+use crate::picture::write_shot;
+use crate::run::opening_of;
+use crate::script::Script;
 use crate::shot::Shot;
-use std::alloc::Global;
-use tg_text::{Line, StockItem};
+use std::alloc::{AllocError, Global};
+use tg_model::Opening;
 
 // The most steps that are drawn at once.
 const MOST_STEPS: u64 = 400;
@@ -16,19 +16,13 @@ const MOST_STEPS: u64 = 400;
 // The most vertices that are drawn at once, in all steps together.
 const MOST_VERTICES: u64 = 100_000;
 
-/// The steps of the lines in a range.
+// The steps of the lines in a range.
 #[derive(Clone, Copy)]
-pub struct Steps<'a> {
-    /// Where memory is taken from.
-    pub alloc: Global,
-    /// What the words of the command line ask for.
-    pub options: DotOptions<'a>,
-    /// The range.
-    pub range: LineRange,
-    /// All lines of the script.
-    pub lines: &'a [ScriptLine],
-    /// The boxes that creates and spawns take.
-    pub stock: &'a [StockItem],
+struct Steps<'a> {
+    alloc: Global,
+    range: LineRange,
+    script: &'a Script,
+    opening: &'a Opening,
 }
 
 // What the lines are run for.
@@ -38,122 +32,104 @@ enum Pass {
     Draw,
 }
 
+/// Writes a digraph for each line in the range, and one before the first of all, which has the number of the last edge line. All have the
+/// same vertices and edges, in the same order: so the lines are run twice, first to learn which there are.
+pub fn write_steps(
+    text: &mut String,
+    alloc: Global,
+    range: LineRange,
+    script: &Script,
+) -> Result<(), DrawFault> {
+    let number = count(range, script);
+    if number > MOST_STEPS {
+        return Err(DrawFault::TooMany {
+            most: MOST_STEPS,
+            what: "steps",
+        });
+    }
+    let opening = &opening_of(alloc, script)?;
+    let steps = Steps {
+        alloc,
+        range,
+        script,
+        opening,
+    };
+    let most = MOST_VERTICES.checked_div(number).unwrap_or(0);
+    if steps.write(text, most)? {
+        Ok(())
+    } else {
+        Err(DrawFault::TooMany {
+            most: MOST_VERTICES,
+            what: "vertices in all steps",
+        })
+    }
+}
+
 impl Steps<'_> {
-    /// Prints a digraph for each of the lines that is no edge line, and one before the first of them, which has the number of the last
-    /// edge line. All have the same vertices and edges, in the same order: so the lines are run twice, first to learn which there are.
-    pub fn draw<R: Print>(&self, rt: &R) -> Result<(), DrawFault> {
-        if self.count() > MOST_STEPS {
-            return Err(DrawFault::TooManySteps { most: MOST_STEPS });
+    // Writes the steps in one frame, unless it has more vertices than these. Whether they were written.
+    fn write(&self, text: &mut String, most: u64) -> Result<bool, AllocError> {
+        let mut frame = Frame::new(self.alloc, most);
+        self.pass(text, &mut frame, Pass::Measure)?;
+        if frame.is_over() {
+            return Ok(false);
         }
-        let mut frame = Frame::new(self.alloc);
-        self.pass(rt, &mut frame, Pass::Measure)?;
-        self.pass(rt, &mut frame, Pass::Draw)
+        self.pass(text, &mut frame, Pass::Draw)?;
+        Ok(true)
     }
 
     // Runs the lines once.
-    fn pass<R: Print>(&self, rt: &R, frame: &mut Frame, pass: Pass) -> Result<(), DrawFault> {
-        let mut run = Run::start(self.alloc, self.options, self.lines, self.stock)?;
-        self.show_all(rt, &mut run, frame, pass)
+    fn pass(&self, text: &mut String, frame: &mut Frame, pass: Pass) -> Result<(), AllocError> {
+        let mut shot = Shot::start(self.alloc, self.opening)?;
+        self.show_all(text, frame, &mut shot, pass)
     }
 
-    // Shows the start, and then each line.
-    fn show_all<R: Print>(
+    // Shows the start, and what is after each line.
+    fn show_all(
         &self,
-        rt: &R,
-        run: &mut Run,
+        text: &mut String,
         frame: &mut Frame,
+        shot: &mut Shot,
         pass: Pass,
-    ) -> Result<(), DrawFault> {
-        self.show_start(rt, run, frame, pass)?;
-        for line in self.lines {
+    ) -> Result<(), AllocError> {
+        self.show(text, frame, shot, pass)?;
+        for line in self.script.lines.as_slice() {
             if line.number > self.range.to {
                 break;
             }
-            self.take(rt, run, frame, line, pass)?;
+            shot.take(self.script.stock.as_slice(), line)?;
+            self.show(text, frame, shot, pass)?;
         }
         Ok(())
     }
 
-    // Shows the graph before the first command, if it is to be shown.
-    fn show_start<R: Print>(
+    // Shows a step if it is to be shown.
+    fn show(
         &self,
-        rt: &R,
-        run: &Run,
+        text: &mut String,
         frame: &mut Frame,
+        shot: &mut Shot,
         pass: Pass,
-    ) -> Result<(), DrawFault> {
-        let number = self.last_edge();
-        if !self.range.contains(number) {
+    ) -> Result<(), AllocError> {
+        if !self.range.contains(shot.number) {
             return Ok(());
         }
-        let shot = Shot::of_start(self.alloc, run, number)?;
-        self.show(rt, run, frame, &shot, pass)
-    }
-
-    // Runs a line, and shows its step if it is to be shown. The edge lines stand before the start.
-    fn take<R: Print>(
-        &self,
-        rt: &R,
-        run: &mut Run,
-        frame: &mut Frame,
-        line: &ScriptLine,
-        pass: Pass,
-    ) -> Result<(), DrawFault> {
-        let answer = run.take(&line.line)?;
-        if matches!(line.line, Line::Edge(_)) || !self.range.contains(line.number) {
-            return Ok(());
-        }
-        let shot = Shot::of_line(self.alloc, run, line, &answer)?;
-        self.show(rt, run, frame, &shot, pass)
-    }
-
-    // Shows a step.
-    fn show<R: Print>(
-        &self,
-        rt: &R,
-        run: &Run,
-        frame: &mut Frame,
-        shot: &Shot,
-        pass: Pass,
-    ) -> Result<(), DrawFault> {
+        shot.run.reach()?;
         match pass {
-            Pass::Measure => self.measure(run, frame, shot),
-            Pass::Draw => Ok(draw_shot(rt, self.alloc, frame, run, shot)?),
+            Pass::Measure => frame.widen(shot),
+            Pass::Draw => write_shot(text, frame, shot),
         }
     }
+}
 
-    // Has the frame hold a step, while there is room for its vertices in all steps.
-    fn measure(&self, run: &Run, frame: &mut Frame, shot: &Shot) -> Result<(), DrawFault> {
-        frame.widen(run, shot)?;
-        let vertices = frame.vertices.len() as u64;
-        if vertices.saturating_mul(self.count()) > MOST_VERTICES {
-            return Err(DrawFault::TooManyVertices {
-                most: MOST_VERTICES,
-            });
-        }
-        Ok(())
-    }
-
-    // How many steps there are.
-    fn count(&self) -> u64 {
-        let last = self.range.to.min(self.lines.len() as u64);
-        let first = self.range.from.max(self.last_edge());
-        if first > last {
-            0
-        } else {
-            (last - first).saturating_add(1)
-        }
-    }
-
-    // The number of the last edge line, which stand before all others, or 0.
-    fn last_edge(&self) -> u64 {
-        let mut last = 0;
-        for line in self.lines {
-            match line.line {
-                Line::Edge(_) => last = line.number,
-                _ => break,
-            }
-        }
-        last
+// How many steps there are.
+fn count(range: LineRange, script: &Script) -> u64 {
+    let last_edge = script.edges.len() as u64;
+    let last_line = last_edge.saturating_add(script.lines.len() as u64);
+    let last = range.to.min(last_line);
+    let first = range.from.max(last_edge);
+    if first > last {
+        0
+    } else {
+        (last - first).saturating_add(1)
     }
 }

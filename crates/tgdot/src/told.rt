@@ -5,15 +5,38 @@ use std::alloc::{AllocError, Global};
 use std::str;
 use tg_text::{Answer, Put, Sink, write_reply};
 
-// A text as a sink. It takes all bytes, and remembers whether one was lost.
+/// The text of an answer. As a sink it takes all bytes, and remembers whether one was lost.
 #[derive(Drop)]
-struct InText {
-    text: String,
+pub struct Told {
+    /// The answer as a run of `tgstore` prints it, without the line feed.
+    pub text: String,
     failed: bool,
     finished: bool,
 }
 
-impl Sink for InText {
+impl Told {
+    /// No text.
+    pub fn new(alloc: Global) -> Told {
+        Told {
+            text: String::new(alloc),
+            failed: false,
+            finished: true,
+        }
+    }
+
+    /// Puts the text of an answer in place of the last one.
+    pub fn set(&mut self, answer: &Answer) -> Result<(), AllocError> {
+        self.text.clear();
+        let written = write_reply(self, answer);
+        if self.failed || written.is_err() {
+            return Err(AllocError);
+        }
+        let _ = self.text.pop();
+        Ok(())
+    }
+}
+
+impl Sink for Told {
     ghost taken = { λ _. None };
 
     ghost failures = { λ _. 0 };
@@ -34,20 +57,4 @@ impl Sink for InText {
         self.finished = true;
         true
     }
-}
-
-/// The answer as a run of `tgstore` prints it, without the line feed.
-pub fn told(alloc: Global, answer: &Answer) -> Result<String, AllocError> {
-    let mut sink = InText {
-        text: String::new(alloc),
-        failed: false,
-        finished: true,
-    };
-    let written = write_reply(&mut sink, answer);
-    if sink.failed || written.is_err() {
-        return Err(AllocError);
-    }
-    let mut text = sink.text;
-    let _ = text.pop();
-    Ok(text)
 }

@@ -1,0 +1,56 @@
+//! What subjects reach.
+
+use std::alloc::{AllocError, Global};
+use std::collections::BTreeSet;
+use tg_model::Graph;
+
+/// The vertices that a subject reaches along edges.
+#[derive(Drop)]
+pub struct Reach {
+    /// Their names.
+    pub names: BTreeSet<u64>,
+    // Those of them from which nothing was reached yet.
+    waiting: Vec<u64>,
+}
+
+impl Reach {
+    /// Nothing was reached yet.
+    pub fn new(alloc: Global) -> Reach {
+        Reach {
+            names: BTreeSet::new(alloc),
+            waiting: Vec::new(alloc),
+        }
+    }
+
+    /// Looks anew for what the subjects of a graph reach along edges with these ends.
+    pub fn fill(&mut self, graph: &Graph, edges: &BTreeSet<(u64, u64)>) -> Result<(), AllocError> {
+        self.names.clear();
+        for name in graph.subjects() {
+            self.add(*name)?;
+        }
+        // Each vertex waits once.
+        for _ in 0..graph.made() {
+            let Some(from) = self.waiting.pop() else {
+                break;
+            };
+            self.add_targets(from, edges)?;
+        }
+        Ok(())
+    }
+
+    // Adds the targets of a vertex.
+    fn add_targets(&mut self, from: u64, edges: &BTreeSet<(u64, u64)>) -> Result<(), AllocError> {
+        for (_, to) in edges.range((from, 0)..=(from, u64::MAX)) {
+            self.add(*to)?;
+        }
+        Ok(())
+    }
+
+    // Adds a vertex, and lets it wait if it wasn't reached before.
+    fn add(&mut self, name: u64) -> Result<(), AllocError> {
+        if self.names.insert(name)? {
+            self.waiting.push(name)?;
+        }
+        Ok(())
+    }
+}
