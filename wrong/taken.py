@@ -104,7 +104,7 @@ def left_of(body, key, clauses):
 
 @dataclass
 class Clauses:
-    """The `ensures` of a copy that were left out, and the name of the one that was left where there is just one."""
+    """The `ensures` of a copy that were left out, and the name of the one that stands there where it is the only one."""
 
     left_out: list = field(default_factory=list)
     sole: str = ""
@@ -142,7 +142,7 @@ def with_clauses(lines, wanted, answered):
         is_kept = head[1] != "ensures" or (head[2] or head[1]) in there if head else is_kept
         kept += [line] if is_kept else []
     left_out = [it for it in names if it not in there]
-    return kept + lines[end:], Clauses(left_out, there[0] if left_out and len(there) == 1 else "")
+    return kept + lines[end:], Clauses(left_out, there[0] if len(there) == 1 else "")
 
 
 def answers_in(text):
