@@ -151,6 +151,17 @@ def answers_in(text):
     return [(it.split()[1] if it.startswith("pub ") else "", it) for it in parts]
 
 
+def without_unused(text):
+    """The answers without what they take from their function's goals by name and don't use: with a clause that is left out its paths go."""
+    kept = []
+    for line in text.split("\n"):
+        taken = re.fullmatch(r"(use \S+\.Goals\.)\{(.*)\}", line)
+        rest = text.replace(line, "") if taken else ""
+        names = [it for it in taken[2].split(", ") if re.search(rf"(?<![\w+.-]){re.escape(it)}(?![\w+-])", rest)] if taken else []
+        kept += [f"{taken[1]}{{{', '.join(names)}}}"] if names else [] if taken else [line]
+    return "\n".join(kept)
+
+
 def add_proof(folder, crate, path, name, clauses):
     """Copies the folder of a function's proof for the copy of the function, whose goals it then names, without the answers to clauses that are left out."""
     at, to = (f"{folder}/proofs/{it.replace('::', '/')}" for it in (path, path_of(path, name)))
@@ -162,6 +173,6 @@ def add_proof(folder, crate, path, name, clauses):
         with open(f"{to}/{file}", encoding="utf-8") as it:
             text = own.sub(f"Rattle.{crate}.proofs.{path_of(path, name).replace('::', '.')}", it.read())
         if file == "Answers.antt":
-            text = "".join(part for goal, part in answers_in(text) if not clauses.leaves_out(goal))
+            text = without_unused("".join(part for goal, part in answers_in(text) if not clauses.leaves_out(goal)))
         with open(f"{to}/{file}", "w", encoding="utf-8") as out:
             out.write(text)
