@@ -1,12 +1,12 @@
 //! The numbers in the help.
 use std::alloc::{AllocError, Global};
 use std::test::Fail;
-use tg_block::CELLS;
 use tg_model::{MAX_VERTICES, MAX_WORKERS};
 use tg_program::{
     DEFAULT_BLOCKS, DEFAULT_HELPERS, DEFAULT_VERTICES, DEFAULT_WORKERS, MOST_BLOCKS, options,
 };
 use tg_script::{MOST_BYTES, MOST_HELPERS, MOST_LINE_BYTES};
+use tg_word::CELLS;
 
 // The text that is written instead of a run where help is asked for.
 fn help_text(alloc: Global) -> Result<String, Fail> {
@@ -39,7 +39,7 @@ fn numbers() -> [(&'static str, u64, &'static str); 11] {
         ("[default: ", DEFAULT_VERTICES, "]"),
         (
             "How many blocks of ",
-            CELLS as u64,
+            CELLS,
             " cells the heap may have, from 1 to ",
         ),
         (" cells the heap may have, from 1 to ", MOST_BLOCKS, ". "),

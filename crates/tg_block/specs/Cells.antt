@@ -1,12 +1,14 @@
--- A block: 64 cells of 8 words.
+-- A block: CELLS cells of WORDS words.
 use Rattle.std.specs.Prelude.{◌≡◌, ℕ, Bool, ◌==◌, if◌then◌else◌, List, [], length, replicate, slice_index, slice_index_or, slice_set}
 use Rattle.std.specs.List.{All, list_all}
+use Rattle.tg_word.specs.declared.TheConstants.{CELLS}
+use Rattle.tg_block.specs.declared.TheConstants.{WORDS}
 use Rattle.tg_block.specs.declared.CellKind.{CellKind}
 use Rattle.tg_block.specs.declared.CellKind.TheVariants.{Free, Object, Chunk, Bad}
 
 -- as many cells as a block has, each with as many words as a cell has
 abbrev pub IsBlock : List (List ℕ) → Type 0
-IsBlock cells = (length cells ≡ 64) × All (λ words. length words ≡ 8) cells
+IsBlock cells = (length cells ≡ CELLS) × All (λ words. length words ≡ WORDS) cells
 
 abbrev pub cell_of : List (List ℕ) → ℕ → List ℕ
 cell_of cells cell = slice_index_or cells cell []
@@ -16,10 +18,10 @@ abbrev pub with_word : List (List ℕ) → ℕ → ℕ → ℕ → List (List �
 with_word cells cell i word = slice_set cells cell (slice_set (cell_of cells cell) i word)
 
 abbrev pub free_cell : List ℕ
-free_cell = replicate 8 0
+free_cell = replicate WORDS 0
 
 abbrev pub free_block : List (List ℕ)
-free_block = replicate 64 free_cell
+free_block = replicate CELLS free_cell
 
 abbrev pub all_are_zero : List ℕ → Bool
 all_are_zero words = list_all (λ word. word == 0) words

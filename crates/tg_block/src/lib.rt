@@ -19,13 +19,13 @@
 #![tactic(auto)]
 
 ghost use Rattle.std.specs.Prelude.{◌≡◌, ℕ, ◌<◌, List, IfOk, slice_index, slice_set};
+ghost use Rattle.tg_word.specs.declared.TheConstants.{CELLS};
+ghost use Rattle.tg_block.specs.declared.TheConstants.{WORDS};
 ghost use Rattle.tg_block.specs.Cells.{IsBlock, cell_of, kind_of, with_word, free_block, all_are_zero};
 
 use std::alloc::{AllocError, Global};
 use std::marker::Model;
-
-/// How many cells a block has.
-pub const CELLS: usize = 64;
+use tg_word::CELLS;
 
 /// How many words a cell has.
 pub const WORDS: usize = 8;
@@ -83,7 +83,7 @@ impl Block {
     pub fn new(alloc: Global) -> Result<Block, AllocError>
         ensures { IfOk result (λ block. block ≡ free_block) }
     {
-        let cells = vec![in alloc; [0; WORDS]; CELLS]?;
+        let cells = vec![in alloc; [0; WORDS]; CELLS as usize]?;
         Ok(Block { cells })
     }
 
@@ -108,8 +108,8 @@ impl Block {
     /// A word of a cell.
     #[inline]
     pub fn word(&self, cell: usize, i: usize) -> u64
-        requires cell_inside { cell < 64 }
-        requires word_inside { i < 8 }
+        requires cell_inside { cell < CELLS }
+        requires word_inside { i < WORDS }
         ensures word { result ≡ slice_index (cell_of self.now cell) i }
         ensures block { IsBlock self.now }
     {
@@ -119,8 +119,8 @@ impl Block {
     /// Sets a word of a cell; all other words stay.
     #[inline]
     pub fn set_word(&mut self, cell: usize, i: usize, word: u64)
-        requires cell_inside { cell < 64 }
-        requires word_inside { i < 8 }
+        requires cell_inside { cell < CELLS }
+        requires word_inside { i < WORDS }
         ensures { self.new ≡ with_word self.old cell i word }
     {
         self.cells[cell][i] = word;
@@ -129,7 +129,7 @@ impl Block {
     /// The words of a cell.
     #[inline]
     pub fn cell(&self, at: usize) -> [u64; WORDS]
-        requires { at < 64 }
+        requires { at < CELLS }
         ensures words { result ≡ cell_of self.now at }
         ensures block { IsBlock self.now }
     {
@@ -139,7 +139,7 @@ impl Block {
     /// The words of a cell, where they stand.
     #[inline(always)]
     pub fn words(&self, at: usize) -> &[u64; WORDS]
-        requires { at < 64 }
+        requires { at < CELLS }
         ensures words { result.now ≡ cell_of self.now at }
         ensures block { IsBlock self.now }
     {
@@ -149,7 +149,7 @@ impl Block {
     /// Sets the words of a cell; all other cells stay.
     #[inline]
     pub fn set_cell(&mut self, at: usize, words: [u64; WORDS])
-        requires { at < 64 }
+        requires { at < CELLS }
         ensures { self.new ≡ slice_set self.old at words }
     {
         self.cells[at] = words;
@@ -157,7 +157,7 @@ impl Block {
 
     /// What a cell is.
     pub fn kind(&self, cell: usize) -> CellKind
-        requires { cell < 64 }
+        requires { cell < CELLS }
         ensures { result ≡ kind_of (cell_of self.now cell) }
     {
         let words = &self.cells[cell];

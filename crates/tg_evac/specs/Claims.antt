@@ -1,6 +1,7 @@
 -- What a collection claims: the cells that were won, in order, each with the word of its new place.
 use Rattle.std.specs.Prelude.{◌≡◌, ◌≢◌, ℕ, ◌+◌, ◌-◌, ◌*◌, ◌^◌, ◌<◌, ◌≤◌, ◌↔◌, ◌⊎◌, ◌==◌, ◌||◌, Bool, true, false, if◌then◌else◌, not, eqb, List, length, map, slice_index, slice_index_or}
 use Rattle.std.specs.List.{All, Contains, IsDistinct, filter, flat_map, take_while}
+use Rattle.tg_word.specs.declared.TheConstants.{CELLS, MOST_SPACE_CELLS}
 use Rattle.tg_word.specs.declared.Place.{Place}
 use Rattle.tg_word.specs.Word.{link_to, place_in}
 use Rattle.tg_space.specs.Closure.{IsInClosure}
@@ -41,7 +42,7 @@ is_in_old w = is_in 0 w
 pub record IsPlanFor (kind : Kind) (t : SpaceTable) (plan : Plan) : Type 0 where
   pub same : plan.kind ≡ kind
   pub kept : plan.kept ≡ kept_blocks kind t.spaces
-  pub room : plan.room ≡ 64 * t.limits.space_blocks
+  pub room : plan.room ≡ CELLS * t.limits.space_blocks
 
 -- every reference and link of a held cell is empty, or names a cell that is not free
 pub record HavePointers (h : SpaceList) : Type 0 where
@@ -95,7 +96,7 @@ pub record IsGiven (kept : ℕ) (next : List ℕ) (word : ℕ) : Type 0 where
   pub number : ℕ
   pub two : space < 2
   pub before : number < slice_index next space
-  pub behind : space ≡ 0 → 64 * kept ≤ number
+  pub behind : space ≡ 0 → CELLS * kept ≤ number
   pub is : word ≡ link_to (place_in_space space number)
 
 -- no word is given twice
@@ -108,7 +109,7 @@ won_in space won = filter (is_in space) won
 
 -- the number of the first new cell of Old, behind the blocks that stay, or of Aged
 abbrev pub first_new : ℕ → ℕ → ℕ
-first_new kept space = if space == 0 then 64 * kept else 0
+first_new kept space = if space == 0 then CELLS * kept else 0
 
 -- the pairs have the places of a space one after the other, from a number on
 abbrev pub AreGivenInOrder : ℕ → ℕ → List Win → Type 0
@@ -119,10 +120,10 @@ pub record AreClaims (c : Claimed) : Type 0 where
   pub given : All (IsGiven c.plan.kept c.next) (words_won c.won)
   pub apart : AreApart (words_won c.won)
   pub two : length c.next ≡ 2
-  pub counted : 64 * c.plan.kept + length c.won ≡ slice_index c.next 0 + slice_index c.next 1
-  pub behind : 64 * c.plan.kept ≤ slice_index c.next 0
-  pub few : (space : ℕ) → slice_index c.next space ≤ 2 ^ 26
-  pub room : c.plan.room ≤ 2 ^ 26
+  pub counted : CELLS * c.plan.kept + length c.won ≡ slice_index c.next 0 + slice_index c.next 1
+  pub behind : CELLS * c.plan.kept ≤ slice_index c.next 0
+  pub few : (space : ℕ) → slice_index c.next space ≤ MOST_SPACE_CELLS
+  pub room : c.plan.room ≤ MOST_SPACE_CELLS
   -- the pairs of each space stand in order, up to the next number, and are all copies there
   pub in_order : (space : ℕ) → space < 2 → AreGivenInOrder space (first_new c.plan.kept space) (won_in space c.won)
   pub ends : (space : ℕ) → space < 2 → first_new c.plan.kept space + length (won_in space c.won) ≡ slice_index c.next space
@@ -132,7 +133,7 @@ pub record AreClaims (c : Claimed) : Type 0 where
 
 -- as many different cells were won as there is room for
 pub record HasFilledRoom (c : Claimed) : Type 0 where
-  pub all : c.plan.room ≤ 64 * c.plan.kept + length (cells_won c.won)
+  pub all : c.plan.room ≤ CELLS * c.plan.kept + length (cells_won c.won)
   pub distinct : IsDistinct eqb (cells_won c.won)
 
 -- ---- what claiming does

@@ -3,7 +3,9 @@ use Rattle.std.specs.Prelude.{◌≡◌, ◌≢◌, ℕ, ◌-◌, ◌<◌, ◌�
 use Rattle.std.specs.List.{All, Contains, flat_map}
 use Rattle.std.specs.Vec.{vec_capacity}
 use Rattle.std.specs.declared.vec.Vec.{Vec}
+use Rattle.tg_block.specs.declared.TheConstants.{WORDS}
 use Rattle.tg_block.specs.Cells.{free_cell, cell_of}
+use Rattle.tg_word.specs.declared.TheConstants.{CELLS}
 use Rattle.tg_word.specs.declared.Place.{Place}
 use Rattle.tg_word.specs.Word.{IsPlace, link_to, place_in}
 use Rattle.tg_space.specs.Collection.{new_place}
@@ -50,7 +52,7 @@ pub record IsPlaceIn (to kept : ℕ) (blocks : BlockList) (p : Place) : Type 0 w
   pub space : p.space ≡ to
   pub behind : kept ≤ p.block
   pub block : p.block - kept < length blocks
-  pub cell : p.cell < 64
+  pub cell : p.cell < CELLS
 
 -- the cell at a place in these blocks
 abbrev pub new_cell : ℕ → BlockList → Place → List ℕ
@@ -58,18 +60,18 @@ new_cell kept blocks p = cell_of (slice_index_or blocks (p.block - kept) []) p.c
 
 -- at most as many cells as a block has, each with as many words as a cell has
 abbrev pub IsOpenBlock : List (List ℕ) → Type 0
-IsOpenBlock cells = (length cells ≤ 64) × All (λ words. length words ≡ 8) cells
+IsOpenBlock cells = (length cells ≤ CELLS) × All (λ words. length words ≡ WORDS) cells
 
 -- full blocks of a space, and the cells of an open one, which has room for all that a block has
 pub record HaveOpenBlock {A : Type 0} (full : BlockList) (last : Vec (List ℕ) A) : Type 0 where
   pub space : IsSpace full
   pub fits : IsOpenBlock last.items
-  pub cells : 64 ≤ vec_capacity last
+  pub cells : CELLS ≤ vec_capacity last
 
 -- the blocks have these cells one after the other, and free ones behind the last
 pub record HoldCells (cells : List (List ℕ)) (blocks : BlockList) : Type 0 where
   pub free : ℕ
-  pub few : free < 64
+  pub few : free < CELLS
   pub is : flat_map (λ block. block) blocks ≡ cells ++ replicate free free_cell
 
 -- ---- copies

@@ -2,6 +2,7 @@
 -- what is known of it, and what it tells where it is full, are told by three functions of the table.
 use Rattle.std.specs.Prelude.{◌≡◌, ℕ, ◌*◌, ◌<◌, ◌≤◌, Bool, List, length, Result, IfErr, IfOk, OnOk}
 use Rattle.std.specs.List.{All, Contains}
+use Rattle.tg_word.specs.declared.TheConstants.{CELLS}
 use Rattle.tg_word.specs.declared.Place.{Place}
 use Rattle.tg_word.specs.Word.{place_in}
 use Rattle.tg_space.specs.SpaceList.{SpaceList, cells_of}
@@ -18,7 +19,7 @@ use Rattle.tg_evac.specs.Claimers.{AddsWins, AreScanned, IsLink, KeepsWins, Know
 -- the cell is one of those that are moved, and its new place is to be in Old or in Aged
 pub record MayClaim {Fixed : Type 0} (w : Walked Fixed) (cell space : ℕ) : Type 0 where
   pub inside : cell < w.cells
-  pub moved : 64 * w.kept ≤ cell
+  pub moved : CELLS * w.kept ≤ cell
   pub two : space < 2
 
 -- the cell has a place, whose word is answered: a new one in the space, unless it had one

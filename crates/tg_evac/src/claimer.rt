@@ -1,5 +1,6 @@
 //! What a walk over the cells asks of a table of claims.
 ghost use Rattle.std.specs.Prelude.{◌≡◌, ℕ, ◌^◌, ◌<◌, ◌≤◌, length};
+ghost use Rattle.tg_word.specs.declared.TheConstants.{MOST_SPACE_CELLS};
 ghost use Rattle.tg_word.specs.declared.Place.{Place as PlaceOf};
 ghost use Rattle.tg_word.specs.Word.{place_in};
 ghost use Rattle.tg_evac.specs.Claims.{win_at, won_in};
@@ -30,7 +31,7 @@ pub trait Claimer {
     fn len(&self) -> usize
         ensures count { result ≡ length (walked self.now).won }
         ensures few { result ≤ (walked self.now).cells }
-        ensures room { (space : ℕ) → space < 2 → length (won_in space (walked self.now).won) ≤ 2 ^ 26 };
+        ensures room { (space : ℕ) → space < 2 → length (won_in space (walked self.now).won) ≤ MOST_SPACE_CELLS };
 
     /// The pair that was won as the k-th. Its copy is in Old or in Aged.
     fn win(&self, k: usize) -> Win

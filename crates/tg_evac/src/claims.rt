@@ -1,6 +1,7 @@
 //! The plain table of claims, which one thread has for itself.
 ghost use Rattle.std.specs.Prelude.{◌≡◌, ◌≢◌, ℕ, ◌+◌, ◌<◌, ◌≤◌, ◌^◌, ◌*◌, [], length, slice_index, IfErr, IfOk};
 ghost use Rattle.std.specs.List.{Contains};
+ghost use Rattle.tg_word.specs.declared.TheConstants.{CELLS, MOST_SPACE_BLOCKS, MOST_SPACE_CELLS};
 ghost use Rattle.tg_word.specs.Word.{place_in};
 ghost use Rattle.tg_evac.specs.Claims.{HasFilledRoom, win_at, won_in};
 ghost use Rattle.tg_evac.specs.Claimers.{HasPlacesOf, IsLink, walked_of};
@@ -12,9 +13,8 @@ use crate::plan::Plan;
 use crate::win::Win;
 use std::alloc::Global;
 use std::marker::Model;
-use tg_block::CELLS;
 use tg_space::ForwardingTable;
-use tg_word::link;
+use tg_word::{CELLS, link};
 
 /// What one collection has claimed: the forwarding word of each cell, and the cells that were won, in order.
 #[derive(Drop)]
@@ -31,27 +31,28 @@ pub struct Claims {
 impl Model for Claims {
     ghost use Rattle.std.specs.Prelude.{◌≡◌, ◌*◌, ◌-◌, ◌≤◌, length, vec_capacity};
     ghost use Rattle.std.specs.List.{All};
+    ghost use Rattle.tg_word.specs.declared.TheConstants.{CELLS};
     ghost use Rattle.tg_evac.specs.Claims.{Claimed, AreClaims, wins_at};
 
     ghost Value = { Claimed };
 
     ghost view = { λ c. record { plan = c.plan; forward = c.forward.words; won = wins_at c.forward.words c.won.items; next = c.next } };
 
-    ghost invariant = { λ c. AreClaims (record { plan = c.plan; forward = c.forward.words; won = wins_at c.forward.words c.won.items; next = c.next }) × (c.forward.skipped ≡ 64 * c.plan.kept) × All (λ w. 64 * c.plan.kept ≤ w.cell) (wins_at c.forward.words c.won.items) × (length c.forward.words - 64 * c.plan.kept ≤ vec_capacity c.won) };
+    ghost invariant = { λ c. AreClaims (record { plan = c.plan; forward = c.forward.words; won = wins_at c.forward.words c.won.items; next = c.next }) × (c.forward.skipped ≡ CELLS * c.plan.kept) × All (λ w. CELLS * c.plan.kept ≤ w.cell) (wins_at c.forward.words c.won.items) × (length c.forward.words - CELLS * c.plan.kept ≤ vec_capacity c.won) };
 }
 
 impl Claims {
     /// No claim yet, over as many cells. Those of the blocks that stay have no forwarding word.
     pub fn new(alloc: Global, cells: u64, plan: Plan) -> Result<Self, CollectFault>
-        requires room { plan.room ≤ 2 ^ 26 }
-        requires kept { plan.kept ≤ 2 ^ 20 }
-        requires within { 64 * plan.kept ≤ cells }
+        requires room { plan.room ≤ MOST_SPACE_CELLS }
+        requires kept { plan.kept ≤ MOST_SPACE_BLOCKS }
+        requires within { CELLS * plan.kept ≤ cells }
         ensures won { IfOk result (λ claims. claims.won ≡ []) }
         ensures whole { IfOk result (λ claims. length claims.forward ≡ cells) }
         ensures plan { IfOk result (λ claims. claims.plan ≡ plan) }
         ensures refused { IfErr result (λ fault. fault ≡ CollectFault.OutOfMemory) }
     {
-        let kept = CELLS as u64 * plan.kept;
+        let kept = CELLS * plan.kept;
         Ok(Claims {
             plan,
             forward: ForwardingTable::new(alloc, cells, kept)?,
@@ -66,7 +67,7 @@ impl Claims {
     fn count(&self) -> usize
         ensures count { result ≡ length self.now.won }
         ensures few { result ≤ length self.now.forward }
-        ensures room { (space : ℕ) → space < 2 → length (won_in space self.now.won) ≤ 2 ^ 26 }
+        ensures room { (space : ℕ) → space < 2 → length (won_in space self.now.won) ≤ MOST_SPACE_CELLS }
     {
         self.won.len()
     }
@@ -90,7 +91,7 @@ impl Claims {
     #[inline(always)]
     fn word(&self, cell: u64) -> u64
         requires inside { cell < length self.now.forward }
-        requires moved { 64 * self.now.plan.kept ≤ cell }
+        requires moved { CELLS * self.now.plan.kept ≤ cell }
         ensures word { result ≡ slice_index self.now.forward cell }
         ensures won { result ≢ 0 → Contains self.now.won (record { cell = cell; word = result }) }
         ensures link { result ≢ 0 → IsLink result }

@@ -4,6 +4,7 @@ ghost use Rattle.tg_space.specs.SpaceList.{IsSpace, cells_of};
 ghost use Rattle.tg_space.specs.Soundness.{IsPointer};
 ghost use Rattle.tg_space.specs.Targets.{cell_numbered, from_space, named_by, pointers_of};
 ghost use Rattle.std.specs.List.{All};
+ghost use Rattle.tg_word.specs.declared.TheConstants.{MOST_SPACE_CELLS};
 ghost use Rattle.tg_evac.specs.Claims.{win_at, won_in};
 ghost use Rattle.tg_evac.specs.Copies.{HoldCells};
 ghost use Rattle.tg_evac.specs.Claimers.{AddsCopy, AreRead};
@@ -55,8 +56,8 @@ impl Copies {
 
     /// The blocks of both spaces; spare ones that are left are given back. It is refused only where memory was.
     pub fn finish(self) -> Result<Adoption, AllocError>
-        requires aged { length self.aged ≤ 2 ^ 26 }
-        requires old { length self.old ≤ 2 ^ 26 }
+        requires aged { length self.aged ≤ MOST_SPACE_CELLS }
+        requires old { length self.old ≤ MOST_SPACE_CELLS }
         ensures aged { IfOk result (λ adoption. HoldCells self.aged adoption.aged × IsSpace adoption.aged) }
         ensures old { IfOk result (λ adoption. HoldCells self.old adoption.old × IsSpace adoption.old) }
     {
@@ -77,8 +78,8 @@ impl Copies {
         words: &[u64; WORDS],
         is_in_old: bool,
     ) -> Result<(), CollectFault>
-        requires old_room { is_in_old ≡ true → length self.now.old < 2 ^ 26 }
-        requires aged_room { is_in_old ≡ false → length self.now.aged < 2 ^ 26 }
+        requires old_room { is_in_old ≡ true → length self.now.old < MOST_SPACE_CELLS }
+        requires aged_room { is_in_old ≡ false → length self.now.aged < MOST_SPACE_CELLS }
         requires pointers { All (IsPointer spaces.now.spaces) (pointers_of words.now) }
         requires table { IsTableFor kind spaces.now.spaces (C.walked claimer.old) }
         ensures claims { ClaimsAll C.walked C.knows C.is_full spaces.now.spaces is_in_old (named_by (from_space (C.walked claimer.old).kind) spaces.now.spaces (pointers_of words.now)) claimer.old claimer.new result }
@@ -218,7 +219,7 @@ fn scan_next<C: Claimer>(
     requires walk { IsUnderWay C.walked C.knows kind spaces.now.spaces claimer.old copies.now.scanned copies.now.aged copies.now.old }
     requires next { copies.now.scanned < length (C.walked claimer.old).won }
     requires words { words.now ≡ cell_numbered spaces.now.spaces (win_at (C.walked claimer.old).won copies.now.scanned).cell }
-    requires room { (space : ℕ) → space < 2 → length (won_in space (C.walked claimer.old).won) ≤ 2 ^ 26 }
+    requires room { (space : ℕ) → space < 2 → length (won_in space (C.walked claimer.old).won) ≤ MOST_SPACE_CELLS }
     ensures scans { Scans C.walked C.knows C.is_full spaces.now.spaces claimer.old claimer.new (copies.entry.now.scanned + 1) copies.exit.now.aged copies.exit.now.old result }
     ensures next { copies.exit.now.scanned ≡ copies.entry.now.scanned }
 {

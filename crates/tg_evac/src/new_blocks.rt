@@ -1,6 +1,7 @@
 //! New blocks of a space, filled cell after cell.
 ghost use Rattle.std.specs.Prelude.{◌≡◌, ◌<◌, ◌≤◌, ◌-◌, ◌^◌, ◌++◌, ◌∷◌, [], length, replicate, vec_capacity, IfOk, OnOk};
 ghost use Rattle.std.specs.List.{All, flat_map};
+ghost use Rattle.tg_word.specs.declared.TheConstants.{CELLS, MOST_SPACE_BLOCKS, MOST_SPACE_CELLS};
 ghost use Rattle.tg_block.specs.Cells.{IsBlock, free_cell};
 ghost use Rattle.tg_space.specs.Soundness.{IsPointer};
 ghost use Rattle.tg_space.specs.SpaceList.{IsSpace};
@@ -15,8 +16,9 @@ use crate::images::move_cell;
 use std::alloc::{AllocError, Global};
 use std::marker::Model;
 use std::mem;
-use tg_block::{Block, CELLS, WORDS};
+use tg_block::{Block, WORDS};
 use tg_space::{Kind, Space, Spaces};
+use tg_word::CELLS;
 
 /// The blocks that a collection makes in a space. Contracts see the list of their cells.
 ///
@@ -32,6 +34,7 @@ pub struct NewBlocks {
 impl Model for NewBlocks {
     ghost use Rattle.std.specs.Prelude.{ℕ, List, ◌≤◌, ◌++◌, vec_capacity};
     ghost use Rattle.std.specs.List.{flat_map};
+    ghost use Rattle.tg_word.specs.declared.TheConstants.{CELLS};
     ghost use Rattle.tg_space.specs.SpaceList.{IsSpace};
     ghost use Rattle.tg_evac.specs.Copies.{IsOpenBlock};
 
@@ -39,7 +42,7 @@ impl Model for NewBlocks {
 
     ghost view = { λ b. flat_map (λ block. block) b.full ++ b.last.items };
 
-    ghost invariant = { λ b. IsSpace b.full × IsOpenBlock b.last.items × (64 ≤ vec_capacity b.last) };
+    ghost invariant = { λ b. IsSpace b.full × IsOpenBlock b.last.items × (CELLS ≤ vec_capacity b.last) };
 }
 
 impl NewBlocks {
@@ -50,7 +53,7 @@ impl NewBlocks {
         Ok(NewBlocks {
             alloc,
             full: Space::new(alloc),
-            last: Vec::with_capacity(alloc, CELLS)?,
+            last: Vec::with_capacity(alloc, CELLS as usize)?,
         })
     }
 
@@ -68,7 +71,7 @@ impl NewBlocks {
         words: &[u64; WORDS],
         straight: bool,
     ) -> Result<(), CollectFault>
-        requires room { length self.old < 2 ^ 26 }
+        requires room { length self.old < MOST_SPACE_CELLS }
         requires pointers { All (IsPointer spaces.now.spaces) (pointers_of words.now) }
         requires table { IsTableFor kind spaces.now.spaces (C.walked claimer.old) }
         ensures claims { ClaimsAll C.walked C.knows C.is_full spaces.now.spaces straight (named_by (from_space (C.walked claimer.old).kind) spaces.now.spaces (pointers_of words.now)) claimer.old claimer.new result }
@@ -82,7 +85,7 @@ impl NewBlocks {
 
     /// The blocks, with free cells behind the last one. It is refused only where memory was.
     pub fn finish(self) -> Result<Space, AllocError>
-        requires { length self ≤ 2 ^ 26 }
+        requires { length self ≤ MOST_SPACE_CELLS }
         ensures cells { IfOk result (λ blocks. HoldCells self blocks) }
         ensures whole { IfOk result IsSpace }
     {
@@ -105,13 +108,13 @@ fn make_room(
 ) -> Result<(), AllocError>
     requires space { IsSpace full.old }
     requires fits { IsOpenBlock last.old.items }
-    requires room { length (flat_map (λ block. block) full.old ++ last.old.items) < 2 ^ 26 }
-    requires cells { 64 ≤ vec_capacity last.old }
+    requires room { length (flat_map (λ block. block) full.old ++ last.old.items) < MOST_SPACE_CELLS }
+    requires cells { CELLS ≤ vec_capacity last.old }
     ensures open { HaveOpenBlock full.new last.new }
-    ensures ready { OnOk result (length last.new.items < 64) }
+    ensures ready { OnOk result (length last.new.items < CELLS) }
     ensures same { OnOk result (flat_map (λ block. block) full.new ++ last.new.items ≡ flat_map (λ block. block) full.old ++ last.old.items) }
 {
-    if last.len() < CELLS {
+    if last.len() < CELLS as usize {
         return Ok(());
     }
     close(alloc, spare, full, last)
@@ -127,8 +130,8 @@ fn close(
 ) -> Result<(), AllocError>
     requires whole { IsBlock last.old.items }
     requires space { IsSpace full.old }
-    requires room { length full.old < 2 ^ 20 }
-    requires cells { 64 ≤ vec_capacity last.old }
+    requires room { length full.old < MOST_SPACE_BLOCKS }
+    requires cells { CELLS ≤ vec_capacity last.old }
     ensures open { HaveOpenBlock full.new last.new }
     ensures full { OnOk result (full.new ≡ full.old ++ last.old.items ∷ []) }
     ensures empty { OnOk result (last.new.items ≡ []) }
@@ -140,18 +143,18 @@ fn close(
 // No cell, with room for those of a block: the room of a spare block, where there is one.
 fn open_cells(alloc: Global, spare: &mut Vec<Block>) -> Result<Vec<[u64; WORDS]>, AllocError>
     ensures empty { IfOk result (λ cells. cells.items ≡ []) }
-    ensures room { IfOk result (λ cells. 64 ≤ vec_capacity cells) }
+    ensures room { IfOk result (λ cells. CELLS ≤ vec_capacity cells) }
 {
     match spare.pop() {
         Some(block) => Ok(emptied(block)),
-        None => Vec::with_capacity(alloc, CELLS),
+        None => Vec::with_capacity(alloc, CELLS as usize),
     }
 }
 
 // The room of a block, without its cells.
 fn emptied(block: Block) -> Vec<[u64; WORDS]>
     ensures empty { result.items ≡ [] }
-    ensures room { 64 ≤ vec_capacity result }
+    ensures room { CELLS ≤ vec_capacity result }
 {
     let mut cells = block.into_cells();
     cells.clear();
@@ -161,10 +164,10 @@ fn emptied(block: Block) -> Vec<[u64; WORDS]>
 // These cells, and as many free ones as a block has room for behind them.
 fn padded(mut cells: Vec<[u64; WORDS]>) -> Result<Vec<[u64; WORDS]>, AllocError>
     requires { IsOpenBlock cells.items }
-    ensures cells { IfOk result (λ padded. padded.items ≡ cells.items ++ replicate (64 - length cells.items) free_cell) }
+    ensures cells { IfOk result (λ padded. padded.items ≡ cells.items ++ replicate (CELLS - length cells.items) free_cell) }
     ensures whole { IfOk result (λ padded. IsBlock padded.items) }
 {
-    while cells.len() < CELLS {
+    while cells.len() < CELLS as usize {
         cells.push([0; WORDS])?;
     }
     Ok(cells)

@@ -1,6 +1,7 @@
 //! The cells of Old that will name young ones.
 ghost use Rattle.std.specs.Prelude.{◌≡◌, ◌<◌, ◌≤◌, ◌+◌, ◌^◌, ◌↔◌, ◌⊎◌, length, IfOk, IsTrue, OnOk};
 ghost use Rattle.std.specs.List.{All, Contains};
+ghost use Rattle.tg_word.specs.declared.TheConstants.{MOST_SPACE_BLOCKS};
 ghost use Rattle.tg_word.specs.declared.Place.{Place as PlaceOf};
 ghost use Rattle.tg_space.specs.Generations.{NamesYoung};
 ghost use Rattle.tg_space.specs.Soundness.{IsRootIn};
@@ -8,10 +9,10 @@ ghost use Rattle.tg_space.specs.declared.root.Root.TheVariants.{Remembered as Re
 ghost use Rattle.tg_evac.specs.Copies.{AreForwarded, IsPlaceIn, moved_cell, new_cell};
 
 use std::alloc::{AllocError, Global};
-use tg_block::{CELLS, WORDS};
+use tg_block::WORDS;
 use tg_remember::Remembered;
 use tg_space::{Forwarding, Kind, Root, Space, Spaces, first_pointer};
-use tg_word::{OLD, Place, place_of};
+use tg_word::{CELLS, OLD, Place, place_of};
 
 /// The remembered cells that will name young ones, and those of these blocks of Old that do, which stand behind as many
 /// others. A full collection leaves none.
@@ -28,7 +29,7 @@ pub fn notes_of(
 ) -> Result<Remembered, AllocError>
     requires forward { AreForwarded spaces.now.spaces forward.now.words }
     requires roots { All (IsRootIn spaces.now.spaces) roots.now }
-    requires few { kept + length old.now ≤ 2 ^ 20 }
+    requires few { kept + length old.now ≤ MOST_SPACE_BLOCKS }
     requires full { kind ≡ Kind.Full → (p : PlaceOf) → IsPlaceIn 0 kept old.now p → NamesYoung (new_cell kept old.now p) → ⊥ }
     ensures { IfOk result (λ noted. (p : PlaceOf) → Contains noted.places p ↔ ((Contains roots.now (RememberedAt p) × NamesYoung (moved_cell kind spaces.now.spaces forward.now.words p)) ⊎ (IsPlaceIn 0 kept old.now p × NamesYoung (new_cell kept old.now p)))) }
 {
@@ -84,7 +85,7 @@ fn note_root(
 
 // Notes the cells of these blocks of Old, behind as many other ones, that name young cells.
 fn note_blocks(remembered: &mut Remembered, blocks: &Space, kept: u64) -> Result<(), AllocError>
-    requires { kept + length blocks.now ≤ 2 ^ 20 }
+    requires { kept + length blocks.now ≤ MOST_SPACE_BLOCKS }
     ensures { OnOk result ((p : PlaceOf) → Contains remembered.new.places p ↔ (Contains remembered.old.places p ⊎ (IsPlaceIn 0 kept blocks.now p × NamesYoung (new_cell kept blocks.now p)))) }
 {
     for block in 0..blocks.len() {
@@ -100,11 +101,11 @@ fn note_block(
     block: u64,
     kept: u64,
 ) -> Result<(), AllocError>
-    requires few { kept + length blocks.now ≤ 2 ^ 20 }
+    requires few { kept + length blocks.now ≤ MOST_SPACE_BLOCKS }
     requires inside { block < length blocks.now }
     ensures { OnOk result ((p : PlaceOf) → Contains remembered.new.places p ↔ (Contains remembered.old.places p ⊎ (IsPlaceIn 0 kept blocks.now p × (p.block ≡ kept + block) × NamesYoung (new_cell kept blocks.now p)))) }
 {
-    for cell in 0..CELLS as u64 {
+    for cell in 0..CELLS {
         let place = Place {
             space: OLD,
             block: kept + block,

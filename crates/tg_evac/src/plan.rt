@@ -1,11 +1,11 @@
 //! What a collection is to do.
 ghost use Rattle.std.specs.Prelude.{◌≡◌, ◌==◌, ◌≤◌, ◌^◌};
+ghost use Rattle.tg_word.specs.declared.TheConstants.{MOST_SPACE_BLOCKS, MOST_SPACE_CELLS};
 ghost use Rattle.tg_space.specs.SpaceTable.{IsSpaceTable};
 ghost use Rattle.tg_evac.specs.Claims.{IsPlanFor, is_straight as straight_from, space_for as space_of_copy};
 
-use tg_block::CELLS;
 use tg_space::{Kind, Root, Spaces};
-use tg_word::{AGED, OLD, Place};
+use tg_word::{AGED, CELLS, OLD, Place};
 
 /// Which cells a collection moves, and what room it has for them.
 #[derive(Clone, Copy)]
@@ -23,8 +23,8 @@ impl Plan {
     pub fn of(kind: Kind, spaces: &Spaces) -> Self
         requires { IsSpaceTable spaces.now }
         ensures plan { IsPlanFor kind spaces.now result }
-        ensures kept { result.kept ≤ 2 ^ 20 }
-        ensures room { result.room ≤ 2 ^ 26 }
+        ensures kept { result.kept ≤ MOST_SPACE_BLOCKS }
+        ensures room { result.room ≤ MOST_SPACE_CELLS }
     {
         let kept = match kind {
             Kind::Full => 0,
@@ -33,7 +33,7 @@ impl Plan {
         Plan {
             kind,
             kept,
-            room: CELLS as u64 * spaces.limits().space_blocks(),
+            room: CELLS * spaces.limits().space_blocks(),
         }
     }
 }

@@ -6,7 +6,7 @@ use Rattle.tg_model.specs.Graph.{with_rights, without_rights}
 use Rattle.tg_model.specs.Rules.{with_value}
 use Rattle.tg_word.specs.Word.{nursery_space}
 use Rattle.tg_word.specs.declared.Place.{Place}
-use Rattle.tg_word.specs.declared.TheConstants.{MAX_NURSERIES}
+use Rattle.tg_word.specs.declared.TheConstants.{MAX_NURSERIES, CELLS}
 use Rattle.tg_block.specs.declared.CellKind.TheVariants.{Object}
 use Rattle.tg_space.specs.SpaceList.{space_of}
 use Rattle.tg_space.specs.SpaceTable.{IsFull, IsSpaceTable}
@@ -60,7 +60,7 @@ pub record HasSpot {P : Type 0} (cells : Cells P) (p : Place) (name : ℕ) (s : 
 -- a nursery that there is may be asked for so many cells
 pub record CanReserve {P : Type 0} (cells : Cells P) (n count : ℕ) : Type 0 where
   pub few : n < MAX_NURSERIES
-  pub few_cells : count ≤ 64
+  pub few_cells : count ≤ CELLS
   pub nursery : nursery_space n < length cells.spaces.spaces
 
 -- some rights over an object may be given, in a row that gets the cells that it needs from a nursery

@@ -2,6 +2,7 @@
 use Rattle.std.specs.Prelude.{◌≡◌, ◌≢◌, ℕ, ◌-◌, ◌&&◌, ◌==◌, not, Bool, if◌then◌else◌, List, [], ◌∷◌, Option, length, take, drop, map, slice_index}
 use Rattle.std.specs.List.{filter, find, flat_map, range_with_len}
 use Rattle.tg_rights.specs.RightSet.{RightSet, is_none_held, no_rights}
+use Rattle.tg_word.specs.declared.TheConstants.{CELLS}
 use Rattle.tg_word.specs.declared.Place.{Place}
 use Rattle.tg_word.specs.Word.{place_in, rights_in}
 use Rattle.tg_block.specs.Cells.{object_tag}
@@ -16,7 +17,7 @@ use Rattle.tg_space.specs.Targets.{first_pointer}
 -- each place of a space, block by block
 abbrev pub places_in : SpaceList → ℕ → List Place
 places_in h space =
-    flat_map (λ block. map (λ cell. record { space = space; block = block; cell = cell }) (range_with_len 0 64)) (range_with_len 0 (length (space_of h space)))
+    flat_map (λ block. map (λ cell. record { space = space; block = block; cell = cell }) (range_with_len 0 CELLS)) (range_with_len 0 (length (space_of h space)))
 
 -- each place that names a cell
 abbrev pub places_of : SpaceList → List Place

@@ -14,10 +14,9 @@ ghost use Rattle.tg_graph.specs.declared.index.IndexedRow.{IndexedRow as RowOf};
 use crate::index::IndexedRow;
 use crate::long_rows::LongRows;
 use indexmap::IndexMap;
-use tg_block::CELLS;
 use tg_remember::Remembered;
 use tg_space::{Forwarding, Kind, Spaces};
-use tg_word::{Place, SPACES, nursery_space, place_of};
+use tg_word::{CELLS, Place, SPACES, nursery_space, place_of};
 
 // How many spaces there may be.
 const MOST_SPACES: usize = SPACES as usize;
@@ -65,7 +64,7 @@ impl Numbering {
         requires few { number_by self.now.starts place < 2 ^ 64 }
         ensures { result ≡ number_by self.now.starts place }
     {
-        CELLS as u64 * (self.starts[place.space as usize] + place.block) + place.cell
+        CELLS * (self.starts[place.space as usize] + place.block) + place.cell
     }
 
     // Where a collection of this kind has the cell at a place.

@@ -1,5 +1,6 @@
 -- What an allocation does.
 use Rattle.std.specs.Prelude.{◌≡◌, ◌≤◌, ◌+◌, ◌*◌, ◌⊎◌, ℕ, ◌<◌, nat_lt, if◌then◌else◌, length, slice_set}
+use Rattle.tg_word.specs.declared.TheConstants.{CELLS}
 use Rattle.tg_word.specs.declared.Place.{Place}
 use Rattle.tg_block.specs.Cells.{free_cell}
 use Rattle.tg_space.specs.SpaceList.{Holds, cell_at, space_of, with_block}
@@ -7,12 +8,12 @@ use Rattle.tg_space.specs.SpaceTable.{SpaceTable, IsHandedOut, number_in_space, 
 
 -- each cell of a nursery was handed out
 abbrev pub IsUsedUp : SpaceTable → ℕ → Type 0
-IsUsedUp t space = 64 * length (space_of t.spaces space) ≤ used_of t space
+IsUsedUp t space = CELLS * length (space_of t.spaces space) ≤ used_of t space
 
 -- the table with one more block in a nursery that is used up, and else as it is
 abbrev pub room_made : SpaceTable → ℕ → SpaceTable
 room_made t space =
-    if nat_lt (used_of t space) (64 * length (space_of t.spaces space)) then t
+    if nat_lt (used_of t space) (CELLS * length (space_of t.spaces space)) then t
     else with_spaces t (with_block t.spaces space)
 
 -- a fresh free cell of a nursery was allocated, and nothing else changed
@@ -34,14 +35,14 @@ pub record Allocates (old new : SpaceTable) (space : ℕ) (p : Place) : Type 0 w
 
 -- fewer cells of a nursery than this many are left
 abbrev pub HasFewerLeft : SpaceTable → ℕ → ℕ → Type 0
-HasFewerLeft t space cells = 64 * length (space_of t.spaces space) < used_of t space + cells
+HasFewerLeft t space cells = CELLS * length (space_of t.spaces space) < used_of t space + cells
 
 -- so many cells of a nursery are left
 abbrev pub HasLeft : SpaceTable → ℕ → ℕ → Type 0
-HasLeft t space cells = used_of t space + cells ≤ 64 * length (space_of t.spaces space)
+HasLeft t space cells = used_of t space + cells ≤ CELLS * length (space_of t.spaces space)
 
 -- the table with one more block in a nursery that has fewer cells left, and else as it is
 abbrev pub room_made_for : SpaceTable → ℕ → ℕ → SpaceTable
 room_made_for t space cells =
-    if nat_lt (64 * length (space_of t.spaces space)) (used_of t space + cells) then with_spaces t (with_block t.spaces space)
+    if nat_lt (CELLS * length (space_of t.spaces space)) (used_of t space + cells) then with_spaces t (with_block t.spaces space)
     else t

@@ -18,15 +18,14 @@
 
 ghost use Rattle.std.specs.Prelude.{◌≡◌, ◌<◌, ◌≤◌, ◌*◌, ◌↔◌, Err, IfOk, IsOk, OnOk, OnErr, length};
 ghost use Rattle.tg_word.specs.Word.{nursery_space};
-ghost use Rattle.tg_word.specs.declared.TheConstants.{MAX_NURSERIES};
+ghost use Rattle.tg_word.specs.declared.TheConstants.{CELLS, MAX_NURSERIES};
 ghost use Rattle.tg_space.specs.SpaceList.{space_of};
 ghost use Rattle.tg_space.specs.SpaceTable.{IsFull, IsSpaceTable, place_in_space, used_of, with_one_used};
 ghost use Rattle.tg_nursery.specs.Allocation.{Allocates, HasFewerLeft, HasLeft, IsUsedUp, room_made, room_made_for};
 
-use tg_block::CELLS;
 pub use tg_space::AllocateFault;
 use tg_space::Spaces;
-use tg_word::{Place, nursery_space};
+use tg_word::{CELLS, Place, nursery_space};
 
 /// Allocates a cell in the nursery with a number.
 ///
@@ -54,7 +53,7 @@ pub fn allocate(spaces: &mut Spaces, nursery: u64) -> Result<Place, AllocateFaul
 /// `space_blocks`; `OutOfMemory` where memory for it was refused.
 pub fn reserve(spaces: &mut Spaces, nursery: u64, cells: u64) -> Result<(), AllocateFault>
     requires few { nursery < MAX_NURSERIES }
-    requires few_cells { cells ≤ 64 }
+    requires few_cells { cells ≤ CELLS }
     requires nursery { nursery_space nursery < length spaces.old.spaces }
     ensures exact { OnOk result (spaces.new ≡ room_made_for spaces.old (nursery_space nursery) cells) }
     ensures table { OnOk result (IsSpaceTable spaces.new) }
@@ -64,7 +63,7 @@ pub fn reserve(spaces: &mut Spaces, nursery: u64, cells: u64) -> Result<(), Allo
     ensures full { (result ≡ Err AllocateFault.HeapFull) ↔ (HasFewerLeft spaces.old (nursery_space nursery) cells × IsFull spaces.old (nursery_space nursery)) }
 {
     let space = nursery_space(nursery);
-    if spaces.used(space) + cells <= CELLS as u64 * spaces.len(space) {
+    if spaces.used(space) + cells <= CELLS * spaces.len(space) {
         return Ok(());
     }
     spaces.add_block(space)
@@ -75,11 +74,11 @@ fn make_room(spaces: &mut Spaces, space: u64) -> Result<(), AllocateFault>
     requires { space < length spaces.old.spaces }
     ensures made { OnOk result (spaces.new ≡ room_made spaces.old space) }
     ensures counted { space < length spaces.old.used }
-    ensures room { OnOk result (used_of spaces.new space < 64 * length (space_of spaces.new.spaces space)) }
+    ensures room { OnOk result (used_of spaces.new space < CELLS * length (space_of spaces.new.spaces space)) }
     ensures refused { OnErr result (spaces.new ≡ spaces.old) }
     ensures full { (result ≡ Err AllocateFault.HeapFull) ↔ (IsUsedUp spaces.old space × IsFull spaces.old space) }
 {
-    if spaces.used(space) < CELLS as u64 * spaces.len(space) {
+    if spaces.used(space) < CELLS * spaces.len(space) {
         return Ok(());
     }
     spaces.add_block(space)

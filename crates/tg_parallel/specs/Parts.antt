@@ -1,6 +1,7 @@
 -- What one helper of a collection has done, and what it hands over; and the same of several that became one.
 use Rattle.std.specs.Prelude.{◌≡◌, ◌≢◌, ◌⊎◌, ℕ, ◌*◌, ◌<◌, ◌≤◌, true, List, ◌++◌, length, map, take, drop}
 use Rattle.std.specs.List.{All, Contains, flat_map}
+use Rattle.tg_word.specs.declared.TheConstants.{CELLS}
 use Rattle.tg_word.specs.declared.Place.{Place}
 use Rattle.tg_word.specs.Word.{IsPlace, link_to}
 use Rattle.tg_block.specs.Cells.{cell_of, free_cell}
@@ -87,7 +88,7 @@ AreOnce numbers = (n : ℕ) → weigh (one_at n) numbers ≤ 1
 -- in the block of the space stand the copies of the pairs that have a place in it, and free cells elsewhere
 pub record HasCopies (space : ℕ) (copy : ℕ → List ℕ) (won : List (ℕ × Place)) (b : ℕ × List (List ℕ)) : Type 0 where
   pub copied : (q : ℕ × Place) → Contains won q → q.1.space ≡ space → q.1.block ≡ b.0 → cell_of b.1 q.1.cell ≡ copy q.0
-  pub rest : (i : ℕ) → i < 64 → ((q : ℕ × Place) → Contains won q → q.1.space ≡ space → q.1.block ≡ b.0 → q.1.cell ≢ i) → cell_of b.1 i ≡ free_cell
+  pub rest : (i : ℕ) → i < CELLS → ((q : ℕ × Place) → Contains won q → q.1.space ≡ space → q.1.block ≡ b.0 → q.1.cell ≢ i) → cell_of b.1 i ≡ free_cell
 
 -- the blocks are the copies of the won cells under the map and nothing else
 pub record AreImages (kind : Kind) (h : SpaceList) (v : Record) (aged old : Numbered) (to : ℕ → Place) : Type 0 where

@@ -1,6 +1,7 @@
 -- What a helper holds while it works: its record, and the places that it gives away in its own blocks, one after the other.
 use Rattle.std.specs.Prelude.{◌≡◌, ◌≢◌, ℕ, ◌+◌, ◌*◌, ◌/◌, ◌%◌, ◌^◌, ◌<◌, ◌≤◌, ◌==◌, Bool, true, false, not, List, [], ◌∷◌, ◌++◌, length, slice_index, slice_index_or, Result, IfErr, IfOk, OnOk}
 use Rattle.std.specs.List.{All, AllPairs, Contains, filter}
+use Rattle.tg_word.specs.declared.TheConstants.{CELLS, MOST_SPACE_BLOCKS, MOST_SPACE_CELLS}
 use Rattle.tg_word.specs.declared.Place.{Place}
 use Rattle.tg_word.specs.Word.{IsPlace, link_to, place_in}
 use Rattle.tg_block.specs.Cells.{cell_of, free_cell}
@@ -38,26 +39,26 @@ pair_at pairs k = slice_index_or pairs k (0, record { space = 0; block = 0; cell
 
 -- the k-th place of these blocks, one block after the other
 abbrev pub own_place : Bool → List ℕ → ℕ → Place
-own_place aged numbers k = record { space = space_of_age aged; block = slice_index numbers (k / 64); cell = k % 64 }
+own_place aged numbers k = record { space = space_of_age aged; block = slice_index numbers (k / CELLS); cell = k % CELLS }
 
 -- The numbers are those of the blocks that the record has claimed in the space, in order, and its won cells of that space
 -- have their places one after the other. So each block but the last is full, and a block is claimed only for a cell
 pub record AreFilled (aged : Bool) (v : Record) (numbers : List ℕ) (used : ℕ) : Type 0 where
   pub same : numbers ≡ blocks_of aged v
   pub rising : AreRising numbers
-  pub room : used ≤ 64 * length numbers
-  pub close : 64 * length numbers ≤ used + 64
-  pub few : used ≤ 2 ^ 26
+  pub room : used ≤ CELLS * length numbers
+  pub close : CELLS * length numbers ≤ used + CELLS
+  pub few : used ≤ MOST_SPACE_CELLS
   pub ends : length (pairs_in (space_of_age aged) v.won) ≡ used
   pub order : (k : ℕ) → k < used → (pair_at (pairs_in (space_of_age aged) v.won) k).1 ≡ own_place aged numbers k
   -- so many cells at least lie in each block
-  pub many : (i n : ℕ) → i < length numbers → n ≤ 64 → 64 * i + n ≤ used → n ≤ used_in (space_of_age aged) (slice_index numbers i) v.won
+  pub many : (i n : ℕ) → i < length numbers → n ≤ CELLS → CELLS * i + n ≤ used → n ≤ used_in (space_of_age aged) (slice_index numbers i) v.won
 
 -- There is a next place, in a block that the layout can name, and its word is known. So many places at most are left in its block.
 pub record IsReady (b : OwnBlocks) : Type 0 where
-  pub room : b.used < 64 * length b.numbers.items
-  pub left : b.left + b.used % 64 ≤ 64
-  pub few : slice_index b.numbers.items (b.used / 64) < 2 ^ 20
+  pub room : b.used < CELLS * length b.numbers.items
+  pub left : b.left + b.used % CELLS ≤ CELLS
+  pub few : slice_index b.numbers.items (b.used / CELLS) < MOST_SPACE_BLOCKS
   pub next : b.next ≡ link_to (own_place b.aged b.numbers.items b.used)
 
 -- where places are left, the next one is known
@@ -93,7 +94,7 @@ pub record Finds (cell : ℕ) (aged : Bool) (v w : Record) : Type 0 where
 -- the table has a word for the cell
 pub record HasWord (board : Board) (cell : ℕ) : Type 0 where
   pub inside : cell < board.counts.cells
-  pub moved : 64 * board.counts.kept ≤ cell
+  pub moved : CELLS * board.counts.kept ≤ cell
 
 -- the helper sits at the table, and the blocks are those that it has claimed, filled in order with what it has won
 pub record IsHeldBy (board : Board) (helper : Seated) (b : OwnBlocks) : Type 0 where
@@ -112,7 +113,7 @@ pub record HaveRoom {T Fault : Type 0} (before : OwnBlocks) (old : Seated) (afte
   pub stay : StayFilled before old after new
   pub blocks : OnlyBlocks old.done new.done
   pub left : after.left ≡ before.left
-  pub room : OnOk result (after.used < 64 * length after.numbers.items)
+  pub room : OnOk result (after.used < CELLS * length after.numbers.items)
 
 -- the next place is known; it is refused where that is past the limit
 pub record AreReady {T : Type 0} (limit : ℕ) (before : OwnBlocks) (old : Seated) (after : OwnBlocks) (new : Seated) (result : Result T CollectFault) : Type 0 where
@@ -144,7 +145,7 @@ pub record Sitting : Type 0 where
 -- Aged and of Old are filled in order
 pub record IsSeat (limit : ℕ) (board : Board) (helper : Seated) (aged old : OwnBlocks) : Type 0 where
   pub own : helper.table ≡ board.table
-  pub few : limit ≤ 2 ^ 20
+  pub few : limit ≤ MOST_SPACE_BLOCKS
   pub differ : AllPairs (λ q r. q.0 ≢ r.0) helper.done.won
   pub inside : All (λ q. q.0 < board.counts.cells) helper.done.won
   pub places : All (λ q. IsPlace q.1 × (q.1.space < 2)) helper.done.won
@@ -164,7 +165,7 @@ abbrev pub walked_at : Sitting → Walked Fixed
 walked_at s = record {
   kind = s.kind;
   kept = s.board.counts.kept;
-  room = 64 * s.limit;
+  room = CELLS * s.limit;
   cells = s.board.counts.cells;
   fixed = (s.board, s.done.chunks, s.done.share);
   won = wins_of s.done.won;
@@ -225,4 +226,4 @@ block_at blocks i = (slice_index_or blocks i (0, [])).1
 -- The cells stand in these blocks, one block after the other, and free ones behind the last. Each block has its number.
 pub record AreLaidOut (cells : List (List ℕ)) (numbers : List ℕ) (blocks : Numbered) : Type 0 where
   pub numbered : numbers_of blocks ≡ numbers
-  pub stand : (i j : ℕ) → i < length numbers → j < 64 → cell_of (block_at blocks i) j ≡ slice_index_or cells (64 * i + j) free_cell
+  pub stand : (i j : ℕ) → i < length numbers → j < CELLS → cell_of (block_at blocks i) j ≡ slice_index_or cells (CELLS * i + j) free_cell

@@ -1,5 +1,6 @@
 -- What the one helper that is left hands over, where the table is closed.
 use Rattle.std.specs.Prelude.{ℕ, ◌^◌, ◌<◌, ◌≤◌, List}
+use Rattle.tg_word.specs.declared.TheConstants.{MOST_SPACE_BLOCKS}
 use Rattle.tg_space.specs.Soundness.{AreSound}
 use Rattle.tg_space.specs.SpaceTable.{IsSpaceTable, SpaceTable}
 use Rattle.tg_space.specs.declared.kind.Kind.{Kind}
@@ -25,5 +26,5 @@ pub record IsWholePart (kind : Kind) (t : SpaceTable) (roots : List Root) (k : C
 pub record MayFinish (t : SpaceTable) (roots : List Root) (plan : Plan) : Type 0 where
   pub sound : AreSound t.spaces roots
   pub spaces : IsSpaceTable t
-  pub limit : t.limits.space_blocks ≤ 2 ^ 20
+  pub limit : t.limits.space_blocks ≤ MOST_SPACE_BLOCKS
   pub planned : IsPlanFor plan.kind t plan

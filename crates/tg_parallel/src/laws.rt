@@ -1,6 +1,7 @@
 //! The laws of joining, each the contract of a function that does nothing.
 ghost use Rattle.std.specs.Prelude.{ℕ, List, ◌+◌, ◌++◌, ◌<◌, ◌≤◌, ◌^◌, ◌↔◌, ◌⊎◌};
 ghost use Rattle.std.specs.List.{Contains};
+ghost use Rattle.tg_word.specs.declared.TheConstants.{MOST_SPACE_BLOCKS};
 ghost use Rattle.tg_word.specs.declared.Place.{Place};
 ghost use Rattle.tg_space.specs.Collection.{AreFewBlocks, IsCollection, copies_in, used_cells};
 ghost use Rattle.tg_space.specs.Generations.{NamesYoung};
@@ -46,5 +47,5 @@ pub fn helpers_copy_cells_in_use()
 /// Where one record stands for all helpers and has claimed past the last chunk, what they have handed over is a collection,
 /// with the words of the closed table. The notes are those of the remembered roots, and of the new blocks of Old.
 pub fn what_helpers_made_is_a_collection()
-    ensures { (kind : Kind) (t : SpaceTable) (roots : List Root) (k : Counts) (words : List ℕ) (done : Record) (aged old : Numbered) → IsSpaceTable t → t.limits.space_blocks ≤ 2 ^ 20 → IsWholePart kind t roots k words done aged old → (aged_blocks old_blocks : BlockList) → AreMerged kind (kept_blocks kind t.spaces) aged old aged_blocks old_blocks → (notes : List Place) → ((p : Place) → Contains notes p ↔ ((Contains roots (Remembered p) × NamesYoung (moved_cell kind t.spaces words p)) ⊎ (IsPlaceIn 0 (kept_blocks kind t.spaces) old_blocks p × NamesYoung (new_cell (kept_blocks kind t.spaces) old_blocks p)))) → IsCollection kind t.spaces roots words aged_blocks old_blocks notes }
+    ensures { (kind : Kind) (t : SpaceTable) (roots : List Root) (k : Counts) (words : List ℕ) (done : Record) (aged old : Numbered) → IsSpaceTable t → t.limits.space_blocks ≤ MOST_SPACE_BLOCKS → IsWholePart kind t roots k words done aged old → (aged_blocks old_blocks : BlockList) → AreMerged kind (kept_blocks kind t.spaces) aged old aged_blocks old_blocks → (notes : List Place) → ((p : Place) → Contains notes p ↔ ((Contains roots (Remembered p) × NamesYoung (moved_cell kind t.spaces words p)) ⊎ (IsPlaceIn 0 (kept_blocks kind t.spaces) old_blocks p × NamesYoung (new_cell (kept_blocks kind t.spaces) old_blocks p)))) → IsCollection kind t.spaces roots words aged_blocks old_blocks notes }
 {}

@@ -1,5 +1,6 @@
 //! Collections by a helper at a table, and by several on threads.
 ghost use Rattle.std.specs.Prelude.{◌≡◌, ◌≢◌, ℕ, ◌+◌, ◌≤◌, ◌^◌, ◌↔◌, ◌⊎◌, All, Contains, IfErr, IfOk, List, OnOk, length};
+ghost use Rattle.tg_word.specs.declared.TheConstants.{MOST_SPACE_BLOCKS};
 ghost use Rattle.tg_word.specs.declared.Place.{Place as PlaceOf};
 ghost use Rattle.tg_space.specs.Generations.{NamesYoung};
 ghost use Rattle.tg_space.specs.Soundness.{AreSound};
@@ -26,10 +27,11 @@ use std::alloc::{AllocError, Global};
 use std::sync::Wait;
 use std::thread;
 use std::thread::{Promise, PromisedHandle, Scope, Threads, join_promised};
-use tg_block::{Block, CELLS};
+use tg_block::Block;
 use tg_evac::{CollectFault, Copied, Plan, notes_of};
 use tg_race::{Helper, RaceTable};
 use tg_space::{Forwarding, Kind, Root, Spaces};
+use tg_word::CELLS;
 
 /// Copies what the roots reach into new blocks, by one helper at a table of its own, on the calling thread.
 ///
@@ -303,13 +305,13 @@ fn finish(
     helped: Helped,
 ) -> Result<Copied, CollectFault>
     requires plan { MayFinish spaces.now roots.now plan }
-    requires few { plan.kept ≤ 2 ^ 20 }
+    requires few { plan.kept ≤ MOST_SPACE_BLOCKS }
     requires counts { AreCountsOf plan.kind spaces.now.spaces roots.now table.counts }
     requires helped { IsHelped plan.kind spaces.now roots.now table table.counts.helpers helped }
     ensures { Collects CollectFault.HeapFull plan.kind spaces.now roots.now table.counts.helpers table.counts.helpers result }
 {
     let Helped { helper, part } = helped;
-    let forward = Forwarding::of_closed(CELLS as u64 * plan.kept, table.close(helper));
+    let forward = Forwarding::of_closed(CELLS * plan.kept, table.close(helper));
     match part {
         Ok(part) => Ok(put_together(alloc, forward, spaces, roots, plan, part)?),
         Err(fault) => Err(fault),

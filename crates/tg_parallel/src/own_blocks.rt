@@ -1,15 +1,15 @@
 //! The places that a helper gives away: in its own blocks of a space, one after the other.
 ghost use Rattle.std.specs.Prelude.{◌≡◌, ◌/◌, ◌<◌, ◌≤◌, ◌*◌, ◌^◌, [], IfErr, IfOk, OnOk, length, slice_index};
+ghost use Rattle.tg_word.specs.declared.TheConstants.{CELLS, MOST_SPACE_BLOCKS};
 ghost use Rattle.tg_parallel.specs.Parts.{HasClaimedPast};
 ghost use Rattle.tg_parallel.specs.Seats.{AreReady, GivePlace, HasWord, HaveRoom, IsHeldBy, IsReady, KnowsNext, own_place};
 
 use crate::links::word_to;
 use crate::winner::Winner;
 use std::alloc::{AllocError, Global};
-use tg_block::CELLS;
 use tg_evac::CollectFault;
 use tg_race::RaceTable;
-use tg_word::{AGED, OLD, Place, next_link};
+use tg_word::{AGED, CELLS, OLD, Place, next_link};
 
 /// The blocks that a helper has claimed in a space, and how many places of them were given away.
 #[derive(Drop)]
@@ -57,7 +57,7 @@ impl OwnBlocks {
     ) -> Result<u64, CollectFault>
         requires held { IsHeldBy table.now winner.old self.now }
         requires word { HasWord table.now cell }
-        requires limit { limit ≤ 2 ^ 20 }
+        requires limit { limit ≤ MOST_SPACE_BLOCKS }
         requires next { KnowsNext self.now }
         ensures gives { GivePlace cell self.entry.now winner.old self.exit.now winner.new result }
         ensures full { IfErr result (λ fault. fault ≡ CollectFault.HeapFull → HasClaimedPast limit winner.new.done) }
@@ -75,7 +75,7 @@ impl OwnBlocks {
         limit: u64,
     ) -> Result<(), CollectFault>
         requires held { IsHeldBy table.now winner.old self.now }
-        requires limit { limit ≤ 2 ^ 20 }
+        requires limit { limit ≤ MOST_SPACE_BLOCKS }
         requires next { KnowsNext self.now }
         ensures { AreReady limit self.entry.now winner.old self.exit.now winner.new result }
     {
@@ -94,14 +94,14 @@ impl OwnBlocks {
         limit: u64,
     ) -> Result<(), CollectFault>
         requires held { IsHeldBy table.now winner.old self.now }
-        requires limit { limit ≤ 2 ^ 20 }
+        requires limit { limit ≤ MOST_SPACE_BLOCKS }
         requires none { self.now.left ≡ 0 }
         ensures { AreReady limit self.entry.now winner.old self.exit.now winner.new result }
     {
         self.make_room(winner, table)?;
         let place = self.next_place(limit)?;
         self.next = word_to(place);
-        self.left = CELLS as u64 - place.cell;
+        self.left = CELLS - place.cell;
         Ok(())
     }
 
@@ -110,7 +110,7 @@ impl OwnBlocks {
         requires { IsHeldBy table.now winner.old self.now }
         ensures { HaveRoom self.entry.now winner.old self.exit.now winner.new result }
     {
-        if self.used < CELLS as u64 * self.numbers.len() as u64 {
+        if self.used < CELLS * self.numbers.len() as u64 {
             return Ok(());
         }
         self.open_block(winner, table)
@@ -119,7 +119,7 @@ impl OwnBlocks {
     // Claims a block. All are full.
     fn open_block(&mut self, winner: &mut Winner, table: &RaceTable) -> Result<(), AllocError>
         requires held { IsHeldBy table.now winner.old self.now }
-        requires all { 64 * length self.now.numbers.items ≤ self.now.used }
+        requires all { CELLS * length self.now.numbers.items ≤ self.now.used }
         ensures { HaveRoom self.entry.now winner.old self.exit.now winner.new result }
     {
         self.numbers.reserve(1)?;
@@ -130,19 +130,19 @@ impl OwnBlocks {
 
     // The next place of these blocks, where its block is within the limit.
     fn next_place(&self, limit: u64) -> Result<Place, CollectFault>
-        requires { self.now.used < 64 * length self.now.numbers.items }
+        requires { self.now.used < CELLS * length self.now.numbers.items }
         ensures place { IfOk result (λ place. place ≡ own_place self.now.aged self.now.numbers.items self.now.used) }
-        ensures within { OnOk result (slice_index self.now.numbers.items (self.now.used / 64) < limit) }
-        ensures full { IfErr result (λ fault. limit ≤ slice_index self.now.numbers.items (self.now.used / 64)) }
+        ensures within { OnOk result (slice_index self.now.numbers.items (self.now.used / CELLS) < limit) }
+        ensures full { IfErr result (λ fault. limit ≤ slice_index self.now.numbers.items (self.now.used / CELLS)) }
     {
-        let block = self.numbers[(self.used / CELLS as u64) as usize];
+        let block = self.numbers[(self.used / CELLS) as usize];
         if block >= limit {
             return Err(CollectFault::HeapFull);
         }
         Ok(Place {
             space: if self.aged { AGED } else { OLD },
             block,
-            cell: self.used % CELLS as u64,
+            cell: self.used % CELLS,
         })
     }
 

@@ -2,6 +2,7 @@
 ghost use Rattle.std.specs.Prelude.{◌≡◌, ◌<◌, ◌≤◌, ◌^◌, ◌⊎◌, ℕ, All, Contains, IfErr, IfOk, OnOk, drop, length, nat_lt, slice_index_or};
 ghost use Rattle.std.specs.List.{list_all};
 ghost use Rattle.std.specs.Vec.Iter.{into_iter_items};
+ghost use Rattle.tg_word.specs.declared.TheConstants.{MOST_SPACE_CELLS};
 ghost use Rattle.tg_block.specs.Cells.{free_block};
 ghost use Rattle.tg_parallel.specs.Parts.{AreOnce, IsOpenedFor, numbers_of};
 ghost use Rattle.tg_parallel.specs.Helping.{IsHelped, IsNew};
@@ -46,8 +47,8 @@ impl Part {
         old: &[u64],
         limit: u64,
     ) -> Result<Part, CollectFault>
-        requires aged_room { length copies.aged ≤ 2 ^ 26 }
-        requires old_room { length copies.old ≤ 2 ^ 26 }
+        requires aged_room { length copies.aged ≤ MOST_SPACE_CELLS }
+        requires old_room { length copies.old ≤ MOST_SPACE_CELLS }
         ensures aged { IfOk result (λ part. AreLaidOut copies.aged aged.now part.aged.items) }
         ensures old { IfOk result (λ part. AreLaidOut copies.old old.now part.old.items) }
         ensures aged_few { OnOk result (All (λ b. b < limit) aged.now) }

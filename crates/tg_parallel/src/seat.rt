@@ -1,5 +1,6 @@
 //! A helper at its seat, which claims cells at the table that it shares with others.
 ghost use Rattle.std.specs.Prelude.{◌≡◌, ℕ, ◌<◌, ◌≤◌, ◌^◌, false, true, All, IsTrue, length};
+ghost use Rattle.tg_word.specs.declared.TheConstants.{MOST_SPACE_BLOCKS, MOST_SPACE_CELLS};
 ghost use Rattle.tg_word.specs.Word.{IsPlace, place_in};
 ghost use Rattle.tg_race.specs.Course.{has_met};
 ghost use Rattle.tg_race.specs.Conditions.{can_claim_roots};
@@ -45,7 +46,7 @@ impl<'a> Seat<'a> {
     /// The seat of a helper that has done nothing yet.
     pub fn new(alloc: Global, table: &'a RaceTable, helper: Helper, kind: Kind, limit: u64) -> Self
         requires new { IsNew table.now helper }
-        requires few { limit ≤ 2 ^ 20 }
+        requires few { limit ≤ MOST_SPACE_BLOCKS }
         ensures { result ≡ record { kind = kind; limit = limit; board = table.now; done = helper.done } }
     {
         Seat {
@@ -89,7 +90,7 @@ impl<'a> Seat<'a> {
     fn count(&self) -> usize
         ensures count { result ≡ length self.now.done.won }
         ensures few { result ≤ self.now.board.counts.cells }
-        ensures room { (space : ℕ) → space < 2 → length (won_in space (wins_of self.now.done.won)) ≤ 2 ^ 26 }
+        ensures room { (space : ℕ) → space < 2 → length (won_in space (wins_of self.now.done.won)) ≤ MOST_SPACE_CELLS }
     {
         self.winner.len()
     }

@@ -3,6 +3,7 @@
 use Rattle.std.specs.Prelude.{◌≡◌, ℕ, Bool, true, false, List, [], Option, Some, None, codes, unwrap_or}
 use Rattle.std.specs.Option.{option_map_or}
 use Rattle.std.specs.Str.Parse.{digits_value, without_leading_plus}
+use Rattle.tg_word.specs.declared.TheConstants.{MOST_SPACE_BLOCKS}
 use Rattle.clap.specs.Words.{App, Rule, first_of, matches_of, new_app, new_rule, one_of, one_text, with_rule}
 use Rattle.clap.specs.declared.builder.action.ArgAction.TheVariants.{Set, SetTrue}
 use Rattle.clap.specs.declared.builder.value_parser.ValueParser.TheVariants.{Unsigned}
@@ -55,7 +56,7 @@ pub record AreSaid (words : List (List ℕ)) (o : Options) : Type 0 where
   pub helpers : o.settings.helpers ≡ number_said (codes "helpers") 1 words
   pub vertices : o.settings.max_vertices ≡ number_said (codes "vertices") 1000000 words
   pub blocks : o.settings.limits.max_blocks ≡ number_said (codes "blocks") 4096 words
-  pub space_blocks : o.settings.limits.space_blocks ≡ 1048576
+  pub space_blocks : o.settings.limits.space_blocks ≡ MOST_SPACE_BLOCKS
   pub race : IsFlag (one_of (codes "race") (matches_of command_line words)) o.race
   pub stock : o.stock.now ≡ text_said (codes "stock") words
 
@@ -65,4 +66,4 @@ pub record AreFound (found : Found) (s : Settings) : Type 0 where
   pub helpers : s.helpers ≡ number_or 1 (one_text found (codes "helpers"))
   pub vertices : s.max_vertices ≡ number_or 1000000 (one_text found (codes "vertices"))
   pub blocks : s.limits.max_blocks ≡ number_or 4096 (one_text found (codes "blocks"))
-  pub space_blocks : s.limits.space_blocks ≡ 1048576
+  pub space_blocks : s.limits.space_blocks ≡ MOST_SPACE_BLOCKS

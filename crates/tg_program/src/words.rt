@@ -1,5 +1,7 @@
 //! The words of the command line.
 ghost use Rattle.std.specs.Prelude.{◌≡◌, ◌≤◌, [], IfOk, false, map, codes, unwrap_or};
+ghost use Rattle.tg_space.specs.declared.limits.TheConstants.{MOST_BLOCKS};
+ghost use Rattle.tg_word.specs.declared.TheConstants.{MOST_SPACE_BLOCKS};
 ghost use Rattle.clap.specs.Words.{app_of, first_value, found_of, one_text, rule_of};
 ghost use Rattle.tg_program.specs.Ranges.{AreInRange};
 ghost use Rattle.tg_program.specs.Words.{AreFound, AreSaid, IsFlag, command_line, flag_rule, number_or, number_rule, option_rule};
@@ -12,7 +14,8 @@ use std::alloc::Global;
 use std::convert::AsStr;
 use tg_model::{MAX_VERTICES, MAX_WORKERS};
 use tg_script::{Helpers, Limits, MOST_HELPERS, Settings};
-use tg_space::{MOST_BLOCKS, MOST_SPACE_BLOCKS};
+use tg_space::MOST_BLOCKS;
+use tg_word::MOST_SPACE_BLOCKS;
 
 /// How many workers there are where the words don't say it.
 pub const DEFAULT_WORKERS: u64 = 2;
@@ -120,9 +123,9 @@ fn helpers_of(number: u64) -> Helpers
 
 // The limits of a heap that may have so many blocks.
 fn limits_of(blocks: u64) -> Limits
-    requires { (1 ≤ blocks) × (blocks ≤ 65536) }
+    requires { (1 ≤ blocks) × (blocks ≤ MOST_BLOCKS) }
     ensures blocks { result.max_blocks ≡ blocks }
-    ensures space_blocks { result.space_blocks ≡ 1048576 }
+    ensures space_blocks { result.space_blocks ≡ MOST_SPACE_BLOCKS }
 {
     // Both numbers are in their ranges.
     let Ok(limits) = Limits::new(blocks, MOST_SPACE_BLOCKS) else {

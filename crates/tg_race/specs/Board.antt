@@ -1,6 +1,7 @@
 -- The table: the counters are the words 0, 1 and 2, and behind them stands the word of each cell that may be moved. The first
 -- cells lie in blocks that stay, and have no word in the table. What each step tells.
 use Rattle.std.specs.Prelude.{◌≡◌, ◌≢◌, ℕ, ◌+◌, ◌-◌, ◌*◌, ◌^◌, ◌<◌, ◌≤◌, ◌==◌, true, false, List, [], ◌∷◌, ◌++◌, if◌then◌else◌, All, map, replicate}
+use Rattle.tg_word.specs.declared.TheConstants.{CELLS, MOST_SPACE_BLOCKS}
 use Rattle.tg_word.specs.declared.Place.{Place}
 use Rattle.atomic_table.specs.Table.{State, Me, Step}
 use Rattle.tg_race.specs.declared.record.Counts.{Counts}
@@ -12,11 +13,11 @@ use Rattle.tg_race.specs.Course.{has_met}
 
 -- the numbers with which a table is opened
 abbrev pub AreSmall : Counts → Type 0
-AreSmall k = (k.cells < 2 ^ 61) × (k.roots < 2 ^ 64) × (k.kept ≤ 2 ^ 20) × (0 < k.helpers) × (k.helpers < 2 ^ 32) × (64 * k.kept ≤ k.cells)
+AreSmall k = (k.cells < 2 ^ 61) × (k.roots < 2 ^ 64) × (k.kept ≤ MOST_SPACE_BLOCKS) × (0 < k.helpers) × (k.helpers < 2 ^ 32) × (CELLS * k.kept ≤ k.cells)
 
 -- how many of the first cells have no word in the table: those of the blocks that Old keeps
 abbrev pub skipped_of : Counts → ℕ
-skipped_of k = 64 * k.kept
+skipped_of k = CELLS * k.kept
 
 abbrev pub numbers_of_race : Race → List ℕ → List ℕ
 numbers_of_race r moved = r.next_chunk ∷ r.next_aged ∷ r.next_old ∷ moved

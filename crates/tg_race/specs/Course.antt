@@ -2,7 +2,7 @@
 use Rattle.std.specs.Prelude.{◌≡◌, ℕ, ◌+◌, ◌*◌, ◌<◌, ◌≤◌, ◌==◌, ◌&&◌, ◌||◌, Bool, true, false, not, nat_lt, List, [], ◌∷◌, ◌++◌, length, take, drop, replicate, slice_index, slice_index_or, slice_set, if◌then◌else◌, Vec, map}
 use Rattle.std.specs.List.{list_any, list_all}
 use Rattle.tg_word.specs.declared.Place.{Place}
-use Rattle.tg_word.specs.declared.TheConstants.{SPACES}
+use Rattle.tg_word.specs.declared.TheConstants.{SPACES, CELLS, MOST_SPACE_BLOCKS}
 use Rattle.tg_race.specs.declared.record.Counts.{Counts}
 use Rattle.tg_race.specs.declared.record.Record.{Record}
 use Rattle.tg_race.specs.declared.shape.Shape.{Shape}
@@ -53,7 +53,7 @@ forwarding_word r cell = slice_index r.words cell
 -- whether the place is one of a block that a space may have, and is in range
 abbrev pub is_within : Net → Place → Bool
 is_within net p =
-    nat_lt p.space SPACES && nat_lt p.block 1048576 && nat_lt p.cell 64 && nat_lt p.block net.space_blocks
+    nat_lt p.space SPACES && nat_lt p.block MOST_SPACE_BLOCKS && nat_lt p.cell CELLS && nat_lt p.block net.space_blocks
 
 -- the cell has no place yet, is a target of what the record has claimed or won, and the place is the record's to give
 abbrev pub can_win : Net → Race → Record → ℕ → Place → Bool
@@ -152,7 +152,7 @@ net_of s = record { roots = lists s.roots.items; targets = lists s.targets.items
 
 -- the numbers with which a race is run: at most 1,048,576 blocks are kept, and there is a helper
 abbrev pub IsRaceable : Net → Type 0
-IsRaceable net = (net.kept ≤ 1048576) × (0 < net.helpers)
+IsRaceable net = (net.kept ≤ MOST_SPACE_BLOCKS) × (0 < net.helpers)
 
 -- what holds of the net of each world: its lists and its count of helpers are no longer than a program's
 pub record IsHeld (net : Net) : Type 0 where

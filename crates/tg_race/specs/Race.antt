@@ -5,6 +5,7 @@ use mathlib.Core.Option.{some}
 use lib.ListN.{get_elem?}
 use Rattle.tg_race.specs.declared.record.Counts.{Counts}
 use Rattle.tg_race.specs.declared.record.Record.{Record}
+use Rattle.tg_word.specs.declared.TheConstants.{CELLS}
 use Rattle.tg_word.specs.declared.Place.{Place}
 use Rattle.tg_race.specs.Weights.{weigh, weigh_below}
 use Rattle.tg_race.specs.Words.{weigh_words, AreForward, IsPair, has_pair, place_at, lies_in, OLD, AGED}
@@ -41,7 +42,7 @@ used_in space b won = weigh (λ q. if lies_in space b q.1 then 1 else 0) won
 
 -- whether a block has a place that none of the pairs has
 abbrev pub has_room : ℕ → List (ℕ × Place) → ℕ → Bool
-has_room space won b = nat_lt (used_in space b won) 64
+has_room space won b = nat_lt (used_in space b won) CELLS
 
 -- how many of the blocks have room
 abbrev pub with_room : ℕ → List (ℕ × Place) → List ℕ → ℕ

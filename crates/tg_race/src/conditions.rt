@@ -7,7 +7,7 @@ ghost use Rattle.tg_race.specs.Conditions.{uses, can_use, is_new, can_part, bloc
 
 use crate::record::Record;
 use std::collections::LinkedList;
-use tg_word::Place;
+use tg_word::{CELLS, Place};
 
 // The number of the space that a collection copies into: Aged is 1 and Old is 0.
 fn space_of(aged: bool) -> u64
@@ -50,7 +50,7 @@ impl Record {
         let space = space_of(aged);
         self.blocks_of(aged)
             .iter()
-            .all(|b| self.used_in(space, *b) >= 64)
+            .all(|b| self.used_in(space, *b) >= CELLS as usize)
     }
 
     pub(crate) fn blocks_below(&self, aged: bool, limit: u64) -> bool

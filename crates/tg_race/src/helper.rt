@@ -1,5 +1,6 @@
 //! A helper: a seat at the table. Each call is one event of the race, and ensures what that event does to the record.
 ghost use Rattle.std.specs.Prelude.{◌≡◌, ◌≢◌, ◌*◌, ◌<◌, ◌≤◌, false, IfSome, IfNone, IsTrue, Some, All};
+ghost use Rattle.tg_word.specs.declared.TheConstants.{CELLS};
 ghost use Rattle.tg_word.specs.declared.Place.{Place as PlaceOf};
 ghost use Rattle.tg_word.specs.Word.{IsPlace};
 ghost use Rattle.tg_race.specs.Race.{HasMet, empty, with_chunk, with_seen, with_won, with_claimed_block, both, less_one};
@@ -86,7 +87,7 @@ impl Helper {
     pub fn look(&mut self, table: &RaceTable, cell: u64) -> Option<Place>
         requires own { self.old.table ≡ table.now.table }
         requires inside { cell < table.now.counts.cells }
-        requires moved { 64 * table.now.counts.kept ≤ cell }
+        requires moved { CELLS * table.now.counts.kept ≤ cell }
         ensures none { IfNone result (self.new ≡ self.old) }
         ensures some { IfSome result (λ p. self.new ≡ record self.old { done = with_seen self.old.done (cell, p) }) }
         ensures place { IfSome result IsPlace }
@@ -106,7 +107,7 @@ impl Helper {
     pub fn look_word(&mut self, table: &RaceTable, cell: u64) -> u64
         requires own { self.old.table ≡ table.now.table }
         requires inside { cell < table.now.counts.cells }
-        requires moved { 64 * table.now.counts.kept ≤ cell }
+        requires moved { CELLS * table.now.counts.kept ≤ cell }
         ensures none { result ≡ 0 → self.new ≡ self.old }
         ensures some { result ≢ 0 → self.new ≡ record self.old { done = with_seen self.old.done (cell, place_of result) } }
         ensures forward { result ≢ 0 → IsForward result }
@@ -125,7 +126,7 @@ impl Helper {
     pub fn claim_cell(&mut self, table: &RaceTable, cell: u64, place: Place) -> Claim
         requires own { self.old.table ≡ table.now.table }
         requires inside { cell < table.now.counts.cells }
-        requires moved { 64 * table.now.counts.kept ≤ cell }
+        requires moved { CELLS * table.now.counts.kept ≤ cell }
         requires place { IsPlace place }
         requires allowed { IsTrue (can_use self.old.done place) }
         ensures done { self.new ≡ record self.old { done = claimed self.old.done cell place result } }
@@ -143,7 +144,7 @@ impl Helper {
     pub fn claim_word(&mut self, table: &RaceTable, cell: u64, word: u64) -> u64
         requires own { self.old.table ≡ table.now.table }
         requires inside { cell < table.now.counts.cells }
-        requires moved { 64 * table.now.counts.kept ≤ cell }
+        requires moved { CELLS * table.now.counts.kept ≤ cell }
         requires forward { IsForward word }
         requires allowed { IsTrue (can_use self.old.done (place_of word)) }
         ensures won { result ≡ 0 → self.new ≡ record self.old { done = with_won self.old.done (cell, place_of word) } }

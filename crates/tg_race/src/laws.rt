@@ -5,6 +5,7 @@ ghost use mathlib.Core.Option.{some};
 ghost use Rattle.tg_race.specs.declared.record.Counts.{Counts};
 ghost use Rattle.tg_race.specs.declared.record.Record.{Record};
 ghost use Rattle.tg_race.specs.declared.event.Event.{Event};
+ghost use Rattle.tg_word.specs.declared.TheConstants.{CELLS};
 ghost use Rattle.tg_word.specs.declared.Place.{Place};
 ghost use Rattle.tg_word.specs.Word.{IsPlace};
 ghost use Rattle.tg_race.specs.Words.{AGED, OLD, word_of, has_pair};
@@ -75,18 +76,18 @@ pub fn wins_stay_earned_under_join()
 ///
 /// The bound is on the number of the next block.
 pub fn blocks_are_few()
-    ensures aged_blocks { (k : Counts) (r : Race) → Rule k r → 64 * r.next_aged ≤ 64 * k.helpers + weigh (λ v. length v.won) r.records }
-    ensures old_blocks { (k : Counts) (r : Race) → Rule k r → 64 * r.next_old ≤ 64 * (k.kept + k.helpers) + weigh (λ v. length v.won) r.records }
+    ensures aged_blocks { (k : Counts) (r : Race) → Rule k r → CELLS * r.next_aged ≤ CELLS * k.helpers + weigh (λ v. length v.won) r.records }
+    ensures old_blocks { (k : Counts) (r : Race) → Rule k r → CELLS * r.next_old ≤ CELLS * (k.kept + k.helpers) + weigh (λ v. length v.won) r.records }
     ensures wins { (k : Counts) (r : Race) → Rule k r → weigh (λ v. length v.won) r.records ≤ k.cells }
 {}
 
 /// The same of each block that was claimed in a closed table; and those of a space are full of cells that were won into it,
 /// but for one a helper.
 pub fn claimed_blocks_are_few()
-    ensures aged_blocks { (k : Counts) (words : List ℕ) (done : Record) → IsClosedTable k words done → (b : ℕ) → IsTrue (has_number b done.aged_blocks) → 64 * (b + 1) ≤ 64 * k.helpers + length done.won }
-    ensures old_blocks { (k : Counts) (words : List ℕ) (done : Record) → IsClosedTable k words done → (b : ℕ) → IsTrue (has_number b done.old_blocks) → 64 * (b + 1) ≤ 64 * (k.kept + k.helpers) + length done.won }
-    ensures aged_filled { (k : Counts) (words : List ℕ) (done : Record) → IsClosedTable k words done → 64 * length done.aged_blocks ≤ 64 * k.helpers + weigh (λ q. if q.1.space == AGED then 1 else 0) done.won }
-    ensures old_filled { (k : Counts) (words : List ℕ) (done : Record) → IsClosedTable k words done → 64 * length done.old_blocks ≤ 64 * k.helpers + weigh (λ q. if q.1.space == OLD then 1 else 0) done.won }
+    ensures aged_blocks { (k : Counts) (words : List ℕ) (done : Record) → IsClosedTable k words done → (b : ℕ) → IsTrue (has_number b done.aged_blocks) → CELLS * (b + 1) ≤ CELLS * k.helpers + length done.won }
+    ensures old_blocks { (k : Counts) (words : List ℕ) (done : Record) → IsClosedTable k words done → (b : ℕ) → IsTrue (has_number b done.old_blocks) → CELLS * (b + 1) ≤ CELLS * (k.kept + k.helpers) + length done.won }
+    ensures aged_filled { (k : Counts) (words : List ℕ) (done : Record) → IsClosedTable k words done → CELLS * length done.aged_blocks ≤ CELLS * k.helpers + weigh (λ q. if q.1.space == AGED then 1 else 0) done.won }
+    ensures old_filled { (k : Counts) (words : List ℕ) (done : Record) → IsClosedTable k words done → CELLS * length done.old_blocks ≤ CELLS * k.helpers + weigh (λ q. if q.1.space == OLD then 1 else 0) done.won }
 {}
 
 /// What 'drawn' says of one number: it stands once in the records if it is below the counter and not below the start,

@@ -1,5 +1,6 @@
 //! The table of forwarding words.
 ghost use Rattle.std.specs.Prelude.{◌≡◌, ◌+◌, ◌*◌, ◌++◌, ◌^◌, ◌<◌, ◌≤◌, IfOk, replicate};
+ghost use Rattle.tg_word.specs.declared.TheConstants.{CELLS, MOST_SPACE_BLOCKS};
 ghost use Rattle.tg_race.specs.Race.{empty};
 ghost use Rattle.tg_race.specs.Board.{IsClosedTable};
 
@@ -10,9 +11,7 @@ use atomic_table::Table;
 use std::alloc::{AllocError, Global};
 use std::marker::Model;
 use tg_closed::ClosedWords;
-
-// How many cells a block has.
-const CELLS: u64 = 64;
+use tg_word::CELLS;
 
 // How many words stand in front of those of the cells.
 const COUNTERS: usize = 3;
@@ -53,8 +52,8 @@ impl RaceTable {
         helpers: u32,
     ) -> Result<(RaceTable, Helper), AllocError>
         requires few { cells < 2 ^ 61 }
-        requires kept { kept ≤ 2 ^ 20 }
-        requires within { 64 * kept ≤ cells }
+        requires kept { kept ≤ MOST_SPACE_BLOCKS }
+        requires within { CELLS * kept ≤ cells }
         requires some { 0 < helpers }
         ensures counts { IfOk result (λ t. t.0.counts ≡ record { cells = cells; roots = roots; kept = kept; helpers = helpers }) }
         ensures first { IfOk result (λ t. (t.1.table ≡ t.0.table) × (t.1.done ≡ empty helpers)) }
@@ -78,7 +77,7 @@ impl RaceTable {
     pub fn close(self, helper: Helper) -> ClosedWords
         requires own { helper.table ≡ self.table }
         requires all { helper.done.share ≡ self.counts.helpers }
-        ensures { IsClosedTable self.counts (replicate (64 * self.counts.kept) 0 ++ result) helper.done }
+        ensures { IsClosedTable self.counts (replicate (CELLS * self.counts.kept) 0 ++ result) helper.done }
     {
         let RaceTable { table, counts: _ } = self;
         let Helper { seat } = helper;
@@ -89,8 +88,8 @@ impl RaceTable {
     #[inline(always)]
     pub(crate) fn word_number(&self, cell: u64) -> usize
         requires inside { cell < self.now.counts.cells }
-        requires moved { 64 * self.now.counts.kept ≤ cell }
-        ensures is { result + 64 * self.now.counts.kept ≡ cell + 3 }
+        requires moved { CELLS * self.now.counts.kept ≤ cell }
+        ensures is { result + CELLS * self.now.counts.kept ≡ cell + 3 }
         ensures within { result < self.now.table.id.words }
     {
         (cell - CELLS * self.counts.kept) as usize + COUNTERS

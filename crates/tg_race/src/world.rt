@@ -11,7 +11,7 @@ use crate::shape::Shape;
 use std::alloc::{AllocError, Global};
 use std::marker::Model;
 use std::mem;
-use tg_word::{Place, SPACES};
+use tg_word::{CELLS, MOST_SPACE_BLOCKS, Place, SPACES};
 
 /// The race as a state machine: its words, and a record for each helper that was made. A clause sees its course.
 #[derive(Drop)]
@@ -125,8 +125,8 @@ impl World {
         ensures { result ≡ is_within self.now.net place }
     {
         place.space < SPACES
-            && place.block < 1_048_576
-            && place.cell < 64
+            && place.block < MOST_SPACE_BLOCKS
+            && place.cell < CELLS
             && place.block < self.shape.space_blocks
     }
 

@@ -1,6 +1,7 @@
 -- What a collection leaves: one forwarding word for each cell, the new blocks, and the cells of Old to be remembered.
 use Rattle.std.specs.Prelude.{◌≡◌, ◌≢◌, ◌↔◌, ℕ, ◌+◌, ◌-◌, ◌*◌, ◌/◌, ◌^◌, ◌<◌, ◌≤◌, ◌⊎◌, ◌==◌, ◌&&◌, Bool, List, [], drop, length, slice_index, not, count_by}
 use Rattle.std.specs.List.{Contains}
+use Rattle.tg_word.specs.declared.TheConstants.{CELLS, MOST_SPACE_BLOCKS}
 use Rattle.tg_word.specs.declared.Place.{Place}
 use Rattle.tg_word.specs.Word.{link_to, place_in}
 use Rattle.tg_block.specs.Cells.{free_cell, all_are_zero}
@@ -28,11 +29,11 @@ used_cells kind h = count_by (λ words. not (all_are_zero words)) (moved_cells k
 -- where a collection by this many helpers may find no room in a space, of whose blocks some are kept: the cells that
 -- may have to go there are more than the blocks that it may get can be sure to hold, as each helper may leave one open
 abbrev pub MayLackRoom : ℕ → ℕ → ℕ → ℕ → Type 0
-MayLackRoom space_blocks helpers kept cells = 64 * (space_blocks + 1 - helpers - kept) ≤ cells
+MayLackRoom space_blocks helpers kept cells = CELLS * (space_blocks + 1 - helpers - kept) ≤ cells
 
 -- how many blocks so many cells need
 abbrev pub blocks_for : ℕ → ℕ
-blocks_for cells = (cells + 63) / 64
+blocks_for cells = (cells + 63) / CELLS
 
 -- the word is that of a copy in a space
 abbrev pub is_copy_in : ℕ → ℕ → Bool
@@ -95,4 +96,4 @@ pub record IsCollection (kind : Kind) (h : SpaceList) (roots : List Root) (forwa
   -- a full collection leaves no cell in Aged
   pub none_aged : kind ≡ Full → aged ≡ []
   -- Old has room for the new blocks
-  pub few : kept_blocks kind h + length old ≤ 2 ^ 20
+  pub few : kept_blocks kind h + length old ≤ MOST_SPACE_BLOCKS

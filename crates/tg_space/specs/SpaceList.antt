@@ -2,7 +2,7 @@
 use Rattle.std.specs.Prelude.{◌≡◌, ℕ, ◌+◌, ◌*◌, ◌^◌, ◌<◌, ◌≤◌, List, [], ◌∷◌, ◌++◌, length, take, slice_index_or, slice_set}
 use Rattle.std.specs.List.{All, flat_map, sum_by}
 use Rattle.tg_word.specs.declared.Place.{Place}
-use Rattle.tg_word.specs.declared.TheConstants.{SPACES}
+use Rattle.tg_word.specs.declared.TheConstants.{SPACES, CELLS, MOST_SPACE_BLOCKS}
 use Rattle.tg_block.specs.Cells.{IsBlock, cell_of, with_word, free_block}
 
 abbrev pub BlockList : Type 0
@@ -13,7 +13,7 @@ SpaceList = List (List (List (List ℕ)))
 
 -- a space has at most 1,048,576 blocks
 abbrev pub IsSpace : BlockList → Type 0
-IsSpace blocks = (length blocks ≤ 2 ^ 20) × All IsBlock blocks
+IsSpace blocks = (length blocks ≤ MOST_SPACE_BLOCKS) × All IsBlock blocks
 
 -- there are no more spaces than a heap can have
 pub record IsSpaceList (h : SpaceList) : Type 0 where
@@ -30,7 +30,7 @@ block_of h space block = slice_index_or (space_of h space) block []
 pub record Holds (h : SpaceList) (p : Place) : Type 0 where
   pub space : p.space < length h
   pub block : p.block < length (space_of h p.space)
-  pub cell : p.cell < 64
+  pub cell : p.cell < CELLS
 
 -- the words of the cell that the place names
 abbrev pub cell_at : SpaceList → Place → List ℕ
@@ -48,7 +48,7 @@ block_count h = sum_by (λ blocks. length blocks) h
 
 -- the number of the cell: Old's cells first, then space by space, block by block, 64 cells a block
 abbrev pub flat_of : SpaceList → Place → ℕ
-flat_of h p = 64 * (blocks_before h p.space + p.block) + p.cell
+flat_of h p = CELLS * (blocks_before h p.space + p.block) + p.cell
 
 -- the cells of all spaces, one after the other
 abbrev pub cells_of : SpaceList → List (List ℕ)

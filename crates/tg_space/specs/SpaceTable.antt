@@ -2,9 +2,10 @@
 use Rattle.std.specs.Prelude.{◌≡◌, ℕ, ◌+◌, ◌-◌, ◌*◌, ◌/◌, ◌%◌, ◌^◌, ◌<◌, ◌≤◌, ◌⊎◌, List, [], ◌∷◌, ◌++◌, length, replicate, slice_index, slice_set}
 use Rattle.std.specs.List.{All}
 use Rattle.tg_word.specs.declared.Place.{Place}
-use Rattle.tg_word.specs.declared.TheConstants.{SPACES}
+use Rattle.tg_word.specs.declared.TheConstants.{SPACES, CELLS, MOST_SPACE_BLOCKS}
 use Rattle.tg_word.specs.Word.{nursery_space}
 use Rattle.tg_block.specs.Cells.{free_cell}
+use Rattle.tg_space.specs.declared.limits.TheConstants.{MOST_BLOCKS}
 use Rattle.tg_space.specs.SpaceList.{SpaceList, BlockList, IsSpace, Holds, space_of, cell_at, blocks_before, block_count}
 use Rattle.tg_space.specs.declared.kind.Kind.{Kind}
 use Rattle.tg_space.specs.declared.kind.Kind.TheVariants.{Full, Nursery}
@@ -20,9 +21,9 @@ limits_of max_blocks space_blocks = record { max_blocks = max_blocks; space_bloc
 -- at most 65,536 blocks in all and 1,048,576 in one space, and at least one
 pub record AreLimits (l : BlockLimits) : Type 0 where
   pub some_blocks : 1 ≤ l.max_blocks
-  pub few_blocks : l.max_blocks ≤ 65536
+  pub few_blocks : l.max_blocks ≤ MOST_BLOCKS
   pub some_in_space : 1 ≤ l.space_blocks
-  pub few_in_space : l.space_blocks ≤ 2 ^ 20
+  pub few_in_space : l.space_blocks ≤ MOST_SPACE_BLOCKS
 
 pub record SpaceTable : Type 0 where
   pub spaces : SpaceList
@@ -39,11 +40,11 @@ used_of t space = slice_index t.used space
 
 -- the number of a cell in its space
 abbrev pub number_in_space : Place → ℕ
-number_in_space p = 64 * p.block + p.cell
+number_in_space p = CELLS * p.block + p.cell
 
 -- the cell of a space with a number
 abbrev pub place_in_space : ℕ → ℕ → Place
-place_in_space space number = record { space = space; block = number / 64; cell = number % 64 }
+place_in_space space number = record { space = space; block = number / CELLS; cell = number % CELLS }
 
 -- a cell of a nursery that was handed out; a cell of Old or Aged needs no handing out
 abbrev pub IsHandedOut : SpaceTable → Place → Type 0
@@ -57,7 +58,7 @@ pub record IsSpaceTable (t : SpaceTable) : Type 0 where
   pub blocks : All IsSpace t.spaces
   -- a count for each space, which stays within its cells
   pub counted : length t.used ≡ length t.spaces
-  pub within : (space : ℕ) → space < length t.spaces → used_of t space ≤ 64 * length (space_of t.spaces space)
+  pub within : (space : ℕ) → space < length t.spaces → used_of t space ≤ CELLS * length (space_of t.spaces space)
   -- a cell of a nursery that was not handed out is free
   pub fresh : (p : Place) → Holds t.spaces p → 2 ≤ p.space → used_of t p.space ≤ number_in_space p → cell_at t.spaces p ≡ free_cell
 

@@ -1,6 +1,7 @@
 //! The copy of a cell.
 ghost use Rattle.std.specs.Prelude.{◌≡◌, ◌<◌, ◌≤◌, drop, length, slice_index};
 ghost use Rattle.std.specs.List.{All};
+ghost use Rattle.tg_block.specs.declared.TheConstants.{WORDS};
 ghost use Rattle.tg_word.specs.Word.{IsPlace, place_in};
 ghost use Rattle.tg_space.specs.Collection.{new_place};
 ghost use Rattle.tg_space.specs.Soundness.{IsPointer};
@@ -48,7 +49,7 @@ impl Spaces {
         first: usize,
         i: usize,
     ) -> u64
-        requires inside { i < 8 }
+        requires inside { i < WORDS }
         requires pointers { All (IsPointer self.now.spaces) (drop first words.now) }
         requires whole { length forward.now.words ≡ length (cells_of self.now.spaces) }
         requires places { All (λ word. IsPlace (place_in word)) forward.now.words }

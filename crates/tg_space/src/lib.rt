@@ -35,7 +35,7 @@ pub use adoption::Adoption;
 pub use allocate_fault::AllocateFault;
 pub use forwarding::{Forwarding, ForwardingTable};
 pub use kind::Kind;
-pub use limits::{Limits, MOST_BLOCKS, MOST_SPACE_BLOCKS};
+pub use limits::{Limits, MOST_BLOCKS};
 pub use pointers::first_pointer;
 pub use root::Root;
 pub use space::Space;

@@ -1,16 +1,15 @@
 //! How many blocks a heap may have.
 ghost use Rattle.std.specs.Prelude.{◌≡◌, ◌≤◌, ◌^◌, IfErr};
 ghost use Rattle.std.specs.Result.{OkIff};
+ghost use Rattle.tg_word.specs.declared.TheConstants.{MOST_SPACE_BLOCKS};
 ghost use Rattle.tg_space.specs.SpaceTable.{AreLimits, limits_of};
 
 use std::marker::Model;
 use tg_model::OpeningFault;
+use tg_word::MOST_SPACE_BLOCKS;
 
 /// The greatest number of blocks that all spaces may have together when one more is asked for.
 pub const MOST_BLOCKS: u64 = 65_536;
-
-/// The greatest number of blocks that one space may have.
-pub const MOST_SPACE_BLOCKS: u64 = 1 << 20;
 
 /// How many blocks a heap may have.
 #[derive(Clone, Copy, Debug)]
@@ -57,7 +56,7 @@ impl Limits {
         ensures value { result ≡ self.max_blocks }
         ensures limits { AreLimits self }
         ensures least { 1 ≤ result }
-        ensures most { result ≤ 65536 }
+        ensures most { result ≤ MOST_BLOCKS }
     {
         self.max_blocks
     }
@@ -66,7 +65,7 @@ impl Limits {
     pub fn space_blocks(self) -> u64
         ensures value { result ≡ self.space_blocks }
         ensures least { 1 ≤ result }
-        ensures most { result ≤ 2 ^ 20 }
+        ensures most { result ≤ MOST_SPACE_BLOCKS }
     {
         self.space_blocks
     }

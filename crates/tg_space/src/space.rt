@@ -1,5 +1,7 @@
 //! One space.
 ghost use Rattle.std.specs.Prelude.{◌≡◌, ◌<◌, ◌≤◌, ◌^◌, ◌+◌, ◌++◌, ◌∷◌, [], length, slice_index, slice_index_or, slice_set, vec_capacity, OnOk, OnErr};
+ghost use Rattle.tg_word.specs.declared.TheConstants.{CELLS, MOST_SPACE_BLOCKS};
+ghost use Rattle.tg_block.specs.declared.TheConstants.{WORDS};
 ghost use Rattle.tg_block.specs.Cells.{cell_of, with_word, free_block};
 ghost use Rattle.tg_space.specs.SpaceList.{IsSpace};
 
@@ -37,7 +39,7 @@ impl Space {
     #[inline]
     pub fn len(&self) -> u64
         ensures blocks { result ≡ length self.now }
-        ensures few { result ≤ 2 ^ 20 }
+        ensures few { result ≤ MOST_SPACE_BLOCKS }
         ensures whole { IsSpace self.now }
     {
         self.blocks.len() as u64
@@ -47,8 +49,8 @@ impl Space {
     #[inline]
     pub fn word(&self, block: u64, cell: u64, i: usize) -> u64
         requires block_inside { block < length self.now }
-        requires cell_inside { cell < 64 }
-        requires word_inside { i < 8 }
+        requires cell_inside { cell < CELLS }
+        requires word_inside { i < WORDS }
         ensures { result ≡ slice_index (cell_of (slice_index_or self.now block []) cell) i }
     {
         self.blocks[block as usize].word(cell as usize, i)
@@ -58,7 +60,7 @@ impl Space {
     #[inline]
     pub fn cell(&self, block: u64, cell: u64) -> [u64; WORDS]
         requires block_inside { block < length self.now }
-        requires cell_inside { cell < 64 }
+        requires cell_inside { cell < CELLS }
         ensures { result ≡ cell_of (slice_index_or self.now block []) cell }
     {
         self.blocks[block as usize].cell(cell as usize)
@@ -68,7 +70,7 @@ impl Space {
     #[inline(always)]
     pub fn words(&self, block: u64, cell: u64) -> &[u64; WORDS]
         requires block_inside { block < length self.now }
-        requires cell_inside { cell < 64 }
+        requires cell_inside { cell < CELLS }
         ensures { result.now ≡ cell_of (slice_index_or self.now block []) cell }
     {
         self.blocks[block as usize].words(cell as usize)
@@ -78,8 +80,8 @@ impl Space {
     #[inline]
     pub fn set_word(&mut self, block: u64, cell: u64, i: usize, word: u64)
         requires block_inside { block < length self.old }
-        requires cell_inside { cell < 64 }
-        requires word_inside { i < 8 }
+        requires cell_inside { cell < CELLS }
+        requires word_inside { i < WORDS }
         ensures changed { self.new ≡ slice_set self.old block (with_word (slice_index_or self.old block []) cell i word) }
         ensures whole { IsSpace self.new }
     {
@@ -91,7 +93,7 @@ impl Space {
     #[inline]
     pub fn set_cell(&mut self, block: u64, cell: u64, words: [u64; WORDS])
         requires block_inside { block < length self.old }
-        requires cell_inside { cell < 64 }
+        requires cell_inside { cell < CELLS }
         ensures changed { self.new ≡ slice_set self.old block (slice_set (slice_index_or self.old block []) cell words) }
         ensures whole { IsSpace self.new }
     {
@@ -104,7 +106,7 @@ impl Space {
     /// It is refused only where memory was; then nothing is changed.
     #[inline]
     pub fn push(&mut self, block: Block) -> Result<(), AllocError>
-        requires { length self.old < 2 ^ 20 }
+        requires { length self.old < MOST_SPACE_BLOCKS }
         ensures added { OnOk result (self.new ≡ self.old ++ block ∷ []) }
         ensures whole { OnOk result (IsSpace self.new) }
         ensures refused { OnErr result (self.new ≡ self.old) }
@@ -117,7 +119,7 @@ impl Space {
     ///
     /// It is refused only where memory was; then nothing is changed.
     pub fn add_block(&mut self, alloc: Global) -> Result<(), AllocError>
-        requires { length self.old < 2 ^ 20 }
+        requires { length self.old < MOST_SPACE_BLOCKS }
         ensures added { OnOk result (self.new ≡ self.old ++ free_block ∷ []) }
         ensures whole { OnOk result (IsSpace self.new) }
         ensures refused { OnErr result (self.new ≡ self.old) }
@@ -136,7 +138,7 @@ impl Space {
     ///
     /// It is refused only where memory was; then nothing is changed.
     pub fn append(&mut self, other: Space) -> Result<(), AllocError>
-        requires { length self.old + length other ≤ 2 ^ 20 }
+        requires { length self.old + length other ≤ MOST_SPACE_BLOCKS }
         ensures appended { OnOk result (self.new ≡ self.old ++ other) }
         ensures whole { OnOk result (IsSpace self.new) }
         ensures refused { OnErr result (self.new ≡ self.old) }

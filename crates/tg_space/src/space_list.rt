@@ -1,6 +1,7 @@
 //! A list of spaces: it is made, emptied and filled, and its blocks are counted.
 ghost use Rattle.std.specs.Prelude.{◌≡◌, ◌++◌, ◌<◌, ◌≤◌, ◌+◌, ◌^◌, [], length, map, replicate, IfOk, OnOk, OnErr};
 ghost use Rattle.std.specs.List.{All};
+ghost use Rattle.tg_word.specs.declared.TheConstants.{MOST_SPACE_BLOCKS};
 ghost use Rattle.tg_space.specs.SpaceList.{IsEmptyFrom, IsSpace, space_of};
 ghost use Rattle.tg_space.specs.SpaceTable.{adopted, IsPrefixCount};
 ghost use Rattle.tg_space.specs.declared.kind.Kind.{Kind};
@@ -33,7 +34,7 @@ pub fn put_behind(
 ) -> Result<Vec<Block>, AllocError>
     requires enough { 2 ≤ filled }
     requires empty { IsEmptyFrom filled spaces.old }
-    requires room { length (space_of spaces.old 0) + length old ≤ 2 ^ 20 }
+    requires room { length (space_of spaces.old 0) + length old ≤ MOST_SPACE_BLOCKS }
     ensures adopted { OnOk result (spaces.new ≡ adopted Kind.Nursery spaces.old aged old) }
     ensures first { OnOk result (IsSpace (space_of spaces.old 0 ++ old)) }
     ensures second { OnOk result (IsSpace aged) }

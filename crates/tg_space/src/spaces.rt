@@ -1,8 +1,9 @@
 //! All spaces of a heap.
 ghost use Rattle.std.specs.Prelude.{◌≡◌, ◌<◌, ◌≤◌, ◌+◌, ◌*◌, ◌^◌, ◌↔◌, [], length, slice_index, slice_index_or, Err, IfOk, OnOk, OnErr, IsOk, IsTrue};
+ghost use Rattle.tg_block.specs.declared.TheConstants.{WORDS};
 ghost use Rattle.tg_block.specs.Cells.{free_cell};
 ghost use Rattle.tg_word.specs.Word.{IsPlace, nursery_space};
-ghost use Rattle.tg_word.specs.declared.TheConstants.{MAX_NURSERIES, SPACES};
+ghost use Rattle.tg_word.specs.declared.TheConstants.{CELLS, MAX_NURSERIES, MOST_SPACE_BLOCKS, SPACES};
 ghost use Rattle.tg_space.specs.SpaceList.{Holds, IsEmptyFrom, block_count, cell_at, cells_of, flat_of, space_of, with_block, with_cell_at, with_word_at};
 ghost use Rattle.tg_space.specs.SpaceTable.{IsFull, IsHandedOut, IsNursery, IsPrefixCount, IsSpaceTable, kept_blocks, no_blocks, place_in_space, used_of, with_adopted, with_one_used, with_spaces};
 
@@ -15,8 +16,8 @@ use crate::space_list::{add_one, count_old_and_aged, empty_spaces, put_alone, pu
 use std::alloc::{AllocError, Global};
 use std::marker::Model;
 use std::mem;
-use tg_block::{Block, CELLS, WORDS};
-use tg_word::{Place, nursery_space};
+use tg_block::{Block, WORDS};
+use tg_word::{CELLS, Place, nursery_space};
 
 mod numbers;
 
@@ -88,7 +89,7 @@ impl Spaces {
     pub fn len(&self, space: u64) -> u64
         requires { space < length self.now.spaces }
         ensures blocks { result ≡ length (space_of self.now.spaces space) }
-        ensures few { result ≤ 2 ^ 20 }
+        ensures few { result ≤ MOST_SPACE_BLOCKS }
     {
         self.spaces[space as usize].len()
     }
@@ -96,7 +97,7 @@ impl Spaces {
     /// How many blocks all spaces have.
     pub fn blocks(&self) -> u64
         ensures blocks { result ≡ block_count self.now.spaces }
-        ensures few { result ≤ SPACES * 2 ^ 20 }
+        ensures few { result ≤ SPACES * MOST_SPACE_BLOCKS }
         ensures table { IsSpaceTable self.now }
     {
         self.starts[self.spaces.len()]
@@ -107,7 +108,7 @@ impl Spaces {
     pub fn used(&self, space: u64) -> u64
         requires { space < length self.now.spaces }
         ensures used { result ≡ used_of self.now space }
-        ensures within { result ≤ 64 * length (space_of self.now.spaces space) }
+        ensures within { result ≤ CELLS * length (space_of self.now.spaces space) }
         ensures table { IsSpaceTable self.now }
     {
         self.used[space as usize]
@@ -120,14 +121,14 @@ impl Spaces {
     {
         place.space < self.spaces.len() as u64
             && place.block < self.spaces[place.space as usize].len()
-            && place.cell < 64
+            && place.cell < CELLS
     }
 
     /// A word of a cell.
     #[inline]
     pub fn read(&self, place: Place, i: usize) -> u64
         requires held { Holds self.now.spaces place }
-        requires inside { i < 8 }
+        requires inside { i < WORDS }
         ensures { result ≡ slice_index (cell_at self.now.spaces place) i }
     {
         self.spaces[place.space as usize].word(place.block, place.cell, i)
@@ -137,7 +138,7 @@ impl Spaces {
     #[inline]
     pub fn write(&mut self, place: Place, i: usize, word: u64)
         requires held { Holds self.old.spaces place }
-        requires inside { i < 8 }
+        requires inside { i < WORDS }
         requires handed_out { IsHandedOut self.old place }
         ensures { self.new ≡ with_spaces self.old (with_word_at self.old.spaces place i word) }
     {
@@ -162,7 +163,7 @@ impl Spaces {
         requires { Holds self.now.spaces place }
         ensures words { result ≡ cell_at self.now.spaces place }
         ensures numbered { result ≡ slice_index_or (cells_of self.now.spaces) (flat_of self.now.spaces place) [] }
-        ensures whole { length result ≡ 8 }
+        ensures whole { length result ≡ WORDS }
         ensures table { IsSpaceTable self.now }
     {
         self.spaces[place.space as usize].cell(place.block, place.cell)
@@ -174,7 +175,7 @@ impl Spaces {
         requires { Holds self.now.spaces place }
         ensures words { result.now ≡ cell_at self.now.spaces place }
         ensures numbered { result.now ≡ slice_index_or (cells_of self.now.spaces) (flat_of self.now.spaces place) [] }
-        ensures whole { length result.now ≡ 8 }
+        ensures whole { length result.now ≡ WORDS }
         ensures table { IsSpaceTable self.now }
     {
         self.spaces[place.space as usize].words(place.block, place.cell)
@@ -185,7 +186,7 @@ impl Spaces {
     /// The nursery has a cell that was not handed out: `used` is below 64 times `len`.
     pub fn hand_out(&mut self, space: u64) -> Place
         requires nursery { IsNursery self.old space }
-        requires room { used_of self.old space < 64 * length (space_of self.old.spaces space) }
+        requires room { used_of self.old space < CELLS * length (space_of self.old.spaces space) }
         ensures place { result ≡ place_in_space space (used_of self.old space) }
         ensures held { Holds self.old.spaces result }
         ensures free { cell_at self.old.spaces result ≡ free_cell }
@@ -197,8 +198,8 @@ impl Spaces {
         self.used[space as usize] = used + 1;
         Place {
             space,
-            block: used / CELLS as u64,
-            cell: used % CELLS as u64,
+            block: used / CELLS,
+            cell: used % CELLS,
         }
     }
 
@@ -241,7 +242,7 @@ impl Spaces {
     ///
     /// The blocks that Old had before a full collection, and Aged before one of the nurseries, are spare then.
     pub fn adopt(&mut self, kind: Kind, adoption: Adoption) -> Result<(), AllocError>
-        requires { kind ≡ Kind.Nursery → kept_blocks kind self.old.spaces + length adoption.old ≤ 2 ^ 20 }
+        requires { kind ≡ Kind.Nursery → kept_blocks kind self.old.spaces + length adoption.old ≤ MOST_SPACE_BLOCKS }
         ensures adopted { OnOk result (self.new ≡ with_adopted self.old kind adoption.aged adoption.old) }
         ensures refused { OnErr result (self.new ≡ self.old) }
         ensures full { kind ≡ Kind.Full → IsOk result }
@@ -280,7 +281,7 @@ impl Spaces {
     // Old is followed by these blocks, Aged is the other ones, and every nursery has none.
     #[tactic(auto, using(crate::proofs::Tables::table_adopted))]
     fn keep_old_and(&mut self, aged: Space, old: Space) -> Result<(), AllocError>
-        requires { length (space_of self.old.spaces 0) + length old ≤ 2 ^ 20 }
+        requires { length (space_of self.old.spaces 0) + length old ≤ MOST_SPACE_BLOCKS }
         ensures adopted { OnOk result (self.new ≡ with_adopted self.old Kind.Nursery aged old) }
         ensures refused { OnErr result (self.new ≡ self.old) }
         ensures table { OnOk result (IsSpaceTable self.new) }

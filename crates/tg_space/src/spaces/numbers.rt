@@ -1,22 +1,23 @@
 //! The numbers of cells: those of Old come first, then those of Aged and of the nurseries, each space block by block.
 ghost use Rattle.std.specs.Prelude.{◌≡◌, ◌<◌, ◌≤◌, ◌*◌, ◌^◌, [], length, slice_index_or};
+ghost use Rattle.tg_block.specs.declared.TheConstants.{WORDS};
 ghost use Rattle.tg_word.specs.Word.{place_in};
-ghost use Rattle.tg_word.specs.declared.TheConstants.{SPACES};
+ghost use Rattle.tg_word.specs.declared.TheConstants.{MOST_SPACE_CELLS, SPACES};
 ghost use Rattle.tg_space.specs.SpaceList.{Holds, cells_of, flat_of};
 ghost use Rattle.tg_space.specs.SpaceTable.{IsSpaceTable};
 
 use crate::spaces::Spaces;
-use tg_block::{CELLS, WORDS};
-use tg_word::{OLD, Place, number_of, place_of};
+use tg_block::WORDS;
+use tg_word::{CELLS, OLD, Place, number_of, place_of};
 
 impl Spaces {
     /// How many cells there are.
     pub fn cells(&self) -> u64
         ensures cells { result ≡ length (cells_of self.now.spaces) }
-        ensures few { result ≤ SPACES * 2 ^ 26 }
+        ensures few { result ≤ SPACES * MOST_SPACE_CELLS }
         ensures table { IsSpaceTable self.now }
     {
-        CELLS as u64 * self.blocks()
+        CELLS * self.blocks()
     }
 
     /// The number of a cell: the cells of Old come first, then those of Aged and of the nurseries, each space block
@@ -27,7 +28,7 @@ impl Spaces {
         ensures flat { result ≡ flat_of self.now.spaces place }
         ensures inside { result < length (cells_of self.now.spaces) }
     {
-        CELLS as u64 * (self.starts[place.space as usize] + place.block) + place.cell
+        CELLS * (self.starts[place.space as usize] + place.block) + place.cell
     }
 
     /// The number of the cell that a word names.
@@ -38,7 +39,7 @@ impl Spaces {
         ensures inside { result < length (cells_of self.now.spaces) }
     {
         let space = place_of(word).space;
-        CELLS as u64 * self.starts[space as usize] + number_of(word)
+        CELLS * self.starts[space as usize] + number_of(word)
     }
 
     /// The place of the cell with a number.
@@ -48,7 +49,7 @@ impl Spaces {
         ensures held { Holds self.now.spaces result }
         ensures flat { flat_of self.now.spaces result ≡ number }
     {
-        let block = number / CELLS as u64;
+        let block = number / CELLS;
         let mut space: usize = 0;
         while self.starts[space + 1] <= block {
             space += 1;
@@ -56,7 +57,7 @@ impl Spaces {
         Place {
             space: space as u64,
             block: block - self.starts[space],
-            cell: number % CELLS as u64,
+            cell: number % CELLS,
         }
     }
 
@@ -65,12 +66,12 @@ impl Spaces {
     pub fn numbered_words(&self, number: u64) -> &[u64; WORDS]
         requires { number < length (cells_of self.now.spaces) }
         ensures words { result.now ≡ slice_index_or (cells_of self.now.spaces) number [] }
-        ensures whole { length result.now ≡ 8 }
+        ensures whole { length result.now ≡ WORDS }
     {
         let of_old = Place {
             space: OLD,
-            block: number / CELLS as u64,
-            cell: number % CELLS as u64,
+            block: number / CELLS,
+            cell: number % CELLS,
         };
         // Most cells that are asked for are of Old, and need no search.
         if of_old.block < self.len(OLD) {
