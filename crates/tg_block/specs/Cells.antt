@@ -2,7 +2,7 @@
 use Rattle.std.specs.Prelude.{◌≡◌, ℕ, Bool, ◌==◌, if◌then◌else◌, List, [], length, replicate, slice_index, slice_index_or, slice_set}
 use Rattle.std.specs.List.{All, list_all}
 use Rattle.tg_word.specs.declared.TheConstants.{CELLS}
-use Rattle.tg_block.specs.declared.TheConstants.{WORDS}
+use Rattle.tg_block.specs.declared.TheConstants.{WORDS, OBJECT_TAG, CHUNK_TAG}
 use Rattle.tg_block.specs.declared.CellKind.{CellKind}
 use Rattle.tg_block.specs.declared.CellKind.TheVariants.{Free, Object, Chunk, Bad}
 
@@ -28,10 +28,10 @@ all_are_zero words = list_all (λ word. word == 0) words
 
 -- the first words of an object and of a chunk
 abbrev pub object_tag : ℕ
-object_tag = 1
+object_tag = OBJECT_TAG
 
 abbrev pub chunk_tag : ℕ
-chunk_tag = 2
+chunk_tag = CHUNK_TAG
 
 -- what a cell is, by its first word; a cell whose first word is 0 is free only where all words are
 abbrev pub kind_of : List ℕ → CellKind

@@ -5,6 +5,7 @@ use Rattle.tg_rights.specs.RightSet.{RightSet, is_none_held, no_rights}
 use Rattle.tg_word.specs.declared.TheConstants.{CELLS}
 use Rattle.tg_word.specs.declared.Place.{Place}
 use Rattle.tg_word.specs.Word.{place_in, rights_in}
+use Rattle.tg_block.specs.declared.TheConstants.{KEY, LINK, NAME}
 use Rattle.tg_block.specs.Cells.{object_tag}
 use Rattle.tg_block.specs.declared.CellKind.TheVariants.{Object, Chunk}
 use Rattle.tg_space.specs.SpaceList.{SpaceList, cell_at, cells_of, space_of}
@@ -32,10 +33,10 @@ objects_of h = filter (λ p. is_object (cell_at h p)) (places_of h)
 
 -- an object's name, and the key of its payload
 abbrev pub name_at : SpaceList → Place → ℕ
-name_at h p = slice_index (cell_at h p) 1
+name_at h p = slice_index (cell_at h p) NAME
 
 abbrev pub key_at : SpaceList → Place → ℕ
-key_at h p = slice_index (cell_at h p) 2
+key_at h p = slice_index (cell_at h p) KEY
 
 -- the place of the object with a name
 abbrev pub object_named : SpaceList → ℕ → Option Place
@@ -50,7 +51,7 @@ pub record IsVertexAt (h : SpaceList) (name : ℕ) (p : Place) : Type 0 where
 
 -- the references of an object or a chunk, without its link
 abbrev pub references_of : List ℕ → List ℕ
-references_of words = let first = first_pointer (slice_index words 0) in take (7 - first) (drop first words)
+references_of words = let first = first_pointer (slice_index words 0) in take (LINK - first) (drop first words)
 
 -- a link leads to these chunks, one after the other, and no further
 abbrev pub IsChain : SpaceList → ℕ → List Place → Type 0

@@ -4,6 +4,7 @@ use Rattle.std.specs.Option.{option_or}
 use Rattle.tg_rights.specs.RightSet.{RightSet, is_none_held, minus, union}
 use Rattle.tg_word.specs.declared.Place.{Place}
 use Rattle.tg_word.specs.Word.{IsPlace, link_to, place_in, rights_in, word_at, nursery_space}
+use Rattle.tg_block.specs.declared.TheConstants.{LINK, WORDS}
 use Rattle.tg_block.specs.Cells.{chunk_tag}
 use Rattle.tg_space.specs.SpaceList.{SpaceList, Holds, cell_at, cells_of, with_cell_at, with_word_at}
 use Rattle.tg_space.specs.SpaceTable.{SpaceTable, IsHandedOut, place_in_space, used_of, with_one_used, with_spaces, IsSpaceTable}
@@ -115,7 +116,7 @@ narrowed word rights =
 abbrev pub chunk_put : SpaceTable → ℕ → Place → ℕ → SpaceTable
 chunk_put t space last word =
     let chunk = place_in_space space (used_of t space) in
-    with_spaces (with_one_used t space) (with_word_at (with_cell_at t.spaces chunk (chunk_words word)) last 7 (link_to chunk))
+    with_spaces (with_one_used t space) (with_word_at (with_cell_at t.spaces chunk (chunk_words word)) last LINK (link_to chunk))
 
 -- The table once rights over the object at a place were put where they go: the reference gets them too, or else the
 -- empty place gets a reference with them, or else a new chunk from this nursery.
@@ -164,7 +165,7 @@ pub record LacksCellsFor (t : SpaceTable) (space others holder name : ℕ) : Typ
 -- a word of a cell may be written
 pub record CanWrite (t : SpaceTable) (cell : Place) (index : ℕ) : Type 0 where
   pub held : Holds t.spaces cell
-  pub inside : index < 8
+  pub inside : index < WORDS
   pub handed_out : IsHandedOut t cell
 
 -- a word of a cell that is a reference may be written
@@ -176,14 +177,14 @@ pub record CanRewrite (t : SpaceTable) (cell : Place) (index : ℕ) : Type 0 whe
 pub record CanExtend (t : SpaceTable) (n : ℕ) (last : Place) : Type 0 where
   pub few : n < MAX_NURSERIES
   pub nursery : nursery_space n < length t.spaces
-  pub last_can : CanWrite t last 7
+  pub last_can : CanWrite t last LINK
   pub left : HasLeft t (nursery_space n) 1
 
 -- rights may be put where they go
 abbrev pub CanPut : SpaceTable → ℕ → Spot → Type 0
 CanPut t space (Reference cell index) = CanRewrite t cell index
 CanPut t space (Empty cell index) = CanWrite t cell index
-CanPut t space (Full last) = CanWrite t last 7 × HasLeft t space 1
+CanPut t space (Full last) = CanWrite t last LINK × HasLeft t space 1
 
 -- rights over the object at a place may be put where they go in a row, with a chunk from a nursery if one is needed
 pub record CanPutRights (t : SpaceTable) (n : ℕ) (spot : Spot) (to : Place) : Type 0 where

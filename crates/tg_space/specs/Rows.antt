@@ -1,12 +1,13 @@
 -- The row of an object: its own cell, and the chunks to which its link leads.
 use Rattle.std.specs.Prelude.{ℕ, zero, suc, ◌==◌, if◌then◌else◌, List, [], ◌∷◌, length, slice_index}
+use Rattle.tg_block.specs.declared.TheConstants.{LINK}
 use Rattle.tg_word.specs.declared.Place.{Place}
 use Rattle.tg_word.specs.Word.{place_in}
 use Rattle.tg_space.specs.SpaceList.{SpaceList, cell_at, cells_of}
 
 -- the link of an object or a chunk
 abbrev pub link_of : List ℕ → ℕ
-link_of words = slice_index words 7
+link_of words = slice_index words LINK
 
 -- the link of the cell at a place
 abbrev pub link_at : SpaceList → Place → ℕ

@@ -1,9 +1,10 @@
 -- Spaces and roots that a collection may be given.
-use Rattle.std.specs.Prelude.{◌≡◌, ◌≢◌, ℕ, ◌<◌, ◌⊎◌, IsTrue, false, List, length, take, drop, slice_index}
+use Rattle.std.specs.Prelude.{◌≡◌, ◌≢◌, ℕ, ◌-◌, ◌<◌, ◌⊎◌, IsTrue, false, List, length, take, drop, slice_index}
 use Rattle.std.specs.List.{All}
 use Rattle.tg_rights.specs.RightSet.{is_none_held, no_rights}
 use Rattle.tg_word.specs.declared.Place.{Place}
 use Rattle.tg_word.specs.Word.{is_present, place_in, rights_in}
+use Rattle.tg_block.specs.declared.TheConstants.{CHUNK_POINTERS, LINK, OBJECT_POINTERS}
 use Rattle.tg_block.specs.Cells.{kind_of}
 use Rattle.tg_block.specs.declared.CellKind.{CellKind}
 use Rattle.tg_block.specs.declared.CellKind.TheVariants.{Free, Object, Chunk, Bad}
@@ -41,8 +42,8 @@ IsLink h word = (word ≡ 0) ⊎ LinksTo h word
 abbrev pub HasLayoutOf : SpaceList → List ℕ → CellKind → Type 0
 HasLayoutOf h words Free = Unit {0}
 HasLayoutOf h words Object =
-    (slice_index words 3 ≡ 0) × All (IsReference h) (take 3 (drop 4 words)) × IsLink h (link_of words)
-HasLayoutOf h words Chunk = All (IsReference h) (take 6 (drop 1 words)) × IsLink h (link_of words)
+    (slice_index words 3 ≡ 0) × All (IsReference h) (take (LINK - OBJECT_POINTERS) (drop OBJECT_POINTERS words)) × IsLink h (link_of words)
+HasLayoutOf h words Chunk = All (IsReference h) (take (LINK - CHUNK_POINTERS) (drop CHUNK_POINTERS words)) × IsLink h (link_of words)
 HasLayoutOf h words Bad = ⊥
 
 abbrev pub HasLayout : SpaceList → List ℕ → Type 0

@@ -3,6 +3,7 @@ use Rattle.std.specs.Prelude.{◌≡◌, ℕ, ◌==◌, ◌++◌, if◌then◌el
 use Rattle.std.specs.List.{flat_map, take_while}
 use Rattle.tg_word.specs.declared.Place.{Place}
 use Rattle.tg_word.specs.Word.{place_in, rights_in, word_at}
+use Rattle.tg_block.specs.declared.TheConstants.{CHUNK_POINTERS, OBJECT_POINTERS, WORDS}
 use Rattle.tg_block.specs.Cells.{object_tag, chunk_tag}
 use Rattle.tg_space.specs.SpaceList.{SpaceList, cell_at, flat_of, cells_of}
 use Rattle.tg_space.specs.Rows.{row_of}
@@ -27,9 +28,9 @@ from_space Nursery = young_spaces
 abbrev pub cell_numbered : SpaceList → ℕ → List ℕ
 cell_numbered h number = slice_index_or (cells_of h) number []
 
--- an object's references and link stand from word 4 on, a chunk's from word 1 on
+-- where an object's references and link begin, and a chunk's
 abbrev pub first_pointer : ℕ → ℕ
-first_pointer tag = if tag == object_tag then 4 else (if tag == chunk_tag then 1 else 8)
+first_pointer tag = if tag == object_tag then OBJECT_POINTERS else (if tag == chunk_tag then CHUNK_POINTERS else WORDS)
 
 -- the references and the link of a cell
 abbrev pub pointers_of : List ℕ → List ℕ

@@ -12,10 +12,10 @@ loop-number-init c =
     let h = c.args.spaces.now.spaces in
     let whole = table_list c.args.spaces.now c.cells-cells.ensures.table in
     record {
-      high = omega (arith, c.len.ensures.blocks);
+      high = omega (arith, c.len-number.ensures.blocks);
       keys =
-          subst (λ (keys : List ℕ). AreKeysBelow h c.args.forward.now.words (64 * length (space_of h 0)) (64 * c.len.result) keys) (sym c.new-keys.ensures.items)
-          (subst (λ (blocks : ℕ). AreKeysBelow h c.args.forward.now.words (64 * length (space_of h 0)) (64 * blocks) []) (sym c.len.ensures.blocks) (keys_none h whole c.args.forward.now.words (64 * length (space_of h 0))));
+          subst (λ (keys : List ℕ). AreKeysBelow h c.args.forward.now.words (64 * length (space_of h 0)) (64 * c.len-number.result) keys) (sym c.new-keys.ensures.items)
+          (subst (λ (blocks : ℕ). AreKeysBelow h c.args.forward.now.words (64 * length (space_of h 0)) (64 * blocks) []) (sym c.len-number.ensures.blocks) (keys_none h whole c.args.forward.now.words (64 * length (space_of h 0))));
     }
 
 pub loop-number-preserved : goal.loop-number-preserved
