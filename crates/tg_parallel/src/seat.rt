@@ -127,12 +127,24 @@ impl<'a> Seat<'a> {
         ensures { ClaimsCell walked_at (λ s. HasPlaces s.done) (λ s. HasClaimedPast s.limit s.done) cell space self.entry.now self.exit.now result }
     {
         if space == AGED {
-            self.aged
-                .word_of(&mut self.winner, self.table, cell, self.limit)
+            self.give_aged(cell)
         } else {
             self.old
                 .word_of(&mut self.winner, self.table, cell, self.limit)
         }
+    }
+
+    // The same in Aged.
+    //
+    // It is a call of its own: with it inlined the scan of a cell is too large to be inlined itself. A full collection has no copy there.
+    #[inline(never)]
+    fn give_aged(&mut self, cell: u64) -> Result<u64, CollectFault>
+        requires claim { MayClaim (walked_at self.now) cell 1 }
+        requires unmet { has_met self.now.done cell ≡ false }
+        ensures { ClaimsCell walked_at (λ s. HasPlaces s.done) (λ s. HasClaimedPast s.limit s.done) cell 1 self.entry.now self.exit.now result }
+    {
+        self.aged
+            .word_of(&mut self.winner, self.table, cell, self.limit)
     }
 }
 

@@ -25,6 +25,8 @@ const COUNTERS: usize = 3;
 pub struct RaceTable {
     pub(crate) table: Table<u8, View, Counts, Forwards, Global>,
     pub(crate) counts: Counts,
+    // How many cells lie in the blocks that Old keeps.
+    skipped: u64,
 }
 
 impl Model for RaceTable {
@@ -36,7 +38,7 @@ impl Model for RaceTable {
 
     ghost view = { λ f. record { table = record { id = f.table.shared.table_id; skipped = skipped_of f.counts }; counts = f.counts } };
 
-    ghost invariant = { λ f. (f.table.shared.key ≡ f.counts) × (f.table.shared.table_id.words + skipped_of f.counts ≡ f.counts.cells + 3) × (f.table.shared.table_id.slots ≡ 0) × (skipped_of f.counts ≤ f.counts.cells) × (f.counts.cells < 2 ^ 61) };
+    ghost invariant = { λ f. (f.table.shared.key ≡ f.counts) × (f.table.shared.table_id.words + skipped_of f.counts ≡ f.counts.cells + 3) × (f.table.shared.table_id.slots ≡ 0) × (skipped_of f.counts ≤ f.counts.cells) × (f.counts.cells < 2 ^ 61) × (f.skipped ≡ skipped_of f.counts) };
 }
 
 impl RaceTable {
@@ -64,11 +66,17 @@ impl RaceTable {
             kept,
             helpers,
         };
-        let moved = (cells - CELLS * kept) as usize;
+        let skipped = CELLS * kept;
+        let moved = (cells - skipped) as usize;
         let mut words = Vec::from_elem(alloc, 0u64, moved + COUNTERS)?;
         words[2] = counts.kept;
         let (table, seat) = Table::of_words(alloc, words.as_slice(), &counts)?;
-        Ok((RaceTable { table, counts }, Helper { seat }))
+        let shared = RaceTable {
+            table,
+            counts,
+            skipped,
+        };
+        Ok((shared, Helper { seat }))
     }
 
     /// The words of the cells behind those that Old keeps, where they stand, once the helper that is left stands for all.
@@ -79,7 +87,7 @@ impl RaceTable {
         requires all { helper.done.share ≡ self.counts.helpers }
         ensures { IsClosedTable self.counts (replicate (CELLS * self.counts.kept) 0 ++ result) helper.done }
     {
-        let RaceTable { table, counts: _ } = self;
+        let RaceTable { table, .. } = self;
         let Helper { seat } = helper;
         ClosedWords::of(table.close_with(seat), COUNTERS)
     }
@@ -92,6 +100,6 @@ impl RaceTable {
         ensures is { result + CELLS * self.now.counts.kept ≡ cell + 3 }
         ensures within { result < self.now.table.id.words }
     {
-        (cell - CELLS * self.counts.kept) as usize + COUNTERS
+        (cell - self.skipped) as usize + COUNTERS
     }
 }

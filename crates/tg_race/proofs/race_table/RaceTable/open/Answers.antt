@@ -17,8 +17,8 @@ of_words-requires c =
     let is : c.as_slice.result.now ≡ set (replicate (n + 3) 0) 2 c.args.kept = c.as_slice.ensures.value ∙ ap (λ (ws : List ℕ). set ws 2 c.args.kept) zeros in
     subst (λ (ws : List ℕ). IsBoardOfRace k (opening ws [] (record { skipped = 64 * c.args.kept; done = empty k.helpers }))) (sym is) (opens k n small (omega arith))
 
-pub invariant_of-result-2 : goal.invariant_of-result-2
-invariant_of-result-2 c =
+pub invariant_of-result : goal.invariant_of-result
+invariant_of-result c =
     let me = c.in_ok-table.ensures.4 in
     let alive = c.requires.some in
     (ap (λ (m : Me ℕ View). m.1) me, omega (arith, ap (λ (m : Me ℕ View). m.0.done.share) me))
