@@ -4,8 +4,8 @@
 //! over `tg_parallel`, because a library for C can't hold what starts threads or waits, and the store is part of one.
 #![tactic(auto)]
 
-ghost use Rattle.std.specs.Prelude.{◌≡◌, ◌≢◌, ◌≤◌, Err, IfOk, OnOk};
-ghost use Rattle.tg_store.specs.Collecting.{IsSwept, KeepsHistory};
+ghost use Rattle.std.specs.Prelude.{◌≡◌, ◌≢◌, Err, IfOk, OnOk};
+ghost use Rattle.tg_store.specs.Collecting.{AreHelpers, IsSwept, KeepsHistory};
 ghost use Rattle.tg_store.specs.Room.{LacksRoomToCollect};
 ghost use Rattle.tg_store.specs.Store.{HasFewBlocks};
 
@@ -34,8 +34,7 @@ pub fn collect_with<P: Payload, R: Threads + Wait + Sync, G: Gate>(
     helpers: u32,
     gate: &G,
 ) -> Result<u64, HelpersFault>
-    requires some { 1 ≤ helpers }
-    requires few { helpers ≤ 8 }
+    requires helpers { AreHelpers helpers }
     ensures swept { IfOk result (IsSwept kind store.old store.new) }
     ensures blocks { OnOk result (HasFewBlocks kind helpers store.old.heap.table store.new.heap.table) }
     ensures full { result ≡ Err HelpersFault.HeapFull →

@@ -3,9 +3,9 @@
 //! A line that the source holds whole is taken at once. For any other the source is asked for one byte at a time, and never for
 //! a byte behind the first fault: that is why a fault is then looked for at each byte, and not when a line is whole. Bytes of a
 //! line lie in one buffer, which serves all lines.
-ghost use Rattle.std.specs.Prelude.{◌≡◌, ◌+◌, ◌-◌, ◌<◌, ◌≤◌, true, false, length};
-ghost use Rattle.tg_text.specs.Fetching.{FetchesKnown, TakesLineAtOnce, failures_of_fetch, write_failures_of};
-ghost use Rattle.tg_text.specs.Sinks.{KeepsBytes};
+ghost use Rattle.std.specs.Prelude.{◌≡◌, ◌+◌, ◌≤◌, true, false, length};
+ghost use Rattle.tg_text.specs.Fetching.{TakesLineAtOnce};
+ghost use Rattle.tg_lines.specs.Fetched.{FetchesLine};
 
 use crate::exchange::next_byte;
 use tg_text::{Fetched, LineBuffer, Next, Sink, Source};
@@ -43,14 +43,8 @@ impl Lines {
         sink: &mut K,
         line: &mut LineBuffer,
     ) -> Fetched
-        ensures bytes { FetchesKnown self.old.room (S.left source.old) result line.new (S.left source.new) }
-        ensures room { result ≡ Fetched.Line → self.new.room + length line.new + 1 ≡ self.old.room }
-        ensures shrinks { self.new.room ≤ self.old.room }
-        ensures failures { S.failures source.new ≡ S.failures source.old + failures_of_fetch result }
-        ensures taken { KeepsBytes (K.taken sink.old) (K.taken sink.new) }
-        ensures write_failures { K.failures sink.new ≡ K.failures sink.old + write_failures_of result }
-        ensures asked { S.asked source.new + self.new.room ≤ S.asked source.old + self.old.room + 1 }
-        ensures asked_of_line { result ≡ Fetched.Line → S.asked source.new + self.new.room ≡ S.asked source.old + self.old.room }
+        ensures fetched { FetchesLine S.left S.asked S.failures K.taken K.failures source.old source.new sink.old sink.new
+            self.old.room self.new.room result line.new }
     {
         if self.take_held(source, line) {
             return Fetched::Line;
@@ -86,14 +80,8 @@ impl Lines {
         sink: &mut K,
         line: &mut LineBuffer,
     ) -> Fetched
-        ensures bytes { FetchesKnown self.old.room (S.left source.old) result line.new (S.left source.new) }
-        ensures room { result ≡ Fetched.Line → self.new.room + length line.new + 1 ≡ self.old.room }
-        ensures shrinks { self.new.room ≤ self.old.room }
-        ensures failures { S.failures source.new ≡ S.failures source.old + failures_of_fetch result }
-        ensures taken { KeepsBytes (K.taken sink.old) (K.taken sink.new) }
-        ensures write_failures { K.failures sink.new ≡ K.failures sink.old + write_failures_of result }
-        ensures asked { S.asked source.new + self.new.room ≤ S.asked source.old + self.old.room + 1 }
-        ensures asked_of_line { result ≡ Fetched.Line → S.asked source.new + self.new.room ≡ S.asked source.old + self.old.room }
+        ensures fetched { FetchesLine S.left S.asked S.failures K.taken K.failures source.old source.new sink.old sink.new
+            self.old.room self.new.room result line.new }
     {
         line.clear();
         for _ in 0..257u32 {

@@ -29,6 +29,11 @@ IsStartFault settings text OutOfMemory = (items : List StockItem) × IsStockText
 abbrev pub IsReady : Start → Type 0
 IsReady s = (1 ≤ s.settings.workers) × (s.settings.workers ≤ MAX_WORKERS)
 
+-- a run may be served from here: the number of workers is in its range, and the collector is ready, as this says
+pub record MayServe (Ready : Type 0) (start : Start) : Type 0 where
+  pub collector : Ready
+  pub ready : IsReady start
+
 -- a cell with 0 for each worker, and a new box of each kind of the stock
 abbrev pub HasPayloads : Start → List Value → List Value → Type 0
 HasPayloads s workers stock = (workers ≡ replicate s.settings.workers (value_of Cell)) × (stock ≡ map value_of s.stock.items)

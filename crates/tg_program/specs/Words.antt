@@ -4,7 +4,8 @@ use Rattle.std.specs.Prelude.{◌≡◌, ℕ, Bool, true, false, List, [], Optio
 use Rattle.std.specs.Option.{option_map_or}
 use Rattle.std.specs.Str.Parse.{digits_value, without_leading_plus}
 use Rattle.tg_word.specs.declared.TheConstants.{MOST_SPACE_BLOCKS}
-use Rattle.clap.specs.Words.{App, Rule, first_of, matches_of, new_app, new_rule, one_of, one_text, with_rule}
+use Rattle.clap.specs.Words.{App, Rule, first_of, matches_of, new_app, new_rule, one_of, one_text, rule_of, with_rule}
+use Rattle.clap.specs.declared.builder.arg.Arg.{Arg}
 use Rattle.clap.specs.declared.builder.action.ArgAction.TheVariants.{Set, SetTrue}
 use Rattle.clap.specs.declared.builder.value_parser.ValueParser.TheVariants.{Unsigned}
 use Rattle.clap.specs.declared.parser.matches.Found.{Found}
@@ -22,6 +23,11 @@ number_rule name = record (option_rule name) { parser = Some (Unsigned 0 1844674
 -- an option with no value
 abbrev pub flag_rule : List ℕ → Rule
 flag_rule name = record (new_rule name) { long = Some name; action = Some SetTrue }
+
+-- an option of this rule, for this command alone
+pub record IsArgOf (asked : Rule) (arg : Arg) : Type 0 where
+  pub rule : rule_of arg ≡ asked
+  pub local : arg.global ≡ false
 
 -- the options that there are
 abbrev pub command_line : App

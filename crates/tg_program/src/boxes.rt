@@ -5,7 +5,7 @@
 ghost use Rattle.std.specs.Prelude.{◌≡◌, IfOk};
 ghost use Rattle.tg_program.specs.Boxes.{value_of};
 ghost use Rattle.tg_program.specs.Serving.{ServesFrom};
-ghost use Rattle.tg_program.specs.Starts.{IsReady};
+ghost use Rattle.tg_program.specs.Starts.{MayServe};
 
 use crate::making::serve_made;
 use crate::start::Start;
@@ -26,8 +26,7 @@ pub(crate) fn serve_with_boxes<R: Threads + Wait + Sync, C: Collector, S: Source
     sink: &mut K,
     start: &Start,
 ) -> Result<(), Stop>
-    requires collector { C.Ready }
-    requires ready { IsReady start.now }
+    requires servable { MayServe C.Ready start.now }
     ensures served { ServesFrom start.now (S.left source.old) (S.left source.new) (K.taken sink.old) (K.taken sink.new) result }
 {
     let make = |item: StockItem| -> Result<PayloadBox, AllocError>

@@ -1,9 +1,9 @@
 //! A run whose payloads are made one by one.
 ghost use Rattle.std.specs.Prelude.{◌≡◌, IfOk, map, replicate};
 ghost use Rattle.tg_text.specs.declared.stock.StockItem.TheVariants.{Cell};
-ghost use Rattle.tg_program.specs.Boxes.{MakesValues, value_of};
+ghost use Rattle.tg_program.specs.Boxes.{MakesItems, value_of};
 ghost use Rattle.tg_program.specs.Serving.{ServesFrom};
-ghost use Rattle.tg_program.specs.Starts.{IsReady};
+ghost use Rattle.tg_program.specs.Starts.{MayServe};
 
 use crate::serving::{RunPayloads, serve};
 use crate::start::Start;
@@ -33,10 +33,8 @@ pub(crate) fn serve_made<
     start: &Start,
     make: M,
 ) -> Result<(), Stop>
-    requires collector { C.Ready }
-    requires ready { IsReady start.now }
-    requires can { M.IsAlwaysCallable make }
-    requires made { MakesValues (M.post make) P.value }
+    requires servable { MayServe C.Ready start.now }
+    requires maker { MakesItems (M.IsAlwaysCallable make) (M.post make) P.value }
     ensures served { ServesFrom start.now (S.left source.old) (S.left source.new) (K.taken sink.old) (K.taken sink.new) result }
 {
     let workers = new_cells(alloc, start.settings.workers, &make)?;
@@ -51,8 +49,7 @@ fn new_cells<P: Payload, M: Fn(StockItem) -> Result<P, AllocError>>(
     count: u64,
     make: &M,
 ) -> Result<Vec<P>, AllocError>
-    requires can { M.IsAlwaysCallable make.now }
-    requires made { MakesValues (M.post make.now) P.value }
+    requires maker { MakesItems (M.IsAlwaysCallable make.now) (M.post make.now) P.value }
     ensures { IfOk result (λ cells. map P.value cells.items ≡ replicate count (value_of Cell)) }
 {
     let mut cells = Vec::new(alloc);
@@ -68,8 +65,7 @@ fn new_drafts<P: Payload, M: Fn(StockItem) -> Result<P, AllocError>>(
     items: &[StockItem],
     make: &M,
 ) -> Result<Vec<Draft<P>>, AllocError>
-    requires can { M.IsAlwaysCallable make.now }
-    requires made { MakesValues (M.post make.now) P.value }
+    requires maker { MakesItems (M.IsAlwaysCallable make.now) (M.post make.now) P.value }
     ensures { IfOk result (λ drafts. drafts.items ≡ map value_of items.now) }
 {
     let mut drafts = Vec::with_capacity(alloc, items.len())?;

@@ -2,7 +2,7 @@
 ghost use Rattle.std.specs.Prelude.{◌≡◌, ◌+◌, ◌<◌, ◌≤◌, true, OnOk, map};
 ghost use Rattle.tg_program.specs.Faults.{stop_read_failures, stop_write_failures};
 ghost use Rattle.tg_program.specs.Serving.{ServesFrom, WasBegun};
-ghost use Rattle.tg_program.specs.Starts.{IsReady, HasPayloads};
+ghost use Rattle.tg_program.specs.Starts.{HasPayloads, MayServe};
 
 use crate::start::Start;
 use crate::stop::Stop;
@@ -34,8 +34,7 @@ pub fn serve<P: Payload + Send, R: Threads + Wait + Sync, C: Collector, S: Sourc
     start: &Start,
     payloads: RunPayloads<P>,
 ) -> Result<(), Stop>
-    requires collector { C.Ready }
-    requires ready { IsReady start.now }
+    requires servable { MayServe C.Ready start.now }
     requires payloads { HasPayloads start.now (map P.value payloads.workers.items) payloads.stock.items }
     ensures served { ServesFrom start.now (S.left source.old) (S.left source.new) (K.taken sink.old) (K.taken sink.new) result }
     ensures read_failed { S.failures source.new ≡ S.failures source.old + stop_read_failures result }

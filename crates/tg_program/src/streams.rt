@@ -1,9 +1,10 @@
 //! A run between a reader and a writer.
-ghost use Rattle.std.specs.Prelude.{◌≡◌, ◌<◌, IfErr, IfOk};
+ghost use Rattle.std.specs.Prelude.{◌≡◌, IfErr, IfOk};
 ghost use Rattle.std.specs.Io.Buffered.{reader_remaining, writer_contents};
+ghost use Rattle.tg_script.specs.Counting.{MayCountStreams};
 ghost use Rattle.tg_program.specs.Faults.{status_of_stop};
 ghost use Rattle.tg_program.specs.Serving.{ServesFrom};
-ghost use Rattle.tg_program.specs.Starts.{IsReady};
+ghost use Rattle.tg_program.specs.Starts.{MayServe};
 
 use crate::boxes::serve_with_boxes;
 use crate::start::{Start, StartFault};
@@ -43,8 +44,7 @@ pub(crate) fn serve_buffered<
     writer: W,
     start: &Start,
 ) -> Result<Ended<BufReader<R>, BufWriter<W>>, Stop>
-    requires collector { C.Ready }
-    requires ready { IsReady start.now }
+    requires servable { MayServe C.Ready start.now }
     ensures status { IfErr result (λ stop. status_of_stop stop ≡ 1) }
     ensures served { IfOk result (λ ended.
         ServesFrom start.now (R.remaining reader) (reader_remaining R.remaining ended.reader) (W.contents writer) (writer_contents W.contents ended.writer) ended.outcome) }
@@ -89,11 +89,8 @@ fn serve_counted<
     writer: W,
     start: &Start,
 ) -> Ended<R, W>
-    requires collector { C.Ready }
-    requires asked { (asked.name ≡ A.name) × (asked.parts ≡ A.parts) × (0 < asked.parts) }
-    requires read_failures { (read_failures.name ≡ B.name) × (read_failures.parts ≡ B.parts) × (0 < read_failures.parts) }
-    requires write_failures { (write_failures.name ≡ F.name) × (write_failures.parts ≡ F.parts) × (0 < write_failures.parts) }
-    requires ready { IsReady start.now }
+    requires servable { MayServe C.Ready start.now }
+    requires countable { MayCountStreams A.name A.parts B.name B.parts F.name F.parts asked read_failures write_failures }
     ensures served { ServesFrom start.now (R.remaining reader) (R.remaining result.reader) (W.contents writer) (W.contents result.writer) result.outcome }
 {
     let (asked, read_failures) = (Count::<A>::new(asked), Count::<B>::new(read_failures));

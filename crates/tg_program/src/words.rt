@@ -1,10 +1,10 @@
 //! The words of the command line.
-ghost use Rattle.std.specs.Prelude.{◌≡◌, ◌≤◌, [], IfOk, false, map, codes, unwrap_or};
+ghost use Rattle.std.specs.Prelude.{◌≡◌, ◌≤◌, [], IfOk, map, codes, unwrap_or};
 ghost use Rattle.tg_space.specs.declared.limits.TheConstants.{MOST_BLOCKS};
 ghost use Rattle.tg_word.specs.declared.TheConstants.{MOST_SPACE_BLOCKS};
-ghost use Rattle.clap.specs.Words.{app_of, first_value, found_of, one_text, rule_of};
+ghost use Rattle.clap.specs.Words.{app_of, first_value, found_of, one_text};
 ghost use Rattle.tg_program.specs.Ranges.{AreInRange};
-ghost use Rattle.tg_program.specs.Words.{AreFound, AreSaid, IsFlag, command_line, flag_rule, number_or, number_rule, option_rule};
+ghost use Rattle.tg_program.specs.Words.{AreFound, AreSaid, IsArgOf, IsFlag, command_line, flag_rule, number_or, number_rule, option_rule};
 
 use crate::help;
 use crate::settings::Options;
@@ -156,8 +156,7 @@ fn command<'a>(alloc: Global) -> Result<Command<'a>, Error>
 
 // An option with one value.
 fn option_arg<'a>(alloc: Global, name: &'a str, value: &'a str, help: &'a str) -> Arg<'a>
-    ensures rule { rule_of result ≡ option_rule name.entry.now }
-    ensures local { result.global ≡ false }
+    ensures arg { IsArgOf (option_rule name.entry.now) result }
 {
     Arg::new(alloc, name)
         .long(name)
@@ -168,16 +167,14 @@ fn option_arg<'a>(alloc: Global, name: &'a str, value: &'a str, help: &'a str) -
 
 // An option whose value is a number.
 fn number_arg<'a>(alloc: Global, name: &'a str, help: &'a str) -> Arg<'a>
-    ensures rule { rule_of result ≡ number_rule name.entry.now }
-    ensures local { result.global ≡ false }
+    ensures arg { IsArgOf (number_rule name.entry.now) result }
 {
     option_arg(alloc, name, "N", help).value_parser(clap::value_parser!(u64))
 }
 
 // The option of a race, which has no value.
 fn race_arg<'a>(alloc: Global) -> Arg<'a>
-    ensures rule { rule_of result ≡ flag_rule (codes "race") }
-    ensures local { result.global ≡ false }
+    ensures arg { IsArgOf (flag_rule (codes "race")) result }
 {
     Arg::new(alloc, "race")
         .long("race")

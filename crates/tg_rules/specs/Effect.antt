@@ -1,16 +1,17 @@
 -- What a command does that is served, and how a refused growth is told.
-use Rattle.std.specs.Prelude.{◌≡◌, ◌↔◌, ℕ, ◌<◌}
+use Rattle.std.specs.Prelude.{◌≡◌, ◌↔◌, ℕ, ◌<◌, Result, IfOk, OnErr, OnOk}
 use Rattle.std.specs.List.{All, Contains}
 use Rattle.tg_model.specs.declared.command.Command.{Command}
 use Rattle.tg_model.specs.declared.command.Command.TheVariants.{Take, Grant, Remove, Read, Write, Append, Inspect, List as Listing, Retire}
 use Rattle.tg_model.specs.declared.reply.Reply.{Reply}
+use Rattle.tg_model.specs.declared.reply.Reply.TheVariants.{Done}
 use Rattle.tg_model.specs.Rules.{labels_after, values_after, reply_of}
 use Rattle.tg_word.specs.Word.{nursery_space}
 use Rattle.tg_space.specs.declared.allocate_fault.AllocateFault.{AllocateFault}
 use Rattle.tg_space.specs.declared.allocate_fault.AllocateFault.TheVariants as allocate
 use Rattle.tg_space.specs.SpaceTable.{SpaceTable}
 use Rattle.tg_graph.specs.Content.{Content, IsNamed, IsContent}
-use Rattle.tg_graph.specs.Heap.{HeapState, KeepsIndexes}
+use Rattle.tg_graph.specs.Heap.{HeapState, IsUnchangedHeap, KeepsIndexes, KeepsPlaces}
 use Rattle.tg_graph.specs.Rows.{IsVertexAt}
 use Rattle.tg_graph.specs.Spots.{LacksCellsFor}
 use Rattle.tg_word.specs.declared.Place.{Place}
@@ -42,6 +43,19 @@ OnlyLooks (Append y v) = ⊥
 OnlyLooks (Inspect y) = Unit {0}
 OnlyLooks Listing = Unit {0}
 OnlyLooks Retire = ⊥
+
+-- What a command that is to be served leaves as it was: where it is served the vertices stay, one that only looks changes nothing, and
+-- nor does one that is refused.
+pub record LeavesHeap {T E : Type 0} (command : Command) (old new : HeapState) (result : Result T E) : Type 0 where
+  pub kept : OnOk result (KeepsVertices old new)
+  pub looks : OnlyLooks command → new ≡ old
+  pub refused : OnErr result (IsUnchangedHeap old new)
+
+-- It is done, and the places are as they were; or it is refused, and so is all of the heap.
+pub record IsDoneInPlace {E : Type 0} (old new : HeapState) (result : Result Reply E) : Type 0 where
+  pub reply : IfOk result (λ reply. reply ≡ Done)
+  pub kept : OnOk result (KeepsPlaces old new)
+  pub refused : OnErr result (IsUnchangedHeap old new)
 
 -- the command adds an edge, and so may need a cell for a reference
 abbrev pub AddsEdge : Command → Type 0

@@ -1,6 +1,7 @@
 -- What is decided of a command.
-use Rattle.std.specs.Prelude.{◌≡◌, Option, Some, None}
+use Rattle.std.specs.Prelude.{◌≡◌, ℕ, Option, Some, None, false}
 use Rattle.std.specs.List.{Contains}
+use Rattle.tg_rights.specs.RightSet.{RightSet, is_none_held}
 use Rattle.tg_model.specs.declared.reply.Denial.{Denial}
 use Rattle.tg_subjects.specs.declared.subject.Subject.{Subject}
 use Rattle.tg_graph.specs.Heap.{HeapState, nursery_of}
@@ -17,6 +18,16 @@ verdict_of (Some denial) = Denied denial
 -- the heap has the vertex with this name at this place
 abbrev pub HasVertex : HeapState → Vertex → Type 0
 HasVertex s vertex = IsVertexAt s.table.spaces vertex.name vertex.place
+
+-- the heap has a vertex with this name, which is this one
+pub record IsVertexNamed (s : HeapState) (known : ℕ) (found : Vertex) : Type 0 where
+  pub name : found.name ≡ known
+  pub vertex : HasVertex s found
+
+-- whether this vertex has these rights may be checked: the heap has the vertex, and some right is asked for
+pub record MayCheck (s : HeapState) (vertex : Vertex) (rights : RightSet) : Type 0 where
+  pub from : HasVertex s vertex
+  pub some : is_none_held rights ≡ false
 
 -- it is an active subject of the heap, which holds this nursery and is the vertex with its name, at its place
 pub record HasSubject (s : HeapState) (subject : Subject) : Type 0 where

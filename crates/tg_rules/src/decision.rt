@@ -1,11 +1,10 @@
 //! Whether a command is served.
-ghost use Rattle.std.specs.Prelude.{◌≡◌, ◌==◌, ◌||◌, false, IfOk};
+ghost use Rattle.std.specs.Prelude.{◌≡◌, ◌==◌, ◌||◌, IfOk};
 ghost use Rattle.std.specs.Option.{option_or};
 ghost use Rattle.std.specs.Result.{result_err};
-ghost use Rattle.tg_rights.specs.RightSet.{is_none_held};
 ghost use Rattle.tg_model.specs.Rules.{unless_distinct, unless_held, unless_log, denial_of};
 ghost use Rattle.tg_graph.specs.Heap.{IsActive, content_of};
-ghost use Rattle.tg_rules.specs.Verdict.{verdict_of, HasSubject, HasVertex};
+ghost use Rattle.tg_rules.specs.Verdict.{verdict_of, HasSubject, HasVertex, IsVertexNamed, MayCheck};
 ghost use Rattle.tg_rules.specs.Parties.{AreParties};
 
 use crate::vertex::{Parties, Vertex, subject_of, vertex_of};
@@ -116,8 +115,7 @@ fn check_use<P: Payload>(
     target: u64,
     rights: Rights,
 ) -> Result<Parties, Denial>
-    requires worker { HasVertex heap.now worker }
-    requires some { is_none_held rights ≡ false }
+    requires checkable { MayCheck heap.now worker rights }
     ensures denial { result_err result ≡ option_or (unless_distinct rule (worker.name == target)) (unless_held (content_of heap.now).label rule worker.name target rights) }
     ensures from { IfOk result (λ parties. parties.from ≡ worker) }
     ensures target { IfOk result (λ parties. HasVertex heap.now parties.target × (parties.target.name ≡ target)) }
@@ -148,11 +146,9 @@ fn check_first<P: Payload>(
     to: u64,
     rights: Rights,
 ) -> Result<Vertex, Denial>
-    requires worker { HasVertex heap.now worker }
-    requires some { is_none_held rights ≡ false }
+    requires checkable { MayCheck heap.now worker rights }
     ensures denial { result_err result ≡ option_or (unless_distinct rule same) (unless_held (content_of heap.now).label rule worker.name to rights) }
-    ensures name { IfOk result (λ vertex. vertex.name ≡ to) }
-    ensures vertex { IfOk result (λ vertex. HasVertex heap.now vertex) }
+    ensures found { IfOk result (IsVertexNamed heap.now to) }
 {
     if same {
         return Err(Denial {
@@ -172,11 +168,9 @@ fn check_held<P: Payload>(
     to: u64,
     rights: Rights,
 ) -> Result<Vertex, Denial>
-    requires from { HasVertex heap.now from }
-    requires some { is_none_held rights ≡ false }
+    requires checkable { MayCheck heap.now from rights }
     ensures denial { result_err result ≡ unless_held (content_of heap.now).label rule from.name to rights }
-    ensures name { IfOk result (λ vertex. vertex.name ≡ to) }
-    ensures vertex { IfOk result (λ vertex. HasVertex heap.now vertex) }
+    ensures found { IfOk result (IsVertexNamed heap.now to) }
 {
     match heap.find_edge(from.place, to) {
         Some(found) if found.rights.contains(rights) => Ok(Vertex {

@@ -1,13 +1,13 @@
 //! What a command does that is served.
-ghost use Rattle.std.specs.Prelude.{◌≡◌, ◌≢◌, ◌<◌, ◌↔◌, ℕ, None, Some, Err, IfOk, IfSome, IsSome, OnOk, OnErr};
+ghost use Rattle.std.specs.Prelude.{◌≡◌, ◌≢◌, ◌<◌, ◌↔◌, ℕ, None, Some, Err, IfOk, IfSome, IsSome, OnOk};
 ghost use Rattle.std.specs.List.{All};
 ghost use Rattle.tg_model.specs.Graph.{with_rights, without_rights, without_subject, listing_of};
 ghost use Rattle.tg_model.specs.Rules.{denial_of, state_of, subjects_after, written_at};
 ghost use Rattle.tg_word.specs.Word.{nursery_space};
-ghost use Rattle.tg_graph.specs.Heap.{content_of, IsActive, IsUnchangedHeap, KeepsIndexes, KeepsPlaces, nursery_of, subject_names};
+ghost use Rattle.tg_graph.specs.Heap.{content_of, IsActive, KeepsIndexes, KeepsPlaces, nursery_of, subject_names};
 ghost use Rattle.tg_graph.specs.Content.{IsContent, IsNamed};
 ghost use Rattle.tg_graph.specs.Spots.{LacksCellsFor};
-ghost use Rattle.tg_rules.specs.Effect.{IndexesAfter, IsReplyOn, IsContentAfter, KeepsVertices, OnlyLooks, AddsEdge, LacksCellsToServe, SameIndexes};
+ghost use Rattle.tg_rules.specs.Effect.{IndexesAfter, IsReplyOn, IsContentAfter, IsDoneInPlace, KeepsVertices, LeavesHeap, AddsEdge, LacksCellsToServe, SameIndexes};
 ghost use Rattle.tg_rules.specs.Parties.{AreParties};
 ghost use Rattle.tg_rules.specs.Verdict.{HasSubject, HasVertex};
 
@@ -73,11 +73,9 @@ pub fn perform<P: Payload>(
     requires served { denial_of (content_of heap.old).label (content_of heap.old).value worker command.now ≡ None }
     ensures reply { IfOk result (λ reply. IsReplyOn (content_of heap.old) worker command.now reply) }
     ensures content { OnOk result (IsContentAfter (content_of heap.old) (content_of heap.new) worker command.now) }
-    ensures kept { OnOk result (KeepsVertices heap.old heap.new) }
     ensures subjects { OnOk result (subject_names heap.new ≡ subjects_after (subject_names heap.old) worker command.now) }
-    ensures looks { OnlyLooks command.now → heap.new ≡ heap.old }
     ensures indexed { OnOk result (IndexesAfter heap.old heap.new worker command.now) }
-    ensures refused { OnErr result (IsUnchangedHeap heap.old heap.new) }
+    ensures left { LeavesHeap command.now heap.old heap.new result }
     ensures full { result ≡ Err PerformFault.HeapFull → AddsEdge command.now × LacksCellsToServe heap.old.table (nursery_of heap.old worker) worker command.now }
 {
     let subject = subject_of(heap, worker);
@@ -100,11 +98,9 @@ pub fn perform_between<P: Payload>(
     requires parties { AreParties heap.old subject.name command.now parties }
     ensures reply { IfOk result (λ reply. IsReplyOn (content_of heap.old) subject.name command.now reply) }
     ensures content { OnOk result (IsContentAfter (content_of heap.old) (content_of heap.new) subject.name command.now) }
-    ensures kept { OnOk result (KeepsVertices heap.old heap.new) }
     ensures subjects { OnOk result (subject_names heap.new ≡ subjects_after (subject_names heap.old) subject.name command.now) }
-    ensures looks { OnlyLooks command.now → heap.new ≡ heap.old }
     ensures indexed { OnOk result (IndexesAfter heap.old heap.new subject.name command.now) }
-    ensures refused { OnErr result (IsUnchangedHeap heap.old heap.new) }
+    ensures left { LeavesHeap command.now heap.old heap.new result }
     ensures full { result ≡ Err PerformFault.HeapFull → AddsEdge command.now × LacksCellsToServe heap.old.table subject.nursery subject.name command.now }
 {
     let Parties { from, target } = parties;
@@ -149,12 +145,10 @@ fn add<P: Payload>(
     requires subject { HasSubject heap.old subject }
     requires from { HasVertex heap.old from }
     requires target { HasVertex heap.old target }
-    ensures reply { IfOk result (λ reply. reply ≡ Reply.Done) }
     ensures content { OnOk result (IsContent (content_of heap.new) (IsNamed (content_of heap.old))
         (with_rights (content_of heap.old).label from.name target.name rights) (content_of heap.old).value) }
-    ensures kept { OnOk result (KeepsPlaces heap.old heap.new) }
     ensures indexed { OnOk result (KeepsIndexes heap.old heap.new from.place) }
-    ensures refused { OnErr result (IsUnchangedHeap heap.old heap.new) }
+    ensures done { IsDoneInPlace heap.old heap.new result }
     ensures full { result ≡ Err PerformFault.HeapFull → LacksCellsFor heap.old.table (nursery_space subject.nursery) 0 from.name target.name }
 {
     heap.add_edge_as(subject, from.place, target.place, rights)?;
@@ -189,12 +183,10 @@ fn read<P: Payload>(heap: &Heap<P>, target: Vertex) -> Result<Reply, PerformFaul
 #[inline(always)]
 fn write<P: Payload>(heap: &mut Heap<P>, target: Vertex, number: u64) -> Result<Reply, PerformFault>
     requires { HasVertex heap.old target }
-    ensures reply { IfOk result (λ reply. reply ≡ Reply.Done) }
     ensures content { OnOk result (IsContent (content_of heap.new) (IsNamed (content_of heap.old)) (content_of heap.old).label
         (written_at (content_of heap.old).value target.name number)) }
-    ensures kept { OnOk result (KeepsPlaces heap.old heap.new) }
     ensures indexed { OnOk result (heap.new.indexed ≡ heap.old.indexed) }
-    ensures refused { OnErr result (IsUnchangedHeap heap.old heap.new) }
+    ensures done { IsDoneInPlace heap.old heap.new result }
     ensures room { result ≢ Err PerformFault.HeapFull }
 {
     heap.write(target.place, number)?;

@@ -1,4 +1,5 @@
 pub mod Script
+pub mod Counting
 pub mod Running
 pub mod Lines
 pub mod Opening

@@ -1,5 +1,5 @@
 -- What comes of the next line of a script, and what that says of how its bytes are read.
-use Rattle.std.specs.Prelude.{◌≡◌, ◌⊎◌, ℕ, ◌+◌, List, [], ◌∷◌, ◌++◌, Option, Some, None, Result, Ok, Err}
+use Rattle.std.specs.Prelude.{◌≡◌, ◌⊎◌, ℕ, ◌+◌, List, [], ◌∷◌, ◌++◌, Option, Some, None, Result, Ok, Err, IfErr}
 use Rattle.std.specs.List.{flat_map}
 use Rattle.tg_text.specs.declared.line.Line.{Line}
 use Rattle.tg_text.specs.declared.fault.ScriptFault.{ScriptFault}
@@ -7,6 +7,7 @@ use Rattle.tg_text.specs.declared.fault.ScriptFault.TheVariants as fault
 use Rattle.tg_script.specs.declared.script.Script.{Script}
 use Rattle.tg_text.specs.Grammar.{LineFits, line_text}
 use Rattle.tg_text.specs.Reading.{Reads, MayStand, IsBadText, IsOfBytes, opening_after}
+use Rattle.tg_text.specs.Sinks.{KeepsBytes}
 
 -- the bytes are these lines, and then the fault, or the end, and these bytes are left
 abbrev pub ReadsFrom : Script → List ℕ → List Line → Option ScriptFault → List ℕ → Type 0
@@ -73,3 +74,11 @@ write_failures r = 0
 pub record CountsFailures {S K : Type 0} (read : S → ℕ) (written : K → ℕ) (source source' : S) (sink sink' : K) (reads writes : ℕ) : Type 0 where
   pub read_failed : read source' ≡ read source + reads
   pub write_failed : written sink' ≡ written sink + writes
+
+-- Lines were read, and no more was done: the reading met no fault but one of these, each failure of the source and of the sink is told
+-- by its outcome, and the sink took no byte.
+pub record OnlyReads {S K T : Type 0} (IsMet : ScriptFault → Type 0) (read : S → ℕ) (written : K → ℕ) (takes : K → Option (List ℕ))
+    (source source' : S) (sink sink' : K) (result : Result T ScriptFault) : Type 0 where
+  pub fault : IfErr result IsMet
+  pub failures : CountsFailures read written source source' sink sink' (read_failures result) (write_failures result)
+  pub taken : KeepsBytes (takes sink) (takes sink')

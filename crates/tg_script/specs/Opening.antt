@@ -16,6 +16,11 @@ use Rattle.tg_script.specs.Lines.{ReadsFrom, Behind, IsOfReading}
 abbrev pub IsCommand : Line → Type 0
 IsCommand l = MayStand 0 false l
 
+-- a line may be answered: it may stand behind the edges, and the collector is ready, as this says
+pub record IsAnswerable (Ready : Type 0) (l : Line) : Type 0 where
+  pub ready : Ready
+  pub command : IsCommand l
+
 abbrev pub edge_lines : List Edge → List Line
 edge_lines edges = map line.Edge edges
 

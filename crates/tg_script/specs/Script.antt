@@ -165,6 +165,11 @@ pub record MayStart (settings : Settings) (values : List Value) : Type 0 where
   pub number : (1 ≤ settings.workers) × (settings.workers ≤ 64)
   pub workers : length values ≡ settings.workers
 
+-- the same, and the collector is ready, as this says
+pub record MayRun (Ready : Type 0) (settings : Settings) (values : List Value) : Type 0 where
+  pub ready : Ready
+  pub startable : MayStart settings values
+
 -- the scene that the edge lines of a script make
 abbrev pub scene_of : Start → List Line → Scene
 scene_of start lines = record {

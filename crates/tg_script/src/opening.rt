@@ -1,9 +1,8 @@
 //! The opening of a run: the edge lines of its script, and the store that they make.
-ghost use Rattle.std.specs.Prelude.{◌≡◌, ◌+◌, ◌<◌, ◌≤◌, ℕ, List, length, Some, true, false, IfOk, IfErr, IfSome};
+ghost use Rattle.std.specs.Prelude.{◌≡◌, ◌+◌, ◌<◌, ◌≤◌, ℕ, List, length, Some, true, false, IfOk, IfSome};
 ghost use Rattle.std.specs.List.{All};
 ghost use Rattle.tg_model.specs.Opened.{Plan, JoinsWorkers};
-ghost use Rattle.tg_text.specs.Sinks.{KeepsBytes};
-ghost use Rattle.tg_script.specs.Lines.{CountsFailures, IsOfKeeping, read_failures, write_failures};
+ghost use Rattle.tg_script.specs.Lines.{IsOfKeeping, OnlyReads};
 ghost use Rattle.tg_script.specs.Opening.{ReadsEdges, IsCommand, OpensStore};
 
 use crate::script::Script;
@@ -31,9 +30,7 @@ pub(crate) fn read_edges<S: Source, K: Sink>(
     ensures edges { IfOk result (λ front. All (JoinsWorkers script.old.workers) front.edges.items) }
     ensures first { IfOk result (λ front. IfSome front.first (λ line. IsCommand line × (script.new.opening ≡ false))) }
     ensures bytes { (bytes : List ℕ) → S.left source.old ≡ Some bytes → (rest : List ℕ) × (S.left source.new ≡ Some rest) × ReadsEdges script.old bytes result script.new rest }
-    ensures fault { IfErr result IsOfKeeping }
-    ensures failures { CountsFailures S.failures K.failures source.old source.new sink.old sink.new (read_failures result) (write_failures result) }
-    ensures taken { KeepsBytes (K.taken sink.old) (K.taken sink.new) }
+    ensures reading { OnlyReads IsOfKeeping S.failures K.failures K.taken source.old source.new sink.old sink.new result }
     ensures asked { S.asked source.new + script.new.lines.room ≤ S.asked source.old + script.old.lines.room + 1 }
     ensures asked_of_line { IfOk result (λ front. IfSome front.first (λ _. S.asked source.new + script.new.lines.room ≡ S.asked source.old + script.old.lines.room)) }
 {

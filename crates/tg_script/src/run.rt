@@ -21,15 +21,14 @@ pub(crate) struct Run<P: Payload> {
 
 impl<P: Payload> Run<P> {
     ghost use Rattle.std.specs.Prelude.{◌≡◌, ◌++◌, None};
-    ghost use Rattle.tg_script.specs.Opening.{IsCommand};
+    ghost use Rattle.tg_script.specs.Opening.{IsAnswerable};
     ghost use Rattle.tg_script.specs.Run.{Handles, HandlesWith, making_answer, values_back};
     ghost use Rattle.tg_script.specs.Supply.{values_left};
 
     /// What a line is answered. No line fails: where memory or room is wanting, that is the answer.
     #[inline(always)]
     pub(crate) fn answer<C: Collector>(&mut self, collector: &C, line: Line) -> Answer
-        requires ready { C.Ready }
-        requires command { IsCommand line }
+        requires answerable { IsAnswerable C.Ready line }
         ensures { Handles self.old line result self.new }
     {
         match line {

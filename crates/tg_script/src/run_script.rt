@@ -1,12 +1,13 @@
 //! The run of a whole script.
-ghost use Rattle.std.specs.Prelude.{◌≡◌, ◌+◌, ◌<◌, ◌≤◌, ℕ, List, [], Some, Err, true, false, IfErr};
+ghost use Rattle.std.specs.Prelude.{◌≡◌, ◌+◌, ◌≤◌, ℕ, List, [], Some, Err, true, false, IfErr};
 ghost use Rattle.std.specs.List.{All};
 ghost use Rattle.tg_model.specs.Opened.{Plan, JoinsWorkers};
+ghost use Rattle.tg_script.specs.Counting.{MayCountInMemory};
 ghost use Rattle.tg_script.specs.Lines.{CountsFailures, IsOfReading, read_failures, write_failures};
-ghost use Rattle.tg_script.specs.Opening.{IsCommand};
+ghost use Rattle.tg_script.specs.Opening.{IsAnswerable};
 ghost use Rattle.tg_script.specs.Run.{OpensRun, Shows};
 ghost use Rattle.tg_script.specs.Running.{Finishes, FinishesSink, Ran, RunsFrom, RunsLine, TellsAll};
-ghost use Rattle.tg_script.specs.Script.{MayStart, Scene, start_with};
+ghost use Rattle.tg_script.specs.Script.{MayRun, MayStart, Scene, start_with};
 
 use crate::collector::{Collector, OneThread};
 use crate::helpers::Helpers;
@@ -53,8 +54,7 @@ pub fn run_script_with<P: Payload, C: Collector, S: Source, K: Sink>(
     workers: Vec<Draft<P>>,
     stock: Vec<Draft<P>>,
 ) -> Result<(), ScriptFault>
-    requires ready { C.Ready }
-    requires startable { MayStart settings workers.items }
+    requires runnable { MayRun C.Ready settings workers.items }
     ensures ran { RunsFrom S.left S.asked S.failures K.taken source.old source.new sink.old sink.new (start_with settings workers.items stock.items) result }
     ensures finish { FinishesSink K.failures K.finished sink.old sink.new result }
 {
@@ -99,8 +99,7 @@ pub fn run_in_memory<P: Payload, C: Collector>(
     workers: Vec<Draft<P>>,
     stock: Vec<Draft<P>>,
 ) -> InMemory
-    requires ready { C.Ready }
-    requires startable { MayStart settings workers.items }
+    requires runnable { MayRun C.Ready settings workers.items }
     ensures { (left : List ℕ) × Ran (start_with settings workers.items stock.items) script.now [] result.outcome left (Some result.written.items) }
 {
     let (asked, failures) = (Blank::new(1), Blank::new(1));
@@ -120,10 +119,8 @@ fn run_counted<P: Payload, C: Collector, A: Ledger, F: Ledger>(
     asked: Blank,
     failures: Blank,
 ) -> InMemory
-    requires ready { C.Ready }
-    requires startable { MayStart settings workers.items }
-    requires asked { (asked.name ≡ A.name) × (asked.parts ≡ A.parts) × (0 < asked.parts) }
-    requires failures { (failures.name ≡ F.name) × (failures.parts ≡ F.parts) × (0 < failures.parts) }
+    requires runnable { MayRun C.Ready settings workers.items }
+    requires countable { MayCountInMemory A.name A.parts F.name F.parts asked failures }
     ensures { (left : List ℕ) × Ran (start_with settings workers.items stock.items) script.now [] result.outcome left (Some result.written.items) }
 {
     let mut source = Bytes::new(script, Count::<A>::new(asked));
@@ -168,8 +165,7 @@ fn run_lines<P: Payload, C: Collector, S: Source, K: Sink>(
     workers: Vec<Draft<P>>,
     stock: Vec<Draft<P>>,
 ) -> Result<(), ScriptFault>
-    requires ready { C.Ready }
-    requires startable { MayStart settings workers.items }
+    requires runnable { MayRun C.Ready settings workers.items }
     ensures ran { RunsFrom S.left S.asked S.failures K.taken source.old source.new sink.old sink.new (start_with settings workers.items stock.items) result }
     ensures write_failed { K.failures sink.new ≡ K.failures sink.old + write_failures result }
 {
@@ -226,8 +222,7 @@ fn run_commands<P: Payload, C: Collector, S: Source, K: Sink>(
     sink: &mut K,
     first: Line,
 ) -> Result<(), ScriptFault>
-    requires ready { C.Ready }
-    requires command { IsCommand first }
+    requires answerable { IsAnswerable C.Ready first }
     requires opening { script.old.opening ≡ false }
     ensures written { (t : Scene) (rest before : List ℕ) → Shows run.old t → S.left source.old ≡ Some rest → K.taken sink.old ≡ Some before →
         (left : List ℕ) × (S.left source.new ≡ Some left) × TellsAll script.old rest t first before result left (K.taken sink.new) }
@@ -256,8 +251,7 @@ fn run_line<P: Payload, C: Collector, K: Sink>(
     sink: &mut K,
     line: Line,
 ) -> Result<(), WriteFailed>
-    requires ready { C.Ready }
-    requires command { IsCommand line }
+    requires answerable { IsAnswerable C.Ready line }
     ensures { RunsLine run.old line run.new (K.taken sink.old) (K.failures sink.old) result (K.taken sink.new) (K.failures sink.new) }
 {
     let answer = run.answer(collector, line);

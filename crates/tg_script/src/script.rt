@@ -21,9 +21,8 @@ pub(crate) struct Script {
 }
 
 impl Script {
-    ghost use Rattle.std.specs.Prelude.{◌≡◌, ◌+◌, ◌<◌, ◌≤◌, ℕ, List, Some, Ok, true, IfOk, IfErr, IfSome};
-    ghost use Rattle.tg_text.specs.Sinks.{KeepsBytes};
-    ghost use Rattle.tg_script.specs.Lines.{CountsFailures, IsOfReading, NextLine, TakesLine, Follows, read_failures, write_failures};
+    ghost use Rattle.std.specs.Prelude.{◌≡◌, ◌+◌, ◌<◌, ◌≤◌, ℕ, List, Some, Ok, true, IfOk, IfSome};
+    ghost use Rattle.tg_script.specs.Lines.{IsOfReading, NextLine, OnlyReads, TakesLine, Follows};
 
     /// No line was read.
     pub(crate) fn new(workers: u64) -> Script
@@ -50,11 +49,9 @@ impl Script {
         sink: &mut K,
     ) -> Result<Option<Line>, ScriptFault>
         ensures bytes { (bytes : List ℕ) → S.left source.old ≡ Some bytes → (rest : List ℕ) × (S.left source.new ≡ Some rest) × NextLine self.old bytes result self.new rest }
-        ensures fault { IfErr result IsOfReading }
         ensures follows { IfOk result (λ next. IfSome next (λ line. Follows self.old line self.new)) }
         ensures shorter { IfOk result (λ next. IfSome next (λ _. self.new.lines.room < self.old.lines.room)) }
-        ensures failures { CountsFailures S.failures K.failures source.old source.new sink.old sink.new (read_failures result) (write_failures result) }
-        ensures taken { KeepsBytes (K.taken sink.old) (K.taken sink.new) }
+        ensures reading { OnlyReads IsOfReading S.failures K.failures K.taken source.old source.new sink.old sink.new result }
         ensures asked { S.asked source.new + self.new.lines.room ≤ S.asked source.old + self.old.lines.room + 1 }
         ensures asked_of_line { IfOk result (λ next. IfSome next (λ line. S.asked source.new + self.new.lines.room ≡ S.asked source.old + self.old.lines.room)) }
     {

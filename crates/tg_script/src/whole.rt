@@ -1,9 +1,8 @@
 //! A script that is read to its end before any line is run.
-ghost use Rattle.std.specs.Prelude.{◌≡◌, ◌+◌, ℕ, ◌≤◌, List, Some, false, IfOk, IfErr, OnOk};
+ghost use Rattle.std.specs.Prelude.{◌≡◌, ◌+◌, ℕ, ◌≤◌, List, Some, false, IfOk, OnOk};
 ghost use Rattle.std.specs.List.{All};
 ghost use Rattle.tg_model.specs.Opened.{JoinsWorkers};
-ghost use Rattle.tg_text.specs.Sinks.{KeepsBytes};
-ghost use Rattle.tg_script.specs.Lines.{CountsFailures, IsOfKeeping, read_failures, write_failures};
+ghost use Rattle.tg_script.specs.Lines.{IsOfKeeping, OnlyReads};
 ghost use Rattle.tg_script.specs.Opening.{IsCommand};
 ghost use Rattle.tg_script.specs.Whole.{ReadsWhole, ReadsOn};
 
@@ -32,9 +31,7 @@ pub fn read_script<S: Source, K: Sink>(
     ensures edges { IfOk result (λ whole. All (JoinsWorkers workers) whole.edges.items) }
     ensures commands { IfOk result (λ whole. All IsCommand whole.lines.items) }
     ensures bytes { (bytes : List ℕ) → S.left source.old ≡ Some bytes → (left : List ℕ) × (S.left source.new ≡ Some left) × ReadsWhole workers bytes result left }
-    ensures fault { IfErr result IsOfKeeping }
-    ensures failures { CountsFailures S.failures K.failures source.old source.new sink.old sink.new (read_failures result) (write_failures result) }
-    ensures taken { KeepsBytes (K.taken sink.old) (K.taken sink.new) }
+    ensures reading { OnlyReads IsOfKeeping S.failures K.failures K.taken source.old source.new sink.old sink.new result }
     ensures asked { S.asked source.new ≤ S.asked source.old + 1048577 }
 {
     let mut script = Script::new(workers);
@@ -61,9 +58,7 @@ fn read_commands<S: Source, K: Sink>(
     requires commands { All IsCommand lines.old.items }
     ensures commands { OnOk result (All IsCommand lines.new.items) }
     ensures bytes { (bytes : List ℕ) → S.left source.old ≡ Some bytes → (left : List ℕ) × (S.left source.new ≡ Some left) × ReadsOn script.old bytes lines.old.items lines.new.items result left }
-    ensures fault { IfErr result IsOfKeeping }
-    ensures failures { CountsFailures S.failures K.failures source.old source.new sink.old sink.new (read_failures result) (write_failures result) }
-    ensures taken { KeepsBytes (K.taken sink.old) (K.taken sink.new) }
+    ensures reading { OnlyReads IsOfKeeping S.failures K.failures K.taken source.old source.new sink.old sink.new result }
     ensures asked { S.asked source.new ≤ S.asked source.old + script.old.lines.room + 1 }
 {
     while let Some(line) = script.next(source, sink)? {

@@ -1,5 +1,5 @@
 -- What contracts see of a session and of the value behind the lock, and what a call does to them.
-use Rattle.std.specs.Prelude.{◌≡◌, ◌≢◌, ℕ, ◌+◌, ◌≤◌, ◌==◌, Bool, true, false, Option, Some, None, List, [], ◌∷◌, ◌++◌, Result, IfErr, OnErr, length, map, take, drop}
+use Rattle.std.specs.Prelude.{◌≡◌, ◌≢◌, ℕ, ◌+◌, ◌<◌, ◌≤◌, ◌==◌, Bool, true, false, Option, Some, None, List, [], ◌∷◌, ◌++◌, Result, IfErr, OnErr, length, map, take, drop}
 use Rattle.std.specs.declared.sync.ledger.Blank.{Blank}
 use Rattle.std.specs.List.{All, AllPairs, count_by, filter, sum_by}
 use Rattle.tg_model.specs.declared.command.Deed.{Deed}
@@ -31,6 +31,11 @@ pub record SessionState : Type 0 where
   pub receipts : List Receipt
   pub spare : ℕ
   pub copy : List ℕ
+
+-- A session may note a receipt of a deed with this state: it has room for one, and a copy of the state.
+pub record MayNote (session : SessionState) (state : List ℕ) : Type 0 where
+  pub room : 0 < session.spare
+  pub copy : session.copy ≡ state
 
 -- What is behind the lock: the store, and how many sessions were made.
 pub record LockedState : Type 0 where

@@ -1,8 +1,8 @@
 //! Collections of the shared store by several helpers.
-ghost use Rattle.std.specs.Prelude.{◌≡◌, ◌≢◌, ◌≤◌, Err, IfOk, IfErr, OnOk, length};
+ghost use Rattle.std.specs.Prelude.{◌≡◌, ◌≢◌, Err, IfOk, IfErr, OnOk, length};
 ghost use Rattle.tg_model.specs.Graph.{IsReachable};
 ghost use Rattle.tg_graph.specs.Heap.{content_of};
-ghost use Rattle.tg_store.specs.Collecting.{IsSwept};
+ghost use Rattle.tg_store.specs.Collecting.{AreHelpers, IsSwept};
 ghost use Rattle.tg_store.specs.Room.{LacksRoomToCollect};
 ghost use Rattle.tg_store.specs.Store.{HasFewBlocks, IsCountOf, graph_of_store};
 ghost use Rattle.tg_shared.specs.Sessions.{AtSome, KeepsLocked};
@@ -29,8 +29,7 @@ impl<L: Round, P: Payload> Locked<L, P> {
         helpers: u32,
         gate: &G,
     ) -> Result<u64, HelpersFault>
-        requires some { 1 ≤ helpers }
-        requires few { helpers ≤ 8 }
+        requires helpers { AreHelpers helpers }
         ensures swept { IfOk result (IsSwept kind self.old.store self.new.store) }
         ensures blocks { OnOk result (HasFewBlocks kind helpers self.old.store.heap.table self.new.store.heap.table) }
         ensures kept { KeepsLocked self.old self.new result }
@@ -59,8 +58,7 @@ impl<L: Round> Session<L> {
         helpers: u32,
         gate: &G,
     ) -> Result<u64, HelpersFault>
-        requires some { 1 ≤ helpers }
-        requires few { helpers ≤ 8 }
+        requires helpers { AreHelpers helpers }
         ensures number { IfOk result (λ number. AtSome L.start (λ s.
             (number ≡ length (content_of s.heap).names) × (kind ≡ Kind.Full → IsCountOf (IsReachable (graph_of_store s)) number))) }
         ensures full { IfErr result (λ why. why ≡ HelpersFault.HeapFull → AtSome L.start (λ s.

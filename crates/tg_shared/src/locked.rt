@@ -51,7 +51,7 @@ impl<L: Round, P: Payload> Locked<L, P> {
     ghost use Rattle.tg_store.specs.Made.{IsMadeFor, MayRefuse};
     ghost use Rattle.tg_store.specs.Room.{LacksRoomToCollect};
     ghost use Rattle.tg_store.specs.Store.{HasFewBlocks, IsFaithful, StandsFor};
-    ghost use Rattle.tg_shared.specs.Sessions.{AreFresh, GoesOn, KeepsLocked, MayShare, Records, RecordsNothing, sessions_made, subjects_at};
+    ghost use Rattle.tg_shared.specs.Sessions.{AreFresh, GoesOn, KeepsLocked, MayNote, MayShare, Records, RecordsNothing, sessions_made, subjects_at};
 
     /// The store. What holds whenever the lock is free is told here: the store's own promise, that its journal is a legal
     /// history of its opening and its heap stands for the graph after it; and it is the store that was shared, gone on: with its
@@ -137,8 +137,7 @@ impl<L: Round, P: Payload> Locked<L, P> {
         label: Label,
         draft: Draft<P>,
     ) -> Result<u64, CreateRefused<P>>
-        requires room { 0 < session.old.spare }
-        requires copy { session.old.copy ≡ draft.state }
+        requires notable { MayNote session.old draft.state }
         ensures entry { IfOk result (λ name. Records self.old.store self.new.store session.old session.new (Deed.Create label draft.law draft.state) (Reply.Name name)) }
         ensures made { IfOk result (IsMadeFor (Deed.Create label draft.law draft.state) session.old.worker label draft self.old.store self.new.store) }
         ensures refusals { MayRefuse (Deed.Create label draft.law draft.state) session.old.worker draft self.old.store self.new.store result }
@@ -184,8 +183,7 @@ impl<L: Round, P: Payload> Locked<L, P> {
         label: Label,
         draft: Draft<P>,
     ) -> Result<Session<L>, CreateRefused<P>>
-        requires room { 0 < session.old.spare }
-        requires copy { session.old.copy ≡ draft.state }
+        requires notable { MayNote session.old draft.state }
         ensures entry { IfOk result (λ fresh. Records self.old.store self.new.store session.old session.new (Deed.Spawn label draft.law draft.state) (Reply.Name fresh.worker)) }
         ensures fresh { IfOk result (λ fresh. fresh.receipts ≡ []) }
         ensures made { IfOk result (λ fresh. IsMadeFor (Deed.Spawn label draft.law draft.state) session.old.worker label draft self.old.store self.new.store fresh.worker) }

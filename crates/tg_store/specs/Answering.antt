@@ -1,5 +1,5 @@
 -- What comes of a command on the heap, before anything is entered in the journal.
-use Rattle.std.specs.Prelude.{◌≡◌, ◌≢◌, Result, None, Err, OnErr}
+use Rattle.std.specs.Prelude.{◌≡◌, ◌≢◌, Result, None, Err, IfOk, OnErr}
 use Rattle.tg_model.specs.declared.command.Command.{Command}
 use Rattle.tg_model.specs.declared.command.Deed.TheVariants.{Plain}
 use Rattle.tg_model.specs.Graph.{ProtectionGraph, IsSubject}
@@ -34,3 +34,8 @@ pub record KeepsHeap {T : Type 0} (old new : HeapState) (result : Result T Apply
   pub limits : new.table.limits ≡ old.table.limits
   pub refused : OnErr result (IsUnchangedHeap old new)
   pub worker : result ≢ Err NoSuchWorker
+
+-- A command of a subject was answered: served or denied, or refused; and the heap stays as far as it has to.
+pub record AnswersCommand (asker : Subject) (command : Command) (old new : HeapState) (result : Result Replies ApplyFault) : Type 0 where
+  pub replied : IfOk result (IsReplied asker command old new)
+  pub kept : KeepsHeap old new result

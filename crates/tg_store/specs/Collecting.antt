@@ -32,3 +32,8 @@ pub record KeepsHistory {T E : Type 0} (old new : StoreState) (result : Result T
   pub refused : OnErr result (new ≡ old)
   pub opening : new.opening ≡ old.opening
   pub limits : new.heap.table.limits ≡ old.heap.table.limits
+
+-- So many helpers may collect, the thread that asks for it among them.
+pub record AreHelpers (helpers : ℕ) : Type 0 where
+  pub some : 1 ≤ helpers
+  pub few : helpers ≤ 8

@@ -1,10 +1,10 @@
 //! How a command is answered on the heap, before anything is entered in the journal.
-ghost use Rattle.std.specs.Prelude.{◌≡◌, ◌≢◌, ◌↔◌, None, Err, Some, IsTrue, IfOk};
+ghost use Rattle.std.specs.Prelude.{◌≡◌, ◌≢◌, ◌↔◌, None, Err, Some, IsTrue};
 ghost use Rattle.tg_model.specs.Rules.{denial_of};
 ghost use Rattle.tg_graph.specs.Heap.{content_of};
 ghost use Rattle.tg_rules.specs.Effect.{AddsEdge, LacksCellsToServe, OnlyLooks};
 ghost use Rattle.tg_rules.specs.Verdict.{HasSubject};
-ghost use Rattle.tg_store.specs.Answering.{IsReplied, IsToServe, KeepsHeap};
+ghost use Rattle.tg_store.specs.Answering.{AnswersCommand, IsToServe};
 
 use crate::fault::ApplyFault;
 use std::alloc::Global;
@@ -32,9 +32,8 @@ pub(crate) fn answer_command<P: Payload>(
     command: &Command,
 ) -> Result<Replies, ApplyFault>
     requires { HasSubject heap.old subject }
-    ensures replied { IfOk result (IsReplied subject command.now heap.old heap.new) }
+    ensures answered { AnswersCommand subject command.now heap.old heap.new result }
     ensures denied { (denial : Denial) → denial_of (content_of heap.old).label (content_of heap.old).value subject.name command.now ≡ Some denial → heap.new ≡ heap.old }
-    ensures kept { KeepsHeap heap.old heap.new result }
     ensures full { result ≡ Err ApplyFault.HeapFull → (denial_of (content_of heap.old).label (content_of heap.old).value subject.name command.now ≡ None)
         × AddsEdge command.now × LacksCellsToServe heap.old.table subject.nursery subject.name command.now }
 {
@@ -73,8 +72,7 @@ fn look<P: Payload>(
 ) -> Result<Replies, ApplyFault>
     requires to_serve { IsToServe subject command.now parties heap.old }
     requires looks { OnlyLooks command.now }
-    ensures replied { IfOk result (IsReplied subject command.now heap.old heap.new) }
-    ensures kept { KeepsHeap heap.old heap.new result }
+    ensures answered { AnswersCommand subject command.now heap.old heap.new result }
     ensures full { result ≢ Err ApplyFault.HeapFull }
 {
     let reply = perform_between(heap, subject, command, parties)?;
@@ -92,8 +90,7 @@ fn change<P: Payload>(
 ) -> Result<Replies, ApplyFault>
     requires to_serve { IsToServe subject command.now parties heap.old }
     requires changes { ¬ OnlyLooks command.now }
-    ensures replied { IfOk result (IsReplied subject command.now heap.old heap.new) }
-    ensures kept { KeepsHeap heap.old heap.new result }
+    ensures answered { AnswersCommand subject command.now heap.old heap.new result }
     ensures full { result ≡ Err ApplyFault.HeapFull → AddsEdge command.now × LacksCellsToServe heap.old.table subject.nursery subject.name command.now }
 {
     let _done = perform_between(heap, subject, command, parties)?;

@@ -1,6 +1,9 @@
 -- What comes of a whole script whose workers run their lines side by side.
-use Rattle.std.specs.Prelude.{◌≡◌, ◌⊎◌, ℕ, ◌+◌, ◌<◌, ◌≤◌, List, ◌++◌, length, Option, Some, None, Result, Ok, Err, IsOk, IfErr}
+use Rattle.std.specs.Prelude.{◌≡◌, ◌⊎◌, ℕ, ◌+◌, ◌<◌, ◌≤◌, Bool, true, List, [], ◌++◌, length, Option, Some, None, Result, Ok, Err, IsOk, IfErr, IfOk, OnOk}
+use Rattle.std.specs.List.{All}
+use Rattle.tg_model.specs.declared.value.Value.{Value}
 use Rattle.tg_model.specs.Opened.{Plan, start_of}
+use Rattle.tg_journal.specs.declared.entry.Entry.{Entry}
 use Rattle.tg_journal.specs.History.{IsLegal}
 use Rattle.tg_journal.specs.declared.replay.AuditFault.{AuditFault}
 use Rattle.tg_journal.specs.declared.replay.AuditFault.TheVariants as audit
@@ -10,6 +13,7 @@ use Rattle.tg_text.specs.declared.fault.ScriptFault.TheVariants as script
 use Rattle.tg_text.specs.Reading.{ReadsScript}
 use Rattle.tg_text.specs.Sinks.{KeepsBytes}
 use Rattle.tg_script.specs.Lines.{IsOfKeeping}
+use Rattle.tg_script.specs.Opening.{IsCommand}
 use Rattle.tg_script.specs.Script.{Start, CanOpen, HasRoomForWorkers, commands_of, edges_of}
 use Rattle.tg_script.specs.Running.{IsDue}
 use Rattle.tg_store.specs.Store.{StoreState}
@@ -18,9 +22,12 @@ use Rattle.tg_threads.specs.declared.fault.RaceFault.TheVariants as fault
 use Rattle.tg_threads.specs.declared.threads.ThreadsFault.{ThreadsFault}
 use Rattle.tg_threads.specs.declared.threads.ThreadsFault.TheVariants as threads
 use Rattle.tg_threads.specs.declared.race.Opened.{Opened}
+use Rattle.tg_threads.specs.declared.race.Raced.{Raced}
 use Rattle.tg_weave.specs.declared.task.Told.{Told}
+use Rattle.tg_weave.specs.Boxes.{boxed}
 use Rattle.tg_weave.specs.Telling.{end_text, text_of_told}
 use Rattle.tg_threads.specs.Output.{IsRaceOutput}
+use Rattle.tg_threads.specs.Tasks.{AreRaced}
 
 -- ---- the script and its store
 
@@ -116,6 +123,32 @@ pub record RacesFrom {S K T : Type 0} (left : S → Option (List ℕ)) (asks fai
   pub read_failed : failures source' ≡ failures source + race_read_failures result
 
 -- ---- parts of it
+
+-- The sink was finished at the end of a race, and has failed where that is told.
+pub record FinishesRace {K T : Type 0} (failures : K → ℕ) (is_finished : K → Bool) (sink sink' : K) (result : Result T RaceFault) : Type 0 where
+  pub write_failed : failures sink + race_write_failures result ≤ failures sink'
+  pub unfailed : OnOk result (failures sink' ≡ failures sink)
+  pub finished : is_finished sink' ≡ true
+
+-- How often the source was asked, and how often it and the sink have failed, by the outcome of a part that ends no sink.
+pub record CountsRace {S K T : Type 0} (asks read_fails : S → ℕ) (write_fails : K → ℕ)
+    (source source' : S) (sink sink' : K) (result : Result T RaceFault) : Type 0 where
+  pub asked : asks source' ≤ asks source + 1048577
+  pub read_failed : read_fails source' ≡ read_fails source + race_read_failures result
+  pub write_failed : write_fails sink' ≡ write_fails sink + race_write_failures result
+
+-- these lines may be raced in a store of this opening and these entries: it has a worker and no entry, and each of them is a command
+pub record MayRace (opening : Plan) (entries : List Entry) (lines : List Line) : Type 0 where
+  pub new : (1 ≤ opening.workers) × (entries ≡ [])
+  pub commands : All IsCommand lines
+
+-- The lines were run in a store of this opening, each collection with so many helpers, and it has them all in its journal; or else a
+-- fault came before anything was written.
+pub record RunsRace {P : Type 0} (helpers : ℕ) (opening : Plan) (stock : List Value) (lines : List Line)
+    (result : Result (Raced P) RaceFault) : Type 0 where
+  pub raced : IfOk result (λ raced. (raced.store.opening ≡ opening)
+      × AreRaced helpers opening.workers (boxed stock lines) raced.store.entries raced.told.items)
+  pub fault : IfErr result IsBeforeWriting
 
 -- the whole script was read, and a store of its opening has no entry yet
 abbrev pub OpensRace : {P : Type 0} → Start → List ℕ → Result (Opened P) RaceFault → List ℕ → Type 0

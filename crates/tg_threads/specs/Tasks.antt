@@ -1,21 +1,27 @@
 -- What a worker's lines come to on its thread, and how the parts of a race stand to what is told of it.
-use Rattle.std.specs.Prelude.{◌≡◌, ℕ, ◌<◌, Bool, true, false, if◌then◌else◌, List, [], ◌∷◌, ◌++◌, map, Option, Some, None}
+use Rattle.std.specs.Prelude.{◌≡◌, ◌≢◌, ℕ, ◌<◌, Bool, true, false, if◌then◌else◌, List, [], ◌∷◌, ◌++◌, map, Option, Some, None, Result, IfOk, IfErr}
 use Rattle.std.specs.List.{All, range_with_len}
+use Rattle.std.specs.Vec.{vec_capacity}
+use Rattle.std.specs.declared.vec.Vec.{Vec}
 use Rattle.tg_model.specs.declared.value.Value.{Value}
 use Rattle.tg_model.specs.declared.command.Deed.{Deed}
 use Rattle.tg_model.specs.declared.reply.Reply.{Reply}
+use Rattle.tg_model.specs.Graph.{IsSubject}
 use Rattle.tg_space.specs.declared.kind.Kind.{Kind}
 use Rattle.tg_space.specs.declared.kind.Kind.TheVariants as kind
 use Rattle.tg_journal.specs.declared.entry.Entry.{Entry}
+use Rattle.tg_store.specs.Store.{graph_of_store}
 use Rattle.tg_text.specs.declared.line.Line.{Line}
 use Rattle.tg_text.specs.declared.line.Line.TheVariants as line
 use Rattle.tg_text.specs.declared.answer.Answer.TheVariants as answer
 use Rattle.tg_text.specs.declared.answer.Refusal.TheVariants as refusal
 use Rattle.tg_shared.specs.declared.receipt.Receipt.{Receipt}
 use Rattle.tg_shared.specs.Receipts.{receipt_of}
-use Rattle.tg_shared.specs.Sessions.{SessionState, AddsReceipt, KeepsReceipts}
+use Rattle.tg_shared.specs.Sessions.{SessionState, SharedStart, AddsReceipt, AtSome, KeepsReceipts}
 use Rattle.std.specs.declared.thread.PromisedHandle.{PromisedHandle}
 use Rattle.tg_threads.specs.declared.threads.Assigned.{Assigned}
+use Rattle.tg_threads.specs.declared.threads.ThreadsFault.{ThreadsFault}
+use Rattle.tg_threads.specs.declared.threads.ThreadsFault.TheVariants as threads
 use Rattle.tg_script.specs.Script.{MayWant}
 use Rattle.tg_weave.specs.declared.task.Task.{Task}
 use Rattle.tg_weave.specs.declared.task.Told.{Told}
@@ -90,15 +96,31 @@ Runs helpers served (b ∷ bs) ts rs =
 abbrev pub IsRunBy : ℕ → ℕ → Boxed → Type 0
 IsRunBy workers x b = runner_of workers b.line ≡ Some x
 
+-- What is told of a line of a session's worker is this; or else there is a fault, and the worker is no subject of a store that may have
+-- been behind the lock.
+pub record IsToldOrGone (start : SharedStart) (session : SessionState) (IsTold : Told → Type 0) (result : Result Told ThreadsFault) : Type 0 where
+  pub asked : IfOk result IsTold
+  pub gone : IfErr result (λ why. (why ≡ threads.NoSuchWorker) × AtSome start (λ s. ¬ IsSubject (graph_of_store s) session.worker))
+
 -- no session of these has a receipt
 abbrev pub HaveNone : List SessionState → Type 0
 HaveNone sessions = All (λ s. s.receipts ≡ []) sessions
+
+-- more sessions without a receipt may have come to those of the subjects that a worker made, into the room that there was
+pub record KeepsNone {A : Type 0} (sessions sessions' : Vec SessionState A) : Type 0 where
+  pub none : HaveNone sessions.items → HaveNone sessions'.items
+  pub kept : vec_capacity sessions' ≡ vec_capacity sessions
 
 -- The session of one of so many workers ran its lines, all that its thread was given, and they came to this; the sessions of the
 -- subjects that they made ran none.
 abbrev pub Brings : ℕ → ℕ → ℕ → List Boxed → Finished SessionState → Type 0
 Brings helpers workers x bs f =
     x < workers → All (IsRunBy workers x) bs → (f.session.worker ≡ x) × Runs helpers (has_thread workers) bs f.told.items f.session.receipts × HaveNone f.spawned.items
+
+-- it ran these lines, or else there is a fault, but for want of a thread there is none
+pub record RunsTasks (helpers workers x : ℕ) (bs : List Boxed) (result : Result (Finished SessionState) ThreadsFault) : Type 0 where
+  pub brought : IfOk result (λ finished. Brings helpers workers x bs finished)
+  pub fault : IfErr result (λ fault. fault ≢ threads.NoThread)
 
 -- the worker, and the lines that its thread is given
 abbrev pub assigned_of : {P : Type 0} → Work SessionState P → ℕ × List Boxed

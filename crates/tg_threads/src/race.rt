@@ -1,5 +1,5 @@
 //! A whole script, whose workers run their lines side by side.
-ghost use Rattle.std.specs.Prelude.{◌≡◌, ◌⊎◌, ◌+◌, ◌<◌, ◌≤◌, ℕ, List, [], Some, true, IfErr, IfOk, OnOk, length};
+ghost use Rattle.std.specs.Prelude.{◌≡◌, ◌⊎◌, ◌+◌, ◌<◌, ◌≤◌, ℕ, List, [], Some, true, IfErr, IfOk, length};
 ghost use Rattle.std.specs.List.{All, range_with_len};
 ghost use Rattle.tg_model.specs.declared.value.Value.{Value};
 ghost use Rattle.tg_model.specs.Opened.{start_of};
@@ -8,9 +8,7 @@ ghost use Rattle.tg_text.specs.Sinks.{KeepsBytes};
 ghost use Rattle.tg_script.specs.Opening.{IsCommand};
 ghost use Rattle.tg_script.specs.Script.{MayStart, start_with};
 ghost use Rattle.tg_shared.specs.Sessions.{AreFresh, AreSharedOut, AtSome, MayClose, MayShare, count_of, sessions_made};
-ghost use Rattle.tg_threads.specs.Race.{EndsRace, HasRaced, IsBeforeWriting, IsRaceDue, OpensRace, RacesFrom, race_read_failures, race_write_failures};
-ghost use Rattle.tg_threads.specs.Tasks.{AreRaced};
-ghost use Rattle.tg_weave.specs.Boxes.{boxed};
+ghost use Rattle.tg_threads.specs.Race.{CountsRace, EndsRace, FinishesRace, HasRaced, IsRaceDue, MayRace, OpensRace, RacesFrom, RunsRace};
 
 use crate::fault::RaceFault;
 use crate::threads::run_threads;
@@ -61,9 +59,7 @@ pub fn run_race<
 ) -> Result<(), RaceFault>
     requires startable { MayStart settings workers.items }
     ensures raced { RacesFrom S.left S.asked S.failures K.taken source.old source.new sink.old sink.new (start_with settings workers.items stock.items) result }
-    ensures write_failed { K.failures sink.old + race_write_failures result ≤ K.failures sink.new }
-    ensures unfailed { OnOk result (K.failures sink.new ≡ K.failures sink.old) }
-    ensures finished { K.finished sink.new ≡ true }
+    ensures finish { FinishesRace K.failures K.finished sink.old sink.new result }
 {
     let outcome = race(rt, alloc, source, sink, turnstile, settings, workers, stock);
     finish(sink, outcome)
@@ -98,9 +94,7 @@ fn race<P: Payload + Send, S: Source, K: Sink, G: Turnstile + Sync, R: Threads +
     ensures output { (bytes before : List ℕ) → S.left source.old ≡ Some bytes → K.taken sink.old ≡ Some before →
         (left : List ℕ) × (S.left source.new ≡ Some left) × HasRaced (start_with settings workers.items stock.items) bytes before result left (K.taken sink.new) }
     ensures due { IfErr result (IsRaceDue (start_with settings workers.items stock.items)) }
-    ensures asked { S.asked source.new ≤ S.asked source.old + 1048577 }
-    ensures read_failed { S.failures source.new ≡ S.failures source.old + race_read_failures result }
-    ensures write_failed { K.failures sink.new ≡ K.failures sink.old + race_write_failures result }
+    ensures counts { CountsRace S.asked S.failures K.failures source.old source.new sink.old sink.new result }
 {
     let helpers = settings.helpers;
     let opened = open_race(alloc, source, sink, settings, workers)?;
@@ -141,9 +135,7 @@ fn open_race<P: Payload, S: Source, K: Sink>(
         (left : List ℕ) × (S.left source.new ≡ Some left) × OpensRace (start_with settings workers.items []) bytes result left }
     ensures taken { KeepsBytes (K.taken sink.old) (K.taken sink.new) }
     ensures due { (stock : List Value) → IfErr result (IsRaceDue (start_with settings workers.items stock)) }
-    ensures asked { S.asked source.new ≤ S.asked source.old + 1048577 }
-    ensures read_failed { S.failures source.new ≡ S.failures source.old + race_read_failures result }
-    ensures write_failed { K.failures sink.new ≡ K.failures sink.old + race_write_failures result }
+    ensures counts { CountsRace S.asked S.failures K.failures source.old source.new sink.old sink.new result }
 {
     let whole = read_script(alloc, source, sink, settings.workers)?;
     let store = open_store(
@@ -207,10 +199,8 @@ fn run_lines<P: Payload + Send, G: Turnstile + Sync, R: Threads + Wait + Sync>(
     stock: Vec<Draft<P>>,
     lines: &[Line],
 ) -> Result<Raced<P>, RaceFault>
-    requires new { (1 ≤ store.opening.workers) × (store.entries ≡ []) }
-    requires commands { All IsCommand lines.now }
-    ensures raced { IfOk result (λ raced. (raced.store.opening ≡ store.opening) × AreRaced helpers store.opening.workers (boxed stock.items lines.now) raced.store.entries raced.told.items) }
-    ensures fault { IfErr result IsBeforeWriting }
+    requires raceable { MayRace store.opening store.entries lines.now }
+    ensures run { RunsRace helpers store.opening stock.items lines.now result }
 {
     let blank = Blank::new(store.opening().max_vertices() + 1);
     share::<Brand, P, G, R>(rt, alloc, turnstile, helpers, blank, store, stock, lines)
@@ -228,10 +218,8 @@ fn share<L: Round + Send + Sync, P: Payload + Send, G: Turnstile + Sync, R: Thre
     lines: &[Line],
 ) -> Result<Raced<P>, RaceFault>
     requires shareable { MayShare L.name L.parts L.start blank store }
-    requires new { (1 ≤ store.opening.workers) × (store.entries ≡ []) }
-    requires commands { All IsCommand lines.now }
-    ensures raced { IfOk result (λ raced. (raced.store.opening ≡ store.opening) × AreRaced helpers store.opening.workers (boxed stock.items lines.now) raced.store.entries raced.told.items) }
-    ensures fault { IfErr result IsBeforeWriting }
+    requires raceable { MayRace store.opening store.entries lines.now }
+    ensures run { RunsRace helpers store.opening stock.items lines.now result }
 {
     let shared = SharedStore::<L, P>::new(alloc, blank, store)?;
     run_shared(rt, alloc, turnstile, helpers, shared, stock, lines)
@@ -252,11 +240,9 @@ fn run_shared<
     stock: Vec<Draft<P>>,
     lines: &[Line],
 ) -> Result<Raced<P>, RaceFault>
-    requires new { (1 ≤ L.start.opening.workers) × (L.start.entries ≡ []) }
+    requires raceable { MayRace L.start.opening L.start.entries lines.now }
     requires fresh { AreFresh (range_with_len 0 L.start.opening.workers) shared.sessions.items }
-    requires commands { All IsCommand lines.now }
-    ensures raced { IfOk result (λ raced. (raced.store.opening ≡ L.start.opening) × AreRaced helpers L.start.opening.workers (boxed stock.items lines.now) raced.store.entries raced.told.items) }
-    ensures fault { IfErr result IsBeforeWriting }
+    ensures run { RunsRace helpers L.start.opening stock.items lines.now result }
 {
     let Shared { store, sessions } = shared;
     let works = share_out(alloc, sessions, stock, lines)?;

@@ -1,7 +1,7 @@
 //! The threads of the workers.
 ghost use Rattle.std.specs.Prelude.{◌≡◌, ◌≢◌, ℕ, [], IfOk, IfErr, map};
 ghost use Rattle.std.specs.List.{All};
-ghost use Rattle.tg_threads.specs.Tasks.{AllBring, Brings, assigned_of, promised_by};
+ghost use Rattle.tg_threads.specs.Tasks.{AllBring, RunsTasks, assigned_of, promised_by};
 ghost use Rattle.tg_weave.specs.Boxes.{boxed_of};
 
 use crate::turnstile::Turnstile;
@@ -168,8 +168,7 @@ fn start<
         assigned,
         move || -> Result<Finished<L>, ThreadsFault>
             requires { session.receipts ≡ [] }
-            ensures brought { IfOk result (λ finished. Brings helpers L.start.opening.workers session.worker (map boxed_of tasks.items) finished) }
-            ensures fault { IfErr result (λ fault. fault ≢ ThreadsFault.NoThread) }
+            ensures ran { RunsTasks helpers L.start.opening.workers session.worker (map boxed_of tasks.items) result }
         { run_tasks(rt, alloc, store, turnstile, helpers, session, tasks) },
     ) else {
         return Err(ThreadsFault::NoThread);

@@ -14,7 +14,7 @@ ghost use Rattle.tg_shared.specs.Sessions.{AtSome};
 ghost use Rattle.tg_shared.specs.declared.receipt.Receipt.{Receipt as ReceiptOf};
 ghost use Rattle.tg_text.specs.declared.answer.Refusal.{Refusal as RefusalOf};
 ghost use Rattle.tg_threads.specs.Output.{is_retire_of};
-ghost use Rattle.tg_threads.specs.Tasks.{Brings, HasAsked, HasCollected, HasMade, HasRun, HaveNone, IsRunBy, is_deed, may_make_subject, served_past};
+ghost use Rattle.tg_threads.specs.Tasks.{HasAsked, HasCollected, HasMade, HasRun, IsRunBy, IsToldOrGone, KeepsNone, RunsTasks, is_deed, may_make_subject, served_past};
 ghost use Rattle.tg_weave.specs.Boxes.{boxed_of};
 
 use crate::threads::ThreadsFault;
@@ -50,8 +50,7 @@ pub(crate) fn run_tasks<L: Round, P: Payload, G: Turnstile, R: Threads + Wait + 
     tasks: Vec<Task<P>>,
 ) -> Result<Finished<L>, ThreadsFault>
     requires fresh { session.receipts ≡ [] }
-    ensures brought { IfOk result (λ finished. Brings helpers L.start.opening.workers session.worker (map boxed_of tasks.items) finished) }
-    ensures fault { IfErr result (λ fault. fault ≢ ThreadsFault.NoThread) }
+    ensures ran { RunsTasks helpers L.start.opening.workers session.worker (map boxed_of tasks.items) result }
 {
     let mut told = Vec::with_capacity(alloc, tasks.len())?;
     let mut spawned = Vec::with_capacity(alloc, spawn_lines(tasks.as_slice()))?;
@@ -130,8 +129,7 @@ fn run_task<L: Round, P: Payload, R: Threads + Wait + Sync>(
     requires room { may_make_subject task ≡ true → vec_len spawned.old < vec_capacity spawned.old }
     ensures run { (workers : ℕ) (before : ℕ → Bool) → before session.old.worker ≡ served → IsRunBy workers session.old.worker (boxed_of task) →
         IfOk result (λ told. HasRun helpers before (boxed_of task) told session.old session.new) }
-    ensures none { HaveNone spawned.old.items → HaveNone spawned.new.items }
-    ensures kept { vec_capacity spawned.new ≡ vec_capacity spawned.old }
+    ensures spawned { KeepsNone spawned.old spawned.new }
     ensures fits { vec_len spawned.new ≤ vec_len spawned.old + (if may_make_subject task then 1 else 0) }
     ensures gone { IfErr result (λ why. (why ≡ ThreadsFault.NoSuchWorker) × AtSome L.start (λ s. ¬ IsSubject (graph_of_store s) session.old.worker)) }
 {
@@ -156,8 +154,7 @@ fn apply<L: Round, P: Payload, R: Wait>(
     session: &mut Session<L>,
     command: Command,
 ) -> Result<Told, ThreadsFault>
-    ensures asked { IfOk result (λ told. HasAsked (Deed.Plain command) told session.old session.new) }
-    ensures gone { IfErr result (λ why. (why ≡ ThreadsFault.NoSuchWorker) × AtSome L.start (λ s. ¬ IsSubject (graph_of_store s) session.old.worker)) }
+    ensures told { IsToldOrGone L.start session.old (λ told. HasAsked (Deed.Plain command) told session.old session.new) result }
 {
     match session.call(rt, store, command) {
         Ok(_) => Ok(last_told(session)),
@@ -174,8 +171,7 @@ fn create<L: Round, P: Payload, R: Wait>(
     label: Label,
     draft: Option<Draft<P>>,
 ) -> Result<Told, ThreadsFault>
-    ensures asked { IfOk result (λ told. HasMade (create_of label) draft told session.old session.new) }
-    ensures gone { IfErr result (λ why. (why ≡ ThreadsFault.NoSuchWorker) × AtSome L.start (λ s. ¬ IsSubject (graph_of_store s) session.old.worker)) }
+    ensures told { IsToldOrGone L.start session.old (λ told. HasMade (create_of label) draft told session.old session.new) result }
 {
     let Some(draft) = draft else {
         return Ok(Told::Refused(Refusal::Stock));
@@ -200,11 +196,9 @@ fn spawn<L: Round, P: Payload, R: Wait>(
     draft: Option<Draft<P>>,
 ) -> Result<Told, ThreadsFault>
     requires room { vec_len spawned.old < vec_capacity spawned.old }
-    ensures asked { IfOk result (λ told. HasMade (spawn_of label) draft told session.old session.new) }
-    ensures none { HaveNone spawned.old.items → HaveNone spawned.new.items }
-    ensures kept { vec_capacity spawned.new ≡ vec_capacity spawned.old }
+    ensures told { IsToldOrGone L.start session.old (λ told. HasMade (spawn_of label) draft told session.old session.new) result }
+    ensures spawned { KeepsNone spawned.old spawned.new }
     ensures fits { vec_len spawned.new ≤ vec_len spawned.old + 1 }
-    ensures gone { IfErr result (λ why. (why ≡ ThreadsFault.NoSuchWorker) × AtSome L.start (λ s. ¬ IsSubject (graph_of_store s) session.old.worker)) }
 {
     let Some(draft) = draft else {
         return Ok(Told::Refused(Refusal::Stock));

@@ -33,9 +33,9 @@ returns-then-start g c =
             );
       };
       read_failed = c.run_race.ensures.raced.read_failed ∙ ap (λ n. g.S.Source.failures c.args.source.now + n) (read_race c.run_race.result c.map_err.result is);
-      write_failed = write_race c.run_race.result c.map_err.result _ _ is c.run_race.ensures.write_failed;
-      unfailed = unfailed_told stop.Race c.run_race.result c.map_err.result _ is c.run_race.ensures.unfailed;
-      finished = λ begun. c.run_race.ensures.finished;
+      write_failed = write_race c.run_race.result c.map_err.result _ _ is c.run_race.ensures.finish.write_failed;
+      unfailed = unfailed_told stop.Race c.run_race.result c.map_err.result _ is c.run_race.ensures.finish.unfailed;
+      finished = λ begun. c.run_race.ensures.finish.finished;
     }
 
 pub returns : goal.returns

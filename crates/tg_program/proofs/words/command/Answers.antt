@@ -14,9 +14,9 @@ returns c =
     let fourth = third.2 in
     let fifth = fourth.2 in
     let sixth = fifth.2 in
-    let workers = first.1.shape c.number_arg.ensures.local ∙ ap₂ with_rule start c.number_arg.ensures.rule in
-    let helpers = second.1.shape c.number_arg-2.ensures.local ∙ ap₂ with_rule workers c.number_arg-2.ensures.rule in
-    let vertices = third.1.shape c.number_arg-3.ensures.local ∙ ap₂ with_rule helpers c.number_arg-3.ensures.rule in
-    let blocks = fourth.1.shape c.number_arg-4.ensures.local ∙ ap₂ with_rule vertices c.number_arg-4.ensures.rule in
-    let stock = fifth.1.shape c.option_arg.ensures.local ∙ ap₂ with_rule blocks c.option_arg.ensures.rule in
-    ap app_of (sym sixth.2) ∙ sixth.1.shape c.race_arg.ensures.local ∙ ap₂ with_rule stock c.race_arg.ensures.rule
+    let workers = first.1.shape c.number_arg.ensures.arg.local ∙ ap₂ with_rule start c.number_arg.ensures.arg.rule in
+    let helpers = second.1.shape c.number_arg-2.ensures.arg.local ∙ ap₂ with_rule workers c.number_arg-2.ensures.arg.rule in
+    let vertices = third.1.shape c.number_arg-3.ensures.arg.local ∙ ap₂ with_rule helpers c.number_arg-3.ensures.arg.rule in
+    let blocks = fourth.1.shape c.number_arg-4.ensures.arg.local ∙ ap₂ with_rule vertices c.number_arg-4.ensures.arg.rule in
+    let stock = fifth.1.shape c.option_arg.ensures.arg.local ∙ ap₂ with_rule blocks c.option_arg.ensures.arg.rule in
+    ap app_of (sym sixth.2) ∙ sixth.1.shape c.race_arg.ensures.arg.local ∙ ap₂ with_rule stock c.race_arg.ensures.arg.rule

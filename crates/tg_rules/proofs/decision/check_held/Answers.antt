@@ -21,6 +21,6 @@ none_held label rule x y rights empty some =
 pub returns-in-None-clause-denial : goal.returns-in-None-clause-denial
 returns-in-None-clause-denial g c =
     let label = (content_of c.args.heap.now).label in
-    let empty : no_rights ≡ label c.args.from.name c.args.to = subst (λ (n : ℕ). no_rights ≡ label n c.args.to) c.requires.from.named c.in-None.ensures.rights in
+    let empty : no_rights ≡ label c.args.from.name c.args.to = subst (λ (n : ℕ). no_rights ≡ label n c.args.to) c.requires.checkable.from.named c.in-None.ensures.rights in
     ap (λ (d : Denial). Some d) c.missing-in-None.ensures
-    ∙ none_held label c.args.rule c.args.from.name c.args.to c.args.rights empty c.requires.some
+    ∙ none_held label c.args.rule c.args.from.name c.args.to c.args.rights empty c.requires.checkable.some

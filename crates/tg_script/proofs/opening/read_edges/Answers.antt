@@ -1,4 +1,4 @@
-use Rattle.std.proofs.Common.{sym, arith, None}
+use Rattle.std.proofs.Common.{inl, inr, refl, sym, arith, None}
 use Rattle.std.proofs.lemmas.Result.{err_from_is_err_and}
 use Rattle.tg_script.specs.Opening.{edge_lines}
 use Rattle.tg_script.proofs.LinesLaws.{behind_more, keeps_then}
@@ -25,12 +25,14 @@ returns-in_default-line g c =
           let i = c.loop-edges.invariant.bytes bytes known in
           let n = came i.0 i.1 in
           (n.0, n.1, behind_more c.args.script.now c.loop-edges.script c.next.new.self bytes i.0 n.0 (edge_lines c.loop-edges.edges.items) c.in-Some.line i.2 n.2);
-      fault = tt;
-      failures = record {
-        read_failed = omega (arith, c.in_ok-line.ensures.failures.read_failed, c.loop-edges.invariant.failures);
-        write_failed = omega (arith, c.in_ok-line.ensures.failures.write_failed, c.loop-edges.invariant.written);
+      reading = record {
+        fault = tt;
+        failures = record {
+          read_failed = omega (arith, c.in_ok-line.ensures.reading.failures.read_failed, c.loop-edges.invariant.failures);
+          write_failed = omega (arith, c.in_ok-line.ensures.reading.failures.write_failed, c.loop-edges.invariant.written);
+        };
+        taken = keeps_then (g.K.Sink.taken c.args.sink.now) (g.K.Sink.taken c.loop-edges.sink) (g.K.Sink.taken c.next.new.sink) c.loop-edges.invariant.taken c.in_ok-line.ensures.reading.taken;
       };
-      taken = keeps_then (g.K.Sink.taken c.args.sink.now) (g.K.Sink.taken c.loop-edges.sink) (g.K.Sink.taken c.next.new.sink) c.loop-edges.invariant.taken c.in_ok-line.ensures.taken;
       asked = omega (arith, asked, c.loop-edges.invariant.asked);
       asked_of_line = omega (arith, asked, c.loop-edges.invariant.asked);
     }
@@ -59,9 +61,9 @@ loop-edges-preserved g c =
           let n = came i.0 i.1 in
           let passes = rw c.in-Edge.is at n.2 in
           (n.0, n.1, edges_more c.args.script.now c.loop-edges.script c.next.new.self bytes i.0 n.0 c.loop-edges.edges.items c.push.new.self.items c.in-Edge.edge more i.2 passes);
-      failures = omega (arith, c.in_ok-line.ensures.failures.read_failed, c.loop-edges.invariant.failures);
-      taken = keeps_then (g.K.Sink.taken c.args.sink.now) (g.K.Sink.taken c.loop-edges.sink) (g.K.Sink.taken c.next.new.sink) c.loop-edges.invariant.taken c.in_ok-line.ensures.taken;
-      written = omega (arith, c.in_ok-line.ensures.failures.write_failed, c.loop-edges.invariant.written);
+      failures = omega (arith, c.in_ok-line.ensures.reading.failures.read_failed, c.loop-edges.invariant.failures);
+      taken = keeps_then (g.K.Sink.taken c.args.sink.now) (g.K.Sink.taken c.loop-edges.sink) (g.K.Sink.taken c.next.new.sink) c.loop-edges.invariant.taken c.in_ok-line.ensures.reading.taken;
+      written = omega (arith, c.in_ok-line.ensures.reading.failures.write_failed, c.loop-edges.invariant.written);
       asked = omega (arith, asked, c.loop-edges.invariant.asked);
     }
 
@@ -72,22 +74,34 @@ returns-clause-bytes g c = λ bytes known.
     let n = came i.0 i.1 in
     (n.0, n.1, behind_all c.args.script.now c.loop-edges.script bytes i.0 (edge_lines c.loop-edges.edges.items) None n.0 i.2 n.2)
 
-pub returns-in_err-line-clause-failures : goal.returns-in_err-line-clause-failures
-returns-in_err-line-clause-failures g c =
+pub returns-in_err-line-clause-reading : goal.returns-in_err-line-clause-reading
+returns-in_err-line-clause-reading g c =
     let p = err_from_is_err_and c.from_residual.result c.from_residual.ensures.1 in
-    record {
-      read_failed = rw (p.1, p.2) (omega (arith, c.in_err-line.ensures.failures.read_failed, c.loop-edges.invariant.failures));
-      write_failed = rw (p.1, p.2) (omega (arith, c.in_err-line.ensures.failures.write_failed, c.loop-edges.invariant.written));
-    }
+    rw (p.1, p.2) (record {
+      fault = inl c.in_err-line.ensures.reading.fault;
+      failures = record {
+        read_failed = omega (arith, c.in_err-line.ensures.reading.failures.read_failed, c.loop-edges.invariant.failures);
+        write_failed = omega (arith, c.in_err-line.ensures.reading.failures.write_failed, c.loop-edges.invariant.written);
+      };
+      taken = keeps_then (g.K.Sink.taken c.args.sink.now) (g.K.Sink.taken c.loop-edges.sink) (g.K.Sink.taken c.next.new.sink) c.loop-edges.invariant.taken c.in_err-line.ensures.reading.taken;
+    })
 
-pub returns-then-is_err-clause-failures : goal.returns-then-is_err-clause-failures
-returns-then-is_err-clause-failures g c = record {
-  read_failed = omega (arith, c.in_ok-line.ensures.failures.read_failed, c.loop-edges.invariant.failures);
-  write_failed = omega (arith, c.in_ok-line.ensures.failures.write_failed, c.loop-edges.invariant.written);
+pub returns-then-is_err-clause-reading : goal.returns-then-is_err-clause-reading
+returns-then-is_err-clause-reading g c = record {
+  fault = inr refl;
+  failures = record {
+    read_failed = omega (arith, c.in_ok-line.ensures.reading.failures.read_failed, c.loop-edges.invariant.failures);
+    write_failed = omega (arith, c.in_ok-line.ensures.reading.failures.write_failed, c.loop-edges.invariant.written);
+  };
+  taken = keeps_then (g.K.Sink.taken c.args.sink.now) (g.K.Sink.taken c.loop-edges.sink) (g.K.Sink.taken c.next.new.sink) c.loop-edges.invariant.taken c.in_ok-line.ensures.reading.taken;
 }
 
-pub returns-clause-failures : goal.returns-clause-failures
-returns-clause-failures g c = record {
-  read_failed = omega (arith, c.in_ok-line.ensures.failures.read_failed, c.loop-edges.invariant.failures);
-  write_failed = omega (arith, c.in_ok-line.ensures.failures.write_failed, c.loop-edges.invariant.written);
+pub returns-clause-reading : goal.returns-clause-reading
+returns-clause-reading g c = record {
+  fault = tt;
+  failures = record {
+    read_failed = omega (arith, c.in_ok-line.ensures.reading.failures.read_failed, c.loop-edges.invariant.failures);
+    write_failed = omega (arith, c.in_ok-line.ensures.reading.failures.write_failed, c.loop-edges.invariant.written);
+  };
+  taken = keeps_then (g.K.Sink.taken c.args.sink.now) (g.K.Sink.taken c.loop-edges.sink) (g.K.Sink.taken c.next.new.sink) c.loop-edges.invariant.taken c.in_ok-line.ensures.reading.taken;
 }

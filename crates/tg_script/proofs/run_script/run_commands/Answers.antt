@@ -10,7 +10,7 @@ lines-init g c =
     let s = g.S.Source in
     let k = g.K.Sink in
     record {
-      command = c.requires.command;
+      command = c.requires.answerable.command;
       opening = c.requires.opening;
       under = λ t rest before shows left taken. under_first c.args.script.now rest t c.args.first before c.args.run.now (s.left c.args.source.now) (k.taken c.args.sink.now) shows left taken;
       read = refl {a = s.failures c.args.source.now};
@@ -34,7 +34,7 @@ returns-in_err-came-clause-written g c = λ t rest before shows left taken.
     let p = err_from_is_err_and c.from_residual.result c.from_residual.ensures.1 in
     let u = c.lines.invariant.under t rest before shows left taken in
     let n = c.in_err-came.ensures.bytes u.rest u.leaves in
-    let wrote = wrote_keeps (k.taken c.lines.sink) (k.taken c.run_line.new.sink) (k.taken c.next.new.sink) (answer_text w.0) w.2.0 c.in_err-came.ensures.taken in
+    let wrote = wrote_keeps (k.taken c.lines.sink) (k.taken c.run_line.new.sink) (k.taken c.next.new.sink) (answer_text w.0) w.2.0 c.in_err-came.ensures.reading.taken in
     rw (p.1, p.2) (
       n.0,
       n.1,
@@ -48,8 +48,8 @@ returns-in_err-came-clause-failures g c =
     let w = c.in-Ok.ensures in
     let p = err_from_is_err_and c.from_residual.result c.from_residual.ensures.1 in
     record {
-      read_failed = rw (p.1, p.2) (omega (arith, c.in_err-came.ensures.failures.read_failed, c.lines.invariant.read));
-      write_failed = rw (p.1, p.2) (omega (arith, c.in_err-came.ensures.failures.write_failed, w.2.1, c.lines.invariant.wrote));
+      read_failed = rw (p.1, p.2) (omega (arith, c.in_err-came.ensures.reading.failures.read_failed, c.lines.invariant.read));
+      write_failed = rw (p.1, p.2) (omega (arith, c.in_err-came.ensures.reading.failures.write_failed, w.2.1, c.lines.invariant.wrote));
     }
 
 pub returns-in_default-came-clause-written : goal.returns-in_default-came-clause-written
@@ -59,7 +59,7 @@ returns-in_default-came-clause-written g c = λ t rest before shows left taken.
     let w = c.in-Ok.ensures in
     let ends = rw c.in_default-came.is at c.in_ok-came.ensures.bytes in
     let u = c.lines.invariant.under t rest before shows left taken in
-    let wrote = wrote_keeps (k.taken c.lines.sink) (k.taken c.run_line.new.sink) (k.taken c.next.new.sink) (answer_text w.0) w.2.0 c.in_ok-came.ensures.taken in
+    let wrote = wrote_keeps (k.taken c.lines.sink) (k.taken c.run_line.new.sink) (k.taken c.next.new.sink) (answer_text w.0) w.2.0 c.in_ok-came.ensures.reading.taken in
     let n = ends u.rest u.leaves in (
       n.0,
       n.1,
@@ -75,7 +75,7 @@ lines-preserved g c =
     let came = rw c.in-Some.is at c.in_ok-came.ensures.bytes in
     let follows = rw c.in-Some.is at c.in_ok-came.ensures.follows in
     let asked = rw c.in-Some.is at c.in_ok-came.ensures.asked_of_line in
-    let wrote = wrote_keeps (k.taken c.lines.sink) (k.taken c.run_line.new.sink) (k.taken c.next.new.sink) (answer_text w.0) w.2.0 c.in_ok-came.ensures.taken in
+    let wrote = wrote_keeps (k.taken c.lines.sink) (k.taken c.run_line.new.sink) (k.taken c.next.new.sink) (answer_text w.0) w.2.0 c.in_ok-came.ensures.reading.taken in
     let n = next_command c.lines.script c.in-Some.next c.next.new.self c.lines.invariant.opening follows in
     record {
       command = n.0;
@@ -83,8 +83,8 @@ lines-preserved g c =
       under = λ t rest before shows left taken.
           under_next c.args.script.now rest t c.args.first before c.lines.script c.lines.run c.lines.line (s.left c.lines.source) (k.taken c.lines.sink) w.0 c.run_line.new.run (k.taken c.next.new.sink)
           c.in-Some.next c.next.new.self (s.left c.next.new.source) (c.lines.invariant.under t rest before shows left taken) w.1 wrote came;
-      read = omega (arith, c.in_ok-came.ensures.failures.read_failed, c.lines.invariant.read);
-      wrote = omega (arith, c.in_ok-came.ensures.failures.write_failed, w.2.1, c.lines.invariant.wrote);
+      read = omega (arith, c.in_ok-came.ensures.reading.failures.read_failed, c.lines.invariant.read);
+      wrote = omega (arith, c.in_ok-came.ensures.reading.failures.write_failed, w.2.1, c.lines.invariant.wrote);
       asked = omega (arith, asked, c.lines.invariant.asked);
     }
 
@@ -100,6 +100,6 @@ pub returns-in_default-came-clause-failures : goal.returns-in_default-came-claus
 returns-in_default-came-clause-failures g c =
     let w = c.in-Ok.ensures in
     record {
-      read_failed = omega (arith, c.in_ok-came.ensures.failures.read_failed, c.lines.invariant.read);
-      write_failed = omega (arith, c.in_ok-came.ensures.failures.write_failed, w.2.1, c.lines.invariant.wrote);
+      read_failed = omega (arith, c.in_ok-came.ensures.reading.failures.read_failed, c.lines.invariant.read);
+      write_failed = omega (arith, c.in_ok-came.ensures.reading.failures.write_failed, w.2.1, c.lines.invariant.wrote);
     }

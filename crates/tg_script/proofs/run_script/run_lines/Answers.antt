@@ -19,11 +19,11 @@ returns-in_err-edges-clause-ran g c =
             n.0,
             n.1,
             ran_edges_fault (Unit {0}) c.in_err-edges.field-0.0 start c.new-script.result c.read_edges.new.script bytes before n.0 (g.K.Sink.taken c.read_edges.new.sink) fresh n.2
-                (keeps_known (g.K.Sink.taken c.args.sink.now) (g.K.Sink.taken c.read_edges.new.sink) before taken c.in_err-edges.ensures.taken),
+                (keeps_known (g.K.Sink.taken c.args.sink.now) (g.K.Sink.taken c.read_edges.new.sink) before taken c.in_err-edges.ensures.reading.taken),
           ));
-      due = rw (p.1, p.2) (keeping_due start c.in_err-edges.field-0.0 c.in_err-edges.ensures.fault);
+      due = rw (p.1, p.2) (keeping_due start c.in_err-edges.field-0.0 c.in_err-edges.ensures.reading.fault);
       asked = omega (arith, c.in_err-edges.ensures.asked, c.new-script.ensures.room);
-      read_failed = rw (p.1, p.2) c.in_err-edges.ensures.failures.read_failed;
+      read_failed = rw (p.1, p.2) c.in_err-edges.ensures.reading.failures.read_failed;
     }
 
 pub returns-in_err-run-clause-ran : goal.returns-in_err-run-clause-ran
@@ -41,11 +41,11 @@ returns-in_err-run-clause-ran g c =
             n.1,
             ran_store_fault (Unit {0}) plan c.in_err-run.field-0.0 start c.new-script.result c.read_edges.new.script bytes before n.0 front.edges.items front.first (g.K.Sink.taken c.read_edges.new.sink) refl refl
                 c.in_err-run.ensures fresh (first_command front.first c.read_edges.new.script c.in_ok-edges.ensures.first) n.2
-                (keeps_known (g.K.Sink.taken c.args.sink.now) (g.K.Sink.taken c.read_edges.new.sink) before taken c.in_ok-edges.ensures.taken),
+                (keeps_known (g.K.Sink.taken c.args.sink.now) (g.K.Sink.taken c.read_edges.new.sink) before taken c.in_ok-edges.ensures.reading.taken),
           ));
       due = rw (p.1, p.2) (opening_due plan start c.in_err-run.field-0.0 refl refl c.in_err-run.ensures);
       asked = omega (arith, c.in_ok-edges.ensures.asked, c.new-script.ensures.room);
-      read_failed = rw (p.1, p.2) (omega (arith, c.in_ok-edges.ensures.failures.read_failed, opening_read (Unit {0}) plan start.blocks c.in_err-run.field-0.0 c.in_err-run.ensures));
+      read_failed = rw (p.1, p.2) (omega (arith, c.in_ok-edges.ensures.reading.failures.read_failed, opening_read (Unit {0}) plan start.blocks c.in_err-run.field-0.0 c.in_err-run.ensures));
     }
 
 pub returns-in-None-clause-ran : goal.returns-in-None-clause-ran
@@ -60,11 +60,11 @@ returns-in-None-clause-ran g c =
             reads.0,
             reads.1,
             ran_edges done start c.new-script.result bytes before c.in_ok-edges.field-0.edges.items reads.0 (g.K.Sink.taken c.read_edges.new.sink) fresh (c.in_ok-run.ensures.0, c.in_ok-run.ensures.1) reads.2
-                (keeps_known (g.K.Sink.taken c.args.sink.now) (g.K.Sink.taken c.read_edges.new.sink) before taken c.in_ok-edges.ensures.taken),
+                (keeps_known (g.K.Sink.taken c.args.sink.now) (g.K.Sink.taken c.read_edges.new.sink) before taken c.in_ok-edges.ensures.reading.taken),
           ));
       due = tt;
       asked = omega (arith, c.in_ok-edges.ensures.asked, c.new-script.ensures.room);
-      read_failed = c.in_ok-edges.ensures.failures.read_failed;
+      read_failed = c.in_ok-edges.ensures.reading.failures.read_failed;
     }
 
 pub returns-in-Some-clause-ran : goal.returns-in-Some-clause-ran
@@ -77,7 +77,7 @@ returns-in-Some-clause-ran g c =
           let read = c.in_ok-edges.ensures.bytes bytes left in
           let b = rw c.in-Some.is at read in
           let command = rw c.in-Some.is at c.in_ok-edges.ensures.first in
-          let kept = keeps_known (g.K.Sink.taken c.args.sink.now) (g.K.Sink.taken c.read_edges.new.sink) before taken c.in_ok-edges.ensures.taken in
+          let kept = keeps_known (g.K.Sink.taken c.args.sink.now) (g.K.Sink.taken c.read_edges.new.sink) before taken c.in_ok-edges.ensures.reading.taken in
           let told = c.run_commands-ran.ensures.written (scene_with start edges) b.0 before c.in_ok-run.ensures.2 b.1 kept in (
             told.0,
             told.1,
@@ -86,5 +86,5 @@ returns-in-Some-clause-ran g c =
           ));
       due = lines_due start c.run_commands-ran.result c.run_commands-ran.ensures.fault;
       asked = (let line = rw c.in-Some.is at c.in_ok-edges.ensures.asked_of_line in omega (arith, c.run_commands-ran.ensures.asked, line, c.new-script.ensures.room));
-      read_failed = omega (arith, c.run_commands-ran.ensures.failures.read_failed, c.in_ok-edges.ensures.failures.read_failed);
+      read_failed = omega (arith, c.run_commands-ran.ensures.failures.read_failed, c.in_ok-edges.ensures.reading.failures.read_failed);
     }

@@ -1,4 +1,4 @@
-use Rattle.std.proofs.Common.{◌+◌, ◌++◌, [], ◌∷◌, refl, sym, ap, ◌∙◌, subst, arith, append-nil, append_assoc, Some, None, List}
+use Rattle.std.proofs.Common.{◌+◌, ◌++◌, [], ◌∷◌, inl, inr, refl, sym, ap, ◌∙◌, subst, arith, append-nil, append_assoc, Some, None, List}
 use Rattle.std.specs.List.{All}
 use Rattle.std.proofs.lemmas.List.Elements.{All-push}
 use Rattle.std.proofs.lemmas.Result.{err_from_is_err_and}
@@ -65,9 +65,9 @@ loop-line-preserved g c =
             more ∙ ap (λ x. x ++ c.in-Some.line ∷ []) i.3 ∙ append_assoc c.args.lines.now.items i.1 (c.in-Some.line ∷ []),
             behind_more c.args.script.now c.loop-line.script c.next.new.self bytes i.0 m.0 i.1 c.in-Some.line i.4 m.2,
           );
-      read_failed = omega (arith, c.in_ok-line.ensures.failures.read_failed, c.loop-line.invariant.read_failed);
-      write_failed = omega (arith, c.in_ok-line.ensures.failures.write_failed, c.loop-line.invariant.write_failed);
-      taken = keeps_then (g.K.Sink.taken c.args.sink.now) (g.K.Sink.taken c.loop-line.sink) (g.K.Sink.taken c.next.new.sink) c.loop-line.invariant.taken c.in_ok-line.ensures.taken;
+      read_failed = omega (arith, c.in_ok-line.ensures.reading.failures.read_failed, c.loop-line.invariant.read_failed);
+      write_failed = omega (arith, c.in_ok-line.ensures.reading.failures.write_failed, c.loop-line.invariant.write_failed);
+      taken = keeps_then (g.K.Sink.taken c.args.sink.now) (g.K.Sink.taken c.loop-line.sink) (g.K.Sink.taken c.next.new.sink) c.loop-line.invariant.taken c.in_ok-line.ensures.reading.taken;
       asked = omega (arith, asked, c.loop-line.invariant.asked);
     }
 
@@ -78,22 +78,34 @@ returns-clause-bytes g c = λ bytes known.
     let n = came i.0 i.2 in
     (n.0, n.1, (i.1, i.3, behind_all c.args.script.now c.loop-line.script bytes i.0 i.1 None n.0 i.4 n.2))
 
-pub returns-in_err-line-clause-failures : goal.returns-in_err-line-clause-failures
-returns-in_err-line-clause-failures g c =
+pub returns-in_err-line-clause-reading : goal.returns-in_err-line-clause-reading
+returns-in_err-line-clause-reading g c =
     let p = err_from_is_err_and c.from_residual.result c.from_residual.ensures.1 in
-    record {
-      read_failed = rw (p.1, p.2) (omega (arith, c.in_err-line.ensures.failures.read_failed, c.loop-line.invariant.read_failed));
-      write_failed = rw (p.1, p.2) (omega (arith, c.in_err-line.ensures.failures.write_failed, c.loop-line.invariant.write_failed));
-    }
+    rw (p.1, p.2) (record {
+      fault = inl c.in_err-line.ensures.reading.fault;
+      failures = record {
+        read_failed = omega (arith, c.in_err-line.ensures.reading.failures.read_failed, c.loop-line.invariant.read_failed);
+        write_failed = omega (arith, c.in_err-line.ensures.reading.failures.write_failed, c.loop-line.invariant.write_failed);
+      };
+      taken = keeps_then (g.K.Sink.taken c.args.sink.now) (g.K.Sink.taken c.loop-line.sink) (g.K.Sink.taken c.next.new.sink) c.loop-line.invariant.taken c.in_err-line.ensures.reading.taken;
+    })
 
-pub returns-then-is_err-clause-failures : goal.returns-then-is_err-clause-failures
-returns-then-is_err-clause-failures g c = record {
-  read_failed = omega (arith, c.in_ok-line.ensures.failures.read_failed, c.loop-line.invariant.read_failed);
-  write_failed = omega (arith, c.in_ok-line.ensures.failures.write_failed, c.loop-line.invariant.write_failed);
+pub returns-then-is_err-clause-reading : goal.returns-then-is_err-clause-reading
+returns-then-is_err-clause-reading g c = record {
+  fault = inr refl;
+  failures = record {
+    read_failed = omega (arith, c.in_ok-line.ensures.reading.failures.read_failed, c.loop-line.invariant.read_failed);
+    write_failed = omega (arith, c.in_ok-line.ensures.reading.failures.write_failed, c.loop-line.invariant.write_failed);
+  };
+  taken = keeps_then (g.K.Sink.taken c.args.sink.now) (g.K.Sink.taken c.loop-line.sink) (g.K.Sink.taken c.next.new.sink) c.loop-line.invariant.taken c.in_ok-line.ensures.reading.taken;
 }
 
-pub returns-clause-failures : goal.returns-clause-failures
-returns-clause-failures g c = record {
-  read_failed = omega (arith, c.in_ok-line.ensures.failures.read_failed, c.loop-line.invariant.read_failed);
-  write_failed = omega (arith, c.in_ok-line.ensures.failures.write_failed, c.loop-line.invariant.write_failed);
+pub returns-clause-reading : goal.returns-clause-reading
+returns-clause-reading g c = record {
+  fault = tt;
+  failures = record {
+    read_failed = omega (arith, c.in_ok-line.ensures.reading.failures.read_failed, c.loop-line.invariant.read_failed);
+    write_failed = omega (arith, c.in_ok-line.ensures.reading.failures.write_failed, c.loop-line.invariant.write_failed);
+  };
+  taken = keeps_then (g.K.Sink.taken c.args.sink.now) (g.K.Sink.taken c.loop-line.sink) (g.K.Sink.taken c.next.new.sink) c.loop-line.invariant.taken c.in_ok-line.ensures.reading.taken;
 }

@@ -1,9 +1,10 @@
-use Rattle.std.proofs.Common.{◌++◌, [], ◌∷◌, refl, ap, ◌∙◌, sym, subst, arith, Some, None, List}
+use Rattle.std.proofs.Common.{◌++◌, [], ◌∷◌, inr, refl, ap, ◌∙◌, sym, subst, arith, Some, None, List}
 use Rattle.std.proofs.lemmas.Result.{err_from_is_err_and}
 use Rattle.tg_text.specs.declared.line.Line.{Line}
 use Rattle.tg_text.specs.declared.fault.ScriptFault.TheVariants as fault
 use Rattle.tg_text.specs.Reading.{ReadsScript}
 use Rattle.tg_script.specs.Opening.{edge_lines}
+use Rattle.tg_script.proofs.LinesLaws.{keeps_then}
 use Rattle.tg_script.proofs.OpeningLaws.{pushed}
 use Rattle.tg_script.proofs.RanLaws.{IsFresh}
 use Rattle.tg_script.proofs.WholeLaws.{edges_whole, only_edges, behind_first_line}
@@ -52,32 +53,45 @@ returns-clause-bytes g c = λ bytes known.
           (behind_first_line c.new-script.result c.read_edges.new.script c.args.workers bytes n.0 edges c.in-Some.first m.2.0 None m.0 fresh n.2 m.2.2),
     )
 
-pub returns-in_err-edges-clause-failures : goal.returns-in_err-edges-clause-failures
-returns-in_err-edges-clause-failures g c =
+pub returns-in_err-edges-clause-reading : goal.returns-in_err-edges-clause-reading
+returns-in_err-edges-clause-reading g c =
     let p = err_from_is_err_and c.from_residual.result c.from_residual.ensures.1 in
-    rw (p.1, p.2) c.in_err-edges.ensures.failures
+    let reading = c.in_err-edges.ensures.reading in
+    rw (p.1, p.2) (record { fault = reading.fault; failures = reading.failures; taken = reading.taken })
 
-pub returns-in_default-clause-failures : goal.returns-in_default-clause-failures
-returns-in_default-clause-failures g c = c.in_ok-edges.ensures.failures
+pub returns-in_default-clause-reading : goal.returns-in_default-clause-reading
+returns-in_default-clause-reading g c =
+    let reading = c.in_ok-edges.ensures.reading in
+    record { fault = tt; failures = reading.failures; taken = reading.taken }
 
-pub returns-then-is_err-clause-failures : goal.returns-then-is_err-clause-failures
-returns-then-is_err-clause-failures g c = c.in_ok-edges.ensures.failures
+pub returns-then-is_err-clause-reading : goal.returns-then-is_err-clause-reading
+returns-then-is_err-clause-reading g c =
+    let reading = c.in_ok-edges.ensures.reading in
+    record { fault = inr refl; failures = reading.failures; taken = reading.taken }
 
-pub returns-in_err-read_commands-clause-failures : goal.returns-in_err-read_commands-clause-failures
-returns-in_err-read_commands-clause-failures g c =
+pub returns-in_err-read_commands-clause-reading : goal.returns-in_err-read_commands-clause-reading
+returns-in_err-read_commands-clause-reading g c =
     let p = err_from_is_err_and c.from_residual-in_err-read_commands.result c.from_residual-in_err-read_commands.ensures.1 in
-    let first = c.in_ok-edges.ensures.failures in
-    let last = c.in_err-read_commands.ensures.failures in
-    record {
-      read_failed = rw (p.1, p.2) (omega (arith, last.read_failed, first.read_failed));
-      write_failed = rw (p.1, p.2) (omega (arith, last.write_failed, first.write_failed));
-    }
+    let first = c.in_ok-edges.ensures.reading in
+    let last = c.in_err-read_commands.ensures.reading in
+    rw (p.1, p.2) (record {
+      fault = last.fault;
+      failures = record {
+        read_failed = omega (arith, last.failures.read_failed, first.failures.read_failed);
+        write_failed = omega (arith, last.failures.write_failed, first.failures.write_failed);
+      };
+      taken = keeps_then (g.K.Sink.taken c.args.sink.now) (g.K.Sink.taken c.read_edges.new.sink) (g.K.Sink.taken c.read_commands.new.sink) first.taken last.taken;
+    })
 
-pub returns-clause-failures : goal.returns-clause-failures
-returns-clause-failures g c =
-    let first = c.in_ok-edges.ensures.failures in
-    let last = c.in_ok-read_commands.ensures.failures in
+pub returns-clause-reading : goal.returns-clause-reading
+returns-clause-reading g c =
+    let first = c.in_ok-edges.ensures.reading in
+    let last = c.in_ok-read_commands.ensures.reading in
     record {
-      read_failed = omega (arith, last.read_failed, first.read_failed);
-      write_failed = omega (arith, last.write_failed, first.write_failed);
+      fault = tt;
+      failures = record {
+        read_failed = omega (arith, last.failures.read_failed, first.failures.read_failed);
+        write_failed = omega (arith, last.failures.write_failed, first.failures.write_failed);
+      };
+      taken = keeps_then (g.K.Sink.taken c.args.sink.now) (g.K.Sink.taken c.read_edges.new.sink) (g.K.Sink.taken c.read_commands.new.sink) first.taken last.taken;
     }

@@ -1,4 +1,4 @@
-use Rattle.std.proofs.Common.{◌∙◌, List, subst, sym}
+use Rattle.std.proofs.Common.{◌∙◌, List, subst, sym, arith}
 use Rattle.std.proofs.lemmas.Result.{err_from_is_err_and}
 use Rattle.std.specs.List.{All}
 use Rattle.tg_text.specs.declared.line.Line.{Line}
@@ -17,7 +17,7 @@ returns-clause-output g c = λ bytes before known taken.
     let lines = whole.0 in
     let store = c.in_ok-raced.raced.store in
     let ts = c.in_ok-raced.raced.told.items in
-    let came = c.in_ok-raced.ensures.raced in
+    let came = c.in_ok-raced.ensures.run.raced in
     let same = raced_same start.helpers c.in_ok-opened.opened.store.opening.workers start.workers start.stock c.as_slice.result.now (commands_of lines) store.entries ts
     c.in_ok-opened.ensures.new.0 (c.as_slice.ensures.value ∙ whole.2) came.1 in (
       opens.0,
@@ -36,5 +36,8 @@ returns-in_err-opened-clause-due g c =
     let given = err_from_is_err_and c.from_residual.result c.from_residual.ensures.1 in
     rw (given.1, given.2) (c.in_err-opened.ensures.due c.args.stock.items)
 
-pub run_lines-requires-clause-commands : goal.run_lines-requires-clause-commands
-run_lines-requires-clause-commands g c κs within = subst (λ (lines : List Line). All IsCommand lines) (sym c.as_slice.ensures.value) c.in_ok-opened.ensures.commands
+pub run_lines-requires-clause-raceable : goal.run_lines-requires-clause-raceable
+run_lines-requires-clause-raceable g c κs within = record {
+  new = (omega (arith, c.in_ok-opened.ensures.new.0, c.requires.startable.number.0), c.in_ok-opened.ensures.new.1);
+  commands = subst (λ (lines : List Line). All IsCommand lines) (sym c.as_slice.ensures.value) c.in_ok-opened.ensures.commands;
+}

@@ -18,18 +18,18 @@ returns-clause-raced g c =
           ));
       due = (ended_due start c.race-outcome.result c.finish.result (s.taken c.race-outcome.new.sink) (s.taken c.finish.new.sink) (s.failures c.race-outcome.new.sink) (s.failures c.finish.new.sink)
           c.race-outcome.ensures.due c.finish.ensures.outcome);
-      asked = c.race-outcome.ensures.asked;
-      read_failed = c.race-outcome.ensures.read_failed ∙ ap (λ n. g.S.Source.failures c.args.source.now + n) (sym same);
+      asked = c.race-outcome.ensures.counts.asked;
+      read_failed = c.race-outcome.ensures.counts.read_failed ∙ ap (λ n. g.S.Source.failures c.args.source.now + n) (sym same);
     }
 
-pub returns-clause-write_failed : goal.returns-clause-write_failed
-returns-clause-write_failed g c =
+pub returns-clause-finish : goal.returns-clause-finish
+returns-clause-finish g c =
     let s = g.K.Sink in
-    ended_write c.race-outcome.result c.finish.result (s.taken c.race-outcome.new.sink) (s.taken c.finish.new.sink) (s.failures c.args.sink.now) (s.failures c.race-outcome.new.sink) (s.failures c.finish.new.sink)
-    c.finish.ensures.outcome c.race-outcome.ensures.write_failed
-
-pub returns-clause-unfailed : goal.returns-clause-unfailed
-returns-clause-unfailed g c =
-    let s = g.K.Sink in
-    ended_unfailed c.race-outcome.result c.finish.result (s.taken c.race-outcome.new.sink) (s.taken c.finish.new.sink) (s.failures c.args.sink.now) (s.failures c.race-outcome.new.sink) (s.failures c.finish.new.sink)
-    c.finish.ensures.outcome c.race-outcome.ensures.write_failed
+    let had = c.race-outcome.ensures.counts.write_failed in
+    record {
+      write_failed = ended_write c.race-outcome.result c.finish.result (s.taken c.race-outcome.new.sink) (s.taken c.finish.new.sink)
+          (s.failures c.args.sink.now) (s.failures c.race-outcome.new.sink) (s.failures c.finish.new.sink) c.finish.ensures.outcome had;
+      unfailed = ended_unfailed c.race-outcome.result c.finish.result (s.taken c.race-outcome.new.sink) (s.taken c.finish.new.sink)
+          (s.failures c.args.sink.now) (s.failures c.race-outcome.new.sink) (s.failures c.finish.new.sink) c.finish.ensures.outcome had;
+      finished = c.finish.ensures.finished;
+    }

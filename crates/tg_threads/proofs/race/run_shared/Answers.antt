@@ -9,7 +9,7 @@ use Rattle.tg_threads.proofs.race.run_shared.Goals as goal
 
 pub share_out-requires : goal.share_out-requires
 share_out-requires g c =
-    omega (arith, fresh_length g.L.Round.start.opening.workers c.args.shared.sessions.items c.requires.fresh, c.requires.new.0)
+    omega (arith, fresh_length g.L.Round.start.opening.workers c.args.shared.sessions.items c.requires.fresh, c.requires.raceable.new.0)
 
 pub run_threads-requires-clause-fresh : goal.run_threads-requires-clause-fresh
 run_threads-requires-clause-fresh g c = λ lifetimes outlive.
@@ -22,7 +22,7 @@ in_script_order-requires-clause-workers g c =
     let bs = boxed c.args.stock.items c.args.lines.now in
     let all = c.in_ok-finished.finished.items in
     let bring = all_brought c.args.helpers workers bs c.in_ok-works.works.items sessions all c.requires.fresh c.in_ok-works.ensures.sessions c.in_ok-works.ensures.lines c.in_ok-finished.ensures in
-    subst (λ fs. 0 < length fs) (sym c.as_slice.ensures.value) (omega (arith, brought_by_each c.args.helpers workers bs all bring, c.requires.new.0))
+    subst (λ fs. 0 < length fs) (sym c.as_slice.ensures.value) (omega (arith, brought_by_each c.args.helpers workers bs all bring, c.requires.raceable.new.0))
 
 pub in_script_order-requires-clause-whole : goal.in_script_order-requires-clause-whole
 in_script_order-requires-clause-whole g c =
@@ -33,8 +33,8 @@ in_script_order-requires-clause-whole g c =
     let bring = all_brought c.args.helpers workers bs c.in_ok-works.works.items sessions all c.requires.fresh c.in_ok-works.ensures.sessions c.in_ok-works.ensures.lines c.in_ok-finished.ensures in
     brought_whole c.args.helpers workers c.args.stock.items c.args.lines.now all c.as_slice.result.now c.as_slice.ensures.value bring
 
-pub returns-clause-raced : goal.returns-clause-raced
-returns-clause-raced g c =
+pub returns : goal.returns
+returns g c =
     let workers = g.L.Round.start.opening.workers in
     let sessions = c.args.shared.sessions.items in
     let stock = c.args.stock.items in
@@ -46,8 +46,14 @@ returns-clause-raced g c =
     let bring = all_brought c.args.helpers workers bs c.in_ok-works.works.items sessions all c.requires.fresh c.in_ok-works.ensures.sessions c.in_ok-works.ensures.lines c.in_ok-finished.ensures in
     let order = brought_in_order workers lines all c.as_slice.result.now ts c.as_slice.ensures.value (brought_by_each c.args.helpers workers bs all bring) c.in_ok-told.ensures in
     let closes : List SessionState → Type 0 = λ ss. MayClose entries 0 ss in
-    let shared : List SessionState → Type 0 = λ ss. AreSharedOut entries ss in (
-      c.in_ok-store.ensures.opening,
-      raced c.args.helpers workers 0 stock lines all ts entries (omega (arith, c.requires.new.0)) c.requires.commands bring order
-          (subst closes c.in_ok-sessions.ensures c.in_ok-store.ensures.matching) (subst shared c.in_ok-sessions.ensures c.in_ok-store.ensures.shared_out),
-    )
+    let shared : List SessionState → Type 0 = λ ss. AreSharedOut entries ss in
+    record {
+      run = record {
+        raced = (
+          c.in_ok-store.ensures.opening,
+          raced c.args.helpers workers 0 stock lines all ts entries (omega (arith, c.requires.raceable.new.0)) c.requires.raceable.commands bring order
+              (subst closes c.in_ok-sessions.ensures c.in_ok-store.ensures.matching) (subst shared c.in_ok-sessions.ensures c.in_ok-store.ensures.shared_out),
+        );
+        fault = tt;
+      };
+    }

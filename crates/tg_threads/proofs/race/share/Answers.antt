@@ -10,4 +10,4 @@ run_shared-requires-clause-fresh g c = λ lifetimes outlive.
     let start = start_of c.args.store.opening in
     let sessions = c.in_ok-shared.shared.sessions.items in
     subst (λ n. AreFresh (range_with_len 0 n) sessions) (ap (λ (s : SharedStart). s.opening.workers) c.requires.shareable.start)
-    (c.in_ok-shared.ensures.sessions start (ap (λ es. graph_after start es) c.requires.new.1))
+    (c.in_ok-shared.ensures.sessions start (ap (λ es. graph_after start es) c.requires.raceable.new.1))

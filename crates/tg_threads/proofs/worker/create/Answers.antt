@@ -1,4 +1,4 @@
-use Rattle.std.proofs.Common.{Option, sym, subst}
+use Rattle.std.proofs.Common.{Option, rules, sym, subst}
 use Rattle.std.specs.Prelude.{IfOk}
 use Rattle.tg_model.specs.declared.value.Value.{Value}
 use Rattle.tg_script.specs.Script.{create_of}
@@ -6,10 +6,15 @@ use Rattle.tg_threads.specs.Tasks.{HasMade}
 use Rattle.tg_threads.proofs.RunLaws.{not_made_asked}
 use Rattle.tg_threads.proofs.worker.create.Goals as goal
 
-pub returns-in-Err-clause-asked : goal.returns-in-Err-clause-asked
-returns-in-Err-clause-asked g c =
+pub returns-in-Err : goal.returns-in-Err
+returns-in-Err g c =
     let old = c.args.session.now in
     let new = c.create.new.self in
-    subst (λ (box : Option Value). IfOk c.not_made.result (λ t. HasMade (create_of c.args.label) box t old new)) (sym c.in-Some.is)
-    (not_made_asked g.L.Round.start (create_of c.args.label c.in-Some.draft) c.in-Err.refused.why c.not_made.result old new tt c.not_made.ensures.fault c.in-Err.ensures.refusals.full (λ w. absurd (c.in-Err.ensures.no_workers_full w)) (λ other more. c.in-Err.ensures.refused other)
-    c.not_made.ensures.refused c.not_made.ensures.entered)
+    record {
+      told = record {
+        asked = subst (λ (box : Option Value). IfOk c.not_made.result (λ t. HasMade (create_of c.args.label) box t old new)) (sym c.in-Some.is)
+            (not_made_asked g.L.Round.start (create_of c.args.label c.in-Some.draft) c.in-Err.refused.why c.not_made.result old new tt c.not_made.ensures.fault c.in-Err.ensures.refusals.full (λ w. absurd (c.in-Err.ensures.no_workers_full w)) (λ other more. c.in-Err.ensures.refused other)
+            c.not_made.ensures.refused c.not_made.ensures.entered);
+        gone = search rules;
+      };
+    }

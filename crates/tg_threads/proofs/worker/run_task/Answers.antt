@@ -26,7 +26,7 @@ returns-in-Plain-clause-run g c = λ workers before is by.
     (λ t asked.
     let P : Line → Type 0 = λ l. HasRun c.args.helpers before (record { line = l; value = box }) t old new in
     subst P (sym c.in-Plain.is) (asked_runs c.args.helpers workers c.in-Plain.worker before c.in-Plain.command box t old new (is ∙ served) (subst Q c.in-Plain.is by) asked))
-    c.apply.ensures.asked
+    c.apply.ensures.told.asked
 
 pub returns-in-Create-clause-run : goal.returns-in-Create-clause-run
 returns-in-Create-clause-run g c = λ workers before is by.
@@ -40,7 +40,7 @@ returns-in-Create-clause-run g c = λ workers before is by.
     (λ t made.
     let P : Line → Type 0 = λ l. HasRun c.args.helpers before (record { line = l; value = box }) t old new in
     subst P (sym c.in-Create.is) (made_runs c.args.helpers workers c.in-Create.worker before b (create_of c.in-Create.label) t old new (is ∙ served) (subst Q c.in-Create.is by) (λ e a told. told) made))
-    c.create.ensures.asked
+    c.create.ensures.told.asked
 
 pub returns-in-Spawn-clause-run : goal.returns-in-Spawn-clause-run
 returns-in-Spawn-clause-run g c = λ workers before is by.
@@ -54,4 +54,4 @@ returns-in-Spawn-clause-run g c = λ workers before is by.
     (λ t made.
     let P : Line → Type 0 = λ l. HasRun c.args.helpers before (record { line = l; value = box }) t old new in
     subst P (sym c.in-Spawn.is) (made_runs c.args.helpers workers c.in-Spawn.worker before b (spawn_of c.in-Spawn.label) t old new (is ∙ served) (subst Q c.in-Spawn.is by) (λ e a told. told) made))
-    c.spawn.ensures.asked
+    c.spawn.ensures.told.asked

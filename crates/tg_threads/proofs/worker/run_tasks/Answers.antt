@@ -50,8 +50,8 @@ loop-task-preserved g c =
     let x = c.args.session.worker in
     record {
       left = left;
-      none = c.run_task.ensures.none c.loop-task.invariant.none;
-      room = room_left (may_make_subject c.in-Some.task) c.in-Some.task c.next.new.self.rest.items c.loop-task.task-iterator.rest.items _ _ _ _ refl c.in-Some.ensures.steps.0 c.loop-task.invariant.room c.run_task.ensures.fits c.run_task.ensures.kept;
+      none = c.run_task.ensures.spawned.none c.loop-task.invariant.none;
+      room = room_left (may_make_subject c.in-Some.task) c.in-Some.task c.next.new.self.rest.items c.loop-task.task-iterator.rest.items _ _ _ _ refl c.in-Some.ensures.steps.0 c.loop-task.invariant.room c.run_task.ensures.fits c.run_task.ensures.spawned.kept;
       runs = λ low all.
           let workers = g.L.Round.start.opening.workers in
           let asked : c.worker-in-loop-task.result ≡ c.run_task.new.session.worker = c.worker-in-loop-task.ensures in
@@ -63,10 +63,15 @@ loop-task-preserved g c =
           subst Q (sym c.in_ok-push.ensures.items) (subst P (sym (map_push boxed_of c.loop-task.yielded c.in-Some.task)) more);
     }
 
-pub returns-clause-brought : goal.returns-clause-brought
-returns-clause-brought g c =
+pub returns : goal.returns
+returns g c =
     let all : c.loop-task.yielded ≡ c.args.tasks.items = grind (arith, common_steps, append-nil, c.loop-task.invariant.left, c.in-None.ensures) in
-    λ low by.
-    let workers = g.L.Round.start.opening.workers in
-    let i = c.loop-task.invariant.runs low by in
-    (i.worker, subst (λ (ts : List (Task _)). Runs c.args.helpers (has_thread workers) (map boxed_of ts) c.loop-task.told.items c.loop-task.session.receipts) all i.runs, c.loop-task.invariant.none)
+    record {
+      ran = record {
+        brought = λ low by.
+            let workers = g.L.Round.start.opening.workers in
+            let i = c.loop-task.invariant.runs low by in
+            (i.worker, subst (λ (ts : List (Task _)). Runs c.args.helpers (has_thread workers) (map boxed_of ts) c.loop-task.told.items c.loop-task.session.receipts) all i.runs, c.loop-task.invariant.none);
+        fault = tt;
+      };
+    }

@@ -39,7 +39,7 @@ invariant_of-self-2 g c =
 
 pub note-requires : goal.note-requires
 note-requires g c = record {
-  room = subst (λ (n : ℕ). 0 < n) (sym c.take_copy-state.ensures.spare) c.requires.room;
+  room = subst (λ (n : ℕ). 0 < n) (sym c.take_copy-state.ensures.spare) c.requires.notable.room;
   own = c.worker-worker.ensures ∙ sym c.take_copy-state.ensures.receipts.0;
 }
 

@@ -36,7 +36,7 @@ pub invariant_of-self-in_err-reply : goal.invariant_of-self-in_err-reply
 invariant_of-self-in_err-reply g c =
     let old : StoreState = record { opening = c.self.inside.opening; entries = c.self.inside.journal.entries; heap = c.self.inside.heap } in
     let new : StoreState = record { opening = c.self.inside.opening; entries = c.reserve.new.self.entries; heap = c.answer_command.new.heap } in
-    let unchanged : IsUnchanged old new = record { opening = refl; entries = c.reserve.ensures.entries; heap = c.in_err-reply.ensures.kept.refused } in
+    let unchanged : IsUnchanged old new = record { opening = refl; entries = c.reserve.ensures.entries; heap = c.in_err-reply.ensures.answered.kept.refused } in
     IsStore-unchanged old new c.self.inside.made c.self.invariant unchanged
 
 pub returns-in_err-reply-clause-no_such_worker : goal.returns-in_err-reply-clause-no_such_worker
@@ -47,7 +47,7 @@ returns-in_err-reply-clause-no_such_worker g c =
     let given = err_from_is_err_and c.from_residual-in_err-reply.result c.from_residual-in_err-reply.ensures.1 in
     λ graph stands.
     let here : StandsFor old graph = ap graph_of_store c.self.view_is ∙ stands in
-    (λ same _. c.in_err-reply.ensures.kept.worker (cc (same, given.1, given.2)), λ none. absurd (none (subject_here old c.self.invariant.faithful graph c.args.worker here active)))
+    (λ same _. c.in_err-reply.ensures.answered.kept.worker (cc (same, given.1, given.2)), λ none. absurd (none (subject_here old c.self.invariant.faithful graph c.args.worker here active)))
 
 pub returns-in_err-reply-clause-full : goal.returns-in_err-reply-clause-full
 returns-in_err-reply-clause-full g c =
@@ -83,10 +83,10 @@ invariant_of-self-2 g c =
     let entry : Enters old new c.args.worker (Plain c.args.command) copy =
     c.push.ensures.entries ∙ ap (λ es. es ++ (record { worker = c.args.worker; deed = Plain c.args.command; reply = copy }) ∷ []) c.reserve.ensures.entries in
     IsStore-entered old new c.args.worker (Plain c.args.command) copy refl entry c.self.inside.made c.self.invariant.faithful subject tt
-    (c.in_ok-reply.ensures.replied.copy ∙ c.in_ok-reply.ensures.replied.reply graph stands (subst (λ (x : ℕ). IsSubject graph x) (sym named) subject) ∙ ap (λ (x : ℕ). answer_of graph x (Plain c.args.command)) named)
-    (subst (λ (x : ℕ). IsContentOf (content_of new.heap) (step graph x (Plain c.args.command))) named (c.in_ok-reply.ensures.replied.step graph stands (subst (λ (x : ℕ). IsSubject graph x) (sym named) subject)))
+    (c.in_ok-reply.ensures.answered.replied.copy ∙ c.in_ok-reply.ensures.answered.replied.reply graph stands (subst (λ (x : ℕ). IsSubject graph x) (sym named) subject) ∙ ap (λ (x : ℕ). answer_of graph x (Plain c.args.command)) named)
+    (subst (λ (x : ℕ). IsContentOf (content_of new.heap) (step graph x (Plain c.args.command))) named (c.in_ok-reply.ensures.answered.replied.step graph stands (subst (λ (x : ℕ). IsSubject graph x) (sym named) subject)))
     (subst (λ (x : ℕ). subject_names new.heap ≡ (step graph x (Plain c.args.command)).subjects) named
-    (c.in_ok-reply.ensures.replied.subjects graph stands (subst (λ (x : ℕ). IsSubject graph x) (sym named) subject) c.self.invariant.faithful.subjects))
+    (c.in_ok-reply.ensures.answered.replied.subjects graph stands (subst (λ (x : ℕ). IsSubject graph x) (sym named) subject) c.self.invariant.faithful.subjects))
     (c.self.invariant.is_made ∙ sym (made-plain graph c.args.worker c.args.command))
 
 pub returns-clause-reply : goal.returns-clause-reply
@@ -98,7 +98,7 @@ returns-clause-reply g c =
     let subject : IsSubject graph c.args.worker = subject_here old c.self.invariant.faithful graph c.args.worker refl active in
     λ other stands.
     let here : StandsFor old other = ap graph_of_store c.self.view_is ∙ stands in
-    c.in_ok-reply.ensures.replied.reply graph c.self.invariant.faithful.stands (subst (λ (x : ℕ). IsSubject graph x) (sym named) subject)
+    c.in_ok-reply.ensures.answered.replied.reply graph c.self.invariant.faithful.stands (subst (λ (x : ℕ). IsSubject graph x) (sym named) subject)
     ∙ ap (λ (x : ℕ). answer_of graph x (Plain c.args.command)) named ∙ ap (λ h. answer_of h c.args.worker (Plain c.args.command)) here
 
 pub returns-clause-step : goal.returns-clause-step
@@ -123,8 +123,8 @@ returns-clause-denied g c =
     let stands = c.self.invariant.faithful.stands in
     λ denial same.
     let is : c.in_ok-reply.field-0.reply ≡ Denied denial = cc same in
-    let denied = denial-answered (content_of old.heap) graph c.args.worker c.args.command denial stands subject (sym is ∙ c.in_ok-reply.ensures.replied.reply graph stands (subst (λ (x : ℕ). IsSubject graph x) (sym named) subject) ∙ ap (λ (x : ℕ). answer_of graph x (Plain c.args.command)) named) in
-    let copy : c.in_ok-reply.field-0.copy ≡ Denied denial = c.in_ok-reply.ensures.replied.copy ∙ is in
+    let denied = denial-answered (content_of old.heap) graph c.args.worker c.args.command denial stands subject (sym is ∙ c.in_ok-reply.ensures.answered.replied.reply graph stands (subst (λ (x : ℕ). IsSubject graph x) (sym named) subject) ∙ ap (λ (x : ℕ). answer_of graph x (Plain c.args.command)) named) in
+    let copy : c.in_ok-reply.field-0.copy ≡ Denied denial = c.in_ok-reply.ensures.answered.replied.copy ∙ is in
     let entry : Enters old new c.args.worker (Plain c.args.command) (Denied denial) =
     c.push.ensures.entries ∙ ap (λ es. es ++ (record { worker = c.args.worker; deed = Plain c.args.command; reply = c.in_ok-reply.field-0.copy }) ∷ []) c.reserve.ensures.entries
     ∙ ap (λ (r : Reply). old.entries ++ (record { worker = c.args.worker; deed = Plain c.args.command; reply = r }) ∷ []) copy in
@@ -198,7 +198,7 @@ pub returns-in_err-reply-clause-opening : goal.returns-in_err-reply-clause-openi
 returns-in_err-reply-clause-opening g c = ap (λ (s : StoreState). s.opening) c.self.view_is
 
 pub returns-in_err-reply-clause-limits : goal.returns-in_err-reply-clause-limits
-returns-in_err-reply-clause-limits g c = c.answer_command.ensures.kept.limits ∙ ap (λ (s : StoreState). s.heap.table.limits) c.self.view_is
+returns-in_err-reply-clause-limits g c = c.answer_command.ensures.answered.kept.limits ∙ ap (λ (s : StoreState). s.heap.table.limits) c.self.view_is
 
 pub returns-clause-full : goal.returns-clause-full
 returns-clause-full g c = λ _ _ e. let f : ⊥ = cc e in absurd f
@@ -210,4 +210,4 @@ pub returns-clause-opening : goal.returns-clause-opening
 returns-clause-opening g c = ap (λ (s : StoreState). s.opening) c.self.view_is
 
 pub returns-clause-limits : goal.returns-clause-limits
-returns-clause-limits g c = c.answer_command.ensures.kept.limits ∙ ap (λ (s : StoreState). s.heap.table.limits) c.self.view_is
+returns-clause-limits g c = c.answer_command.ensures.answered.kept.limits ∙ ap (λ (s : StoreState). s.heap.table.limits) c.self.view_is
