@@ -240,6 +240,7 @@ impl<P: Payload> Cells<P> {
     }
 
     /// Puts an object with a name that none has into the next cell of a nursery. There is room for it.
+    #[inline(always)]
     pub(crate) fn place_vertex(&mut self, nursery: u64, name: u64, draft: Draft<P>) -> Place
         requires few { nursery < MAX_NURSERIES }
         requires nursery { nursery_space nursery < length self.old.spaces.spaces }

@@ -83,6 +83,7 @@ impl LongRows {
 
     /// Where the index of the row of the vertex with a name stands then, among those of rows that may have young cells, if it has
     /// one. Takes no memory.
+    #[inline(always)]
     pub(crate) fn young_place(&mut self, name: u64) -> Option<usize>
         ensures young { IfSome result (λ at. self.new.old_rows ≤ at) }
         ensures there { IfSome result (HasIndexAt self.new.entries name) }

@@ -12,6 +12,7 @@ use tg_word::{Place, Slot, nursery_space, pack, place_of, rights_of};
 
 /// Puts rights over the object at a place where they go in a row: the reference gets them too, or else the empty place
 /// gets a reference with them, or else a new chunk from a nursery, which has a cell left for it.
+#[inline(always)]
 pub(crate) fn put(spaces: &mut Spaces, nursery: u64, spot: Spot, to: Place, rights: Rights)
     requires { CanPutRights spaces.old nursery spot to }
     ensures { spaces.new ≡ table_put spaces.old (nursery_space nursery) spot rights to }

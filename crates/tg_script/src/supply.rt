@@ -30,10 +30,10 @@ impl<P: Payload> Supply<P> {
         ensures empty { IfNone result (values_left self.old ≡ []) }
         ensures room { self.new.front ≡ None }
     {
-        match self.front.take() {
-            Some(draft) => Some(draft),
-            None => take_last(&mut self.rest),
+        if self.front.is_none() {
+            return take_last(&mut self.rest);
         }
+        self.front.take()
     }
 
     /// Puts a payload that was taken back in front.
