@@ -16,13 +16,10 @@ pub overflow_add-self : goal.overflow_add-self
 overflow_add-self c = omega (arith, few_chunks _ _ (parts_of _ _ c.self.invariant.1.rule), c.self.invariant.0)
 
 pub invariant_of-self-2 : goal.invariant_of-self-2
-invariant_of-self-2 c =
-    kept_on _ c.args.self.now _ c.args.helper Claim c.self.view_is c.self.invariant c.requires
-    (claim_is _ _ c.args.helper c.index_mut.result.now _ c.self.view_is c.requires c.index_mut.ensures.value c.in_ok-push_back.ensures.items)
+invariant_of-self-2 c = kept_on _ c.args.self.now _ c.args.helper Claim c.self.view_is c.self.invariant c.requires (claim_is _ _ c.args.helper c.index_mut.result.now _ c.self.view_is c.requires c.index_mut.ensures.value c.in_ok-push_back.ensures.items)
 
 pub returns-in_err-push_back : goal.returns-in_err-push_back
-returns-in_err-push_back c =
-    MatchResult-from_err c.from_residual.result _ _ c.from_residual.ensures.0
+returns-in_err-push_back c = MatchResult-from_err c.from_residual.result _ _ c.from_residual.ensures.0
     (λ _. put_back _ c.args.helper c.index_mut.result.now _ c.index_mut.ensures.value (ap (λ (l : List ℕ). record c.index_mut.result.now { chunks = l }) c.in_err-push_back.ensures.items) ∙ c.self.view_is)
 
 pub returns : goal.returns

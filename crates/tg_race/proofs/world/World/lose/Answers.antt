@@ -17,8 +17,7 @@ pub invariant_of-self : goal.invariant_of-self
 invariant_of-self c = kept_back _ _ c.args.helper c.index_mut.result.now _ c.self.view_is c.index_mut.ensures.value (ap (λ (l : List (ℕ × Place)). record c.index_mut.result.now { seen = l }) c.in_err-push_back.ensures.items) c.self.invariant
 
 pub returns-in_err-push_back : goal.returns-in_err-push_back
-returns-in_err-push_back c =
-    MatchResult-from_err c.from_residual.result _ _ c.from_residual.ensures.0
+returns-in_err-push_back c = MatchResult-from_err c.from_residual.result _ _ c.from_residual.ensures.0
     (λ _. put_back _ c.args.helper c.index_mut.result.now _ c.index_mut.ensures.value (ap (λ (l : List (ℕ × Place)). record c.index_mut.result.now { seen = l }) c.in_err-push_back.ensures.items) ∙ c.self.view_is)
 
 pub invariant_of-self-2 : goal.invariant_of-self-2
