@@ -108,8 +108,7 @@ returns-in-Some-met-clause-refusals g c =
     }
 
 pub add_vertex-requires-clause-fresh : goal.add_vertex-requires-clause-fresh
-add_vertex-requires-clause-fresh g c =
-    making.fresh _ c.self.inside.made c.self.invariant c.args.worker (c.in-Some.ensures.active.0 refl) c.args.kind c.args.label c.args.draft
+add_vertex-requires-clause-fresh g c = making.fresh _ c.self.inside.made c.self.invariant c.args.worker (c.in-Some.ensures.active.0 refl) c.args.kind c.args.label c.args.draft
 
 pub invariant_of-self-in_err-add_vertex : goal.invariant_of-self-in_err-add_vertex
 invariant_of-self-in_err-add_vertex g c =
@@ -299,8 +298,7 @@ returns-clause-crowded g c =
     let few = subst (λ (h : ProtectionGraph). length h.subjects < MAX_WORKERS) here (room.1 is) in absurd (omega (arith, few, many))
 
 pub add_vertex-requires-clause-above : goal.add_vertex-requires-clause-above
-add_vertex-requires-clause-above g c =
-    making.above _ c.self.inside.made c.self.invariant c.args.worker (c.in-Some.ensures.active.0 refl) c.args.kind c.args.label c.args.draft
+add_vertex-requires-clause-above g c = making.above _ c.self.inside.made c.self.invariant c.args.worker (c.in-Some.ensures.active.0 refl) c.args.kind c.args.label c.args.draft
 
 pub add_vertex-requires-clause-few : goal.add_vertex-requires-clause-few
 add_vertex-requires-clause-few g c =
