@@ -1,44 +1,18 @@
 //! Payloads that a store lends to those who may read them.
-ghost use Rattle.std.specs.Prelude.{◌∷◌, []};
-ghost use Rattle.tg_model.specs.declared.law.Law.TheVariants.{Cell};
 
-use std::alloc::{AllocError, Global};
+use crate::cell_with::CellWith;
+use std::alloc::Global;
 use std::test::Fail;
-use tg_model::{Command, Law, Opening};
+use tg_model::{Command, Opening};
 use tg_payload::{Draft, Payload, values_of};
 use tg_rights::Label;
 use tg_store::{Kind, Limits, Store};
 
 // A cell with a tag, which no command can read.
-#[derive(Drop)]
-struct Tagged {
-    number: u64,
-    tag: u64,
-}
-
-impl Payload for Tagged {
-    ghost value = { λ p. record { law = Cell; state = p.number ∷ [] } };
-
-    fn law(&self) -> Law {
-        Law::Cell
-    }
-
-    fn len(&self) -> usize {
-        1
-    }
-
-    fn at(&self, _i: usize) -> u64 {
-        self.number
-    }
-
-    fn write(&mut self, number: u64) -> Result<(), AllocError> {
-        self.number = number;
-        Ok(())
-    }
-}
+type Tagged = CellWith<u64>;
 
 fn draft(alloc: Global, tag: u64) -> Option<Draft<Tagged>> {
-    Draft::new(alloc, Tagged { number: 0, tag }).ok()
+    Draft::new(alloc, Tagged::new(0, tag)).ok()
 }
 
 // The drafts of two workers, who have the tags 10 and 11.
@@ -66,7 +40,7 @@ fn open_two(alloc: Global) -> Option<Store<Tagged>> {
 // The tag of the vertex and its number, added up, where they are lent to the worker, and else 0.
 fn lent(store: &Store<Tagged>, worker: u64, name: u64) -> u64 {
     match store.payload(worker, name) {
-        Some(payload) => payload.tag.wrapping_add(payload.number),
+        Some(payload) => payload.with.wrapping_add(payload.at(0)),
         None => 0,
     }
 }

@@ -6,6 +6,8 @@
 #![tactic(auto)]
 
 #[cfg(test)]
+mod cell_with;
+#[cfg(test)]
 mod counting_payload;
 #[cfg(test)]
 mod help;

@@ -1,5 +1,7 @@
 -- Calls on a place: what the store was found to answer, and what C is told of that.
 use Rattle.std.proofs.Common.{◌≡◌, ℕ, refl, true, false, sym, subst, ap, ◌∙◌, Result, Ok, Err, List, Option, Some, None}
+use Rattle.tg_rights.specs.RightSet.{RightSet}
+use Rattle.tg_model.specs.declared.value.Value.{Value}
 use Rattle.tg_model.specs.Graph.{ProtectionGraph, listing_of}
 use Rattle.tg_model.specs.Rules.{answer_of, denial_of, denied_or, state_of}
 use Rattle.tg_model.specs.declared.command.Command.{Command}
@@ -10,10 +12,13 @@ use Rattle.tg_model.specs.declared.reply.Reply.{Reply}
 use Rattle.tg_model.specs.declared.reply.Reply.TheVariants.{Denied, Done, Edges, Values}
 use Rattle.tg_store.specs.Store.{StoreState}
 use Rattle.tg_c.specs.declared.place.StorePlace.{StorePlace}
+use Rattle.tg_store.specs.declared.fault.CreateFault.{CreateFault}
+use Rattle.tg_c.specs.declared.forms.ValueIn.{ValueIn}
 use Rattle.tg_c.specs.declared.refusal.CallRefusal.{CallRefusal}
 use Rattle.tg_c.specs.declared.refusal.CallRefusal.TheVariants.{NotOpen}
-use Rattle.tg_c.specs.Calls.{IsCall, IsDoneOrDenied, IsListedOrDenied, IsReadOrDenied, IsReplyTo, IsShown, state_in}
-use Rattle.tg_c.specs.Statuses.{TellsNames, TellsNumber, refused_as}
+use Rattle.tg_c.specs.Calls.{Applies, Asks, AsksWithRights, IsCall, IsDoneOrDenied, IsListedOrDenied, IsReadOrDenied, IsReplyTo, IsShown, MakesOfForms, state_in}
+use Rattle.tg_c.specs.Forms.{label_at}
+use Rattle.tg_c.specs.Statuses.{TellsNames, TellsNumber, of_apply, of_create, refused_as}
 
 -- a refusal that C knows already
 pub as_it_is : {T : Type 0} (answer : Result T CallRefusal) → refused_as (λ why. why) answer ≡ answer
@@ -25,22 +30,7 @@ pub not_open : {T E : Type 0} (name : E → CallRefusal) (holds : StoreState →
     → old.is_open ≡ false → new.is_open ≡ false → result ≡ Err NotOpen → IsCall name holds old new (λ told. result ≡ told)
 not_open name holds old new result was is told = record { not_open = λ _. (told, is); served = λ is_open. absurd (cc (was, is_open)) }
 
--- an open place: the store, which was and is in it, gave this answer
-pub served : {T E : Type 0} (name : E → CallRefusal) (holds : StoreState → StoreState → Result T E → Type 0) (old new : StorePlace) (result : Result T CallRefusal)
-    (before after : StoreState) (answer : Result T E)
-    → old.is_open ≡ true → new.is_open ≡ true → state_in old ≡ before → state_in new ≡ after → result ≡ refused_as name answer
-    → holds before after answer → IsCall name holds old new (λ told. result ≡ told)
-served name holds old new result before after answer was is first last told held = record {
-  not_open = λ closed. absurd (cc (closed, was));
-  served = λ _. record {
-    answer = answer;
-    told = told;
-    stays_open = is;
-    holds_of = subst (λ s. holds s (state_in new) answer) (sym first) (subst (λ s. holds before s answer) (sym last) held);
-  };
-}
-
--- the same, where what is told is more than the answer
+-- an open place: the store, which was and is in it, gave this answer, and what is told is more than the answer
 pub served_as : {T E : Type 0} (name : E → CallRefusal) (holds : StoreState → StoreState → Result T E → Type 0) (old new : StorePlace) (tells : Result T CallRefusal → Type 0)
     (before after : StoreState) (answer : Result T E)
     → old.is_open ≡ true → new.is_open ≡ true → state_in old ≡ before → state_in new ≡ after → tells (refused_as name answer)
@@ -54,6 +44,14 @@ served_as name holds old new tells before after answer was is first last told he
     holds_of = subst (λ s. holds s (state_in new) answer) (sym first) (subst (λ s. holds before s answer) (sym last) held);
   };
 }
+
+-- the same, where the answer is told
+pub served : {T E : Type 0} (name : E → CallRefusal) (holds : StoreState → StoreState → Result T E → Type 0) (old new : StorePlace) (result : Result T CallRefusal)
+    (before after : StoreState) (answer : Result T E)
+    → old.is_open ≡ true → new.is_open ≡ true → state_in old ≡ before → state_in new ≡ after → result ≡ refused_as name answer
+    → holds before after answer → IsCall name holds old new (λ told. result ≡ told)
+served name holds old new result before after answer was is first last told held =
+    served_as name holds old new (λ told. result ≡ told) before after answer was is first last told held
 
 -- what the call told is what C is told
 pub hears_as : {T E : Type 0} (name : E → CallRefusal) (holds : StoreState → StoreState → Result T E → Type 0) (old new : StorePlace) (first second : Result T CallRefusal → Type 0)
@@ -71,15 +69,8 @@ hears_as name holds old new first second call next = record {
 -- what the call answered is what C is told
 pub hears : {T E : Type 0} (name : E → CallRefusal) (holds : StoreState → StoreState → Result T E → Type 0) (old new : StorePlace) (result : Result T CallRefusal)
     (tells : Result T CallRefusal → Type 0) → IsCall name holds old new (λ told. result ≡ told) → tells result → IsCall name holds old new tells
-hears name holds old new result tells call told = record {
-  not_open = λ closed. (subst tells (call.not_open closed).0 told, (call.not_open closed).1);
-  served = λ is_open. record {
-    answer = (call.served is_open).answer;
-    told = subst tells (call.served is_open).told told;
-    stays_open = (call.served is_open).stays_open;
-    holds_of = (call.served is_open).holds_of;
-  };
-}
+hears name holds old new result tells call told =
+    hears_as name holds old new (λ answer. result ≡ answer) tells call (λ answer is. subst tells is told)
 
 -- a denial or this reply, each of which may be told
 denied_or_told : (P : Reply → Type 0) (denial : Option Denial) (r : Reply) → ((why : Denial) → P (Denied why)) → P r → P (denied_or denial r)
@@ -109,6 +100,24 @@ pub hears_at : {X T E : Type 0} (name : E → CallRefusal) (holds : X → StoreS
 unfolding or_else
 hears_at name holds o made asked old new result tells first second call told =
     subst (λ x. IsCall name (holds x) old new tells) (ap (or_else made) (sym first ∙ second)) (hears name (holds made) old new result tells call told)
+
+-- what a call that makes a vertex answered is what C is told
+pub makes_told : (holds : ℕ → RightSet → Value → StoreState → StoreState → Result ℕ CreateFault → Type 0) (old new : StorePlace) (worker rights : ℕ) (value : ValueIn) (result : Result ℕ CallRefusal) (tells : Result ℕ CallRefusal → Type 0)
+    → MakesOfForms (λ old new worker label stored. IsCall of_create (holds worker label stored) old new) old new worker rights value (λ told. result ≡ told) → tells result
+    → MakesOfForms (λ old new worker label stored. IsCall of_create (holds worker label stored) old new) old new worker rights value tells
+makes_told holds old new worker rights value result tells call told = record {
+  bad_rights = λ none. let had = call.bad_rights none in (had.0, subst tells had.1 told);
+  bad_law = λ label is none. let had = call.bad_law label is none in (had.0, subst tells had.1 told);
+  made = λ label is stored is_stored. hears of_create (holds worker label stored) old new result tells (call.made label is stored is_stored) told;
+}
+
+-- what a command with a label answered is what C is told
+pub asks_told : (with_label : RightSet → Command) (old new : StorePlace) (worker rights : ℕ) (label : RightSet) (result : Result Reply CallRefusal) (tells : Result Reply CallRefusal → Type 0)
+    → label_at rights ≡ Some label → Asks old new worker (with_label label) (λ told. result ≡ told) → tells result → AsksWithRights old new worker rights with_label tells
+asks_told with_label old new worker rights label result tells is call told = record {
+  asked = λ asked same. hears_at of_apply (λ l. Applies worker (with_label l)) (label_at rights) label asked old new result tells is same call told;
+  bad_rights = λ none. absurd (cc (none, is));
+}
 
 -- names that were put into a room are told with their number
 pub names_told : (status old new : ℕ) (room after : List ℕ) (answer : Result ℕ CallRefusal) (told : Result (List ℕ) CallRefusal) → TellsNumber status old new answer → IsShown room after answer told

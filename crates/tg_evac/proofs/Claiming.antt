@@ -516,3 +516,24 @@ module _ (c : Claimed) (are : AreClaims c) (w : Win) (space number : ℕ) (two :
     as_many = length-set c.forward w.cell w.word;
     same_fixed = refl;
   }
+
+-- the k-th pair of the claims, by the cell that stands there in the list of the cells
+pub record PairAt (v : Claimed) (cells : List ℕ) (k cell : ℕ) : Type 0 where
+  pub under : k < length cells
+  pub read : cell ≡ get_or cells k 0
+  pub low : k < length v.won
+  pub has : Contains v.won (win_at v.won k)
+  pub is : (win_at v.won k).cell ≡ cell
+
+pub pair_at : (v now : Claimed) (cells : List ℕ) (k cell : ℕ) → v ≡ now → v.won ≡ wins_at v.forward cells → k < length now.won → cell ≡ get_or cells k cell → PairAt v cells k cell
+pair_at v now cells k cell same won inside read =
+    let low : k < length v.won = subst (λ (x : Claimed). k < length x.won) (sym same) inside in
+    let under : k < length cells = omega (arith, won_length v.forward cells, ap (λ (ws : List Win). length ws) won) in
+    let here : cell ≡ get_or cells k 0 = read ∙ get_or_default cells k cell 0 under in
+    record {
+      under = under;
+      read = here;
+      low = low;
+      has = Contains-get_or v.won k (win_at [] 0) low;
+      is = ap (λ (ws : List Win). (win_at ws k).cell) won ∙ (ap (λ (w : Win). w.cell) (won_at v.forward cells k under) ∙ sym here);
+    }

@@ -163,10 +163,10 @@ module _ (kind : Kind) (h : SpaceList) (roots : List Root) (forward : List ℕ) 
     reached = reached_ok;
     words = words_ok;
     placed = placed_ok;
+    generations = in_generations kind h roots forward won is are;
     copied = copied_ok;
     apart = apart_ok;
     rest = rest_ok;
-    generations = in_generations kind h roots forward won is are;
     noted = noted_ok;
     none_aged = copies.none_aged;
     few = copies.few;

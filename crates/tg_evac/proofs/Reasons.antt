@@ -169,36 +169,34 @@ module _ (h : SpaceList) (roots : List Root) (forward : List ℕ) (won : List Wi
         (λ (other : claim.place.space ≢ 1). absurd (let e = claim.to in let one = space_other false claim.place.space refl other in omega arith))
         (cases_eq claim.place.space 1)
 
+    -- the place of a pair is in Old or isn't
+    in_old_or : {P : Type 0} (w : Win) → (is_in_old w ≡ true → (place_in w.word).space ≡ 0 → P) → (is_in_old w ≡ false → (place_in w.word).space ≢ 0 → P) → P
+    in_old_or w old other = ⊎_elim
+        (λ (y : ((place_in w.word).space == 0 ≡ true) × ((place_in w.word).space ≡ 0)). old y.0 y.1)
+        (λ (n : ((place_in w.word).space == 0 ≡ false) × ((place_in w.word).space ≢ 0)). other n.0 n.1)
+        (eqb_tells (place_in w.word).space 0)
+
     walk_aged : (n k : ℕ) → k < n → k < length won → (place_in (win_at won k).word).space ≡ 1 → Walk (IsRowTarget h roots) (IsNextIn h forward 1) (win_at won k).cell
     walk_aged zero k low inside to = absurd (omega arith)
     walk_aged (suc n) k low inside to = ⊎_elim
         (λ (r : IsRootClaim Nursery h roots (win_at won k)). begins (root_to_aged r.root (win_at won k) r.is r.claim to))
-        (λ (j, below, claim).
-        let jl : j < length won = omega arith in
-        ⊎_elim
-        (λ (y : ((place_in (win_at won j).word).space == 0 ≡ true) × ((place_in (win_at won j).word).space ≡ 0)).
-        absurd (let e = claim.to in let z = space_straight (is_in_old (win_at won j)) claim.place.space y.0 in omega arith))
-        (λ (no : ((place_in (win_at won j).word).space == 0 ≡ false) × ((place_in (win_at won j).word).space ≢ 0)).
-        let aged : (place_in (win_at won j).word).space ≡ 1 = let low2 = two (win_at won j) (held_win j jl) in let ne = no.1 in omega arith in
-        goes (walk_aged n j (omega arith) jl aged) (record { goes = goes_at j 1 jl aged; target = claim.one }))
-        (eqb_tells (place_in (win_at won j).word).space 0))
+        (λ (j, below, claim). let jl : j < length won = omega arith in in_old_or (win_at won j)
+        (λ tells in_old. absurd (let e = claim.to in let z = space_straight (is_in_old (win_at won j)) claim.place.space tells in omega arith))
+        (λ tells other.
+        let aged : (place_in (win_at won j).word).space ≡ 1 = let low2 = two (win_at won j) (held_win j jl) in omega arith in
+        goes (walk_aged n j (omega arith) jl aged) (record { goes = goes_at j 1 jl aged; target = claim.one })))
         (traced k inside)
 
     walk_old : (n k : ℕ) → k < n → k < length won → (place_in (win_at won k).word).space ≡ 0 → Walk (λ x. IsRememberedTarget h roots x ⊎ IsAgedCell h x) (IsNextIn h forward 0) (win_at won k).cell
     walk_old zero k low inside to = absurd (omega arith)
     walk_old (suc n) k low inside to = ⊎_elim
         (λ (r : IsRootClaim Nursery h roots (win_at won k)). begins (root_to_old r.root (win_at won k) r.is r.claim to))
-        (λ (j, below, claim).
-        let jl : j < length won = omega arith in
-        ⊎_elim
-        (λ (y : ((place_in (win_at won j).word).space == 0 ≡ true) × ((place_in (win_at won j).word).space ≡ 0)).
-        goes (walk_old n j (omega arith) jl y.1) (record { goes = goes_at j 0 jl y.1; target = claim.one }))
-        (λ (no : ((place_in (win_at won j).word).space == 0 ≡ false) × ((place_in (win_at won j).word).space ≢ 0)).
-        ⊎_elim
+        (λ (j, below, claim). let jl : j < length won = omega arith in in_old_or (win_at won j)
+        (λ tells in_old. goes (walk_old n j (omega arith) jl in_old) (record { goes = goes_at j 0 jl in_old; target = claim.one }))
+        (λ tells not_old. ⊎_elim
         (λ (aged : claim.place.space ≡ 1). begins (inr (record { place = claim.place; held = claim.held; aged = aged; at = claim.at })))
-        (λ (other : claim.place.space ≢ 1). absurd (let e = claim.to in let one = space_other (is_in_old (win_at won j)) claim.place.space no.0 other in omega arith))
-        (cases_eq claim.place.space 1))
-        (eqb_tells (place_in (win_at won j).word).space 0))
+        (λ (other : claim.place.space ≢ 1). absurd (let e = claim.to in let one = space_other (is_in_old (win_at won j)) claim.place.space tells other in omega arith))
+        (cases_eq claim.place.space 1)))
         (traced k inside)
 
     -- the pair of a forwarded cell, by its number

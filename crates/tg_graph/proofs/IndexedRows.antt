@@ -25,6 +25,16 @@ index_at h payloads graph remembered rows indexed from object own named row foun
     let is = indexed own row found in
     (subst (λ (p : Place). IsRowIndex h p row.names row.cells.items) (graph.names is.place from is.vertex.object object (is.vertex.named ∙ named)) is.index, is.quiet)
 
+-- an entry of the name that was written is the one that was written, and any other is as it was
+module _ (own name : ℕ) (new row : IndexedRow) (rows later : Entries) (written : (q : ℕ) → lookup (nat_eq q) later ≡ cond (nat_eq own q) (Some new) (lookup (nat_eq q) rows)) (found : lookup (nat_eq name) later ≡ Some row) where
+  is_written : nat_eq own name ≡ true → (own ≡ name) × (new ≡ row)
+  is_written same =
+      let one : Some new ≡ Some row = ap (λ (b : Bool). cond b (Some new) (lookup (nat_eq name) rows)) (sym same) ∙ sym (written name) ∙ found in
+      ((Decides-eqb own name).0 same, let row_is : new ≡ row = cc in row_is)
+
+  is_kept : nat_eq own name ≡ false → lookup (nat_eq name) rows ≡ Some row
+  is_kept other = ap (λ (b : Bool). cond b (Some new) (lookup (nat_eq name) rows)) (sym other) ∙ sym (written name) ∙ found
+
 module _ (h after : SpaceList) (vertices : (x : ℕ) (p : Place) → IsVertexAt h x p → IsVertexAt after x p) (from : Place) (object : IsKindAt h Object from) (others : KeepsOtherIndexes h after from)
     (before now : List Place) (quieter : KeepsOthersQuiet h before now from) (rows : Entries) (indexed : AreIndexed h before rows) (own : ℕ) (named : own ≡ name_at h from) where
   -- an index under another name stays
@@ -50,14 +60,12 @@ module _ (h after : SpaceList) (vertices : (x : ℕ) (p : Place) → IsVertexAt 
     where
       by_name : (b : Bool) → nat_eq own name ≡ b → IsIndexed after now name row
       by_name true same =
-          let name_is : own ≡ name = (Decides-eqb own name).0 same in
-          let one : Some new ≡ Some row = ap (λ (b : Bool). cond b (Some new) (lookup (nat_eq name) rows)) (sym same) ∙ sym (written name) ∙ found in
-          let row_is : new ≡ row = cc in
-          subst (λ n. IsIndexed after now n row) name_is
-          (subst (IsIndexed after now own) row_is (record { place = from; vertex = vertices own from (record { object = object; named = sym named }); index = index; quiet = quiet }))
+          let this = is_written own name new row rows later written found same in
+          subst (λ n. IsIndexed after now n row) this.0
+          (subst (IsIndexed after now own) this.1 (record { place = from; vertex = vertices own from (record { object = object; named = sym named }); index = index; quiet = quiet }))
       by_name false other =
           let ne : name ≢ own = λ e. let yes : nat_eq own name ≡ true = (Decides-eqb own name).1 (sym e) in let no : false ≡ true = sym other ∙ yes in absurd cc in
-          other_stays name row ne (ap (λ (b : Bool). cond b (Some new) (lookup (nat_eq name) rows)) (sym other) ∙ sym (written name) ∙ found)
+          other_stays name row ne (is_kept own name new row rows later written found other)
 
 -- an index was replaced by another one of the same row
 pub indexes_replaced : (rows later : Entries) (own : ℕ) (row new : IndexedRow) → lookup (nat_eq own) rows ≡ Some row → ((q : ℕ) → lookup (nat_eq q) later ≡ cond (nat_eq own q) (Some new) (lookup (nat_eq q) rows)) →
@@ -67,13 +75,11 @@ indexes_replaced rows later own row new there written kept quiet h remembered in
   where
     by_name : (b : Bool) → nat_eq own name ≡ b → IsIndexed h remembered name shown
     by_name true same =
-        let name_is : own ≡ name = (Decides-eqb own name).0 same in
-        let one : Some new ≡ Some shown = ap (λ (b : Bool). cond b (Some new) (lookup (nat_eq name) rows)) (sym same) ∙ sym (written name) ∙ found in
-        let row_is : new ≡ shown = cc in
+        let this = is_written own name new shown rows later written found same in
         let is = indexed own row there in
-        subst (λ n. IsIndexed h remembered n shown) name_is
-        (subst (IsIndexed h remembered own) row_is (record { place = is.place; vertex = is.vertex; index = kept h is.place is.index; quiet = quiet remembered is.quiet }))
-    by_name false other = indexed name shown (ap (λ (b : Bool). cond b (Some new) (lookup (nat_eq name) rows)) (sym other) ∙ sym (written name) ∙ found)
+        subst (λ n. IsIndexed h remembered n shown) this.0
+        (subst (IsIndexed h remembered own) this.1 (record { place = is.place; vertex = is.vertex; index = kept h is.place is.index; quiet = quiet remembered is.quiet }))
+    by_name false other = indexed name shown (is_kept own name new shown rows later written found other)
 
 -- ---- which names have an index
 

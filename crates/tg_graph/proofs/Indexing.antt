@@ -25,7 +25,7 @@ use Rattle.tg_graph.proofs.Indexed.{slot_some}
 use Rattle.tg_graph.proofs.IndexKept.{index_same}
 use Rattle.tg_graph.proofs.Members.{Contains-filter, Contains-map}
 use Rattle.tg_graph.proofs.Slots.{names_in-some, names_in-zero}
-use Rattle.tg_graph.proofs.Walks.{IsInRow, rest_ends, rest_goes_on, rest_of, row_begins, row_goes_on, slice_is}
+use Rattle.tg_graph.proofs.Walks.{IsInRow, links_on, rest_ends, rest_goes_on, rest_of, row_begins, row_goes_on, slice_is}
 
 -- ---- a walk that lists a row
 
@@ -59,13 +59,11 @@ module _ (h : SpaceList) (from at : Place) (left : ℕ) (names more : List (Opti
 
   pub list_goes_on : slice_index words 7 ≢ 0 → (next : Place) → next ≡ place_in (slice_index words 7) → (0 < left) × IsListed h from next (left - 1) more next_cells
   list_goes_on ne next next_is =
-      let link = ap (λ (ws : List ℕ). slice_index ws 7) are in
-      let some : link_at h at ≢ 0 = λ e. ne (link ∙ e) in
-      let on = row_goes_on h at left listed.row some in
-      let rest = rest_goes_on h at left listed.row some in
-      let place : place_in (link_at h at) ≡ next = sym (next_is ∙ ap place_in link) in (
+      let link = links_on h at words are ne next next_is in
+      let on = row_goes_on h at left listed.row link.0 in
+      let rest = rest_goes_on h at left listed.row link.0 in (
         on.0,
-        subst (λ (q : Place). IsListed h from q (left - 1) more next_cells) place
+        subst (λ (q : Place). IsListed h from q (left - 1) more next_cells) link.1
             (record {
               row = on.1;
               names_left = here ∙ ap (λ (ps : List Place). more ++ map (name_referred h) (words_of h ps)) rest;

@@ -209,37 +209,32 @@ module _ {from : ℕ → Bool} {h after : SpaceList} {to : ℕ → Place} {kept 
   pub kind_at_after : (kind : CellKind) (p : Place) → kept p → kind_of (cell_at h p) ≡ kind → IsKindAt after kind (moved_place from h to p)
   kind_at_after kind p keep is = let copy = is_copied p keep in record { held = copy.held; is = copy.kind ∙ is }
 
+  -- a word that is there names a kept cell
+  kept_target : (word : ℕ) → IsKeptWord word → IsTrue (is_present word) → kept (place_in word) × IsMovedWord from h to word
+  kept_target word keep present = ⊎_elim
+      (λ (y : (word == 0 ≡ true) × (word ≡ 0)). absurd (empty_present word present y.1))
+      (λ (n : (word == 0 ≡ false) × (word ≢ 0)). keep n.1)
+      (eqb_tells word 0)
+
   pub reference_after : (word : ℕ) → IsKeptWord word → IsReference h word → IsReference after (moved_word from h to word)
-  reference_after word keep is =
-      ⊎_elim
+  reference_after word keep is = ⊎_elim
       (λ e. inl (ap (moved_word from h to) e))
-      (λ (r : RefersTo h word).
-      by_word r (⊎_elim (λ (y : (word == 0 ≡ true) × (word ≡ 0)). absurd (empty_present word r.present y.1)) (λ (n : (word == 0 ≡ false) × (word ≢ 0)). keep n.1) (eqb_tells word 0)))
+      (λ (r : RefersTo h word). let found = kept_target word keep r.present in inr (record {
+        present = found.1.present;
+        rights = ap is_none_held found.1.rights ∙ r.rights;
+        object = subst (λ (q : Place). IsKindAt after Object q) (sym found.1.place) (kind_at_after Object (place_in word) found.0 r.object.is);
+      }))
       is
-    where
-      by_word : RefersTo h word → kept (place_in word) × IsMovedWord from h to word → IsReference after (moved_word from h to word)
-      by_word r (target, m) =
-          inr (record {
-            present = m.present;
-            rights = ap is_none_held m.rights ∙ r.rights;
-            object = subst (λ (q : Place). IsKindAt after Object q) (sym m.place) (kind_at_after Object (place_in word) target r.object.is);
-          })
 
   pub link_after : (word : ℕ) → IsKeptWord word → IsLink h word → IsLink after (moved_word from h to word)
-  link_after word keep is =
-      ⊎_elim
+  link_after word keep is = ⊎_elim
       (λ e. inl (ap (moved_word from h to) e))
-      (λ (r : LinksTo h word).
-      by_word r (⊎_elim (λ (y : (word == 0 ≡ true) × (word ≡ 0)). absurd (empty_present word r.present y.1)) (λ (n : (word == 0 ≡ false) × (word ≢ 0)). keep n.1) (eqb_tells word 0)))
+      (λ (r : LinksTo h word). let found = kept_target word keep r.present in inr (record {
+        present = found.1.present;
+        rights = found.1.rights ∙ r.rights;
+        chunk = subst (λ (q : Place). IsKindAt after Chunk q) (sym found.1.place) (kind_at_after Chunk (place_in word) found.0 r.chunk.is);
+      }))
       is
-    where
-      by_word : LinksTo h word → kept (place_in word) × IsMovedWord from h to word → IsLink after (moved_word from h to word)
-      by_word r (target, m) =
-          inr (record {
-            present = m.present;
-            rights = m.rights ∙ r.rights;
-            chunk = subst (λ (q : Place). IsKindAt after Chunk q) (sym m.place) (kind_at_after Chunk (place_in word) target r.chunk.is);
-          })
 
   references_after : (words : List ℕ) → All IsKeptWord words → All (IsReference h) words → All (IsReference after) (map (moved_word from h to) words)
   references_after words keeps are = All-from_get_or (IsReference after) (map (moved_word from h to) words) 0 (λ k inside.

@@ -79,6 +79,10 @@ module _ {X : Type 0} where
   All-right P xs ys all k d low =
       subst P (get_or-append-add xs ys k d) (all (length xs + k) d (omega (arith, length-append xs ys)))
 
+-- what is found behind the first element is found in the whole list
+pub found_later : {X : Type 0} (P : X → Type 0) (y : X) (ys : List X) → (x : X) × Contains ys x × P x → (x : X) × Contains (y ∷ ys) x × P x
+found_later P y ys found = (found.0, Contains-more y ys found.0 found.1, found.2)
+
 module _ {X Y : Type 0} where
   pub Contains-map : (f : X → Y) (xs : List X) (x : X) → Contains xs x → Contains (map f xs) (f x)
   Contains-map f [] x has = absurd (Contains-none x has)
@@ -91,10 +95,7 @@ module _ {X Y : Type 0} where
   pub Contains-from_map : (f : X → Y) (xs : List X) (z : Y) → Contains (map f xs) z → (x : X) × Contains xs x × (f x ≡ z)
   Contains-from_map f [] z has = absurd (Contains-none z has)
   Contains-from_map f (y ∷ ys) z has =
-      ⊎_elim
-      (λ e. (y, Contains-here y ys, e))
-      (λ rest. let all = Contains-from_map f ys z rest in (all.0, Contains-more y ys all.0 all.1, all.2))
-      (Contains-cases (f y) (map f ys) z has)
+      ⊎_elim (λ e. (y, Contains-here y ys, e)) (λ rest. found_later (λ x. f x ≡ z) y ys (Contains-from_map f ys z rest)) (Contains-cases (f y) (map f ys) z has)
 
   pub Contains-flat_map : (f : X → List Y) (xs : List X) (x : X) (z : Y) → Contains xs x → Contains (f x) z → Contains (flat_map f xs) z
   Contains-flat_map f [] x z has _ = absurd (Contains-none x has)
@@ -107,10 +108,7 @@ module _ {X Y : Type 0} where
   pub Contains-from_flat_map : (f : X → List Y) (xs : List X) (z : Y) → Contains (flat_map f xs) z → (x : X) × Contains xs x × Contains (f x) z
   Contains-from_flat_map f [] z has = absurd (Contains-none z has)
   Contains-from_flat_map f (y ∷ ys) z has =
-      ⊎_elim
-      (λ first. (y, Contains-here y ys, first))
-      (λ rest. let all = Contains-from_flat_map f ys z rest in (all.0, Contains-more y ys all.0 all.1, all.2))
-      (Contains-append_cases (f y) (flat_map f ys) z has)
+      ⊎_elim (λ first. (y, Contains-here y ys, first)) (λ rest. found_later (λ x. Contains (f x) z) y ys (Contains-from_flat_map f ys z rest)) (Contains-append_cases (f y) (flat_map f ys) z has)
 
 -- what is still as it was, where the elements before it were mapped
 pub still_at : (X : Type 0) (f : X → X) (xs ys : List X) (i : ℕ) (d : X) → ys ≡ map f (take i xs) ++ drop i xs → i < length xs → get_or ys i d ≡ get_or xs i d

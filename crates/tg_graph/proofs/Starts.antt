@@ -31,7 +31,7 @@ use Rattle.tg_graph.proofs.Chains.{chain_chunks, chain_enough, chain_short, row_
 use Rattle.tg_graph.proofs.KeptAdopted.{old_stays}
 use Rattle.tg_graph.proofs.KeptHeap.{remembered_cells, remembered_root}
 use Rattle.tg_graph.proofs.Layouts.{chunk_tagged, object_tagged}
-use Rattle.tg_graph.proofs.Members.{Contains-cases, Contains-from_map, Contains-here, Contains-map, Contains-more, Contains-none}
+use Rattle.tg_graph.proofs.Members.{Contains-cases, Contains-from_map, Contains-here, Contains-map, Contains-more, Contains-none, found_later}
 use Rattle.tg_graph.proofs.Places.{cell_long}
 use Rattle.tg_graph.proofs.Quiet.{quiet_at}
 use Rattle.tg_graph.proofs.Remembering.{word_names}
@@ -203,20 +203,14 @@ shorter_of h [] [] are root has = absurd (Contains-none root has)
 shorter_of h [] (r ∷ rs) are root has = absurd are
 shorter_of h (p ∷ ps) [] are root has = absurd are
 shorter_of h (p ∷ ps) (r ∷ rs) are root has =
-    ⊎_elim
-    (λ same. (p, Contains-here p ps, subst (IsShorter h p) same are.0))
-    (λ later. let found = shorter_of h ps rs are.1 root later in (found.0, Contains-more p ps found.0 found.1, found.2))
-    (Contains-cases r rs root has)
+    ⊎_elim (λ same. (p, Contains-here p ps, subst (IsShorter h p) same are.0)) (λ later. found_later (λ q. IsShorter h q root) p ps (shorter_of h ps rs are.1 root later)) (Contains-cases r rs root has)
 
 shorter_in : (h : SpaceList) (ps : List Place) (roots : List Root) → AreShorter h ps roots → (p : Place) → Contains ps p → (root : Root) × Contains roots root × IsShorter h p root
 shorter_in h [] [] are p has = absurd (Contains-none p has)
 shorter_in h [] (r ∷ rs) are p has = absurd are
 shorter_in h (q ∷ qs) [] are p has = absurd are
 shorter_in h (q ∷ qs) (r ∷ rs) are p has =
-    ⊎_elim
-    (λ same. (r, Contains-here r rs, subst (λ (x : Place). IsShorter h x r) same are.0))
-    (λ later. let found = shorter_in h qs rs are.1 p later in (found.0, Contains-more r rs found.0 found.1, found.2))
-    (Contains-cases q qs p has)
+    ⊎_elim (λ same. (r, Contains-here r rs, subst (λ (x : Place). IsShorter h x r) same are.0)) (λ later. found_later (IsShorter h p) r rs (shorter_in h qs rs are.1 p later)) (Contains-cases q qs p has)
 
 -- ---- roots whose targets are the same
 

@@ -173,6 +173,11 @@ edges_of_cell h at ps =
     ap (edges_in h) (flat_map-append (λ q. references_of (cell_at h q)) (at ∷ []) ps ∙ ap (λ (xs : List ℕ). xs ++ words_of h ps) (append-nil (references_of (cell_at h at))))
     ∙ edges_in-append h (references_of (cell_at h at)) (words_of h ps)
 
+-- where the words of a cell have a link, the cell links to that place
+pub links_on : (h : SpaceList) (at : Place) (words : List ℕ) → words ≡ cell_at h at → slice_index words 7 ≢ 0 → (next : Place) → next ≡ place_in (slice_index words 7) → (link_at h at ≢ 0) × (place_in (link_at h at) ≡ next)
+links_on h at words are some next is =
+    let link = ap (λ (ws : List ℕ). slice_index ws 7) are in (λ e. some (link ∙ e), sym (is ∙ ap place_in link))
+
 -- the edges of a row were collected up to one of its cells
 pub record IsCollected (h : SpaceList) (from at : Place) (left : ℕ) (edges : List (ℕ × RightSet)) : Type 0 where
   pub row : IsInRow h at left
@@ -189,13 +194,11 @@ module _ (h : SpaceList) (from at : Place) (left : ℕ) (edges more : List (ℕ 
 
   pub collect_goes_on : slice_index words 7 ≢ 0 → (next : Place) → next ≡ place_in (slice_index words 7) → (0 < left) × IsCollected h from next (left - 1) more
   collect_goes_on ne next next_is =
-      let link = ap (λ (ws : List ℕ). slice_index ws 7) are in
-      let some : link_at h at ≢ 0 = λ e. ne (link ∙ e) in
-      let on = row_goes_on h at left collected.row some in
-      let rest = rest_goes_on h at left collected.row some in
-      let place : place_in (link_at h at) ≡ next = sym (next_is ∙ ap place_in link) in (
+      let link = links_on h at words are ne next next_is in
+      let on = row_goes_on h at left collected.row link.0 in
+      let rest = rest_goes_on h at left collected.row link.0 in (
         on.0,
-        subst (λ (q : Place). IsCollected h from q (left - 1) more) place
+        subst (λ (q : Place). IsCollected h from q (left - 1) more) link.1
             (record { row = on.1; all = here ∙ ap (λ (ps : List Place). more ++ edges_in h (words_of h ps)) rest }),
       )
 

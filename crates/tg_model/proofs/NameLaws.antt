@@ -1,5 +1,5 @@
 -- Which names are answered.
-use Rattle.std.proofs.Common.{◌≡◌, ℕ, ◌+◌, Bool, true, false, cond, nat_lt, Option, Some, None, length, refl, sym, ◌∙◌, ap}
+use Rattle.std.proofs.Common.{◌≡◌, ℕ, ◌+◌, Bool, true, false, cond, nat_lt, List, Option, Some, None, length, refl, sym, ◌∙◌, ap}
 use Rattle.tg_rights.specs.RightSet.{RightSet}
 use Rattle.tg_model.specs.declared.value.Value.{Value}
 use Rattle.tg_model.specs.declared.command.Command.{Command}
@@ -8,7 +8,7 @@ use Rattle.tg_model.specs.declared.command.Deed.{Deed}
 use Rattle.tg_model.specs.declared.command.Deed.TheVariants.{Create, Spawn, Plain}
 use Rattle.tg_model.specs.declared.opening.TheConstants.{MAX_WORKERS}
 use Rattle.tg_model.specs.declared.reply.Reply.{Reply}
-use Rattle.tg_model.specs.declared.reply.Reply.TheVariants.{Name, VerticesFull, WorkersFull}
+use Rattle.tg_model.specs.declared.reply.Reply.TheVariants.{Done, Edges, Name, Values, VerticesFull, WorkersFull}
 use Rattle.tg_model.specs.declared.reply.Denial.{Denial}
 use Rattle.tg_model.specs.Graph.{ProtectionGraph}
 use Rattle.tg_model.specs.Rules.{denial_of, denied_or, reply_of, with_vertex, with_subject, step, answer_of}
@@ -24,17 +24,22 @@ spawned_name true true g k n name answer = let same : name ≡ n = cc in (same, 
 spawned_name true false g k n name answer = let no : ⊥ = cc in absurd no
 spawned_name false c g k n name answer = let no : ⊥ = cc in absurd no
 
--- no command is answered a name
+-- a command that is served is answered that it is done, or what it asked for
+pub each_reply : (P : Reply → Type 0) → P Done → ((values : List ℕ) → P (Values values)) → ((edges : List (ℕ × RightSet)) → P (Edges edges))
+    → (label : ℕ → ℕ → RightSet) (value : ℕ → Option Value) (n x : ℕ) (command : Command) → P (reply_of label value n x command)
+each_reply P done values edges label value n x (Take r y z) = done
+each_reply P done values edges label value n x (Grant r y z) = done
+each_reply P done values edges label value n x (Remove r y) = done
+each_reply P done values edges label value n x (Read y) = values _
+each_reply P done values edges label value n x (Write y v) = done
+each_reply P done values edges label value n x (Append y v) = done
+each_reply P done values edges label value n x (Inspect y) = edges _
+each_reply P done values edges label value n x Listing = edges _
+each_reply P done values edges label value n x Retire = done
+
+-- none is answered a name
 reply_no_name : (label : ℕ → ℕ → RightSet) (value : ℕ → Option Value) (n x : ℕ) (command : Command) (name : ℕ) → reply_of label value n x command ≡ Name name → ⊥
-reply_no_name label value n x (Take r y z) name answer = cc
-reply_no_name label value n x (Grant r y z) name answer = cc
-reply_no_name label value n x (Remove r y) name answer = cc
-reply_no_name label value n x (Read y) name answer = cc
-reply_no_name label value n x (Write y v) name answer = cc
-reply_no_name label value n x (Append y v) name answer = cc
-reply_no_name label value n x (Inspect y) name answer = cc
-reply_no_name label value n x Listing name answer = cc
-reply_no_name label value n x Retire name answer = cc
+reply_no_name label value n x command name = each_reply (λ r. r ≡ Name name → ⊥) (λ e. cc e) (λ values e. cc e) (λ edges e. cc e) label value n x command
 
 denied_no_name : (d : Option Denial) (r : Reply) (name : ℕ) → (r ≡ Name name → ⊥) → denied_or d r ≡ Name name → ⊥
 denied_no_name None r name other answer = other answer

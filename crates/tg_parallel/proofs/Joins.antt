@@ -1,5 +1,5 @@
 -- What two helpers hand over is what their joined record asks for.
-use Rattle.std.proofs.Common.{◌≡◌, ◌≢◌, ℕ, ◌<◌, ◌==◌, ◌++◌, if◌then◌else◌, List, Bool, true, false, map, refl, sym, ap, subst, ◌∙◌, eq-eqb, ⊎_elim, arith}
+use Rattle.std.proofs.Common.{◌≡◌, ◌≢◌, ℕ, ◌<◌, ◌≤◌, ◌==◌, ◌++◌, if◌then◌else◌, List, Bool, true, false, map, refl, sym, ap, subst, ◌∙◌, eq-eqb, ⊎_elim, arith}
 use Rattle.std.specs.List.{All, Contains}
 use Rattle.std.proofs.lemmas.Bool.{cond-true}
 use Rattle.std.proofs.lemmas.Grind.{flat_map-append}
@@ -26,42 +26,46 @@ cell_of_pair q = q.0
 
 -- ---- what was met
 
+-- the cells of pairs are among those of more pairs
+cells_left : (xs ys : List (ℕ × Place)) (c : ℕ) → Contains (map cell_of_pair xs) c → Contains (map cell_of_pair (xs ++ ys)) c
+cells_left xs ys c had = subst (λ (l : List ℕ). Contains l c) (sym (map-append cell_of_pair xs ys)) (Contains-append_left (map cell_of_pair xs) (map cell_of_pair ys) c had)
+
+cells_right : (xs ys : List (ℕ × Place)) (c : ℕ) → Contains (map cell_of_pair ys) c → Contains (map cell_of_pair (xs ++ ys)) c
+cells_right xs ys c had = subst (λ (l : List ℕ). Contains l c) (sym (map-append cell_of_pair xs ys)) (Contains-append_right (map cell_of_pair xs) (map cell_of_pair ys) c had)
+
+-- a record that has all that another won and saw has met all that it met
+met_more : (less more : Record) → ((c : ℕ) → Contains (map cell_of_pair less.won) c → Contains (map cell_of_pair more.won) c) → ((c : ℕ) → Contains (map cell_of_pair less.seen) c → Contains (map cell_of_pair more.seen) c)
+    → (c : ℕ) → Contains (cells_met less) c → Contains (cells_met more) c
+met_more less more won seen c held = ⊎_elim
+    (λ had. Contains-append_left (map cell_of_pair more.won) (map cell_of_pair more.seen) c (won c had))
+    (λ had. Contains-append_right (map cell_of_pair more.won) (map cell_of_pair more.seen) c (seen c had))
+    (Contains-append_cases (map cell_of_pair less.won) (map cell_of_pair less.seen) c held)
+
+-- and one that has claimed all that another claimed owns all that it owns
+owns_more : (less more : Record) → ((h : ℕ → ℕ) → weigh h less.aged_blocks ≤ weigh h more.aged_blocks) → ((h : ℕ → ℕ) → weigh h less.old_blocks ≤ weigh h more.old_blocks)
+    → (p : Place) → owns less p ≡ true → owns more p ≡ true
+owns_more less more aged old p h = claims_owns more p (go (p.space == AGED) (p.space == OLD) (owns_claims less p h))
+  where
+    go : (s t : Bool) → 0 < (if s then weigh (one_at p.block) less.aged_blocks else if t then weigh (one_at p.block) less.old_blocks else 0)
+        → 0 < (if s then weigh (one_at p.block) more.aged_blocks else if t then weigh (one_at p.block) more.old_blocks else 0)
+    go true t h = omega (arith, aged (one_at p.block))
+    go false true h = omega (arith, old (one_at p.block))
+    go false false h = h
+
 module _ (v w : Record) where
   pub met_left : (c : ℕ) → Contains (cells_met v) c → Contains (cells_met (both v w)) c
-  met_left c held = ⊎_elim
-      (λ won. Contains-append_left (map cell_of_pair (v.won ++ w.won)) (map cell_of_pair (v.seen ++ w.seen)) c
-      (subst (λ (l : List ℕ). Contains l c) (sym (map-append cell_of_pair v.won w.won)) (Contains-append_left (map cell_of_pair v.won) (map cell_of_pair w.won) c won)))
-      (λ seen. Contains-append_right (map cell_of_pair (v.won ++ w.won)) (map cell_of_pair (v.seen ++ w.seen)) c
-      (subst (λ (l : List ℕ). Contains l c) (sym (map-append cell_of_pair v.seen w.seen)) (Contains-append_left (map cell_of_pair v.seen) (map cell_of_pair w.seen) c seen)))
-      (Contains-append_cases (map cell_of_pair v.won) (map cell_of_pair v.seen) c held)
+  met_left = met_more v (both v w) (cells_left v.won w.won) (cells_left v.seen w.seen)
 
   pub met_right : (c : ℕ) → Contains (cells_met w) c → Contains (cells_met (both v w)) c
-  met_right c held = ⊎_elim
-      (λ won. Contains-append_left (map cell_of_pair (v.won ++ w.won)) (map cell_of_pair (v.seen ++ w.seen)) c
-      (subst (λ (l : List ℕ). Contains l c) (sym (map-append cell_of_pair v.won w.won)) (Contains-append_right (map cell_of_pair v.won) (map cell_of_pair w.won) c won)))
-      (λ seen. Contains-append_right (map cell_of_pair (v.won ++ w.won)) (map cell_of_pair (v.seen ++ w.seen)) c
-      (subst (λ (l : List ℕ). Contains l c) (sym (map-append cell_of_pair v.seen w.seen)) (Contains-append_right (map cell_of_pair v.seen) (map cell_of_pair w.seen) c seen)))
-      (Contains-append_cases (map cell_of_pair w.won) (map cell_of_pair w.seen) c held)
+  met_right = met_more w (both v w) (cells_right v.won w.won) (cells_right v.seen w.seen)
 
   -- ---- blocks stay owned
 
   owns_left : (p : Place) → owns v p ≡ true → owns (both v w) p ≡ true
-  owns_left p h = claims_owns (both v w) p (go (p.space == AGED) (p.space == OLD) (owns_claims v p h))
-    where
-      go : (s t : Bool) → 0 < (if s then weigh (one_at p.block) v.aged_blocks else if t then weigh (one_at p.block) v.old_blocks else 0)
-          → 0 < (if s then weigh (one_at p.block) (v.aged_blocks ++ w.aged_blocks) else if t then weigh (one_at p.block) (v.old_blocks ++ w.old_blocks) else 0)
-      go true t h = omega (arith, weigh-append (one_at p.block) v.aged_blocks w.aged_blocks)
-      go false true h = omega (arith, weigh-append (one_at p.block) v.old_blocks w.old_blocks)
-      go false false h = h
+  owns_left = owns_more v (both v w) (λ h. omega (arith, weigh-append h v.aged_blocks w.aged_blocks)) (λ h. omega (arith, weigh-append h v.old_blocks w.old_blocks))
 
   owns_right : (p : Place) → owns w p ≡ true → owns (both v w) p ≡ true
-  owns_right p h = claims_owns (both v w) p (go (p.space == AGED) (p.space == OLD) (owns_claims w p h))
-    where
-      go : (s t : Bool) → 0 < (if s then weigh (one_at p.block) w.aged_blocks else if t then weigh (one_at p.block) w.old_blocks else 0)
-          → 0 < (if s then weigh (one_at p.block) (v.aged_blocks ++ w.aged_blocks) else if t then weigh (one_at p.block) (v.old_blocks ++ w.old_blocks) else 0)
-      go true t h = omega (arith, weigh-append (one_at p.block) v.aged_blocks w.aged_blocks)
-      go false true h = omega (arith, weigh-append (one_at p.block) v.old_blocks w.old_blocks)
-      go false false h = h
+  owns_right = owns_more w (both v w) (λ h. omega (arith, weigh-append h v.aged_blocks w.aged_blocks)) (λ h. omega (arith, weigh-append h v.old_blocks w.old_blocks))
 
 -- a place of Aged, or of Old, that a record owns lies in a block that it claimed
 pub owned_aged : (v : Record) (p : Place) → owns v p ≡ true → p.space ≡ 1 → 0 < weigh (one_at p.block) v.aged_blocks

@@ -1,6 +1,7 @@
 -- A seat: what it holds at first and after a claim, and what a walk sees of it.
 use Rattle.std.proofs.Common.{◌≡◌, ◌≢◌, ℕ, suc, ◌^◌, ◌<◌, ◌≤◌, ◌==◌, ◌||◌, ◌++◌, List, [], ◌∷◌, Bool, true, false, length, get_or, map, refl, sym, ap, subst, ◌∙◌, eqb, eq-eqb, ⊎_elim, arith}
 use Rattle.std.specs.List.{All, AllPairs, Contains, list_any}
+use Rattle.std.specs.Prelude.{Result, IfErr, IfOk, OnOk}
 use Rattle.std.proofs.lemmas.Bool.{cases_eq, false≢true}
 use Rattle.std.proofs.lemmas.Bool.Decides.{Decides-eqb}
 use Rattle.std.proofs.lemmas.List.{append-nil, get_or-map, length-map, map-append}
@@ -21,10 +22,13 @@ use Rattle.tg_race.specs.Seats.{Board, Seated}
 use Rattle.tg_race.specs.Words.{space_of_age}
 use Rattle.tg_evac.specs.declared.win.Win.{Win}
 use Rattle.tg_evac.specs.Claims.{IsWinFor, is_in, win_at, won_in}
-use Rattle.tg_evac.specs.Claimers.{AddsWins}
+use Rattle.tg_evac.specs.declared.fault.CollectFault.{CollectFault}
+use Rattle.tg_evac.specs.declared.fault.CollectFault.TheVariants.{HeapFull}
+use Rattle.tg_evac.specs.Claimers.{AddsWins, IsLink}
+use Rattle.tg_evac.specs.Walks.{ClaimsCell}
 use Rattle.tg_parallel.specs.declared.own_blocks.OwnBlocks.{OwnBlocks}
-use Rattle.tg_parallel.specs.Parts.{HasPlaceOf, HasPlaces, cells_met, win_of, wins_of}
-use Rattle.tg_parallel.specs.Seats.{AreFilled, Finds, IsSeat, KnowsNext, OtherStays, pair_at, pairs_in, walked_at}
+use Rattle.tg_parallel.specs.Parts.{HasClaimedPast, HasPlaceOf, HasPlaces, cells_met, win_of, wins_of}
+use Rattle.tg_parallel.specs.Seats.{AreFilled, Finds, IsSeat, KnowsNext, OtherStays, Sitting, pair_at, pairs_in, walked_at}
 use Rattle.tg_parallel.proofs.Lists.{all_left, any_has, map_found}
 
 place_back : (p : Place) → IsPlace p → place_in (link_to p) ≡ p
@@ -132,6 +136,21 @@ module _ (cell : ℕ) (aged : Bool) (v w : Record) (finds : Finds cell aged v w)
     same_fixed = λ i. (board, finds.chunks i, finds.share i);
   }
 
+-- a place that was given from blocks of the right age is a claim of the cell
+pub claims_cell : (cell space : ℕ) (kind : Kind) (limit : ℕ) (board : Board) (v w : Record) (before : Sitting) (a : Bool) (result : Result ℕ CollectFault) → record { kind = kind; limit = limit; board = board; done = v } ≡ before → space ≡ space_of_age a → Finds cell a v w
+    → OnOk result (Contains (cells_met w) cell) → IfOk result (λ word. (to : ℕ → Place) → HasPlaces w to → to cell ≡ place_in word) → IfOk result IsLink → IfErr result (λ fault. fault ≡ HeapFull → HasClaimedPast limit w)
+    → ClaimsCell walked_at (λ s. HasPlaces s.done) (λ s. HasClaimedPast s.limit s.done) cell space before (record { kind = kind; limit = limit; board = board; done = w }) result
+claims_cell cell space kind limit board v w before a result same right finds met known link full =
+    let after : Sitting = record { kind = kind; limit = limit; board = board; done = w } in
+    record {
+      added = subst (λ (x : Sitting). AddsWins (IsWinFor cell space) (walked_at x) (walked_at after)) same (adds_found cell a v w finds kind limit board space right);
+      grows = λ to has. subst (λ (x : Sitting). HasPlaces x.done to) same (grows_more cell a v w finds to has);
+      met = met;
+      known = known;
+      link = link;
+      full = full;
+    }
+
 -- the won cells differ still
 module _ (cell : ℕ) (v : Record) (unmet : has_met v cell ≡ false) where
   pub not_won : (q : ℕ × Place) → Contains v.won q → q.0 ≢ cell
@@ -165,32 +184,16 @@ module _ (limit : ℕ) (board : Board) (before after : Seated) (aged old : OwnBl
         (All-append (λ (q : ℕ × Place). IsPlace q.1 × (q.1.space < 2)) before.done.won finds.won seat.places
         (All-weaker (λ (q : ℕ × Place). (q.0 ≡ cell) × (q.1.space ≡ space_of_age a) × IsPlace q.1) (λ (q : ℕ × Place). IsPlace q.1 × (q.1.space < 2)) (λ q r. (r.2, (let e = r.1 in let t = two_of a in omega arith))) finds.won finds.reasons))
 
+    seat_now : (first second : OwnBlocks) → first.aged ≡ true → second.aged ≡ false → AreFilled true after.done first.numbers.items first.used → AreFilled false after.done second.numbers.items second.used → KnowsNext first → KnowsNext second → IsSeat limit board after first second
+    seat_now first second is_aged is_old in_aged in_old aged_next old_next =
+        record { own = same ∙ seat.own; few = seat.few; differ = differ_now; inside = inside_now; places = places_now; is_aged = is_aged; is_old = is_old; in_aged = in_aged; in_old = in_old; aged_next = aged_next; old_next = old_next }
+
   pub seat_aged : (now : OwnBlocks) → now.aged ≡ aged.aged → Finds cell aged.aged before.done after.done → AreFilled aged.aged after.done now.numbers.items now.used → OtherStays aged.aged before.done after.done → KnowsNext now → IsSeat limit board after now old
-  seat_aged now space finds filled other next = record {
-    own = same ∙ seat.own;
-    few = seat.few;
-    differ = differ_now aged.aged finds;
-    inside = inside_now aged.aged finds;
-    places = places_now aged.aged finds;
-    is_aged = space ∙ seat.is_aged;
-    is_old = seat.is_old;
-    in_aged = subst (λ (a : Bool). AreFilled a after.done now.numbers.items now.used) seat.is_aged filled;
-    in_old = subst (λ (a : Bool). OtherStays a before.done after.done) seat.is_aged other old.numbers.items old.used seat.in_old;
-    aged_next = next;
-    old_next = seat.old_next;
-  }
+  seat_aged now space finds filled other next =
+      seat_now aged.aged finds now old (space ∙ seat.is_aged) seat.is_old (subst (λ (a : Bool). AreFilled a after.done now.numbers.items now.used) seat.is_aged filled)
+      (subst (λ (a : Bool). OtherStays a before.done after.done) seat.is_aged other old.numbers.items old.used seat.in_old) next seat.old_next
 
   pub seat_old : (now : OwnBlocks) → now.aged ≡ old.aged → Finds cell old.aged before.done after.done → AreFilled old.aged after.done now.numbers.items now.used → OtherStays old.aged before.done after.done → KnowsNext now → IsSeat limit board after aged now
-  seat_old now space finds filled other next = record {
-    own = same ∙ seat.own;
-    few = seat.few;
-    differ = differ_now old.aged finds;
-    inside = inside_now old.aged finds;
-    places = places_now old.aged finds;
-    is_aged = seat.is_aged;
-    is_old = space ∙ seat.is_old;
-    in_aged = subst (λ (a : Bool). OtherStays a before.done after.done) seat.is_old other aged.numbers.items aged.used seat.in_aged;
-    in_old = subst (λ (a : Bool). AreFilled a after.done now.numbers.items now.used) seat.is_old filled;
-    aged_next = seat.aged_next;
-    old_next = next;
-  }
+  seat_old now space finds filled other next =
+      seat_now old.aged finds aged now seat.is_aged (space ∙ seat.is_old) (subst (λ (a : Bool). OtherStays a before.done after.done) seat.is_old other aged.numbers.items aged.used seat.in_aged)
+      (subst (λ (a : Bool). AreFilled a after.done now.numbers.items now.used) seat.is_old filled) seat.aged_next next

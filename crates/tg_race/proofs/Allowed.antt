@@ -21,7 +21,7 @@ use Rattle.std.proofs.Common.{inl, inr}
 use Rattle.tg_race.proofs.Drawn.{drawn_under}
 use Rattle.tg_race.proofs.Standing.{won_stands, seen_at, unmet}
 use Rattle.tg_race.specs.Words.{place_at}
-use Rattle.tg_race.specs.Race.{Rule, HasMet, empty, past, with_chunk, with_seen, with_won, with_claimed_block, both, less_one}
+use Rattle.tg_race.specs.Race.{Race, Rule, HasMet, empty, past, with_chunk, with_seen, with_won, with_claimed_block, both, less_one}
 use Rattle.tg_race.specs.Board.{IsBoardOfRace, AreSmall, IsClosedTable, IsKnown, KnowsSkipped, number_of_cell, does, skipped_of, numbers_of_race, drew_chunk, drew_aged, drew_old, looked, tried}
 use Rattle.tg_race.proofs.Parts.{open_aged, open_old, claims_of, rule_of, parts_of}
 use Rattle.tg_race.proofs.Steps.{claim_keeps, claim_aged_keeps, claim_old_keeps, win_keeps, look_keeps, split_keeps, join_keeps, starts, alone_keeps, few_chunks, few_aged, few_old}
@@ -46,83 +46,53 @@ is_skipped k s h id u alive at = at_all (KnowsSkipped k) s.views id u h.skipped 
 still_skipped : (k : Counts) (s : State ℕ View) (h : IsBoardOfRace k s) (id : ℕ) (u : View) (w : Record) → u.skipped ≡ skipped_of k → All (KnowsSkipped k) (set s.views id (does u w))
 still_skipped k s h id u w is = All-set (KnowsSkipped k) s.views id (does u w) (λ _. is) h.skipped
 
-pub draws_chunk : (k : Counts) (slots id : ℕ) (m : Me ℕ View) → past k m.0.done ≡ 0 → 0 < m.0.done.share
-    → Allows (IsBoardOfRace k) slots id m 0 (λ n. (n + 1) % 2 ^ 64) (drew_chunk (step slots 0 1 0 none) m)
-draws_chunk k slots id m none_past alive s h len at fits =
+-- A step at the counter i, whose number in a race is `next`: the record `put` takes the number, and the race after it keeps the
+-- rule. All numbers that the record had of it, `of`, are below.
+draws : (k : Counts) (slots id i : ℕ) (m : Me ℕ View) (put : ℕ → Record) (of : List ℕ) (next : Race → ℕ) (after : Race → Race) → 0 < m.0.done.share
+    → ((r : Race) (moved : List ℕ) → (get_or (numbers_of_race r moved) i 0 ≡ next r) × (set (numbers_of_race r moved) i (next r + 1) ≡ numbers_of_race (after r) moved))
+    → ((r : Race) → ((after r).words ≡ r.words) × ((after r).records ≡ set r.records id (put (next r))))
+    → ((r : Race) → Rule k r → AreSmall k → get_elem? r.records id ≡ some m.0.done → (next r + 1 < 2 ^ 64) × Rule k (after r) × All (λ b. b < next r) of)
+    → Allows (IsBoardOfRace k) slots id m i (λ n. (n + 1) % 2 ^ 64) (λ n m'. (m' ≡ (does m.0 (put n), m.1)) × All (λ b. b < n) of)
+draws k slots id i m put of next after alive numbers race step s h len at fits =
     let r = h.race in
-    let n : ℕ = slice_index s.words 0 in
-    let w = does m.0 (with_chunk m.0.done n) in
-    let is : n ≡ r.next_chunk = ap (λ (ws : List ℕ). get_or ws 0 0) h.words in
-    let few = few_chunks k r (parts_of k r h.rule) in
-    let small = h.small in
-    let next : (n + 1) % 2 ^ 64 ≡ r.next_chunk + 1 = mod-eq_of_lt (let fits : n + 1 < 2 ^ 64 = omega arith in fits) ∙ ap (λ (x : ℕ). x + 1) is in (
-      w,
+    let n : ℕ = slice_index s.words i in
+    let counts = numbers r h.moved in
+    let facts = step r h.rule h.small (in_race k s h id m.0 at) in
+    let is : n ≡ next r = ap (λ (ws : List ℕ). get_or ws i 0) h.words ∙ counts.0 in
+    let more : (n + 1) % 2 ^ 64 ≡ next r + 1 = mod-eq_of_lt (let low : n + 1 < 2 ^ 64 = omega (arith, facts.0) in low) ∙ ap (λ (x : ℕ). x + 1) is in (
+      does m.0 (put n),
       keeps,
       tt,
       record {
         moved = h.moved;
-        whole = h.whole;
-        race = record r { next_chunk = r.next_chunk + 1; records = set r.records id (with_chunk m.0.done r.next_chunk) };
-        words = ap (λ (x : ℕ). set s.words 0 x) next ∙ ap (λ (ws : List ℕ). set ws 0 (r.next_chunk + 1)) h.words;
-        records = ap (λ (x : ℕ). map (λ (u : View). u.done) (set s.views id (does m.0 (with_chunk m.0.done x)))) is ∙ with_record k s h id m.0 (with_chunk m.0.done r.next_chunk);
+        whole = (race r).0 ∙ h.whole;
+        race = after r;
+        words = ap (λ (x : ℕ). set s.words i x) more ∙ (ap (λ (ws : List ℕ). set ws i (next r + 1)) h.words ∙ counts.1);
+        records = ap (λ (x : ℕ). map (λ (u : View). u.done) (set s.views id (does m.0 (put x)))) is ∙ (with_record k s h id m.0 (put (next r)) ∙ sym (race r).1);
         skipped = still_skipped k s h id m.0 _ (is_skipped k s h id m.0 alive at);
-        rule = rule_of _ _ (claim_keeps k r id m.0.done (parts_of k h.race h.rule) (in_race k s h id m.0 at) none_past alive);
-        small = small;
+        rule = facts.1;
+        small = h.small;
       },
-      (refl, subst (λ (x : ℕ). All (λ c. c < x) m.0.done.chunks) (sym is) (drawn_under 0 r.next_chunk (λ u. u.chunks) r.records id m.0.done h.rule.chunks_once (in_race k s h id m.0 at))),
+      (refl, subst (λ (x : ℕ). All (λ b. b < x) of) (sym is) facts.2),
     )
+
+pub draws_chunk : (k : Counts) (slots id : ℕ) (m : Me ℕ View) → past k m.0.done ≡ 0 → 0 < m.0.done.share
+    → Allows (IsBoardOfRace k) slots id m 0 (λ n. (n + 1) % 2 ^ 64) (drew_chunk (step slots 0 1 0 none) m)
+draws_chunk k slots id m none_past alive =
+    draws k slots id 0 m (λ n. with_chunk m.0.done n) m.0.done.chunks (λ r. r.next_chunk) (λ r. record r { next_chunk = r.next_chunk + 1; records = set r.records id (with_chunk m.0.done r.next_chunk) }) alive (λ r moved. (refl, refl)) (λ r. (refl, refl))
+    (λ r rule small at. ((let few = few_chunks k r (parts_of k r rule) in omega arith), rule_of _ _ (claim_keeps k r id m.0.done (parts_of k r rule) at none_past alive), drawn_under 0 r.next_chunk (λ u. u.chunks) r.records id m.0.done rule.chunks_once at))
 
 pub draws_aged : (k : Counts) (slots id : ℕ) (m : Me ℕ View) → open_aged m.0.done ≡ 0 → 0 < m.0.done.share
     → Allows (IsBoardOfRace k) slots id m 1 (λ n. (n + 1) % 2 ^ 64) (drew_aged (step slots 1 1 0 none) m)
-draws_aged k slots id m none_open alive s h len at fits =
-    let r = h.race in
-    let n : ℕ = slice_index s.words 1 in
-    let w = does m.0 (with_claimed_block true m.0.done n) in
-    let is : n ≡ r.next_aged = ap (λ (ws : List ℕ). get_or ws 1 0) h.words in
-    let few = few_aged k r (parts_of k r h.rule) in
-    let small = h.small in
-    let next : (n + 1) % 2 ^ 64 ≡ r.next_aged + 1 = mod-eq_of_lt (let fits : n + 1 < 2 ^ 64 = omega arith in fits) ∙ ap (λ (x : ℕ). x + 1) is in (
-      w,
-      keeps,
-      tt,
-      record {
-        moved = h.moved;
-        whole = h.whole;
-        race = record r { next_aged = r.next_aged + 1; records = set r.records id (with_claimed_block true m.0.done r.next_aged) };
-        words = ap (λ (x : ℕ). set s.words 1 x) next ∙ ap (λ (ws : List ℕ). set ws 1 (r.next_aged + 1)) h.words;
-        records = ap (λ (x : ℕ). map (λ (u : View). u.done) (set s.views id (does m.0 (with_claimed_block true m.0.done x)))) is ∙ with_record k s h id m.0 (with_claimed_block true m.0.done r.next_aged);
-        skipped = still_skipped k s h id m.0 _ (is_skipped k s h id m.0 alive at);
-        rule = rule_of _ _ (claim_aged_keeps k r id m.0.done (parts_of k h.race h.rule) (in_race k s h id m.0 at) none_open alive);
-        small = small;
-      },
-      (refl, subst (λ (x : ℕ). All (λ b. b < x) m.0.done.aged_blocks) (sym is) (drawn_under 0 r.next_aged (λ u. u.aged_blocks) r.records id m.0.done h.rule.blocks_once.0 (in_race k s h id m.0 at))),
-    )
+draws_aged k slots id m none_open alive =
+    draws k slots id 1 m (λ n. with_claimed_block true m.0.done n) m.0.done.aged_blocks (λ r. r.next_aged) (λ r. record r { next_aged = r.next_aged + 1; records = set r.records id (with_claimed_block true m.0.done r.next_aged) }) alive (λ r moved. (refl, refl)) (λ r. (refl, refl))
+    (λ r rule small at. ((let few = few_aged k r (parts_of k r rule) in omega arith), rule_of _ _ (claim_aged_keeps k r id m.0.done (parts_of k r rule) at none_open alive), drawn_under 0 r.next_aged (λ u. u.aged_blocks) r.records id m.0.done rule.blocks_once.0 at))
 
 pub draws_old : (k : Counts) (slots id : ℕ) (m : Me ℕ View) → open_old m.0.done ≡ 0 → 0 < m.0.done.share
     → Allows (IsBoardOfRace k) slots id m 2 (λ n. (n + 1) % 2 ^ 64) (drew_old (step slots 2 1 0 none) m)
-draws_old k slots id m none_open alive s h len at fits =
-    let r = h.race in
-    let n : ℕ = slice_index s.words 2 in
-    let w = does m.0 (with_claimed_block false m.0.done n) in
-    let is : n ≡ r.next_old = ap (λ (ws : List ℕ). get_or ws 2 0) h.words in
-    let few = few_old k r (parts_of k r h.rule) in
-    let small = h.small in
-    let next : (n + 1) % 2 ^ 64 ≡ r.next_old + 1 = mod-eq_of_lt (let fits : n + 1 < 2 ^ 64 = omega arith in fits) ∙ ap (λ (x : ℕ). x + 1) is in (
-      w,
-      keeps,
-      tt,
-      record {
-        moved = h.moved;
-        whole = h.whole;
-        race = record r { next_old = r.next_old + 1; records = set r.records id (with_claimed_block false m.0.done r.next_old) };
-        words = ap (λ (x : ℕ). set s.words 2 x) next ∙ ap (λ (ws : List ℕ). set ws 2 (r.next_old + 1)) h.words;
-        records = ap (λ (x : ℕ). map (λ (u : View). u.done) (set s.views id (does m.0 (with_claimed_block false m.0.done x)))) is ∙ with_record k s h id m.0 (with_claimed_block false m.0.done r.next_old);
-        skipped = still_skipped k s h id m.0 _ (is_skipped k s h id m.0 alive at);
-        rule = rule_of _ _ (claim_old_keeps k r id m.0.done (parts_of k h.race h.rule) (in_race k s h id m.0 at) none_open alive);
-        small = small;
-      },
-      (refl, subst (λ (x : ℕ). All (λ b. b < x) m.0.done.old_blocks) (sym is) (drawn_under k.kept r.next_old (λ u. u.old_blocks) r.records id m.0.done h.rule.blocks_once.1 (in_race k s h id m.0 at))),
-    )
+draws_old k slots id m none_open alive =
+    draws k slots id 2 m (λ n. with_claimed_block false m.0.done n) m.0.done.old_blocks (λ r. r.next_old) (λ r. record r { next_old = r.next_old + 1; records = set r.records id (with_claimed_block false m.0.done r.next_old) }) alive (λ r moved. (refl, refl)) (λ r. (refl, refl))
+    (λ r rule small at. ((let few = few_old k r (parts_of k r rule) in omega arith), rule_of _ _ (claim_old_keeps k r id m.0.done (parts_of k r rule) at none_open alive), drawn_under k.kept r.next_old (λ u. u.old_blocks) r.records id m.0.done rule.blocks_once.1 at))
 
 module _ (k : Counts) (slots id : ℕ) (m : Me ℕ View) (alive : 0 < m.0.done.share) (s : State ℕ View) (h : IsBoardOfRace k s) (at : get_elem? s.views id ≡ some m.0) where
   -- the cell whose word stands so far behind the counters

@@ -16,7 +16,7 @@ use Rattle.tg_race.specs.declared.event.Event.{Event}
 use Rattle.tg_race.specs.declared.event.Event.TheVariants.{Claim, Look, Win, Lose, Block, Part, Meet}
 use Rattle.tg_race.specs.Race.{Race, empty, past, with_chunk, with_seen, with_won, with_claimed_block, both, less_one}
 use Rattle.tg_race.specs.Conditions.{can_use}
-use Rattle.tg_race.specs.Course.{Net, Course, counts_of, chunk_has, pair_has, is_target, record_at, forwarding_word, is_within, can_win, can, can_happen, happens, course_after, starting, IsEarned, HasEarnedWins, KeepsRule}
+use Rattle.tg_race.specs.Course.{Net, Course, counts_of, chunk_has, pair_has, is_target, record_at, forwarding_word, is_within, can_win, can, can_happen, happens, course_after, starting, IsEarned, HasEarnedWins, IsHeld, KeepsRule}
 use Rattle.tg_race.proofs.Parts.{Parts, rule_of, parts_of}
 use Rattle.tg_race.proofs.Needs.{none_past, none_open_aged, none_open_old, usable, parted}
 use Rattle.tg_race.proofs.Steps.{claim_keeps, claim_aged_keeps, claim_old_keeps, win_keeps, look_keeps, split_keeps, join_keeps, starts}
@@ -329,44 +329,54 @@ live_share c0 c helper e v same h here =
     let share = ap (λ (w : Record). w.share) (live_record c0 c helper e v same h here) in
     omega arith
 
+-- a push that was refused leaves the course as it was
+pub kept_back : (c0 c : Course) (helper : ℕ) (v w : Record) → c0 ≡ c → v ≡ get_or c0.race.records helper v → w ≡ v → IsHeld c0.net × KeepsRule c0
+    → IsHeld c0.net × KeepsRule (record c0 { race = record c0.race { records = set c0.race.records helper w } })
+kept_back c0 c helper v w same here is kept = (kept.0, subst KeepsRule (sym (put_back c0 helper v w here is)) kept.1)
+
+-- and a push that was done, as the event says
+pub kept_on : (c0 c d : Course) (helper : ℕ) (e : Event) → c0 ≡ c → IsHeld c0.net × KeepsRule c0 → can_happen c helper e ≡ true → d ≡ happens c helper e → IsHeld c0.net × KeepsRule d
+kept_on c0 c d helper e same kept h is = (kept.0, kept_after c0 c d helper e same kept.1 h is)
+
+-- where the code made of the helper's record what the event makes of it, it made the event's course
+made_is : (c0 c : Course) (helper : ℕ) (e : Event) (v w : Record) (of : Record → Record) (to : Record → Course) → c0 ≡ c → can_happen c helper e ≡ true → v ≡ get_or c0.race.records helper v
+    → w ≡ of v → to (of (record_at c0.race helper)) ≡ happens c0 helper e → to w ≡ happens c helper e
+made_is c0 c helper e v w of to same h here is event =
+    ap to (is ∙ ap of (live_record c0 c helper e v same h here)) ∙ (event ∙ ap (λ (x : Course). happens x helper e) same)
+
 -- each event, by what the code makes of the record
 pub claim_is : (c0 c : Course) (helper : ℕ) (v : Record) (chunks : List ℕ) → c0 ≡ c → can_happen c helper Claim ≡ true → v ≡ get_or c0.race.records helper v → chunks ≡ v.chunks ++ c0.race.next_chunk ∷ []
     → record c0 { race = record c0.race { next_chunk = c0.race.next_chunk + 1; records = set c0.race.records helper (record v { chunks = chunks }) } } ≡ happens c helper Claim
 claim_is c0 c helper v chunks same h here is =
-    let e : record v { chunks = chunks } ≡ with_chunk (record_at c0.race helper) c0.race.next_chunk =
-    ap (λ (l : List ℕ). record v { chunks = l }) is ∙ ap (λ (w : Record). with_chunk w c0.race.next_chunk) (live_record c0 c helper Claim v same h here) in
-    ap (λ (w : Record). record c0 { race = record c0.race { next_chunk = c0.race.next_chunk + 1; records = set c0.race.records helper w } }) e ∙ ap (λ (x : Course). happens x helper Claim) same
+    made_is c0 c helper Claim v (record v { chunks = chunks }) (λ w. with_chunk w c0.race.next_chunk) (λ w. record c0 { race = record c0.race { next_chunk = c0.race.next_chunk + 1; records = set c0.race.records helper w } }) same h here
+    (ap (λ (l : List ℕ). record v { chunks = l }) is) refl
 
 pub lose_is : (c0 c : Course) (helper cell : ℕ) (v : Record) (seen : List (ℕ × Place)) → c0 ≡ c → can_happen c helper (Lose cell) ≡ true → v ≡ get_or c0.race.records helper v
     → seen ≡ v.seen ++ (cell, place_of (forwarding_word c0.race cell)) ∷ []
     → record c0 { race = record c0.race { records = set c0.race.records helper (record v { seen = seen }) } } ≡ happens c helper (Lose cell)
 lose_is c0 c helper cell v seen same h here is =
-    let e : record v { seen = seen } ≡ with_seen (record_at c0.race helper) (cell, place_of (forwarding_word c0.race cell)) =
-    ap (λ (l : List (ℕ × Place)). record v { seen = l }) is ∙ ap (λ (w : Record). with_seen w (cell, place_of (forwarding_word c0.race cell))) (live_record c0 c helper (Lose cell) v same h here) in
-    ap (λ (w : Record). record c0 { race = record c0.race { records = set c0.race.records helper w } }) e ∙ ap (λ (x : Course). happens x helper (Lose cell)) same
+    made_is c0 c helper (Lose cell) v (record v { seen = seen }) (λ w. with_seen w (cell, place_of (forwarding_word c0.race cell))) (λ w. record c0 { race = record c0.race { records = set c0.race.records helper w } }) same h here
+    (ap (λ (l : List (ℕ × Place)). record v { seen = l }) is) refl
 
 pub win_is : (c0 c : Course) (helper cell : ℕ) (place : Place) (word : ℕ) (v : Record) (won : List (ℕ × Place)) → c0 ≡ c → can_happen c helper (Win cell place) ≡ true → word ≡ word_of place → v ≡ get_or c0.race.records helper v
     → won ≡ v.won ++ (cell, place) ∷ []
     → record c0 { race = record c0.race { words = set c0.race.words cell word; records = set c0.race.records helper (record v { won = won }) } } ≡ happens c helper (Win cell place)
 win_is c0 c helper cell place word v won same h word_is here is =
-    let e : record v { won = won } ≡ with_won (record_at c0.race helper) (cell, place) =
-    ap (λ (l : List (ℕ × Place)). record v { won = l }) is ∙ ap (λ (w : Record). with_won w (cell, place)) (live_record c0 c helper (Win cell place) v same h here) in
     ap (λ (n : ℕ). record c0 { race = record c0.race { words = set c0.race.words cell n; records = set c0.race.records helper (record v { won = won }) } }) word_is
-    ∙ (ap (λ (w : Record). record c0 { race = record c0.race { words = set c0.race.words cell (word_of place); records = set c0.race.records helper w } }) e ∙ ap (λ (x : Course). happens x helper (Win cell place)) same)
+    ∙ made_is c0 c helper (Win cell place) v (record v { won = won }) (λ w. with_won w (cell, place)) (λ w. record c0 { race = record c0.race { words = set c0.race.words cell (word_of place); records = set c0.race.records helper w } }) same h here
+    (ap (λ (l : List (ℕ × Place)). record v { won = l }) is) refl
 
 pub claim_aged_is : (c0 c : Course) (helper : ℕ) (v : Record) (aged : List ℕ) → c0 ≡ c → can_happen c helper (Block true) ≡ true → v ≡ get_or c0.race.records helper v → aged ≡ v.aged_blocks ++ c0.race.next_aged ∷ []
     → record c0 { race = record c0.race { next_aged = c0.race.next_aged + 1; records = set c0.race.records helper (record v { aged_blocks = aged }) } } ≡ happens c helper (Block true)
 claim_aged_is c0 c helper v aged same h here is =
-    let e : record v { aged_blocks = aged } ≡ with_claimed_block true (record_at c0.race helper) c0.race.next_aged =
-    ap (λ (l : List ℕ). record v { aged_blocks = l }) is ∙ ap (λ (w : Record). with_claimed_block true w c0.race.next_aged) (live_record c0 c helper (Block true) v same h here) in
-    ap (λ (w : Record). record c0 { race = record c0.race { next_aged = c0.race.next_aged + 1; records = set c0.race.records helper w } }) e ∙ ap (λ (x : Course). happens x helper (Block true)) same
+    made_is c0 c helper (Block true) v (record v { aged_blocks = aged }) (λ w. with_claimed_block true w c0.race.next_aged) (λ w. record c0 { race = record c0.race { next_aged = c0.race.next_aged + 1; records = set c0.race.records helper w } }) same h here
+    (ap (λ (l : List ℕ). record v { aged_blocks = l }) is) refl
 
 pub claim_old_is : (c0 c : Course) (helper : ℕ) (v : Record) (old : List ℕ) → c0 ≡ c → can_happen c helper (Block false) ≡ true → v ≡ get_or c0.race.records helper v → old ≡ v.old_blocks ++ c0.race.next_old ∷ []
     → record c0 { race = record c0.race { next_old = c0.race.next_old + 1; records = set c0.race.records helper (record v { old_blocks = old }) } } ≡ happens c helper (Block false)
 claim_old_is c0 c helper v old same h here is =
-    let e : record v { old_blocks = old } ≡ with_claimed_block false (record_at c0.race helper) c0.race.next_old =
-    ap (λ (l : List ℕ). record v { old_blocks = l }) is ∙ ap (λ (w : Record). with_claimed_block false w c0.race.next_old) (live_record c0 c helper (Block false) v same h here) in
-    ap (λ (w : Record). record c0 { race = record c0.race { next_old = c0.race.next_old + 1; records = set c0.race.records helper w } }) e ∙ ap (λ (x : Course). happens x helper (Block false)) same
+    made_is c0 c helper (Block false) v (record v { old_blocks = old }) (λ w. with_claimed_block false w c0.race.next_old) (λ w. record c0 { race = record c0.race { next_old = c0.race.next_old + 1; records = set c0.race.records helper w } }) same h here
+    (ap (λ (l : List ℕ). record v { old_blocks = l }) is) refl
 
 pub part_is : (c0 c : Course) (helper : ℕ) (v : Record) (l : List Record) → c0 ≡ c → can_happen c helper Part ≡ true → v ≡ get_or c0.race.records helper v → l ≡ set c0.race.records helper (less_one v) ++ empty 1 ∷ []
     → record c0 { race = record c0.race { records = l } } ≡ happens c helper Part

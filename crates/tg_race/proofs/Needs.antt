@@ -1,5 +1,5 @@
 -- The conditions of the events, as the steps use them.
-use Rattle.std.proofs.Common.{◌≡◌, ℕ, ◌<◌, ◌==◌, List, [], ◌∷◌, length, true, false, not, eqb-true, nat_lt, refl, arith}
+use Rattle.std.proofs.Common.{◌≡◌, ℕ, ◌+◌, ◌-◌, ◌*◌, ◌<◌, ◌≤◌, ◌==◌, List, [], ◌∷◌, length, true, false, not, eqb-true, nat_lt, sym, refl, ap, ◌∙◌, arith}
 use Rattle.std.specs.List.{list_all}
 use Rattle.std.proofs.lemmas.Bool.{cond-true, cond-false, and_parts, ltb-true, not-true}
 use Rattle.tg_word.specs.declared.Place.{Place}
@@ -8,9 +8,24 @@ use Rattle.tg_race.specs.declared.record.Record.{Record}
 use Rattle.tg_race.specs.Weights.{weigh}
 use Rattle.tg_race.specs.Words.{same_place, place_at, OLD, AGED}
 use Rattle.tg_race.specs.Race.{empty, is_chunk, past, used_in, owns}
+use Rattle.tg_race.specs.Seats.{Board, Seated, TableOf}
 use Rattle.tg_race.specs.Conditions.{can_claim_roots, can_claim_block, uses, can_use, is_new, can_part}
 use Rattle.tg_race.proofs.Sums.{none_weighs}
 use Rattle.tg_race.proofs.Parts.{is_past, is_open, open_aged, open_old, claims_of, owns_claims}
+
+-- a seat that is at a table is at that with the same id
+pub at_table : (x me : Seated) (y board : Board) → x ≡ me → me.table ≡ board.table → y ≡ board → x.table.id ≡ y.table.id
+at_table x me y board seat own table = ap (λ (s : Seated). s.table.id) seat ∙ (ap (λ (t : TableOf). t.id) own ∙ sym (ap (λ (b : Board). b.table.id) table))
+
+-- the word of a cell stands as far behind the counters as the cell behind those that have none
+pub record StandsAt (k : Counts) (number d : ℕ) : Type 0 where
+  pub is : number ≡ d + 3
+  pub inside : 64 * k.kept + d < k.cells
+
+pub stands_at : (k : Counts) (y board : Board) (cell number : ℕ) → y ≡ board → k ≡ y.counts → number + 64 * board.counts.kept ≡ cell + 3 → 64 * board.counts.kept ≤ cell → cell < board.counts.cells → StandsAt k number (cell - 64 * board.counts.kept)
+stands_at k y board cell number table key is moved inside =
+    let same : k ≡ board.counts = key ∙ ap (λ (b : Board). b.counts) table in
+    rw same (record { is = omega arith; inside = omega arith })
 
 past_none : (k : Counts) (l : List ℕ) → list_all (is_chunk k) l ≡ true → weigh (is_past k) l ≡ 0
 past_none k [] h = refl

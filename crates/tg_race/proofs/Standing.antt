@@ -80,9 +80,9 @@ seen_at words (q ∷ l) c p all h = go (same_pair c p q) refl h (seen_at words l
         ap (λ (n : ℕ). get_or words n 0) (sym (eqb-true q.0 c test.0)) ∙ (All-head (IsPair words) q l all ∙ ap word_of (same_place_is q.1 p test.1))
     go false t h later = later h
 
--- a pair that a record has won stands in the table
-pub won_stands : (k : Counts) (r : Race) → Rule k r → EachRecord (λ v. (cell : ℕ) (p : Place) → IsTrue (has_pair cell p v.won) → slice_index r.words cell ≡ word_of p) r.records
-won_stands k r rule id v at cell p won =
+-- a pair that a record has won stands in the table, with a place in range
+won_pair : (k : Counts) (r : Race) → Rule k r → EachRecord (λ v. (cell : ℕ) (p : Place) → IsTrue (has_pair cell p v.won) → (slice_index r.words cell ≡ word_of p) × IsPlace p) r.records
+won_pair k r rule id v at cell p won =
     let mine = any_weighs (same_pair cell p) v.won won in
     let one = weigh_one_le (λ u. weigh (pair_at cell p) u.won) r.records id v at in
     let all = rule.wins_once.won (pair_at cell p) in
@@ -90,20 +90,16 @@ won_stands k r rule id v at cell p won =
     let w : ℕ = get_or r.words found.at 0 in
     let test = and_parts (found.cell == cell) (same_place (place_of w) p) found.passes in
     let is : found.at ≡ cell = (let here = eqb-true found.cell cell test.0 in let e = found.is in omega arith) in
-    let forward = rule.wins_once.forward found.at 0 found.inside found.taken in
-    ap (λ (n : ℕ). get_or r.words n 0) (sym is) ∙ (sym forward.1 ∙ ap word_of (same_place_is (place_of w) p test.1))
+    let forward = rule.wins_once.forward found.at 0 found.inside found.taken in (
+      ap (λ (n : ℕ). get_or r.words n 0) (sym is) ∙ (sym forward.1 ∙ ap word_of (same_place_is (place_of w) p test.1)),
+      subst (λ (q : Place). IsPlace q) (same_place_is (place_of w) p test.1) forward.0,
+    )
 
--- and its place is that of the word of its cell, and so in range
+pub won_stands : (k : Counts) (r : Race) → Rule k r → EachRecord (λ v. (cell : ℕ) (p : Place) → IsTrue (has_pair cell p v.won) → slice_index r.words cell ≡ word_of p) r.records
+won_stands k r rule id v at cell p won = (won_pair k r rule id v at cell p won).0
+
 pub won_place : (k : Counts) (r : Race) → Rule k r → EachRecord (λ v. (cell : ℕ) (p : Place) → IsTrue (has_pair cell p v.won) → IsPlace p) r.records
-won_place k r rule id v at cell p won =
-    let mine = any_weighs (same_pair cell p) v.won won in
-    let one = weigh_one_le (λ u. weigh (pair_at cell p) u.won) r.records id v at in
-    let all = rule.wins_once.won (pair_at cell p) in
-    let found = weighed_passes (same_pair cell p) 0 r.words (omega arith) in
-    let w : ℕ = get_or r.words found.at 0 in
-    let test = and_parts (found.cell == cell) (same_place (place_of w) p) found.passes in
-    let forward = rule.wins_once.forward found.at 0 found.inside found.taken in
-    subst (λ (q : Place). IsPlace q) (same_place_is (place_of w) p test.1) forward.0
+won_place k r rule id v at cell p won = (won_pair k r rule id v at cell p won).1
 
 -- a seen cell has a word
 seen_taken : (words : List ℕ) (c : ℕ) (l : List (ℕ × Place)) → All (IsPair words) l → list_any (λ q. q.0 == c) l ≡ true → get_or words c 0 ≢ 0

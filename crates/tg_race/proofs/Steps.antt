@@ -47,30 +47,42 @@ each_set P l id w new old j u at = ⊎_elim (λ t. subst P t.1 new) (λ t. old j
 not_spent : (v w : Record) → w.share ≡ v.share → 0 < v.share → w.share ≡ 0 → w ≡ empty 0
 not_spent v w same has none = absurd (omega arith)
 
+-- A record is put in place of another that has won as much and has the same share, and other numbers are drawn: the rule is kept,
+-- where each is drawn once and the record fits.
+put_keeps : (k : Counts) (r : Race) (id : ℕ) (v w : Record) (chunk aged old : ℕ) → Parts k r → get_elem? r.records id ≡ some v → w.won ≡ v.won → w.share ≡ v.share
+    → IsDrawn 0 chunk (λ u. u.chunks) (set r.records id w) → IsDrawn 0 aged (λ u. u.aged_blocks) (set r.records id w) → IsDrawn k.kept old (λ u. u.old_blocks) (set r.records id w) → Fits k r.words w
+    → Parts k (record r { next_chunk = chunk; next_aged = aged; next_old = old; records = set r.records id w })
+put_keeps k r id v w chunk aged old rule at same_won same_share chunks_once aged_once old_once fits = record {
+  size = rule.size;
+  forward = rule.forward;
+  chunks = chunks_once;
+  aged = aged_once;
+  old = old_once;
+  won = λ h. (let s = weigh-set (λ u. weigh h u.won) r.records id v w at in let e = rule.won h in let n = ap (weigh h) same_won in omega arith);
+  apart = λ x. (let s = weigh-set (λ u. weigh (place_at x) u.won) r.records id v w at in let e = rule.apart x in let n = ap (weigh (place_at x)) same_won in omega arith);
+  shares = (let s = weigh-set (λ u. u.share) r.records id v w at in let e = rule.shares in omega arith);
+  each = each_set (Fits k r.words) r.records id w fits rule.each;
+}
+
+-- what a record has drawn is drawn once, where another with the same takes over
+module _ (k : Counts) (r : Race) (id : ℕ) (v w : Record) (rule : Parts k r) (at : get_elem? r.records id ≡ some v) where
+  same_chunks : w.chunks ≡ v.chunks → IsDrawn 0 r.next_chunk (λ u. u.chunks) (set r.records id w)
+  same_chunks same = drawn_same 0 r.next_chunk (λ u. u.chunks) r.records id v w at same rule.chunks
+
+  same_aged : w.aged_blocks ≡ v.aged_blocks → IsDrawn 0 r.next_aged (λ u. u.aged_blocks) (set r.records id w)
+  same_aged same = drawn_same 0 r.next_aged (λ u. u.aged_blocks) r.records id v w at same rule.aged
+
+  same_old : w.old_blocks ≡ v.old_blocks → IsDrawn k.kept r.next_old (λ u. u.old_blocks) (set r.records id w)
+  same_old same = drawn_same k.kept r.next_old (λ u. u.old_blocks) r.records id v w at same rule.old
+
 pub claim_keeps : (k : Counts) (r : Race) (id : ℕ) (v : Record) → Parts k r → get_elem? r.records id ≡ some v → past k v ≡ 0 → 0 < v.share
     → Parts k (record r { next_chunk = r.next_chunk + 1; records = set r.records id (with_chunk v r.next_chunk) })
 claim_keeps k r id v rule at none has =
-    let w = with_chunk v r.next_chunk in
-    let fits = rule.each id v at in
-    let one : is_past k r.next_chunk ≤ 1 = cond_both (nat_lt r.next_chunk (chunks_of k)) 0 1 (λ x. x ≤ 1) (λ _. omega arith) (λ _. omega arith) in
-    let p = weigh_push (is_past k) v.chunks r.next_chunk in record {
-      size = rule.size;
-      forward = rule.forward;
-      chunks = drawn_more 0 r.next_chunk (λ u. u.chunks) r.records id v w at refl rule.chunks;
-      aged = drawn_same 0 r.next_aged (λ u. u.aged_blocks) r.records id v w at refl rule.aged;
-      old = drawn_same k.kept r.next_old (λ u. u.old_blocks) r.records id v w at refl rule.old;
-      won = λ h. (let s = weigh-set (λ u. weigh h u.won) r.records id v w at in let e = rule.won h in omega arith);
-      apart = λ x. (let s = weigh-set (λ u. weigh (place_at x) u.won) r.records id v w at in let e = rule.apart x in omega arith);
-      shares = (let s = weigh-set (λ u. u.share) r.records id v w at in let e = rule.shares in omega arith);
-      each = each_set (Fits k r.words) r.records id w (record {
-        placed = fits.placed;
-        seen = fits.seen;
-        past = omega arith;
-        open_aged = fits.open_aged;
-        open_old = fits.open_old;
-        spent = not_spent v w refl has;
-      }) rule.each;
-    }
+    let n = r.next_chunk in let w = with_chunk v n in let fits = rule.each id v at in let p = weigh_push (is_past k) v.chunks n in
+    let one : is_past k n ≤ 1 = cond_both (nat_lt n (chunks_of k)) 0 1 (λ x. x ≤ 1) (λ _. omega arith) (λ _. omega arith) in
+    put_keeps k r id v w (n + 1) r.next_aged r.next_old rule at refl refl
+    (drawn_more 0 n (λ u. u.chunks) r.records id v w at refl rule.chunks) (same_aged k r id v w rule at refl) (same_old k r id v w rule at refl)
+    (record { placed = fits.placed; seen = fits.seen; past = omega arith; open_aged = fits.open_aged; open_old = fits.open_old; spent = not_spent v w refl has })
 
 -- more won pairs leave no more blocks open
 fewer_open : (space b : ℕ) (won more : List (ℕ × Place)) → used_in space b won ≤ used_in space b more → is_open space more b ≤ is_open space won b
@@ -192,24 +204,15 @@ pub look_keeps : (k : Counts) (r : Race) (id : ℕ) (v : Record) (c : ℕ) (p : 
     → get_or r.words c 0 ≡ word_of p → Parts k (record r { records = set r.records id (with_seen v (c, p)) })
 look_keeps k r id v c p rule at has found =
     let w = with_seen v (c, p) in
-    let fits = rule.each id v at in record {
-      size = rule.size;
-      forward = rule.forward;
-      chunks = drawn_same 0 r.next_chunk (λ u. u.chunks) r.records id v w at refl rule.chunks;
-      aged = drawn_same 0 r.next_aged (λ u. u.aged_blocks) r.records id v w at refl rule.aged;
-      old = drawn_same k.kept r.next_old (λ u. u.old_blocks) r.records id v w at refl rule.old;
-      won = λ h. (let s = weigh-set (λ u. weigh h u.won) r.records id v w at in let e = rule.won h in omega arith);
-      apart = λ y. (let s = weigh-set (λ u. weigh (place_at y) u.won) r.records id v w at in let e = rule.apart y in omega arith);
-      shares = (let s = weigh-set (λ u. u.share) r.records id v w at in let e = rule.shares in omega arith);
-      each = each_set (Fits k r.words) r.records id w (record {
-        placed = fits.placed;
-        seen = All-push (IsPair r.words) v.seen (c, p) fits.seen found;
-        past = fits.past;
-        open_aged = fits.open_aged;
-        open_old = fits.open_old;
-        spent = not_spent v w refl has;
-      }) rule.each;
-    }
+    let fits = rule.each id v at in
+    put_keeps k r id v w r.next_chunk r.next_aged r.next_old rule at refl refl (same_chunks k r id v w rule at refl) (same_aged k r id v w rule at refl) (same_old k r id v w rule at refl) (record {
+      placed = fits.placed;
+      seen = All-push (IsPair r.words) v.seen (c, p) fits.seen found;
+      past = fits.past;
+      open_aged = fits.open_aged;
+      open_old = fits.open_old;
+      spent = not_spent v w refl has;
+    })
 
 -- a record that claims more blocks claims those of its won places still
 claims-le : (x : Place) (v w : Record) → weigh (one_at x.block) v.aged_blocks ≤ weigh (one_at x.block) w.aged_blocks → weigh (one_at x.block) v.old_blocks ≤ weigh (one_at x.block) w.old_blocks
@@ -229,52 +232,32 @@ still_placed v w aged old won =
 pub claim_aged_keeps : (k : Counts) (r : Race) (id : ℕ) (v : Record) → Parts k r → get_elem? r.records id ≡ some v → open_aged v ≡ 0 → 0 < v.share
     → Parts k (record r { next_aged = r.next_aged + 1; records = set r.records id (with_claimed_block true v r.next_aged) })
 claim_aged_keeps k r id v rule at none has =
-    let w = with_claimed_block true v r.next_aged in
-    let fits = rule.each id v at in
-    let one = open_at_most_one AGED r.next_aged v.won in
-    let p = weigh_push (is_open AGED v.won) v.aged_blocks r.next_aged in record {
-      size = rule.size;
-      forward = rule.forward;
-      chunks = drawn_same 0 r.next_chunk (λ u. u.chunks) r.records id v w at refl rule.chunks;
-      aged = drawn_more 0 r.next_aged (λ u. u.aged_blocks) r.records id v w at refl rule.aged;
-      old = drawn_same k.kept r.next_old (λ u. u.old_blocks) r.records id v w at refl rule.old;
-      won = λ h. (let s = weigh-set (λ u. weigh h u.won) r.records id v w at in let e = rule.won h in omega arith);
-      apart = λ x. (let s = weigh-set (λ u. weigh (place_at x) u.won) r.records id v w at in let e = rule.apart x in omega arith);
-      shares = (let s = weigh-set (λ u. u.share) r.records id v w at in let e = rule.shares in omega arith);
-      each = each_set (Fits k r.words) r.records id w (record {
-        placed = still_placed v w (λ h. omega (arith, weigh_push h v.aged_blocks r.next_aged)) (λ h. omega arith) v.won fits.placed;
-        seen = fits.seen;
-        past = fits.past;
-        open_aged = omega arith;
-        open_old = fits.open_old;
-        spent = not_spent v w refl has;
-      }) rule.each;
-    }
+    let n = r.next_aged in let w = with_claimed_block true v n in let fits = rule.each id v at in
+    let one = open_at_most_one AGED n v.won in let p = weigh_push (is_open AGED v.won) v.aged_blocks n in
+    put_keeps k r id v w r.next_chunk (n + 1) r.next_old rule at refl refl
+    (same_chunks k r id v w rule at refl) (drawn_more 0 n (λ u. u.aged_blocks) r.records id v w at refl rule.aged) (same_old k r id v w rule at refl) (record {
+      placed = still_placed v w (λ h. omega (arith, weigh_push h v.aged_blocks n)) (λ h. omega arith) v.won fits.placed;
+      seen = fits.seen;
+      past = fits.past;
+      open_aged = omega arith;
+      open_old = fits.open_old;
+      spent = not_spent v w refl has;
+    })
 
 pub claim_old_keeps : (k : Counts) (r : Race) (id : ℕ) (v : Record) → Parts k r → get_elem? r.records id ≡ some v → open_old v ≡ 0 → 0 < v.share
     → Parts k (record r { next_old = r.next_old + 1; records = set r.records id (with_claimed_block false v r.next_old) })
 claim_old_keeps k r id v rule at none has =
-    let w = with_claimed_block false v r.next_old in
-    let fits = rule.each id v at in
-    let one = open_at_most_one OLD r.next_old v.won in
-    let p = weigh_push (is_open OLD v.won) v.old_blocks r.next_old in record {
-      size = rule.size;
-      forward = rule.forward;
-      chunks = drawn_same 0 r.next_chunk (λ u. u.chunks) r.records id v w at refl rule.chunks;
-      aged = drawn_same 0 r.next_aged (λ u. u.aged_blocks) r.records id v w at refl rule.aged;
-      old = drawn_more k.kept r.next_old (λ u. u.old_blocks) r.records id v w at refl rule.old;
-      won = λ h. (let s = weigh-set (λ u. weigh h u.won) r.records id v w at in let e = rule.won h in omega arith);
-      apart = λ x. (let s = weigh-set (λ u. weigh (place_at x) u.won) r.records id v w at in let e = rule.apart x in omega arith);
-      shares = (let s = weigh-set (λ u. u.share) r.records id v w at in let e = rule.shares in omega arith);
-      each = each_set (Fits k r.words) r.records id w (record {
-        placed = still_placed v w (λ h. omega arith) (λ h. omega (arith, weigh_push h v.old_blocks r.next_old)) v.won fits.placed;
-        seen = fits.seen;
-        past = fits.past;
-        open_aged = fits.open_aged;
-        open_old = omega arith;
-        spent = not_spent v w refl has;
-      }) rule.each;
-    }
+    let n = r.next_old in let w = with_claimed_block false v n in let fits = rule.each id v at in
+    let one = open_at_most_one OLD n v.won in let p = weigh_push (is_open OLD v.won) v.old_blocks n in
+    put_keeps k r id v w r.next_chunk r.next_aged (n + 1) rule at refl refl
+    (same_chunks k r id v w rule at refl) (same_aged k r id v w rule at refl) (drawn_more k.kept n (λ u. u.old_blocks) r.records id v w at refl rule.old) (record {
+      placed = still_placed v w (λ h. omega arith) (λ h. omega (arith, weigh_push h v.old_blocks n)) v.won fits.placed;
+      seen = fits.seen;
+      past = fits.past;
+      open_aged = fits.open_aged;
+      open_old = omega arith;
+      spent = not_spent v w refl has;
+    })
 
 -- an empty record of one share fits
 fits_empty : (k : Counts) (words : List ℕ) (n : ℕ) → Fits k words (empty n)

@@ -1,5 +1,5 @@
 -- What an entry makes of the balance behind the lock.
-use Rattle.std.proofs.Common.{◌≡◌, ℕ, ◌+◌, ◌<◌, ◌≤◌, Bool, true, false, cond, List, ◌∷◌, ◌++◌, [], length, length-append, drop, refl, sym, subst, ap, ◌∙◌, arith}
+use Rattle.std.proofs.Common.{◌≡◌, ℕ, ◌+◌, ◌≤◌, Bool, cond, List, ◌∷◌, ◌++◌, [], length, length-append, drop, refl, sym, subst, ap, ◌∙◌, arith}
 use Rattle.std.specs.Prelude.{Result, take}
 use Rattle.std.proofs.lemmas.List.{length-take, take-append-le, drop-append-le, drop_all}
 use Rattle.std.proofs.lemmas.List.Sums.{sum_by-append, sum_by-cons}
@@ -10,14 +10,14 @@ use Rattle.tg_model.specs.declared.law.Law.{Law}
 use Rattle.tg_model.specs.declared.command.Deed.{Deed}
 use Rattle.tg_model.specs.declared.command.Deed.TheVariants.{Spawn}
 use Rattle.tg_model.specs.declared.reply.Reply.{Reply}
-use Rattle.tg_model.specs.declared.reply.Reply.TheVariants.{Name, VerticesFull, WorkersFull}
+use Rattle.tg_model.specs.declared.reply.Reply.TheVariants.{Name}
 use Rattle.tg_model.specs.Graph.{ProtectionGraph, IsSound}
-use Rattle.tg_model.specs.Rules.{answer_of, step}
+use Rattle.tg_model.specs.Rules.{answer_of}
 use Rattle.tg_model.specs.Opened.{Plan, start_of}
 use Rattle.tg_model.proofs.SoundLaws.{le-step-made}
 use Rattle.tg_model.proofs.SubjectLaws.{few_from_rising, made-spawned}
 use Rattle.tg_journal.specs.declared.entry.Entry.{Entry}
-use Rattle.tg_journal.specs.History.{IsLegal, graph_after}
+use Rattle.tg_journal.specs.History.{graph_after}
 use Rattle.tg_journal.proofs.HistoryLaws.{IsSound-opened, made-opened}
 use Rattle.tg_store.specs.Collecting.{KeepsHistory}
 use Rattle.tg_store.specs.Store.{StoreState, Enters, IsFaithful, graph_of_store}
@@ -145,6 +145,12 @@ goes_on_same start old new on entries opening limits = record {
   earlier = ap (take (length start.entries)) entries ∙ on.earlier;
   limits = limits ∙ on.limits;
 }
+
+-- a collection keeps all that is so of a store behind a lock
+pub locked_same : {P Q : Type 0} (start : SharedStart) (old new : StoreState) (first sessions total rest parts : ℕ) → IsBalanced old first sessions total rest parts × P × Q × GoesOn start old × (sessions ≡ sessions_made start old.entries)
+    → new.entries ≡ old.entries → new.opening ≡ old.opening → new.heap.table.limits ≡ old.heap.table.limits → IsBalanced new first sessions total rest parts × P × Q × GoesOn start new × (sessions ≡ sessions_made start new.entries)
+locked_same start old new first sessions total rest parts held entries opening limits =
+    (balanced_same old new first sessions total rest parts held.0 entries opening, held.1, held.2, goes_on_same start old new held.3 entries opening limits, made_same start sessions old.entries new.entries held.4 entries)
 
 -- as long as before at least
 pub grown : (start : SharedStart) (s : StoreState) → GoesOn start s → length start.entries ≤ length s.entries

@@ -16,36 +16,15 @@ module _ (f : ℕ → ℕ) (first : ℕ) (a b c d e g h k : ℕ) (v1 v2 v3 v4 v5
     (l1 : 1 < first → v1 ≡ b) (m1 : first ≤ 1 → v1 ≡ f b) (l2 : 2 < first → v2 ≡ c) (m2 : first ≤ 2 → v2 ≡ f c) (l3 : 3 < first → v3 ≡ d) (m3 : first ≤ 3 → v3 ≡ f d) (l4 : 4 < first → v4 ≡ e) (m4 : first ≤ 4 → v4 ≡ f e) (l5 : 5 < first → v5 ≡ g) (m5 : first ≤ 5 → v5 ≡ f g) (l6 : 6 < first → v6 ≡ h) (m6 : first ≤ 6 → v6 ≡ f h) (l7 : 7 < first → v7 ≡ k) (m7 : first ≤ 7 → v7 ≡ f k) where
   from_one : first ≡ 1 → a ∷ v1 ∷ v2 ∷ v3 ∷ v4 ∷ v5 ∷ v6 ∷ v7 ∷ [] ≡ take first (a ∷ b ∷ c ∷ d ∷ e ∷ g ∷ h ∷ k ∷ []) ++ map f (drop first (a ∷ b ∷ c ∷ d ∷ e ∷ g ∷ h ∷ k ∷ []))
   from_one is =
-      let e1 = m1 (omega arith) in
-      let e2 = m2 (omega arith) in
-      let e3 = m3 (omega arith) in
-      let e4 = m4 (omega arith) in
-      let e5 = m5 (omega arith) in
-      let e6 = m6 (omega arith) in
-      let e7 = m7 (omega arith) in
-      rw is (rw (e1, e2, e3, e4, e5, e6, e7) refl)
+      rw is (rw (m1 (omega arith), m2 (omega arith), m3 (omega arith), m4 (omega arith), m5 (omega arith), m6 (omega arith), m7 (omega arith)) refl)
 
   from_four : first ≡ 4 → a ∷ v1 ∷ v2 ∷ v3 ∷ v4 ∷ v5 ∷ v6 ∷ v7 ∷ [] ≡ take first (a ∷ b ∷ c ∷ d ∷ e ∷ g ∷ h ∷ k ∷ []) ++ map f (drop first (a ∷ b ∷ c ∷ d ∷ e ∷ g ∷ h ∷ k ∷ []))
   from_four is =
-      let e1 = l1 (omega arith) in
-      let e2 = l2 (omega arith) in
-      let e3 = l3 (omega arith) in
-      let e4 = m4 (omega arith) in
-      let e5 = m5 (omega arith) in
-      let e6 = m6 (omega arith) in
-      let e7 = m7 (omega arith) in
-      rw is (rw (e1, e2, e3, e4, e5, e6, e7) refl)
+      rw is (rw (l1 (omega arith), l2 (omega arith), l3 (omega arith), m4 (omega arith), m5 (omega arith), m6 (omega arith), m7 (omega arith)) refl)
 
   from_eight : first ≡ 8 → a ∷ v1 ∷ v2 ∷ v3 ∷ v4 ∷ v5 ∷ v6 ∷ v7 ∷ [] ≡ take first (a ∷ b ∷ c ∷ d ∷ e ∷ g ∷ h ∷ k ∷ []) ++ map f (drop first (a ∷ b ∷ c ∷ d ∷ e ∷ g ∷ h ∷ k ∷ []))
   from_eight is =
-      let e1 = l1 (omega arith) in
-      let e2 = l2 (omega arith) in
-      let e3 = l3 (omega arith) in
-      let e4 = l4 (omega arith) in
-      let e5 = l5 (omega arith) in
-      let e6 = l6 (omega arith) in
-      let e7 = l7 (omega arith) in
-      rw is (rw (e1, e2, e3, e4, e5, e6, e7) refl)
+      rw is (rw (l1 (omega arith), l2 (omega arith), l3 (omega arith), l4 (omega arith), l5 (omega arith), l6 (omega arith), l7 (omega arith)) refl)
 
   pub moved_from : first ≡ first_pointer a → a ∷ v1 ∷ v2 ∷ v3 ∷ v4 ∷ v5 ∷ v6 ∷ v7 ∷ [] ≡ take first (a ∷ b ∷ c ∷ d ∷ e ∷ g ∷ h ∷ k ∷ []) ++ map f (drop first (a ∷ b ∷ c ∷ d ∷ e ∷ g ∷ h ∷ k ∷ []))
   moved_from is = by_tests (a == 1) refl (a == 2) refl

@@ -6,6 +6,7 @@ use Rattle.std.proofs.lemmas.List.{take-append-drop, drop-drop, drop_more, drop_
 use Rattle.std.proofs.lemmas.List.Elements.{All-nil, All-cons, All-append, All-weaker, All-get_or}
 use Rattle.tg_word.specs.Word.{place_in}
 use Rattle.tg_block.specs.Cells.{kind_of, all_are_zero}
+use Rattle.tg_block.specs.declared.CellKind.{CellKind}
 use Rattle.tg_block.specs.declared.CellKind.TheVariants.{Free, Object, Chunk, Bad}
 use Rattle.tg_space.specs.declared.root.Root.{Root}
 use Rattle.tg_space.specs.SpaceList.{SpaceList, IsSpaceList, cell_at, cells_of}
@@ -14,22 +15,21 @@ use Rattle.tg_space.specs.Soundness.{AreSound, HasLayout, HasLayoutOf, IsReferen
 use Rattle.tg_space.specs.Rows.{link_of}
 use Rattle.tg_space.proofs.Flat.{all_cells_whole}
 
+-- a cell of a kind that is neither free nor bad has a tag
+used_kind : (kind : CellKind) → (Free ≡ kind → ⊥) → (Bad ≡ kind → ⊥) → (words : List ℕ) → kind_of words ≡ kind → 0 < get_or words 0 0
+used_kind kind not_free not_bad words is = by_tests (get_or words 0 0 == 0) refl (all_are_zero words) refl
+  where
+    by_tests : (z : Bool) → (get_or words 0 0 == 0) ≡ z → (a : Bool) → all_are_zero words ≡ a → 0 < get_or words 0 0
+    by_tests false z _ _ = grind (arith, nat_tests)
+    by_tests true z true a = absurd (not_free (rw (z, a) at is))
+    by_tests true z false a = absurd (not_bad (rw (z, a) at is))
+
 -- an object or a chunk is no free cell
 pub used_object : (words : List ℕ) → kind_of words ≡ Object → 0 < get_or words 0 0
-used_object words is = by_tests (get_or words 0 0 == 0) refl (all_are_zero words) refl
-  where
-    by_tests : (z : Bool) → (get_or words 0 0 == 0) ≡ z → (a : Bool) → all_are_zero words ≡ a → 0 < get_or words 0 0
-    by_tests false z _ _ = grind (arith, nat_tests)
-    by_tests true z true a = let e : Free ≡ Object = rw (z, a) at is in absurd cc
-    by_tests true z false a = let e : Bad ≡ Object = rw (z, a) at is in absurd cc
+used_object words is = used_kind Object (λ e. cc e) (λ e. cc e) words is
 
 pub used_chunk : (words : List ℕ) → kind_of words ≡ Chunk → 0 < get_or words 0 0
-used_chunk words is = by_tests (get_or words 0 0 == 0) refl (all_are_zero words) refl
-  where
-    by_tests : (z : Bool) → (get_or words 0 0 == 0) ≡ z → (a : Bool) → all_are_zero words ≡ a → 0 < get_or words 0 0
-    by_tests false z _ _ = grind (arith, nat_tests)
-    by_tests true z true a = let e : Free ≡ Chunk = rw (z, a) at is in absurd cc
-    by_tests true z false a = let e : Bad ≡ Chunk = rw (z, a) at is in absurd cc
+used_chunk words is = used_kind Chunk (λ e. cc e) (λ e. cc e) words is
 
 module _ (h : SpaceList) where
   from_reference : (word : ℕ) → IsReference h word → IsPointer h word

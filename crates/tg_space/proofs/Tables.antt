@@ -2,7 +2,7 @@
 use Rattle.std.proofs.Common.{◌≡◌, ◌≢◌, ℕ, zero, suc, ◌<◌, ◌≤◌, ◌+◌, ◌*◌, ◌^◌, ◌/◌, ◌++◌, ◌∷◌, ◌⊎◌, inl, inr, ◌-◌, List, [], length, get_or, set, replicate, take, drop, refl, sym, ap, subst, arith, ◌∙◌, ⊎_elim, add-one}
 use Rattle.std.specs.List.{All}
 use Rattle.std.proofs.lemmas.List.{get_or-set_same, get_or-set_other, length-set, get_or_read, length_push, get_or_push, get_or_append_left, get_or-replicate, get_or_past, length-replicate, take_at}
-use Rattle.std.proofs.lemmas.List.Elements.{All-get_or, All-cons, All-nil, All-replicate}
+use Rattle.std.proofs.lemmas.List.Elements.{All-get_or, All-set, All-cons, All-nil, All-replicate}
 use Rattle.std.proofs.lemmas.Bool.{cases_eq, cases_lt}
 use Rattle.tg_word.specs.declared.Place.{Place}
 use Rattle.tg_word.specs.declared.TheConstants.{SPACES}
@@ -11,7 +11,7 @@ use Rattle.tg_space.specs.SpaceList.{SpaceList, BlockList, IsEmptyFrom, IsSpace,
 use Rattle.tg_space.specs.declared.kind.Kind.TheVariants.{Full, Nursery}
 use Rattle.tg_space.specs.declared.limits.Limits.{Limits}
 use Rattle.tg_space.specs.SpaceTable.{SpaceTable, adopted, with_adopted, IsSpaceTable, IsPrefixCount, IsHandedOut, used_of, number_in_space, with_spaces}
-use Rattle.tg_space.proofs.Flat.{before_more, before_few, blocks_all, flat_inside, length-cells_of}
+use Rattle.tg_space.proofs.Flat.{before_more, before_few, blocks_all, flat_inside, get_or-flat_of, length-cells_of}
 use Rattle.tg_space.proofs.Writing.{other_cell}
 
 -- two lists of spaces with as many blocks in each space
@@ -93,9 +93,6 @@ table_cell t p words is holds handed whole =
           other_cell t.spaces p words holds q apart ∙ is.fresh q before young unused;
     }
 
-pub table_written : (t : SpaceTable) (p : Place) (i word : ℕ) → IsSpaceTable t → Holds t.spaces p → IsHandedOut t p → All IsSpace (with_word_at t.spaces p i word) → IsSpaceTable (with_spaces t (with_word_at t.spaces p i word))
-table_written t p i word = table_cell t p (set (cell_at t.spaces p) i word)
-
 pub table_list : (t : SpaceTable) → IsSpaceTable t → IsSpaceList t.spaces
 table_list t is = record { few = is.few; spaces = is.blocks }
 
@@ -118,6 +115,52 @@ flat_facts t now starts p start same is holds read =
       inside = flat_inside now.spaces table.blocks p holds;
       few = omega (arith, length-cells_of now.spaces table.blocks, count_few now table);
     }
+
+pub flat_facts_at : (t now : SpaceTable) (starts : List ℕ) (p : Place) (start n : ℕ) → t ≡ now → IsSpaceTable t × IsPrefixCount starts t.spaces → Holds now.spaces p → n ≡ p.space → start ≡ get_or starts n start → FlatFacts now.spaces p start
+flat_facts_at t now starts p start n same is holds space read = flat_facts t now starts p start same is holds (subst (λ (m : ℕ). start ≡ get_or starts m start) space read)
+
+-- the words of a cell that are read from its space are those that are numbered among all cells
+pub numbered_is : (t now : SpaceTable) (p : Place) (blocks : BlockList) (words : List ℕ) → t ≡ now → IsSpaceTable t → Holds now.spaces p → blocks ≡ get_or t.spaces p.space blocks → words ≡ cell_of (get_or blocks p.block []) p.cell
+    → words ≡ get_or (cells_of now.spaces) (flat_of now.spaces p) []
+numbered_is t now p blocks words same is holds read cell =
+    let held : Holds t.spaces p = subst (λ (x : SpaceTable). Holds x.spaces p) (sym same) holds in
+    let table : IsSpaceTable now = subst (λ (x : SpaceTable). IsSpaceTable x) same is in
+    let space : blocks ≡ space_of now.spaces p.space = get_or_read t.spaces p.space blocks held.space read [] ∙ ap (λ (x : SpaceTable). space_of x.spaces p.space) same in
+    cell ∙ ap (λ (s : BlockList). cell_of (get_or s p.block []) p.cell) space ∙ sym (get_or-flat_of now.spaces table.blocks p holds)
+
+-- what is so of a nursery that hands out its next cell
+pub record NextCell (t now : SpaceTable) (space count : ℕ) : Type 0 where
+  pub table : IsSpaceTable now
+  pub counted : length t.used ≡ length t.spaces
+  pub low : space < length t.spaces
+  pub counts : count ≡ used_of now space
+
+pub next_cell : (t now : SpaceTable) (space count : ℕ) → t ≡ now → IsSpaceTable t → space < length now.spaces → count ≡ get_or t.used space count → NextCell t now space count
+next_cell t now space count same is inside read =
+    let low : space < length t.spaces = subst (λ (x : SpaceTable). space < length x.spaces) (sym same) inside in
+    record {
+      table = subst (λ (x : SpaceTable). IsSpaceTable x) same is;
+      counted = is.counted;
+      low = low;
+      counts = get_or_read t.used space count (omega (arith, is.counted)) read 0 ∙ ap (λ (x : SpaceTable). used_of x space) same;
+    }
+
+-- the table with the words of one cell written over, as a call left the cell's space
+pub cell_put : (t now : SpaceTable) (starts : List ℕ) (p : Place) (blocks left : BlockList) (words : List (List ℕ) → List ℕ) → t ≡ now → IsSpaceTable t × IsPrefixCount starts t.spaces → Holds now.spaces p → IsHandedOut now p
+    → blocks ≡ get_or t.spaces p.space blocks → left ≡ set blocks p.block (set (get_or blocks p.block []) p.cell (words (get_or blocks p.block []))) → IsSpace left
+    → IsSpaceTable (with_spaces t (set t.spaces p.space left)) × IsPrefixCount starts (set t.spaces p.space left)
+cell_put t now starts p blocks left words same is holds handed read changed whole =
+    let held : Holds t.spaces p = subst (λ (x : SpaceTable). Holds x.spaces p) (sym same) holds in
+    let handed_out : IsHandedOut t p = subst (λ (x : SpaceTable). IsHandedOut x p) (sym same) handed in
+    let space : blocks ≡ space_of t.spaces p.space = get_or_read t.spaces p.space blocks held.space read [] in
+    let written : List ℕ = words (block_of t.spaces p.space p.block) in
+    let put : set t.spaces p.space left ≡ with_cell_at t.spaces p written =
+    ap (set t.spaces p.space) (changed ∙ ap (λ (s : BlockList). set s p.block (set (get_or s p.block []) p.cell (words (get_or s p.block [])))) space) in
+    let sound : All IsSpace (with_cell_at t.spaces p written) = subst (λ (h : SpaceList). All IsSpace h) put (All-set IsSpace t.spaces p.space left whole is.0.blocks) in
+    subst (λ (h : SpaceList). IsSpaceTable (with_spaces t h) × IsPrefixCount starts h) (sym put) (
+      table_cell t p written is.0 held handed_out sound,
+      same_starts starts t.spaces (with_cell_at t.spaces p written) (shape_cell t.spaces p written held) is.1,
+    )
 
 -- the search for the space of a number stops before the last space
 pub search_goes_on : (t now : SpaceTable) (starts : List ℕ) (number space : ℕ) → t ≡ now → IsSpaceTable t × IsPrefixCount starts t.spaces → number < length (cells_of now.spaces) → space < length t.spaces → get_or starts (space + 1) 0 ≤ number / 64 → space + 1 < length t.spaces
@@ -300,3 +343,27 @@ put_alone_is h now old n enough long is = take_at now (drop (length now) h) n (a
 
 pub put_behind_is : (h now : SpaceList) (aged old : BlockList) (n : ℕ) → 3 ≤ length h → n ≡ length h → now ≡ adopted Nursery h aged old → take n (now ++ drop (length now) h) ≡ adopted Nursery h aged old
 put_behind_is h now aged old n enough long is = take_at now (drop (length now) h) n (ap length is ∙ adopted_long h aged old (omega (arith, enough)) ∙ sym long) ∙ is
+
+-- the table with one more block, as a call left its space
+pub record BlockAdded (t : SpaceTable) (space : ℕ) (left : BlockList) : Type 0 where
+  pub low : space < length t.spaces
+  pub changed : set t.spaces space left ≡ with_block t.spaces space
+  pub table : IsSpaceTable (with_spaces t (set t.spaces space left))
+
+pub block_added : (t now : SpaceTable) (space : ℕ) (blocks left : BlockList) → t ≡ now → IsSpaceTable t → space < length now.spaces → blocks ≡ get_or t.spaces space blocks → left ≡ blocks ++ free_block ∷ [] → IsSpace left → BlockAdded t space left
+block_added t now space blocks left same is inside read added whole =
+    let low : space < length t.spaces = subst (λ (x : SpaceTable). space < length x.spaces) (sym same) inside in
+    let before : blocks ≡ space_of t.spaces space = get_or_read t.spaces space blocks low read [] in
+    let changed : set t.spaces space left ≡ with_block t.spaces space = ap (set t.spaces space) (added ∙ ap (λ (s : BlockList). s ++ free_block ∷ []) before) in
+    let sound : All IsSpace (with_block t.spaces space) = subst (λ (h : SpaceList). All IsSpace h) changed (All-set IsSpace t.spaces space left whole is.blocks) in
+    record { low = low; changed = changed; table = subst (λ (h : SpaceList). IsSpaceTable (with_spaces t h)) (sym changed) (table_grown t space is low sound) }
+
+-- a table whose spaces became those of another table with as many, and were counted anew
+pub counted_anew : (t after : SpaceTable) (starts counted : List ℕ) (n : ℕ) (left : SpaceList) (used : List ℕ) → IsPrefixCount starts t.spaces → n ≡ length starts → length after.spaces ≡ length t.spaces → IsSpaceTable after → left ≡ after.spaces → used ≡ after.used → IsPrefixCount counted left
+    → IsSpaceTable (record { spaces = left; used = used; limits = after.limits }) × IsPrefixCount (take n (counted ++ drop (length counted) starts)) left
+counted_anew t after starts counted n left used before as_many long table same same_used counts =
+    let as_long : length counted ≡ n = omega (arith, counts.long, before.long, ap length same) in
+    let spaces : IsSpaceTable (record { spaces = left; used = after.used; limits = after.limits }) = subst (λ (h : SpaceList). IsSpaceTable (record { spaces = h; used = after.used; limits = after.limits })) (sym same) table in (
+      subst (λ (u : List ℕ). IsSpaceTable (record { spaces = left; used = u; limits = after.limits })) (sym same_used) spaces,
+      subst (λ (s : List ℕ). IsPrefixCount s left) (sym (take_at counted (drop (length counted) starts) n as_long)) counts,
+    )

@@ -17,6 +17,7 @@ use Rattle.tg_graph.specs.Content.{Content}
 use Rattle.tg_graph.specs.Standing.{IsContentOf}
 use Rattle.tg_graph.proofs.StandingLaws.{answer_of-stands, denial_of-stands, StandsFor-denied, IsSameContent-self}
 use Rattle.tg_model.proofs.AllowedLaws.{permits-no_denial, step-allowed, step-denied}
+use Rattle.tg_model.proofs.NameLaws.{each_reply}
 use Rattle.tg_rules.specs.Effect.{IsReplyOn, OnlyLooks}
 
 -- a command that changes something is answered that it is done
@@ -65,15 +66,7 @@ module _ (c : Content) (g : ProtectionGraph) (stands : IsContentOf c g) (x : ℕ
 
 -- the reply to a command that is served is no denial
 not_denied : (label : ℕ → ℕ → RightSet) (value : ℕ → Option Value) (n x : ℕ) (command : Command) (denial : Denial) → Denied denial ≡ reply_of label value n x command → ⊥
-not_denied label value n x (Take rights y z) denial e = cc
-not_denied label value n x (Grant rights y z) denial e = cc
-not_denied label value n x (Remove rights y) denial e = cc
-not_denied label value n x (Read y) denial e = cc
-not_denied label value n x (Write y v) denial e = cc
-not_denied label value n x (Append y v) denial e = cc
-not_denied label value n x (Inspect y) denial e = cc
-not_denied label value n x Listing denial e = cc
-not_denied label value n x Retire denial e = cc
+not_denied label value n x command denial = each_reply (λ r. Denied denial ≡ r → ⊥) (λ e. cc e) (λ values e. cc e) (λ edges e. cc e) label value n x command
 
 from_denied : (o : Option Denial) (reply : Reply) (denial : Denial) → (Denied denial ≡ reply → ⊥) → Denied denial ≡ denied_or o reply → o ≡ Some denial
 from_denied None reply denial none e = absurd (none e)

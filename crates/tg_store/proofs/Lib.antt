@@ -4,6 +4,7 @@ mod CollectLaws
 mod MakingLaws
 mod DifferenceLaws
 mod HeldLaws
+pub mod HistoryLaws
 mod ReadLaws
 pub mod RoomLaws
 pub mod StandLaws

@@ -1,5 +1,5 @@
 -- What making a vertex of a kind comes to: where a limit is met, and where a vertex is made.
-use Rattle.std.proofs.Common.{◌≡◌, ◌≢◌, ◌⊎◌, inl, inr, List, ℕ, ◌<◌, ◌≤◌, ◌+◌, ◌==◌, Option, Some, None, length, refl, sym, ap, subst, ◌∙◌, arith}
+use Rattle.std.proofs.Common.{◌≡◌, ◌≢◌, ◌⊎◌, ◌++◌, ◌∷◌, [], inl, inr, List, ℕ, ◌<◌, ◌≤◌, ◌+◌, ◌==◌, Option, Some, None, length, refl, sym, ap, subst, ◌∙◌, arith}
 use Rattle.std.proofs.lemmas.Bool.{cond-true, eq-eqb}
 use Rattle.std.specs.List.{All}
 use Rattle.std.proofs.lemmas.List.{length-map}
@@ -8,6 +8,7 @@ use Rattle.tg_rights.specs.RightSet.{RightSet}
 use Rattle.tg_model.specs.declared.value.Value.{Value}
 use Rattle.tg_model.specs.declared.command.Deed.{Deed}
 use Rattle.tg_model.specs.declared.opening.TheConstants.{MAX_WORKERS}
+use Rattle.tg_model.specs.declared.reply.Reply.{Reply}
 use Rattle.tg_model.specs.declared.reply.Reply.TheVariants.{Name, VerticesFull, WorkersFull}
 use Rattle.tg_model.specs.Graph.{ProtectionGraph, IsSound, IsSubject}
 use Rattle.tg_model.specs.Opened.{ValueFits}
@@ -15,6 +16,7 @@ use Rattle.tg_model.specs.Rules.{DeedFits, IsAllowed, answer_of, step}
 use Rattle.tg_model.proofs.AllowedLaws.{answer-created, answer-full, answer-spawned, answer-spawn_full, answer-workers_full, step-created, step-spawned, step-not_allowed}
 use Rattle.tg_model.proofs.SoundLaws.{create-subjects, spawn-subjects}
 use Rattle.tg_subjects.specs.declared.subject.Subject.{Subject as SubjectAt}
+use Rattle.tg_journal.specs.declared.entry.Entry.{Entry}
 use Rattle.tg_journal.proofs.HistoryLaws.{IsSound-opened}
 use Rattle.tg_graph.specs.Content.{Content, IsNamed, OnlyNamedHold}
 use Rattle.tg_graph.specs.Heap.{IsActive, content_of, subject_names}
@@ -195,6 +197,13 @@ stored old new x name label value created = (
   (created.names name).1 (inr refl),
   created.values name ∙ cond-true (name == name) (Some value) (old.value name) (eq-eqb name name refl),
 )
+
+-- what was asked for is entered behind what there was
+pub enters : (before ready after : List Entry) (worker : ℕ) (kind : Making) (label : RightSet) (value given : Value) (deed : Deed) (reply : Reply) → deed ≡ deed_making kind label given → given ≡ value → ready ≡ before
+    → after ≡ ready ++ (record { worker = worker; deed = deed; reply = reply }) ∷ [] → after ≡ before ++ (record { worker = worker; deed = deed_making kind label value; reply = reply }) ∷ []
+enters before ready after worker kind label value given deed reply is same kept put =
+    put ∙ (ap (λ (es : List Entry). es ++ (record { worker = worker; deed = deed; reply = reply }) ∷ []) kept
+    ∙ ap (λ (d : Deed). before ++ (record { worker = worker; deed = d; reply = reply }) ∷ []) (is ∙ ap (λ (v : Value). deed_making kind label v) same))
 
 -- ---- how refusals of the heap are told
 

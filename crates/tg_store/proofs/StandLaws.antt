@@ -1,5 +1,5 @@
 -- What becomes of the journal and of the graph of a store by each call.
-use Rattle.std.proofs.Common.{◌≡◌, ℕ, ◌++◌, ◌∷◌, [], List, sym, ap, subst, ◌∙◌}
+use Rattle.std.proofs.Common.{refl, ◌≡◌, ℕ, ◌++◌, ◌∷◌, [], List, sym, ap, subst, ◌∙◌}
 use Rattle.std.specs.List.{Contains}
 use Rattle.tg_model.specs.declared.command.Deed.{Deed}
 use Rattle.tg_model.specs.declared.reply.Reply.{Reply}
@@ -82,6 +82,10 @@ module _ (s : StoreState) (faithful : IsFaithful s) where
 
   pub subject_here : (g : ProtectionGraph) (x : ℕ) → StandsFor s g → IsActive s.heap x → IsSubject g x
   subject_here g x stands active = subst (λ (names : List ℕ). Contains names x) (subjects_of g stands) active
+
+  -- an active one is a subject, under whatever name it is known
+  pub subject_named : (x name : ℕ) → name ≡ x → IsActive s.heap x → IsSubject (graph_of_store s) name
+  subject_named x name named active = subst (λ (y : ℕ). IsSubject (graph_of_store s) y) (sym named) (subject_here (graph_of_store s) x refl active)
 
   pub active_here : (g : ProtectionGraph) (x : ℕ) → StandsFor s g → IsSubject g x → IsActive s.heap x
   active_here g x stands subject = subst (λ (names : List ℕ). Contains names x) (sym (subjects_of g stands)) subject

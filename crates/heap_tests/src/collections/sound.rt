@@ -7,6 +7,7 @@ ghost use Rattle.tg_space.specs.SpaceList.{cells_of};
 ghost use Rattle.tg_space.specs.Soundness.{AreSound, HasLayout, HasLayoutOf, IsKindAt, IsLink, IsReference, IsRootIn};
 ghost use Rattle.tg_space.specs.Rows.{link_of};
 ghost use Rattle.tg_space.specs.Targets.{cell_numbered};
+ghost use Rattle.tg_word.specs.Word.{is_present, place_in};
 
 use tg_block::{CHUNK_TAG, OBJECT_TAG, WORDS};
 use tg_space::{Root, Spaces};
@@ -62,12 +63,7 @@ fn is_own_link(spaces: &Spaces, owner: u64, link: u64) -> bool
 fn are_roots(spaces: &Spaces, roots: &[Root]) -> bool
     ensures { IsTrue result → All (IsRootIn spaces.now.spaces) roots.now }
 {
-    for root in roots {
-        if !is_root(spaces, *root) {
-            return false;
-        }
-    }
-    true
+    roots.iter().all(|root| is_root(spaces, *root))
 }
 
 fn is_root(spaces: &Spaces, root: Root) -> bool
@@ -113,39 +109,30 @@ fn has_chunk_layout(spaces: &Spaces, words: &[u64; WORDS]) -> bool
 fn are_references(spaces: &Spaces, words: &[u64]) -> bool
     ensures { IsTrue result → All (IsReference spaces.now.spaces) words.now }
 {
-    for word in words {
-        if !is_reference(spaces, *word) {
-            return false;
-        }
-    }
-    true
+    words.iter().all(|word| is_reference(spaces, *word))
 }
 
 fn is_reference(spaces: &Spaces, word: u64) -> bool
     ensures { IsTrue result → IsReference spaces.now.spaces word }
 {
-    if word == 0 {
-        return true;
-    }
-    let place = place_of(word);
-    word >> PRESENT_AT == 1
-        && place.space < SPACES
-        && !rights_of(word).is_empty()
-        && has_tag(spaces, place, OBJECT_TAG)
+    word == 0 || !rights_of(word).is_empty() && names(spaces, word, OBJECT_TAG)
 }
 
 // Whether a word is empty or names a chunk.
 fn is_link(spaces: &Spaces, word: u64) -> bool
     ensures { IsTrue result → IsLink spaces.now.spaces word }
 {
-    if word == 0 {
-        return true;
-    }
+    word == 0 || rights_of(word).is_empty() && names(spaces, word, CHUNK_TAG)
+}
+
+// Whether a word names a cell with this first word, at a place that there can be.
+fn names(spaces: &Spaces, word: u64, tag: u64) -> bool
+    ensures present { IsTrue result → IsTrue (is_present word) }
+    ensures object { IsTrue result → tag ≡ OBJECT_TAG → IsKindAt spaces.now.spaces Object (place_in word) }
+    ensures chunk { IsTrue result → tag ≡ CHUNK_TAG → IsKindAt spaces.now.spaces Chunk (place_in word) }
+{
     let place = place_of(word);
-    word >> PRESENT_AT == 1
-        && place.space < SPACES
-        && rights_of(word).is_empty()
-        && has_tag(spaces, place, CHUNK_TAG)
+    word >> PRESENT_AT == 1 && place.space < SPACES && has_tag(spaces, place, tag)
 }
 
 // Whether the cell at a place has this first word.

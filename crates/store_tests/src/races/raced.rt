@@ -38,22 +38,10 @@ pub(crate) fn race_row<G: Turnstile + Sync, R: Threads + Wait + Sync>(
 ) -> Result<Raced, Fail> {
     let settings = settings_of(row, helpers)?;
     let stock = read_stock(alloc, row.stock)?.len() as u64;
-    Ok(race_cells(rt, alloc, turnstile, settings, stock, row.script)?)
-}
-
-// Runs the script with so many cells in the stock.
-fn race_cells<G: Turnstile + Sync, R: Threads + Wait + Sync>(
-    rt: &R,
-    alloc: Global,
-    turnstile: &G,
-    settings: Settings,
-    stock: u64,
-    script: &[u8],
-) -> Result<Raced, AllocError> {
     let (asked, failures) = (Blank::new(1), Blank::new(1));
-    race_counted::<Brand, Brand, G, R>(
-        rt, alloc, turnstile, settings, stock, script, asked, failures,
-    )
+    Ok(race_counted::<Brand, Brand, G, R>(
+        rt, alloc, turnstile, settings, stock, row.script, asked, failures,
+    )?)
 }
 
 // The counts of the source and of the sink are those of the ledgers A and F.

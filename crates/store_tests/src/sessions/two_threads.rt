@@ -13,32 +13,23 @@ use tg_payload::CellPayload;
 use tg_shared::{NoGate, Round, Session, SharedStore};
 use tg_store::Kind;
 
-// Whether the session may write the value to the target.
-fn writes<L: Round, R: Wait>(
+// Whether the session may write the value to the target, and whether it then reads it.
+fn writes_and_reads<L: Round, R: Wait>(
     rt: &R,
     store: &SharedStore<L, CellPayload>,
     session: &mut Session<L>,
     target: u64,
     value: u64,
-) -> bool {
-    matches!(
+) -> (bool, bool) {
+    let written = matches!(
         session.call(rt, store, Command::Write { target, value }),
         Ok(Reply::Done)
-    )
-}
-
-// Whether the session reads the value.
-fn reads<L: Round, R: Wait>(
-    rt: &R,
-    store: &SharedStore<L, CellPayload>,
-    session: &mut Session<L>,
-    target: u64,
-    value: u64,
-) -> bool {
-    match session.call(rt, store, Command::Read { target }) {
+    );
+    let read = match session.call(rt, store, Command::Read { target }) {
         Ok(Reply::Values(values)) => matches!(values.as_slice().first(), Some(v) if *v == value),
         _ => false,
-    }
+    };
+    (written, read)
 }
 
 // A full collection by one thread, and then one by two helpers. How many were made.
@@ -64,8 +55,9 @@ fn work<L: Round, R: Threads + Wait + Sync>(
     let target = if session.worker() == 0 { 1 } else { 0 };
     let mut good = 0u64;
     for value in 0..50u64 {
-        good = good.wrapping_add(u64::from(writes(rt, store, session, target, value)));
-        good = good.wrapping_add(u64::from(reads(rt, store, session, target, value)));
+        let (written, read) = writes_and_reads(rt, store, session, target, value);
+        good = good.wrapping_add(u64::from(written));
+        good = good.wrapping_add(u64::from(read));
         if value == 25 {
             good = good.wrapping_add(collect_twice(rt, store, session));
         }

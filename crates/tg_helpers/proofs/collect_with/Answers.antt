@@ -1,5 +1,5 @@
 -- How few blocks are left, and what is settled.
-use Rattle.std.proofs.Common.{◌∙◌, ◌≤◌, ◌+◌, List, ap, subst}
+use Rattle.std.proofs.Common.{◌≤◌, ◌+◌, List, subst}
 use Rattle.std.proofs.lemmas.Result.{err_from_is_err_and}
 use Rattle.tg_space.specs.SpaceTable.{SpaceTable, kept_blocks}
 use Rattle.tg_space.specs.Collection.{AreFewBlocks, IsCollection, copies_in, used_cells}
@@ -8,6 +8,7 @@ use Rattle.tg_store.specs.Collecting.{IsSwept}
 use Rattle.tg_store.specs.Room.{LacksRoomToCollect}
 use Rattle.tg_store.specs.Store.{HasFewBlocks, StoreState}
 use Rattle.tg_store.proofs.BlockLaws.{few_left}
+use Rattle.tg_store.proofs.HistoryLaws.{history_done, history_refused, history_same}
 use Rattle.tg_store.proofs.RoomLaws.{lacks_from}
 use Rattle.tg_helpers.proofs.collect_with.Goals as goal
 
@@ -48,40 +49,15 @@ returns-in_err-copied-clause-full g c is =
     (lacks_from kind c.args.helpers heap _ c.deref.result.now c.in_ok-roots.roots.items c.spaces.ensures c.deref.ensures.value c.in_ok-roots.ensures.targets (c.in_err-copied.ensures.collects.full cc))
 
 pub returns-clause-history : goal.returns-clause-history
-returns-clause-history g c =
-    record {
-      entries = c.settle.ensures.history.entries ∙ ap (λ (s : StoreState). s.entries) c.take_spare-spare.ensures;
-      refused = tt;
-      opening = c.settle.ensures.history.opening ∙ ap (λ (s : StoreState). s.opening) c.take_spare-spare.ensures;
-      limits = c.settle.ensures.history.limits ∙ ap (λ (s : StoreState). s.heap.table.limits) c.take_spare-spare.ensures;
-    }
+returns-clause-history g c = history_done _ _ _ _ _ c.take_spare-spare.ensures c.settle.ensures.history
 
 pub returns-in_err-roots-clause-history : goal.returns-in_err-roots-clause-history
-returns-in_err-roots-clause-history g c =
-    let given = err_from_is_err_and c.from_residual.result c.from_residual.ensures.1 in
-    record {
-      entries = ap (λ (s : StoreState). s.entries) c.take_spare-spare.ensures;
-      refused = rw given.1 c.take_spare-spare.ensures;
-      opening = ap (λ (s : StoreState). s.opening) c.take_spare-spare.ensures;
-      limits = ap (λ (s : StoreState). s.heap.table.limits) c.take_spare-spare.ensures;
-    }
+returns-in_err-roots-clause-history g c = let given = err_from_is_err_and c.from_residual.result c.from_residual.ensures.1 in history_same _ _ _ _ c.take_spare-spare.ensures given.1
 
 pub returns-in_err-copied-clause-history : goal.returns-in_err-copied-clause-history
-returns-in_err-copied-clause-history g c =
-    let given = err_from_is_err_and c.from_residual-in_err-copied.result c.from_residual-in_err-copied.ensures.1 in
-    record {
-      entries = ap (λ (s : StoreState). s.entries) c.take_spare-spare.ensures;
-      refused = rw given.1 c.take_spare-spare.ensures;
-      opening = ap (λ (s : StoreState). s.opening) c.take_spare-spare.ensures;
-      limits = ap (λ (s : StoreState). s.heap.table.limits) c.take_spare-spare.ensures;
-    }
+returns-in_err-copied-clause-history g c = let given = err_from_is_err_and c.from_residual-in_err-copied.result c.from_residual-in_err-copied.ensures.1 in history_same _ _ _ _ c.take_spare-spare.ensures given.1
 
 pub returns-in_err-settle-clause-history : goal.returns-in_err-settle-clause-history
 returns-in_err-settle-clause-history g c =
     let given = err_from_is_err_and c.from_residual-in_err-settle.result c.from_residual-in_err-settle.ensures.1 in
-    record {
-      entries = c.in_err-settle.ensures.history.entries ∙ ap (λ (s : StoreState). s.entries) c.take_spare-spare.ensures;
-      refused = rw given.1 (c.in_err-settle.ensures.history.refused ∙ c.take_spare-spare.ensures);
-      opening = c.in_err-settle.ensures.history.opening ∙ ap (λ (s : StoreState). s.opening) c.take_spare-spare.ensures;
-      limits = c.in_err-settle.ensures.history.limits ∙ ap (λ (s : StoreState). s.heap.table.limits) c.take_spare-spare.ensures;
-    }
+    history_refused _ _ _ _ _ _ c.take_spare-spare.ensures given.1 c.in_err-settle.ensures.history

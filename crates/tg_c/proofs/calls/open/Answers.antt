@@ -8,16 +8,14 @@ use Rattle.tg_c.proofs.calls.open.Goals as goal
 pub returns-in_err-drafts-clause-refused : goal.returns-in_err-drafts-clause-refused
 returns-in_err-drafts-clause-refused c =
     let given = err_from_is_err_and c.from_residual-in_err-drafts.result c.from_residual-in_err-drafts.ensures.1 in
-    let met = c.in_ok-blocks.ensures.met.0 in
-    wants c.args.workers.now c.args.edges.now c.args.limits.now c.from_residual-in_err-drafts.result _ met given.1
-    (given.2 ∙ want_else refusal.BadLaw c.in_err-drafts.field-0.0 (¬ AreValues c.args.workers.now) (λ none. none met.0) c.in_err-drafts.ensures.refused)
+    wants c.args.workers.now c.args.edges.now c.args.limits.now c.from_residual-in_err-drafts.result _ c.in_ok-blocks.ensures.met.0 given.1
+    (given.2 ∙ want_else refusal.BadLaw c.in_err-drafts.field-0.0 (¬ AreValues c.args.workers.now) (λ none. none c.in_ok-blocks.ensures.met.0.0) c.in_err-drafts.ensures.refused)
 
 pub returns-in_err-edges-clause-refused : goal.returns-in_err-edges-clause-refused
 returns-in_err-edges-clause-refused c =
     let given = err_from_is_err_and c.from_residual-in_err-edges.result c.from_residual-in_err-edges.ensures.1 in
-    let met = c.in_ok-blocks.ensures.met.0 in
-    wants c.args.workers.now c.args.edges.now c.args.limits.now c.from_residual-in_err-edges.result _ met given.1
-    (given.2 ∙ want_else refusal.BadRights c.in_err-edges.field-0.0 (¬ HaveLabels c.args.edges.now) (λ none. none met.1.0) c.in_err-edges.ensures.refused)
+    wants c.args.workers.now c.args.edges.now c.args.limits.now c.from_residual-in_err-edges.result _ c.in_ok-blocks.ensures.met.0 given.1
+    (given.2 ∙ want_else refusal.BadRights c.in_err-edges.field-0.0 (¬ HaveLabels c.args.edges.now) (λ none. none c.in_ok-blocks.ensures.met.0.1.0) c.in_err-edges.ensures.refused)
 
 pub returns-in_err-opening-clause-refused : goal.returns-in_err-opening-clause-refused
 returns-in_err-opening-clause-refused c =

@@ -1,4 +1,4 @@
-use Rattle.std.proofs.Common.{◌≡◌, ◌↔◌, ◌⊎◌, ℕ, ◌+◌, ◌≤◌, length, List, ap, sym, subst, arith, lit<, ◌∙◌}
+use Rattle.std.proofs.Common.{◌≡◌, ◌↔◌, ◌⊎◌, ℕ, ◌+◌, ◌^◌, ◌<◌, ◌≤◌, length, List, ap, sym, subst, arith, lit<, ◌∙◌}
 use Rattle.std.specs.List.{All, Contains}
 use Rattle.std.proofs.lemmas.List.{length-map}
 use Rattle.tg_word.specs.declared.Place.{Place}
@@ -69,21 +69,19 @@ trace-requires-clause-walk c =
       };
     }
 
-pub finish-requires-clause-aged : goal.finish-requires-clause-aged
+-- there are few enough copies of either space
+few_copies : (c : In_ok-copies) (space : ℕ) (images : List (List ℕ)) → images ≡ copies_to space c.args.kind c.args.spaces.now.spaces (new_place c.claims.inside.forward.words) (wins_at c.claims.inside.forward.words c.claims.inside.won.items) → space < 2 → length images ≤ 2 ^ 26
 unfolding claims_of
-finish-requires-clause-aged c =
-    let from = (goal.at.finish-requires-clause-aged c).In_ok-copies in
-    let long = ap length (aged_is from) ∙ length-map (won_in 1 (wins_at c.claims.inside.forward.words c.claims.inside.won.items)) (λ (w : Win). image_at c.args.kind c.args.spaces.now.spaces (new_place c.claims.inside.forward.words) w.cell) in
-    let room = in_room (claims_of from) c.claims.invariant.0 1 (lit< tt) in
+few_copies c space images are two =
+    let long = ap (λ (l : List (List ℕ)). length l) are ∙ length-map (won_in space (wins_at c.claims.inside.forward.words c.claims.inside.won.items)) (λ (w : Win). image_at c.args.kind c.args.spaces.now.spaces (new_place c.claims.inside.forward.words) w.cell) in
+    let room = in_room (claims_of c) c.claims.invariant.0 space two in
     omega arith
 
+pub finish-requires-clause-aged : goal.finish-requires-clause-aged
+finish-requires-clause-aged c = let from = (goal.at.finish-requires-clause-aged c).In_ok-copies in few_copies from 1 _ (aged_is from) (lit< tt)
+
 pub finish-requires-clause-old : goal.finish-requires-clause-old
-unfolding claims_of
-finish-requires-clause-old c =
-    let from = (goal.at.finish-requires-clause-old c).In_ok-copies in
-    let long = ap length (old_is from) ∙ length-map (won_in 0 (wins_at c.claims.inside.forward.words c.claims.inside.won.items)) (λ (w : Win). image_at c.args.kind c.args.spaces.now.spaces (new_place c.claims.inside.forward.words) w.cell) in
-    let room = in_room (claims_of from) c.claims.invariant.0 0 (lit< tt) in
-    omega arith
+finish-requires-clause-old c = let from = (goal.at.finish-requires-clause-old c).In_ok-copies in few_copies from 0 _ (old_is from) (lit< tt)
 
 pub notes_of-requires-clause-forward : goal.notes_of-requires-clause-forward
 unfolding claims_of

@@ -1,4 +1,4 @@
-use Rattle.std.proofs.Common.{arith, ◌≡◌, ℕ, ◌+◌, Ok, length, sym, ap, subst, ◌∙◌}
+use Rattle.std.proofs.Common.{arith, ◌≡◌, ℕ, ◌+◌, Ok, sym, ap, subst, ◌∙◌}
 use Rattle.tg_space.specs.Targets.{cell_numbered}
 use Rattle.tg_evac.specs.declared.win.Win.{Win}
 use Rattle.tg_evac.specs.Walks.{Scans}
@@ -9,9 +9,7 @@ pub loop-copies-init : goal.loop-copies-init
 loop-copies-init g c = let m = g.C.Claimer in scans_none m.walked m.knows m.is_full c.requires
 
 pub returns-in_err-scan_next-clause-scans : goal.returns-in_err-scan_next-clause-scans
-returns-in_err-scan_next-clause-scans g c =
-    let m = g.C.Claimer in
-    scans_refused m.walked m.knows m.is_full c.from_residual.result _ c.from_residual.ensures.1 (scans_both m.walked m.knows m.is_full c.loop-copies.invariant c.in_err-scan_next.ensures.scans)
+returns-in_err-scan_next-clause-scans g c = let m = g.C.Claimer in scans_refused m.walked m.knows m.is_full c.from_residual.result _ c.from_residual.ensures.1 (scans_both m.walked m.knows m.is_full c.loop-copies.invariant c.in_err-scan_next.ensures.scans)
 
 pub loop-copies-preserved : goal.loop-copies-preserved
 loop-copies-preserved g c =
@@ -26,12 +24,9 @@ scan_next-requires-clause-walk g c = let m = g.C.Claimer in still_under_way m.wa
 pub scan_next-requires-clause-words : goal.scan_next-requires-clause-words
 scan_next-requires-clause-words g c = c.numbered_words.ensures.words ∙ ap (λ (w : Win). cell_numbered c.args.spaces.now.spaces w.cell) c.win-cell.ensures.win
 
-pub returns-clause-scans : goal.returns-clause-scans
-returns-clause-scans g c =
-    let m = g.C.Claimer in
-    let within = c.loop-copies.invariant.copies.within in
-    let ended : c.loop-copies.copies.scanned ≡ length (m.walked c.loop-copies.claimer).won = omega arith in
-    subst (λ (n : ℕ). Scans m.walked m.knows m.is_full c.args.spaces.now.spaces c.args.claimer.now c.loop-copies.claimer n c.loop-copies.copies.aged c.loop-copies.copies.old (Ok (tt {0}))) ended c.loop-copies.invariant
-
 pub returns-clause-ended : goal.returns-clause-ended
 returns-clause-ended g c = let within = c.loop-copies.invariant.copies.within in omega arith
+
+pub returns-clause-scans : goal.returns-clause-scans
+returns-clause-scans g c = let m = g.C.Claimer in
+    subst (λ (n : ℕ). Scans m.walked m.knows m.is_full c.args.spaces.now.spaces c.args.claimer.now c.loop-copies.claimer n c.loop-copies.copies.aged c.loop-copies.copies.old (Ok (tt {0}))) (returns-clause-ended g c) c.loop-copies.invariant

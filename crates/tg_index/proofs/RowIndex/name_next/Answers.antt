@@ -3,18 +3,14 @@ use Rattle.std.specs.List.{Contains}
 use Rattle.tg_index.specs.Bits.{numbers_of}
 use Rattle.tg_index.specs.Slots.{Slots, place_number}
 use Rattle.tg_index.proofs.BitLemmas.{numbers_once}
-use Rattle.tg_index.proofs.SlotLemmas.{named_next, within_named, within_next}
+use Rattle.tg_index.proofs.SlotLemmas.{named_next, next_within, within_named, within_next}
 use Rattle.tg_index.proofs.RowIndex.name_next.Goals as goal
 
 pub invariant_of-self : goal.invariant_of-self
 invariant_of-self c =
-    let room = c.requires.room.places in
-    let low = c.requires.inside in
-    let next = ap (λ (v : Slots). v.next) c.self.view_is in
-    let most = ap (λ (v : Slots). v.room) c.self.view_is in
-    let len = ap (λ (v : Slots). v.len) c.self.view_is in
+    let next = next_within _ c.args.self.now c.self.view_is c.requires.room.places c.requires.inside in
     let updates = rw c.unwrap.ensures at c.insert.ensures.updates in
-    within_named _ _ _ _ (within_next _ _ _ _ c.self.invariant (omega (arith, room, next, most)) (omega (arith, low, next, len))) _ c.args.name c.self.inside.next (omega arith) updates.0
+    within_named _ _ _ _ (within_next _ _ _ _ c.self.invariant (omega (arith, next.0)) (omega (arith, next.1))) _ c.args.name c.self.inside.next (omega arith) updates.0
 
 pub returns-clause-set : goal.returns-clause-set
 returns-clause-set c =

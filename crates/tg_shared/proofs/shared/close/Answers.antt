@@ -1,6 +1,5 @@
 use Rattle.std.proofs.Common.{◌≡◌, ◌<◌, ◌≤◌, ◌+◌, ◌∙◌, ℕ, List, length, drop, arith, sym, subst}
 use Rattle.tg_store.specs.Store.{StoreState}
-use Rattle.tg_shared.specs.declared.closing.CloseFault.{CloseFault}
 use Rattle.tg_shared.specs.Sessions.{AreSharedOut, GoesOn, MayClose, SessionState, count_of, sessions_made}
 use Rattle.tg_shared.proofs.shared.close.Goals as goal
 
@@ -30,9 +29,6 @@ returns-in-Err g c = record {
   matching = tt;
   count = tt;
   shared_out = tt;
-  faithful = tt;
-  gone_on = tt;
-  all = tt;
   missing = λ why. (
     c.into_locked-locked.result.store,
     c.into_locked-locked.ensures.gone_on,
@@ -42,4 +38,7 @@ returns-in-Err g c = record {
   too_few = λ few. c.in-Err.ensures.missing.1 (lt-le few c.into_locked-locked.ensures.started);
   mismatch = λ why. (c.into_locked-locked.result.store, c.into_locked-locked.ensures.gone_on, c.into_locked-locked.ensures.faithful, (c.in-Err.ensures.counted why, (c.in-Err.ensures.mismatch.0 why).1));
   handed_back = c.in-Err.ensures.handed_back.1;
+  faithful = tt;
+  gone_on = tt;
+  all = tt;
 }

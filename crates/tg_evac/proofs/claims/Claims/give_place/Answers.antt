@@ -14,46 +14,51 @@ use Rattle.tg_evac.specs.Walks.{HasClaimed}
 use Rattle.tg_evac.proofs.Claiming.{claims_more, adds_one, full_at, place_back, wins_more, won_behind, won_length, won_others}
 use Rattle.tg_evac.proofs.Walking.{wins_none}
 use Rattle.tg_evac.proofs.claims.Claims.give_place.Goals as goal
+use Rattle.tg_evac.proofs.claims.Claims.give_place.Goals.{After-link-word}
+
+-- the claims, as fields, and the pair that is won
+abbrev claimed : After-link-word → Claimed
+claimed c = record { plan = c.self.inside.plan; forward = c.self.inside.forward.words; won = wins_at c.self.inside.forward.words c.self.inside.won.items; next = c.self.inside.next }
+
+abbrev pair : After-link-word → Win
+pair c = record { cell = c.args.cell; word = c.link-word.result }
+
+-- the cell is free
+record IsFree (v : Claimed) (cell : ℕ) : Type 0 where
+  low : cell < length v.forward
+  none : get_or v.forward cell 0 ≡ 0
+  late : 64 * v.plan.kept ≤ cell
+
+is_free : (c : After-link-word) → IsFree (claimed c) c.args.cell
+is_free c = record {
+  low = subst (λ (x : Claimed). c.args.cell < length x.forward) (sym c.self.view_is) c.requires.claim.inside;
+  none = subst (λ (x : Claimed). get_or x.forward c.args.cell 0 ≡ 0) (sym c.self.view_is) c.requires.none;
+  late = subst (λ (x : Claimed). 64 * x.plan.kept ≤ c.args.cell) (sym c.self.view_is) c.requires.claim.moved;
+}
 
 pub push_reserved-requires : goal.push_reserved-requires
 push_reserved-requires c =
-    let inside = c.self.inside in let cell = c.args.cell in let space = c.args.space in
-    let v : Claimed = record { plan = inside.plan; forward = inside.forward.words; won = wins_at inside.forward.words inside.won.items; next = inside.next } in
-    let same : v ≡ c.args.self.now = c.self.view_is in
-    let number = get_or inside.next space 0 in
-    let w : Win = record { cell = cell; word = c.link-word.result } in
-    let low : cell < length v.forward = subst (λ (x : Claimed). cell < length x.forward) (sym same) c.requires.claim.inside in
-    let none : get_or v.forward cell 0 ≡ 0 = subst (λ (x : Claimed). get_or x.forward cell 0 ≡ 0) (sym same) c.requires.none in
-    let late : 64 * v.plan.kept ≤ cell = subst (λ (x : Claimed). 64 * x.plan.kept ≤ cell) (sym same) c.requires.claim.moved in
+    let at = (goal.at.push_reserved-requires c).After-link-word in let inside = c.self.inside in let space = c.args.space in let number = get_or inside.next space 0 in
+    let v : Claimed = claimed at in let w : Win = pair at in let free = is_free at in
     let room : number < v.plan.room = omega arith in
-    let is : c.link-word.result ≡ link_to (place_in_space space number) = c.link-word.ensures in
-    let next : number ≡ get_or v.next space 0 = cc in
-    let more = claims_more v c.self.invariant.0 w space number c.requires.claim.two next low none room is in
+    let more = claims_more v c.self.invariant.0 w space number c.requires.claim.two refl free.low free.none room c.link-word.ensures in
     let few = won_behind (record { plan = v.plan; forward = set v.forward w.cell w.word; won = v.won ++ w ∷ []; next = set v.next space (number + 1) }) more (64 * v.plan.kept)
-    (All-push (λ (x : Win). 64 * v.plan.kept ≤ x.cell) v.won w c.self.invariant.2 late) in
+    (All-push (λ (x : Win). 64 * v.plan.kept ≤ x.cell) v.won w c.self.invariant.2 free.late) in
     let one = length_push v.won w in let long = length-set v.forward w.cell w.word in let cap = c.self.invariant.3 in
     let cells = won_length inside.forward.words inside.won.items in
     omega (arith, inside.won.ok)
 
 pub invariant_of-self : goal.invariant_of-self
 invariant_of-self c =
-    let inside = c.self.inside in let cell = c.args.cell in let space = c.args.space in
-    let v : Claimed = record { plan = inside.plan; forward = inside.forward.words; won = wins_at inside.forward.words inside.won.items; next = inside.next } in
-    let same : v ≡ c.args.self.now = c.self.view_is in
-    let number = get_or inside.next space 0 in
-    let w : Win = record { cell = cell; word = c.link-word.result } in
-    let low : cell < length v.forward = subst (λ (x : Claimed). cell < length x.forward) (sym same) c.requires.claim.inside in
-    let none : get_or v.forward cell 0 ≡ 0 = subst (λ (x : Claimed). get_or x.forward cell 0 ≡ 0) (sym same) c.requires.none in
-    let late : 64 * v.plan.kept ≤ cell = subst (λ (x : Claimed). 64 * x.plan.kept ≤ cell) (sym same) c.requires.claim.moved in
-    let two : space < 2 = c.requires.claim.two in
+    let at = (goal.at.invariant_of-self c).After-link-word in let inside = c.self.inside in let cell = c.args.cell in let space = c.args.space in let number = get_or inside.next space 0 in
+    let v : Claimed = claimed at in let w : Win = pair at in let free = is_free at in
+    let low : cell < length v.forward = free.low in let late : 64 * v.plan.kept ≤ cell = free.late in
     let room : number < v.plan.room = omega arith in
-    let is : c.link-word.result ≡ link_to (place_in_space space number) = c.link-word.ensures in
-    let next : number ≡ get_or v.next space 0 = cc in
     let long = length-set v.forward cell c.link-word.result in let cap = c.self.invariant.3 in let kept = c.push_reserved.ensures.capacity in
     let fits : length (set v.forward cell c.link-word.result) - 64 * v.plan.kept ≤ vec_capacity c.push_reserved.new.self = omega arith in
-    let more = wins_more v.forward inside.won.items w low (won_others v.forward inside.won.items c.self.invariant.0.words.stand cell none) in
+    let more = wins_more v.forward inside.won.items w low (won_others v.forward inside.won.items c.self.invariant.0.words.stand cell free.none) in
     rw (c.push_reserved.ensures.items, c.set.ensures.words, c.set.ensures.skipped, more)
-    (claims_more v c.self.invariant.0 w space number two next low none room is, c.self.invariant.1, All-push (λ (x : Win). 64 * v.plan.kept ≤ x.cell) v.won w c.self.invariant.2 late, fits)
+    (claims_more v c.self.invariant.0 w space number c.requires.claim.two refl low free.none room c.link-word.ensures, c.self.invariant.1, All-push (λ (x : Win). 64 * v.plan.kept ≤ x.cell) v.won w c.self.invariant.2 late, fits)
 
 pub returns-then-self-number : goal.returns-then-self-number
 returns-then-self-number c =
@@ -65,21 +70,15 @@ returns-then-self-number c =
 
 pub returns : goal.returns
 returns c =
-    let inside = c.self.inside in let cell = c.args.cell in let space = c.args.space in let forward = inside.forward.words in
-    let v : Claimed = record { plan = inside.plan; forward = inside.forward.words; won = wins_at inside.forward.words inside.won.items; next = inside.next } in
-    let same : v ≡ c.args.self.now = c.self.view_is in
-    let number = get_or inside.next space 0 in
-    let w : Win = record { cell = cell; word = c.link-word.result } in
-    let low : cell < length v.forward = subst (λ (x : Claimed). cell < length x.forward) (sym same) c.requires.claim.inside in
-    let none : get_or v.forward cell 0 ≡ 0 = subst (λ (x : Claimed). get_or x.forward cell 0 ≡ 0) (sym same) c.requires.none in
+    let at = (goal.at.returns c).After-link-word in let inside = c.self.inside in let cell = c.args.cell in let space = c.args.space in let number = get_or inside.next space 0 in
+    let v : Claimed = claimed at in let w : Win = pair at in let free = is_free at in
     let room : number < v.plan.room = omega arith in
     let few = c.self.invariant.0.room in
     let is : c.link-word.result ≡ link_to (place_in_space space number) = c.link-word.ensures in
-    let next : number ≡ get_or v.next space 0 = cc in
     let back : place_in c.link-word.result ≡ place_in_space space number = ap place_in is ∙ place_back space number c.requires.claim.two (omega arith) in
     let to : IsWinFor cell space w = record { number = refl; to = ap (λ (n : ℕ). (place_in n).space) is ∙ ap (λ (p : Place). p.space) (place_back space number c.requires.claim.two (omega arith)) } in
-    let one = adds_one v c.self.invariant.0 w space number c.requires.claim.two next low none room is (IsWinFor cell space) to in
-    let more = wins_more v.forward inside.won.items w low (won_others v.forward inside.won.items c.self.invariant.0.words.stand cell none) in
+    let one = adds_one v c.self.invariant.0 w space number c.requires.claim.two refl free.low free.none room is (IsWinFor cell space) to in
+    let more = wins_more v.forward inside.won.items w free.low (won_others v.forward inside.won.items c.self.invariant.0.words.stand cell free.none) in
     let held : wins_at c.set.new.self.words c.push_reserved.new.self.items ≡ v.won ++ w ∷ [] =
     ap (λ (words : List ℕ). wins_at words c.push_reserved.new.self.items) c.set.ensures.words ∙ ap (wins_at (set v.forward cell c.link-word.result)) c.push_reserved.ensures.items ∙ more in
     let after : List Win → List ℕ → Claimed = λ (won : List Win) (forward : List ℕ). record { plan = v.plan; forward = forward; won = won; next = set v.next space (number + 1) } in
@@ -87,7 +86,7 @@ returns c =
     let then = subst (λ (forward : List ℕ). AddsWins (IsWinFor cell space) (walked_of v) (walked_of (after (wins_at c.set.new.self.words c.push_reserved.new.self.items) forward))) (sym c.set.ensures.words) first in
     let here : Contains (v.won ++ w ∷ []) w = Contains-append_right v.won (w ∷ []) w (0, lit< tt, refl) in
     record {
-      added = subst (λ (x : Claimed). AddsWins (IsWinFor cell space) (walked_of x) (walked_of (after (wins_at c.set.new.self.words c.push_reserved.new.self.items) c.set.new.self.words))) same then;
+      added = subst (λ (x : Claimed). AddsWins (IsWinFor cell space) (walked_of x) (walked_of (after (wins_at c.set.new.self.words c.push_reserved.new.self.items) c.set.new.self.words))) c.self.view_is then;
       held = subst (λ (ws : List Win). Contains ws w) (sym held) here;
       link = is ∙ ap link_to (sym back);
       full = tt;

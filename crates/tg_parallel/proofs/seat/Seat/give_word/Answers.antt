@@ -1,12 +1,10 @@
 use Rattle.std.proofs.Common.{◌≡◌, ◌<◌, ℕ, false, ap, sym, subst, ◌∙◌, arith}
 use Rattle.tg_race.specs.Course.{has_met}
 use Rattle.tg_race.specs.Words.{space_of_age}
-use Rattle.tg_evac.specs.Claims.{IsWinFor}
-use Rattle.tg_evac.specs.Claimers.{AddsWins}
 use Rattle.tg_evac.specs.Walks.{ClaimsCell, MayClaim}
 use Rattle.tg_parallel.specs.Parts.{HasClaimedPast, HasPlaces}
 use Rattle.tg_parallel.specs.Seats.{Sitting, walked_at}
-use Rattle.tg_parallel.proofs.Seating.{adds_found, grows_more, seat_old}
+use Rattle.tg_parallel.proofs.Seating.{claims_cell, seat_old}
 use Rattle.tg_parallel.proofs.seat.Seat.give_word.Goals as goal
 
 pub give_aged-requires-clause-claim : goal.give_aged-requires-clause-claim
@@ -25,15 +23,7 @@ returns-then-space-eq-AGED c =
 
 pub returns-else-space-eq-AGED : goal.returns-else-space-eq-AGED
 returns-else-space-eq-AGED c =
-    let s = c.self.inside in let w = c.word_of.new.winner.done in let e = c.word_of.ensures.gives in
+    let s = c.self.inside in let e = c.word_of.ensures.gives in
     let none : c.args.space ≡ 0 = (let two = c.requires.claim.two in omega (arith, c.if-space-eq-AGED.false)) in
     let right : c.args.space ≡ space_of_age s.old.aged = none ∙ ap space_of_age (sym c.self.invariant.is_old) in
-    record {
-      added = subst (λ (x : Sitting). AddsWins (IsWinFor c.args.cell c.args.space) (walked_at x) (walked_at (record { kind = s.kind; limit = s.limit; board = s.table.now; done = w }))) c.self.view_is
-          (adds_found c.args.cell s.old.aged s.winner.done w e.finds s.kind s.limit s.table.now c.args.space right);
-      grows = λ to has. subst (λ (x : Sitting). HasPlaces x.done to) c.self.view_is (grows_more c.args.cell s.old.aged s.winner.done w e.finds to has);
-      met = e.met;
-      known = e.known;
-      link = e.link;
-      full = c.word_of.ensures.full;
-    }
+    claims_cell c.args.cell c.args.space s.kind s.limit s.table.now _ c.word_of.new.winner.done c.args.self.now _ _ c.self.view_is right e.finds e.met e.known e.link c.word_of.ensures.full

@@ -1,11 +1,10 @@
-use Rattle.std.proofs.Common.{◌∙◌, ◌++◌, ◌∷◌, [], ℕ, List, refl, sym, subst, ap}
+use Rattle.std.proofs.Common.{◌∙◌, ◌++◌, ◌∷◌, [], ℕ, List, refl, ap}
 use Rattle.std.proofs.lemmas.List.{get_or_read}
 use Rattle.std.proofs.lemmas.Result.{MatchResult-from_err}
 use Rattle.tg_word.specs.declared.Place.{Place}
 use Rattle.tg_race.specs.Words.{place_of}
 use Rattle.tg_race.specs.declared.event.Event.TheVariants.{Lose}
-use Rattle.tg_race.specs.Course.{KeepsRule}
-use Rattle.tg_race.proofs.Courses.{helper_inside, cell_inside, loses_inside, put_back, kept_after, lose_is}
+use Rattle.tg_race.proofs.Courses.{helper_inside, cell_inside, loses_inside, put_back, kept_back, kept_after, lose_is}
 use Rattle.tg_race.proofs.world.World.lose.Goals as goal
 
 pub index-requires : goal.index-requires
@@ -15,14 +14,10 @@ pub index_mut-requires : goal.index_mut-requires
 index_mut-requires c = helper_inside _ _ c.args.helper (Lose c.args.cell) _ c.self.view_is c.self.inside.records.ok.0 c.requires
 
 pub invariant_of-self : goal.invariant_of-self
-invariant_of-self c = (
-  c.self.invariant.0,
-  subst KeepsRule (sym (put_back _ c.args.helper c.index_mut.result.now _ c.index_mut.ensures.value (ap (λ (l : List (ℕ × Place)). record c.index_mut.result.now { seen = l }) c.in_err-push_back.ensures.items))) c.self.invariant.1,
-)
+invariant_of-self c = kept_back _ _ c.args.helper c.index_mut.result.now _ c.self.view_is c.index_mut.ensures.value (ap (λ (l : List (ℕ × Place)). record c.index_mut.result.now { seen = l }) c.in_err-push_back.ensures.items) c.self.invariant
 
 pub returns-in_err-push_back : goal.returns-in_err-push_back
-returns-in_err-push_back c =
-    MatchResult-from_err c.from_residual.result _ _ c.from_residual.ensures.0
+returns-in_err-push_back c = MatchResult-from_err c.from_residual.result _ _ c.from_residual.ensures.0
     (λ _. put_back _ c.args.helper c.index_mut.result.now _ c.index_mut.ensures.value (ap (λ (l : List (ℕ × Place)). record c.index_mut.result.now { seen = l }) c.in_err-push_back.ensures.items) ∙ c.self.view_is)
 
 pub invariant_of-self-2 : goal.invariant_of-self-2

@@ -23,9 +23,7 @@ index_mut-requires-2 c = helper_inside _ _ c.args.helper (Meet c.args.other) _ c
 
 pub take_in-requires : goal.take_in-requires
 take_in-requires c =
-    let now : Course = c.args.self.now in
-    let h = c.requires in
-    let helper = c.args.helper in let other = c.args.other in
+    let now : Course = c.args.self.now in let h = c.requires in let helper = c.args.helper in let other = c.args.other in
     let records = ap (λ (x : Course). x.race.records) c.self.view_is in
     let room : FitOne c.index.result.now c.index-2.result.now = search rules in
     let a : c.index.result.now ≡ record_at now.race helper = same_record now.race.records helper c.index.result.now (is_alive now helper (Meet other) h) (c.index.ensures ∙ ap (λ (l : List Record). get_or l helper c.index.result.now) records) in
@@ -34,23 +32,14 @@ take_in-requires c =
     let theirs = c.replace-it.ensures.value ∙ met_theirs now helper other c.index_mut.result.now h (c.index_mut.ensures.value ∙ ap (λ (l : List Record). get_or l other c.index_mut.result.now) records) in
     subst (λ (x : Record). FitOne x c.replace-it.result) (a ∙ sym mine) (subst (λ (y : Record). FitOne c.index.result.now y) (b ∙ sym theirs) room)
 
-pub invariant_of-self : goal.invariant_of-self
-invariant_of-self c =
-    let now : Course = c.args.self.now in
-    let h = c.requires in
-    let helper = c.args.helper in let other = c.args.other in
-    let records = ap (λ (x : Course). x.race.records) c.self.view_is in
-    let mine = met_mine now helper other c.index_mut-2.result.now c.replace-it.new.dest h (c.index_mut-2.ensures.value ∙ ap (λ (l : List Record). get_or (set l other c.replace-it.new.dest) helper c.index_mut-2.result.now) records) in
-    let theirs = c.replace-it.ensures.value ∙ met_theirs now helper other c.index_mut.result.now h (c.index_mut.ensures.value ∙ ap (λ (l : List Record). get_or l other c.index_mut.result.now) records) in
-    let e = met_course _ now helper other _ _ c.replace-it.new.dest c.take_in.new.self c.self.view_is h mine theirs (c.replace-it.ensures.after ∙ c.new-spent.ensures) c.take_in.ensures in
-    (c.self.invariant.0, subst KeepsRule (sym e) (keeps now helper (Meet other) (subst KeepsRule c.self.view_is c.self.invariant.1) h))
-
 pub returns : goal.returns
 returns c =
-    let now : Course = c.args.self.now in
-    let h = c.requires in
-    let helper = c.args.helper in let other = c.args.other in
+    let now : Course = c.args.self.now in let h = c.requires in let helper = c.args.helper in let other = c.args.other in
     let records = ap (λ (x : Course). x.race.records) c.self.view_is in
     let mine = met_mine now helper other c.index_mut-2.result.now c.replace-it.new.dest h (c.index_mut-2.ensures.value ∙ ap (λ (l : List Record). get_or (set l other c.replace-it.new.dest) helper c.index_mut-2.result.now) records) in
     let theirs = c.replace-it.ensures.value ∙ met_theirs now helper other c.index_mut.result.now h (c.index_mut.ensures.value ∙ ap (λ (l : List Record). get_or l other c.index_mut.result.now) records) in
     met_course _ now helper other _ _ c.replace-it.new.dest c.take_in.new.self c.self.view_is h mine theirs (c.replace-it.ensures.after ∙ c.new-spent.ensures) c.take_in.ensures
+
+pub invariant_of-self : goal.invariant_of-self
+invariant_of-self c =
+    (c.self.invariant.0, subst KeepsRule (sym (returns c)) (keeps c.args.self.now c.args.helper (Meet c.args.other) (subst KeepsRule c.self.view_is c.self.invariant.1) c.requires))

@@ -2,25 +2,18 @@ use Rattle.std.proofs.Common.{◌∙◌, sym}
 use Rattle.std.proofs.lemmas.Result.{err_from_is_err_and}
 use Rattle.tg_store.specs.Store.{StoreState, graph_of_store}
 use Rattle.tg_shared.proofs.Balances.{graph_same}
-use Rattle.tg_shared.proofs.Calls.{err_here, found, ok_none, refused_as}
+use Rattle.tg_shared.proofs.Calls.{err_here, found_with, ok_none, refused_as}
 use Rattle.tg_shared.proofs.session.Session.collect.Goals as goal
 
 pub returns-in_err-left : goal.returns-in_err-left
-returns-in_err-left g c =
-    let given = err_from_is_err_and c.from_residual.result c.from_residual.ensures.1 in
-    let s : StoreState = c.deref_mut.result.now.store in
-    let held = found g.L.Round.start c.deref.result.now c.deref_mut.result.now (c.deref.ensures ∙ sym c.deref_mut.ensures.value) c.store.ensures.gone_on c.store.ensures.faithful in
-    record {
-      number = ok_none c.from_residual.result given.0 _ given.1;
-      full = err_here c.from_residual.result given.0 _ given.1 (λ why. (s, held.0, held.1, c.in_err-left.ensures.full (refused_as given.2 why)));
-    }
+returns-in_err-left g c = let given = err_from_is_err_and c.from_residual.result c.from_residual.ensures.1 in record {
+  number = ok_none c.from_residual.result given.0 _ given.1;
+  full = err_here c.from_residual.result given.0 _ given.1 (λ why. found_with g.L.Round.start _ c.deref.result.now c.deref_mut.result.now (c.deref.ensures ∙ sym c.deref_mut.ensures.value) c.store.ensures.gone_on c.store.ensures.faithful (c.in_err-left.ensures.full (refused_as given.2 why)));
+}
 
 pub returns : goal.returns
 returns g c =
-    let next : StoreState = c.collect.new.self.store in
-    let held = found g.L.Round.start c.deref-2.result.now c.collect.new.self c.deref-2.ensures c.store-2.ensures.gone_on c.store-2.ensures.faithful in
-    let same = graph_same c.deref_mut.result.now.store next c.collect.ensures.kept.history.entries c.collect.ensures.kept.history.opening in
-    record {
-      number = (next, held.0, held.1, (c.in_ok-left.ensures.swept.number, c.in_ok-left.ensures.swept.reachable (graph_of_store next) (sym same)));
+    let next : StoreState = c.collect.new.self.store in let same = graph_same c.deref_mut.result.now.store next c.collect.ensures.kept.history.entries c.collect.ensures.kept.history.opening in record {
+      number = found_with g.L.Round.start _ c.deref-2.result.now c.collect.new.self c.deref-2.ensures c.store-2.ensures.gone_on c.store-2.ensures.faithful (c.in_ok-left.ensures.swept.number, c.in_ok-left.ensures.swept.reachable (graph_of_store next) (sym same));
       full = tt;
     }

@@ -1,6 +1,6 @@
 use Rattle.std.proofs.Common.{◌≡◌, ◌∙◌, refl, sym, subst}
 use Rattle.tg_store.specs.declared.fault.CreateFault.{CreateFault}
-use Rattle.tg_store.specs.Store.{StoreState, IsFaithful}
+use Rattle.tg_store.specs.Store.{IsFaithful}
 use Rattle.std.proofs.lemmas.Result.{IfErr-weaker, IfOk-weaker}
 use Rattle.tg_shared.specs.Sessions.{LockedState}
 use Rattle.tg_shared.proofs.Calls.{found, kept}
@@ -45,26 +45,23 @@ returns-clause-fresh g c = c.spawn-spawned.ensures.fresh
 
 pub returns-clause-receipt : goal.returns-clause-receipt
 returns-clause-receipt g c =
-    let s : StoreState = c.deref_mut.result.now.store in
     let held = found g.L.Round.start c.deref.result.now c.deref_mut.result.now (c.deref.ensures ∙ sym c.deref_mut.ensures.value) c.store.ensures.gone_on c.store.ensures.faithful in
     let after : IsFaithful c.spawn-spawned.new.self.store = subst (λ (b : LockedState). IsFaithful b.store) c.deref-2.ensures c.store-2.ensures.faithful in
     IfOk-weaker c.spawn-spawned.result _ _
-    (λ fresh records. answered g.L.Round.start s c.spawn-spawned.new.self.store c.args.self.now c.make_room.new.self c.spawn-spawned.new.session _ _ _ held.0 held.1 c.make_room.ensures.receipts records c.spawn-spawned.ensures.refusals.opening after refl)
+    (λ fresh records. answered g.L.Round.start c.deref_mut.result.now.store c.spawn-spawned.new.self.store c.args.self.now c.make_room.new.self c.spawn-spawned.new.session _ _ _ held.0 held.1 c.make_room.ensures.receipts records c.spawn-spawned.ensures.refusals.opening after refl)
     c.spawn-spawned.ensures.entry
 
 pub returns-clause-refusals : goal.returns-clause-refusals
 returns-clause-refusals g c =
-    let s : StoreState = c.deref_mut.result.now.store in
     let held = found g.L.Round.start c.deref.result.now c.deref_mut.result.now (c.deref.ensures ∙ sym c.deref_mut.ensures.value) c.store.ensures.gone_on c.store.ensures.faithful in
     let after : IsFaithful c.spawn-spawned.new.self.store = subst (λ (b : LockedState). IsFaithful b.store) c.deref-2.ensures c.store-2.ensures.faithful in
-    refusals_at_some g.L.Round.start s c.spawn-spawned.new.self.store c.args.self.now c.make_room.new.self c.spawn-spawned.new.session _ _ c.spawn-spawned.result held.0 held.1 c.make_room.ensures.receipts after
+    refusals_at_some g.L.Round.start c.deref_mut.result.now.store c.spawn-spawned.new.self.store c.args.self.now c.make_room.new.self c.spawn-spawned.new.session _ _ c.spawn-spawned.result held.0 held.1 c.make_room.ensures.receipts after
     c.spawn-spawned.ensures.no_more_entry c.spawn-spawned.ensures.refusals
 
 pub returns-clause-workers_full : goal.returns-clause-workers_full
 returns-clause-workers_full g c =
-    let s : StoreState = c.deref_mut.result.now.store in
     let held = found g.L.Round.start c.deref.result.now c.deref_mut.result.now (c.deref.ensures ∙ sym c.deref_mut.ensures.value) c.store.ensures.gone_on c.store.ensures.faithful in
     let after : IsFaithful c.spawn-spawned.new.self.store = subst (λ (b : LockedState). IsFaithful b.store) c.deref-2.ensures c.store-2.ensures.faithful in
     IfErr-weaker c.spawn-spawned.result _ _
-    (λ refused told why. answered g.L.Round.start s c.spawn-spawned.new.self.store c.args.self.now c.make_room.new.self c.spawn-spawned.new.session _ _ _ held.0 held.1 c.make_room.ensures.receipts (told why).0 c.spawn-spawned.ensures.refusals.opening after refl)
+    (λ refused told why. answered g.L.Round.start c.deref_mut.result.now.store c.spawn-spawned.new.self.store c.args.self.now c.make_room.new.self c.spawn-spawned.new.session _ _ _ held.0 held.1 c.make_room.ensures.receipts (told why).0 c.spawn-spawned.ensures.refusals.opening after refl)
     c.spawn-spawned.ensures.too_many_entry

@@ -1,30 +1,9 @@
-use Rattle.std.proofs.Common.{◌≡◌, [], get_or, set, ◌∙◌, sym, ap, subst}
-use Rattle.std.specs.List.{All}
-use Rattle.std.proofs.lemmas.List.{get_or_read}
-use Rattle.std.proofs.lemmas.List.Elements.{All-set}
-use Rattle.tg_block.specs.Cells.{with_word}
-use Rattle.tg_space.specs.SpaceList.{SpaceList, BlockList, IsSpace, Holds, space_of, with_word_at}
-use Rattle.tg_space.specs.SpaceTable.{SpaceTable, IsSpaceTable, IsHandedOut, IsPrefixCount, with_spaces}
-use Rattle.tg_space.proofs.Tables.{table_written, shape_written, same_starts}
+use Rattle.std.proofs.Common.{set}
+use Rattle.tg_block.specs.Cells.{cell_of}
+use Rattle.tg_space.proofs.Tables.{cell_put}
 use Rattle.tg_space.proofs.spaces.Spaces.write.Goals as goal
 
 pub invariant_of-self : goal.invariant_of-self
 invariant_of-self c =
-    let inside = c.self.inside in
-    let place = c.args.place in
-    let t : SpaceTable = record { spaces = inside.spaces.items; used = inside.used.items; limits = inside.limits } in
-    let same : t ≡ c.args.self.now = c.self.view_is in
-    let held : Holds t.spaces place = subst (λ (x : SpaceTable). Holds x.spaces place) (sym same) c.requires.held in
-    let handed : IsHandedOut t place = subst (λ (x : SpaceTable). IsHandedOut x place) (sym same) c.requires.handed_out in
-    let space : c.index_mut-space.result.now ≡ space_of t.spaces place.space =
-    get_or_read t.spaces place.space c.index_mut-space.result.now held.space c.index_mut-space.ensures.value [] in
-    let written = with_word_at t.spaces place c.args.i c.args.word in
-    let changed : set t.spaces place.space c.set_word.new.self ≡ written =
-    ap (set t.spaces place.space)
-    (c.set_word.ensures.changed ∙ ap (λ (s : BlockList). set s place.block (with_word (get_or s place.block []) place.cell c.args.i c.args.word)) space) in
-    let whole : All IsSpace written =
-    subst (λ (h : SpaceList). All IsSpace h) changed (All-set IsSpace t.spaces place.space c.set_word.new.self c.set_word.ensures.whole c.self.invariant.0.blocks) in
-    subst (λ (h : SpaceList). IsSpaceTable (with_spaces t h) × IsPrefixCount inside.starts.items h) (sym changed) (
-      table_written t place c.args.i c.args.word c.self.invariant.0 held handed whole,
-      same_starts inside.starts.items t.spaces written (shape_written t.spaces place c.args.i c.args.word held) c.self.invariant.1,
-    )
+    cell_put _ _ _ c.args.place c.index_mut-space.result.now c.set_word.new.self (λ cells. set (cell_of cells c.args.place.cell) c.args.i c.args.word)
+    c.self.view_is c.self.invariant c.requires.held c.requires.handed_out c.index_mut-space.ensures.value c.set_word.ensures.changed c.set_word.ensures.whole

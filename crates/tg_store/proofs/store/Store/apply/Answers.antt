@@ -11,7 +11,7 @@ use Rattle.tg_graph.specs.Heap.{IsActive, content_of, nursery_of, subject_names}
 use Rattle.tg_rules.specs.Effect.{LacksCellsToServe}
 use Rattle.tg_store.specs.Store.{StoreState, Enters, IsUnchanged, OnlyEnters, StandsFor, graph_of_store}
 use Rattle.tg_store.proofs.AnswerLaws.{denial-answered, made-plain, permitted}
-use Rattle.tg_store.proofs.StandLaws.{IsStore-unchanged, IsStore-entered, StandsFor-entered, subject_here, active_here}
+use Rattle.tg_store.proofs.StandLaws.{IsStore-unchanged, IsStore-entered, StandsFor-entered, subject_here, subject_named, active_here}
 use Rattle.tg_store.proofs.store.Store.apply.Goals as goal
 
 pub returns-in_default-clause-no_such_worker : goal.returns-in_default-clause-no_such_worker
@@ -42,12 +42,11 @@ invariant_of-self-in_err-reply g c =
 pub returns-in_err-reply-clause-no_such_worker : goal.returns-in_err-reply-clause-no_such_worker
 returns-in_err-reply-clause-no_such_worker g c =
     let old : StoreState = record { opening = c.self.inside.opening; entries = c.self.inside.journal.entries; heap = c.self.inside.heap } in
-    let active : IsActive old.heap c.args.worker = c.in-Some.ensures.active.0 refl in
     let named : c.in-Some.subject.name ≡ c.args.worker = c.in-Some.ensures.there.named in
     let given = err_from_is_err_and c.from_residual-in_err-reply.result c.from_residual-in_err-reply.ensures.1 in
     λ graph stands.
     let here : StandsFor old graph = ap graph_of_store c.self.view_is ∙ stands in
-    (λ same _. c.in_err-reply.ensures.answered.kept.worker (cc (same, given.1, given.2)), λ none. absurd (none (subject_here old c.self.invariant.faithful graph c.args.worker here active)))
+    (λ same _. c.in_err-reply.ensures.answered.kept.worker (cc (same, given.1, given.2)), λ none. absurd (none (subject_here old c.self.invariant.faithful graph c.args.worker here (c.in-Some.ensures.active.0 refl))))
 
 pub returns-in_err-reply-clause-full : goal.returns-in_err-reply-clause-full
 returns-in_err-reply-clause-full g c =
@@ -93,13 +92,11 @@ pub returns-clause-reply : goal.returns-clause-reply
 returns-clause-reply g c =
     let old : StoreState = record { opening = c.self.inside.opening; entries = c.self.inside.journal.entries; heap = c.self.inside.heap } in
     let graph : ProtectionGraph = graph_of_store old in
-    let active : IsActive old.heap c.args.worker = c.in-Some.ensures.active.0 refl in
-    let named : c.in-Some.subject.name ≡ c.args.worker = c.in-Some.ensures.there.named in
-    let subject : IsSubject graph c.args.worker = subject_here old c.self.invariant.faithful graph c.args.worker refl active in
+    let own : IsSubject graph c.in-Some.subject.name = subject_named old c.self.invariant.faithful c.args.worker c.in-Some.subject.name c.in-Some.ensures.there.named (c.in-Some.ensures.active.0 refl) in
     λ other stands.
     let here : StandsFor old other = ap graph_of_store c.self.view_is ∙ stands in
-    c.in_ok-reply.ensures.answered.replied.reply graph c.self.invariant.faithful.stands (subst (λ (x : ℕ). IsSubject graph x) (sym named) subject)
-    ∙ ap (λ (x : ℕ). answer_of graph x (Plain c.args.command)) named ∙ ap (λ h. answer_of h c.args.worker (Plain c.args.command)) here
+    c.in_ok-reply.ensures.answered.replied.reply graph c.self.invariant.faithful.stands own
+    ∙ ap (λ (x : ℕ). answer_of graph x (Plain c.args.command)) c.in-Some.ensures.there.named ∙ ap (λ h. answer_of h c.args.worker (Plain c.args.command)) here
 
 pub returns-clause-step : goal.returns-clause-step
 returns-clause-step g c =
@@ -115,13 +112,12 @@ returns-clause-step g c =
 pub returns-clause-denied : goal.returns-clause-denied
 returns-clause-denied g c =
     let old : StoreState = record { opening = c.self.inside.opening; entries = c.self.inside.journal.entries; heap = c.self.inside.heap } in
-    let new : StoreState = record { opening = c.self.inside.opening; entries = c.push.new.self.entries; heap = c.answer_command.new.heap } in
     let graph : ProtectionGraph = graph_of_store old in
-    let active : IsActive old.heap c.args.worker = c.in-Some.ensures.active.0 refl in
     let named : c.in-Some.subject.name ≡ c.args.worker = c.in-Some.ensures.there.named in
-    let subject : IsSubject graph c.args.worker = subject_here old c.self.invariant.faithful graph c.args.worker refl active in
+    let subject : IsSubject graph c.args.worker = subject_here old c.self.invariant.faithful graph c.args.worker refl (c.in-Some.ensures.active.0 refl) in
     let stands = c.self.invariant.faithful.stands in
     λ denial same.
+    let new : StoreState = record { opening = c.self.inside.opening; entries = c.push.new.self.entries; heap = c.answer_command.new.heap } in
     let is : c.in_ok-reply.field-0.reply ≡ Denied denial = cc same in
     let denied = denial-answered (content_of old.heap) graph c.args.worker c.args.command denial stands subject (sym is ∙ c.in_ok-reply.ensures.answered.replied.reply graph stands (subst (λ (x : ℕ). IsSubject graph x) (sym named) subject) ∙ ap (λ (x : ℕ). answer_of graph x (Plain c.args.command)) named) in
     let copy : c.in_ok-reply.field-0.copy ≡ Denied denial = c.in_ok-reply.ensures.answered.replied.copy ∙ is in

@@ -1,9 +1,10 @@
 -- How few blocks are left, and which vertices stay: the spare blocks are none of the store that is seen.
-use Rattle.std.proofs.Common.{◌∙◌, ap, subst}
+use Rattle.std.proofs.Common.{subst}
 use Rattle.std.proofs.lemmas.Result.{err_from_is_err_and}
 use Rattle.tg_store.specs.Store.{HasFewBlocks, StoreState}
 use Rattle.tg_store.specs.Collecting.{IsSwept}
 use Rattle.tg_store.proofs.BlockLaws.{few_left}
+use Rattle.tg_store.proofs.HistoryLaws.{history_done, history_refused, history_same}
 use Rattle.tg_store.proofs.store.Store.collect.Goals as goal
 
 pub returns-clause-swept : goal.returns-clause-swept
@@ -33,30 +34,12 @@ pub returns-in_err-settle-clause-blocks : goal.returns-in_err-settle-clause-bloc
 returns-in_err-settle-clause-blocks g c = let given = err_from_is_err_and c.from_residual-in_err-settle.result c.from_residual-in_err-settle.ensures.1 in rw given.1 tt
 
 pub returns-clause-history : goal.returns-clause-history
-returns-clause-history g c =
-    record {
-      entries = c.settle.ensures.history.entries ∙ ap (λ (s : StoreState). s.entries) c.take_spare-spare.ensures;
-      refused = tt;
-      opening = c.settle.ensures.history.opening ∙ ap (λ (s : StoreState). s.opening) c.take_spare-spare.ensures;
-      limits = c.settle.ensures.history.limits ∙ ap (λ (s : StoreState). s.heap.table.limits) c.take_spare-spare.ensures;
-    }
+returns-clause-history g c = history_done _ _ _ _ _ c.take_spare-spare.ensures c.settle.ensures.history
 
 pub returns-in_err-copied-clause-history : goal.returns-in_err-copied-clause-history
-returns-in_err-copied-clause-history g c =
-    let given = err_from_is_err_and c.from_residual.result c.from_residual.ensures.1 in
-    record {
-      entries = ap (λ (s : StoreState). s.entries) c.take_spare-spare.ensures;
-      refused = rw given.1 c.take_spare-spare.ensures;
-      opening = ap (λ (s : StoreState). s.opening) c.take_spare-spare.ensures;
-      limits = ap (λ (s : StoreState). s.heap.table.limits) c.take_spare-spare.ensures;
-    }
+returns-in_err-copied-clause-history g c = let given = err_from_is_err_and c.from_residual.result c.from_residual.ensures.1 in history_same _ _ _ _ c.take_spare-spare.ensures given.1
 
 pub returns-in_err-settle-clause-history : goal.returns-in_err-settle-clause-history
 returns-in_err-settle-clause-history g c =
     let given = err_from_is_err_and c.from_residual-in_err-settle.result c.from_residual-in_err-settle.ensures.1 in
-    record {
-      entries = c.in_err-settle.ensures.history.entries ∙ ap (λ (s : StoreState). s.entries) c.take_spare-spare.ensures;
-      refused = rw given.1 (c.in_err-settle.ensures.history.refused ∙ c.take_spare-spare.ensures);
-      opening = c.in_err-settle.ensures.history.opening ∙ ap (λ (s : StoreState). s.opening) c.take_spare-spare.ensures;
-      limits = c.in_err-settle.ensures.history.limits ∙ ap (λ (s : StoreState). s.heap.table.limits) c.take_spare-spare.ensures;
-    }
+    history_refused _ _ _ _ _ _ c.take_spare-spare.ensures given.1 c.in_err-settle.ensures.history

@@ -1,5 +1,5 @@
 -- The new vertex is the graph's next, and exactly what is answered is entered.
-use Rattle.std.proofs.Common.{◌≡◌, ◌^◌, ◌<◌, ◌≤◌, ◌+◌, ◌∙◌, ◌++◌, ◌∷◌, [], None, Some, length, refl, sym, ap, subst, inl, inr, arith}
+use Rattle.std.proofs.Common.{ℕ, ◌≡◌, ◌^◌, ◌<◌, ◌≤◌, ◌+◌, ◌∙◌, ◌++◌, ◌∷◌, [], None, Some, length, refl, sym, ap, subst, inl, inr, arith}
 use Rattle.std.proofs.lemmas.Result.{err_from_is_err_and}
 use Rattle.tg_model.specs.declared.value.Value.{Value}
 use Rattle.tg_model.specs.declared.command.Deed.{Deed}
@@ -16,10 +16,42 @@ use Rattle.tg_graph.specs.Heap.{IsActive, content_of, nursery_of}
 use Rattle.tg_graph.specs.Spots.{IsMadeInRow, LacksCellsFor}
 use Rattle.tg_store.specs.Store.{StoreState, Enters, IsUnchanged, OnlyEnters, StandsFor, graph_of_store}
 use Rattle.tg_store.specs.declared.making.Limit.{Limit}
+use Rattle.tg_store.specs.declared.making.Making.{Making}
 use Rattle.tg_store.specs.Making.{IsLimitMet, deed_making, reply_at}
 use Rattle.tg_store.proofs.MakingLaws as making
 use Rattle.tg_store.proofs.StandLaws.{IsStore-unchanged, StandsFor-entered, subject_here, active_here}
 use Rattle.tg_store.proofs.store.Store.make.Goals as goal
+use Rattle.tg_store.proofs.store.Store.make.Goals.{After-push, In_default-met}
+
+-- a limit is met, and the reply that tells it is entered
+record IsLimited (old new : StoreState) (worker : ℕ) (kind : Making) (deed : Deed) (limit : Limit) : Type 0 where
+  met : IsLimitMet (graph_of_store old) kind (Some limit)
+  entry : Enters old new worker deed (reply_at limit)
+
+is_limited : (g : _) (c : After-push g) → IsLimited (record { opening = c.self.inside.opening; entries = c.self.inside.journal.entries; heap = c.self.inside.heap }) (record { opening = c.self.inside.opening; entries = c.push.new.self.entries; heap = c.self.inside.heap })
+    c.args.worker c.args.kind (deed_making c.args.kind c.args.label c.args.draft) c.in-Some-met.limit
+is_limited g c =
+    let entries = c.self.inside.journal.entries in
+    let deed : c.in-Ok.deed ≡ deed_making c.args.kind c.args.label c.args.draft = c.in-Ok.ensures.deed ∙ ap (λ (v : Value). deed_making c.args.kind c.args.label v) c.value.ensures.same in
+    record {
+      met = subst (λ (s : StoreState). IsLimitMet (graph_of_store s) c.args.kind (Some c.in-Some-met.limit)) (sym c.self.view_is) c.in-Some-met.ensures.met;
+      entry = c.push.ensures.entries ∙ ap (λ es. es ++ (record { worker = c.args.worker; deed = c.in-Ok.deed; reply = c.reply.result }) ∷ []) c.deed_to_enter.ensures.entries
+          ∙ ap (λ (r : Reply). entries ++ (record { worker = c.args.worker; deed = c.in-Ok.deed; reply = r }) ∷ []) c.reply.ensures
+          ∙ ap (λ (d : Deed). entries ++ (record { worker = c.args.worker; deed = d; reply = reply_at c.in-Some-met.limit }) ∷ []) deed;
+    }
+
+-- and nothing else is done
+only_enters : (g : _) (c : After-push g) (reply : Reply) → reply_at c.in-Some-met.limit ≡ reply
+    → OnlyEnters c.args.self.now (record { opening = c.self.inside.opening; entries = c.push.new.self.entries; heap = c.self.inside.heap }) c.args.worker (deed_making c.args.kind c.args.label c.args.draft) reply
+only_enters g c reply is =
+    let new : StoreState = record { opening = c.self.inside.opening; entries = c.push.new.self.entries; heap = c.self.inside.heap } in
+    let deed : Deed = deed_making c.args.kind c.args.label c.args.draft in
+    subst (λ (s : StoreState). OnlyEnters s new c.args.worker deed reply) c.self.view_is
+    (record { entry = (is_limited g c).entry ∙ ap (λ (r : Reply). c.self.inside.journal.entries ++ (record { worker = c.args.worker; deed = deed; reply = r }) ∷ []) is; opening = refl; heap = refl })
+
+-- no limit is met
+has_room : (g : _) (c : In_default-met g) → IsLimitMet (graph_of_store (record { opening = c.self.inside.opening; entries = c.self.inside.journal.entries; heap = c.self.inside.heap })) c.args.kind None
+has_room g c = subst (λ (s : StoreState). IsLimitMet (graph_of_store s) c.args.kind None) (sym c.self.view_is) c.in_default-met.ensures.met
 
 pub returns-in_default-clause-refusals : goal.returns-in_default-clause-refusals
 returns-in_default-clause-refusals g c =
@@ -44,45 +76,31 @@ returns-in_default-clause-refusals g c =
 pub invariant_of-self-in-Some-met : goal.invariant_of-self-in-Some-met
 invariant_of-self-in-Some-met g c =
     let old : StoreState = record { opening = c.self.inside.opening; entries = c.self.inside.journal.entries; heap = c.self.inside.heap } in
-    let active : IsActive old.heap c.args.worker = c.in-Some.ensures.active.0 refl in
-    let limit : Limit = c.in-Some-met.limit in
-    let met : IsLimitMet (graph_of_store old) c.args.kind (Some limit) = subst (λ (s : StoreState). IsLimitMet (graph_of_store s) c.args.kind (Some limit)) (sym c.self.view_is) c.in-Some-met.ensures.met in
+    let limited = is_limited g (goal.at.invariant_of-self-in-Some-met g c).After-push in
     let new : StoreState = record { opening = c.self.inside.opening; entries = c.push.new.self.entries; heap = c.self.inside.heap } in
-    let deed : c.in-Ok.deed ≡ deed_making c.args.kind c.args.label c.args.draft = c.in-Ok.ensures.deed ∙ ap (λ (v : Value). deed_making c.args.kind c.args.label v) c.value.ensures.same in
-    let entry : Enters old new c.args.worker (deed_making c.args.kind c.args.label c.args.draft) (reply_at limit) =
-    c.push.ensures.entries ∙ ap (λ es. es ++ (record { worker = c.args.worker; deed = c.in-Ok.deed; reply = c.reply.result }) ∷ []) c.deed_to_enter.ensures.entries
-    ∙ ap (λ (r : Reply). old.entries ++ (record { worker = c.args.worker; deed = c.in-Ok.deed; reply = r }) ∷ []) c.reply.ensures
-    ∙ ap (λ (d : Deed). old.entries ++ (record { worker = c.args.worker; deed = d; reply = reply_at limit }) ∷ []) deed in
-    making.IsStore-limited old c.self.inside.made c.self.invariant c.args.worker active c.args.kind c.args.label c.args.draft limit met new c.value.ensures.fits refl entry refl
+    making.IsStore-limited old c.self.inside.made c.self.invariant c.args.worker (c.in-Some.ensures.active.0 refl) c.args.kind c.args.label c.args.draft c.in-Some-met.limit limited.met new c.value.ensures.fits refl limited.entry refl
 
 pub returns-in-Some-met-clause-refusals : goal.returns-in-Some-met-clause-refusals
 returns-in-Some-met-clause-refusals g c =
     let old : StoreState = record { opening = c.self.inside.opening; entries = c.self.inside.journal.entries; heap = c.self.inside.heap } in
-    let active : IsActive old.heap c.args.worker = c.in-Some.ensures.active.0 refl in
-    let limit : Limit = c.in-Some-met.limit in
-    let met : IsLimitMet (graph_of_store old) c.args.kind (Some limit) = subst (λ (s : StoreState). IsLimitMet (graph_of_store s) c.args.kind (Some limit)) (sym c.self.view_is) c.in-Some-met.ensures.met in
+    let limited = is_limited g (goal.at.returns-in-Some-met-clause-refusals g c).After-push in
     let new : StoreState = record { opening = c.self.inside.opening; entries = c.push.new.self.entries; heap = c.self.inside.heap } in
-    let deed : c.in-Ok.deed ≡ deed_making c.args.kind c.args.label c.args.draft = c.in-Ok.ensures.deed ∙ ap (λ (v : Value). deed_making c.args.kind c.args.label v) c.value.ensures.same in
-    let entry : Enters old new c.args.worker (deed_making c.args.kind c.args.label c.args.draft) (reply_at limit) =
-    c.push.ensures.entries ∙ ap (λ es. es ++ (record { worker = c.args.worker; deed = c.in-Ok.deed; reply = c.reply.result }) ∷ []) c.deed_to_enter.ensures.entries
-    ∙ ap (λ (r : Reply). old.entries ++ (record { worker = c.args.worker; deed = c.in-Ok.deed; reply = r }) ∷ []) c.reply.ensures
-    ∙ ap (λ (d : Deed). old.entries ++ (record { worker = c.args.worker; deed = d; reply = reply_at limit }) ∷ []) deed in
     record {
       no_such_worker = (λ graph stands.
           let here : StandsFor old graph = ap graph_of_store c.self.view_is ∙ stands in
           rw (c.create_refused-in-Some-met.ensures, c.fault.ensures)
-          (λ e _. making.no_limit_such _ e, λ none. absurd (none (subject_here old c.self.invariant.faithful graph c.args.worker here active))));
+          (λ e _. making.no_limit_such _ e, λ none. absurd (none (subject_here old c.self.invariant.faithful graph c.args.worker here (c.in-Some.ensures.active.0 refl)))));
       no_more = (λ graph stands.
           let here : StandsFor old graph = ap graph_of_store c.self.view_is ∙ stands in
           rw (c.create_refused-in-Some-met.ensures, c.fault.ensures)
-          (λ e. (subject_here old c.self.invariant.faithful graph c.args.worker here active, subst (λ (h : ProtectionGraph). h.limit ≤ h.made) here (making.vertices_full (graph_of_store old) c.args.kind limit met e))));
+          (λ e. (subject_here old c.self.invariant.faithful graph c.args.worker here (c.in-Some.ensures.active.0 refl), subst (λ (h : ProtectionGraph). h.limit ≤ h.made) here (making.vertices_full (graph_of_store old) c.args.kind c.in-Some-met.limit limited.met e))));
       exhausted = (λ graph stands subject all.
           let here : StandsFor old graph = ap graph_of_store c.self.view_is ∙ stands in
-          rw (c.create_refused-in-Some-met.ensures, c.fault.ensures) (making.told_vertices (graph_of_store old) c.args.kind limit met (subst (λ (h : ProtectionGraph). h.limit ≤ h.made) (sym here) all)));
+          rw (c.create_refused-in-Some-met.ensures, c.fault.ensures) (making.told_vertices (graph_of_store old) c.args.kind c.in-Some-met.limit limited.met (subst (λ (h : ProtectionGraph). h.limit ≤ h.made) (sym here) all)));
       full = (λ _ _. rw (c.create_refused-in-Some-met.ensures, c.fault.ensures) (λ e. absurd (making.no_limit_heap _ e)));
       same_graph = (λ graph stands.
           let here : StandsFor old graph = ap graph_of_store c.self.view_is ∙ stands in
-          let after : StandsFor new graph = making.StandsFor-limited old c.self.inside.made c.self.invariant c.args.worker active c.args.kind c.args.label c.args.draft limit met new graph refl entry here in
+          let after : StandsFor new graph = making.StandsFor-limited old c.self.inside.made c.self.invariant c.args.worker (c.in-Some.ensures.active.0 refl) c.args.kind c.args.label c.args.draft c.in-Some-met.limit limited.met new graph refl limited.entry here in
           rw c.create_refused-in-Some-met.ensures after);
       handed_back = rw c.create_refused-in-Some-met.ensures refl;
       opening = ap (λ (s : StoreState). s.opening) c.self.view_is;
@@ -90,10 +108,7 @@ returns-in-Some-met-clause-refusals g c =
     }
 
 pub add_vertex-requires-clause-fresh : goal.add_vertex-requires-clause-fresh
-add_vertex-requires-clause-fresh g c =
-    let old : StoreState = record { opening = c.self.inside.opening; entries = c.self.inside.journal.entries; heap = c.self.inside.heap } in
-    let active : IsActive old.heap c.args.worker = c.in-Some.ensures.active.0 refl in
-    making.fresh old c.self.inside.made c.self.invariant c.args.worker active c.args.kind c.args.label c.args.draft
+add_vertex-requires-clause-fresh g c = making.fresh _ c.self.inside.made c.self.invariant c.args.worker (c.in-Some.ensures.active.0 refl) c.args.kind c.args.label c.args.draft
 
 pub invariant_of-self-in_err-add_vertex : goal.invariant_of-self-in_err-add_vertex
 invariant_of-self-in_err-add_vertex g c =
@@ -107,7 +122,7 @@ returns-in_err-add_vertex-clause-refusals g c =
     let old : StoreState = record { opening = c.self.inside.opening; entries = c.self.inside.journal.entries; heap = c.self.inside.heap } in
     let active : IsActive old.heap c.args.worker = c.in-Some.ensures.active.0 refl in
     let given = err_from_is_err_and c.from_residual.result c.from_residual.ensures.1 in
-    let room : IsLimitMet (graph_of_store old) c.args.kind None = subst (λ (s : StoreState). IsLimitMet (graph_of_store s) c.args.kind None) (sym c.self.view_is) c.in_default-met.ensures.met in
+    let room = has_room g (goal.at.returns-in_err-add_vertex-clause-refusals g c).In_default-met in
     record {
       no_such_worker = (λ graph stands.
           let here : StandsFor old graph = ap graph_of_store c.self.view_is ∙ stands in
@@ -135,31 +150,21 @@ returns-in_err-add_vertex-clause-refusals g c =
 pub invariant_of-self-2 : goal.invariant_of-self-2
 invariant_of-self-2 g c =
     let old : StoreState = record { opening = c.self.inside.opening; entries = c.self.inside.journal.entries; heap = c.self.inside.heap } in
-    let room : IsLimitMet (graph_of_store old) c.args.kind None = subst (λ (s : StoreState). IsLimitMet (graph_of_store s) c.args.kind None) (sym c.self.view_is) c.in_default-met.ensures.met in
     let new : StoreState = record { opening = c.self.inside.opening; entries = c.push-2.new.self.entries; heap = c.add_vertex.new.heap } in
-    let active : IsActive old.heap c.args.worker = c.in-Some.ensures.active.0 refl in
-    let deed : c.in-Ok.deed ≡ deed_making c.args.kind c.args.label c.args.draft = c.in-Ok.ensures.deed ∙ ap (λ (v : Value). deed_making c.args.kind c.args.label v) c.value.ensures.same in
-    let entry : Enters old new c.args.worker (deed_making c.args.kind c.args.label c.args.draft) (Name c.self.inside.made) =
-    c.push-2.ensures.entries ∙ ap (λ es. es ++ (record { worker = c.args.worker; deed = c.in-Ok.deed; reply = Name c.self.inside.made }) ∷ []) c.deed_to_enter.ensures.entries
-    ∙ ap (λ (d : Deed). old.entries ++ (record { worker = c.args.worker; deed = d; reply = Name c.self.inside.made }) ∷ []) deed in
-    making.IsStore-made old c.self.inside.made c.self.invariant c.args.worker active c.args.kind c.args.label c.args.draft room new c.value.ensures.fits refl entry
+    let entry = making.enters c.self.inside.journal.entries _ c.push-2.new.self.entries c.args.worker c.args.kind c.args.label c.args.draft _ _ (Name c.self.inside.made) c.in-Ok.ensures.deed c.value.ensures.same c.deed_to_enter.ensures.entries c.push-2.ensures.entries in
+    making.IsStore-made old c.self.inside.made c.self.invariant c.args.worker (c.in-Some.ensures.active.0 refl) c.args.kind c.args.label c.args.draft (has_room g (goal.at.invariant_of-self-2 g c).In_default-met) new c.value.ensures.fits refl entry
     c.in_ok-add_vertex.ensures.made c.in_ok-add_vertex.ensures.subjects
 
 pub returns-clause-made : goal.returns-clause-made
 returns-clause-made g c =
     let old : StoreState = record { opening = c.self.inside.opening; entries = c.self.inside.journal.entries; heap = c.self.inside.heap } in
-    let active : IsActive old.heap c.args.worker = c.in-Some.ensures.active.0 refl in
-    let room : IsLimitMet (graph_of_store old) c.args.kind None = subst (λ (s : StoreState). IsLimitMet (graph_of_store s) c.args.kind None) (sym c.self.view_is) c.in_default-met.ensures.met in
     let new : StoreState = record { opening = c.self.inside.opening; entries = c.push-2.new.self.entries; heap = c.add_vertex.new.heap } in
-    let deed : c.in-Ok.deed ≡ deed_making c.args.kind c.args.label c.args.draft = c.in-Ok.ensures.deed ∙ ap (λ (v : Value). deed_making c.args.kind c.args.label v) c.value.ensures.same in
-    let entry : Enters old new c.args.worker (deed_making c.args.kind c.args.label c.args.draft) (Name c.self.inside.made) =
-    c.push-2.ensures.entries ∙ ap (λ es. es ++ (record { worker = c.args.worker; deed = c.in-Ok.deed; reply = Name c.self.inside.made }) ∷ []) c.deed_to_enter.ensures.entries
-    ∙ ap (λ (d : Deed). old.entries ++ (record { worker = c.args.worker; deed = d; reply = Name c.self.inside.made }) ∷ []) deed in
+    let entry = making.enters c.self.inside.journal.entries _ c.push-2.new.self.entries c.args.worker c.args.kind c.args.label c.args.draft _ _ (Name c.self.inside.made) c.in-Ok.ensures.deed c.value.ensures.same c.deed_to_enter.ensures.entries c.push-2.ensures.entries in
     record {
       name = (λ graph stands.
           let here : StandsFor old graph = ap graph_of_store c.self.view_is ∙ stands in
           ap (λ h. answer_of h c.args.worker (deed_making c.args.kind c.args.label c.args.draft)) (sym here)
-          ∙ making.answer-name old c.self.inside.made c.self.invariant c.args.worker active c.args.kind c.args.label c.args.draft room);
+          ∙ making.answer-name old c.self.inside.made c.self.invariant c.args.worker (c.in-Some.ensures.active.0 refl) c.args.kind c.args.label c.args.draft (has_room g (goal.at.returns-clause-made g c).In_default-met));
       step = (λ graph stands.
           let here : StandsFor old graph = ap graph_of_store c.self.view_is ∙ stands in
           StandsFor-entered old new c.args.worker (deed_making c.args.kind c.args.label c.args.draft) (Name c.self.inside.made) refl entry graph here);
@@ -171,7 +176,7 @@ pub returns-clause-refusals : goal.returns-clause-refusals
 returns-clause-refusals g c =
     let old : StoreState = record { opening = c.self.inside.opening; entries = c.self.inside.journal.entries; heap = c.self.inside.heap } in
     let active : IsActive old.heap c.args.worker = c.in-Some.ensures.active.0 refl in
-    let room : IsLimitMet (graph_of_store old) c.args.kind None = subst (λ (s : StoreState). IsLimitMet (graph_of_store s) c.args.kind None) (sym c.self.view_is) c.in_default-met.ensures.met in
+    let room = has_room g (goal.at.returns-clause-refusals g c).In_default-met in
     record {
       no_such_worker = (λ graph stands.
           let here : StandsFor old graph = ap graph_of_store c.self.view_is ∙ stands in
@@ -235,61 +240,35 @@ returns-in_default-deed_to_enter-clause-no_more_entry g c = rw c.create_refused-
 
 pub returns-in-Some-met-clause-no_more_entry : goal.returns-in-Some-met-clause-no_more_entry
 returns-in-Some-met-clause-no_more_entry g c =
-    let old : StoreState = record { opening = c.self.inside.opening; entries = c.self.inside.journal.entries; heap = c.self.inside.heap } in
-    let active : IsActive old.heap c.args.worker = c.in-Some.ensures.active.0 refl in
-    let limit : Limit = c.in-Some-met.limit in
-    let met : IsLimitMet (graph_of_store old) c.args.kind (Some limit) = subst (λ (s : StoreState). IsLimitMet (graph_of_store s) c.args.kind (Some limit)) (sym c.self.view_is) c.in-Some-met.ensures.met in
-    let new : StoreState = record { opening = c.self.inside.opening; entries = c.push.new.self.entries; heap = c.self.inside.heap } in
-    let deed : c.in-Ok.deed ≡ deed_making c.args.kind c.args.label c.args.draft = c.in-Ok.ensures.deed ∙ ap (λ (v : Value). deed_making c.args.kind c.args.label v) c.value.ensures.same in
-    let entry : Enters old new c.args.worker (deed_making c.args.kind c.args.label c.args.draft) (reply_at limit) =
-    c.push.ensures.entries ∙ ap (λ es. es ++ (record { worker = c.args.worker; deed = c.in-Ok.deed; reply = c.reply.result }) ∷ []) c.deed_to_enter.ensures.entries
-    ∙ ap (λ (r : Reply). old.entries ++ (record { worker = c.args.worker; deed = c.in-Ok.deed; reply = r }) ∷ []) c.reply.ensures
-    ∙ ap (λ (d : Deed). old.entries ++ (record { worker = c.args.worker; deed = d; reply = reply_at limit }) ∷ []) deed in
-    rw (c.create_refused-in-Some-met.ensures, c.fault.ensures)
-    (λ e. subst (λ (s : StoreState). OnlyEnters s new c.args.worker (deed_making c.args.kind c.args.label c.args.draft) VerticesFull) c.self.view_is (record { entry = entry ∙ ap (λ (r : Reply). old.entries ++ (record { worker = c.args.worker; deed = deed_making c.args.kind c.args.label c.args.draft; reply = r }) ∷ []) (making.reply_vertices limit e); opening = refl; heap = refl }))
+    rw (c.create_refused-in-Some-met.ensures, c.fault.ensures) (λ e. only_enters g (goal.at.returns-in-Some-met-clause-no_more_entry g c).After-push VerticesFull (making.reply_vertices c.in-Some-met.limit e))
 
 pub returns-in-Some-met-clause-too_many_entry : goal.returns-in-Some-met-clause-too_many_entry
 returns-in-Some-met-clause-too_many_entry g c =
-    let old : StoreState = record { opening = c.self.inside.opening; entries = c.self.inside.journal.entries; heap = c.self.inside.heap } in
-    let active : IsActive old.heap c.args.worker = c.in-Some.ensures.active.0 refl in
-    let limit : Limit = c.in-Some-met.limit in
-    let met : IsLimitMet (graph_of_store old) c.args.kind (Some limit) = subst (λ (s : StoreState). IsLimitMet (graph_of_store s) c.args.kind (Some limit)) (sym c.self.view_is) c.in-Some-met.ensures.met in
-    let new : StoreState = record { opening = c.self.inside.opening; entries = c.push.new.self.entries; heap = c.self.inside.heap } in
-    let deed : c.in-Ok.deed ≡ deed_making c.args.kind c.args.label c.args.draft = c.in-Ok.ensures.deed ∙ ap (λ (v : Value). deed_making c.args.kind c.args.label v) c.value.ensures.same in
-    let entry : Enters old new c.args.worker (deed_making c.args.kind c.args.label c.args.draft) (reply_at limit) =
-    c.push.ensures.entries ∙ ap (λ es. es ++ (record { worker = c.args.worker; deed = c.in-Ok.deed; reply = c.reply.result }) ∷ []) c.deed_to_enter.ensures.entries
-    ∙ ap (λ (r : Reply). old.entries ++ (record { worker = c.args.worker; deed = c.in-Ok.deed; reply = r }) ∷ []) c.reply.ensures
-    ∙ ap (λ (d : Deed). old.entries ++ (record { worker = c.args.worker; deed = d; reply = reply_at limit }) ∷ []) deed in
-    rw (c.create_refused-in-Some-met.ensures, c.fault.ensures)
-    (λ e. subst (λ (s : StoreState). OnlyEnters s new c.args.worker (deed_making c.args.kind c.args.label c.args.draft) WorkersFull) c.self.view_is (record { entry = entry ∙ ap (λ (r : Reply). old.entries ++ (record { worker = c.args.worker; deed = deed_making c.args.kind c.args.label c.args.draft; reply = r }) ∷ []) (making.reply_workers limit e); opening = refl; heap = refl }))
+    rw (c.create_refused-in-Some-met.ensures, c.fault.ensures) (λ e. only_enters g (goal.at.returns-in-Some-met-clause-too_many_entry g c).After-push WorkersFull (making.reply_workers c.in-Some-met.limit e))
 
 pub returns-in-Some-met-clause-too_many : goal.returns-in-Some-met-clause-too_many
 returns-in-Some-met-clause-too_many g c =
     let old : StoreState = record { opening = c.self.inside.opening; entries = c.self.inside.journal.entries; heap = c.self.inside.heap } in
-    let active : IsActive old.heap c.args.worker = c.in-Some.ensures.active.0 refl in
-    let limit : Limit = c.in-Some-met.limit in
-    let met : IsLimitMet (graph_of_store old) c.args.kind (Some limit) = subst (λ (s : StoreState). IsLimitMet (graph_of_store s) c.args.kind (Some limit)) (sym c.self.view_is) c.in-Some-met.ensures.met in
+    let limited = is_limited g (goal.at.returns-in-Some-met-clause-too_many g c).After-push in
     λ graph stands.
     let here : StandsFor old graph = ap graph_of_store c.self.view_is ∙ stands in
     rw (c.create_refused-in-Some-met.ensures, c.fault.ensures)
-    (λ e. let full = making.workers_full (graph_of_store old) c.args.kind limit met e in
-    (full.0, subject_here old c.self.invariant.faithful graph c.args.worker here active, subst (λ (h : ProtectionGraph). h.made < h.limit) here full.1, subst (λ (h : ProtectionGraph). MAX_WORKERS ≤ length h.subjects) here full.2))
+    (λ e. let full = making.workers_full (graph_of_store old) c.args.kind c.in-Some-met.limit limited.met e in
+    (full.0, subject_here old c.self.invariant.faithful graph c.args.worker here (c.in-Some.ensures.active.0 refl), subst (λ (h : ProtectionGraph). h.made < h.limit) here full.1, subst (λ (h : ProtectionGraph). MAX_WORKERS ≤ length h.subjects) here full.2))
 
 pub returns-in-Some-met-clause-crowded : goal.returns-in-Some-met-clause-crowded
 returns-in-Some-met-clause-crowded g c =
     let old : StoreState = record { opening = c.self.inside.opening; entries = c.self.inside.journal.entries; heap = c.self.inside.heap } in
-    let active : IsActive old.heap c.args.worker = c.in-Some.ensures.active.0 refl in
-    let limit : Limit = c.in-Some-met.limit in
-    let met : IsLimitMet (graph_of_store old) c.args.kind (Some limit) = subst (λ (s : StoreState). IsLimitMet (graph_of_store s) c.args.kind (Some limit)) (sym c.self.view_is) c.in-Some-met.ensures.met in
+    let limited = is_limited g (goal.at.returns-in-Some-met-clause-crowded g c).After-push in
     λ is graph stands subject low many.
     let here : StandsFor old graph = ap graph_of_store c.self.view_is ∙ stands in
-    rw (c.create_refused-in-Some-met.ensures, c.fault.ensures) (making.told_workers (graph_of_store old) c.args.kind limit met (subst (λ (h : ProtectionGraph). h.made < h.limit) (sym here) low))
+    rw (c.create_refused-in-Some-met.ensures, c.fault.ensures) (making.told_workers (graph_of_store old) c.args.kind c.in-Some-met.limit limited.met (subst (λ (h : ProtectionGraph). h.made < h.limit) (sym here) low))
 
 pub returns-in_err-add_vertex-clause-crowded : goal.returns-in_err-add_vertex-clause-crowded
 returns-in_err-add_vertex-clause-crowded g c =
     let old : StoreState = record { opening = c.self.inside.opening; entries = c.self.inside.journal.entries; heap = c.self.inside.heap } in
     let active : IsActive old.heap c.args.worker = c.in-Some.ensures.active.0 refl in
-    let room : IsLimitMet (graph_of_store old) c.args.kind None = subst (λ (s : StoreState). IsLimitMet (graph_of_store s) c.args.kind None) (sym c.self.view_is) c.in_default-met.ensures.met in
+    let room = has_room g (goal.at.returns-in_err-add_vertex-clause-crowded g c).In_default-met in
     λ is graph stands subject low many.
     let here : StandsFor old graph = ap graph_of_store c.self.view_is ∙ stands in
     let few = subst (λ (h : ProtectionGraph). length h.subjects < MAX_WORKERS) here (room.1 is) in absurd (omega (arith, few, many))
@@ -313,22 +292,19 @@ pub returns-clause-crowded : goal.returns-clause-crowded
 returns-clause-crowded g c =
     let old : StoreState = record { opening = c.self.inside.opening; entries = c.self.inside.journal.entries; heap = c.self.inside.heap } in
     let active : IsActive old.heap c.args.worker = c.in-Some.ensures.active.0 refl in
-    let room : IsLimitMet (graph_of_store old) c.args.kind None = subst (λ (s : StoreState). IsLimitMet (graph_of_store s) c.args.kind None) (sym c.self.view_is) c.in_default-met.ensures.met in
+    let room = has_room g (goal.at.returns-clause-crowded g c).In_default-met in
     λ is graph stands subject low many.
     let here : StandsFor old graph = ap graph_of_store c.self.view_is ∙ stands in
     let few = subst (λ (h : ProtectionGraph). length h.subjects < MAX_WORKERS) here (room.1 is) in absurd (omega (arith, few, many))
 
 pub add_vertex-requires-clause-above : goal.add_vertex-requires-clause-above
-add_vertex-requires-clause-above g c =
-    let old : StoreState = record { opening = c.self.inside.opening; entries = c.self.inside.journal.entries; heap = c.self.inside.heap } in
-    let active : IsActive old.heap c.args.worker = c.in-Some.ensures.active.0 refl in
-    making.above old c.self.inside.made c.self.invariant c.args.worker active c.args.kind c.args.label c.args.draft
+add_vertex-requires-clause-above g c = making.above _ c.self.inside.made c.self.invariant c.args.worker (c.in-Some.ensures.active.0 refl) c.args.kind c.args.label c.args.draft
 
 pub add_vertex-requires-clause-few : goal.add_vertex-requires-clause-few
 add_vertex-requires-clause-few g c =
     let old : StoreState = record { opening = c.self.inside.opening; entries = c.self.inside.journal.entries; heap = c.self.inside.heap } in
     let active : IsActive old.heap c.args.worker = c.in-Some.ensures.active.0 refl in
-    let room : IsLimitMet (graph_of_store old) c.args.kind None = subst (λ (s : StoreState). IsLimitMet (graph_of_store s) c.args.kind None) (sym c.self.view_is) c.in_default-met.ensures.met in
+    let room = has_room g (goal.at.add_vertex-requires-clause-few g c).In_default-met in
     making.few old c.self.inside.made c.self.invariant c.args.worker active c.args.kind c.args.label c.args.draft room
 
 pub returns-in_default-clause-crowded : goal.returns-in_default-clause-crowded
@@ -362,6 +338,6 @@ returns-in_default-deed_to_enter-clause-too_many_entry g c =
 pub overflow_add-self : goal.overflow_add-self
 overflow_add-self g c =
     let old : StoreState = record { opening = c.self.inside.opening; entries = c.self.inside.journal.entries; heap = c.self.inside.heap } in
-    let room : IsLimitMet (graph_of_store old) c.args.kind None = subst (λ (s : StoreState). IsLimitMet (graph_of_store s) c.args.kind None) (sym c.self.view_is) c.in_default-met.ensures.met in
+    let room = has_room g (goal.at.overflow_add-self g c).In_default-met in
     let range : (graph_of_store old).limit < 2 ^ 64 = subst (λ (s : StoreState). (graph_of_store s).limit < 2 ^ 64) (sym c.self.view_is) c.limit_met-met.ensures.range in
     omega (arith, room.0, range, c.self.invariant.is_made)

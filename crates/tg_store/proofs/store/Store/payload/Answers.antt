@@ -1,9 +1,9 @@
 -- Who may read on the heap may read on the graph, and reads the same.
-use Rattle.std.proofs.Common.{◌≡◌, ◌∙◌, ◌↔◌, ◌<◌, ◌≤◌, Some, IfSome, IsSome, length, refl, ap, subst, arith}
+use Rattle.std.proofs.Common.{◌≡◌, ◌∙◌, ◌↔◌, Some, IfSome, IsSome, refl, ap, subst}
 use Rattle.tg_model.specs.declared.command.Command.TheVariants.{Read}
 use Rattle.tg_model.specs.Graph.{ProtectionGraph, IsSubject}
 use Rattle.tg_model.specs.Rules.{Permits}
-use Rattle.tg_graph.specs.Heap.{IsActive, content_of}
+use Rattle.tg_graph.specs.Heap.{content_of}
 use Rattle.tg_store.specs.Store.{StoreState, StandsFor, graph_of_store}
 use Rattle.tg_store.proofs.ReadLaws.{read-lent, read-permitted}
 use Rattle.tg_store.proofs.StandLaws.{subject_here, active_here}
@@ -12,17 +12,15 @@ use Rattle.tg_store.proofs.store.Store.payload.Goals as goal
 pub returns-in_default-clause-allowed : goal.returns-in_default-clause-allowed
 returns-in_default-clause-allowed g c =
     let store : StoreState = record { opening = c.self.inside.opening; entries = c.self.inside.journal.entries; heap = c.self.inside.heap } in
-    let none : IsActive store.heap c.args.worker → ⊥ = λ is. let f : ⊥ = cc (c.in_default.ensures.active.1 is) in f in
     λ graph stands.
     let here : StandsFor store graph = ap graph_of_store c.self.view_is ∙ stands in
-    (λ some. let f : ⊥ = cc some in absurd f, λ is. absurd (none (active_here store c.self.invariant.faithful graph c.args.worker here is.0)))
+    (λ some. let f : ⊥ = cc some in absurd f, λ is. let f : ⊥ = cc (c.in_default.ensures.active.1 (active_here store c.self.invariant.faithful graph c.args.worker here is.0)) in absurd f)
 
 pub returns-clause-allowed : goal.returns-clause-allowed
 returns-clause-allowed g c =
     let store : StoreState = record { opening = c.self.inside.opening; entries = c.self.inside.journal.entries; heap = c.self.inside.heap } in
     let graph : ProtectionGraph = graph_of_store store in
-    let active : IsActive store.heap c.args.worker = c.in-Some.ensures.active.0 refl in
-    let subject : IsSubject graph c.args.worker = subject_here store c.self.invariant.faithful graph c.args.worker refl active in
+    let subject : IsSubject graph c.args.worker = subject_here store c.self.invariant.faithful graph c.args.worker refl (c.in-Some.ensures.active.0 refl) in
     let served = read-permitted (content_of store.heap) graph c.self.invariant.faithful.stands c.args.worker c.args.name subject in
     λ other stands.
     let here : StandsFor store other = ap graph_of_store c.self.view_is ∙ stands in
@@ -33,8 +31,7 @@ pub returns-clause-stored : goal.returns-clause-stored
 returns-clause-stored g c =
     let store : StoreState = record { opening = c.self.inside.opening; entries = c.self.inside.journal.entries; heap = c.self.inside.heap } in
     let graph : ProtectionGraph = graph_of_store store in
-    let active : IsActive store.heap c.args.worker = c.in-Some.ensures.active.0 refl in
-    let subject : IsSubject graph c.args.worker = subject_here store c.self.invariant.faithful graph c.args.worker refl active in
+    let subject : IsSubject graph c.args.worker = subject_here store c.self.invariant.faithful graph c.args.worker refl (c.in-Some.ensures.active.0 refl) in
     λ other stands.
     let here : StandsFor store other = ap graph_of_store c.self.view_is ∙ stands in
     subst (λ (h : ProtectionGraph). IfSome c.readable.result (λ payload. h.value c.args.name ≡ Some (g.P.Payload.value payload.now))) here

@@ -1,4 +1,4 @@
-use Rattle.store_tests.proofs.races.raced.race_cells.Given as goal
+use Rattle.store_tests.proofs.races.raced.race_row.Given as goal
 
 abbrev pub ghosts-race_counted-A-Ledger : goal.ghosts-race_counted-A-Ledger
 ghosts-race_counted-A-Ledger g a = record { name = a.asked.name; parts = a.asked.parts }
