@@ -1,5 +1,6 @@
 //! Helpers of a store's collections and of a script's: how many are asked for, and that each has a thread of its own.
-ghost use Rattle.std.specs.Prelude.{◌≡◌, ◌<◌, ◌≤◌};
+ghost use Rattle.std.specs.Prelude.{◌≤◌};
+ghost use Rattle.tg_script.specs.Counting.{MayCountInMemory};
 
 use crate::meeting::{MANY_TURNS, Meet};
 use crate::rows::{Row, settings_of};
@@ -135,8 +136,7 @@ fn serve_counted<C: Collector, A: Ledger, F: Ledger, R: Threads + Wait + Sync>(
     failures: Blank,
 ) -> Result<Vec<u8>, Fail>
     requires ready { C.Ready }
-    requires asked { (asked.name ≡ A.name) × (asked.parts ≡ A.parts) × (0 < asked.parts) }
-    requires failures { (failures.name ≡ F.name) × (failures.parts ≡ F.parts) × (0 < failures.parts) }
+    requires countable { MayCountInMemory A.name A.parts F.name F.parts asked failures }
 {
     let limits = settings_of(&BOTH_KINDS, 1)?.limits;
     let workers = vec![in alloc; CellPayload::new(0)]?;

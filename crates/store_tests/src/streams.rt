@@ -1,6 +1,6 @@
 //! Runs between a reader and a writer: one that fails once and then goes on, one that takes a byte at a time, and a client that
 //! waits for its replies.
-ghost use Rattle.std.specs.Prelude.{◌≡◌, ◌<◌};
+ghost use Rattle.tg_script.specs.Counting.{MayCountStreams};
 
 use crate::races::raced::cells;
 use std::alloc::{AllocError, Global};
@@ -161,9 +161,7 @@ fn run_counted<A: Ledger, B: Ledger, C: Ledger, R: BufRead + Drop, W: Write + Dr
     reader: R,
     writer: W,
 ) -> Result<(W, Result<(), ScriptFault>), AllocError>
-    requires asked { (asked.name ≡ A.name) × (asked.parts ≡ A.parts) × (0 < asked.parts) }
-    requires read_failures { (read_failures.name ≡ B.name) × (read_failures.parts ≡ B.parts) × (0 < read_failures.parts) }
-    requires write_failures { (write_failures.name ≡ C.name) × (write_failures.parts ≡ C.parts) × (0 < write_failures.parts) }
+    requires countable { MayCountStreams A.name A.parts B.name B.parts C.name C.parts asked read_failures write_failures }
 {
     let (asked, read_failures) = (Count::<A>::new(asked), Count::<B>::new(read_failures));
     let mut source = OfRead::new(reader, asked, read_failures);

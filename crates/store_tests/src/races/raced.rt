@@ -1,5 +1,5 @@
 //! Scripts that lie in memory, and what a race writes for them.
-ghost use Rattle.std.specs.Prelude.{◌≡◌, ◌<◌};
+ghost use Rattle.tg_script.specs.Counting.{MayCountInMemory};
 
 use crate::rows::{Row, settings_of};
 use std::alloc::{AllocError, Global};
@@ -55,8 +55,7 @@ fn race_counted<A: Ledger, F: Ledger, G: Turnstile + Sync, R: Threads + Wait + S
     asked: Blank,
     failures: Blank,
 ) -> Result<Raced, AllocError>
-    requires asked { (asked.name ≡ A.name) × (asked.parts ≡ A.parts) × (0 < asked.parts) }
-    requires failures { (failures.name ≡ F.name) × (failures.parts ≡ F.parts) × (0 < failures.parts) }
+    requires countable { MayCountInMemory A.name A.parts F.name F.parts asked failures }
 {
     let workers = cells(alloc, settings.workers)?;
     if settings.workers < 1 || 64 < settings.workers || workers.len() as u64 != settings.workers {
