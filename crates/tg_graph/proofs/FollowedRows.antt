@@ -21,6 +21,7 @@ use Rattle.tg_space.specs.declared.kind.Kind.{Kind}
 use Rattle.tg_space.specs.declared.kind.Kind.TheVariants.{Full, Nursery}
 use Rattle.tg_graph.specs.Index.{AreAged, AreFollowed, IsAged, IsFollowable, IsFollowed, IsFollowedTo, IsLeftBehind, IsNumbered, IsOldPlace, IsOldRow, IsQuiet, followed_place, known_notes}
 use Rattle.tg_graph.specs.declared.index.IndexedRow.{IndexedRow}
+use Rattle.tg_graph.specs.declared.followed.Fate.TheVariants.{Gone, Young, Old}
 use Rattle.tg_graph.proofs.Ages.{exchanged_none, exchanged_second, first_below, map_same, old_row_at, slice_get_is, value_here, value_of, value_other, written_aged}
 
 abbrev Entries : Type 0
@@ -270,6 +271,16 @@ module _ (es later : Entries) (old at : ℕ) (inside : at < length es) (low : ol
       by_place j d before (inr ne) =
           let place = exchanged_none at old j (λ e. omega arith) ne in
           subst (λ k. IsOldRow (get_or later k d).1) (sym place) (old_row_at later old aged_later j d (omega arith))
+
+-- what became of a row is one of three
+pub young_or_gone : Young ≡ Gone → ⊥
+young_or_gone same = cc
+
+pub old_or_gone : Old ≡ Gone → ⊥
+old_or_gone same = cc
+
+pub young_or_old : Young ≡ Old → ⊥
+young_or_old same = cc
 
 pub swapped_long : (later swapped : Entries) (a b : ℕ) → swapped ≡ swap later a b → length swapped ≡ length later
 swapped_long later swapped a b is = ap (λ (l : Entries). length l) is ∙ length-swap later a b
