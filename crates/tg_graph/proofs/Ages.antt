@@ -1,12 +1,11 @@
 -- Which cells of a row lie in Old, and which rows.
-use Rattle.std.proofs.Common.{◌≡◌, ◌≢◌, ℕ, Global, zero, suc, ◌+◌, ◌-◌, ◌<◌, ◌≤◌, ◌⊎◌, inl, inr, Bool, true, false, cond, List, [], ◌∷◌, ◌++◌, Option, None, Some, get_or, length, map, nat_eq, position, slice_get, take, refl, sym, ap, subst, arith, ◌∙◌}
+use Rattle.std.proofs.Common.{◌≡◌, ◌≢◌, ◌==◌, ℕ, Global, zero, suc, ◌+◌, ◌-◌, ◌<◌, ◌≤◌, ◌⊎◌, inl, inr, Bool, true, false, cond, List, [], ◌∷◌, ◌++◌, Option, None, Some, get_or, length, map, nat_eq, position, slice_get, take, refl, sym, ap, subst, arith, ◌∙◌}
 use Rattle.std.specs.Prelude.{IfSome, swap, option_map}
 use Rattle.std.specs.declared.vec.Vec.{Vec}
 use Rattle.std.specs.List.{All}
 use Rattle.std.specs.Map.{keys_of, lookup, lookup_key, values_of}
 use Rattle.std.proofs.Math.Seq.{take-append-add}
-use Rattle.std.proofs.lemmas.Bool.{cases_eq, cases_lt}
-use Rattle.std.proofs.lemmas.Bool.Decides.{Decides-eqb, nat_tests}
+use Rattle.std.proofs.lemmas.Bool.{cases_eq, cases_lt, eq-eqb, eqb-true, ne_eqb}
 use Rattle.std.proofs.lemmas.List.{get_or-take, length-append, length-take, length-take-le, map-append, take-append-le, take_more}
 use Rattle.std.proofs.lemmas.List.Edits.{length-swap}
 use Rattle.std.proofs.lemmas.List.Elements.{All-append}
@@ -81,7 +80,7 @@ slice_get_is xs i x found =
     let same : Some (get_or xs i x) ≡ Some x = sym there ∙ found in cc
 
 pub first_below : {X : Type 0} (xs : List X) (n j : ℕ) → j < length (take n xs) → j < n
-first_below xs n j low = let long = length-take n xs in grind (arith, long)
+first_below xs n j low = omega (arith, length-take n xs)
 
 pub old_row_at : (es : Entries) (old : ℕ) → AreAged es old → (j : ℕ) (d : Entry) → j < old → IsOldRow (get_or es j d).1
 old_row_at es old aged j d low =
@@ -126,7 +125,7 @@ key_is name (e ∷ es) k found = by_name (key_is name es k) (nat_eq name e.0) re
     by_name rest true same =
         let one : Some e.0 ≡ Some k = ap (λ (b : Bool). cond b (Some e.0) (lookup_key (nat_eq name) es)) (sym same) ∙ found in
         let first : e.0 ≡ k = cc in
-        sym first ∙ sym ((Decides-eqb name e.0).0 same)
+        sym first ∙ sym (eqb-true name e.0 same)
     by_name rest false other = rest (ap (λ (b : Bool). cond b (Some e.0) (lookup_key (nat_eq name) es)) (sym other) ∙ found)
 
 slice_get_map : {X Y : Type 0} (f : X → Y) (xs : List X) (i : ℕ) (x : X) → slice_get xs i ≡ Some x → slice_get (map f xs) i ≡ Some (f x)
@@ -164,6 +163,18 @@ one_added es old aged name row here = record {
     one zero d low = here
     one (suc k) d low = absurd (omega arith)
 
+-- of two that change places, the second place gets what stood at the first
+pub exchanged_second : (a b : ℕ) → exchange a b b ≡ a
+exchanged_second a b = by_place (cases_eq b a)
+  where
+    by_place : (b ≡ a) ⊎ (b ≢ a) → exchange a b b ≡ a
+    by_place (inl same) = let test : (b == a) ≡ true = eq-eqb b a same in rw test same
+    by_place (inr other) = let test : (b == a) ≡ false = ne_eqb b a other in let own : (b == b) ≡ true = eq-eqb b b refl in rw (test, own) refl
+
+-- any other place keeps what stood there
+pub exchanged_none : (a b i : ℕ) → i ≢ a → i ≢ b → exchange a b i ≡ i
+exchanged_none a b i first second = let one : (i == a) ≡ false = ne_eqb i a first in let two : (i == b) ≡ false = ne_eqb i b second in rw (one, two) refl
+
 -- the last of the first rows gives its place to a row that may get young cells
 module _ (es later : Entries) (old at : ℕ) (aged : AreAged es old) (low : at < old) (swapped : later ≡ swap es at (old - 1)) where
   long : length later ≡ length es
@@ -187,7 +198,7 @@ module _ (es later : Entries) (old at : ℕ) (aged : AreAged es old) (low : at <
   pub still_there : ((name : ℕ) → lookup (nat_eq name) later ≡ lookup (nat_eq name) es) → (name : ℕ) → HasIndexAt es name at → HasIndexAt later name (old - 1)
   still_there same name was =
       let in_list = aged.within in
-      let place : exchange at (old - 1) (old - 1) ≡ at = grind (arith, nat_tests) in
+      let place = exchanged_second at (old - 1) in
       let e : Entry = (name, was.row) in
       record {
         row = was.row;

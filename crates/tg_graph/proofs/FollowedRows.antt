@@ -5,7 +5,7 @@ use Rattle.std.specs.List.{All, IsDistinct}
 use Rattle.std.specs.Map.{keys_of, lookup, values_of}
 use Rattle.std.proofs.Math.Seq.{take-length}
 use Rattle.std.proofs.lemmas.Bool.{cases_eq}
-use Rattle.std.proofs.lemmas.Bool.Decides.{Decides-eqb, nat_tests}
+use Rattle.std.proofs.lemmas.Bool.Decides.{Decides-eqb}
 use Rattle.std.proofs.lemmas.Cmp.{nat_eq_equiv}
 use Rattle.std.proofs.lemmas.List.{get_or_default, get_or-set_other, get_or-set_same, get_or-take, length-set, length-take}
 use Rattle.std.proofs.lemmas.List.Edits.{length-swap}
@@ -21,7 +21,8 @@ use Rattle.tg_space.specs.declared.kind.Kind.{Kind}
 use Rattle.tg_space.specs.declared.kind.Kind.TheVariants.{Full, Nursery}
 use Rattle.tg_graph.specs.Index.{AreAged, AreFollowed, IsAged, IsFollowable, IsFollowed, IsFollowedTo, IsLeftBehind, IsNumbered, IsOldPlace, IsOldRow, IsQuiet, followed_place, known_notes}
 use Rattle.tg_graph.specs.declared.index.IndexedRow.{IndexedRow}
-use Rattle.tg_graph.proofs.Ages.{first_below, map_same, old_row_at, slice_get_is, value_here, value_of, value_other, written_aged}
+use Rattle.tg_graph.specs.declared.followed.Fate.TheVariants.{Gone, Young, Old}
+use Rattle.tg_graph.proofs.Ages.{exchanged_none, exchanged_second, first_below, map_same, old_row_at, slice_get_is, value_here, value_of, value_other, written_aged}
 
 abbrev Entries : Type 0
 Entries = List (ℕ × IndexedRow)
@@ -264,12 +265,22 @@ module _ (es later : Entries) (old at : ℕ) (inside : at < length es) (low : ol
 
       by_place : (j : ℕ) (d : Entry) → j < old + 1 → (j ≡ old) ⊎ (j ≢ old) → IsOldRow (get_or later (exchange at old j) d).1
       by_place j d before (inl same) =
-          let place : exchange at old j ≡ at = grind (arith, nat_tests) in
+          let place : exchange at old j ≡ at = ap (exchange at old) same ∙ exchanged_second at old in
           let here : get_or later at d ≡ ((get_or es at d).0, next) = ap (λ (l : Entries). get_or l at d) written ∙ value_here es at next d inside in
           subst (λ (e : Entry). IsOldRow e.1) (sym (ap (λ k. get_or later k d) place ∙ here)) old_now
       by_place j d before (inr ne) =
-          let place : exchange at old j ≡ j = grind (arith, nat_tests) in
+          let place = exchanged_none at old j (λ e. omega arith) ne in
           subst (λ k. IsOldRow (get_or later k d).1) (sym place) (old_row_at later old aged_later j d (omega arith))
+
+-- what became of a row is one of three
+pub young_or_gone : Young ≡ Gone → ⊥
+young_or_gone same = cc
+
+pub old_or_gone : Old ≡ Gone → ⊥
+old_or_gone same = cc
+
+pub young_or_old : Young ≡ Old → ⊥
+young_or_old same = cc
 
 pub swapped_long : (later swapped : Entries) (a b : ℕ) → swapped ≡ swap later a b → length swapped ≡ length later
 swapped_long later swapped a b is = ap (λ (l : Entries). length l) is ∙ length-swap later a b
@@ -282,7 +293,7 @@ followed_swapped kind starts forward notes rows later swapped old at inside low 
       (subst (λ (e : Entry). IsFollowed kind starts forward notes rows e.0 e.1) (sym (read j d))
       (followed.done (exchange at old j) d (exchange-within at old (at + 1) j (omega arith) (omega arith) before) (exchange-within at old (length later) j inside (omega arith) (omega (arith, long, in_list)))));
   todo = λ j d behind in_list.
-      let place : exchange at old j ≡ j = grind (arith, nat_tests) in
+      let place = exchanged_none at old j (λ e. omega arith) (λ e. omega arith) in
       subst (λ (l : Entries). lookup (nat_eq (get_or l j d).0) rows ≡ Some (get_or l j d).1) (sym is)
       (subst (λ (e : Entry). lookup (nat_eq e.0) rows ≡ Some e.1) (sym (read j d ∙ ap (λ k. get_or later k d) place)) (followed.todo j d behind (omega (arith, long, in_list))));
   kept = λ name row in_rows. ⊎_elim (λ some. inl (ap (λ (o : Option IndexedRow). is_some o) (same name) ∙ some)) (λ left. inr left) (followed.kept name row in_rows);

@@ -26,6 +26,7 @@ use Rattle.tg_graph.proofs.Growing.{graph_entries}
 use Rattle.tg_graph.proofs.Lookups.{name_of_vertex}
 use Rattle.tg_graph.proofs.Members.{Contains-filter, Contains-from_filter}
 use Rattle.tg_space.specs.declared.allocate_fault.AllocateFault.TheVariants.{HeapFull, OutOfMemory}
+use Rattle.tg_space.specs.declared.kind.Kind.TheVariants.{Full, Nursery}
 use Rattle.tg_space.specs.declared.allocate_fault.AllocateFault.{AllocateFault}
 
 pub either_way : {T E A B C : Type 0} (r : Result T E) → OnOk r A → OnErr r B → (A → C) → (B → C) → C
@@ -42,6 +43,10 @@ memory_or_full same = cc
 
 pub no_full : {T : Type 0} → ◌≡◌ {A = Result T AllocateFault} (Err OutOfMemory) (Err HeapFull) → ⊥
 no_full same = let inside : OutOfMemory ≡ HeapFull = cc in memory_or_full inside
+
+-- a full collection isn't one of the nurseries
+pub full_or_nursery : Full ≡ Nursery → ⊥
+full_or_nursery same = cc
 
 pub always_ok : {T E A : Type 0} (r : Result T E) → A → OnOk r A
 always_ok (Ok x) a = a

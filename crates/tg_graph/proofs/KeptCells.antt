@@ -1,9 +1,9 @@
 -- The cells that a collection keeps: each stands at its new place, or where it was, with its references and its link moved.
-use Rattle.std.proofs.Common.{[], ◌≡◌, ◌≢◌, ℕ, ◌<◌, ◌≤◌, ◌+◌, ◌-◌, ◌^◌, ◌/◌, ◌⊎◌, ◌==◌, Bool, true, false, List, length, get_or, take, drop, map, refl, sym, ap, subst, arith, ◌∙◌, inl, inr, lit<, ⊎_elim, if◌then◌else◌, IsTrue}
+use Rattle.std.proofs.Common.{[], ◌≡◌, ◌≢◌, ℕ, ◌<◌, ◌≤◌, ◌+◌, ◌-◌, ◌⊎◌, ◌==◌, Bool, true, false, List, length, get_or, take, drop, map, refl, sym, ap, subst, arith, ◌∙◌, inl, inr, lit<, ⊎_elim, if◌then◌else◌, IsTrue}
 use Rattle.std.specs.List.{All, Contains}
 use Rattle.std.proofs.lemmas.List.{get_or_append_left, get_or-append_right, get_or-take, get_or-drop, get_or-map, length-take, length-take-le, length-drop, drop_at, take-map, length-map}
 use Rattle.std.proofs.lemmas.List.Elements.{All-take, All-from_get_or, Contains-get_or}
-use Rattle.std.proofs.lemmas.Bool.Decides.{nat_tests, eqb_tells}
+use Rattle.std.proofs.lemmas.Bool.Decides.{eqb_tells}
 use Rattle.tg_rights.specs.RightSet.{is_none_held}
 use Rattle.tg_word.specs.declared.Place.{Place}
 use Rattle.tg_word.specs.Word.{IsPlace, word_at, place_in, rights_in, is_present}
@@ -20,15 +20,15 @@ use Rattle.tg_graph.specs.Rows.{name_at, key_at, references_of}
 use Rattle.tg_graph.specs.Kept.{moved_place}
 use Rattle.tg_graph.proofs.Places.{cell_long, layout_at, links_apart, sound_from_places, held_place}
 use Rattle.tg_graph.proofs.Layouts.{KindCases, is_free, is_object, is_chunk, is_bad, kind_cases, object_tagged, chunk_tagged, free_zero, references_of_object, references_of_chunk, references_at, link_held, present_word, same_link}
-use Rattle.std.proofs.lemmas.Bool.{ne_eqb}
+use Rattle.std.proofs.lemmas.Bool.{cond_both, ne_eqb}
 
 -- ---- the copy of a cell, word by word
 
 first_pointer-some : (tag : ℕ) → 0 < first_pointer tag
-first_pointer-some tag = grind (arith, nat_tests)
+first_pointer-some tag = cond_both (tag == 1) 4 (if tag == 2 then 1 else 8) (λ n. 0 < n) (λ t. omega arith) (λ t. cond_both (tag == 2) 1 8 (λ n. 0 < n) (λ u. omega arith) (λ u. omega arith))
 
 first_pointer-le : (tag : ℕ) → first_pointer tag ≤ 8
-first_pointer-le tag = grind (arith, nat_tests)
+first_pointer-le tag = cond_both (tag == 1) 4 (if tag == 2 then 1 else 8) (λ n. n ≤ 8) (λ t. omega arith) (λ t. cond_both (tag == 2) 1 8 (λ n. n ≤ 8) (λ u. omega arith) (λ u. omega arith))
 
 -- the kind of a cell that is not free
 kind_of_tag : ℕ → CellKind
@@ -36,7 +36,7 @@ kind_of_tag tag = if tag == 1 then Object else (if tag == 2 then Chunk else Bad)
 
 kind_from_tag : (words : List ℕ) → 0 < get_or words 0 0 → kind_of words ≡ kind_of_tag (get_or words 0 0)
 unfolding kind_of_tag
-kind_from_tag words used = let t : (get_or words 0 0 == 0) ≡ false = grind (arith, nat_tests) in rw t refl
+kind_from_tag words used = let t : (get_or words 0 0 == 0) ≡ false = ne_eqb (get_or words 0 0) 0 (λ z. omega arith) in rw t refl
 
 module _ (from : ℕ → Bool) (h : SpaceList) (to : ℕ → Place) (words : List ℕ) (long : length words ≡ 8) where
   kept_before : (i : ℕ) → i < first_pointer (get_or words 0 0) → i < 8 → get_or (image_of from h to words) i 0 ≡ get_or words i 0
@@ -99,7 +99,7 @@ word_moved from h to word ne present inside = record {
     same = by_space (from (place_in word).space) refl
 
 empty_present : (word : ℕ) → IsTrue (is_present word) → word ≡ 0 → ⊥
-empty_present word present z = let high : word / 2 ^ 41 ≡ 1 = grind (arith, nat_tests) in omega arith
+empty_present word present z = let no : false ≡ true = subst (λ (w : ℕ). is_present w ≡ true) z present in absurd cc
 
 -- ---- kept cells
 

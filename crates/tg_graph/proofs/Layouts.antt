@@ -1,7 +1,6 @@
 -- What the layout of a cell says of its words.
 use Rattle.std.proofs.Common.{◌≡◌, ◌≢◌, ℕ, zero, suc, ◌<◌, ◌/◌, ◌^◌, ◌↔◌, ◌&&◌, inl, Bool, true, false, ◌==◌, List, [], ◌∷◌, get_or, take, drop, refl, sym, ap, subst, arith, ◌∙◌, ⊎_elim, IsTrue}
 use Rattle.std.specs.List.{All, list_all}
-use Rattle.std.proofs.lemmas.Bool.Decides.{nat_tests}
 use Rattle.std.proofs.lemmas.List.Elements.{All-nil}
 use Rattle.tg_word.specs.declared.Place.{Place}
 use Rattle.tg_word.specs.Word.{is_present, place_in, rights_in, word_at, IsPlace}
@@ -14,13 +13,13 @@ use Rattle.tg_space.specs.Rows.{link_of, link_at}
 use Rattle.tg_space.specs.declared.root.Root.{Root}
 use Rattle.tg_graph.specs.Rows.{references_of}
 use Rattle.tg_graph.proofs.Places.{layout_at}
-use Rattle.std.proofs.lemmas.Bool.{eqb-true}
+use Rattle.std.proofs.lemmas.Bool.{and_parts, eqb-true}
 
 -- ---- words
 
 -- a present word is that of its own rights and place
 present_fits : (word : ℕ) → IsTrue (is_present word) → word < 2 ^ 64
-present_fits word present = let high : word / 2 ^ 41 ≡ 1 = grind (arith, nat_tests) in omega arith
+present_fits word present = let high = eqb-true (word / 2 ^ 41) 1 (and_parts (word / 2 ^ 41 == 1) _ present).0 in omega (arith, high)
 
 module _ (word : ℕ) (present : IsTrue (is_present word)) where
   pub present_word : word_at (rights_in word) (place_in word) ≡ word
@@ -60,7 +59,7 @@ zero_at [] i all = refl
 zero_at (w ∷ words) i all = by_test (w == 0) refl i all (zero_at words)
   where
     by_test : (b : Bool) → (w == 0) ≡ b → (j : ℕ) → (b && list_all (λ x. x == 0) words) ≡ true → ((n : ℕ) → all_are_zero words ≡ true → get_or words n 0 ≡ 0) → get_or (w ∷ words) j 0 ≡ 0
-    by_test true e zero every rest = grind (arith, nat_tests)
+    by_test true e zero every rest = eqb-true w 0 e
     by_test true e (suc j) every rest = rest j every
     by_test false e j every rest = absurd cc
 

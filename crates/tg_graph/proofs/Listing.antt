@@ -2,7 +2,7 @@
 use Rattle.std.proofs.Common.{◌≡◌, ◌≢◌, ℕ, zero, suc, ◌<◌, ◌≤◌, ◌⊎◌, inl, inr, ◌==◌, not, ◌&&◌, cond, Bool, true, false, List, [], ◌∷◌, ◌++◌, length, get_or, map, refl, sym, ap, subst, arith, ◌∙◌}
 use Rattle.std.specs.List.{All, AllPairs, Contains, IsDistinct, filter, range_with_len}
 use Rattle.std.specs.List.Sorted.{IsNonDecreasingBy, IsPermutation}
-use Rattle.std.proofs.lemmas.Bool.Decides.{nat_tests, Decides-eqb}
+use Rattle.std.proofs.lemmas.Bool.Decides.{Decides-eqb, Decides-like, same_from_decides}
 use Rattle.std.proofs.lemmas.List.Elements.{All-contains, All-head, All-tail}
 use Rattle.std.proofs.lemmas.List.FromFn.{length-map-range_with_len, get_or-map-range_with_len}
 use Rattle.std.proofs.lemmas.List.Kept.{AllPairs-filter}
@@ -190,7 +190,7 @@ listing_is h words label x n edges reads all distinct below permuted sorted =
     apart =
         let eq : ℕ → ℕ → Bool = λ a b. a == b in
         let name : ℕ × RightSet → ℕ = λ e. e.0 in
-        IsDistinct-IsPermutation eq (λ a b. grind (arith, nat_tests)) (map name (edges_in h words)) (map name edges) (IsPermutation-map name (edges_in h words) edges permuted)
+        IsDistinct-IsPermutation eq (λ a b. same_from_decides (a == b) (b == a) (Decides-eqb a b) (Decides-like (b == a) sym sym (Decides-eqb b a))) (map name (edges_in h words)) (map name edges) (IsPermutation-map name (edges_in h words) edges permuted)
         (subst (IsDistinct eq) (sym (edge_names h words all)) distinct)
 
     there : (a : ℕ × RightSet) → Contains edges a → Contains (listing_of label n x) a

@@ -1,7 +1,7 @@
 -- Vertices by name, and what a heap's content is at each.
-use Rattle.std.proofs.Common.{◌≡◌, ℕ, ◌⊎◌, inl, inr, true, false, ◌==◌, map, Option, Some, None, refl, sym, ap, subst, arith, ◌∙◌}
+use Rattle.std.proofs.Common.{◌≡◌, ℕ, ◌⊎◌, inl, inr, true, false, ◌==◌, get_or, map, Option, Some, None, refl, sym, ap, subst, ◌∙◌}
 use Rattle.std.specs.List.{Contains}
-use Rattle.std.proofs.lemmas.Bool.Decides.{nat_tests}
+use Rattle.std.proofs.lemmas.Bool.{eqb-false, eqb-true}
 use Rattle.tg_rights.specs.RightSet.{RightSet, no_rights}
 use Rattle.tg_model.specs.declared.value.Value.{Value}
 use Rattle.tg_word.specs.declared.Place.{Place}
@@ -26,19 +26,18 @@ module _ (h : SpaceList) (is : IsSpaceList h) where
   kind_from_objects p has =
       let both = Contains-from_filter (λ q. is_object (cell_at h q)) (places_of h) p has in
       let test : is_object (cell_at h p) ≡ true = both.1 in
-      record { held = holds_from_places h is p both.0; is = (object_tagged (cell_at h p)).1 (grind (arith, nat_tests)) }
+      record { held = holds_from_places h is p both.0; is = (object_tagged (cell_at h p)).1 (eqb-true (get_or (cell_at h p) 0 0) 1 test) }
 
   pub vertex_from_named : (x : ℕ) (p : Place) → object_named h x ≡ Some p → IsVertexAt h x p
   vertex_from_named x p found =
       let both = find_gives (λ q. name_at h q == x) (objects_of h) p found in
       let test : (name_at h p == x) ≡ true = both.1 in
-      record { object = kind_from_objects p both.0; named = grind (arith, nat_tests) }
+      record { object = kind_from_objects p both.0; named = eqb-true (name_at h p) x test }
 
   pub no_vertex : (x : ℕ) (p : Place) → object_named h x ≡ None → IsVertexAt h x p → ⊥
   no_vertex x p none vertex =
       let test : (name_at h p == x) ≡ false = find_none (λ q. name_at h q == x) (objects_of h) p none (objects_from_kind p vertex.object) in
-      let named = vertex.named in
-      grind (arith, nat_tests)
+      eqb-false (name_at h p) x test vertex.named
 
 -- what the objects of a heap say, vertex by vertex
 pub record IsRead (h : SpaceList) (payloads : Payloads) (named : ℕ → Type 0) (label : ℕ → ℕ → RightSet) (value : ℕ → Option Value) : Type 0 where

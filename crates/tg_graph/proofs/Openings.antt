@@ -2,8 +2,8 @@
 use Rattle.std.proofs.Common.{[], ◌≡◌, ◌≢◌, ◌↔◌, ℕ, zero, suc, ◌+◌, ◌*◌, ◌<◌, ◌≤◌, ◌⊎◌, inl, inr, ◌==◌, ◌&&◌, Bool, true, false, cond, if◌then◌else◌, List, ◌∷◌, ◌++◌, length, get_or, replicate, set, take, drop, Option, Some, None, IsSome, refl, sym, ap, subst, arith, ◌∙◌, ⊎_elim, drop-cons, length-take, add-one}
 use Rattle.std.specs.Prelude.{nat_lt, slice_get, slice_index, slice_index_or}
 use Rattle.std.specs.List.{All}
-use Rattle.std.proofs.lemmas.Bool.{cases_Bool, cases_eq, cases_lt}
-use Rattle.std.proofs.lemmas.Bool.Decides.{nat_tests, eqb_tells}
+use Rattle.std.proofs.lemmas.Bool.{cases_Bool, cases_eq, cases_lt, eq-eqb, le-ltb, lt-ltb, ne_eqb}
+use Rattle.std.proofs.lemmas.Bool.Decides.{eqb_tells}
 use Rattle.std.proofs.lemmas.List.{get_or-replicate, get_or-set_same, get_or-set_other, get_or-take, get_or_past, get_or_read, get_or_append_left, get_or_push, length-replicate, length-set, length_push}
 use Rattle.std.proofs.lemmas.List.Sums.{sum_by-cons}
 use Rattle.std.proofs.lemmas.Option.{get_or_from_slice_get, slice_get-get_or, slice_get_within}
@@ -62,24 +62,24 @@ row_step edges from k edge row after y inside is step before = by_step step
     by_step : ((from ≡ edge.from) × (edge.to < length row) × (after ≡ set row edge.to (union (slice_index_or row edge.to no_rights) edge.label))) ⊎ ((from ≢ edge.from) × (after ≡ row)) →
         union (slice_index_or after y no_rights) rest ≡ label_in edges from y
     by_step (inr other) =
-        let test : (from == edge.from) ≡ false = let ne = other.0 in grind (arith, nat_tests) in
+        let test : (from == edge.from) ≡ false = ne_eqb from edge.from other.0 in
         let none : label_in (drop k edges) from y ≡ rest = split ∙ rw test refl in
         ap (λ (r : List RightSet). union (slice_index_or r y no_rights) rest) (other.1) ∙ ap (union (slice_index_or row y no_rights)) (sym none) ∙ before
     by_step (inl here) = by_name (cases_eq y edge.to)
       where
         test : (from == edge.from) ≡ true
-        test = let e = here.0 in grind (arith, nat_tests)
+        test = eq-eqb from edge.from here.0
 
         by_name : (y ≡ edge.to) ⊎ (y ≢ edge.to) → union (slice_index_or after y no_rights) rest ≡ label_in edges from y
         by_name (inl same) =
-            let named : (y == edge.to) ≡ true = grind (arith, nat_tests) in
+            let named : (y == edge.to) ≡ true = eq-eqb y edge.to same in
             let more : label_in (drop k edges) from y ≡ union edge.label rest = split ∙ rw test (rw named refl) in
             let at : slice_index_or after y no_rights ≡ union (slice_index_or row y no_rights) edge.label =
             subst (λ z. slice_index_or after z no_rights ≡ union (slice_index_or row z no_rights) edge.label) (sym same)
             (ap (λ (r : List RightSet). slice_index_or r edge.to no_rights) here.2 ∙ get_or-set_same row edge.to (union (slice_index_or row edge.to no_rights) edge.label) no_rights here.1) in
             ap (λ r. union r rest) at ∙ union_assoc (slice_index_or row y no_rights) edge.label rest ∙ ap (union (slice_index_or row y no_rights)) (sym more) ∙ before
         by_name (inr ne) =
-            let named : (y == edge.to) ≡ false = grind (arith, nat_tests) in
+            let named : (y == edge.to) ≡ false = ne_eqb y edge.to ne in
             let none : label_in (drop k edges) from y ≡ rest = split ∙ rw test (rw named refl) in
             let at : slice_index_or after y no_rights ≡ slice_index_or row y no_rights =
             ap (λ (r : List RightSet). slice_index_or r y no_rights) here.2 ∙ get_or-set_other row edge.to y (union (slice_index_or row edge.to no_rights) edge.label) no_rights ne in
@@ -103,7 +103,7 @@ takes_one_cell t grown space cells spot rights to low few made table can =
 
     no_room : HasLeft t space 1 → grown ≡ t
     no_room left =
-        let test : nat_lt (64 * length (space_of t.spaces space)) (used_of t space + cells) ≡ false = grind (arith, nat_tests) in
+        let test : nat_lt (64 * length (space_of t.spaces space)) (used_of t space + cells) ≡ false = le-ltb (64 * length (space_of t.spaces space)) (used_of t space + cells) (omega (arith, left, few)) in
         made ∙ ap (λ (b : Bool). cond b (with_spaces t (with_block t.spaces space)) t) test
 
     put : (spot : Spot) → CanPut grown space spot → space < length grown.spaces →
@@ -228,11 +228,11 @@ with_row-more label from row k r inside is a b = by_names (eqb_tells a from) (ca
 
     by_names : (((a == from) ≡ true) × (a ≡ from)) ⊎ (((a == from) ≡ false) × (a ≢ from)) → (b ≡ k) ⊎ (b ≢ k) → with_rights (with_row label from (take k row)) from k r a b ≡ with_row label from (take (k + 1) row) a b
     by_names (inl one) (inl same) =
-        let test : (b == k) ≡ true = grind (arith, nat_tests) in
+        let test : (b == k) ≡ true = eq-eqb b k same in
         let past : slice_index_or (take k row) b no_rights ≡ no_rights = get_or_past (take k row) b no_rights (omega (arith, length-take k row)) in
         let at : slice_index_or (take (k + 1) row) b no_rights ≡ r = get_or-take (k + 1) row b no_rights (omega arith) ∙ ap (λ n. slice_index_or row n no_rights) same ∙ sym here in
         rw (one.0, test) (ap (λ s. union s r) past ∙ sym at)
-    by_names (inl one) (inr ne) = let test : (b == k) ≡ false = grind (arith, nat_tests) in rw (one.0, test) (other ne)
+    by_names (inl one) (inr ne) = let test : (b == k) ≡ false = ne_eqb b k ne in rw (one.0, test) (other ne)
     by_names (inr one) _ = rw (one.0) refl
 
 -- the rows of one more worker
@@ -242,11 +242,11 @@ labels_before-more edges from row reads a b = by_name (eqb_tells a from)
     by_name : (((a == from) ≡ true) × (a ≡ from)) ⊎ (((a == from) ≡ false) × (a ≢ from)) → with_row (labels_before edges from) from row a b ≡ labels_before edges (from + 1) a b
     by_name (inl one) =
         let same = one.1 in
-        let test : nat_lt a (from + 1) ≡ true = grind (arith, nat_tests) in
+        let test : nat_lt a (from + 1) ≡ true = lt-ltb a (from + 1) (omega arith) in
         rw (one.0, test) (reads b ∙ ap (λ n. label_in edges n b) (sym same))
     by_name (inr one) =
         let ne = one.1 in
-        let test : nat_lt a from ≡ nat_lt a (from + 1) = grind (arith, nat_tests) in
+        let test : nat_lt a from ≡ nat_lt a (from + 1) = ⊎_elim (λ low. lt-ltb a from low ∙ sym (lt-ltb a (from + 1) (omega arith))) (λ high. le-ltb a from high ∙ sym (le-ltb a (from + 1) (omega arith))) (cases_lt a from) in
         rw (one.0) (ap (λ (t : Bool). cond t (label_in edges a b) no_rights) test)
 
 -- all rows
@@ -254,9 +254,9 @@ pub labels_before-all : (edges : List Edge) (n : ℕ) → All (JoinsWorkers n) e
 labels_before-all edges n all a b = by_order (cases_lt a n)
   where
     by_order : (a < n) ⊎ (n ≤ a) → labels_before edges n a b ≡ label_in edges a b
-    by_order (inl low) = let test : nat_lt a n ≡ true = grind (arith, nat_tests) in rw test refl
+    by_order (inl low) = let test : nat_lt a n ≡ true = lt-ltb a n low in rw test refl
     by_order (inr high) =
-        let test : nat_lt a n ≡ false = grind (arith, nat_tests) in
+        let test : nat_lt a n ≡ false = le-ltb a n high in
         rw test (by_rights (cases_Bool (is_none_held (label_in edges a b))))
       where
         by_rights : (is_none_held (label_in edges a b) ≡ true) ⊎ (is_none_held (label_in edges a b) ≡ false) → no_rights ≡ label_in edges a b

@@ -3,7 +3,6 @@ use Rattle.std.proofs.Common.{[], ◌≡◌, ◌≢◌, ◌↔◌, ℕ, ◌+◌,
 use Rattle.std.specs.Prelude.{nat_lt, slice_index}
 use Rattle.std.specs.List.{Contains}
 use Rattle.std.proofs.lemmas.Bool.{cases_eq, eq-eqb, eqb-true, ne_eqb}
-use Rattle.std.proofs.lemmas.Bool.Decides.{nat_tests}
 use Rattle.std.proofs.lemmas.List.{get_or-drop, get_or-set_same, get_or-set_other, get_or_default, length-drop, length-set}
 use Rattle.std.proofs.lemmas.List.Elements.{All-contains}
 use Rattle.tg_rights.specs.RightSet.{RightSet, is_none_held, minus, union}
@@ -143,7 +142,7 @@ noted_cell : (wanted : Bool) (cell p : Place) → old_cell_if wanted cell ≡ So
 noted_cell wanted cell p same = by_tests wanted (cell.space == 0) refl same
   where
     by_tests : (w b : Bool) → (cell.space == 0) ≡ b → cond (w && not (not b)) (Some cell) None ≡ Some p → (cell ≡ p) × (cell.space ≡ 0)
-    by_tests true true test at = (let here : cell ≡ p = cc in here, grind (arith, nat_tests))
+    by_tests true true test at = (let here : cell ≡ p = cc in here, eqb-true cell.space 0 test)
     by_tests true false test at = absurd cc
     by_tests false b test at = absurd cc
 

@@ -29,7 +29,7 @@ pub(crate) struct Numbering {
 }
 
 // What became of a row in a collection.
-#[derive(Clone, Copy, PartialEq, Eq)]
+#[derive(Clone, Copy)]
 enum Fate {
     // It was left behind.
     Gone,

@@ -125,7 +125,7 @@ impl LongRows {
         requires room { 0 < self.old.spare }
         ensures { (q : ℕ) → lookup (nat_eq q) self.new.entries ≡ if nat_eq name q then Some row else lookup (nat_eq q) self.old.entries }
     {
-        let _ = self.indexes.insert(name, row).unwrap();
+        drop(self.indexes.insert(name, row).unwrap());
     }
 
     /// The index at a place comes to stand among those of rows that may have young cells. The answer is its new place. Takes

@@ -19,7 +19,7 @@ use tg_word::{Place, place_of, rights_of};
 pub(crate) const SHORT: usize = 4;
 
 /// Where the reference to a name stands in a row, or where it may be put.
-#[derive(Clone, Copy, PartialEq, Eq, Debug)]
+#[derive(Clone, Copy)]
 pub(crate) enum Spot {
     /// The reference is this word of this cell.
     Reference { cell: Place, index: usize },

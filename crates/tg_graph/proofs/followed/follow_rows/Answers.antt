@@ -2,9 +2,7 @@ use Rattle.std.proofs.Common.{◌≡◌, ◌∙◌, ℕ, None, arith, cond, leng
 use Rattle.std.specs.Map.{lookup}
 use Rattle.indexmap.specs.IndexMap.{Updates}
 use Rattle.tg_graph.proofs.Heaps.{if_some}
-use Rattle.tg_graph.specs.declared.followed.Fate.{Fate}
-use Rattle.tg_graph.specs.declared.followed.Fate.TheVariants.{Gone, Young, Old}
-use Rattle.tg_graph.proofs.FollowedRows.{aged_here, aged_later, aged_rest, aged_swapped, cells_numbered, follow_begins, follow_ends, followed_swapped, later_long, one_followed, one_gone, quiet_here, some_cell, swapped_long, taken, taken_out}
+use Rattle.tg_graph.proofs.FollowedRows.{aged_here, aged_later, aged_rest, aged_swapped, cells_numbered, follow_begins, follow_ends, followed_swapped, later_long, one_followed, one_gone, quiet_here, some_cell, swapped_long, taken, taken_out, old_or_gone, young_or_gone}
 use Rattle.tg_graph.proofs.followed.follow_rows.Goals as goal
 
 pub loop-i-init : goal.loop-i-init
@@ -48,7 +46,7 @@ loop-i-smaller-in-Young c =
 
 pub loop-i-preserved-in-Young : goal.loop-i-preserved-in-Young
 loop-i-preserved-in-Young c =
-    (one_followed c.args.kind c.args.numbering.now.starts c.args.forward.now.words c.args.noted.now.places c.args.rows.now.entries c.loop-i.rows.entries c.follow_row_at.new.rows.entries c.loop-i.i (omega (arith, c.loop-i-test.true)) c.loop-i.invariant.0 c.follow_row_at.ensures.0 c.follow_row_at.ensures.1 c.follow_row_at.ensures.2 c.follow_row_at.ensures.3 (c.follow_row_at.ensures.4 (λ gone. let no : ◌≡◌ {A = Fate} Young Gone = sym c.in-Young.is ∙ gone in cc)) (c.follow_row_at.ensures.7 (λ gone. let no : ◌≡◌ {A = Fate} Young Gone = sym c.in-Young.is ∙ gone in cc)), aged_later c.loop-i.rows.entries c.follow_row_at.new.rows.entries c.loop-i.old c.loop-i.i (omega (arith, c.loop-i-test.true)) c.loop-i.invariant.2 c.loop-i.invariant.1 c.follow_row_at.ensures.0 c.follow_row_at.ensures.1 c.follow_row_at.ensures.2 c.follow_row_at.ensures.3 c.follow_row_at.ensures.5, omega (arith, c.loop-i.invariant.2))
+    (one_followed c.args.kind c.args.numbering.now.starts c.args.forward.now.words c.args.noted.now.places c.args.rows.now.entries c.loop-i.rows.entries c.follow_row_at.new.rows.entries c.loop-i.i (omega (arith, c.loop-i-test.true)) c.loop-i.invariant.0 c.follow_row_at.ensures.0 c.follow_row_at.ensures.1 c.follow_row_at.ensures.2 c.follow_row_at.ensures.3 (c.follow_row_at.ensures.4 (λ gone. young_or_gone (sym c.in-Young.is ∙ gone))) (c.follow_row_at.ensures.7 (λ gone. young_or_gone (sym c.in-Young.is ∙ gone))), aged_later c.loop-i.rows.entries c.follow_row_at.new.rows.entries c.loop-i.old c.loop-i.i (omega (arith, c.loop-i-test.true)) c.loop-i.invariant.2 c.loop-i.invariant.1 c.follow_row_at.ensures.0 c.follow_row_at.ensures.1 c.follow_row_at.ensures.2 c.follow_row_at.ensures.3 c.follow_row_at.ensures.5, omega (arith, c.loop-i.invariant.2))
 
 pub swap_indices-requires-clause-a_in_bounds : goal.swap_indices-requires-clause-a_in_bounds
 swap_indices-requires-clause-a_in_bounds c =
@@ -69,7 +67,7 @@ loop-i-smaller c =
 pub loop-i-preserved : goal.loop-i-preserved
 loop-i-preserved c =
     let long = later_long c.args.kind c.args.numbering.now.starts c.args.forward.now.words c.args.noted.now.places c.args.rows.now.entries c.loop-i.rows.entries c.follow_row_at.new.rows.entries c.loop-i.i (omega (arith, c.loop-i-test.true)) c.loop-i.invariant.0 c.follow_row_at.ensures.0 c.follow_row_at.ensures.1 c.follow_row_at.ensures.2 c.follow_row_at.ensures.3 in
-    let on = one_followed c.args.kind c.args.numbering.now.starts c.args.forward.now.words c.args.noted.now.places c.args.rows.now.entries c.loop-i.rows.entries c.follow_row_at.new.rows.entries c.loop-i.i (omega (arith, c.loop-i-test.true)) c.loop-i.invariant.0 c.follow_row_at.ensures.0 c.follow_row_at.ensures.1 c.follow_row_at.ensures.2 c.follow_row_at.ensures.3 (c.follow_row_at.ensures.4 (λ gone. let no : ◌≡◌ {A = Fate} Old Gone = sym c.in-Old.is ∙ gone in cc)) (c.follow_row_at.ensures.7 (λ gone. let no : ◌≡◌ {A = Fate} Old Gone = sym c.in-Old.is ∙ gone in cc)) in (
+    let on = one_followed c.args.kind c.args.numbering.now.starts c.args.forward.now.words c.args.noted.now.places c.args.rows.now.entries c.loop-i.rows.entries c.follow_row_at.new.rows.entries c.loop-i.i (omega (arith, c.loop-i-test.true)) c.loop-i.invariant.0 c.follow_row_at.ensures.0 c.follow_row_at.ensures.1 c.follow_row_at.ensures.2 c.follow_row_at.ensures.3 (c.follow_row_at.ensures.4 (λ gone. old_or_gone (sym c.in-Old.is ∙ gone))) (c.follow_row_at.ensures.7 (λ gone. old_or_gone (sym c.in-Old.is ∙ gone))) in (
       followed_swapped c.args.kind c.args.numbering.now.starts c.args.forward.now.words c.args.noted.now.places c.args.rows.now.entries c.follow_row_at.new.rows.entries c.swap_indices.new.self.entries c.loop-i.old c.loop-i.i (omega (arith, long, c.loop-i-test.true)) c.loop-i.invariant.2 on c.swap_indices.ensures.entries c.swap_indices.ensures.reordered.2,
       aged_swapped c.loop-i.rows.entries c.follow_row_at.new.rows.entries c.loop-i.old c.loop-i.i (omega (arith, c.loop-i-test.true)) c.loop-i.invariant.2 c.loop-i.invariant.1 c.follow_row_at.ensures.0 c.follow_row_at.ensures.1 c.follow_row_at.ensures.2 c.follow_row_at.ensures.3 c.follow_row_at.ensures.5 (c.follow_row_at.ensures.6 c.in-Old.is) c.swap_indices.new.self.entries c.swap_indices.ensures.entries,
       omega (arith, c.loop-i.invariant.2),

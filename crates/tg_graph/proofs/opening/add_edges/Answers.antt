@@ -1,5 +1,5 @@
-use Rattle.std.proofs.Common.{◌≡◌, ◌≢◌, ◌∙◌, ◌+◌, length, ap, subst, arith, sym}
-use Rattle.tg_model.specs.Opened.{label_in}
+use Rattle.std.proofs.Common.{◌≡◌, ◌≢◌, ◌∙◌, ◌+◌, length, ap, subst, arith, sym, ℕ, Bool, cond, refl}
+use Rattle.tg_model.specs.Opened.{label_in, JoinsWorkers}
 use Rattle.tg_word.specs.Word.{nursery_space}
 use Rattle.tg_payload.specs.Table.{Payloads}
 use Rattle.tg_graph.specs.Content.{IsNamed}
@@ -7,6 +7,10 @@ use Rattle.tg_graph.specs.Heap.{content_in, IsGraph}
 use Rattle.tg_graph.specs.Opened.{labels_before, with_row}
 use Rattle.tg_graph.specs.Steps.{ChangesTo}
 use Rattle.tg_graph.proofs.Openings.{changes_more, changes_relabel, labels_before-all, labels_before-more, row_no_loop}
+use borrow.Author.Count.{falls}
+use Rattle.std.specs.List.{All}
+use Rattle.std.proofs.lemmas.Bool.{le-ltb}
+use Rattle.tg_rights.specs.RightSet.{no_rights}
 use Rattle.tg_graph.proofs.opening.add_edges.Goals as goal
 
 pub add_row-requires-clause-no_loop : goal.add_row-requires-clause-no_loop
@@ -65,3 +69,48 @@ pub returns-clause-kept : goal.returns-clause-kept
 returns-clause-kept g c =
     let done = c.loop-from.invariant in
     record { payloads = done.payloads; blocks = done.blocks; remembered = done.remembered }
+
+pub loop-from-init : goal.loop-from-init
+loop-from-init g c =
+    record {
+      added = record {
+        graph = c.requires.workers.graph;
+        content = record { names = λ x. (λ is. is, λ is. is); labels = λ x y. c.requires.labels x y ∙ ap (λ (b : Bool). cond b (label_in c.args.edges.now x y) no_rights) (sym (le-ltb x 0 (omega arith))); values = λ x. refl };
+        vertices = λ x p is. is;
+        spaces = refl;
+        limits = refl;
+      };
+      payloads = refl;
+      unused = λ x from. c.requires.unused x;
+      remembered = λ before. before;
+      blocks = λ space. refl;
+    }
+
+pub read_row-requires : goal.read_row-requires
+read_row-requires g c = subst (λ (n : ℕ). All (JoinsWorkers n) c.args.edges.now) (sym (c.loop-from.auto.row ∙ c.requires.row)) c.requires.edges
+
+pub add_row-requires-clause-from : goal.add_row-requires-clause-from
+add_row-requires-clause-from g c = c.loop-from-test.true
+
+pub add_row-requires-clause-row : goal.add_row-requires-clause-row
+add_row-requires-clause-row g c = c.read_row.auto.row ∙ c.loop-from.auto.row ∙ c.requires.row
+
+pub add_row-requires-clause-labels : goal.add_row-requires-clause-labels
+add_row-requires-clause-labels g c =
+    λ y.
+    let from = c.loop-from.from in
+    let before = c.loop-from.invariant in
+    subst (λ (s : Payloads). (content_in c.loop-from.cells.spaces.spaces s).label from y ≡ no_rights) (sym before.payloads)
+    (before.added.content.labels from y ∙ ap (λ (b : Bool). cond b (label_in c.args.edges.now from y) no_rights) (le-ltb from from (omega arith)))
+
+pub add_row-requires-clause-unused : goal.add_row-requires-clause-unused
+add_row-requires-clause-unused g c = c.loop-from.invariant.unused c.loop-from.from (omega arith)
+
+pub add_row-requires-clause-block : goal.add_row-requires-clause-block
+add_row-requires-clause-block g c =
+    let some = c.requires.blocks c.loop-from.from c.loop-from-test.true in
+    let same = c.loop-from.invariant.blocks (nursery_space c.loop-from.from) in
+    omega (arith, some, same)
+
+pub loop-from-smaller : goal.loop-from-smaller
+loop-from-smaller g c = falls (length c.args.subjects.now) c.loop-from.from c.loop-from-test.true

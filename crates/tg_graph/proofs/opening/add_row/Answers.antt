@@ -1,6 +1,6 @@
 use Rattle.std.proofs.Common.{◌≡◌, ◌∙◌, ◌+◌, ◌<◌, ℕ, List, true, Some, length, take, ap, subst, sym, arith, ⊎_elim, refl, ◌==◌, ◌≤◌}
 use Rattle.std.specs.Prelude.{slice_get, slice_index_or}
-use Rattle.std.proofs.lemmas.Bool.{cases_eq, cases_lt, cond_both, eqb-true}
+use Rattle.std.proofs.lemmas.Bool.{cases_eq, cases_lt, cond_both, eqb-true, true≢false}
 use Rattle.std.proofs.lemmas.List.{get_or-map, get_or_read, length-map, take_all}
 use Rattle.std.proofs.lemmas.Option.{slice_get-get_or}
 use Rattle.tg_rights.specs.RightSet.{is_none_held, no_rights, RightSet}
@@ -76,8 +76,7 @@ add_some-requires-clause-room g c =
     (λ (same : to ≡ from).
     let none : r ≡ no_rights = get_or_read row to r inside c.index-row-to.is no_rights ∙ ap (λ n. slice_index_or row n no_rights) same ∙ c.requires.no_loop in
     let held : is_none_held r ≡ true = ap is_none_held none in
-    let f : ⊥ = cc (sym held ∙ some) in
-    absurd f)
+    absurd (true≢false (sym held ∙ some)))
     (λ ne. omega (arith, ne, later, used, blocks, block, few, low))
     (cases_eq to from))
     (cases_lt from to)

@@ -1,4 +1,4 @@
-use Rattle.std.proofs.Common.{[], ◌≡◌, ◌<◌, ◌∙◌, ℕ, List, Some, length, ap, arith, subst, sym}
+use Rattle.std.proofs.Common.{[], ◌≡◌, ◌<◌, ◌∙◌, ℕ, List, Some, length, ap, arith, subst, sym, ◌↔◌, refl}
 use Rattle.std.specs.Prelude.{slice_get}
 use Rattle.std.specs.List.{All, range_with_len}
 use Rattle.tg_model.specs.declared.edge.Edge.{Edge}
@@ -12,6 +12,9 @@ use Rattle.tg_space.specs.Generations.{AreRemembered}
 use Rattle.tg_graph.proofs.Remembering.{nothing_remembered}
 use Rattle.tg_graph.proofs.OpenedSubjects.{subjects_counted}
 use Rattle.tg_graph.proofs.Openings.{edges_opened, opened_same}
+use Rattle.tg_space.specs.SpaceTable.{BlockLimits}
+use Rattle.tg_space.specs.declared.allocate_fault.AllocateFault.TheVariants.{HeapFull}
+use Rattle.tg_graph.specs.Opened.{HasBlocks}
 use Rattle.tg_graph.proofs.opening.opened.Goals as goal
 
 -- as many subjects as drafts
@@ -91,3 +94,47 @@ with_room-requires g c =
     let workers = c.workers.ensures.plan.workers in
     let same = c.workers.ensures.number in
     record { some = omega (arith, workers, same); few = omega (arith, workers, same) }
+
+pub returns-in-Err-clause-plan : goal.returns-in-Err-clause-plan
+returns-in-Err-clause-plan g c = c.workers.ensures.plan
+
+pub returns-in-Err-clause-handed_back : goal.returns-in-Err-clause-handed_back
+returns-in-Err-clause-handed_back g c = refl
+
+pub returns-in-Err-clause-full : goal.returns-in-Err-clause-full
+returns-in-Err-clause-full g c = subst (λ (n : ℕ). (c.in-Err.why ≡ HeapFull) ↔ (c.args.limits.max_blocks < n)) c.workers.ensures.number c.in-Err.ensures.full
+
+pub place_workers-requires-clause-blocks : goal.place_workers-requires-clause-blocks
+place_workers-requires-clause-blocks g c =
+    let spaces = c.in-Ok.room.cells.spaces in
+    let ready = c.in-Ok.ensures.ready in
+    let count = ap (λ (vs : List Value). length vs) c.requires ∙ c.workers.ensures.plan.values.0 in
+    subst (λ (n : ℕ). HasBlocks spaces n spaces.limits) (c.workers.ensures.number ∙ sym count) (subst (λ (l : BlockLimits). HasBlocks spaces c.workers.result l) (sym ready.limits_kept) ready)
+
+pub place_workers-requires-clause-table : goal.place_workers-requires-clause-table
+place_workers-requires-clause-table g c = c.in-Ok.ensures.table
+
+pub place_workers-requires-clause-few : goal.place_workers-requires-clause-few
+place_workers-requires-clause-few g c =
+    let count = ap (λ (vs : List Value). length vs) c.requires ∙ c.workers.ensures.plan.values.0 in
+    let few = c.workers.ensures.plan.workers in omega (arith, count, few)
+
+pub place_workers-requires-clause-payloads : goal.place_workers-requires-clause-payloads
+place_workers-requires-clause-payloads g c = c.in-Ok.ensures.room.payloads
+
+pub place_workers-requires-clause-spare : goal.place_workers-requires-clause-spare
+place_workers-requires-clause-spare g c =
+    let count = ap (λ (vs : List Value). length vs) c.requires ∙ c.workers.ensures.plan.values.0 in
+    let number = c.workers.ensures.number in let spare = c.in-Ok.ensures.room.spare in omega (arith, count, number, spare)
+
+pub place_workers-requires-clause-subjects : goal.place_workers-requires-clause-subjects
+place_workers-requires-clause-subjects g c = c.in-Ok.ensures.room.subjects
+
+pub returns-clause-nurseries : goal.returns-clause-nurseries
+returns-clause-nurseries g c = c.place_workers.ensures.nurseries
+
+pub returns-clause-plan : goal.returns-clause-plan
+returns-clause-plan g c = c.workers.ensures.plan
+
+pub returns-clause-full : goal.returns-clause-full
+returns-clause-full g c = subst (λ (n : ℕ). ⊥ ↔ (c.args.limits.max_blocks < n)) c.workers.ensures.number c.in-Ok.ensures.full

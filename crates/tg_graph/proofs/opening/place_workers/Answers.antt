@@ -1,7 +1,6 @@
 use Rattle.std.proofs.Common.{◌≡◌, ◌≢◌, ◌<◌, ◌∙◌, ◌+◌, ℕ, List, length, get_or, ap, sym, subst, arith, ⊎_elim, [], ◌++◌, ◌∷◌, refl}
 use Rattle.std.specs.List.{range_with_len}
 use Rattle.std.proofs.lemmas.Bool.{cases_eq}
-use Rattle.std.proofs.lemmas.Grind.{common_steps}
 use Rattle.std.proofs.lemmas.List.{append-nil, append_assoc, length-append, length-map, length_push, get_or-set_other}
 use Rattle.std.proofs.lemmas.List.Elements.{All-nil}
 use Rattle.tg_model.specs.declared.value.Value.{Value}
@@ -15,6 +14,11 @@ use Rattle.tg_graph.specs.Opened.{IsOpened, no_labels}
 use Rattle.tg_graph.proofs.OpenedSubjects.{more_at_home, names_more, next_above, next_free, nurseries_more, places_more}
 use Rattle.tg_graph.proofs.Openings.{nothing_opened, one_more_opened, used_more}
 use Rattle.tg_graph.proofs.opening.place_workers.Goals as goal
+
+-- nothing is left, so what came is all
+all_came : (yielded rest items : List Value) → yielded ++ rest ≡ items → length rest ≡ 0 → yielded ≡ items
+all_came yielded [] items left none = sym (append-nil yielded) ∙ left
+all_came yielded (x ∷ rest) items left none = absurd (omega (arith, none))
 
 -- one that comes next is past those that came
 next_inside : (yielded rest more items : List Value) (x : Value) → yielded ++ rest ≡ items → rest ≡ x ∷ more → length yielded < length items
@@ -125,18 +129,30 @@ add-requires-clause-above g c =
 
 pub returns-clause-opened : goal.returns-clause-opened
 returns-clause-opened g c =
-    let all : c.loop-draft.yielded ≡ c.args.drafts.items = grind (arith, common_steps, append-nil, c.loop-draft.invariant.left, c.in-None.ensures) in
+    let all = all_came c.loop-draft.yielded c.loop-draft.draft-iterator.rest.items c.args.drafts.items c.loop-draft.invariant.left (sym c.loop-draft.draft-iterator.rest.ok.0 ∙ c.in-None.ensures.steps.0) in
     subst (λ (vs : List Value). IsOpened c.loop-draft.cells.spaces c.loop-draft.cells.payloads (places_of c.loop-draft.subjects) (length c.args.drafts.items) c.args.cells.now.spaces.limits no_labels vs) all c.loop-draft.invariant.opened
 
 pub returns-clause-names : goal.returns-clause-names
 returns-clause-names g c =
-    let all : c.loop-draft.yielded ≡ c.args.drafts.items = grind (arith, common_steps, append-nil, c.loop-draft.invariant.left, c.in-None.ensures) in
+    let all = all_came c.loop-draft.yielded c.loop-draft.draft-iterator.rest.items c.args.drafts.items c.loop-draft.invariant.left (sym c.loop-draft.draft-iterator.rest.ok.0 ∙ c.in-None.ensures.steps.0) in
     c.loop-draft.invariant.names ∙ ap (λ (vs : List Value). range_with_len 0 (length vs)) all
 
 pub returns-clause-numbers : goal.returns-clause-numbers
 returns-clause-numbers g c =
-    let all : c.loop-draft.yielded ≡ c.args.drafts.items = grind (arith, common_steps, append-nil, c.loop-draft.invariant.left, c.in-None.ensures) in
+    let all = all_came c.loop-draft.yielded c.loop-draft.draft-iterator.rest.items c.args.drafts.items c.loop-draft.invariant.left (sym c.loop-draft.draft-iterator.rest.ok.0 ∙ c.in-None.ensures.steps.0) in
     c.loop-draft.invariant.numbers ∙ ap (λ (vs : List Value). range_with_len 0 (length vs)) all
 
 pub returns-clause-unused : goal.returns-clause-unused
 returns-clause-unused g c = c.loop-draft.invariant.used
+
+pub place_vertex-place-requires-clause-table : goal.place_vertex-place-requires-clause-table
+place_vertex-place-requires-clause-table g c = c.loop-draft.invariant.table
+
+pub place_vertex-place-requires-clause-graph : goal.place_vertex-place-requires-clause-graph
+place_vertex-place-requires-clause-graph g c = c.loop-draft.invariant.opened.graph
+
+pub returns-clause-nurseries : goal.returns-clause-nurseries
+returns-clause-nurseries g c = c.loop-draft.invariant.home
+
+pub returns-clause-remembered : goal.returns-clause-remembered
+returns-clause-remembered g c = c.loop-draft.invariant.remembered

@@ -2,6 +2,7 @@ use Rattle.std.proofs.Common.{◌≡◌, ◌∙◌, ◌+◌, length, refl, sym, 
 use Rattle.tg_word.specs.Word.{place_in}
 use Rattle.tg_space.specs.Rows.{row_of}
 use Rattle.tg_graph.proofs.Indexing.{follow_begins, follow_ends, follow_goes_on}
+use Rattle.std.proofs.lemmas.Bool.{false≢true}
 use Rattle.tg_graph.proofs.rows.may_get_long.Goals as goal
 
 pub loop-step-init : goal.loop-step-init
@@ -19,7 +20,7 @@ pub returns-then-link-eq0 : goal.returns-then-link-eq0
 returns-then-link-eq0 c =
     let long : length (row_of c.args.spaces.now.spaces c.args.from) ≡ c.loop-step._step + 1 =
     follow_ends c.args.spaces.now.spaces c.args.from c.loop-step.at c.loop-step._step c.loop-step.invariant (sym c.read-link.ensures ∙ c.if-link-eq0.true) in
-    (λ yes. absurd cc, λ more. absurd (omega (arith, long, more, c.loop-step-test.true)))
+    (λ yes. absurd (false≢true yes), λ more. absurd (omega (arith, long, more, c.loop-step-test.true)))
 
 pub returns : goal.returns
 returns c =

@@ -1,5 +1,5 @@
 use Rattle.std.proofs.Common.{◌≡◌, ℕ, ◌<◌, Bool, true, false, Some, None, List, [], ◌∷◌, ◌++◌, ◌+◌, length, get_or, take, refl, ap, subst, sym, ◌∙◌, ⊎_elim, append_assoc, append-nil}
-use Rattle.std.proofs.lemmas.List.{take_more}
+use Rattle.std.proofs.lemmas.List.{take_more, take_all}
 use Rattle.tg_rights.specs.RightSet.{RightSet, is_none_held, label_of}
 use Rattle.tg_word.specs.declared.Place.{Place}
 use Rattle.tg_word.specs.Word.{place_in, rights_in}
@@ -7,6 +7,7 @@ use Rattle.tg_space.specs.SpaceList.{Holds, SpaceList}
 use Rattle.tg_space.specs.Soundness.{RefersTo}
 use Rattle.tg_graph.specs.Rows.{edges_in, name_at, name_in}
 use Rattle.tg_graph.proofs.Walks.{edges_in-append}
+use borrow.Author.Count.{falls}
 use Rattle.tg_graph.proofs.rows.push_edges.Goals as goal
 use Rattle.tg_graph.proofs.rows.push_edges.Goals.{in-Some+in_ok-push, in_default}
 
@@ -58,3 +59,16 @@ read-requires-clause-held c =
     let held : Holds h (place_in word) =
     ⊎_elim (λ (zero : word ≡ 0). let none : label_of (rights_in word) ≡ None = ap (λ (w : ℕ). label_of (rights_in w)) zero in absurd cc) (λ (to : RefersTo h word). to.object.held) (c.requires c.loop-word.word-index 0 c.loop-word-test.true) in
     subst (Holds h) (sym c.place_of.ensures) held
+
+pub loop-word-init : goal.loop-word-init
+loop-word-init c = sym (append-nil c.args.edges.now.items)
+
+pub bounds-words-word-index : goal.bounds-words-word-index
+bounds-words-word-index c = c.loop-word-test.true
+
+pub loop-word-smaller : goal.loop-word-smaller
+loop-word-smaller c = falls (length c.args.words.now) c.loop-word.word-index c.loop-word-test.true
+
+pub returns : goal.returns
+returns c =
+    c.loop-word.invariant ∙ ap (λ (words : List ℕ). c.args.edges.now.items ++ edges_in c.args.spaces.now.spaces words) (take_all c.loop-word.word-index c.args.words.now c.loop-word-test.false)

@@ -1,6 +1,7 @@
-use Rattle.std.proofs.Common.{◌++◌, ◌∷◌, ◌∙◌, ℕ, List, Option, [], map, take, get_or, sym, ap, append_assoc}
-use Rattle.std.proofs.lemmas.List.{map-append, take_more}
+use Rattle.std.proofs.Common.{◌++◌, ◌∷◌, ◌∙◌, ℕ, List, Option, [], map, take, get_or, sym, ap, append_assoc, length}
+use Rattle.std.proofs.lemmas.List.{map-append, take_more, append-nil, take_all}
 use Rattle.tg_graph.specs.Index.{name_referred}
+use borrow.Author.Count.{falls}
 use Rattle.tg_graph.proofs.rows.push_names.Goals as goal
 
 pub name_of_target-requires : goal.name_of_target-requires
@@ -18,3 +19,17 @@ loop-word-preserved c =
     ∙ append_assoc before (map f (take i words)) (one ∷ [])
     ∙ ap (λ (o : Option ℕ). before ++ (map f (take i words) ++ o ∷ [])) c.name_of_target.ensures
     ∙ ap (λ (names : List (Option ℕ)). before ++ names) (sym (map-append f (take i words) (get_or words i 0 ∷ [])) ∙ ap (map f) (sym (take_more words i 0 c.loop-word-test.true)))
+
+pub loop-word-init : goal.loop-word-init
+loop-word-init c = sym (append-nil c.args.names.now.items)
+
+pub bounds-words-word-index : goal.bounds-words-word-index
+bounds-words-word-index c = c.loop-word-test.true
+
+pub loop-word-smaller : goal.loop-word-smaller
+loop-word-smaller c = falls (length c.args.words.now) c.loop-word.word-index c.loop-word-test.true
+
+pub returns : goal.returns
+returns c =
+    c.loop-word.invariant
+    ∙ ap (λ (words : List ℕ). c.args.names.now.items ++ map (name_referred c.args.spaces.now.spaces) words) (take_all c.loop-word.word-index c.args.words.now c.loop-word-test.false)

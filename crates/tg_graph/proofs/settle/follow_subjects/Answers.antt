@@ -1,5 +1,5 @@
 -- The subjects before the loop's are where their objects were copied to, and the others are still where they were.
-use Rattle.std.proofs.Common.{◌≡◌, ℕ, ◌<◌, ◌≤◌, List, ◌++◌, length, get_or, set, drop, map, sym, ap, subst, arith, ◌∙◌}
+use Rattle.std.proofs.Common.{◌≡◌, ℕ, ◌<◌, ◌≤◌, List, ◌++◌, length, get_or, set, drop, map, sym, ap, subst, arith, ◌∙◌, refl}
 use Rattle.std.proofs.lemmas.List.{append-nil, drop_all, get_or-map, get_or_default, length-map, take_all}
 use Rattle.std.proofs.lemmas.List.Edits.{map_over_more}
 use Rattle.tg_word.specs.declared.Place.{Place}
@@ -11,6 +11,7 @@ use Rattle.tg_space.specs.Collection.{new_place}
 use Rattle.tg_space.specs.declared.kind.Kind.TheVariants.{Full}
 use Rattle.tg_graph.specs.Kept.{moved_place}
 use Rattle.tg_graph.proofs.Members.{still_at}
+use borrow.Author.Count.{falls}
 use Rattle.tg_graph.proofs.settle.follow_subjects.Goals as goal
 
 -- as many subjects as before
@@ -75,3 +76,9 @@ returns c =
           ∙ append-nil (map f xs);
       subjects = done.subjects;
     }
+
+pub loop-at-init : goal.loop-at-init
+loop-at-init c = record { subjects = c.len-at-end.ensures.subjects; names = refl; nurseries = refl; places = refl }
+
+pub loop-at-smaller : goal.loop-at-smaller
+loop-at-smaller c = falls c.len-at-end.result c.loop-at.at c.loop-at-test.true

@@ -1,6 +1,6 @@
-use Rattle.std.proofs.Common.{◌≡◌, ◌∷◌, ◌++◌, [], List, ℕ, Some, get_or, map, take, subst, sym, ap, ◌∙◌}
+use Rattle.std.proofs.Common.{◌≡◌, ◌∷◌, ◌++◌, [], List, ℕ, Some, get_or, map, take, subst, sym, ap, ◌∙◌, arith}
 use Rattle.std.specs.List.{All}
-use Rattle.std.proofs.lemmas.Option.{slice_get-get_or, slice_get_within}
+use Rattle.std.proofs.lemmas.Option.{slice_get-get_or, slice_get_within, same_Some}
 use Rattle.tg_space.specs.Collection.{new_place}
 use Rattle.tg_space.specs.SpaceList.{Holds, cell_at}
 use Rattle.tg_space.specs.Soundness.{IsPointer}
@@ -11,6 +11,8 @@ use Rattle.tg_graph.specs.declared.settle.Rewritten.{Rewritten}
 use Rattle.tg_graph.specs.Kept.{rewritten_at}
 use Rattle.tg_graph.proofs.KeptWritten.{mapped_more}
 use Rattle.tg_graph.proofs.Places.{cell_long, layout_at}
+use borrow.Author.Count.{falls}
+use Rattle.std.proofs.lemmas.List.{take_all}
 use Rattle.tg_graph.proofs.settle.rewritten_cells.Goals as goal
 
 pub image-words-requires-clause-pointers : goal.image-words-requires-clause-pointers
@@ -20,7 +22,7 @@ image-words-requires-clause-pointers c =
     let places = c.args.remembered.now.places in
     let low = slice_get_within places c.loop-i.i p c.nth-place.ensures in
     let here : Some (get_or places c.loop-i.i p) ≡ Some p = sym (slice_get-get_or places c.loop-i.i p low) ∙ c.nth-place.ensures in
-    let same : get_or places c.loop-i.i p ≡ p = cc in
+    let same = same_Some (get_or places c.loop-i.i p) p here in
     let held : Holds h p = subst (Holds h) same (c.requires.held c.loop-i.i p low).held in
     let whole = table_list c.args.spaces.now c.cell.ensures.table in
     let all = pointers_from_layout h (cell_at h p) (cell_long h whole p held) (layout_at h whole [] c.requires.sound p held) in
@@ -44,7 +46,7 @@ cell-requires c =
     let p = c.nth-place.result in
     let low = slice_get_within places c.loop-i.i p c.nth-place.ensures in
     let here : Some (get_or places c.loop-i.i p) ≡ Some p = sym (slice_get-get_or places c.loop-i.i p low) ∙ c.nth-place.ensures in
-    let same : get_or places c.loop-i.i p ≡ p = cc in
+    let same = same_Some (get_or places c.loop-i.i p) p here in
     subst (Holds c.args.spaces.now.spaces) same (c.requires.held c.loop-i.i p low).held
 
 pub image-words-requires-clause-whole : goal.image-words-requires-clause-whole
@@ -52,3 +54,14 @@ image-words-requires-clause-whole c = c.requires.whole
 
 pub image-words-requires-clause-places : goal.image-words-requires-clause-places
 image-words-requires-clause-places c = c.requires.places
+
+pub loop-i-init : goal.loop-i-init
+loop-i-init c = c.in_ok-cells.ensures.items
+
+pub loop-i-smaller : goal.loop-i-smaller
+loop-i-smaller c = falls c.len-i-end.result c.loop-i.i c.loop-i-test.true
+
+pub returns : goal.returns
+returns c =
+    let places = c.args.remembered.now.places in let past = c.loop-i-test.false in let long = c.len-i-end.ensures.len in
+    c.loop-i.invariant ∙ ap (map (rewritten_at c.args.spaces.now.spaces c.args.forward.now.words)) (take_all c.loop-i.i places (omega (arith, past, long)))

@@ -1,4 +1,4 @@
-use Rattle.std.proofs.Common.{◌≡◌, ◌∙◌, ◌<◌, List, Option, None, inl, false, true, is_some, length, nat_eq, arith, refl, sym, ap, subst}
+use Rattle.std.proofs.Common.{◌≡◌, ◌∙◌, ◌<◌, List, Option, None, inl, true, is_some, length, nat_eq, arith, refl, sym, ap, subst}
 use Rattle.std.specs.Map.{lookup}
 use Rattle.std.proofs.lemmas.Cmp.{nat_eq_equiv}
 use Rattle.std.proofs.lemmas.Option.{slice_get_within}
@@ -13,6 +13,7 @@ use Rattle.tg_graph.specs.declared.long_rows.Way.{Way}
 use Rattle.tg_graph.proofs.Ages.{aged_at, row_there, same_row, written_aged}
 use Rattle.tg_graph.proofs.Following.{behind_grown, behind_object, behind_others, behind_own, behind_quieter, behind_vertices, row_behind}
 use Rattle.tg_graph.proofs.IndexedRows.{added_here, added_index, index_at, indexes_kept, indexes_written, may_index, written_indexed}
+use Rattle.std.proofs.lemmas.Bool.{false≢true}
 use Rattle.tg_graph.proofs.cells.Cells.follow.Goals as goal
 
 pub returns-in-Walk-clause-indexed : goal.returns-in-Walk-clause-indexed
@@ -62,8 +63,7 @@ unreachable-requires g c =
     let ready : IsReadyAt c.args.rows.now own c.in-Index.at = subst (λ (w : Way). IsReady b.old.spaces c.args.rows.now c.args.from w) c.in-Index.is b.looked in
     let inside = subst (λ (s : Indexes). IsReadyAt s own c.in-Index.at) (sym c.rows.view_is) ready in
     let low : c.in-Index.at < length es = slice_get_within es c.in-Index.at (own, inside.here.row) inside.here.here in
-    let no : false ≡ true = rw c.in-None.is at (c.get_index_mut.ensures.found.1 low) in
-    cc
+    false≢true (rw c.in-None.is at (c.get_index_mut.ensures.found.1 low))
 
 pub invariant_of-rows : goal.invariant_of-rows
 invariant_of-rows g c =

@@ -1,4 +1,4 @@
-use Rattle.std.proofs.Common.{◌≡◌, ◌<◌, List, Global, false, true, length, refl, sym, ap, subst}
+use Rattle.std.proofs.Common.{◌<◌, List, Global, length, refl, sym, ap, subst}
 use Rattle.std.specs.declared.vec.Vec.{Vec}
 use Rattle.std.proofs.lemmas.Cmp.{nat_eq_equiv}
 use Rattle.std.proofs.lemmas.Option.{slice_get_within}
@@ -13,6 +13,7 @@ use Rattle.tg_graph.proofs.Ages.{aged_at, old_or_behind, row_there, same_aged, s
 use Rattle.tg_graph.proofs.Following.{index_narrowed, narrowed_held, narrowed_inside, narrowed_number, narrowed_others, narrowed_vertices, way_none}
 use Rattle.tg_graph.proofs.IndexedRows.{index_at, indexes_kept, indexes_written, written_indexed}
 use Rattle.tg_graph.proofs.Quiet.{others_quiet_same, quiet_same}
+use Rattle.std.proofs.lemmas.Bool.{false≢true}
 use Rattle.tg_graph.proofs.cells.Cells.forget.Goals as goal
 
 pub returns-in_default : goal.returns-in_default
@@ -55,8 +56,7 @@ unreachable-requires g c =
     let here : HasIndexAt c.args.rows.now.entries own c.in-Index.at = subst (λ (w : Way). IsWay old c.args.rows.now.entries c.args.from w) c.in-Index.is c.requires.looked in
     let was : HasIndexAt es own c.in-Index.at = subst (λ (s : Indexes). HasIndexAt s.entries own c.in-Index.at) (sym c.rows.view_is) here in
     let low : c.in-Index.at < length es = slice_get_within es c.in-Index.at (own, was.row) was.here in
-    let no : false ≡ true = rw c.in-None.is at (c.get_index_mut.ensures.found.1 low) in
-    cc
+    false≢true (rw c.in-None.is at (c.get_index_mut.ensures.found.1 low))
 
 pub invariant_of-rows : goal.invariant_of-rows
 invariant_of-rows g c =

@@ -1,11 +1,12 @@
-use Rattle.std.proofs.Common.{◌≡◌, ◌∙◌, ◌<◌, ap, arith, length, refl, subst, sym}
+use Rattle.std.proofs.Common.{◌≡◌, ◌∙◌, ◌<◌, ap, arith, length, refl, subst, sym, ◌+◌, ◌*◌}
 use Rattle.tg_word.specs.declared.Place.{Place}
-use Rattle.tg_space.specs.SpaceList.{Holds, with_cell_at}
+use Rattle.tg_space.specs.SpaceList.{Holds, with_cell_at, space_of}
 use Rattle.tg_space.specs.SpaceTable.{SpaceTable, IsHandedOut, place_in_space, used_of, with_spaces}
 use Rattle.tg_nursery.specs.Allocation.{HasLeft}
 use Rattle.tg_graph.specs.Steps.{vertex_words}
 use Rattle.tg_graph.proofs.Growing.{VertexStep, vertex_step}
 use Rattle.tg_graph.proofs.cells.Cells.place_vertex.Given.{Over}
+use Rattle.std.specs.Prelude.{slice_set}
 use Rattle.tg_graph.proofs.cells.Cells.place_vertex.Goals as goal
 
 step : (g : Over) (c : goal.After-write_cell g) →
@@ -51,3 +52,17 @@ write_cell-requires-clause-held g c = subst (λ (x : SpaceTable). Holds x.spaces
 
 pub write_cell-requires-clause-handed_out : goal.write_cell-requires-clause-handed_out
 write_cell-requires-clause-handed_out g c = c.hand_out-place.ensures.handed_out
+
+pub hand_out-place-requires-clause-nursery : goal.hand_out-place-requires-clause-nursery
+hand_out-place-requires-clause-nursery g c = (let is = c.nursery_space.ensures in omega (arith, is), subst (λ s. s < length c.args.self.now.spaces.spaces) (sym c.nursery_space.ensures) c.requires.nursery)
+
+pub hand_out-place-requires-clause-room : goal.hand_out-place-requires-clause-room
+hand_out-place-requires-clause-room g c =
+    let t = c.args.self.now.spaces in
+    subst (λ s. used_of t s < 64 * length (space_of t.spaces s)) (sym c.nursery_space.ensures) (omega (arith, c.requires.left))
+
+pub returns-clause-used : goal.returns-clause-used
+returns-clause-used g c =
+    let t = c.args.self.now.spaces in
+    subst (λ s. c.write_cell.new.self.used ≡ slice_set t.used s (used_of t s + 1)) c.nursery_space.ensures
+    (ap (λ (x : SpaceTable). x.used) c.write_cell.ensures ∙ ap (λ (x : SpaceTable). x.used) c.hand_out-place.ensures.counted)

@@ -19,6 +19,7 @@ use Rattle.tg_space.proofs.Tables.{table_list}
 use Rattle.tg_graph.proofs.Places.{held_place}
 use Rattle.tg_space.specs.declared.allocate_fault.AllocateFault.{AllocateFault}
 use Rattle.tg_graph.proofs.Heaps.{ok_or_err}
+use Rattle.std.proofs.lemmas.Bool.{false≢true}
 use Rattle.tg_graph.proofs.cells.Cells.put_edge.Goals as goal
 
 pub returns-clause-one_cell : goal.returns-clause-one_cell
@@ -36,7 +37,7 @@ returns-in_err-make_room-clause-had_room g c =
     let few = cells_few c.args.spot in
     let nothing = nothing_noted t c.requires.row.table c.args.self.now.payloads c.requires.row.graph c.args.from c.requires.row.from none (name_at c.args.self.now.spaces.spaces c.args.to) c.args.spot c.moves.result c.requires.row.spot in
     let ok : false ≡ true = c.in_err-make_room.ensures.had_room (omega (arith, left, few, c.cells.ensures)) (c.note-note.ensures ∙ nothing) in
-    absurd cc
+    absurd (false≢true ok)
 
 pub remember-requires : goal.remember-requires
 remember-requires g c = c.in_ok-make_room.ensures.room.note

@@ -159,3 +159,20 @@ put-requires g c =
       can = placed_can c.args.self.now.spaces grown.spaces placed.spaces c.args.self.now.payloads grown.payloads placed.payloads c.requires.row.table made.room.table step.table c.requires.row.graph (nursery_space c.args.nursery) (1 + c.cells.result) c.requires.vertex.nursery made.room.spaces made.payloads c.args.from c.requires.row.from c.args.name c.args.spot c.requires.row.spot c.args.draft step.placed step.rows c.place_vertex-to.result step.vertex step.used (step.blocks (nursery_space c.args.nursery)) made.room.left (ap (λ n. 1 + n) c.cells.ensures);
       place = held_place placed.spaces.spaces (table_list placed.spaces step.table) c.place_vertex-to.result step.vertex.object.held;
     }
+
+pub overflow_add-cells : goal.overflow_add-cells
+overflow_add-cells g c = omega (arith, cells_few c.args.spot, c.cells.ensures)
+
+pub place_vertex-to-requires-clause-few : goal.place_vertex-to-requires-clause-few
+place_vertex-to-requires-clause-few g c = let few = c.requires.row.table.few in omega (arith, few, c.requires.vertex.nursery)
+
+pub place_vertex-to-requires-clause-nursery : goal.place_vertex-to-requires-clause-nursery
+place_vertex-to-requires-clause-nursery g c =
+    let made = c.in_default.ensures in
+    let grown = c.make_vertex_room.new.self in
+    let room = made_room c.args.self.now.spaces grown.spaces grown.spaces c.args.self.now.payloads grown.payloads grown.payloads c.requires.row.table made.room.table made.room.table c.requires.row.graph (nursery_space c.args.nursery) (1 + c.cells.result) c.requires.vertex.nursery made.room.spaces made.payloads
+    c.args.from c.requires.row.from c.args.name c.args.spot c.requires.row.spot in
+    subst (λ (n : ℕ). nursery_space c.args.nursery < n) (sym room.spaces) c.requires.vertex.nursery
+
+pub place_vertex-to-requires-clause-left : goal.place_vertex-to-requires-clause-left
+place_vertex-to-requires-clause-left g c = let left = c.in_default.ensures.room.left in omega (arith, left)

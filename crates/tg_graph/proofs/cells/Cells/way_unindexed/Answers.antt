@@ -1,5 +1,5 @@
 use Rattle.std.proofs.Common.{◌≡◌, ◌<◌, None, true, length, nat_eq, sym, subst, ⊎_elim}
-use Rattle.std.proofs.lemmas.Bool.{cases_lt}
+use Rattle.std.proofs.lemmas.Bool.{cases_lt, both_ways}
 use Rattle.std.specs.Map.{lookup}
 use Rattle.tg_space.specs.Rows.{row_of}
 use Rattle.tg_graph.specs.Following.{IsReadyNew}
@@ -18,8 +18,7 @@ returns-then-not-may_get_long-clause-ready g c =
     ⊎_elim (λ low. low)
     (λ high.
     let yes : c.may_get_long.result ≡ true = c.may_get_long.ensures.1 high in
-    let no = c.if-not-may_get_long.true in
-    absurd cc)
+    absurd (both_ways c.may_get_long.result c.if-not-may_get_long.true yes))
     (cases_lt (length (row_of c.args.self.now.spaces.spaces c.args.from)) SHORT) in
     record { none = c.requires.none; short = short }
 
@@ -36,3 +35,21 @@ returns-clause-ready g c =
       room = record { names = c.in_ok-reserve-2.ensures.names; cells = c.in_ok-reserve-2.ensures.cells };
     } in
     subst (λ (r : IndexedRow). IsReadyNew c.args.self.now.spaces.spaces c.reserve.new.self c.args.from r) (sym c.in_ok-new.ensures.ok) ready
+
+pub returns-in_err-reserve-clause-entries : goal.returns-in_err-reserve-clause-entries
+returns-in_err-reserve-clause-entries g c = c.reserve.ensures.entries
+
+pub index_of-requires : goal.index_of-requires
+index_of-requires g c = c.requires.row
+
+pub returns-in_err-row-clause-entries : goal.returns-in_err-row-clause-entries
+returns-in_err-row-clause-entries g c = c.reserve.ensures.entries
+
+pub returns-in_err-reserve-2-clause-entries : goal.returns-in_err-reserve-2-clause-entries
+returns-in_err-reserve-2-clause-entries g c = c.reserve.ensures.entries
+
+pub returns-in_err-new-clause-entries : goal.returns-in_err-new-clause-entries
+returns-in_err-new-clause-entries g c = c.reserve.ensures.entries
+
+pub returns-clause-entries : goal.returns-clause-entries
+returns-clause-entries g c = c.reserve.ensures.entries

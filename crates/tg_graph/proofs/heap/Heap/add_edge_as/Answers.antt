@@ -1,7 +1,7 @@
 use Rattle.tg_rights.specs.RightSet.{RightSet}
 use Rattle.tg_word.specs.Word.{nursery_space}
 use Rattle.tg_graph.specs.Index.{SameIndexed, indexed_in, names_indexed}
-use Rattle.tg_graph.specs.Spots.{IsPutInRow}
+use Rattle.tg_graph.specs.Spots.{IsPutInRow, LacksCellsFor}
 use Rattle.std.proofs.Common.{◌≡◌, ◌∙◌, ap, refl, subst, sym}
 use Rattle.std.specs.Prelude.{IsTrue}
 use Rattle.tg_space.specs.SpaceTable.{SpaceTable}
@@ -119,3 +119,6 @@ add_edge-requires-clause-gift g c =
       to = subst (λ (x : HeapState). IsObject x c.args.to) (sym c.self.view_is) c.requires.to;
       some = c.rights.ensures.held;
     }
+
+pub returns-clause-full : goal.returns-clause-full
+returns-clause-full g c = λ is. subst (λ (x : HeapState). LacksCellsFor x.table (nursery_space c.args.worker.nursery) 0 (name_of x c.args.from) (name_of x c.args.to)) c.self.view_is (c.add_edge.ensures.edge.full is)

@@ -1,4 +1,4 @@
-use Rattle.std.proofs.Common.{◌≡◌, ◌⊎◌, ◌<◌, ◌∙◌, ℕ, List, [], ◌∷◌, ◌++◌, refl, sym, ap, subst}
+use Rattle.std.proofs.Common.{◌≡◌, ◌⊎◌, ◌<◌, ◌∙◌, ℕ, List, [], ◌∷◌, ◌++◌, refl, sym, ap, subst, length}
 use Rattle.std.specs.List.{All}
 use Rattle.tg_model.specs.Graph.{with_rights}
 use Rattle.tg_model.specs.Rules.{with_value}
@@ -7,9 +7,13 @@ use Rattle.tg_subjects.specs.Subjects.{AreSubjects, IsLeastFree}
 use Rattle.tg_subjects.specs.declared.subject.Subject.{Subject}
 use Rattle.tg_graph.specs.Index.{names_indexed}
 use Rattle.tg_graph.specs.Content.{IsContent, IsNamed}
-use Rattle.tg_graph.specs.Heap.{HeapState, IsWellFormed, KeepsIndexes, content_of}
+use Rattle.tg_graph.specs.Heap.{HeapState, IsWellFormed, KeepsIndexes, content_of, nursery_of}
 use Rattle.tg_graph.specs.Rows.{IsVertexAt}
 use Rattle.tg_graph.proofs.Heaps.{names_above, well_formed_more}
+use Rattle.std.proofs.lemmas.Result.{err_from_is_err_and}
+use Rattle.tg_word.specs.declared.TheConstants.{MAX_NURSERIES}
+use Rattle.tg_word.specs.Word.{nursery_space}
+use Rattle.tg_graph.specs.Spots.{IsMadeInRow}
 use Rattle.tg_graph.proofs.heap.Heap.new_subject.Goals as goal
 
 pub add-requires-clause-above : goal.add-requires-clause-above
@@ -54,3 +58,25 @@ pub returns-clause-indexed : goal.returns-clause-indexed
 returns-clause-indexed g c =
     let kept = subst (λ (heap : HeapState). KeepsIndexes c.args.self.now heap c.active-subject.result.place) (sym c.self.view_is) c.in_ok-place.ensures.indexed in
     (c.active-subject.result.place, c.active-subject.ensures.vertex, record { made = kept.made; kept = kept.kept; others = kept.others })
+
+pub new_vertex_as-requires-clause-worker : goal.new_vertex_as-requires-clause-worker
+new_vertex_as-requires-clause-worker g c = c.active-subject.ensures.there.there
+
+pub new_vertex_as-requires-clause-fresh : goal.new_vertex_as-requires-clause-fresh
+new_vertex_as-requires-clause-fresh g c = c.requires.fresh
+
+pub returns-in_err-place-clause-refused : goal.returns-in_err-place-clause-refused
+returns-in_err-place-clause-refused g c = rw (err_from_is_err_and c.from_residual.result c.from_residual.ensures.1).1 c.in_err-place.ensures.refused
+
+pub add-requires-clause-few : goal.add-requires-clause-few
+add-requires-clause-few g c =
+    let same = ap (λ (heap : HeapState). heap.subjects) c.self.view_is ∙ c.in_ok-place.ensures.kept.subjects in
+    subst (λ (subjects : List Subject). length subjects < MAX_NURSERIES) (sym same) c.requires.few
+
+pub returns-clause-placed : goal.returns-clause-placed
+returns-clause-placed g c =
+    let old = c.args.self.now in
+    let Placed : HeapState → ℕ → ℕ → Type 0 = λ heap nursery n. IsMadeInRow old.table heap.table old.remembered heap.remembered (nursery_space nursery) n c.args.name c.args.label in
+    let by_worker = subst (λ (n : ℕ). Placed c.new_vertex_as.new.self c.active-subject.result.nursery n) c.active-subject.ensures.there.named c.in_ok-place.ensures.placed in
+    let by_nursery = subst (λ (nursery : ℕ). Placed c.new_vertex_as.new.self nursery c.args.worker) c.active-subject.ensures.nursery by_worker in
+    subst (λ (heap : HeapState). Placed heap (nursery_of old c.args.worker) c.args.worker) (sym c.self.view_is) by_nursery

@@ -5,6 +5,7 @@ use Rattle.tg_word.specs.Word.{nursery_space}
 use Rattle.tg_graph.specs.Content.{IsContent, IsNamed}
 use Rattle.tg_graph.specs.Heap.{content_of}
 use Rattle.tg_graph.specs.Spots.{IsMadeInRow}
+use Rattle.std.proofs.lemmas.Result.{err_from_is_err_and}
 use Rattle.tg_graph.proofs.heap.Heap.new_vertex.Goals as goal
 
 pub new_vertex_as-requires-clause-worker : goal.new_vertex_as-requires-clause-worker
@@ -25,3 +26,12 @@ returns-clause-placed g c =
 
 pub returns-clause-indexed : goal.returns-clause-indexed
 returns-clause-indexed g c = (c.active-subject.result.place, c.active-subject.ensures.vertex, c.in_ok-new_vertex_as.ensures.indexed)
+
+pub new_vertex_as-requires-clause-fresh : goal.new_vertex_as-requires-clause-fresh
+new_vertex_as-requires-clause-fresh g c = c.requires.fresh
+
+pub returns-in_err-new_vertex_as-clause-refused : goal.returns-in_err-new_vertex_as-clause-refused
+returns-in_err-new_vertex_as-clause-refused g c = rw (err_from_is_err_and c.from_residual.result c.from_residual.ensures.1).1 c.in_err-new_vertex_as.ensures.refused
+
+pub returns-clause-kept : goal.returns-clause-kept
+returns-clause-kept g c = c.in_ok-new_vertex_as.ensures.kept

@@ -35,3 +35,18 @@ invariant_of-result g c =
       },
       λ name row found. absurd (none_indexed c.new.result.entries name row c.new.ensures found),
     )
+
+pub opened-requires : goal.opened-requires
+opened-requires g c = c.requires
+
+pub returns-clause-subjects : goal.returns-clause-subjects
+returns-clause-subjects g c = c.in_ok-cells.ensures.names
+
+pub returns-clause-numbers : goal.returns-clause-numbers
+returns-clause-numbers g c = c.in_ok-cells.ensures.numbers
+
+pub returns-clause-nurseries : goal.returns-clause-nurseries
+returns-clause-nurseries g c = c.in_ok-cells.ensures.nurseries
+
+pub returns-clause-full : goal.returns-clause-full
+returns-clause-full g c = c.in_ok-cells.ensures.full

@@ -1,5 +1,5 @@
 use Rattle.std.proofs.Common.{◌≡◌, ◌∙◌, ◌-◌, ◌/◌, ◌+◌, Some, arith, ap, sym, subst}
-use Rattle.std.proofs.lemmas.Option.{none-some}
+use Rattle.std.proofs.lemmas.Option.{none-some, same_Some}
 use Rattle.tg_index.specs.Slots.{IsFirstVacant}
 use Rattle.tg_graph.specs.Index.{row_slots}
 use Rattle.tg_graph.proofs.Quiet.{note_apart}
@@ -22,7 +22,7 @@ returns-clause-apart c =
     (λ n same. elim c.match-first_empty.branch [
       | in-Some w ↦
           let both : Some w.in-Some.number ≡ Some n = sym w.in-Some.is ∙ same in
-          let is : w.in-Some.number ≡ n = cc in
+          let is = same_Some w.in-Some.number n both in
           w.number-is ∙ ap (λ k. (k + 3) / 6) is
       | in-None w ↦ absurd (none-some n (sym w.in-None.is ∙ same))
     ])

@@ -1,4 +1,4 @@
-use Rattle.std.proofs.Common.{◌≡◌, ◌∙◌, ◌<◌, ◌≤◌, Bool, Some, inl, cond, false, true, length, nat_eq, refl, sym, ap, subst}
+use Rattle.std.proofs.Common.{◌≡◌, ◌∙◌, ◌<◌, ◌≤◌, Bool, Some, inl, cond, true, length, nat_eq, refl, sym, ap, subst}
 use Rattle.std.specs.Map.{lookup}
 use Rattle.std.proofs.lemmas.Bool.Decides.{Decides-eqb}
 use Rattle.std.proofs.lemmas.Cmp.{nat_eq_equiv}
@@ -12,6 +12,7 @@ use Rattle.tg_graph.proofs.IndexedRows.{indexes_replaced, written_indexed}
 use Rattle.tg_index.specs.Slots.{HasRoom}
 use Rattle.std.specs.Vec.{vec_capacity}
 use Rattle.std.specs.Prelude.{vec_len}
+use Rattle.std.proofs.lemmas.Bool.{false≢true}
 use Rattle.tg_graph.proofs.long_rows.LongRows.reserve_at.Goals as goal
 
 pub unreachable-requires : goal.unreachable-requires
@@ -19,8 +20,7 @@ unreachable-requires c =
     let es = c.self.inside.indexes.entries in
     let was : HasIndexAt es c.args.name c.args.at = subst (λ (s : Indexes). HasIndexAt s.entries c.args.name c.args.at) (sym c.self.view_is) c.requires.there in
     let low : c.args.at < length es = slice_get_within es c.args.at (c.args.name, was.row) was.here in
-    let no : false ≡ true = rw c.in-None.is at (c.get_index_mut.ensures.found.1 low) in
-    cc
+    false≢true (rw c.in-None.is at (c.get_index_mut.ensures.found.1 low))
 
 pub invariant_of-self : goal.invariant_of-self
 invariant_of-self c =
