@@ -79,8 +79,10 @@ impl LineRange {
 
 /// Reads the words, the first of which is the program's name. An `Err` is the text for the user, of the help as of a fault.
 pub fn read_words<'a, S: AsStr>(alloc: Global, words: &'a [S]) -> Result<DotOptions<'a>, Error> {
-    let matches = command(alloc)?.try_get_matches_from(words)?;
-    Ok(options_of(&matches))
+    match command(alloc)?.try_get_matches_from(words) {
+        Ok(matches) => Ok(options_of(&matches)),
+        Err(error) => Err(error),
+    }
 }
 
 // The options that were found in the words, and the defaults of the others.
@@ -132,7 +134,7 @@ fn option<'a>(
     let arg = Arg::new(alloc, name).long(name).help(help);
     match takes {
         Takes::Nothing => Ok(arg.action(ArgAction::SetTrue)),
-        Takes::Text => Ok(with_value(arg, "TEXT")),
+        Takes::Text => Ok(arg.value_name("TEXT")),
         Takes::Number(most) => Ok(with_number(arg, most)),
         Takes::Line => with_number(arg, i64::MAX).requires_arg("steps"),
     }
@@ -140,10 +142,6 @@ fn option<'a>(
 
 // The option with a number from 1 to `most` as its value.
 fn with_number<'a>(arg: Arg<'a>, most: i64) -> Arg<'a> {
-    with_value(arg, "N").value_parser(clap::value_parser!(u64).range(1..=most))
-}
-
-// The option with a value.
-fn with_value<'a>(arg: Arg<'a>, value: &'a str) -> Arg<'a> {
-    arg.value_name(value).action(ArgAction::Set)
+    arg.value_name("N")
+        .value_parser(clap::value_parser!(u64).range(1..=most))
 }
