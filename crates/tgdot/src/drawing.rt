@@ -55,14 +55,18 @@ fn write_digraph(text: &mut Draft, run: &Run) {
     text.add(b"}\n");
 }
 
-// A vertex is a box or a circle.
 fn write_vertices(text: &mut Draft, run: &Run) {
     for name in run.names.iter() {
-        text.add(b"    ");
-        text.add_number(*name);
-        text.add(shape_of(run, *name));
-        text.add(colour_of(run, *name));
+        write_vertex(text, run, *name);
     }
+}
+
+// A vertex: a box or a circle.
+fn write_vertex(text: &mut Draft, run: &Run, name: u64) {
+    text.add(b"    ");
+    text.add_number(name);
+    text.add(shape_of(run, name));
+    text.add(colour_of(run, name));
 }
 
 // The shape of a vertex. The border of one who retired is dashed.
@@ -76,15 +80,19 @@ fn shape_of(run: &Run, name: u64) -> &'static [u8] {
     }
 }
 
-// The edges, each with the letters of its rights.
 fn write_edges(text: &mut Draft, run: &Run) {
     for ends in run.edges.iter() {
-        if let Some(label) = run.held(*ends) {
-            text.add_ends(*ends);
-            text.add_rights(label.rights());
-            text.add(b"\" ");
-            text.add(colour_of(run, ends.0));
-        }
+        write_edge(text, run, *ends);
+    }
+}
+
+// An edge, with the letters of its rights, where it is there.
+fn write_edge(text: &mut Draft, run: &Run, ends: (u64, u64)) {
+    if let Some(label) = run.held(ends) {
+        text.add_ends(ends);
+        text.add_rights(label.rights());
+        text.add(b"\" ");
+        text.add(colour_of(run, ends.0));
     }
 }
 

@@ -49,10 +49,15 @@ fn main(rt: HostRuntime) -> ExitCode {
     }
 }
 
-// Does what the words of the command line ask for. The exit status.
+// Does what the command line asks for. The exit status.
 fn obey(rt: &HostRuntime) -> Result<u8, DrawFault> {
     let words = words_of(rt)?;
-    match read_words(rt.alloc(), words.as_slice()) {
+    obey_words(rt, words.as_slice())
+}
+
+// Does what the words ask for. The exit status.
+fn obey_words(rt: &HostRuntime, words: &[String]) -> Result<u8, DrawFault> {
+    match read_words(rt.alloc(), words) {
         Ok(options) => {
             draw_script(rt, rt.alloc(), options)?;
             Ok(0)

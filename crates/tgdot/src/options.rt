@@ -108,20 +108,29 @@ fn steps_of(matches: &ArgMatches) -> Option<LineRange> {
 
 // The command line.
 fn command<'a>(alloc: Global) -> Result<Command<'a>, AllocError> {
-    let options = options(alloc)?;
+    let mut options = Vec::new(alloc);
+    add_options(&mut options, alloc)?;
     Command::new(alloc, "tgdot")
         .about(ABOUT)
         .after_help(EXAMPLE)
         .args(options)
 }
 
-// All options.
-fn options<'a>(alloc: Global) -> Result<Vec<Arg<'a>>, AllocError> {
-    let mut options = Vec::new(alloc);
+// Adds all options.
+fn add_options<'a>(options: &mut Vec<Arg<'a>>, alloc: Global) -> Result<(), AllocError> {
     for (name, takes, help) in OPTIONS {
-        options.push(option(alloc, name, *takes, help)?)?;
+        add_option(options, option(alloc, name, *takes, help))?;
     }
-    Ok(options)
+    Ok(())
+}
+
+// Adds an option, where there was memory for it.
+fn add_option<'a>(
+    options: &mut Vec<Arg<'a>>,
+    option: Result<Arg<'a>, AllocError>,
+) -> Result<(), AllocError> {
+    options.push(option?)?;
+    Ok(())
 }
 
 // An option.
