@@ -1,10 +1,9 @@
 //! What all steps of a run have in common.
 
-use crate::shot::{Shot, VertexView};
+use crate::draft::Draft;
+use crate::shot::Shot;
 use std::alloc::{AllocError, Global};
 use std::collections::BTreeMap;
-use std::fmt;
-use std::fmt::{Display, Write};
 
 /// What a vertex takes up in each picture.
 #[derive(Clone, Copy)]
@@ -21,7 +20,7 @@ const NO_ROOM: Room = Room {
 };
 
 /// The vertices and edges that ever stand at a step, and how many columns the texts of each take, so that every picture has the same
-/// places.
+/// places. It remembers whether memory was wanting for a part of it.
 #[derive(Drop)]
 pub struct Frame {
     /// The room of each vertex.
@@ -32,16 +31,22 @@ pub struct Frame {
     pub columns: usize,
     // How many vertices it may have.
     most: u64,
+    // A text whose columns are counted.
+    scratch: Draft,
+    // Whether memory was wanting.
+    is_short: bool,
 }
 
 impl Frame {
     /// A frame that holds nothing, and may have so many vertices.
     pub fn new(alloc: Global, most: u64) -> Frame {
         Frame {
-            most,
             vertices: BTreeMap::new(alloc),
             edges: BTreeMap::new(alloc),
             columns: 0,
+            most,
+            scratch: Draft::new(alloc),
+            is_short: false,
         }
     }
 
@@ -50,95 +55,85 @@ impl Frame {
         self.vertices.len() as u64 > self.most
     }
 
-    /// Widens the frame so that it holds the step, unless it has too many vertices already.
-    pub fn widen(&mut self, shot: &Shot) -> Result<(), AllocError> {
-        if self.is_over() {
-            return Ok(());
+    /// An error where memory was wanting.
+    pub fn whole(&self) -> Result<(), AllocError> {
+        if self.is_short {
+            Err(AllocError)
+        } else {
+            self.scratch.whole()
         }
-        self.columns = self
-            .columns
-            .max(shot.heading.len())
-            .max(shot.told.text.len());
-        self.widen_needed(shot)?;
-        self.widen_vertices(shot)?;
-        self.widen_edges(shot)
+    }
+
+    /// Widens the frame so that it holds the step, unless it has too many vertices already.
+    pub fn widen(&mut self, shot: &Shot) {
+        if self.is_over() {
+            return;
+        }
+        let columns = shot.heading.len().max(shot.told.len());
+        self.columns = self.columns.max(columns);
+        self.widen_needed(shot);
+        self.widen_vertices(shot);
+        self.widen_edges(shot);
     }
 
     // Widens the room of the vertices that are there.
-    fn widen_vertices(&mut self, shot: &Shot) -> Result<(), AllocError> {
+    fn widen_vertices(&mut self, shot: &Shot) {
         for name in shot.run.names.iter() {
-            self.widen_vertex(shot, *name)?;
+            self.widen_vertex(shot, *name);
         }
-        Ok(())
     }
 
     // Widens the room of the edges that are there.
-    fn widen_edges(&mut self, shot: &Shot) -> Result<(), AllocError> {
+    fn widen_edges(&mut self, shot: &Shot) {
         for ends in shot.run.edges.iter() {
-            self.widen_edge(shot, *ends)?;
+            self.widen_edge(shot, *ends);
         }
-        Ok(())
     }
 
     // Widens the room of what is shown even where it isn't there.
-    fn widen_needed(&mut self, shot: &Shot) -> Result<(), AllocError> {
+    fn widen_needed(&mut self, shot: &Shot) {
         if let Some((from, to)) = shot.marks.needed() {
-            self.widen_vertex(shot, from)?;
-            self.widen_vertex(shot, to)?;
+            self.widen_vertex(shot, from);
+            self.widen_vertex(shot, to);
         }
         if let Some(ends) = shot.marks.needed_edge() {
-            self.widen_edge(shot, ends)?;
+            self.widen_edge(shot, ends);
         }
-        Ok(())
     }
 
     // Widens the room of a vertex, where the step shows it.
-    fn widen_vertex(&mut self, shot: &Shot, name: u64) -> Result<(), AllocError> {
+    fn widen_vertex(&mut self, shot: &Shot, name: u64) {
         if let Some(view) = shot.vertex(name) {
-            let room = self.vertices.get(&name).copied().unwrap_or(NO_ROOM);
-            self.vertices.insert(name, room.widened(name, view))?;
+            let columns = columns_of_vertex(&mut self.scratch, shot, name);
+            let mut room = self.vertices.get(&name).copied().unwrap_or(NO_ROOM);
+            room.columns = room.columns.max(columns);
+            room.ever_subject = room.ever_subject || view.ever_subject;
+            if self.vertices.insert(name, room).is_err() {
+                self.is_short = true;
+            }
         }
-        Ok(())
     }
 
     // Widens the room of an edge, where the step shows it.
-    fn widen_edge(&mut self, shot: &Shot, ends: (u64, u64)) -> Result<(), AllocError> {
+    fn widen_edge(&mut self, shot: &Shot, ends: (u64, u64)) {
         if let Some(view) = shot.edge(ends) {
-            let columns = self.edges.get(&ends).copied().unwrap_or(0);
-            self.edges
-                .insert(ends, columns.max(columns_of(format_args!("{view}"))))?;
-        }
-        Ok(())
-    }
-}
-
-impl Room {
-    // The room that has place for the view too.
-    fn widened(self, name: u64, view: VertexView) -> Room {
-        let note = view.note;
-        let first = columns_of(format_args!("{name}{note}"));
-        let second = columns_of(view.state);
-        Room {
-            columns: self.columns.max(first).max(second),
-            ever_subject: self.ever_subject || view.ever_subject,
+            self.scratch.clear();
+            view.write(&mut self.scratch);
+            let least = self.edges.get(&ends).copied().unwrap_or(0);
+            let columns = self.scratch.len().max(least);
+            if self.edges.insert(ends, columns).is_err() {
+                self.is_short = true;
+            }
         }
     }
 }
 
-/// How many columns a text takes.
-pub fn columns_of<D: Display + Drop>(text: D) -> usize {
-    let mut columns = Columns(0);
-    let _ = columns.write(text);
-    columns.0
-}
-
-// The columns of what was written.
-#[derive(Drop)]
-struct Columns(usize);
-
-impl Write for Columns {
-    fn write_str(&mut self, text: &str) -> fmt::Result {
-        self.0 = self.0.saturating_add(text.len());
-        Ok(())
-    }
+// The columns of the longer line of a vertex.
+fn columns_of_vertex(scratch: &mut Draft, shot: &Shot, name: u64) -> usize {
+    scratch.clear();
+    shot.write_name(scratch, name);
+    let first = scratch.len();
+    scratch.clear();
+    shot.write_state(scratch, name);
+    first.max(scratch.len())
 }

@@ -1,7 +1,6 @@
 //! How vertices and edges of a step look.
 
-use std::fmt;
-use std::fmt::{Display, Formatter};
+use crate::draft::Draft;
 
 /// A colour. None of them says a thing alone.
 #[derive(Clone, Copy)]
@@ -50,24 +49,23 @@ impl Look {
             is_bold,
         }
     }
-}
 
-impl Display for Look {
-    /// Writes the attributes of the look.
-    fn fmt<W: fmt::Write>(&self, f: &mut Formatter<W>) -> fmt::Result {
-        let style = match (self.is_bold, self.stroke) {
-            (false, Stroke::Solid) => "solid",
-            (false, Stroke::Dashed) => "dashed",
-            (false, Stroke::Dotted) => "dotted",
-            (true, Stroke::Solid) => "bold,solid",
-            (true, Stroke::Dashed) => "bold,dashed",
-            (true, Stroke::Dotted) => "bold,dotted",
+    /// Writes the attributes of the look, and the end of its line.
+    pub fn write(self, text: &mut Draft) {
+        let style: &[u8] = match (self.is_bold, self.stroke) {
+            (false, Stroke::Solid) => b"\" style=\"solid\" ",
+            (false, Stroke::Dashed) => b"\" style=\"dashed\" ",
+            (false, Stroke::Dotted) => b"\" style=\"dotted\" ",
+            (true, Stroke::Solid) => b"\" style=\"bold,solid\" ",
+            (true, Stroke::Dashed) => b"\" style=\"bold,dashed\" ",
+            (true, Stroke::Dotted) => b"\" style=\"bold,dotted\" ",
         };
-        let colour = match self.colour {
-            Colour::Black => "color=black fontcolor=black",
-            Colour::Grey => "color=grey40 fontcolor=grey40",
-            Colour::Red => "color=red3 fontcolor=red3",
+        let colour: &[u8] = match self.colour {
+            Colour::Black => b"color=black fontcolor=black]\n",
+            Colour::Grey => b"color=grey40 fontcolor=grey40]\n",
+            Colour::Red => b"color=red3 fontcolor=red3]\n",
         };
-        write!(f, "style=\"{style}\" {colour}")
+        text.add(style);
+        text.add(colour);
     }
 }

@@ -8,11 +8,12 @@
 //!
 //! The words of the command line are `options`' matter, and lines `script`'s, and `reason` says why one is bad. `run` runs them, and knows
 //! which edges there are, so that no pair of vertices is asked for its edge in vain; `reach` says what subjects reach. `drawing` writes the
-//! last graph. Of the steps, `shot` says what is shown at one and `told` what its line was answered, `marks` what stands out and `look` how
-//! that looks, `frame` what all have in common, `picture` writes one, and `steps` prints them. A line of the grammar has a place in `run`,
-//! where it is taken and followed, and in `named` of `marks`.
+//! last graph. Of the steps, `shot` says what is shown at one, `marks` what stands out and `look` how that looks, `frame` what all have in
+//! common, `picture` writes one, and `steps` all. What they write is a `draft`, which is printed at once. A line of the grammar has a place
+//! in `run`, where it is taken and followed, and in `named` of `marks`.
 #![tactic(auto)]
 
+mod draft;
 mod drawing;
 mod fault;
 mod frame;
@@ -26,16 +27,17 @@ mod run;
 mod script;
 mod shot;
 mod steps;
-mod told;
 
+use draft::Draft;
 use drawing::write_last;
 use fault::DrawFault;
 use options::{DotOptions, LineRange, read_words};
-use script::{Script, read_script};
+use script::Script;
 use std::alloc::Global;
 use std::env;
 use std::process::ExitCode;
 use steps::write_steps;
+use tg_text::read_stock;
 
 fn main(rt: HostRuntime) -> ExitCode {
     match obey(&rt) {
@@ -47,10 +49,15 @@ fn main(rt: HostRuntime) -> ExitCode {
     }
 }
 
-// Does what the words of the command line ask for. The exit status.
+// Does what the command line asks for. The exit status.
 fn obey(rt: &HostRuntime) -> Result<u8, DrawFault> {
     let words = words_of(rt)?;
-    match read_words(rt.alloc(), words.as_slice()) {
+    obey_words(rt, words.as_slice())
+}
+
+// Does what the words ask for. The exit status.
+fn obey_words(rt: &HostRuntime, words: &[String]) -> Result<u8, DrawFault> {
+    match read_words(rt.alloc(), words) {
         Ok(options) => {
             draw_script(rt, rt.alloc(), options)?;
             Ok(0)
@@ -62,30 +69,46 @@ fn obey(rt: &HostRuntime) -> Result<u8, DrawFault> {
     }
 }
 
-// Draws what the script leaves, or its steps.
+// Draws what the script on standard input leaves, or its steps.
 fn draw_script<R: Print + Input>(
     rt: &R,
     alloc: Global,
     options: DotOptions,
 ) -> Result<(), DrawFault> {
-    let script = read_script(rt, alloc, options)?;
-    draw(rt, alloc, options.steps, &script)
+    let stock = read_stock(alloc, options.stock.as_bytes())?;
+    let mut script = Script::new(alloc, options.workers, options.max_vertices, stock);
+    draw(rt, options.steps, &mut script)
 }
 
-// Draws what these lines leave, or their steps. A bad line ends the steps.
-fn draw<R: Print>(
+// Reads the lines, and draws what they leave, or their steps.
+fn draw<R: Print + Input>(
     rt: &R,
-    alloc: Global,
+    steps: Option<LineRange>,
+    script: &mut Script,
+) -> Result<(), DrawFault> {
+    script.read(rt)?;
+    let mut text = Draft::new(script.alloc);
+    print(rt, &mut text, steps, script)
+}
+
+// Prints what these lines leave, or their steps. A bad line ends the steps.
+fn print<R: Print>(
+    rt: &R,
+    text: &mut Draft,
     steps: Option<LineRange>,
     script: &Script,
 ) -> Result<(), DrawFault> {
-    let mut text = String::new(alloc);
-    match steps {
-        Some(range) => write_steps(&mut text, alloc, range, script)?,
-        None => write_last(&mut text, alloc, script)?,
-    }
-    rt.print(text.as_str())?;
+    write(text, steps, script)?;
+    text.print(rt)?;
     script.whole()
+}
+
+// Writes what these lines leave, or their steps.
+fn write(text: &mut Draft, steps: Option<LineRange>, script: &Script) -> Result<(), DrawFault> {
+    match steps {
+        Some(range) => write_steps(text, range, script),
+        None => write_last(text, script),
+    }
 }
 
 // The words of the command line. Each has to be text.

@@ -79,8 +79,10 @@ impl LineRange {
 
 /// Reads the words, the first of which is the program's name. An `Err` is the text for the user, of the help as of a fault.
 pub fn read_words<'a, S: AsStr>(alloc: Global, words: &'a [S]) -> Result<DotOptions<'a>, Error> {
-    let matches = command(alloc)?.try_get_matches_from(words)?;
-    Ok(options_of(&matches))
+    match command(alloc)?.try_get_matches_from(words) {
+        Ok(matches) => Ok(options_of(&matches)),
+        Err(error) => Err(error),
+    }
 }
 
 // The options that were found in the words, and the defaults of the others.
@@ -106,20 +108,29 @@ fn steps_of(matches: &ArgMatches) -> Option<LineRange> {
 
 // The command line.
 fn command<'a>(alloc: Global) -> Result<Command<'a>, AllocError> {
-    let options = options(alloc)?;
+    let mut options = Vec::new(alloc);
+    add_options(&mut options, alloc)?;
     Command::new(alloc, "tgdot")
         .about(ABOUT)
         .after_help(EXAMPLE)
         .args(options)
 }
 
-// All options.
-fn options<'a>(alloc: Global) -> Result<Vec<Arg<'a>>, AllocError> {
-    let mut options = Vec::new(alloc);
+// Adds all options.
+fn add_options<'a>(options: &mut Vec<Arg<'a>>, alloc: Global) -> Result<(), AllocError> {
     for (name, takes, help) in OPTIONS {
-        options.push(option(alloc, name, *takes, help)?)?;
+        add_option(options, option(alloc, name, *takes, help))?;
     }
-    Ok(options)
+    Ok(())
+}
+
+// Adds an option, where there was memory for it.
+fn add_option<'a>(
+    options: &mut Vec<Arg<'a>>,
+    option: Result<Arg<'a>, AllocError>,
+) -> Result<(), AllocError> {
+    options.push(option?)?;
+    Ok(())
 }
 
 // An option.
@@ -132,7 +143,7 @@ fn option<'a>(
     let arg = Arg::new(alloc, name).long(name).help(help);
     match takes {
         Takes::Nothing => Ok(arg.action(ArgAction::SetTrue)),
-        Takes::Text => Ok(with_value(arg, "TEXT")),
+        Takes::Text => Ok(arg.value_name("TEXT")),
         Takes::Number(most) => Ok(with_number(arg, most)),
         Takes::Line => with_number(arg, i64::MAX).requires_arg("steps"),
     }
@@ -140,10 +151,6 @@ fn option<'a>(
 
 // The option with a number from 1 to `most` as its value.
 fn with_number<'a>(arg: Arg<'a>, most: i64) -> Arg<'a> {
-    with_value(arg, "N").value_parser(clap::value_parser!(u64).range(1..=most))
-}
-
-// The option with a value.
-fn with_value<'a>(arg: Arg<'a>, value: &'a str) -> Arg<'a> {
-    arg.value_name(value).action(ArgAction::Set)
+    arg.value_name("N")
+        .value_parser(clap::value_parser!(u64).range(1..=most))
 }

@@ -1,122 +1,130 @@
 //! The picture of a step, as a text for `dot`.
 
-use crate::frame::{Frame, Room, columns_of};
-use crate::shot::{EdgeView, Shot, VertexView};
-use std::alloc::AllocError;
-use std::fmt;
-use std::fmt::{Display, Formatter};
+use crate::draft::Draft;
+use crate::frame::{Frame, Room};
+use crate::shot::{EdgeView, Shot};
 
 // The width of a letter, the height of a vertex's text, and what stands round it, in hundredths of an inch.
-const LETTER: usize = 12;
+const LETTER: u64 = 12;
 
-const HEIGHT: usize = 60;
+const HEIGHT: u64 = 60;
 
-const BOX_MARGIN: usize = 20;
+const BOX_MARGIN: u64 = 20;
 
-const CIRCLE_MARGIN: usize = 34;
+const CIRCLE_MARGIN: u64 = 34;
 
 // The most edges that dot draws without lines from their labels.
 const MOST_PLAIN: usize = 8;
 
 /// Writes the step as a digraph with all that the frame has, by name. What the step doesn't have is invisible.
-pub fn write_shot(text: &mut String, frame: &Frame, shot: &Shot) -> Result<(), AllocError> {
-    write_head(text, frame, shot)?;
+pub fn write_shot(text: &mut Draft, frame: &Frame, shot: &Shot) {
+    write_head(text, frame, shot);
+    write_kinds(text, frame.edges.len() > MOST_PLAIN);
+    write_vertices(text, frame, shot);
+    write_edges(text, frame, shot);
+    text.add(b"}\n");
+}
+
+// The line and its answer above the picture.
+fn write_head(text: &mut Draft, frame: &Frame, shot: &Shot) {
+    text.add(b"digraph step_");
+    text.add_number(shot.number);
+    text.add(b" {\n    graph [fontname=Courier labelloc=t labeljust=l label=\"");
+    write_padded(text, shot.heading.as_bytes(), frame.columns);
+    write_padded(text, shot.told.as_bytes(), frame.columns);
+    text.add(b"\"]\n");
+}
+
+// A line of the label above the picture.
+fn write_padded(text: &mut Draft, line: &[u8], columns: usize) {
+    let first = text.len();
+    text.add(line);
+    text.pad(first, columns);
+    text.add(b"\\l");
+}
+
+// What holds of all vertices and of all edges. The letters of all texts are equally wide, so that a text's columns tell its width. Among
+// many edges a line leads from each label to its own.
+fn write_kinds(text: &mut Draft, are_many: bool) {
+    text.add(b"    node [fontname=Courier fixedsize=true]\n    edge [fontname=Courier");
+    text.add(if are_many {
+        b" decorate=true]\n"
+    } else {
+        b"]\n"
+    });
+}
+
+fn write_vertices(text: &mut Draft, frame: &Frame, shot: &Shot) {
     for (name, room) in frame.vertices.iter() {
-        write_vertex(text, *name, *room, shot.vertex(*name))?;
+        text.add(b"    ");
+        text.add_number(*name);
+        write_room(text, *room);
+        write_vertex(text, shot, *name);
     }
-    for (ends, columns) in frame.edges.iter() {
-        write_edge(text, *ends, *columns, shot.edge(*ends))?;
-    }
-    writeln!(text, "}}")
 }
 
-// The line and its answer above the picture, and what holds of all vertices and of all edges. The letters of all texts are equally wide,
-// so that a text's columns tell its width. Among many edges a line leads from each label to its own.
-fn write_head(text: &mut String, frame: &Frame, shot: &Shot) -> Result<(), AllocError> {
-    let number = shot.number;
-    let heading = shot.heading.as_str();
-    let told = shot.told.text.as_str();
-    let columns = frame.columns;
-    let are_many = frame.edges.len() > MOST_PLAIN;
-    let lines = if are_many { " decorate=true" } else { "" };
-    writeln!(
-        text,
-        "digraph step_{number} {{
-    graph [fontname=Courier labelloc=t labeljust=l label=\"{heading:columns$}\\l{told:columns$}\\l\"]
-    node [fontname=Courier fixedsize=true]
-    edge [fontname=Courier{lines}]"
-    )
-}
-
-// A vertex, in a shape of its own size for all steps.
-fn write_vertex(
-    text: &mut String,
-    name: u64,
-    room: Room,
-    view: Option<VertexView>,
-) -> Result<(), AllocError> {
-    match view {
+// The text and the look of a vertex.
+fn write_vertex(text: &mut Draft, shot: &Shot, name: u64) {
+    match shot.vertex(name) {
         Some(view) => {
-            let note = view.note;
-            let state = view.state;
             let look = view.look;
-            writeln!(
-                text,
-                "    {name} [{room} label=\"{name}{note}\\n{state}\" {look}]"
-            )
+            shot.write_name(text, name);
+            text.add(b"\\n");
+            shot.write_state(text, name);
+            look.write(text);
         }
-        None => writeln!(text, "    {name} [{room} label=\"\" style=invis]"),
+        None => text.add(b"\" style=invis]\n"),
     }
 }
 
-// An edge, with a label of its own width for all steps.
-fn write_edge(
-    text: &mut String,
-    ends: (u64, u64),
-    columns: usize,
-    view: Option<EdgeView>,
-) -> Result<(), AllocError> {
-    let (from, to) = ends;
-    let nothing = "";
-    match view {
-        Some(view) => {
-            let behind = columns.saturating_sub(columns_of(format_args!("{view}")));
-            let look = view.look;
-            writeln!(
-                text,
-                "    {from} -> {to} [label=\" {view}{nothing:behind$} \" {look}]"
-            )
-        }
-        None => writeln!(
-            text,
-            "    {from} -> {to} [label=\" {nothing:columns$} \" style=invis]"
-        ),
+// The shape and the size of a vertex, which are its own for all steps.
+fn write_room(text: &mut Draft, room: Room) {
+    let width = (room.columns as u64).saturating_mul(LETTER);
+    if room.ever_subject {
+        text.add(b" [shape=box width=");
+        write_inches(text, width.saturating_add(BOX_MARGIN));
+        text.add(b" height=");
+        write_inches(text, HEIGHT);
+    } else {
+        text.add(b" [shape=circle width=");
+        write_inches(text, width.saturating_add(CIRCLE_MARGIN));
+        text.add(b" height=");
+        write_inches(text, width.saturating_add(CIRCLE_MARGIN));
     }
-}
-
-impl Display for Room {
-    /// Writes the shape and the size.
-    fn fmt<W: fmt::Write>(&self, f: &mut Formatter<W>) -> fmt::Result {
-        let text = self.columns.saturating_mul(LETTER);
-        if self.ever_subject {
-            let width = Inches(text.saturating_add(BOX_MARGIN));
-            let height = Inches(HEIGHT);
-            write!(f, "shape=box width={width} height={height}")
-        } else {
-            let across = Inches(text.saturating_add(CIRCLE_MARGIN));
-            write!(f, "shape=circle width={across} height={across}")
-        }
-    }
+    text.add(b" label=\"");
 }
 
 // Hundredths of an inch.
-#[derive(Clone, Copy)]
-struct Inches(usize);
+fn write_inches(text: &mut Draft, hundredths: u64) {
+    text.add_number(hundredths / 100);
+    text.add(b".");
+    text.add_number(hundredths / 10 % 10);
+    text.add_number(hundredths % 10);
+}
 
-impl Display for Inches {
-    fn fmt<W: fmt::Write>(&self, f: &mut Formatter<W>) -> fmt::Result {
-        let whole = self.0 / 100;
-        let rest = self.0 % 100;
-        write!(f, "{whole}.{rest:02}")
+// The edges, each with a label of its own width for all steps.
+fn write_edges(text: &mut Draft, frame: &Frame, shot: &Shot) {
+    for (ends, columns) in frame.edges.iter() {
+        text.add_ends(*ends);
+        text.add(b" ");
+        write_edge(text, *columns, shot.edge(*ends));
+    }
+}
+
+// The text and the look of an edge.
+fn write_edge(text: &mut Draft, columns: usize, view: Option<EdgeView>) {
+    let first = text.len();
+    match view {
+        Some(view) => {
+            let look = view.look;
+            view.write(text);
+            text.pad(first, columns);
+            text.add(b" ");
+            look.write(text);
+        }
+        None => {
+            text.pad(first, columns);
+            text.add(b" \" style=invis]\n");
+        }
     }
 }

@@ -53,11 +53,8 @@ const COMMANDS: &[(&str, &[Kind])] = &[
     ("grant", &[Kind::Number, Kind::Number, Kind::Rights]),
 ];
 
-/// Why the text, with its line feed, is none of the grammar. An empty text had bytes that are no text.
+/// Why the text, with its line feed, is none of the grammar.
 pub fn reason_of(text: &str) -> &'static str {
-    if text.is_empty() {
-        return ": bytes that are no text";
-    }
     match text.strip_suffix('\n') {
         Some(line) => reason_of_line(line),
         None => ": no line feed at the end",
@@ -196,16 +193,12 @@ fn cut(words: &str) -> (&str, Option<&str>) {
 }
 
 fn reason_of_number(word: &str) -> Option<&'static str> {
-    if word.starts_with('+') || word.starts_with('-') {
-        Some(": a number has no sign")
-    } else if !is_number(word.as_bytes()) {
-        Some(": a word where a number stands")
-    } else if word.starts_with('0') && word.len() > 1 {
-        Some(": a number has no leading zero")
-    } else if word.parse::<u64>().is_err() {
-        Some(": a number over 18446744073709551615")
-    } else {
-        None
+    match word.as_bytes() {
+        [b'+' | b'-', ..] => Some(": a number has no sign"),
+        digits if !is_number(digits) => Some(": a word where a number stands"),
+        [b'0', _, ..] => Some(": a number has no leading zero"),
+        _ if word.parse::<u64>().is_err() => Some(": a number over 18446744073709551615"),
+        _ => None,
     }
 }
 

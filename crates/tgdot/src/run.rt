@@ -4,9 +4,9 @@ use crate::fault::DrawFault;
 use crate::reach::Reach;
 use crate::script::Script;
 use std::alloc::{AllocError, Global};
-use std::collections::{BTreeMap, BTreeSet};
+use std::collections::BTreeSet;
 use std::mem;
-use tg_model::{Command, Deed, Graph, Law, ModelFault, Numbers, Opening, Reply, Value};
+use tg_model::{Command, Deed, Edge, Graph, Law, ModelFault, Numbers, Opening, Reply, Value};
 use tg_rights::Label;
 use tg_text::{Answer, Line, Refusal, StockItem};
 
@@ -16,7 +16,8 @@ use tg_text::{Answer, Line, Refusal, StockItem};
 pub struct Run {
     alloc: Global,
     graph: Graph,
-    vertices: BTreeMap<u64, Vertex>,
+    // All that were ever made, by name.
+    vertices: Vec<Vertex>,
     /// The names of the vertices that no collection took.
     pub names: BTreeSet<u64>,
     /// The ends of the edges, those from vertices that a collection took too.
@@ -27,30 +28,41 @@ pub struct Run {
     taken: usize,
 }
 
-/// A vertex.
+// A vertex: whether it is a subject or was one until it retired, and what it stores.
 #[derive(Drop)]
-pub struct Vertex {
-    /// Whether it is a subject, or was one until it retired.
-    pub ever_subject: bool,
-    /// What it stores.
-    pub value: Value,
+struct Vertex {
+    ever_subject: bool,
+    value: Value,
 }
 
 impl Run {
-    /// The run before its first command.
-    pub fn start(alloc: Global, opening: &Opening) -> Result<Run, AllocError> {
-        let graph = Graph::open(alloc, opening)?;
-        let mut run = Run {
+    /// A run of which nothing is known but the graph.
+    pub fn new(alloc: Global, graph: Graph) -> Run {
+        Run {
             alloc,
             graph,
-            vertices: BTreeMap::new(alloc),
+            vertices: Vec::new(alloc),
             names: BTreeSet::new(alloc),
             edges: BTreeSet::new(alloc),
             reached: Reach::new(alloc),
             taken: 0,
-        };
-        run.open(opening)?;
-        Ok(run)
+        }
+    }
+
+    /// Adds the workers and their edges, with which the graph began.
+    pub fn open(&mut self, opening: &Opening) -> Result<(), AllocError> {
+        for name in 0..opening.workers() {
+            self.add_vertex(name, true, StockItem::Cell)?;
+        }
+        self.add_edges(opening.edges())
+    }
+
+    // Adds edges.
+    fn add_edges(&mut self, edges: &[Edge]) -> Result<(), AllocError> {
+        for edge in edges {
+            self.edges.insert((edge.from, edge.to))?;
+        }
+        Ok(())
     }
 
     /// Runs a line with the boxes of this stock. What it is answered. An edge line does nothing here: the graph began with its edge.
@@ -64,18 +76,39 @@ impl Run {
         }
     }
 
-    /// The vertex of this name, where it was made and no collection took it.
-    pub fn vertex(&self, name: u64) -> Option<&Vertex> {
+    // The vertex of this name, where it was made and no collection took it.
+    fn vertex(&self, name: u64) -> Option<&Vertex> {
         if self.names.contains(&name) {
-            self.vertices.get(&name)
+            self.vertices.get(name as usize)
         } else {
             None
+        }
+    }
+
+    /// What the vertex of this name stores, where it was made and no collection took it.
+    pub fn value(&self, name: u64) -> Option<&Value> {
+        match self.vertex(name) {
+            Some(vertex) => Some(&vertex.value),
+            None => None,
         }
     }
 
     /// Whether the vertex is an active subject.
     pub fn is_subject(&self, name: u64) -> bool {
         self.graph.is_subject(name)
+    }
+
+    /// Whether a vertex that no collection took is a subject, or was one until it retired.
+    pub fn was_subject(&self, name: u64) -> bool {
+        match self.vertex(name) {
+            Some(vertex) => vertex.ever_subject,
+            None => false,
+        }
+    }
+
+    /// Whether a vertex that no collection took was a subject until it retired.
+    pub fn has_retired(&self, name: u64) -> bool {
+        self.was_subject(name) && !self.is_subject(name)
     }
 
     /// The rights on the edge between these, where it is there.
@@ -98,18 +131,7 @@ impl Run {
         self.reached.names.contains(&name)
     }
 
-    // Adds the workers and their edges.
-    fn open(&mut self, opening: &Opening) -> Result<(), AllocError> {
-        for name in 0..opening.workers() {
-            self.add_vertex(name, true, StockItem::Cell)?;
-        }
-        for edge in opening.edges() {
-            self.edges.insert((edge.from, edge.to))?;
-        }
-        Ok(())
-    }
-
-    // Adds a vertex that stores a new box.
+    // Adds the vertex that was made last, which stores a new box.
     fn add_vertex(
         &mut self,
         name: u64,
@@ -118,11 +140,10 @@ impl Run {
     ) -> Result<(), AllocError> {
         self.names.insert(name)?;
         let value = value_of(kind);
-        let vertex = Vertex {
+        self.vertices.push(Vertex {
             ever_subject,
             value,
-        };
-        self.vertices.insert(name, vertex)?;
+        })?;
         Ok(())
     }
 
@@ -151,10 +172,10 @@ impl Run {
         &mut self,
         worker: u64,
         name: u64,
-        as_subject: bool,
+        ever_subject: bool,
         kind: StockItem,
     ) -> Result<Answer, AllocError> {
-        self.add_vertex(name, as_subject, kind)?;
+        self.add_vertex(name, ever_subject, kind)?;
         self.edges.insert((worker, name))?;
         Ok(Answer::Reply(Reply::Name(name)))
     }
@@ -202,11 +223,10 @@ impl Run {
 
     // Notes a number that was written or added to a log.
     fn store(&mut self, target: u64, number: u64) -> Result<(), AllocError> {
-        if let Some(vertex) = self.vertices.get_mut(&target) {
-            let law = vertex.value.law;
-            law.write(self.alloc, &mut vertex.value.state, number)?;
+        match self.vertices.get_mut(target as usize) {
+            Some(vertex) => write_in(self.alloc, &mut vertex.value, number),
+            None => Ok(()),
         }
-        Ok(())
     }
 
     // Collects what no subject reaches.
@@ -227,19 +247,19 @@ pub fn changed_by(worker: u64, command: &Command) -> Option<(u64, u64)> {
 }
 
 /// What the graph of a script begins with: the edges of its edge lines, and for each worker a cell with 0.
-pub fn opening_of(alloc: Global, script: &Script) -> Result<Opening, DrawFault> {
-    let edges = Vec::from_slice(alloc, script.edges.as_slice())?;
-    let values = values_of(alloc, script.workers)?;
+pub fn opening_of(script: &Script) -> Result<Opening, DrawFault> {
+    let mut values = Vec::new(script.alloc);
+    add_cells(&mut values, script.workers)?;
+    let edges = Vec::from_slice(script.alloc, script.edges.as_slice())?;
     Ok(Opening::new(script.workers, edges, values, script.max_vertices)?)
 }
 
-// A new cell for each worker.
-fn values_of(alloc: Global, workers: u64) -> Result<Vec<Value>, AllocError> {
-    let mut values = Vec::new(alloc);
-    for _ in 0..workers {
+// Adds so many new cells.
+fn add_cells(values: &mut Vec<Value>, number: u64) -> Result<(), AllocError> {
+    for _ in 0..number {
         values.push(value_of(StockItem::Cell))?;
     }
-    Ok(values)
+    Ok(())
 }
 
 // The making of a subject or an object that stores a new box.
@@ -261,4 +281,9 @@ fn value_of(kind: StockItem) -> Value {
         StockItem::Log => (Law::Log(4), Numbers::none()),
     };
     Value { law, state }
+}
+
+// Has a value take a number in.
+fn write_in(alloc: Global, value: &mut Value, number: u64) -> Result<(), AllocError> {
+    value.law.write(alloc, &mut value.state, number)
 }

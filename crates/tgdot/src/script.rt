@@ -1,22 +1,22 @@
 //! The lines of a script.
 
 use crate::fault::DrawFault;
-use crate::options::DotOptions;
 use crate::reason::reason_of;
 use std::alloc::{AllocError, Global};
 use std::io::{ErrorKind, Input};
 use tg_model::Edge;
-use tg_text::{Line, StockItem, read_line, read_stock};
+use tg_text::{Line, StockItem, read_line};
 
-/// A line of a script, and its text without the line feed.
-#[derive(Drop)]
+/// A line of a script.
+#[derive(Clone, Copy)]
 pub struct ScriptLine {
     /// Its number, from 1 on.
     pub number: u64,
-    /// What the text says.
+    /// What its text says.
     pub line: Line,
-    /// The text itself.
-    pub text: String,
+    // Where its text begins, and where its line feed stands.
+    first: usize,
+    end: usize,
 }
 
 // A bad line of a script: its number, and why it is one, or nothing where that isn't known.
@@ -29,6 +29,8 @@ struct BadLine {
 /// A script as far as its first bad line, and what it runs on.
 #[derive(Drop)]
 pub struct Script {
+    /// Where memory comes from.
+    pub alloc: Global,
     /// How many workers there are at first.
     pub workers: u64,
     /// How many vertices may ever be made.
@@ -39,40 +41,33 @@ pub struct Script {
     pub edges: Vec<Edge>,
     /// The other lines before the bad one, or all of them.
     pub lines: Vec<ScriptLine>,
+    text: String,
     bad_line: Option<BadLine>,
 }
 
-/// Reads the script on standard input. An edge stands before all other lines, and between workers.
-pub fn read_script<R: Input>(
-    rt: &R,
-    alloc: Global,
-    options: DotOptions,
-) -> Result<Script, DrawFault> {
-    let mut script = empty_script(alloc, options)?;
-    read_lines(rt, alloc, &mut script)?;
-    Ok(script)
-}
-
-// A script with no line.
-fn empty_script(alloc: Global, options: DotOptions) -> Result<Script, DrawFault> {
-    let stock = read_stock(alloc, options.stock.as_bytes())?;
-    Ok(Script {
-        workers: options.workers,
-        max_vertices: options.max_vertices,
-        stock,
-        edges: Vec::new(alloc),
-        lines: Vec::new(alloc),
-        bad_line: None,
-    })
-}
-
-// Adds the lines of standard input. One text after the other stands in the same memory.
-fn read_lines<R: Input>(rt: &R, alloc: Global, script: &mut Script) -> Result<(), DrawFault> {
-    let mut text = String::new(alloc);
-    script.fill(rt, alloc, &mut text)
-}
-
 impl Script {
+    /// A script with no line.
+    pub fn new(alloc: Global, workers: u64, max_vertices: u64, stock: Vec<StockItem>) -> Script {
+        Script {
+            alloc,
+            workers,
+            max_vertices,
+            stock,
+            edges: Vec::new(alloc),
+            lines: Vec::new(alloc),
+            text: String::new(alloc),
+            bad_line: None,
+        }
+    }
+
+    /// The text of one of the lines, without its line feed.
+    pub fn text_of(&self, line: &ScriptLine) -> &[u8] {
+        match self.text.as_bytes().get(line.first..line.end) {
+            Some(text) => text,
+            None => b"",
+        }
+    }
+
     /// An error where there is a bad line.
     pub fn whole(&self) -> Result<(), DrawFault> {
         match self.bad_line {
@@ -81,75 +76,99 @@ impl Script {
         }
     }
 
-    // Adds the lines up to the first bad one.
-    fn fill<R: Input>(
-        &mut self,
-        rt: &R,
-        alloc: Global,
-        text: &mut String,
-    ) -> Result<(), DrawFault> {
+    /// Adds the lines of standard input up to the first bad one. An edge stands before all other lines, and between workers.
+    pub fn read<R: Input>(&mut self, rt: &R) -> Result<(), DrawFault> {
         for number in 1..u64::MAX {
-            if !read_text(rt, text)? {
-                break;
-            }
-            if let Some(reason) = self.add(alloc, number, text.as_str())? {
-                self.bad_line = Some(BadLine { number, reason });
+            if !self.read_next(rt, number)? {
                 break;
             }
         }
         Ok(())
     }
 
-    // Adds the line of a text, or says why it is a bad one.
-    fn add(
-        &mut self,
-        alloc: Global,
-        number: u64,
-        text: &str,
-    ) -> Result<Option<&'static str>, AllocError> {
-        match line_of(text) {
-            Some(Line::Edge(edge)) => self.add_edge(edge),
-            Some(line) => {
-                let text = String::from_str(alloc, text.trim_end_matches('\n'))?;
-                self.lines.push(ScriptLine { number, line, text })?;
-                Ok(None)
-            }
-            None => Ok(Some(reason_of(text))),
+    // Adds the next line. False at the end, and at a bad line.
+    fn read_next<R: Input>(&mut self, rt: &R, number: u64) -> Result<bool, DrawFault> {
+        let first = self.text.len();
+        if !self.read_text(rt, number)? {
+            return Ok(false);
+        }
+        self.add(number, first)?;
+        Ok(self.bad_line.is_none())
+    }
+
+    // Reads the next text up to its line feed. False at the end, and where bytes are no text, which is a bad line.
+    fn read_text<R: Input>(&mut self, rt: &R, number: u64) -> Result<bool, DrawFault> {
+        match rt.read_line(&mut self.text) {
+            Ok(count) => Ok(count > 0),
+            Err(error) => match error.kind() {
+                ErrorKind::InvalidData => {
+                    let reason = ": bytes that are no text";
+                    self.bad_line = Some(BadLine { number, reason });
+                    Ok(false)
+                }
+                _ => Err(DrawFault::Stream(error)),
+            },
         }
     }
 
-    // Adds an edge, or says why it may not stand where it stands.
-    fn add_edge(&mut self, edge: Edge) -> Result<Option<&'static str>, AllocError> {
+    // Adds the line whose text begins here.
+    fn add(&mut self, number: u64, first: usize) -> Result<(), AllocError> {
+        match line_at(self.text.as_str(), first) {
+            Ok(Line::Edge(edge)) => self.add_edge(number, &edge)?,
+            Ok(line) => self.add_line(number, line, first)?,
+            Err(reason) => self.bad_line = Some(BadLine { number, reason }),
+        }
+        Ok(())
+    }
+
+    // Adds a line that is no edge line.
+    fn add_line(&mut self, number: u64, line: Line, first: usize) -> Result<(), AllocError> {
+        let end = self.text.len().saturating_sub(1);
+        self.lines.push(ScriptLine {
+            number,
+            line,
+            first,
+            end,
+        })?;
+        Ok(())
+    }
+
+    // Adds an edge, unless it may not stand where it stands.
+    fn add_edge(&mut self, number: u64, edge: &Edge) -> Result<(), AllocError> {
+        match self.reason_of_edge(edge) {
+            Some(reason) => self.bad_line = Some(BadLine { number, reason }),
+            None => self.edges.push(*edge)?,
+        }
+        Ok(())
+    }
+
+    // Why an edge may not stand behind the lines before it.
+    fn reason_of_edge(&self, edge: &Edge) -> Option<&'static str> {
         if !self.lines.is_empty() {
-            Ok(Some(": an edge line stands before all others"))
+            Some(": an edge line stands before all others")
         } else if edge.from == edge.to {
-            Ok(Some(": an edge joins two different workers"))
+            Some(": an edge joins two different workers")
         } else if !edge.joins_workers(self.workers) {
-            Ok(Some(": an edge to or from no worker"))
+            Some(": an edge to or from no worker")
         } else {
-            self.edges.push(edge)?;
-            Ok(None)
+            None
         }
     }
 }
 
-// Reads the next text up to its line feed, in place of the last one. Bytes that are no text leave none, which is a bad line. False at the
-// end.
-fn read_text<R: Input>(rt: &R, text: &mut String) -> Result<bool, DrawFault> {
-    text.clear();
-    match rt.read_line(text) {
-        Ok(count) => Ok(count > 0),
-        Err(error) => match error.kind() {
-            ErrorKind::InvalidData => {
-                text.clear();
-                Ok(true)
-            }
-            _ => Err(DrawFault::Stream(error)),
-        },
+// The line whose text begins here, or why it is a bad one.
+fn line_at(text: &str, first: usize) -> Result<Line, &'static str> {
+    let text = text.get(first..).unwrap_or("");
+    match line_of(text.as_bytes()) {
+        Some(line) => Ok(line),
+        None => Err(reason_of(text)),
     }
 }
 
 // The line of a text that ends with a line feed.
-fn line_of(text: &str) -> Option<Line> {
-    read_line(text.strip_suffix('\n')?.as_bytes())
+fn line_of(text: &[u8]) -> Option<Line> {
+    match text {
+        [line @ .., b'\n'] => read_line(line),
+        _ => None,
+    }
 }
