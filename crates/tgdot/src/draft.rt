@@ -3,7 +3,7 @@ ghost use Rattle.std.specs.Prelude.{None};
 
 use crate::fault::DrawFault;
 use itoa::Buffer;
-use std::alloc::{AllocError, Global};
+use std::alloc::Global;
 use tg_rights::Rights;
 use tg_text::{Answer, Put, Sink, write_reply};
 
@@ -41,7 +41,12 @@ impl Draft {
     }
 
     /// Adds a text.
-    pub fn add(&mut self, text: &[u8]) {
+    pub fn add(&mut self, text: &str) {
+        self.add_bytes(text.as_bytes());
+    }
+
+    /// Adds the bytes of a text.
+    pub fn add_bytes(&mut self, text: &[u8]) {
         if self.bytes.extend_from_slice(text).is_err() {
             self.is_short = true;
         }
@@ -50,22 +55,22 @@ impl Draft {
     /// Adds a number.
     pub fn add_number(&mut self, number: u64) {
         let mut buffer = Buffer::new();
-        self.add(buffer.format(number).as_bytes());
+        self.add(buffer.format(number));
     }
 
     /// Adds the letters of rights.
     pub fn add_rights(&mut self, rights: Rights) {
-        self.add(rights.text().as_bytes());
+        self.add_bytes(rights.text().as_bytes());
     }
 
     /// Adds the front of an edge's line, as far as into its label.
     pub fn add_ends(&mut self, ends: (u64, u64)) {
         let (from, to) = ends;
-        self.add(b"    ");
+        self.add("    ");
         self.add_number(from);
-        self.add(b" -> ");
+        self.add(" -> ");
         self.add_number(to);
-        self.add(b" [label=\"");
+        self.add(" [label=\"");
     }
 
     /// Adds an answer as a run of `tgstore` prints it, without the line feed.
@@ -79,24 +84,29 @@ impl Draft {
     /// Adds spaces until so many columns stand behind the first of the text.
     pub fn pad(&mut self, first: usize, columns: usize) {
         for _ in self.bytes.len()..first.saturating_add(columns) {
-            self.add(b" ");
+            self.add(" ");
         }
     }
 
-    /// An error where memory was wanting.
-    pub fn whole(&self) -> Result<(), AllocError> {
-        if self.is_short {
-            Err(AllocError)
-        } else {
-            Ok(())
-        }
+    /// Whether memory was wanting.
+    pub fn is_short(&self) -> bool {
+        self.is_short
+    }
+
+    /// Notes whether memory was wanting for what it tells of.
+    pub fn note(&mut self, is_short: bool) {
+        self.is_short = self.is_short || is_short;
     }
 
     /// Prints the text.
     pub fn print<R: Print>(&self, rt: &R) -> Result<(), DrawFault> {
-        self.whole()?;
-        rt.write_all(self.as_bytes())?;
-        Ok(())
+        if self.is_short {
+            return Err(DrawFault::OutOfMemory);
+        }
+        match rt.write_all(self.as_bytes()) {
+            Ok(()) => Ok(()),
+            Err(error) => Err(DrawFault::Stream(error)),
+        }
     }
 }
 
@@ -108,7 +118,7 @@ impl Sink for Draft {
     ghost finished = { λ s. s.is_finished };
 
     fn put(&mut self, bytes: &[u8]) -> Put {
-        self.add(bytes);
+        self.add_bytes(bytes);
         self.is_finished = false;
         Put::Took(bytes.len())
     }

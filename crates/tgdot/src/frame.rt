@@ -2,7 +2,7 @@
 
 use crate::draft::Draft;
 use crate::shot::Shot;
-use std::alloc::{AllocError, Global};
+use std::alloc::Global;
 use std::collections::BTreeMap;
 
 /// What a vertex takes up in each picture.
@@ -29,6 +29,8 @@ pub struct Frame {
     pub edges: BTreeMap<(u64, u64), usize>,
     /// The columns of the longest heading or answer.
     pub columns: usize,
+    /// Whether it holds all steps, and stays as it is.
+    pub is_whole: bool,
     // How many vertices it may have.
     most: u64,
     // A text whose columns are counted.
@@ -44,6 +46,7 @@ impl Frame {
             vertices: BTreeMap::new(alloc),
             edges: BTreeMap::new(alloc),
             columns: 0,
+            is_whole: false,
             most,
             scratch: Draft::new(alloc),
             is_short: false,
@@ -55,13 +58,9 @@ impl Frame {
         self.vertices.len() as u64 > self.most
     }
 
-    /// An error where memory was wanting.
-    pub fn whole(&self) -> Result<(), AllocError> {
-        if self.is_short {
-            Err(AllocError)
-        } else {
-            self.scratch.whole()
-        }
+    /// Whether memory was wanting.
+    pub fn is_short(&self) -> bool {
+        self.is_short || self.scratch.is_short()
     }
 
     /// Widens the frame so that it holds the step, unless it has too many vertices already.

@@ -10,7 +10,7 @@ const LETTERS: &[u8] = b"rwtgaluv";
 const MOST_BYTES: usize = 256;
 
 // Where a text stands in a line.
-#[derive(Clone, Copy, Drop)]
+#[derive(Clone, Copy)]
 enum Place {
     Front,
     Inside,
@@ -29,7 +29,7 @@ const STRAYS: &[(Place, &str, &str)] = &[
 ];
 
 // What a word behind a command's own is.
-#[derive(Clone, Copy, Drop)]
+#[derive(Clone, Copy)]
 enum Kind {
     Number,
     Rights,
@@ -193,12 +193,17 @@ fn cut(words: &str) -> (&str, Option<&str>) {
 }
 
 fn reason_of_number(word: &str) -> Option<&'static str> {
-    match word.as_bytes() {
-        [b'+' | b'-', ..] => Some(": a number has no sign"),
-        digits if !is_number(digits) => Some(": a word where a number stands"),
-        [b'0', _, ..] => Some(": a number has no leading zero"),
-        _ if word.parse::<u64>().is_err() => Some(": a number over 18446744073709551615"),
-        _ => None,
+    let first = word.as_bytes().first();
+    if matches!(first, Some(b'+' | b'-')) {
+        Some(": a number has no sign")
+    } else if !is_number(word.as_bytes()) {
+        Some(": a word where a number stands")
+    } else if word.len() > 1 && matches!(first, Some(b'0')) {
+        Some(": a number has no leading zero")
+    } else if word.parse::<u64>().is_err() {
+        Some(": a number over 18446744073709551615")
+    } else {
+        None
     }
 }
 

@@ -5,7 +5,7 @@ use crate::look::{Colour, Look, Stroke};
 use crate::marks::{Marks, NO_MARKS};
 use crate::run::Run;
 use crate::script::{Script, ScriptLine};
-use std::alloc::{AllocError, Global};
+use std::alloc::Global;
 use tg_model::{Graph, Law, Opening, Value};
 use tg_rights::Label;
 use tg_text::{Answer, Line};
@@ -56,18 +56,17 @@ impl Shot {
     }
 
     /// Shows what there is before the first command. The number is that of the last edge line, or 0.
-    pub fn open(&mut self, opening: &Opening) -> Result<(), AllocError> {
+    pub fn open(&mut self, opening: &Opening) {
         self.number = opening.edges().len() as u64;
-        self.heading.add(b"start");
-        self.run.open(opening)
+        self.heading.add("start");
+        self.run.open(opening);
     }
 
     /// Runs a line of the script, and shows what is after it.
-    pub fn take(&mut self, script: &Script, line: &ScriptLine) -> Result<(), AllocError> {
-        let answer = self.run.take(script.stock.as_slice(), &line.line)?;
+    pub fn take(&mut self, script: &Script, line: &ScriptLine) {
+        let answer = self.run.take(script.stock.as_slice(), &line.line);
         self.tell(&line.line, &answer);
         self.head(line.number, script.text_of(line));
-        Ok(())
     }
 
     // Shows what a line was answered.
@@ -82,8 +81,8 @@ impl Shot {
         self.number = number;
         self.heading.clear();
         self.heading.add_number(number);
-        self.heading.add(b": ");
-        self.heading.add(line);
+        self.heading.add(": ");
+        self.heading.add_bytes(line);
     }
 
     /// The vertex of this name, where it is shown. One that isn't there is shown where the picture needs it.
@@ -102,10 +101,10 @@ impl Shot {
     pub fn write_name(&self, text: &mut Draft, name: u64) {
         text.add_number(name);
         if self.run.has_retired(name) && !self.run.is_reached(name) {
-            text.add(b" unreached");
+            text.add(" unreached");
         }
         if self.marks.twice == Some(name) {
-            text.add(b" twice");
+            text.add(" twice");
         }
     }
 
@@ -115,10 +114,10 @@ impl Shot {
             Some(value) => {
                 write_value(text, value);
                 if self.marks.no_log == Some(name) {
-                    text.add(b" no log");
+                    text.add(" no log");
                 }
             }
-            None => text.add(b"not there"),
+            None => text.add("not there"),
         }
     }
 
@@ -165,15 +164,15 @@ impl EdgeView {
         match (self.held, self.missing) {
             (Some(held), Some(missing)) => {
                 text.add_rights(held.rights());
-                text.add(b" no ");
+                text.add(" no ");
                 text.add_rights(missing.rights());
             }
             (Some(held), None) => text.add_rights(held.rights()),
             (None, Some(missing)) => {
-                text.add(b"no ");
+                text.add("no ");
                 text.add_rights(missing.rights());
             }
-            (None, None) => text.add(b"none"),
+            (None, None) => text.add("none"),
         }
     }
 }
@@ -182,17 +181,17 @@ impl EdgeView {
 fn write_value(text: &mut Draft, value: &Value) {
     text.add(word_of(value.law));
     for number in value.state.as_slice() {
-        text.add(b" ");
+        text.add(" ");
         text.add_number(*number);
     }
 }
 
 // The word for a law.
-fn word_of(law: Law) -> &'static [u8] {
+fn word_of(law: Law) -> &'static str {
     match law {
-        Law::Cell => b"cell",
-        Law::Sum => b"sum",
-        Law::Max => b"max",
-        Law::Log(_) => b"log",
+        Law::Cell => "cell",
+        Law::Sum => "sum",
+        Law::Max => "max",
+        Law::Log(_) => "log",
     }
 }
