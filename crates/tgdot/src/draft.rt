@@ -47,9 +47,7 @@ impl Draft {
 
     /// Adds the bytes of a text.
     pub fn add_bytes(&mut self, text: &[u8]) {
-        if self.bytes.extend_from_slice(text).is_err() {
-            self.is_short = true;
-        }
+        self.is_short |= self.bytes.extend_from_slice(text).is_err();
     }
 
     /// Adds a number.
@@ -75,9 +73,7 @@ impl Draft {
 
     /// Adds an answer as a run of `tgstore` prints it, without the line feed.
     pub fn add_answer(&mut self, answer: &Answer) {
-        if write_reply(self, answer).is_err() {
-            self.is_short = true;
-        }
+        self.is_short |= write_reply(self, answer).is_err();
         let _ = self.bytes.pop();
     }
 
@@ -95,7 +91,7 @@ impl Draft {
 
     /// Notes whether memory was wanting for what it tells of.
     pub fn note(&mut self, is_short: bool) {
-        self.is_short = self.is_short || is_short;
+        self.is_short |= is_short;
     }
 
     /// Prints the text.

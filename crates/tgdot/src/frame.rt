@@ -107,9 +107,7 @@ impl Frame {
             let mut room = self.vertices.get(&name).copied().unwrap_or(NO_ROOM);
             room.columns = room.columns.max(columns);
             room.ever_subject = room.ever_subject || view.ever_subject;
-            if self.vertices.insert(name, room).is_err() {
-                self.is_short = true;
-            }
+            self.is_short |= self.vertices.insert(name, room).is_err();
         }
     }
 
@@ -120,9 +118,7 @@ impl Frame {
             view.write(&mut self.scratch);
             let least = self.edges.get(&ends).copied().unwrap_or(0);
             let columns = self.scratch.len().max(least);
-            if self.edges.insert(ends, columns).is_err() {
-                self.is_short = true;
-            }
+            self.is_short |= self.edges.insert(ends, columns).is_err();
         }
     }
 }

@@ -50,7 +50,7 @@ impl Reach {
     // Adds a vertex, and lets it wait if it wasn't reached before.
     fn add(&mut self, name: u64) {
         match self.names.insert(name) {
-            Ok(true) => self.is_short = self.is_short || self.waiting.push(name).is_err(),
+            Ok(true) => self.is_short |= self.waiting.push(name).is_err(),
             Ok(false) => (),
             Err(_) => self.is_short = true,
         }

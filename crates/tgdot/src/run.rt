@@ -120,11 +120,10 @@ impl Run {
 
     // Adds the vertex that was made last, which stores a new box.
     fn add_vertex(&mut self, name: u64, ever_subject: bool, kind: StockItem) {
-        if self.names.insert(name).is_err() || self.values.push(value_of(kind)).is_err() {
-            self.is_short = true;
-        }
-        if ever_subject && self.ever_subjects.insert(name).is_err() {
-            self.is_short = true;
+        self.is_short |= self.names.insert(name).is_err();
+        self.is_short |= self.values.push(value_of(kind)).is_err();
+        if ever_subject {
+            self.is_short |= self.ever_subjects.insert(name).is_err();
         }
     }
 
@@ -132,8 +131,8 @@ impl Run {
     fn note_edge(&mut self, ends: (u64, u64)) {
         if self.graph.label(ends.0, ends.1).is_empty() {
             self.edges.remove(&ends);
-        } else if self.edges.insert(ends).is_err() {
-            self.is_short = true;
+        } else {
+            self.is_short |= self.edges.insert(ends).is_err();
         }
     }
 
@@ -188,13 +187,8 @@ impl Run {
     // Notes a number that was written or added to a log.
     fn store(&mut self, target: u64, number: u64) {
         if let Some(value) = self.values.get_mut(target as usize) {
-            if value
-                .law
-                .write(self.alloc, &mut value.state, number)
-                .is_err()
-            {
-                self.is_short = true;
-            }
+            let stored = value.law.write(self.alloc, &mut value.state, number);
+            self.is_short |= stored.is_err();
         }
     }
 
@@ -217,18 +211,22 @@ pub fn changed_by(worker: u64, command: &Command) -> Option<(u64, u64)> {
 
 /// What the graph of a script begins with: the edges of its edge lines, and for each worker a cell with 0.
 pub fn opening_of(script: &Script) -> Result<Opening, DrawFault> {
+    let mut edges = Vec::new(script.alloc);
     let mut values = Vec::new(script.alloc);
-    add_cells(&mut values, script.workers)?;
-    let edges = Vec::from_slice(script.alloc, script.edges.as_slice())?;
+    add_parts(&mut edges, &mut values, script)?;
     Ok(Opening::new(script.workers, edges, values, script.max_vertices)?)
 }
 
-// Adds so many new cells.
-fn add_cells(values: &mut Vec<Value>, number: u64) -> Result<(), AllocError> {
-    for _ in 0..number {
+// Adds the edges of a script, and the cells of its workers.
+fn add_parts(
+    edges: &mut Vec<Edge>,
+    values: &mut Vec<Value>,
+    script: &Script,
+) -> Result<(), AllocError> {
+    for _ in 0..script.workers {
         values.push(value_of(StockItem::Cell))?;
     }
-    Ok(())
+    edges.extend_from_slice(script.edges.as_slice())
 }
 
 // The making of a subject or an object that stores a new box.

@@ -89,9 +89,11 @@ impl Script {
                 break;
             }
         }
+        if self.is_short {
+            return Err(DrawFault::OutOfMemory);
+        }
         match self.failure {
             Some(error) => Err(DrawFault::Stream(error)),
-            None if self.is_short => Err(DrawFault::OutOfMemory),
             None => Ok(()),
         }
     }
@@ -140,9 +142,7 @@ impl Script {
             first,
             end,
         };
-        if self.lines.push(line).is_err() {
-            self.is_short = true;
-        }
+        self.is_short |= self.lines.push(line).is_err();
         !self.is_short
     }
 
@@ -151,9 +151,7 @@ impl Script {
         if let Some(reason) = self.reason_of_edge(edge) {
             return self.refuse(number, reason);
         }
-        if self.edges.push(*edge).is_err() {
-            self.is_short = true;
-        }
+        self.is_short |= self.edges.push(*edge).is_err();
         !self.is_short
     }
 
