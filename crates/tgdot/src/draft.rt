@@ -7,11 +7,12 @@ use std::alloc::Global;
 use tg_rights::Rights;
 use tg_text::{Answer, Put, Sink, write_reply};
 
-/// A text that grows until it is printed. It remembers whether memory was wanting for a part of it, and isn't printed then.
+/// A text that grows until it is printed. Where memory was wanting for it, it isn't printed.
 #[derive(Drop)]
 pub struct Draft {
     bytes: Vec<u8>,
-    is_short: bool,
+    /// Whether memory was wanting for a part of it, or for what it tells of.
+    pub is_short: bool,
     is_finished: bool,
 }
 
@@ -82,16 +83,6 @@ impl Draft {
         for _ in self.bytes.len()..first.saturating_add(columns) {
             self.add(" ");
         }
-    }
-
-    /// Whether memory was wanting.
-    pub fn is_short(&self) -> bool {
-        self.is_short
-    }
-
-    /// Notes whether memory was wanting for what it tells of.
-    pub fn note(&mut self, is_short: bool) {
-        self.is_short |= is_short;
     }
 
     /// Prints the text.

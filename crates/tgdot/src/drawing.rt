@@ -23,7 +23,7 @@ fn write_opened(text: &mut Draft, script: &Script, opening: &Opening) {
             let mut run = Run::new(script.alloc, graph);
             write_run(text, script, opening, &mut run);
         }
-        Err(_) => text.note(true),
+        Err(_) => text.is_short = true,
     }
 }
 
@@ -36,7 +36,7 @@ fn write_run(text: &mut Draft, script: &Script, opening: &Opening, run: &mut Run
         }
     }
     run.reach();
-    text.note(run.is_short());
+    text.is_short |= run.is_short();
     write_digraph(text, run);
 }
 
@@ -81,9 +81,10 @@ fn write_edges(text: &mut Draft, run: &Run) {
 
 // An edge, with the letters of its rights, where it is there.
 fn write_edge(text: &mut Draft, run: &Run, ends: (u64, u64)) {
-    if let Some(label) = run.held(ends) {
+    let held = run.held(ends);
+    if !held.is_empty() {
         text.add_ends(ends);
-        text.add_rights(label.rights());
+        text.add_rights(held);
         text.add("\" ");
         text.add(colour_of(run, ends.0));
     }

@@ -60,7 +60,7 @@ impl Frame {
 
     /// Whether memory was wanting.
     pub fn is_short(&self) -> bool {
-        self.is_short || self.scratch.is_short()
+        self.is_short || self.scratch.is_short
     }
 
     /// Widens the frame so that it holds the step, unless it has too many vertices already.

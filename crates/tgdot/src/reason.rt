@@ -53,15 +53,8 @@ const COMMANDS: &[(&str, &[Kind])] = &[
     ("grant", &[Kind::Number, Kind::Number, Kind::Rights]),
 ];
 
-/// Why the text, with its line feed, is none of the grammar.
-pub fn reason_of(text: &str) -> &'static str {
-    match text.strip_suffix('\n') {
-        Some(line) => reason_of_line(line),
-        None => ": no line feed at the end",
-    }
-}
-
-fn reason_of_line(line: &str) -> &'static str {
+/// Why the text, without its line feed, is none of the grammar.
+pub fn reason_of(line: &str) -> &'static str {
     if line.len() > MOST_BYTES {
         return ": over 256 bytes";
     }
@@ -158,7 +151,11 @@ fn reason_of_arguments(kinds: &[Kind], words: &str) -> &'static str {
     let mut left = words;
     for kind in kinds {
         let (word, rest) = cut(left);
-        if let Some(reason) = reason_of_argument(*kind, word) {
+        let reason = match kind {
+            Kind::Number => reason_of_number(word),
+            Kind::Rights => reason_of_rights(word.as_bytes()),
+        };
+        if let Some(reason) = reason {
             return reason;
         }
         left = rest;
@@ -167,14 +164,6 @@ fn reason_of_arguments(kinds: &[Kind], words: &str) -> &'static str {
         ""
     } else {
         ": too many words"
-    }
-}
-
-// What is wrong with a word, which is empty where none stands.
-fn reason_of_argument(kind: Kind, word: &str) -> Option<&'static str> {
-    match kind {
-        Kind::Number => reason_of_number(word),
-        Kind::Rights => reason_of_rights(word.as_bytes()),
     }
 }
 

@@ -7,7 +7,7 @@ use std::alloc::{AllocError, Global};
 use std::collections::BTreeSet;
 use std::mem;
 use tg_model::{Command, Deed, Edge, Graph, Law, ModelFault, Numbers, Opening, Reply, Value};
-use tg_rights::Label;
+use tg_rights::{Label, Rights};
 use tg_text::{Answer, Line, Refusal, StockItem};
 
 /// The run of a script. The plain graph says what the rules do. Beside it stand what each vertex stores, and between which vertices there
@@ -98,13 +98,12 @@ impl Run {
         self.was_subject(name) && !self.is_subject(name)
     }
 
-    /// The rights on the edge between these, where it is there.
-    pub fn held(&self, ends: (u64, u64)) -> Option<Label> {
-        let (from, to) = ends;
-        if self.names.contains(&from) && self.edges.contains(&ends) {
-            Label::new(self.graph.label(from, to))
+    /// The rights on the edge between these, or none where it isn't there.
+    pub fn held(&self, ends: (u64, u64)) -> Rights {
+        if self.names.contains(&ends.0) && self.edges.contains(&ends) {
+            self.graph.label(ends.0, ends.1)
         } else {
-            None
+            Rights::empty()
         }
     }
 

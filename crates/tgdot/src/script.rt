@@ -171,17 +171,11 @@ impl Script {
 
 // The line whose text begins here, or why it is a bad one.
 fn line_at(text: &str, first: usize) -> Result<Line, &'static str> {
-    let text = text.get(first..).unwrap_or("");
-    match line_of(text.as_bytes()) {
+    let Some(text) = text.get(first..).unwrap_or("").strip_suffix('\n') else {
+        return Err(": no line feed at the end");
+    };
+    match read_line(text.as_bytes()) {
         Some(line) => Ok(line),
         None => Err(reason_of(text)),
-    }
-}
-
-// The line of a text that ends with a line feed.
-fn line_of(text: &[u8]) -> Option<Line> {
-    match text {
-        [line @ .., b'\n'] => read_line(line),
-        _ => None,
     }
 }

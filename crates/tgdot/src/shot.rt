@@ -7,8 +7,7 @@ use crate::run::Run;
 use crate::script::{Script, ScriptLine};
 use std::alloc::Global;
 use tg_model::{Graph, Law, Opening, Value};
-use tg_rights::Label;
-use tg_text::{Answer, Line};
+use tg_rights::Rights;
 
 /// The graph of a run at a step, what its line was answered, and what stands out.
 #[derive(Drop)]
@@ -37,8 +36,8 @@ pub struct VertexView {
 /// An edge in a picture. Its text are the rights that are held, and those that are missing.
 #[derive(Clone, Copy)]
 pub struct EdgeView {
-    held: Option<Label>,
-    missing: Option<Label>,
+    held: Rights,
+    missing: Rights,
     /// How it looks.
     pub look: Look,
 }
@@ -64,16 +63,11 @@ impl Shot {
 
     /// Runs a line of the script, and shows what is after it.
     pub fn take(&mut self, script: &Script, line: &ScriptLine) {
-        let answer = self.run.take(script.stock.as_slice(), &line.line);
-        self.tell(&line.line, &answer);
         self.head(line.number, script.text_of(line));
-    }
-
-    // Shows what a line was answered.
-    fn tell(&mut self, line: &Line, answer: &Answer) {
-        self.marks = Marks::of(line, answer);
+        let answer = self.run.take(script.stock.as_slice(), &line.line);
+        self.marks = Marks::of(&line.line, &answer);
         self.told.clear();
-        self.told.add_answer(answer);
+        self.told.add_answer(&answer);
     }
 
     // Puts a line and its number over the picture.
@@ -141,14 +135,14 @@ impl Shot {
         let missing = self.marks.missing_at(ends);
         let is_changed = self.marks.changed == Some(ends);
         let mut look = Look::reached(self.run.is_reached(ends.0), is_changed);
-        match (missing, held) {
-            (Some(_), _) => {
-                look.colour = Colour::Red;
-                look.stroke = Stroke::Dashed;
+        if !missing.is_empty() {
+            look.colour = Colour::Red;
+            look.stroke = Stroke::Dashed;
+        } else if held.is_empty() {
+            if !is_changed {
+                return None;
             }
-            (None, Some(_)) => (),
-            (None, None) if is_changed => look.stroke = Stroke::Dotted,
-            (None, None) => return None,
+            look.stroke = Stroke::Dotted;
         }
         Some(EdgeView {
             held,
@@ -161,18 +155,12 @@ impl Shot {
 impl EdgeView {
     /// Writes the text of the edge.
     pub fn write(self, text: &mut Draft) {
-        match (self.held, self.missing) {
-            (Some(held), Some(missing)) => {
-                text.add_rights(held.rights());
-                text.add(" no ");
-                text.add_rights(missing.rights());
-            }
-            (Some(held), None) => text.add_rights(held.rights()),
-            (None, Some(missing)) => {
-                text.add("no ");
-                text.add_rights(missing.rights());
-            }
-            (None, None) => text.add("none"),
+        text.add_rights(self.held);
+        if !self.missing.is_empty() {
+            text.add(if self.held.is_empty() { "no " } else { " no " });
+            text.add_rights(self.missing);
+        } else if self.held.is_empty() {
+            text.add("none");
         }
     }
 }

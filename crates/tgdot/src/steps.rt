@@ -64,7 +64,7 @@ fn run_lines(
             shot.open(opening);
             show_lines(text, frame, range, script, &mut shot);
         }
-        Err(_) => text.note(true),
+        Err(_) => text.is_short = true,
     }
 }
 
@@ -84,7 +84,7 @@ fn show_lines(
         shot.take(script, line);
         show(text, frame, range, shot);
     }
-    text.note(shot.run.is_short() || frame.is_short());
+    text.is_short |= shot.run.is_short() || frame.is_short();
 }
 
 // Shows a step if it is to be shown.
