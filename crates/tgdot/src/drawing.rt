@@ -2,34 +2,23 @@
 
 use crate::draft::Draft;
 use crate::fault::DrawFault;
-use crate::run::{Run, opening_of};
+use crate::run::{Run, graph_of};
 use crate::script::Script;
-use tg_model::{Graph, Opening};
 use tg_text::Line;
 
 /// Writes the graph that a script leaves as a digraph: its vertices by rising name, then its edges. What a collection would take is there
 /// too. A bad line leaves nothing to be drawn.
 pub fn write_last(text: &mut Draft, script: &Script) -> Result<(), DrawFault> {
     script.whole()?;
-    let opening = opening_of(script)?;
-    write_opened(text, script, &opening);
+    let graph = graph_of(script)?;
+    let mut run = Run::new(script.alloc, graph);
+    write_run(text, script, &mut run);
     Ok(())
 }
 
-// Writes the graph that the lines leave.
-fn write_opened(text: &mut Draft, script: &Script, opening: &Opening) {
-    match Graph::open(script.alloc, opening) {
-        Ok(graph) => {
-            let mut run = Run::new(script.alloc, graph);
-            write_run(text, script, opening, &mut run);
-        }
-        Err(_) => text.is_short = true,
-    }
-}
-
 // Runs the lines that are no collection, and writes the graph that they leave.
-fn write_run(text: &mut Draft, script: &Script, opening: &Opening, run: &mut Run) {
-    run.open(opening);
+fn write_run(text: &mut Draft, script: &Script, run: &mut Run) {
+    run.open(script);
     for line in script.lines.as_slice() {
         if !matches!(line.line, Line::Full) {
             run.take(script.stock.as_slice(), &line.line);

@@ -48,12 +48,12 @@ impl Run {
         }
     }
 
-    /// Adds the workers and their edges, with which the graph began.
-    pub fn open(&mut self, opening: &Opening) {
-        for name in 0..opening.workers() {
+    /// Adds the workers of a script and their edges, with which the graph began.
+    pub fn open(&mut self, script: &Script) {
+        for name in 0..script.workers {
             self.add_vertex(name, true, StockItem::Cell);
         }
-        for edge in opening.edges() {
+        for edge in script.edges.as_slice() {
             self.note_edge((edge.from, edge.to));
         }
     }
@@ -208,8 +208,13 @@ pub fn changed_by(worker: u64, command: &Command) -> Option<(u64, u64)> {
     }
 }
 
-/// What the graph of a script begins with: the edges of its edge lines, and for each worker a cell with 0.
-pub fn opening_of(script: &Script) -> Result<Opening, DrawFault> {
+/// The graph with which a script begins: the edges of its edge lines, and for each worker a cell with 0.
+pub fn graph_of(script: &Script) -> Result<Graph, DrawFault> {
+    let opening = opening_of(script)?;
+    Ok(Graph::open(script.alloc, &opening)?)
+}
+
+fn opening_of(script: &Script) -> Result<Opening, DrawFault> {
     let mut edges = Vec::new(script.alloc);
     let mut values = Vec::new(script.alloc);
     add_parts(&mut edges, &mut values, script)?;

@@ -6,7 +6,7 @@ use crate::marks::{Marks, NO_MARKS};
 use crate::run::Run;
 use crate::script::{Script, ScriptLine};
 use std::alloc::Global;
-use tg_model::{Graph, Law, Opening, Value};
+use tg_model::{Graph, Law, Value};
 use tg_rights::Rights;
 
 /// The graph of a run at a step, what its line was answered, and what stands out.
@@ -55,10 +55,10 @@ impl Shot {
     }
 
     /// Shows what there is before the first command. The number is that of the last edge line, or 0.
-    pub fn open(&mut self, opening: &Opening) {
-        self.number = opening.edges().len() as u64;
+    pub fn open(&mut self, script: &Script) {
+        self.number = script.edges.len() as u64;
         self.heading.add("start");
-        self.run.open(opening);
+        self.run.open(script);
     }
 
     /// Runs a line of the script, and shows what is after it.

@@ -5,10 +5,9 @@ use crate::fault::DrawFault;
 use crate::frame::Frame;
 use crate::options::LineRange;
 use crate::picture::write_shot;
-use crate::run::opening_of;
+use crate::run::graph_of;
 use crate::script::Script;
 use crate::shot::Shot;
-use tg_model::{Graph, Opening};
 
 // The most steps that are drawn at once.
 const MOST_STEPS: u64 = 400;
@@ -24,30 +23,23 @@ pub fn write_steps(text: &mut Draft, range: LineRange, script: &Script) -> Resul
         return Err(DrawFault::TooManySteps);
     }
     let most = MOST_VERTICES.checked_div(number).unwrap_or(0);
-    let opening = opening_of(script)?;
-    if write_opened(text, range, script, &opening, most) {
-        Ok(())
-    } else {
-        Err(DrawFault::TooManyVertices)
-    }
+    let mut frame = Frame::new(script.alloc, most);
+    write_framed(text, &mut frame, range, script)
 }
 
-// Writes the steps in one frame, unless it has more vertices than these. Whether they were written.
-fn write_opened(
+// Measures the steps, and then writes them, unless there are too many vertices.
+fn write_framed(
     text: &mut Draft,
+    frame: &mut Frame,
     range: LineRange,
     script: &Script,
-    opening: &Opening,
-    most: u64,
-) -> bool {
-    let mut frame = Frame::new(script.alloc, most);
-    run_lines(text, &mut frame, range, script, opening);
+) -> Result<(), DrawFault> {
+    run_lines(text, frame, range, script)?;
     if frame.is_over() {
-        return false;
+        return Err(DrawFault::TooManyVertices);
     }
     frame.is_whole = true;
-    run_lines(text, &mut frame, range, script, opening);
-    true
+    run_lines(text, frame, range, script)
 }
 
 // Runs the lines once, and shows them to the frame, or writes them where it is whole.
@@ -56,16 +48,11 @@ fn run_lines(
     frame: &mut Frame,
     range: LineRange,
     script: &Script,
-    opening: &Opening,
-) {
-    match Graph::open(script.alloc, opening) {
-        Ok(graph) => {
-            let mut shot = Shot::new(script.alloc, graph);
-            shot.open(opening);
-            show_lines(text, frame, range, script, &mut shot);
-        }
-        Err(_) => text.is_short = true,
-    }
+) -> Result<(), DrawFault> {
+    let graph = graph_of(script)?;
+    let mut shot = Shot::new(script.alloc, graph);
+    show_lines(text, frame, range, script, &mut shot);
+    Ok(())
 }
 
 // Shows the start, and what is after each line.
@@ -76,6 +63,7 @@ fn show_lines(
     script: &Script,
     shot: &mut Shot,
 ) {
+    shot.open(script);
     show(text, frame, range, shot);
     for line in script.lines.as_slice() {
         if line.number > range.to {
