@@ -62,18 +62,6 @@ impl From<AllocError> for DrawFault {
     }
 }
 
-impl From<StockFault> for DrawFault {
-    fn from(fault: StockFault) -> DrawFault {
-        DrawFault::Stock(fault)
-    }
-}
-
-impl From<OpeningFault> for DrawFault {
-    fn from(fault: OpeningFault) -> DrawFault {
-        DrawFault::Opening(fault)
-    }
-}
-
 impl From<io::Error> for DrawFault {
     fn from(error: io::Error) -> DrawFault {
         DrawFault::Stream(error)

@@ -78,9 +78,13 @@ fn draw_script<R: Print + Input>(
     alloc: Global,
     options: DotOptions,
 ) -> Result<(), DrawFault> {
-    let stock = read_stock(alloc, options.stock.as_bytes())?;
-    let mut script = Script::new(alloc, options.workers, options.max_vertices, stock);
-    draw(rt, options.steps, &mut script)
+    match read_stock(alloc, options.stock.as_bytes()) {
+        Ok(stock) => {
+            let mut script = Script::new(alloc, options.workers, options.max_vertices, stock);
+            draw(rt, options.steps, &mut script)
+        }
+        Err(fault) => Err(DrawFault::Stock(fault)),
+    }
 }
 
 // Reads the lines, and draws what they leave, or their steps.

@@ -129,7 +129,13 @@ impl LineRange {
 
 /// Reads the words, the first of which is the program's name. An `Err` is the text for the user, of the help as of a fault.
 pub fn read_words<'a, S: AsStr>(alloc: Global, words: &'a [S]) -> Result<DotOptions<'a>, Error> {
-    match command(alloc)?.try_get_matches_from(words) {
+    let mut args = Vec::new(alloc);
+    add_args(&mut args, alloc)?;
+    let command = Command::new(alloc, "tgdot")
+        .about(ABOUT)
+        .after_help(EXAMPLE)
+        .args(args)?;
+    match command.try_get_matches_from(words) {
         Ok(matches) => Ok(options_of(&matches)),
         Err(error) => Err(error),
     }
@@ -154,16 +160,6 @@ fn steps_of(matches: &ArgMatches) -> Option<LineRange> {
         from: matches.get_one("from").unwrap_or(0),
         to: matches.get_one("to").unwrap_or(u64::MAX),
     })
-}
-
-// The command line.
-fn command<'a>(alloc: Global) -> Result<Command<'a>, AllocError> {
-    let mut args = Vec::new(alloc);
-    add_args(&mut args, alloc)?;
-    Command::new(alloc, "tgdot")
-        .about(ABOUT)
-        .after_help(EXAMPLE)
-        .args(args)
 }
 
 // Adds all options.

@@ -186,8 +186,7 @@ impl Run {
     // Notes a number that was written or added to a log.
     fn store(&mut self, target: u64, number: u64) {
         if let Some(value) = self.values.get_mut(target as usize) {
-            let stored = value.law.write(self.alloc, &mut value.state, number);
-            self.is_short |= stored.is_err();
+            self.is_short |= write_in(self.alloc, value, number).is_err();
         }
     }
 
@@ -210,15 +209,13 @@ pub fn changed_by(worker: u64, command: &Command) -> Option<(u64, u64)> {
 
 /// The graph with which a script begins: the edges of its edge lines, and for each worker a cell with 0.
 pub fn graph_of(script: &Script) -> Result<Graph, DrawFault> {
-    let opening = opening_of(script)?;
-    Ok(Graph::open(script.alloc, &opening)?)
-}
-
-fn opening_of(script: &Script) -> Result<Opening, DrawFault> {
     let mut edges = Vec::new(script.alloc);
     let mut values = Vec::new(script.alloc);
     add_parts(&mut edges, &mut values, script)?;
-    Ok(Opening::new(script.workers, edges, values, script.max_vertices)?)
+    match Opening::new(script.workers, edges, values, script.max_vertices) {
+        Ok(opening) => Ok(Graph::open(script.alloc, &opening)?),
+        Err(fault) => Err(DrawFault::Opening(fault)),
+    }
 }
 
 // Adds the edges of a script, and the cells of its workers.
@@ -252,4 +249,9 @@ fn value_of(kind: StockItem) -> Value {
         StockItem::Log => (Law::Log(4), Numbers::none()),
     };
     Value { law, state }
+}
+
+// Has a value take a number in.
+fn write_in(alloc: Global, value: &mut Value, number: u64) -> Result<(), AllocError> {
+    value.law.write(alloc, &mut value.state, number)
 }
