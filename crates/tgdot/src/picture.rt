@@ -75,18 +75,18 @@ fn write_vertex(text: &mut Draft, shot: &Shot, name: u64) {
 
 // The shape and the size of a vertex, which are its own for all steps.
 fn write_room(text: &mut Draft, room: Room) {
-    let width = (room.columns as u64).saturating_mul(LETTER);
-    if room.ever_subject {
-        text.add(" [shape=box width=");
-        write_inches(text, width.saturating_add(BOX_MARGIN));
-        text.add(" height=");
-        write_inches(text, HEIGHT);
+    let (shape, margin) = if room.ever_subject {
+        (" [shape=box width=", BOX_MARGIN)
     } else {
-        text.add(" [shape=circle width=");
-        write_inches(text, width.saturating_add(CIRCLE_MARGIN));
-        text.add(" height=");
-        write_inches(text, width.saturating_add(CIRCLE_MARGIN));
-    }
+        (" [shape=circle width=", CIRCLE_MARGIN)
+    };
+    let width = (room.columns as u64)
+        .saturating_mul(LETTER)
+        .saturating_add(margin);
+    text.add(shape);
+    write_inches(text, width);
+    text.add(" height=");
+    write_inches(text, if room.ever_subject { HEIGHT } else { width });
     text.add(" label=\"");
 }
 
