@@ -3,15 +3,16 @@ ghost use Rattle.std.specs.Prelude.{None};
 
 use crate::fault::DrawFault;
 use itoa::Buffer;
-use std::alloc::{AllocError, Global};
+use std::alloc::Global;
 use tg_rights::Rights;
 use tg_text::{Answer, Put, Sink, write_reply};
 
-/// A text that grows until it is printed. It remembers whether memory was wanting for a part of it, and isn't printed then.
+/// A text that grows until it is printed. Where memory was wanting for it, it isn't printed.
 #[derive(Drop)]
 pub struct Draft {
     bytes: Vec<u8>,
-    is_short: bool,
+    /// Whether memory was wanting for a part of it, or for what it tells of.
+    pub is_short: bool,
     is_finished: bool,
 }
 
@@ -41,62 +42,58 @@ impl Draft {
     }
 
     /// Adds a text.
-    pub fn add(&mut self, text: &[u8]) {
-        if self.bytes.extend_from_slice(text).is_err() {
-            self.is_short = true;
-        }
+    pub fn add(&mut self, text: &str) {
+        self.add_bytes(text.as_bytes());
+    }
+
+    /// Adds the bytes of a text.
+    pub fn add_bytes(&mut self, text: &[u8]) {
+        self.is_short |= self.bytes.extend_from_slice(text).is_err();
     }
 
     /// Adds a number.
     pub fn add_number(&mut self, number: u64) {
         let mut buffer = Buffer::new();
-        self.add(buffer.format(number).as_bytes());
+        self.add(buffer.format(number));
     }
 
     /// Adds the letters of rights.
     pub fn add_rights(&mut self, rights: Rights) {
-        self.add(rights.text().as_bytes());
+        self.add_bytes(rights.text().as_bytes());
     }
 
     /// Adds the front of an edge's line, as far as into its label.
     pub fn add_ends(&mut self, ends: (u64, u64)) {
         let (from, to) = ends;
-        self.add(b"    ");
+        self.add("    ");
         self.add_number(from);
-        self.add(b" -> ");
+        self.add(" -> ");
         self.add_number(to);
-        self.add(b" [label=\"");
+        self.add(" [label=\"");
     }
 
     /// Adds an answer as a run of `tgstore` prints it, without the line feed.
     pub fn add_answer(&mut self, answer: &Answer) {
-        if write_reply(self, answer).is_err() {
-            self.is_short = true;
-        }
+        self.is_short |= write_reply(self, answer).is_err();
         let _ = self.bytes.pop();
     }
 
     /// Adds spaces until so many columns stand behind the first of the text.
     pub fn pad(&mut self, first: usize, columns: usize) {
         for _ in self.bytes.len()..first.saturating_add(columns) {
-            self.add(b" ");
-        }
-    }
-
-    /// An error where memory was wanting.
-    pub fn whole(&self) -> Result<(), AllocError> {
-        if self.is_short {
-            Err(AllocError)
-        } else {
-            Ok(())
+            self.add(" ");
         }
     }
 
     /// Prints the text.
     pub fn print<R: Print>(&self, rt: &R) -> Result<(), DrawFault> {
-        self.whole()?;
-        rt.write_all(self.as_bytes())?;
-        Ok(())
+        if self.is_short {
+            return Err(DrawFault::OutOfMemory);
+        }
+        match rt.write_all(self.as_bytes()) {
+            Ok(()) => Ok(()),
+            Err(error) => Err(DrawFault::Stream(error)),
+        }
     }
 }
 
@@ -108,7 +105,7 @@ impl Sink for Draft {
     ghost finished = { λ s. s.is_finished };
 
     fn put(&mut self, bytes: &[u8]) -> Put {
-        self.add(bytes);
+        self.add_bytes(bytes);
         self.is_finished = false;
         Put::Took(bytes.len())
     }

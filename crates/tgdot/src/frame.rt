@@ -2,7 +2,7 @@
 
 use crate::draft::Draft;
 use crate::shot::Shot;
-use std::alloc::{AllocError, Global};
+use std::alloc::Global;
 use std::collections::BTreeMap;
 
 /// What a vertex takes up in each picture.
@@ -29,6 +29,8 @@ pub struct Frame {
     pub edges: BTreeMap<(u64, u64), usize>,
     /// The columns of the longest heading or answer.
     pub columns: usize,
+    /// Whether it holds all steps, and stays as it is.
+    pub is_whole: bool,
     // How many vertices it may have.
     most: u64,
     // A text whose columns are counted.
@@ -44,6 +46,7 @@ impl Frame {
             vertices: BTreeMap::new(alloc),
             edges: BTreeMap::new(alloc),
             columns: 0,
+            is_whole: false,
             most,
             scratch: Draft::new(alloc),
             is_short: false,
@@ -55,13 +58,9 @@ impl Frame {
         self.vertices.len() as u64 > self.most
     }
 
-    /// An error where memory was wanting.
-    pub fn whole(&self) -> Result<(), AllocError> {
-        if self.is_short {
-            Err(AllocError)
-        } else {
-            self.scratch.whole()
-        }
+    /// Whether memory was wanting.
+    pub fn is_short(&self) -> bool {
+        self.is_short || self.scratch.is_short
     }
 
     /// Widens the frame so that it holds the step, unless it has too many vertices already.
@@ -108,9 +107,7 @@ impl Frame {
             let mut room = self.vertices.get(&name).copied().unwrap_or(NO_ROOM);
             room.columns = room.columns.max(columns);
             room.ever_subject = room.ever_subject || view.ever_subject;
-            if self.vertices.insert(name, room).is_err() {
-                self.is_short = true;
-            }
+            self.is_short |= self.vertices.insert(name, room).is_err();
         }
     }
 
@@ -121,9 +118,7 @@ impl Frame {
             view.write(&mut self.scratch);
             let least = self.edges.get(&ends).copied().unwrap_or(0);
             let columns = self.scratch.len().max(least);
-            if self.edges.insert(ends, columns).is_err() {
-                self.is_short = true;
-            }
+            self.is_short |= self.edges.insert(ends, columns).is_err();
         }
     }
 }

@@ -52,20 +52,19 @@ impl Look {
 
     /// Writes the attributes of the look, and the end of its line.
     pub fn write(self, text: &mut Draft) {
-        let style: &[u8] = match (self.is_bold, self.stroke) {
-            (false, Stroke::Solid) => b"\" style=\"solid\" ",
-            (false, Stroke::Dashed) => b"\" style=\"dashed\" ",
-            (false, Stroke::Dotted) => b"\" style=\"dotted\" ",
-            (true, Stroke::Solid) => b"\" style=\"bold,solid\" ",
-            (true, Stroke::Dashed) => b"\" style=\"bold,dashed\" ",
-            (true, Stroke::Dotted) => b"\" style=\"bold,dotted\" ",
-        };
-        let colour: &[u8] = match self.colour {
-            Colour::Black => b"color=black fontcolor=black]\n",
-            Colour::Grey => b"color=grey40 fontcolor=grey40]\n",
-            Colour::Red => b"color=red3 fontcolor=red3]\n",
-        };
-        text.add(style);
-        text.add(colour);
+        text.add("\" style=\"");
+        if self.is_bold {
+            text.add("bold,");
+        }
+        text.add(match self.stroke {
+            Stroke::Solid => "solid\" ",
+            Stroke::Dashed => "dashed\" ",
+            Stroke::Dotted => "dotted\" ",
+        });
+        text.add(match self.colour {
+            Colour::Black => "color=black fontcolor=black]\n",
+            Colour::Grey => "color=grey40 fontcolor=grey40]\n",
+            Colour::Red => "color=red3 fontcolor=red3]\n",
+        });
     }
 }

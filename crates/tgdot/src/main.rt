@@ -49,9 +49,12 @@ fn main(rt: HostRuntime) -> ExitCode {
     }
 }
 
-// Does what the command line asks for. The exit status.
+// Does what the command line asks for. The exit status. Each word has to be text.
 fn obey(rt: &HostRuntime) -> Result<u8, DrawFault> {
-    let words = words_of(rt)?;
+    let Ok(words) = env::args(rt) else {
+        return Err(DrawFault::BadWords);
+    };
+    let words: Vec<String> = words.collect(rt.alloc())?;
     obey_words(rt, words.as_slice())
 }
 
@@ -75,9 +78,13 @@ fn draw_script<R: Print + Input>(
     alloc: Global,
     options: DotOptions,
 ) -> Result<(), DrawFault> {
-    let stock = read_stock(alloc, options.stock.as_bytes())?;
-    let mut script = Script::new(alloc, options.workers, options.max_vertices, stock);
-    draw(rt, options.steps, &mut script)
+    match read_stock(alloc, options.stock.as_bytes()) {
+        Ok(stock) => {
+            let mut script = Script::new(alloc, options.workers, options.max_vertices, stock);
+            draw(rt, options.steps, &mut script)
+        }
+        Err(fault) => Err(DrawFault::Stock(fault)),
+    }
 }
 
 // Reads the lines, and draws what they leave, or their steps.
@@ -108,13 +115,5 @@ fn write(text: &mut Draft, steps: Option<LineRange>, script: &Script) -> Result<
     match steps {
         Some(range) => write_steps(text, range, script),
         None => write_last(text, script),
-    }
-}
-
-// The words of the command line. Each has to be text.
-fn words_of(rt: &HostRuntime) -> Result<Vec<String>, DrawFault> {
-    match env::args(rt) {
-        Ok(words) => Ok(words.collect(rt.alloc())?),
-        Err(_) => Err(DrawFault::BadWords),
     }
 }

@@ -2,7 +2,7 @@
 
 use crate::run::changed_by;
 use tg_model::{Cause, Command, Reply};
-use tg_rights::{Label, Rights};
+use tg_rights::Rights;
 use tg_text::{Answer, Line};
 
 /// What stands out at a step, and why.
@@ -68,10 +68,10 @@ impl Marks {
     }
 
     /// The rights that the edge between these lacks.
-    pub fn missing_at(&self, ends: (u64, u64)) -> Option<Label> {
+    pub fn missing_at(&self, ends: (u64, u64)) -> Rights {
         match self.missing {
-            Some((at, rights)) if at == ends => Label::new(rights),
-            _ => None,
+            Some((at, rights)) if at == ends => rights,
+            _ => Rights::empty(),
         }
     }
 

@@ -1,5 +1,6 @@
 //! The words of the command line.
 
+use clap::builder::ValueParser;
 use clap::{Arg, ArgAction, ArgMatches, Command, Error};
 use std::alloc::{AllocError, Global};
 use std::convert::AsStr;
@@ -17,6 +18,9 @@ vertex red that should store a log. Neither the heap nor memory refuses a line h
 const EXAMPLE: &str = "Example:
   printf '0 create rw\\n0 list\\n' | tgdot --workers 1 --stock c | dot -Tsvg > graph.svg";
 
+// The number of a line, as an option has it.
+const LINE: ValueParser<'static> = ValueParser::Unsigned(1, i64::MAX as u64);
+
 const WORKERS: &str = "How many workers there are at first, from 1 to 64 [default: 2]";
 
 const VERTICES: &str = "How many vertices may ever be made, from 1 to 16777216 [default: 1000000]";
@@ -29,27 +33,73 @@ const FROM: &str = "With --steps: the first line that is shown [default: the fir
 
 const TO: &str = "With --steps: the last line that is shown [default: the last of all]";
 
-// What an option takes: nothing, a text, a number from 1 to this one, or, with the steps, the number of a line.
-#[derive(Clone, Copy, Drop)]
-enum Takes {
-    Nothing,
-    Text,
-    Number(i64),
-    Line,
+// An option of the command line.
+#[derive(Clone, Copy)]
+struct Choice {
+    name: &'static str,
+    action: ArgAction,
+    // The word for its value.
+    value: &'static str,
+    parser: ValueParser<'static>,
+    // What has to stand beside it.
+    needs: &'static [&'static str],
+    help: &'static str,
 }
 
-// The options, each with what is told of it.
-const OPTIONS: &[(&str, Takes, &str)] = &[
-    ("workers", Takes::Number(64), WORKERS),
-    ("vertices", Takes::Number(16_777_216), VERTICES),
-    ("stock", Takes::Text, STOCK),
-    ("steps", Takes::Nothing, STEPS),
-    ("from", Takes::Line, FROM),
-    ("to", Takes::Line, TO),
+// The options: two numbers, a text, a flag, and with the flag the numbers of two lines.
+const CHOICES: &[Choice] = &[
+    Choice {
+        name: "workers",
+        action: ArgAction::Set,
+        value: "N",
+        parser: ValueParser::Unsigned(1, 64),
+        needs: &[],
+        help: WORKERS,
+    },
+    Choice {
+        name: "vertices",
+        action: ArgAction::Set,
+        value: "N",
+        parser: ValueParser::Unsigned(1, 16_777_216),
+        needs: &[],
+        help: VERTICES,
+    },
+    Choice {
+        name: "stock",
+        action: ArgAction::Set,
+        value: "TEXT",
+        parser: ValueParser::String,
+        needs: &[],
+        help: STOCK,
+    },
+    Choice {
+        name: "steps",
+        action: ArgAction::SetTrue,
+        value: "",
+        parser: ValueParser::Bool,
+        needs: &[],
+        help: STEPS,
+    },
+    Choice {
+        name: "from",
+        action: ArgAction::Set,
+        value: "N",
+        parser: LINE,
+        needs: &["steps"],
+        help: FROM,
+    },
+    Choice {
+        name: "to",
+        action: ArgAction::Set,
+        value: "N",
+        parser: LINE,
+        needs: &["steps"],
+        help: TO,
+    },
 ];
 
 /// What the words ask for.
-#[derive(Clone, Copy, Drop)]
+#[derive(Clone, Copy)]
 pub struct DotOptions<'a> {
     /// How many workers there are at first, from 1 to 64.
     pub workers: u64,
@@ -62,7 +112,7 @@ pub struct DotOptions<'a> {
 }
 
 /// Lines of a script, by their numbers.
-#[derive(Clone, Copy, Drop)]
+#[derive(Clone, Copy)]
 pub struct LineRange {
     /// The first line.
     pub from: u64,
@@ -79,7 +129,13 @@ impl LineRange {
 
 /// Reads the words, the first of which is the program's name. An `Err` is the text for the user, of the help as of a fault.
 pub fn read_words<'a, S: AsStr>(alloc: Global, words: &'a [S]) -> Result<DotOptions<'a>, Error> {
-    match command(alloc)?.try_get_matches_from(words) {
+    let mut args = Vec::new(alloc);
+    add_args(&mut args, alloc)?;
+    let command = Command::new(alloc, "tgdot")
+        .about(ABOUT)
+        .after_help(EXAMPLE)
+        .args(args)?;
+    match command.try_get_matches_from(words) {
         Ok(matches) => Ok(options_of(&matches)),
         Err(error) => Err(error),
     }
@@ -106,51 +162,21 @@ fn steps_of(matches: &ArgMatches) -> Option<LineRange> {
     })
 }
 
-// The command line.
-fn command<'a>(alloc: Global) -> Result<Command<'a>, AllocError> {
-    let mut options = Vec::new(alloc);
-    add_options(&mut options, alloc)?;
-    Command::new(alloc, "tgdot")
-        .about(ABOUT)
-        .after_help(EXAMPLE)
-        .args(options)
-}
-
 // Adds all options.
-fn add_options<'a>(options: &mut Vec<Arg<'a>>, alloc: Global) -> Result<(), AllocError> {
-    for (name, takes, help) in OPTIONS {
-        add_option(options, option(alloc, name, *takes, help))?;
+fn add_args<'a>(args: &mut Vec<Arg<'a>>, alloc: Global) -> Result<(), AllocError> {
+    for choice in CHOICES {
+        args.push(arg_of(alloc, choice)?)?;
     }
     Ok(())
 }
 
-// Adds an option, where there was memory for it.
-fn add_option<'a>(
-    options: &mut Vec<Arg<'a>>,
-    option: Result<Arg<'a>, AllocError>,
-) -> Result<(), AllocError> {
-    options.push(option?)?;
-    Ok(())
-}
-
-// An option.
-fn option<'a>(
-    alloc: Global,
-    name: &'a str,
-    takes: Takes,
-    help: &'a str,
-) -> Result<Arg<'a>, AllocError> {
-    let arg = Arg::new(alloc, name).long(name).help(help);
-    match takes {
-        Takes::Nothing => Ok(arg.action(ArgAction::SetTrue)),
-        Takes::Text => Ok(arg.value_name("TEXT")),
-        Takes::Number(most) => Ok(with_number(arg, most)),
-        Takes::Line => with_number(arg, i64::MAX).requires_arg("steps"),
-    }
-}
-
-// The option with a number from 1 to `most` as its value.
-fn with_number<'a>(arg: Arg<'a>, most: i64) -> Arg<'a> {
-    arg.value_name("N")
-        .value_parser(clap::value_parser!(u64).range(1..=most))
+// An option, as clap has it.
+fn arg_of<'a>(alloc: Global, choice: &Choice) -> Result<Arg<'a>, AllocError> {
+    Arg::new(alloc, choice.name)
+        .long(choice.name)
+        .help(choice.help)
+        .action(choice.action)
+        .value_name(choice.value)
+        .value_parser(choice.parser)
+        .requires_all(choice.needs)
 }

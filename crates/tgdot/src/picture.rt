@@ -22,41 +22,37 @@ pub fn write_shot(text: &mut Draft, frame: &Frame, shot: &Shot) {
     write_kinds(text, frame.edges.len() > MOST_PLAIN);
     write_vertices(text, frame, shot);
     write_edges(text, frame, shot);
-    text.add(b"}\n");
+    text.add("}\n");
 }
 
 // The line and its answer above the picture.
 fn write_head(text: &mut Draft, frame: &Frame, shot: &Shot) {
-    text.add(b"digraph step_");
+    text.add("digraph step_");
     text.add_number(shot.number);
-    text.add(b" {\n    graph [fontname=Courier labelloc=t labeljust=l label=\"");
+    text.add(" {\n    graph [fontname=Courier labelloc=t labeljust=l label=\"");
     write_padded(text, shot.heading.as_bytes(), frame.columns);
     write_padded(text, shot.told.as_bytes(), frame.columns);
-    text.add(b"\"]\n");
+    text.add("\"]\n");
 }
 
 // A line of the label above the picture.
 fn write_padded(text: &mut Draft, line: &[u8], columns: usize) {
     let first = text.len();
-    text.add(line);
+    text.add_bytes(line);
     text.pad(first, columns);
-    text.add(b"\\l");
+    text.add("\\l");
 }
 
 // What holds of all vertices and of all edges. The letters of all texts are equally wide, so that a text's columns tell its width. Among
 // many edges a line leads from each label to its own.
 fn write_kinds(text: &mut Draft, are_many: bool) {
-    text.add(b"    node [fontname=Courier fixedsize=true]\n    edge [fontname=Courier");
-    text.add(if are_many {
-        b" decorate=true]\n"
-    } else {
-        b"]\n"
-    });
+    text.add("    node [fontname=Courier fixedsize=true]\n    edge [fontname=Courier");
+    text.add(if are_many { " decorate=true]\n" } else { "]\n" });
 }
 
 fn write_vertices(text: &mut Draft, frame: &Frame, shot: &Shot) {
     for (name, room) in frame.vertices.iter() {
-        text.add(b"    ");
+        text.add("    ");
         text.add_number(*name);
         write_room(text, *room);
         write_vertex(text, shot, *name);
@@ -69,35 +65,35 @@ fn write_vertex(text: &mut Draft, shot: &Shot, name: u64) {
         Some(view) => {
             let look = view.look;
             shot.write_name(text, name);
-            text.add(b"\\n");
+            text.add("\\n");
             shot.write_state(text, name);
             look.write(text);
         }
-        None => text.add(b"\" style=invis]\n"),
+        None => text.add("\" style=invis]\n"),
     }
 }
 
 // The shape and the size of a vertex, which are its own for all steps.
 fn write_room(text: &mut Draft, room: Room) {
-    let width = (room.columns as u64).saturating_mul(LETTER);
-    if room.ever_subject {
-        text.add(b" [shape=box width=");
-        write_inches(text, width.saturating_add(BOX_MARGIN));
-        text.add(b" height=");
-        write_inches(text, HEIGHT);
+    let (shape, margin) = if room.ever_subject {
+        (" [shape=box width=", BOX_MARGIN)
     } else {
-        text.add(b" [shape=circle width=");
-        write_inches(text, width.saturating_add(CIRCLE_MARGIN));
-        text.add(b" height=");
-        write_inches(text, width.saturating_add(CIRCLE_MARGIN));
-    }
-    text.add(b" label=\"");
+        (" [shape=circle width=", CIRCLE_MARGIN)
+    };
+    let width = (room.columns as u64)
+        .saturating_mul(LETTER)
+        .saturating_add(margin);
+    text.add(shape);
+    write_inches(text, width);
+    text.add(" height=");
+    write_inches(text, if room.ever_subject { HEIGHT } else { width });
+    text.add(" label=\"");
 }
 
 // Hundredths of an inch.
 fn write_inches(text: &mut Draft, hundredths: u64) {
     text.add_number(hundredths / 100);
-    text.add(b".");
+    text.add(".");
     text.add_number(hundredths / 10 % 10);
     text.add_number(hundredths % 10);
 }
@@ -106,7 +102,7 @@ fn write_inches(text: &mut Draft, hundredths: u64) {
 fn write_edges(text: &mut Draft, frame: &Frame, shot: &Shot) {
     for (ends, columns) in frame.edges.iter() {
         text.add_ends(*ends);
-        text.add(b" ");
+        text.add(" ");
         write_edge(text, *columns, shot.edge(*ends));
     }
 }
@@ -119,12 +115,12 @@ fn write_edge(text: &mut Draft, columns: usize, view: Option<EdgeView>) {
             let look = view.look;
             view.write(text);
             text.pad(first, columns);
-            text.add(b" ");
+            text.add(" ");
             look.write(text);
         }
         None => {
             text.pad(first, columns);
-            text.add(b" \" style=invis]\n");
+            text.add(" \" style=invis]\n");
         }
     }
 }

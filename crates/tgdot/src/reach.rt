@@ -1,16 +1,18 @@
 //! What subjects reach.
 
-use std::alloc::{AllocError, Global};
+use std::alloc::Global;
 use std::collections::BTreeSet;
 use tg_model::Graph;
 
-/// The vertices that a subject reaches along edges.
+/// The vertices that a subject reaches along edges. It remembers whether memory was wanting for one of them.
 #[derive(Drop)]
 pub struct Reach {
     /// Their names.
     pub names: BTreeSet<u64>,
     // Those of them from which nothing was reached yet.
     waiting: Vec<u64>,
+    /// Whether memory was wanting.
+    pub is_short: bool,
 }
 
 impl Reach {
@@ -19,38 +21,38 @@ impl Reach {
         Reach {
             names: BTreeSet::new(alloc),
             waiting: Vec::new(alloc),
+            is_short: false,
         }
     }
 
     /// Looks anew for what the subjects of a graph reach along edges with these ends.
-    pub fn fill(&mut self, graph: &Graph, edges: &BTreeSet<(u64, u64)>) -> Result<(), AllocError> {
+    pub fn fill(&mut self, graph: &Graph, edges: &BTreeSet<(u64, u64)>) {
         self.names.clear();
         for name in graph.subjects() {
-            self.add(*name)?;
+            self.add(*name);
         }
         // Each vertex waits once.
         for _ in 0..graph.made() {
             let Some(from) = self.waiting.pop() else {
                 break;
             };
-            self.add_targets(from, edges)?;
+            self.add_targets(from, edges);
         }
-        Ok(())
     }
 
     // Adds the targets of a vertex.
-    fn add_targets(&mut self, from: u64, edges: &BTreeSet<(u64, u64)>) -> Result<(), AllocError> {
+    fn add_targets(&mut self, from: u64, edges: &BTreeSet<(u64, u64)>) {
         for (_, to) in edges.range((from, 0)..=(from, u64::MAX)) {
-            self.add(*to)?;
+            self.add(*to);
         }
-        Ok(())
     }
 
     // Adds a vertex, and lets it wait if it wasn't reached before.
-    fn add(&mut self, name: u64) -> Result<(), AllocError> {
-        if self.names.insert(name)? {
-            self.waiting.push(name)?;
+    fn add(&mut self, name: u64) {
+        match self.names.insert(name) {
+            Ok(true) => self.is_short |= self.waiting.push(name).is_err(),
+            Ok(false) => (),
+            Err(_) => self.is_short = true,
         }
-        Ok(())
     }
 }

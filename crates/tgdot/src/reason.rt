@@ -10,7 +10,7 @@ const LETTERS: &[u8] = b"rwtgaluv";
 const MOST_BYTES: usize = 256;
 
 // Where a text stands in a line.
-#[derive(Clone, Copy, Drop)]
+#[derive(Clone, Copy)]
 enum Place {
     Front,
     Inside,
@@ -29,7 +29,7 @@ const STRAYS: &[(Place, &str, &str)] = &[
 ];
 
 // What a word behind a command's own is.
-#[derive(Clone, Copy, Drop)]
+#[derive(Clone, Copy)]
 enum Kind {
     Number,
     Rights,
@@ -53,15 +53,8 @@ const COMMANDS: &[(&str, &[Kind])] = &[
     ("grant", &[Kind::Number, Kind::Number, Kind::Rights]),
 ];
 
-/// Why the text, with its line feed, is none of the grammar.
-pub fn reason_of(text: &str) -> &'static str {
-    match text.strip_suffix('\n') {
-        Some(line) => reason_of_line(line),
-        None => ": no line feed at the end",
-    }
-}
-
-fn reason_of_line(line: &str) -> &'static str {
+/// Why the text, without its line feed, is none of the grammar.
+pub fn reason_of(line: &str) -> &'static str {
     if line.len() > MOST_BYTES {
         return ": over 256 bytes";
     }
@@ -106,22 +99,21 @@ fn reason_of_letters(line: &[u8]) -> Option<&'static str> {
     reason
 }
 
-// What is wrong with the words, which have one space between them.
+// What is wrong with the words, which have one space between them, and none behind the last.
 fn reason_of_words(line: &str) -> &'static str {
     let (first, rest) = cut(line);
     if first == "edge" {
         return reason_of_arguments(EDGE, rest);
     }
-    if kinds_behind(first).is_some() {
-        return ": no worker in front of the command";
-    }
     if is_collection(first) {
         return ": full and minor stand alone";
     }
-    match (reason_of_number(first), rest) {
-        (Some(reason), _) => reason,
-        (None, Some(rest)) => reason_of_command(rest),
-        (None, None) => ": no command behind the worker",
+    if kinds_behind(first).is_some() {
+        return ": no worker in front of the command";
+    }
+    match reason_of_number(first) {
+        Some(reason) => reason,
+        None => reason_of_command(rest),
     }
 }
 
@@ -132,10 +124,15 @@ fn is_collection(word: &str) -> bool {
 // What is wrong behind the worker's name.
 fn reason_of_command(words: &str) -> &'static str {
     let (command, rest) = cut(words);
-    match kinds_behind(command) {
-        Some(kinds) => reason_of_arguments(kinds, rest),
-        None if is_collection(command) => ": full and minor stand alone",
-        None => ": no such command",
+    if let Some(kinds) = kinds_behind(command) {
+        return reason_of_arguments(kinds, rest);
+    }
+    if is_collection(command) {
+        ": full and minor stand alone"
+    } else if command.is_empty() {
+        ": no command behind the worker"
+    } else {
+        ": no such command"
     }
 }
 
@@ -150,55 +147,48 @@ fn kinds_behind(word: &str) -> Option<&'static [Kind]> {
 }
 
 // What is wrong with the words behind the command's.
-fn reason_of_arguments(kinds: &[Kind], words: Option<&str>) -> &'static str {
+fn reason_of_arguments(kinds: &[Kind], words: &str) -> &'static str {
     let mut left = words;
     for kind in kinds {
-        let Some(words) = left else {
-            return reason_of_lack(*kind);
+        let (word, rest) = cut(left);
+        let reason = match kind {
+            Kind::Number => reason_of_number(word),
+            Kind::Rights => reason_of_rights(word.as_bytes()),
         };
-        let (word, rest) = cut(words);
-        if let Some(reason) = reason_of_argument(*kind, word) {
+        if let Some(reason) = reason {
             return reason;
         }
         left = rest;
     }
-    if left.is_some() {
-        ": too many words"
-    } else {
+    if left.is_empty() {
         ""
+    } else {
+        ": too many words"
     }
 }
 
-// What is wrong where no word stands.
-fn reason_of_lack(kind: Kind) -> &'static str {
-    match kind {
-        Kind::Number => ": too few words",
-        Kind::Rights => ": no rights at the end",
-    }
-}
-
-fn reason_of_argument(kind: Kind, word: &str) -> Option<&'static str> {
-    match kind {
-        Kind::Number => reason_of_number(word),
-        Kind::Rights => reason_of_rights(word.as_bytes()),
-    }
-}
-
-// The first word, and what stands behind its space where there is one.
-fn cut(words: &str) -> (&str, Option<&str>) {
+// The first word, and what stands behind its space. Either is empty where there is none.
+fn cut(words: &str) -> (&str, &str) {
     match words.split_once(' ') {
-        Some((word, rest)) => (word, Some(rest)),
-        None => (words, None),
+        Some(parts) => parts,
+        None => (words, ""),
     }
 }
 
 fn reason_of_number(word: &str) -> Option<&'static str> {
-    match word.as_bytes() {
-        [b'+' | b'-', ..] => Some(": a number has no sign"),
-        digits if !is_number(digits) => Some(": a word where a number stands"),
-        [b'0', _, ..] => Some(": a number has no leading zero"),
-        _ if word.parse::<u64>().is_err() => Some(": a number over 18446744073709551615"),
-        _ => None,
+    let first = word.as_bytes().first();
+    if word.is_empty() {
+        Some(": too few words")
+    } else if matches!(first, Some(b'+' | b'-')) {
+        Some(": a number has no sign")
+    } else if !is_number(word.as_bytes()) {
+        Some(": a word where a number stands")
+    } else if word.len() > 1 && matches!(first, Some(b'0')) {
+        Some(": a number has no leading zero")
+    } else if word.parse::<u64>().is_err() {
+        Some(": a number over 18446744073709551615")
+    } else {
+        None
     }
 }
 
@@ -212,6 +202,9 @@ fn is_number(word: &[u8]) -> bool {
 }
 
 fn reason_of_rights(word: &[u8]) -> Option<&'static str> {
+    if word.is_empty() {
+        return Some(": no rights at the end");
+    }
     let mut rest = LETTERS;
     let mut last = None;
     for letter in word {

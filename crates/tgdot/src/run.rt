@@ -7,17 +7,19 @@ use std::alloc::{AllocError, Global};
 use std::collections::BTreeSet;
 use std::mem;
 use tg_model::{Command, Deed, Edge, Graph, Law, ModelFault, Numbers, Opening, Reply, Value};
-use tg_rights::Label;
+use tg_rights::{Label, Rights};
 use tg_text::{Answer, Line, Refusal, StockItem};
 
 /// The run of a script. The plain graph says what the rules do. Beside it stand what each vertex stores, and between which vertices there
-/// are edges, so that nobody has to ask each pair of vertices for its edge.
+/// are edges, so that nobody has to ask each pair of vertices for its edge. It remembers whether memory was wanting for a part of it.
 #[derive(Drop)]
 pub struct Run {
     alloc: Global,
     graph: Graph,
-    // All that were ever made, by name.
-    vertices: Vec<Vertex>,
+    // What all vertices store that were ever made, by name.
+    values: Vec<Value>,
+    // The names of those that are subjects, or were until they retired.
+    ever_subjects: BTreeSet<u64>,
     /// The names of the vertices that no collection took.
     pub names: BTreeSet<u64>,
     /// The ends of the edges, those from vertices that a collection took too.
@@ -26,13 +28,8 @@ pub struct Run {
     reached: Reach,
     // How many boxes of the stock were taken.
     taken: usize,
-}
-
-// A vertex: whether it is a subject or was one until it retired, and what it stores.
-#[derive(Drop)]
-struct Vertex {
-    ever_subject: bool,
-    value: Value,
+    // Whether memory was wanting.
+    is_short: bool,
 }
 
 impl Run {
@@ -41,55 +38,48 @@ impl Run {
         Run {
             alloc,
             graph,
-            vertices: Vec::new(alloc),
+            values: Vec::new(alloc),
+            ever_subjects: BTreeSet::new(alloc),
             names: BTreeSet::new(alloc),
             edges: BTreeSet::new(alloc),
             reached: Reach::new(alloc),
             taken: 0,
+            is_short: false,
         }
     }
 
-    /// Adds the workers and their edges, with which the graph began.
-    pub fn open(&mut self, opening: &Opening) -> Result<(), AllocError> {
-        for name in 0..opening.workers() {
-            self.add_vertex(name, true, StockItem::Cell)?;
+    /// Adds the workers of a script and their edges, with which the graph began.
+    pub fn open(&mut self, script: &Script) {
+        for name in 0..script.workers {
+            self.add_vertex(name, true, StockItem::Cell);
         }
-        self.add_edges(opening.edges())
+        for edge in script.edges.as_slice() {
+            self.note_edge((edge.from, edge.to));
+        }
     }
 
-    // Adds edges.
-    fn add_edges(&mut self, edges: &[Edge]) -> Result<(), AllocError> {
-        for edge in edges {
-            self.edges.insert((edge.from, edge.to))?;
-        }
-        Ok(())
+    /// Whether memory was wanting.
+    pub fn is_short(&self) -> bool {
+        self.is_short || self.reached.is_short
     }
 
     /// Runs a line with the boxes of this stock. What it is answered. An edge line does nothing here: the graph began with its edge.
-    pub fn take(&mut self, stock: &[StockItem], line: &Line) -> Result<Answer, AllocError> {
+    pub fn take(&mut self, stock: &[StockItem], line: &Line) -> Answer {
         match *line {
             Line::Create { worker, label } => self.make(stock, worker, label, false),
             Line::Spawn { worker, label } => self.make(stock, worker, label, true),
             Line::Plain { worker, command } => self.obey(worker, command),
             Line::Full => self.collect(),
-            Line::Minor | Line::Edge(_) => Ok(Answer::Collected(None)),
-        }
-    }
-
-    // The vertex of this name, where it was made and no collection took it.
-    fn vertex(&self, name: u64) -> Option<&Vertex> {
-        if self.names.contains(&name) {
-            self.vertices.get(name as usize)
-        } else {
-            None
+            Line::Minor | Line::Edge(_) => Answer::Collected(None),
         }
     }
 
     /// What the vertex of this name stores, where it was made and no collection took it.
     pub fn value(&self, name: u64) -> Option<&Value> {
-        match self.vertex(name) {
-            Some(vertex) => Some(&vertex.value),
-            None => None,
+        if self.names.contains(&name) {
+            self.values.get(name as usize)
+        } else {
+            None
         }
     }
 
@@ -100,10 +90,7 @@ impl Run {
 
     /// Whether a vertex that no collection took is a subject, or was one until it retired.
     pub fn was_subject(&self, name: u64) -> bool {
-        match self.vertex(name) {
-            Some(vertex) => vertex.ever_subject,
-            None => false,
-        }
+        self.names.contains(&name) && self.ever_subjects.contains(&name)
     }
 
     /// Whether a vertex that no collection took was a subject until it retired.
@@ -111,19 +98,18 @@ impl Run {
         self.was_subject(name) && !self.is_subject(name)
     }
 
-    /// The rights on the edge between these, where it is there.
-    pub fn held(&self, ends: (u64, u64)) -> Option<Label> {
-        let (from, to) = ends;
-        if self.names.contains(&from) && self.edges.contains(&ends) {
-            Label::new(self.graph.label(from, to))
+    /// The rights on the edge between these, or none where it isn't there.
+    pub fn held(&self, ends: (u64, u64)) -> Rights {
+        if self.names.contains(&ends.0) && self.edges.contains(&ends) {
+            self.graph.label(ends.0, ends.1)
         } else {
-            None
+            Rights::empty()
         }
     }
 
     /// Looks anew for what the subjects reach.
-    pub fn reach(&mut self) -> Result<(), AllocError> {
-        self.reached.fill(&self.graph, &self.edges)
+    pub fn reach(&mut self) {
+        self.reached.fill(&self.graph, &self.edges);
     }
 
     /// Whether a subject reached the vertex when this was last looked for.
@@ -132,108 +118,83 @@ impl Run {
     }
 
     // Adds the vertex that was made last, which stores a new box.
-    fn add_vertex(
-        &mut self,
-        name: u64,
-        ever_subject: bool,
-        kind: StockItem,
-    ) -> Result<(), AllocError> {
-        self.names.insert(name)?;
-        let value = value_of(kind);
-        self.vertices.push(Vertex {
-            ever_subject,
-            value,
-        })?;
-        Ok(())
-    }
-
-    // Makes a subject or an object that stores the next box. Where none is made, the box stays.
-    fn make(
-        &mut self,
-        stock: &[StockItem],
-        worker: u64,
-        label: Label,
-        as_subject: bool,
-    ) -> Result<Answer, AllocError> {
-        let Some(kind) = stock.get(self.taken) else {
-            return Ok(Answer::Refused(Refusal::Stock));
-        };
-        match self.apply(worker, &deed_of(label, *kind, as_subject)) {
-            Ok(Answer::Reply(Reply::Name(name))) => {
-                self.taken = self.taken.saturating_add(1);
-                self.add_made(worker, name, as_subject, *kind)
-            }
-            answer => answer,
+    fn add_vertex(&mut self, name: u64, ever_subject: bool, kind: StockItem) {
+        self.is_short |= self.names.insert(name).is_err();
+        self.is_short |= self.values.push(value_of(kind)).is_err();
+        if ever_subject {
+            self.is_short |= self.ever_subjects.insert(name).is_err();
         }
-    }
-
-    // Adds a vertex that was made, and the edge to it. The answer.
-    fn add_made(
-        &mut self,
-        worker: u64,
-        name: u64,
-        ever_subject: bool,
-        kind: StockItem,
-    ) -> Result<Answer, AllocError> {
-        self.add_vertex(name, ever_subject, kind)?;
-        self.edges.insert((worker, name))?;
-        Ok(Answer::Reply(Reply::Name(name)))
-    }
-
-    // Runs a command that makes no vertex.
-    fn obey(&mut self, worker: u64, command: Command) -> Result<Answer, AllocError> {
-        match self.apply(worker, &Deed::Plain(command)) {
-            Ok(Answer::Reply(Reply::Done)) => self.follow(worker, &command),
-            answer => answer,
-        }
-    }
-
-    // Has the graph take a deed. A new box fits its law, so no vertex is missed here.
-    fn apply(&mut self, worker: u64, deed: &Deed) -> Result<Answer, AllocError> {
-        if !deed.fits() {
-            return Ok(Answer::Refused(Refusal::Stock));
-        }
-        match self.graph.apply(worker, deed) {
-            Ok(reply) => Ok(Answer::Reply(reply)),
-            Err(ModelFault::NoSuchWorker) => Ok(Answer::Refused(Refusal::Worker)),
-            Err(ModelFault::OutOfMemory) => Err(AllocError),
-        }
-    }
-
-    // Follows a command that was served. The answer.
-    fn follow(&mut self, worker: u64, command: &Command) -> Result<Answer, AllocError> {
-        if let Some(ends) = changed_by(worker, command) {
-            self.note_edge(ends)?;
-        }
-        if let Command::Write { target, value } | Command::Append { target, value } = command {
-            self.store(*target, *value)?;
-        }
-        Ok(Answer::Reply(Reply::Done))
     }
 
     // Notes an edge, or forgets it where its last right was given up.
-    fn note_edge(&mut self, ends: (u64, u64)) -> Result<(), AllocError> {
+    fn note_edge(&mut self, ends: (u64, u64)) {
         if self.graph.label(ends.0, ends.1).is_empty() {
             self.edges.remove(&ends);
         } else {
-            self.edges.insert(ends)?;
+            self.is_short |= self.edges.insert(ends).is_err();
         }
-        Ok(())
+    }
+
+    // Makes a subject or an object that stores the next box. Where none is made, the box stays.
+    fn make(&mut self, stock: &[StockItem], worker: u64, label: Label, as_subject: bool) -> Answer {
+        let Some(kind) = stock.get(self.taken) else {
+            return Answer::Refused(Refusal::Stock);
+        };
+        let answer = self.apply(worker, &deed_of(label, *kind, as_subject));
+        if let Answer::Reply(Reply::Name(name)) = answer {
+            self.taken = self.taken.saturating_add(1);
+            self.add_vertex(name, as_subject, *kind);
+            self.note_edge((worker, name));
+        }
+        answer
+    }
+
+    // Runs a command that makes no vertex.
+    fn obey(&mut self, worker: u64, command: Command) -> Answer {
+        let answer = self.apply(worker, &Deed::Plain(command));
+        if let Answer::Reply(Reply::Done) = answer {
+            self.follow(worker, &command);
+        }
+        answer
+    }
+
+    // Has the graph take a deed. A new box fits its law, so no vertex is missed here.
+    fn apply(&mut self, worker: u64, deed: &Deed) -> Answer {
+        if !deed.fits() {
+            return Answer::Refused(Refusal::Stock);
+        }
+        match self.graph.apply(worker, deed) {
+            Ok(reply) => Answer::Reply(reply),
+            Err(ModelFault::NoSuchWorker) => Answer::Refused(Refusal::Worker),
+            Err(ModelFault::OutOfMemory) => {
+                self.is_short = true;
+                Answer::Refused(Refusal::Memory)
+            }
+        }
+    }
+
+    // Follows a command that was served.
+    fn follow(&mut self, worker: u64, command: &Command) {
+        if let Some(ends) = changed_by(worker, command) {
+            self.note_edge(ends);
+        }
+        if let Command::Write { target, value } | Command::Append { target, value } = command {
+            self.store(*target, *value);
+        }
     }
 
     // Notes a number that was written or added to a log.
-    fn store(&mut self, target: u64, number: u64) -> Result<(), AllocError> {
-        match self.vertices.get_mut(target as usize) {
-            Some(vertex) => write_in(self.alloc, &mut vertex.value, number),
-            None => Ok(()),
+    fn store(&mut self, target: u64, number: u64) {
+        if let Some(value) = self.values.get_mut(target as usize) {
+            self.is_short |= write_in(self.alloc, value, number).is_err();
         }
     }
 
     // Collects what no subject reaches.
-    fn collect(&mut self) -> Result<Answer, AllocError> {
-        self.reach()?;
+    fn collect(&mut self) -> Answer {
+        self.reach();
         mem::swap(&mut self.names, &mut self.reached.names);
-        Ok(Answer::Collected(Some(self.names.len() as u64)))
+        Answer::Collected(Some(self.names.len() as u64))
     }
 }
 
@@ -246,20 +207,27 @@ pub fn changed_by(worker: u64, command: &Command) -> Option<(u64, u64)> {
     }
 }
 
-/// What the graph of a script begins with: the edges of its edge lines, and for each worker a cell with 0.
-pub fn opening_of(script: &Script) -> Result<Opening, DrawFault> {
+/// The graph with which a script begins: the edges of its edge lines, and for each worker a cell with 0.
+pub fn graph_of(script: &Script) -> Result<Graph, DrawFault> {
+    let mut edges = Vec::new(script.alloc);
     let mut values = Vec::new(script.alloc);
-    add_cells(&mut values, script.workers)?;
-    let edges = Vec::from_slice(script.alloc, script.edges.as_slice())?;
-    Ok(Opening::new(script.workers, edges, values, script.max_vertices)?)
+    add_parts(&mut edges, &mut values, script)?;
+    match Opening::new(script.workers, edges, values, script.max_vertices) {
+        Ok(opening) => Ok(Graph::open(script.alloc, &opening)?),
+        Err(fault) => Err(DrawFault::Opening(fault)),
+    }
 }
 
-// Adds so many new cells.
-fn add_cells(values: &mut Vec<Value>, number: u64) -> Result<(), AllocError> {
-    for _ in 0..number {
+// Adds the edges of a script, and the cells of its workers.
+fn add_parts(
+    edges: &mut Vec<Edge>,
+    values: &mut Vec<Value>,
+    script: &Script,
+) -> Result<(), AllocError> {
+    for _ in 0..script.workers {
         values.push(value_of(StockItem::Cell))?;
     }
-    Ok(())
+    edges.extend_from_slice(script.edges.as_slice())
 }
 
 // The making of a subject or an object that stores a new box.

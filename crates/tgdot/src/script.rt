@@ -2,8 +2,8 @@
 
 use crate::fault::DrawFault;
 use crate::reason::reason_of;
-use std::alloc::{AllocError, Global};
-use std::io::{ErrorKind, Input};
+use std::alloc::Global;
+use std::io::{self, ErrorKind, Input};
 use tg_model::Edge;
 use tg_text::{Line, StockItem, read_line};
 
@@ -43,6 +43,10 @@ pub struct Script {
     pub lines: Vec<ScriptLine>,
     text: String,
     bad_line: Option<BadLine>,
+    // Why standard input failed.
+    failure: Option<io::Error>,
+    // Whether memory was wanting for a line.
+    is_short: bool,
 }
 
 impl Script {
@@ -57,6 +61,8 @@ impl Script {
             lines: Vec::new(alloc),
             text: String::new(alloc),
             bad_line: None,
+            failure: None,
+            is_short: false,
         }
     }
 
@@ -79,67 +85,74 @@ impl Script {
     /// Adds the lines of standard input up to the first bad one. An edge stands before all other lines, and between workers.
     pub fn read<R: Input>(&mut self, rt: &R) -> Result<(), DrawFault> {
         for number in 1..u64::MAX {
-            if !self.read_next(rt, number)? {
+            if !self.read_next(rt, number) {
                 break;
             }
         }
-        Ok(())
+        if self.is_short {
+            return Err(DrawFault::OutOfMemory);
+        }
+        match self.failure {
+            Some(error) => Err(DrawFault::Stream(error)),
+            None => Ok(()),
+        }
     }
 
     // Adds the next line. False at the end, and at a bad line.
-    fn read_next<R: Input>(&mut self, rt: &R, number: u64) -> Result<bool, DrawFault> {
+    fn read_next<R: Input>(&mut self, rt: &R, number: u64) -> bool {
         let first = self.text.len();
-        if !self.read_text(rt, number)? {
-            return Ok(false);
-        }
-        self.add(number, first)?;
-        Ok(self.bad_line.is_none())
-    }
-
-    // Reads the next text up to its line feed. False at the end, and where bytes are no text, which is a bad line.
-    fn read_text<R: Input>(&mut self, rt: &R, number: u64) -> Result<bool, DrawFault> {
         match rt.read_line(&mut self.text) {
-            Ok(count) => Ok(count > 0),
-            Err(error) => match error.kind() {
-                ErrorKind::InvalidData => {
-                    let reason = ": bytes that are no text";
-                    self.bad_line = Some(BadLine { number, reason });
-                    Ok(false)
-                }
-                _ => Err(DrawFault::Stream(error)),
-            },
+            Ok(0) => false,
+            Ok(_) => self.add(number, first),
+            Err(error) => self.fail(number, error),
         }
     }
 
-    // Adds the line whose text begins here.
-    fn add(&mut self, number: u64, first: usize) -> Result<(), AllocError> {
-        match line_at(self.text.as_str(), first) {
-            Ok(Line::Edge(edge)) => self.add_edge(number, &edge)?,
-            Ok(line) => self.add_line(number, line, first)?,
-            Err(reason) => self.bad_line = Some(BadLine { number, reason }),
+    // Notes why the next line can't be read. Bytes that are no text are a bad line.
+    fn fail(&mut self, number: u64, error: io::Error) -> bool {
+        if matches!(error.kind(), ErrorKind::InvalidData) {
+            self.refuse(number, ": bytes that are no text")
+        } else {
+            self.failure = Some(error);
+            false
         }
-        Ok(())
+    }
+
+    // Notes a bad line.
+    fn refuse(&mut self, number: u64, reason: &'static str) -> bool {
+        self.bad_line = Some(BadLine { number, reason });
+        false
+    }
+
+    // Adds the line whose text begins here. False if it is a bad one.
+    fn add(&mut self, number: u64, first: usize) -> bool {
+        match line_at(self.text.as_str(), first) {
+            Ok(Line::Edge(edge)) => self.add_edge(number, &edge),
+            Ok(line) => self.add_line(number, line, first),
+            Err(reason) => self.refuse(number, reason),
+        }
     }
 
     // Adds a line that is no edge line.
-    fn add_line(&mut self, number: u64, line: Line, first: usize) -> Result<(), AllocError> {
+    fn add_line(&mut self, number: u64, line: Line, first: usize) -> bool {
         let end = self.text.len().saturating_sub(1);
-        self.lines.push(ScriptLine {
+        let line = ScriptLine {
             number,
             line,
             first,
             end,
-        })?;
-        Ok(())
+        };
+        self.is_short |= self.lines.push(line).is_err();
+        !self.is_short
     }
 
     // Adds an edge, unless it may not stand where it stands.
-    fn add_edge(&mut self, number: u64, edge: &Edge) -> Result<(), AllocError> {
-        match self.reason_of_edge(edge) {
-            Some(reason) => self.bad_line = Some(BadLine { number, reason }),
-            None => self.edges.push(*edge)?,
+    fn add_edge(&mut self, number: u64, edge: &Edge) -> bool {
+        if let Some(reason) = self.reason_of_edge(edge) {
+            return self.refuse(number, reason);
         }
-        Ok(())
+        self.is_short |= self.edges.push(*edge).is_err();
+        !self.is_short
     }
 
     // Why an edge may not stand behind the lines before it.
@@ -158,17 +171,11 @@ impl Script {
 
 // The line whose text begins here, or why it is a bad one.
 fn line_at(text: &str, first: usize) -> Result<Line, &'static str> {
-    let text = text.get(first..).unwrap_or("");
-    match line_of(text.as_bytes()) {
+    let Some(text) = text.get(first..).unwrap_or("").strip_suffix('\n') else {
+        return Err(": no line feed at the end");
+    };
+    match read_line(text.as_bytes()) {
         Some(line) => Ok(line),
         None => Err(reason_of(text)),
-    }
-}
-
-// The line of a text that ends with a line feed.
-fn line_of(text: &[u8]) -> Option<Line> {
-    match text {
-        [line @ .., b'\n'] => read_line(line),
-        _ => None,
     }
 }

@@ -5,10 +5,9 @@ use crate::look::{Colour, Look, Stroke};
 use crate::marks::{Marks, NO_MARKS};
 use crate::run::Run;
 use crate::script::{Script, ScriptLine};
-use std::alloc::{AllocError, Global};
-use tg_model::{Graph, Law, Opening, Value};
-use tg_rights::Label;
-use tg_text::{Answer, Line};
+use std::alloc::Global;
+use tg_model::{Graph, Law, Value};
+use tg_rights::Rights;
 
 /// The graph of a run at a step, what its line was answered, and what stands out.
 #[derive(Drop)]
@@ -37,8 +36,8 @@ pub struct VertexView {
 /// An edge in a picture. Its text are the rights that are held, and those that are missing.
 #[derive(Clone, Copy)]
 pub struct EdgeView {
-    held: Option<Label>,
-    missing: Option<Label>,
+    held: Rights,
+    missing: Rights,
     /// How it looks.
     pub look: Look,
 }
@@ -56,25 +55,19 @@ impl Shot {
     }
 
     /// Shows what there is before the first command. The number is that of the last edge line, or 0.
-    pub fn open(&mut self, opening: &Opening) -> Result<(), AllocError> {
-        self.number = opening.edges().len() as u64;
-        self.heading.add(b"start");
-        self.run.open(opening)
+    pub fn open(&mut self, script: &Script) {
+        self.number = script.edges.len() as u64;
+        self.heading.add("start");
+        self.run.open(script);
     }
 
     /// Runs a line of the script, and shows what is after it.
-    pub fn take(&mut self, script: &Script, line: &ScriptLine) -> Result<(), AllocError> {
-        let answer = self.run.take(script.stock.as_slice(), &line.line)?;
-        self.tell(&line.line, &answer);
+    pub fn take(&mut self, script: &Script, line: &ScriptLine) {
         self.head(line.number, script.text_of(line));
-        Ok(())
-    }
-
-    // Shows what a line was answered.
-    fn tell(&mut self, line: &Line, answer: &Answer) {
-        self.marks = Marks::of(line, answer);
+        let answer = self.run.take(script.stock.as_slice(), &line.line);
+        self.marks = Marks::of(&line.line, &answer);
         self.told.clear();
-        self.told.add_answer(answer);
+        self.told.add_answer(&answer);
     }
 
     // Puts a line and its number over the picture.
@@ -82,8 +75,8 @@ impl Shot {
         self.number = number;
         self.heading.clear();
         self.heading.add_number(number);
-        self.heading.add(b": ");
-        self.heading.add(line);
+        self.heading.add(": ");
+        self.heading.add_bytes(line);
     }
 
     /// The vertex of this name, where it is shown. One that isn't there is shown where the picture needs it.
@@ -102,10 +95,10 @@ impl Shot {
     pub fn write_name(&self, text: &mut Draft, name: u64) {
         text.add_number(name);
         if self.run.has_retired(name) && !self.run.is_reached(name) {
-            text.add(b" unreached");
+            text.add(" unreached");
         }
         if self.marks.twice == Some(name) {
-            text.add(b" twice");
+            text.add(" twice");
         }
     }
 
@@ -115,10 +108,10 @@ impl Shot {
             Some(value) => {
                 write_value(text, value);
                 if self.marks.no_log == Some(name) {
-                    text.add(b" no log");
+                    text.add(" no log");
                 }
             }
-            None => text.add(b"not there"),
+            None => text.add("not there"),
         }
     }
 
@@ -142,14 +135,14 @@ impl Shot {
         let missing = self.marks.missing_at(ends);
         let is_changed = self.marks.changed == Some(ends);
         let mut look = Look::reached(self.run.is_reached(ends.0), is_changed);
-        match (missing, held) {
-            (Some(_), _) => {
-                look.colour = Colour::Red;
-                look.stroke = Stroke::Dashed;
+        if !missing.is_empty() {
+            look.colour = Colour::Red;
+            look.stroke = Stroke::Dashed;
+        } else if held.is_empty() {
+            if !is_changed {
+                return None;
             }
-            (None, Some(_)) => (),
-            (None, None) if is_changed => look.stroke = Stroke::Dotted,
-            (None, None) => return None,
+            look.stroke = Stroke::Dotted;
         }
         Some(EdgeView {
             held,
@@ -162,18 +155,12 @@ impl Shot {
 impl EdgeView {
     /// Writes the text of the edge.
     pub fn write(self, text: &mut Draft) {
-        match (self.held, self.missing) {
-            (Some(held), Some(missing)) => {
-                text.add_rights(held.rights());
-                text.add(b" no ");
-                text.add_rights(missing.rights());
-            }
-            (Some(held), None) => text.add_rights(held.rights()),
-            (None, Some(missing)) => {
-                text.add(b"no ");
-                text.add_rights(missing.rights());
-            }
-            (None, None) => text.add(b"none"),
+        text.add_rights(self.held);
+        if !self.missing.is_empty() {
+            text.add(if self.held.is_empty() { "no " } else { " no " });
+            text.add_rights(self.missing);
+        } else if self.held.is_empty() {
+            text.add("none");
         }
     }
 }
@@ -182,17 +169,17 @@ impl EdgeView {
 fn write_value(text: &mut Draft, value: &Value) {
     text.add(word_of(value.law));
     for number in value.state.as_slice() {
-        text.add(b" ");
+        text.add(" ");
         text.add_number(*number);
     }
 }
 
 // The word for a law.
-fn word_of(law: Law) -> &'static [u8] {
+fn word_of(law: Law) -> &'static str {
     match law {
-        Law::Cell => b"cell",
-        Law::Sum => b"sum",
-        Law::Max => b"max",
-        Law::Log(_) => b"log",
+        Law::Cell => "cell",
+        Law::Sum => "sum",
+        Law::Max => "max",
+        Law::Log(_) => "log",
     }
 }
