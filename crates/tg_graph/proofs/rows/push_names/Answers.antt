@@ -23,9 +23,6 @@ loop-word-preserved c =
 pub loop-word-init : goal.loop-word-init
 loop-word-init c = sym (append-nil c.args.names.now.items)
 
-pub bounds-words-word-index : goal.bounds-words-word-index
-bounds-words-word-index c = c.loop-word-test.true
-
 pub loop-word-smaller : goal.loop-word-smaller
 loop-word-smaller c = falls (length c.args.words.now) c.loop-word.word-index c.loop-word-test.true
 
