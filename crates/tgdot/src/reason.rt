@@ -79,9 +79,9 @@ fn reason_of_strays(line: &str) -> Option<&'static str> {
 
 fn stands(line: &str, place: Place, stray: &str) -> bool {
     match place {
-        Place::Front => line.starts_with(stray),
+        Place::Front => line.as_bytes().starts_with(stray.as_bytes()),
         Place::Inside => line.contains(stray),
-        Place::End => line.ends_with(stray),
+        Place::End => line.as_bytes().ends_with(stray.as_bytes()),
     }
 }
 
