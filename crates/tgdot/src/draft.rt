@@ -3,7 +3,7 @@ ghost use Rattle.std.specs.Prelude.{None};
 
 use crate::fault::DrawFault;
 use itoa::Buffer;
-use std::alloc::Global;
+use std::alloc::{AllocError, Global};
 use tg_rights::Rights;
 use tg_text::{Answer, Put, Sink, write_reply};
 
@@ -88,7 +88,7 @@ impl Draft {
     /// Prints the text.
     pub fn print<R: Print>(&self, rt: &R) -> Result<(), DrawFault> {
         if self.is_short {
-            return Err(DrawFault::OutOfMemory);
+            return Err(DrawFault::OutOfMemory(AllocError));
         }
         match rt.write_all(self.as_bytes()) {
             Ok(()) => Ok(()),

@@ -2,7 +2,7 @@
 
 use crate::fault::DrawFault;
 use crate::reason::reason_of;
-use std::alloc::Global;
+use std::alloc::{AllocError, Global};
 use std::io::{self, ErrorKind, Input};
 use tg_model::Edge;
 use tg_text::{Line, StockItem, read_line};
@@ -90,7 +90,7 @@ impl Script {
             }
         }
         if self.is_short {
-            return Err(DrawFault::OutOfMemory);
+            return Err(DrawFault::OutOfMemory(AllocError));
         }
         match self.failure {
             Some(error) => Err(DrawFault::Stream(error)),

@@ -20,7 +20,10 @@ const MOST_VERTICES: u64 = 100_000;
 pub fn write_steps(text: &mut Draft, range: LineRange, script: &Script) -> Result<(), DrawFault> {
     let number = count(range, script);
     if number > MOST_STEPS {
-        return Err(DrawFault::TooManySteps);
+        return Err(DrawFault::TooMany {
+            most: MOST_STEPS,
+            what: "steps",
+        });
     }
     let most = MOST_VERTICES.checked_div(number).unwrap_or(0);
     let mut frame = Frame::new(script.alloc, most);
@@ -36,7 +39,10 @@ fn write_framed(
 ) -> Result<(), DrawFault> {
     run_lines(text, frame, range, script)?;
     if frame.is_over() {
-        return Err(DrawFault::TooManyVertices);
+        return Err(DrawFault::TooMany {
+            most: MOST_VERTICES,
+            what: "vertices in all steps",
+        });
     }
     frame.is_whole = true;
     run_lines(text, frame, range, script)
