@@ -10,7 +10,7 @@ ghost use Rattle.tg_evac.specs.Room.{IsReachedFrom};
 ghost use Rattle.tg_evac.specs.Walks.{MayWalk};
 
 use crate::claims::Claims;
-use crate::copies::Copies;
+use crate::copies::{Copies, Reads};
 use crate::fault::CollectFault;
 use crate::from_roots::walk;
 use crate::notes::notes_of;
@@ -57,12 +57,36 @@ pub fn collect_one(
     ensures { Collects CollectFault.HeapFull kind spaces.now roots.now 0 1 result }
 {
     match kind {
-        Kind::Full => collect_kind(alloc, spaces, roots, Kind::Full, spare),
-        Kind::Nursery => collect_kind(alloc, spaces, roots, Kind::Nursery, spare),
+        Kind::Full => collect_full(alloc, spaces, roots, spare),
+        Kind::Nursery => collect_kind(
+            alloc,
+            spaces,
+            roots,
+            Kind::Nursery,
+            Reads::of(spaces),
+            spare,
+        ),
     }
 }
 
-// The collection of a kind. It is compiled for each, so that a full one asks of no cell which kind this is.
+// A full collection. It is compiled for each reading.
+#[inline(always)]
+fn collect_full(
+    alloc: Global,
+    spaces: &Spaces,
+    roots: &[Root],
+    spare: Vec<Block>,
+) -> Result<Copied, CollectFault>
+    requires { AreSound spaces.now.spaces roots.now }
+    ensures { Collects CollectFault.HeapFull Kind.Full spaces.now roots.now 0 1 result }
+{
+    match Reads::of(spaces) {
+        Reads::Each => collect_kind(alloc, spaces, roots, Kind::Full, Reads::Each, spare),
+        Reads::Ahead => collect_kind(alloc, spaces, roots, Kind::Full, Reads::Ahead, spare),
+    }
+}
+
+// The collection of a kind. It is compiled for each, so that a full one asks of no cell which kind this is, nor how cells are read.
 #[inline(always)]
 #[tactic(auto, using(crate::proofs::Behind::kept_within))]
 fn collect_kind(
@@ -70,6 +94,7 @@ fn collect_kind(
     spaces: &Spaces,
     roots: &[Root],
     kind: Kind,
+    reads: Reads,
     spare: Vec<Block>,
 ) -> Result<Copied, CollectFault>
     requires { AreSound spaces.now.spaces roots.now }
@@ -78,7 +103,7 @@ fn collect_kind(
     let cells = spaces.cells();
     let plan = Plan::of(kind, spaces);
     let mut claims = Claims::new(alloc, cells, plan)?;
-    let copies = trace(alloc, &mut claims, spaces, kind, roots, spare)?;
+    let copies = trace(alloc, &mut claims, spaces, kind, reads, roots, spare)?;
     let Claims { forward, .. } = claims;
     let forward = forward.into_forwarding();
     let adoption = copies.finish()?;
@@ -105,6 +130,7 @@ fn trace(
     claims: &mut Claims,
     spaces: &Spaces,
     kind: Kind,
+    reads: Reads,
     roots: &[Root],
     spare: Vec<Block>,
 ) -> Result<Copies, CollectFault>
@@ -118,6 +144,6 @@ fn trace(
     ensures full { IfErr result (λ fault. fault ≡ CollectFault.HeapFull → HasFilledRoom claims.new × All (IsReachedFrom claims.old.plan.kind spaces.now.spaces roots.now) (cells_won claims.new.won)) }
 {
     let mut copies = Copies::new(alloc, spare)?;
-    walk(claims, spaces, kind, roots, &mut copies)?;
+    walk(claims, spaces, kind, reads, roots, &mut copies)?;
     Ok(copies)
 }

@@ -26,6 +26,30 @@ const NEAR: usize = 8;
 // How many cells a heap has that is large: more than a processor keeps at hand.
 const FAR: u64 = 1 << 17;
 
+/// How won cells are read.
+///
+/// Who calls a walk with a reading that is known has it compiled for this reading alone. So where each is read where it stands, a
+/// table of claims that nothing else refers to is kept in registers.
+#[derive(Clone, Copy)]
+pub enum Reads {
+    /// Each where it stands.
+    Each,
+    /// Some before the first of them is scanned.
+    Ahead,
+}
+
+impl Reads {
+    /// The faster way to read the cells of these spaces: each where it stands, unless there are so many that a processor doesn't
+    /// keep them at hand.
+    pub fn of(spaces: &Spaces) -> Self {
+        if spaces.cells() < FAR {
+            Reads::Each
+        } else {
+            Reads::Ahead
+        }
+    }
+}
+
 /// The copies of won cells, in the order in which those were won.
 #[derive(Drop)]
 pub struct Copies {
@@ -109,16 +133,17 @@ pub fn scan<C: Claimer>(
     claimer: &mut C,
     spaces: &Spaces,
     kind: Kind,
+    reads: Reads,
     copies: &mut Copies,
 ) -> Result<(), CollectFault>
     requires { IsUnderWay C.walked C.knows kind spaces.now.spaces claimer.old copies.now.scanned copies.now.aged copies.now.old }
     ensures scans { Scans C.walked C.knows C.is_full spaces.now.spaces claimer.old claimer.new (length (C.walked claimer.new).won) copies.exit.now.aged copies.exit.now.old result }
     ensures ended { OnOk result (copies.exit.now.scanned ≡ length (C.walked claimer.new).won) }
 {
-    if spaces.cells() < FAR {
-        return scan_each(claimer, spaces, kind, copies);
+    match reads {
+        Reads::Each => scan_each(claimer, spaces, kind, copies),
+        Reads::Ahead => scan_apart(claimer, spaces, kind, copies),
     }
-    scan_apart(claimer, spaces, kind, copies)
 }
 
 // Scans the won cells that were not, each where it stands.
@@ -133,11 +158,13 @@ fn scan_each<C: Claimer>(
     ensures scans { Scans C.walked C.knows C.is_full spaces.now.spaces claimer.old claimer.new (length (C.walked claimer.new).won) copies.exit.now.aged copies.exit.now.old result }
     ensures ended { OnOk result (copies.exit.now.scanned ≡ length (C.walked claimer.new).won) }
 {
-    while copies.scanned < claimer.len() {
-        let cell = claimer.win(copies.scanned).cell;
-        scan_next(claimer, spaces, kind, copies, spaces.numbered_words(cell))?;
-        copies.scanned += 1;
+    let mut next = copies.scanned;
+    while next < claimer.len() {
+        let words = spaces.numbered_words(claimer.win(next).cell);
+        scan_next(claimer, spaces, kind, copies, next, words)?;
+        next += 1;
     }
+    copies.scanned = next;
     Ok(())
 }
 
@@ -180,7 +207,7 @@ fn scan_some<C: Claimer>(
     for i in 0..count {
         // It tells that no more was won than a space has room for (`room`), which the next scan asks for.
         let _ = claimer.len();
-        scan_next(claimer, spaces, kind, copies, &near[i])?;
+        scan_next(claimer, spaces, kind, copies, copies.scanned, &near[i])?;
         copies.scanned += 1;
     }
     Ok(())
@@ -207,23 +234,24 @@ fn read_some<C: Claimer>(
     count
 }
 
-// Scans the next won cell, which has these words.
+// Scans the next won cell, the k-th, which has these words.
 #[inline(always)]
 fn scan_next<C: Claimer>(
     claimer: &mut C,
     spaces: &Spaces,
     kind: Kind,
     copies: &mut Copies,
+    k: usize,
     words: &[u64; WORDS],
 ) -> Result<(), CollectFault>
-    requires walk { IsUnderWay C.walked C.knows kind spaces.now.spaces claimer.old copies.now.scanned copies.now.aged copies.now.old }
-    requires next { copies.now.scanned < length (C.walked claimer.old).won }
-    requires words { words.now ≡ cell_numbered spaces.now.spaces (win_at (C.walked claimer.old).won copies.now.scanned).cell }
+    requires walk { IsUnderWay C.walked C.knows kind spaces.now.spaces claimer.old k copies.now.aged copies.now.old }
+    requires next { k < length (C.walked claimer.old).won }
+    requires words { words.now ≡ cell_numbered spaces.now.spaces (win_at (C.walked claimer.old).won k).cell }
     requires room { (space : ℕ) → space < 2 → length (won_in space (C.walked claimer.old).won) ≤ MOST_SPACE_CELLS }
-    ensures scans { Scans C.walked C.knows C.is_full spaces.now.spaces claimer.old claimer.new (copies.entry.now.scanned + 1) copies.exit.now.aged copies.exit.now.old result }
+    ensures scans { Scans C.walked C.knows C.is_full spaces.now.spaces claimer.old claimer.new (k + 1) copies.exit.now.aged copies.exit.now.old result }
     ensures next { copies.exit.now.scanned ≡ copies.entry.now.scanned }
 {
-    let win = claimer.win(copies.scanned);
+    let win = claimer.win(k);
     let straight = is_in_old(kind, place_of(win.word));
     copies.push_copy(claimer, spaces, kind, words, straight)
 }

@@ -9,7 +9,7 @@ ghost use Rattle.tg_evac.specs.Claimers.{AreScanned};
 ghost use Rattle.tg_evac.specs.Walks.{GoesOn, MayWalk};
 
 use crate::claimer::Claimer;
-use crate::copies::{Copies, scan};
+use crate::copies::{Copies, Reads, scan};
 use crate::fault::CollectFault;
 use crate::roots::claim_root;
 use tg_space::{Kind, Root, Spaces};
@@ -26,6 +26,7 @@ pub fn walk<C: Claimer>(
     claimer: &mut C,
     spaces: &Spaces,
     kind: Kind,
+    reads: Reads,
     roots: &[Root],
     copies: &mut Copies,
 ) -> Result<(), CollectFault>
@@ -40,9 +41,9 @@ pub fn walk<C: Claimer>(
     ensures ended { OnOk result (copies.exit.now.scanned ≡ length (C.walked claimer.new).won) }
 {
     for root in roots {
-        walk_root(claimer, spaces, kind, *root, copies)?;
+        walk_root(claimer, spaces, kind, reads, *root, copies)?;
     }
-    scan(claimer, spaces, kind, copies)
+    scan(claimer, spaces, kind, reads, copies)
 }
 
 // Claims the targets of a root. Where the collection is full the won cells are scanned too.
@@ -51,6 +52,7 @@ fn walk_root<C: Claimer>(
     claimer: &mut C,
     spaces: &Spaces,
     kind: Kind,
+    reads: Reads,
     root: Root,
     copies: &mut Copies,
 ) -> Result<(), CollectFault>
@@ -65,7 +67,7 @@ fn walk_root<C: Claimer>(
 {
     claim_root(claimer, spaces, kind, root)?;
     match kind {
-        Kind::Full => scan(claimer, spaces, kind, copies),
+        Kind::Full => scan(claimer, spaces, kind, reads, copies),
         Kind::Nursery => Ok(()),
     }
 }

@@ -38,9 +38,9 @@ pub fn move_cell<C: Claimer>(
     }
 }
 
-// Moves the words of a cell from one on. What they name is claimed.
+/// Moves the words of a cell from one on. What they name is claimed.
 #[inline(always)]
-fn move_from<C: Claimer>(
+pub fn move_from<C: Claimer>(
     claimer: &mut C,
     spaces: &Spaces,
     kind: Kind,

@@ -57,7 +57,7 @@
 
 pub use claimer::Claimer;
 pub use collect::{Copied, collect_one};
-pub use copies::Copies;
+pub use copies::{Copies, Reads};
 pub use fault::CollectFault;
 pub use from_roots::walk;
 pub use new_blocks::NewBlocks;

@@ -9,15 +9,16 @@ ghost use Rattle.tg_evac.specs.Walks.{ClaimsAll, MayWalk};
 
 use crate::claimer::Claimer;
 use crate::fault::CollectFault;
-use crate::images::move_cell;
+use crate::images::move_from;
 use crate::plan::{is_straight, space_for};
 use tg_block::{LINK, WORDS};
-use tg_space::{Kind, Root, Spaces};
+use tg_space::{Kind, Root, Spaces, first_pointer};
 use tg_word::{Place, place_of};
 
 /// Claims the targets of a root.
 ///
 /// It is refused as a claim is. What was claimed till then stays so.
+#[inline(always)]
 pub fn claim_root<C: Claimer>(
     claimer: &mut C,
     spaces: &Spaces,
@@ -36,6 +37,7 @@ pub fn claim_root<C: Claimer>(
 }
 
 // Claims the object of a row where it is moved, and else the targets of the cells that are met outside from-space.
+#[inline(always)]
 #[tactic(auto, using(crate::proofs::Behind::moved_behind))]
 fn claim_row<C: Claimer>(
     claimer: &mut C,
@@ -57,6 +59,7 @@ fn claim_row<C: Claimer>(
 }
 
 // Claims the targets of the chunks to which a link leads, up to one that is moved.
+#[inline(always)]
 fn claim_chunks<C: Claimer>(
     claimer: &mut C,
     spaces: &Spaces,
@@ -84,6 +87,7 @@ fn claim_chunks<C: Claimer>(
 }
 
 // Claims the targets of the cell at a place.
+#[inline(always)]
 fn claim_targets<C: Claimer>(
     claimer: &mut C,
     spaces: &Spaces,
@@ -96,5 +100,6 @@ fn claim_targets<C: Claimer>(
     ensures { ClaimsAll C.walked C.knows C.is_full spaces.now.spaces straight (targets_at (from_space (C.walked claimer.old).kind) spaces.now.spaces place) claimer.old claimer.new result }
 {
     let mut words = *spaces.words(place);
-    move_cell(claimer, spaces, kind, straight, &mut words)
+    let first = first_pointer(words[0]);
+    move_from(claimer, spaces, kind, straight, first, &mut words)
 }

@@ -7,7 +7,7 @@ use crate::gate::Gate;
 use crate::seat::Seat;
 use std::alloc::Global;
 use tg_block::Block;
-use tg_evac::{CollectFault, Copies, walk};
+use tg_evac::{CollectFault, Copies, Reads, walk};
 use tg_space::{Kind, Root, Spaces};
 
 // How many roots a chunk has; the last may have fewer.
@@ -90,7 +90,14 @@ fn copy_chunk(
     ensures chunks { seat.exit.now.done.chunks ≡ seat.entry.now.done.chunks }
     ensures copied { OnOk result (HasCopied kind spaces.now.spaces roots.now seat.exit.now.done.chunks seat.exit.now copies.exit.now.scanned copies.exit.now.aged copies.exit.now.old) }
 {
-    walk(seat, spaces, kind, chunk_of(roots, chunk), copies)
+    walk(
+        seat,
+        spaces,
+        kind,
+        Reads::of(spaces),
+        chunk_of(roots, chunk),
+        copies,
+    )
 }
 
 // The roots of a chunk.

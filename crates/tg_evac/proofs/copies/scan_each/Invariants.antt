@@ -2,9 +2,9 @@ use Rattle.std.proofs.Common.{◌-◌, Ok}
 use Rattle.tg_evac.specs.Walks.{Scans}
 use Rattle.tg_evac.proofs.copies.scan_each.Given as goal
 
-abbrev pub invariant-loop-copies : goal.invariant-loop-copies
-invariant-loop-copies g l =
-    let m = g.C.Claimer in Scans m.walked m.knows m.is_full l.spaces.spaces l.initial.claimer l.claimer l.copies.scanned l.copies.aged l.copies.old (Ok (tt {0}))
+abbrev pub invariant-loop-next : goal.invariant-loop-next
+invariant-loop-next g l =
+    let m = g.C.Claimer in Scans m.walked m.knows m.is_full l.spaces.spaces l.initial.claimer l.claimer l.next l.copies.aged l.copies.old (Ok (tt {0}))
 
-abbrev pub decreases-loop-copies : goal.decreases-loop-copies
-decreases-loop-copies g l = (g.C.Claimer.walked l.claimer).cells - l.copies.scanned
+abbrev pub decreases-loop-next : goal.decreases-loop-next
+decreases-loop-next g l = (g.C.Claimer.walked l.claimer).cells - l.next
