@@ -17,7 +17,7 @@ use crate::plan::is_in_old;
 use std::alloc::{AllocError, Global};
 use tg_block::{Block, WORDS};
 use tg_space::{Adoption, Kind, Spaces};
-use tg_word::place_of;
+use tg_word::{OLD, place_of};
 
 // How many won cells are read before the first of them is scanned, where the heap is large. Memory answers for them side by side
 // then, though they lie apart from one another.
@@ -159,8 +159,9 @@ fn scan_each<C: Claimer>(
     ensures ended { OnOk result (copies.exit.now.scanned ≡ length (C.walked claimer.new).won) }
 {
     let mut next = copies.scanned;
+    let mut near = OLD;
     while next < claimer.len() {
-        let words = spaces.numbered_words(claimer.win(next).cell);
+        let words = spaces.words_near(claimer.win(next).cell, &mut near);
         scan_next(claimer, spaces, kind, copies, next, words)?;
         next += 1;
     }

@@ -3,7 +3,7 @@ ghost use Rattle.std.specs.Prelude.{◌≡◌, ◌<◌, ◌≤◌, ◌*◌, ◌^
 ghost use Rattle.tg_block.specs.declared.TheConstants.{WORDS};
 ghost use Rattle.tg_word.specs.Word.{place_in};
 ghost use Rattle.tg_word.specs.declared.TheConstants.{MOST_SPACE_CELLS, SPACES};
-ghost use Rattle.tg_space.specs.SpaceList.{Holds, cells_of, flat_of};
+ghost use Rattle.tg_space.specs.SpaceList.{Holds, blocks_before, cells_of, flat_of};
 ghost use Rattle.tg_space.specs.SpaceTable.{IsSpaceTable};
 
 use crate::spaces::Spaces;
@@ -49,8 +49,18 @@ impl Spaces {
         ensures held { Holds self.now.spaces result }
         ensures flat { flat_of self.now.spaces result ≡ number }
     {
+        self.unflat_from(number, OLD)
+    }
+
+    // The same, where the cell is looked for from a space on, unless it comes before that.
+    #[inline(always)]
+    fn unflat_from(&self, number: u64, near: u64) -> Place
+        requires { number < length (cells_of self.now.spaces) }
+        ensures held { Holds self.now.spaces result }
+        ensures flat { flat_of self.now.spaces result ≡ number }
+    {
         let block = number / CELLS;
-        let mut space: usize = 0;
+        let mut space = self.first_searched(block, near) as usize;
         while self.starts[space + 1] <= block {
             space += 1;
         }
@@ -61,9 +71,34 @@ impl Spaces {
         }
     }
 
+    // This space, unless the block that has so many before it comes before it too; then Old.
+    #[inline(always)]
+    fn first_searched(&self, block: u64, near: u64) -> u64
+        ensures inside { result < length self.now.spaces }
+        ensures before { blocks_before self.now.spaces result ≤ block }
+    {
+        if near < self.spaces.len() as u64 && self.starts[near as usize] <= block {
+            near
+        } else {
+            OLD
+        }
+    }
+
     /// The words of the cell with a number, where they stand.
     #[inline(always)]
     pub fn numbered_words(&self, number: u64) -> &[u64; WORDS]
+        requires { number < length (cells_of self.now.spaces) }
+        ensures words { result.now ≡ slice_index_or (cells_of self.now.spaces) number [] }
+        ensures whole { length result.now ≡ WORDS }
+    {
+        let mut near = OLD;
+        self.words_near(number, &mut near)
+    }
+
+    /// The words of the cell with a number, where they stand. A cell that isn't of Old is found at once where it is in the space
+    /// `near`, which is its space then: cells that are asked for one after the other are mostly of one nursery.
+    #[inline(always)]
+    pub fn words_near(&self, number: u64, near: &mut u64) -> &[u64; WORDS]
         requires { number < length (cells_of self.now.spaces) }
         ensures words { result.now ≡ slice_index_or (cells_of self.now.spaces) number [] }
         ensures whole { length result.now ≡ WORDS }
@@ -77,6 +112,8 @@ impl Spaces {
         if of_old.block < self.len(OLD) {
             return self.words(of_old);
         }
-        self.words(self.unflat(number))
+        let place = self.unflat_from(number, *near);
+        *near = place.space;
+        self.words(place)
     }
 }

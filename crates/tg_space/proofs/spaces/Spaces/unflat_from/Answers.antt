@@ -2,7 +2,7 @@ use Rattle.std.proofs.Common.{◌≡◌, ◌+◌, ◌/◌, ◌<◌, ◌≤◌, g
 use Rattle.std.proofs.lemmas.List.{get_or_read}
 use Rattle.tg_space.specs.SpaceTable.{SpaceTable}
 use Rattle.tg_space.proofs.Tables.{search_goes_on}
-use Rattle.tg_space.proofs.spaces.Spaces.unflat.Goals as goal
+use Rattle.tg_space.proofs.spaces.Spaces.unflat_from.Goals as goal
 
 pub loop-space-preserved : goal.loop-space-preserved
 loop-space-preserved c =

@@ -1,5 +1,5 @@
 use Rattle.std.proofs.Common.{◌<◌, ◌≤◌, ◌-◌, ◌/◌, vec_len, get_or}
-use Rattle.tg_space.proofs.spaces.Spaces.unflat.Given as goal
+use Rattle.tg_space.proofs.spaces.Spaces.unflat_from.Given as goal
 
 abbrev pub invariant-loop-space : goal.invariant-loop-space
 invariant-loop-space l = record {
