@@ -26,15 +26,16 @@ impl Model for ForwardingTable {
 }
 
 impl ForwardingTable {
-    /// A word of 0 for each of as many cells, of which the first ones are skipped.
+    /// A word of 0 for each of as many cells, of which the first ones are skipped. The words of the others stand in the given room,
+    /// whatever it holds, where that is enough and not more than four times as much as they need; else the room is given back.
     ///
     /// It is refused only where memory for the words of the others was.
-    pub fn new(alloc: Global, cells: u64, skipped: u64) -> Result<Self, AllocError>
+    pub fn new(alloc: Global, cells: u64, skipped: u64, room: Vec<u64>) -> Result<Self, AllocError>
         requires { skipped ≤ cells }
         ensures skipped { IfOk result (λ forward. forward.skipped ≡ skipped) }
         ensures words { IfOk result (λ forward. forward.words ≡ replicate cells 0) }
     {
-        let words = vec![in alloc; 0; (cells - skipped) as usize]?;
+        let words = zeros(alloc, (cells - skipped) as usize, room)?;
         Ok(ForwardingTable { skipped, words })
     }
 
@@ -68,6 +69,20 @@ impl ForwardingTable {
             words: Words::Listed(self.words),
         }
     }
+}
+
+// As many zeros: in the room, where that is enough and not more than four times as much as needed, so that a heap that shrank
+// gives it back.
+fn zeros(alloc: Global, count: usize, mut room: Vec<u64>) -> Result<Vec<u64>, AllocError>
+    ensures { IfOk result (λ words. words.items ≡ replicate count 0) }
+{
+    if room.capacity() < count || count < room.capacity() / 4 {
+        drop(room);
+        return vec![in alloc; 0; count];
+    }
+    room.clear();
+    room.resize(count, 0)?;
+    Ok(room)
 }
 
 /// The forwarding word of each cell, by its flat number: the word of its new place, or 0 where it has none. The first
@@ -104,6 +119,14 @@ impl Forwarding {
         Forwarding {
             skipped,
             words: Words::Closed(words),
+        }
+    }
+
+    /// The room of the words, where one thread gave them. Takes no memory.
+    pub(crate) fn into_room(self) -> Option<Vec<u64>> {
+        match self.words {
+            Words::Listed(words) => Some(words),
+            Words::Closed(_) => None,
         }
     }
 

@@ -40,6 +40,7 @@ pub use pointers::first_pointer;
 pub use root::Root;
 pub use space::Space;
 pub use spaces::Spaces;
+pub use spare::Spare;
 
 mod adoption;
 mod allocate_fault;
@@ -53,3 +54,4 @@ mod root;
 mod space;
 mod space_list;
 mod spaces;
+mod spare;

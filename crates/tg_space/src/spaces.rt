@@ -9,14 +9,16 @@ ghost use Rattle.tg_space.specs.SpaceTable.{IsFull, IsHandedOut, IsNursery, IsPr
 
 use crate::adoption::Adoption;
 use crate::allocate_fault::AllocateFault;
+use crate::forwarding::Forwarding;
 use crate::kind::Kind;
 use crate::limits::Limits;
 use crate::space::Space;
 use crate::space_list::{add_one, count_old_and_aged, empty_spaces, put_alone, put_behind};
+use crate::spare::Spare;
 use std::alloc::{AllocError, Global};
 use std::marker::Model;
 use std::mem;
-use tg_block::{Block, WORDS};
+use tg_block::WORDS;
 use tg_word::{CELLS, Place, nursery_space};
 
 mod numbers;
@@ -31,8 +33,8 @@ pub struct Spaces {
     // How many blocks stand before each space, and at last how many there are.
     starts: Vec<u64>,
     limits: Limits,
-    // Blocks that the last collection emptied, for the next one to fill.
-    spare: Vec<Block>,
+    // What the last collection left for the next one to use.
+    spare: Spare,
 }
 
 impl Model for Spaces {
@@ -64,7 +66,7 @@ impl Spaces {
             used,
             starts,
             limits,
-            spare: Vec::new(alloc),
+            spare: Spare::none(alloc),
         })
     }
 
@@ -256,12 +258,21 @@ impl Spaces {
         Ok(())
     }
 
-    /// The spare blocks, for a collection to fill. They hold whatever they held, and count for no limit. None is left; takes no
-    /// memory.
-    pub fn take_spare(&mut self) -> Vec<Block>
+    /// What the last collection left, for the next one to use. Nothing is left then; takes no memory.
+    pub fn take_spare(&mut self) -> Spare
         ensures { self.new ≡ self.old }
     {
-        mem::replace(&mut self.spare, Vec::new(self.alloc))
+        mem::replace(&mut self.spare, Spare::none(self.alloc))
+    }
+
+    /// Keeps the room of forwarding words that nobody asks any more, where one thread gave them, for the next collection: 8 bytes
+    /// a cell until then. Those of a closed table are dropped. Takes no memory.
+    pub fn keep_words(&mut self, forward: Forwarding)
+        ensures { self.new ≡ self.old }
+    {
+        if let Some(words) = forward.into_room() {
+            self.spare.words = words;
+        }
     }
 
     // How many spaces there are up to the last nursery that has a block: as many as a collection has to empty. Old and Aged count always.
@@ -290,7 +301,7 @@ impl Spaces {
         let emptied = put_behind(self.alloc, &mut self.spaces, filled, aged, old)?;
         self.used.fill(0);
         count_old_and_aged(&self.spaces, &mut self.starts);
-        self.spare = emptied;
+        self.spare.blocks = emptied;
         Ok(())
     }
 
@@ -303,6 +314,6 @@ impl Spaces {
         let emptied = put_alone(self.alloc, &mut self.spaces, filled, old);
         self.used.fill(0);
         count_old_and_aged(&self.spaces, &mut self.starts);
-        self.spare = emptied;
+        self.spare.blocks = emptied;
     }
 }
