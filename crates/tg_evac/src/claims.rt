@@ -42,8 +42,9 @@ impl Model for Claims {
 }
 
 impl Claims {
-    /// No claim yet, over as many cells. Those of the blocks that stay have no forwarding word.
-    pub fn new(alloc: Global, cells: u64, plan: Plan) -> Result<Self, CollectFault>
+    /// No claim yet, over as many cells. Those of the blocks that stay have no forwarding word. The words of the others stand in the
+    /// given room, as `ForwardingTable::new` says.
+    pub fn new(alloc: Global, cells: u64, plan: Plan, room: Vec<u64>) -> Result<Self, CollectFault>
         requires room { plan.room ≤ MOST_SPACE_CELLS }
         requires kept { plan.kept ≤ MOST_SPACE_BLOCKS }
         requires within { CELLS * plan.kept ≤ cells }
@@ -55,7 +56,7 @@ impl Claims {
         let kept = CELLS * plan.kept;
         Ok(Claims {
             plan,
-            forward: ForwardingTable::new(alloc, cells, kept)?,
+            forward: ForwardingTable::new(alloc, cells, kept, room)?,
             // There is room for every cell that may be won at once, so the list never grows.
             won: Vec::with_capacity(alloc, (cells - kept) as usize)?,
             next: [kept, 0],

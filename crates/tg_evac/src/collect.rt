@@ -18,7 +18,7 @@ use crate::plan::Plan;
 use std::alloc::Global;
 use tg_block::Block;
 use tg_remember::Remembered;
-use tg_space::{Adoption, Forwarding, Kind, Root, Spaces};
+use tg_space::{Adoption, Forwarding, Kind, Root, Spaces, Spare};
 
 /// What a collection hands over.
 #[derive(Drop)]
@@ -41,7 +41,8 @@ pub struct Copied {
 /// more cells are copied than there are cells of from-space that aren't free.
 ///
 /// The spare blocks are filled first, whatever their cells hold, so that a collection that is handed those which the last one
-/// emptied takes few from the allocator; those that aren't needed are given back.
+/// emptied takes few from the allocator; those that aren't needed are given back. The forwarding words stand in the spare room,
+/// where that is enough and not far too much.
 ///
 /// The refusals change nothing: `OutOfMemory` where memory was refused, and `HeapFull` where Aged or Old would need more
 /// than `space_blocks` blocks, so that the roots reach at least as many cells of from-space as there is room for in Old.
@@ -51,7 +52,7 @@ pub fn collect_one(
     spaces: &Spaces,
     roots: &[Root],
     kind: Kind,
-    spare: Vec<Block>,
+    spare: Spare,
 ) -> Result<Copied, CollectFault>
     requires { AreSound spaces.now.spaces roots.now }
     ensures { Collects CollectFault.HeapFull kind spaces.now roots.now 0 1 result }
@@ -69,13 +70,13 @@ pub fn collect_one(
     }
 }
 
-// A full collection. It is compiled for each reading.
+// A full collection. It is compiled for each way to read cells.
 #[inline(always)]
 fn collect_full(
     alloc: Global,
     spaces: &Spaces,
     roots: &[Root],
-    spare: Vec<Block>,
+    spare: Spare,
 ) -> Result<Copied, CollectFault>
     requires { AreSound spaces.now.spaces roots.now }
     ensures { Collects CollectFault.HeapFull Kind.Full spaces.now roots.now 0 1 result }
@@ -95,15 +96,16 @@ fn collect_kind(
     roots: &[Root],
     kind: Kind,
     reads: Reads,
-    spare: Vec<Block>,
+    spare: Spare,
 ) -> Result<Copied, CollectFault>
     requires { AreSound spaces.now.spaces roots.now }
     ensures { Collects CollectFault.HeapFull kind spaces.now roots.now 0 1 result }
 {
     let cells = spaces.cells();
     let plan = Plan::of(kind, spaces);
-    let mut claims = Claims::new(alloc, cells, plan)?;
-    let copies = trace(alloc, &mut claims, spaces, kind, reads, roots, spare)?;
+    let Spare { blocks, words } = spare;
+    let mut claims = Claims::new(alloc, cells, plan, words)?;
+    let copies = trace(alloc, &mut claims, spaces, kind, reads, roots, blocks)?;
     let Claims { forward, .. } = claims;
     let forward = forward.into_forwarding();
     let adoption = copies.finish()?;
