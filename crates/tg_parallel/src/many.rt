@@ -30,19 +30,20 @@ use std::thread::{Promise, PromisedHandle, Scope, Threads, join_promised};
 use tg_block::Block;
 use tg_evac::{CollectFault, Copied, Plan, notes_of};
 use tg_race::{Helper, RaceTable};
-use tg_space::{Forwarding, Kind, Root, Spaces};
+use tg_space::{Forwarding, Kind, Root, Spaces, Spare};
 use tg_word::CELLS;
 
 /// Copies what the roots reach into new blocks, by one helper at a table of its own, on the calling thread.
 ///
 /// What it leaves is a collection as that of `tg_evac::collect_one`, and it is refused as that is, but that each space may
-/// have one block more than its copies need. The spare blocks are filled first; those that aren't needed are given back.
+/// have one block more than its copies need. The spare blocks are filled first; those that aren't needed are given back, and so is
+/// the spare room of forwarding words.
 pub fn collect_seated(
     alloc: Global,
     spaces: &Spaces,
     roots: &[Root],
     kind: Kind,
-    spare: Vec<Block>,
+    spare: Spare,
 ) -> Result<Copied, CollectFault>
     requires { AreSound spaces.now.spaces roots.now }
     ensures { Collects CollectFault.HeapFull kind spaces.now roots.now 1 1 result }
@@ -58,15 +59,16 @@ fn collect_alone<G: Gate>(
     roots: &[Root],
     kind: Kind,
     gate: &G,
-    spare: Vec<Block>,
+    spare: Spare,
 ) -> Result<Copied, CollectFault>
     requires { AreSound spaces.now.spaces roots.now }
     ensures { Collects CollectFault.HeapFull kind spaces.now roots.now 1 1 result }
 {
     let cells = spaces.cells();
     let plan = Plan::of(kind, spaces);
+    let blocks = blocks_of(spare);
     let (table, helper) = RaceTable::open(alloc, cells, roots.len() as u64, plan.kept, 1)?;
-    let helped = help(alloc, &table, helper, 0, spaces, roots, kind, gate, spare);
+    let helped = help(alloc, &table, helper, 0, spaces, roots, kind, gate, blocks);
     finish(alloc, table, spaces, roots, plan, helped)
 }
 
@@ -77,7 +79,8 @@ fn collect_alone<G: Gate>(
 /// its copies need as there are helpers. `HeapFull` is answered only where the cells that the roots reach may not fit into
 /// the blocks that a space may have, if each helper leaves one open; cells that they don't reach take no room. `NoThread` is
 /// answered where a thread couldn't be started, and never of one helper alone. Those that were started end before the
-/// answer. Each helper has a like share of the spare blocks, and fills them first.
+/// answer. Each helper has a like share of the spare blocks, and fills them first. The spare room of forwarding words is given
+/// back.
 #[tactic(auto, using(tg_evac::proofs::Behind::kept_within))]
 pub fn collect_many<R: Threads + Wait + Sync, G: Gate>(
     rt: &R,
@@ -87,7 +90,7 @@ pub fn collect_many<R: Threads + Wait + Sync, G: Gate>(
     kind: Kind,
     helpers: u32,
     gate: &G,
-    spare: Vec<Block>,
+    spare: Spare,
 ) -> Result<Copied, HelpersFault>
     requires sound { AreSound spaces.now.spaces roots.now }
     requires some { 1 ≤ helpers }
@@ -100,11 +103,17 @@ pub fn collect_many<R: Threads + Wait + Sync, G: Gate>(
     }
     let cells = spaces.cells();
     let plan = Plan::of(kind, spaces);
+    let blocks = blocks_of(spare);
     let (table, helper) = RaceTable::open(alloc, cells, roots.len() as u64, plan.kept, helpers)?;
     let helped = work_all(
-        rt, alloc, &table, helper, helpers, spaces, roots, kind, gate, spare,
+        rt, alloc, &table, helper, helpers, spaces, roots, kind, gate, blocks,
     )?;
     Ok(finish(alloc, table, spaces, roots, plan, helped)?)
+}
+
+// The spare blocks. The room of forwarding words is given back, since the table of helpers can't use it.
+fn blocks_of(spare: Spare) -> Vec<Block> {
+    spare.blocks
 }
 
 // What a helper on a thread promises.
