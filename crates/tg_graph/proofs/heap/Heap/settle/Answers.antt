@@ -10,15 +10,16 @@ use Rattle.tg_graph.proofs.heap.Heap.settle.Given.{Over}
 use Rattle.tg_graph.proofs.heap.Heap.settle.Goals.{in-Full, in-Nursery+in_ok-keep_old_and_copied-in-Nursery}
 use Rattle.tg_graph.proofs.heap.Heap.settle.Goals as goal
 
--- what either collection left
-settled : (g : Over) (c : goal.Joined-forward-2 g) → IsSettled c.args.kind c.args.self.now c.match-kind.self
+-- what either collection left; the words that are kept are no part of the heap that is seen
+settled : (g : Over) (c : goal.After-vertices g) → IsSettled c.args.kind c.args.self.now c.keep_words.new.self
 settled g c =
     let Settled : Kind → HeapState → Type 0 = λ kind heap. IsSettled kind c.args.self.now heap in
-    elim c.match-kind.branch [
+    let left : Settled c.args.kind c.match-kind.self = elim c.match-kind.branch [
       | in-Full w ↦ subst (Settled c.args.kind) (sym w.self-is) (subst (λ (kind : Kind). Settled kind w.keep_copied.new.self) (sym w.in-Full.is) w.keep_copied.ensures.settled)
       | in-Nursery+in_ok-keep_old_and_copied-in-Nursery w ↦
           subst (Settled c.args.kind) (sym w.self-is) (subst (λ (kind : Kind). Settled kind w.keep_old_and_copied.new.self) (sym w.in-Nursery.is) w.in_ok-keep_old_and_copied-in-Nursery.ensures.settled)
-    ]
+    ] in
+    subst (Settled c.args.kind) (sym c.keep_words.ensures) left
 
 pub returns-clause-kept : goal.returns-clause-kept
 returns-clause-kept g c = (settled g c).keeps
@@ -32,19 +33,21 @@ returns-clause-stay g c = (settled g c).stay
 pub returns-clause-written : goal.returns-clause-written
 returns-clause-written g c =
     let old : HeapState = c.args.self.now in
-    elim c.match-kind.branch [
+    let Written : HeapState → Type 0 = λ heap. AreWritten (with_adopted old.table Nursery c.args.adoption.aged c.args.adoption.old) heap.table (map (rewritten_at old.table.spaces c.args.forward.words) old.remembered) in
+    let written : c.args.kind ≡ Nursery → Written c.match-kind.self = elim c.match-kind.branch [
       | in-Full w ↦ λ nursery. absurd (full_or_nursery (sym w.in-Full.is ∙ nursery))
-      | in-Nursery+in_ok-keep_old_and_copied-in-Nursery w ↦ λ nursery.
-          subst (λ (heap : HeapState). AreWritten (with_adopted old.table Nursery c.args.adoption.aged c.args.adoption.old) heap.table (map (rewritten_at old.table.spaces c.args.forward.words) old.remembered)) (sym w.self-is) w.in_ok-keep_old_and_copied-in-Nursery.ensures.written
-    ]
+      | in-Nursery+in_ok-keep_old_and_copied-in-Nursery w ↦ λ nursery. subst Written (sym w.self-is) w.in_ok-keep_old_and_copied-in-Nursery.ensures.written
+    ] in
+    λ nursery. subst Written (sym c.keep_words.ensures) (written nursery)
 
 pub returns-clause-blocks : goal.returns-clause-blocks
 returns-clause-blocks g c =
-    let old : HeapState = c.args.self.now in
-    elim c.match-kind.branch [
-      | in-Full w ↦ λ full. subst (λ (heap : HeapState). heap.table ≡ with_adopted old.table Full c.args.adoption.aged c.args.adoption.old) (sym w.self-is) w.keep_copied.ensures.blocks
+    let Adopted : HeapState → Type 0 = λ heap. heap.table ≡ with_adopted c.args.self.now.table Full c.args.adoption.aged c.args.adoption.old in
+    let adopted : c.args.kind ≡ Full → Adopted c.match-kind.self = elim c.match-kind.branch [
+      | in-Full w ↦ λ full. subst Adopted (sym w.self-is) w.keep_copied.ensures.blocks
       | in-Nursery+in_ok-keep_old_and_copied-in-Nursery w ↦ λ full. absurd (full_or_nursery (sym full ∙ w.in-Nursery.is))
-    ]
+    ] in
+    λ full. subst Adopted (sym c.keep_words.ensures) (adopted full)
 
 pub returns-clause-only_old : goal.returns-clause-only_old
 returns-clause-only_old g c = (settled g c).only_old
