@@ -15,7 +15,7 @@ use tg_block::{CHUNK_TAG, OBJECT_TAG, WORDS};
 use tg_evac::collect_one;
 use tg_parallel::{HelpersFault, NoGate, collect_many, collect_seated};
 use tg_rights::{Right, Rights};
-use tg_space::{Forwarding, Kind, Limits, Root, Spaces};
+use tg_space::{Forwarding, Kind, Limits, Root, Spaces, Spare};
 use tg_word::{Place, Slot, pack};
 
 // The cells of a heap with one block of Old, one of Aged and one of a nursery.
@@ -134,8 +134,8 @@ fn rows_of(alloc: Global, content: Content, count: u64) -> Result<Vec<Root>, Fai
 fn same_at_a_seat(alloc: Global, spaces: &Spaces, roots: &[Root], kind: Kind) -> bool
     requires { AreSound spaces.now.spaces roots.now }
 {
-    let one = collect_one(alloc, spaces, roots, kind, Vec::new(alloc));
-    let seated = collect_seated(alloc, spaces, roots, kind, Vec::new(alloc));
+    let one = collect_one(alloc, spaces, roots, kind, Spare::none(alloc));
+    let seated = collect_seated(alloc, spaces, roots, kind, Spare::none(alloc));
     match (&one, &seated) {
         (Ok(one), Ok(seated)) => {
             kind == Kind::Nursery || have_same_words(&one.forward, &seated.forward, spaces.cells())
@@ -175,7 +175,7 @@ fn by_helpers<R: Threads + Wait + Sync>(
             kind,
             helpers,
             &NoGate,
-            Vec::new(alloc),
+            Spare::none(alloc),
         )?);
     }
     Ok(())

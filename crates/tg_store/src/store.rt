@@ -9,7 +9,6 @@ use crate::fault::{ApplyFault, CreateFault, CreateRefused, OpenFault, OpenRefuse
 use crate::making::{Limit, Making, add_vertex, deed_to_enter};
 use std::alloc::{AllocError, Global};
 use std::marker::Model;
-use tg_block::Block;
 use tg_evac::{CollectFault, Copied, collect_one};
 use tg_graph::{Heap, HeapRefused};
 use tg_journal::{Entry, Journal};
@@ -17,7 +16,7 @@ use tg_model::{Command, Deed, MAX_WORKERS, Opening, Reply, Value};
 use tg_payload::{Draft, Payload};
 use tg_rights::Label;
 use tg_rules::readable;
-use tg_space::{Kind, Limits, Root, Spaces};
+use tg_space::{Kind, Limits, Root, Spaces, Spare};
 use tg_subjects::Subject;
 use tg_word::OLD;
 
@@ -403,7 +402,7 @@ impl<P: Payload> Store<P> {
     }
 
     // Copies what a collection of this kind keeps, first into the spare blocks.
-    fn copy_reached(&self, kind: Kind, spare: Vec<Block>) -> Result<Copied, CollectFault>
+    fn copy_reached(&self, kind: Kind, spare: Spare) -> Result<Copied, CollectFault>
         ensures collected { IfOk result (λ copied. IsCollection kind self.now.heap.table.spaces (roots_of kind self.now.heap) copied.forward.words copied.adoption.aged copied.adoption.old copied.remembered.places) }
         ensures moved { IfOk result (λ copied. copies_in copied.forward.words 0 + copies_in copied.forward.words 1 ≤ used_cells kind self.now.heap.table.spaces) }
         ensures few { IfOk result (λ copied. AreFewBlocks self.now.heap.table.limits.space_blocks (kept_blocks kind self.now.heap.table.spaces) 0 copied.forward.words copied.adoption.aged copied.adoption.old) }
@@ -426,9 +425,8 @@ impl<P: Payload> Store<P> {
         self.heap.roots(self.alloc, kind)
     }
 
-    /// The blocks that the last collection emptied, for one by a collector outside of this crate to fill. None is left. Takes no
-    /// memory.
-    pub fn take_spare(&mut self) -> Vec<Block>
+    /// What the last collection left, for one by a collector outside of this crate to use. Nothing is left then. Takes no memory.
+    pub fn take_spare(&mut self) -> Spare
         ensures { self.new ≡ self.old }
     {
         self.heap.take_spare()

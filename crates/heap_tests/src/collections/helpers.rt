@@ -10,7 +10,7 @@ use std::test::Fail;
 use std::thread;
 use std::thread::Threads;
 use tg_parallel::{Gate, HelpersFault, NoGate, collect_many};
-use tg_space::{Kind, Root, Spaces};
+use tg_space::{Kind, Root, Spaces, Spare};
 
 // A heap to collect: what stands in it, how many blocks each space may have, and how many first cells have their rows as roots.
 #[derive(Clone, Copy)]
@@ -37,7 +37,7 @@ fn refusal_of<R: Threads + Wait + Sync, G: Gate>(
     if !same_at_a_seat(alloc, spaces, roots, Kind::Full) {
         return Err(Fail::from("another collection at a seat"));
     }
-    let spare = Vec::new(alloc);
+    let spare = Spare::none(alloc);
     Ok(collect_many(rt, alloc, spaces, roots, Kind::Full, helpers, gate, spare).err())
 }
 
