@@ -47,6 +47,7 @@ pub struct Copied {
 /// The refusals change nothing: `OutOfMemory` where memory was refused, and `HeapFull` where Aged or Old would need more
 /// than `space_blocks` blocks, so that the roots reach at least as many cells of from-space as there is room for in Old.
 /// Cells that they don't reach take no room.
+#[inline(never)]
 pub fn collect_one(
     alloc: Global,
     spaces: &Spaces,

@@ -30,6 +30,7 @@ impl ForwardingTable {
     /// whatever it holds, where that is enough and not more than four times as much as they need; else the room is given back.
     ///
     /// It is refused only where memory for the words of the others was.
+    #[inline(always)]
     pub fn new(alloc: Global, cells: u64, skipped: u64, room: Vec<u64>) -> Result<Self, AllocError>
         requires { skipped ≤ cells }
         ensures skipped { IfOk result (λ forward. forward.skipped ≡ skipped) }
@@ -73,6 +74,7 @@ impl ForwardingTable {
 
 // As many zeros: in the room, where that is enough and not more than four times as much as needed, so that a heap that shrank
 // gives it back.
+#[inline(never)]
 fn zeros(alloc: Global, count: usize, mut room: Vec<u64>) -> Result<Vec<u64>, AllocError>
     ensures { IfOk result (λ words. words.items ≡ replicate count 0) }
 {
