@@ -47,7 +47,6 @@ pub struct Copied {
 /// The refusals change nothing: `OutOfMemory` where memory was refused, and `HeapFull` where Aged or Old would need more
 /// than `space_blocks` blocks, so that the roots reach at least as many cells of from-space as there is room for in Old.
 /// Cells that they don't reach take no room.
-#[inline(never)]
 pub fn collect_one(
     alloc: Global,
     spaces: &Spaces,
@@ -71,8 +70,8 @@ pub fn collect_one(
     }
 }
 
-// A full collection. It is compiled for each way to read cells.
-#[inline(always)]
+// A full collection. It is compiled for each way to read cells, and apart from all else, so that registers are left for it.
+#[inline(never)]
 fn collect_full(
     alloc: Global,
     spaces: &Spaces,

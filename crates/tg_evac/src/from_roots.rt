@@ -40,34 +40,69 @@ pub fn walk<C: Claimer>(
     ensures scanned { OnOk result (AreScanned spaces.now.spaces (C.walked claimer.new) (C.knows claimer.new) (length (C.walked claimer.new).won) copies.exit.now.aged copies.exit.now.old) }
     ensures ended { OnOk result (copies.exit.now.scanned ≡ length (C.walked claimer.new).won) }
 {
-    for root in roots {
-        walk_root(claimer, spaces, kind, reads, *root, copies)?;
+    match kind {
+        Kind::Full => walk_each(claimer, spaces, kind, reads, roots, copies),
+        Kind::Nursery => walk_together(claimer, spaces, kind, reads, roots, copies),
     }
-    scan(claimer, spaces, kind, reads, copies)
 }
 
-// Claims the targets of a root. Where the collection is full the won cells are scanned too.
+// The won cells are scanned before the targets of the next root are claimed.
+//
+// The scan stands here once, so that this is small enough to be compiled for each kind and way to read.
 #[inline(always)]
-fn walk_root<C: Claimer>(
+fn walk_each<C: Claimer>(
     claimer: &mut C,
     spaces: &Spaces,
     kind: Kind,
     reads: Reads,
-    root: Root,
+    roots: &[Root],
     copies: &mut Copies,
 ) -> Result<(), CollectFault>
     requires walk { MayWalk kind spaces.now.spaces (C.walked claimer.old) }
-    requires root { IsRootIn spaces.now.spaces root }
-    requires traced { (all : List RootOf) × Contains all root × AreTraced (C.walked claimer.old).kind spaces.now.spaces all (C.walked claimer.old).won }
+    requires roots { All (IsRootIn spaces.now.spaces) roots.now }
+    requires traced { (all : List RootOf) × ((root : RootOf) → Contains roots.now root → Contains all root) × AreTraced (C.walked claimer.old).kind spaces.now.spaces all (C.walked claimer.old).won }
     requires scanned { AreScanned spaces.now.spaces (C.walked claimer.old) (C.knows claimer.old) copies.now.scanned copies.now.aged copies.now.old }
-    ensures traced { (all : List RootOf) → Contains all root → AreTraced (C.walked claimer.old).kind spaces.now.spaces all (C.walked claimer.old).won → AreTraced (C.walked claimer.old).kind spaces.now.spaces all (C.walked claimer.new).won }
+    ensures traced { (all : List RootOf) → ((root : RootOf) → Contains roots.now root → Contains all root) → AreTraced (C.walked claimer.old).kind spaces.now.spaces all (C.walked claimer.old).won → AreTraced (C.walked claimer.old).kind spaces.now.spaces all (C.walked claimer.new).won }
     ensures goes { GoesOn C.walked C.knows C.is_full claimer.old claimer.new result }
-    ensures met { OnOk result (All (Contains (C.walked claimer.new).met) (root_targets_of (from_space (C.walked claimer.old).kind) spaces.now.spaces root)) }
-    ensures scanned { OnOk result (AreScanned spaces.now.spaces (C.walked claimer.new) (C.knows claimer.new) copies.exit.now.scanned copies.exit.now.aged copies.exit.now.old) }
+    ensures met { OnOk result (All (Contains (C.walked claimer.new).met) (all_root_targets (from_space (C.walked claimer.old).kind) spaces.now.spaces roots.now)) }
+    ensures scanned { OnOk result (AreScanned spaces.now.spaces (C.walked claimer.new) (C.knows claimer.new) (length (C.walked claimer.new).won) copies.exit.now.aged copies.exit.now.old) }
+    ensures ended { OnOk result (copies.exit.now.scanned ≡ length (C.walked claimer.new).won) }
 {
-    claim_root(claimer, spaces, kind, root)?;
-    match kind {
-        Kind::Full => scan(claimer, spaces, kind, reads, copies),
-        Kind::Nursery => Ok(()),
+    let mut claimed = 0;
+    loop {
+        scan(claimer, spaces, kind, reads, copies)?;
+        if claimed == roots.len() {
+            return Ok(());
+        }
+        claim_root(claimer, spaces, kind, roots[claimed])?;
+        claimed += 1;
     }
+}
+
+// The targets of all roots are claimed before a cell is scanned.
+//
+// It is a call of its own, so that a full collection, which has none of it, keeps its table of claims in registers.
+#[inline(never)]
+fn walk_together<C: Claimer>(
+    claimer: &mut C,
+    spaces: &Spaces,
+    kind: Kind,
+    reads: Reads,
+    roots: &[Root],
+    copies: &mut Copies,
+) -> Result<(), CollectFault>
+    requires walk { MayWalk kind spaces.now.spaces (C.walked claimer.old) }
+    requires roots { All (IsRootIn spaces.now.spaces) roots.now }
+    requires traced { (all : List RootOf) × ((root : RootOf) → Contains roots.now root → Contains all root) × AreTraced (C.walked claimer.old).kind spaces.now.spaces all (C.walked claimer.old).won }
+    requires scanned { AreScanned spaces.now.spaces (C.walked claimer.old) (C.knows claimer.old) copies.now.scanned copies.now.aged copies.now.old }
+    ensures traced { (all : List RootOf) → ((root : RootOf) → Contains roots.now root → Contains all root) → AreTraced (C.walked claimer.old).kind spaces.now.spaces all (C.walked claimer.old).won → AreTraced (C.walked claimer.old).kind spaces.now.spaces all (C.walked claimer.new).won }
+    ensures goes { GoesOn C.walked C.knows C.is_full claimer.old claimer.new result }
+    ensures met { OnOk result (All (Contains (C.walked claimer.new).met) (all_root_targets (from_space (C.walked claimer.old).kind) spaces.now.spaces roots.now)) }
+    ensures scanned { OnOk result (AreScanned spaces.now.spaces (C.walked claimer.new) (C.knows claimer.new) (length (C.walked claimer.new).won) copies.exit.now.aged copies.exit.now.old) }
+    ensures ended { OnOk result (copies.exit.now.scanned ≡ length (C.walked claimer.new).won) }
+{
+    for root in roots {
+        claim_root(claimer, spaces, kind, *root)?;
+    }
+    scan(claimer, spaces, kind, reads, copies)
 }

@@ -1,5 +1,5 @@
 //! The targets of roots.
-ghost use Rattle.std.specs.Prelude.{length};
+ghost use Rattle.std.specs.Prelude.{◌≡◌, false, length};
 ghost use Rattle.tg_space.specs.Soundness.{IsPointer, IsRootIn};
 ghost use Rattle.tg_space.specs.SpaceList.{Holds, cells_of};
 ghost use Rattle.tg_space.specs.Targets.{from_space, root_targets_of, targets_at};
@@ -54,12 +54,28 @@ fn claim_row<C: Claimer>(
         claimer.claim(spaces.flat(object), space_for(straight, object.space))?;
         return Ok(());
     }
+    claim_from_row(claimer, spaces, kind, object, straight)
+}
+
+// Claims the targets of the cells of a row that are met outside from-space.
+#[inline(never)]
+fn claim_from_row<C: Claimer>(
+    claimer: &mut C,
+    spaces: &Spaces,
+    kind: Kind,
+    object: Place,
+    straight: bool,
+) -> Result<(), CollectFault>
+    requires walk { MayWalk kind spaces.now.spaces (C.walked claimer.old) }
+    requires held { Holds spaces.now.spaces object }
+    requires kept { from_space kind object.space ≡ false }
+    ensures { ClaimsAll C.walked C.knows C.is_full spaces.now.spaces straight (root_targets_of (from_space (C.walked claimer.old).kind) spaces.now.spaces (Row object)) claimer.old claimer.new result }
+{
     claim_targets(claimer, spaces, kind, object, straight)?;
     claim_chunks(claimer, spaces, kind, spaces.read(object, LINK), straight)
 }
 
 // Claims the targets of the chunks to which a link leads, up to one that is moved.
-#[inline(always)]
 fn claim_chunks<C: Claimer>(
     claimer: &mut C,
     spaces: &Spaces,

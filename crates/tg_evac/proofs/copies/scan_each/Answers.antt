@@ -18,7 +18,7 @@ pub scan_next-requires-clause-walk : goal.scan_next-requires-clause-walk
 scan_next-requires-clause-walk g c = let m = g.C.Claimer in still_under_way m.walked m.knows m.is_full c.loop-next.invariant c.requires
 
 pub scan_next-requires-clause-words : goal.scan_next-requires-clause-words
-scan_next-requires-clause-words g c = c.numbered_words-words.ensures.words ∙ ap (λ (w : Win). cell_numbered c.args.spaces.now.spaces w.cell) c.win.ensures.win
+scan_next-requires-clause-words g c = c.words_near-words.ensures.words ∙ ap (λ (w : Win). cell_numbered c.args.spaces.now.spaces w.cell) c.win.ensures.win
 
 pub returns-clause-ended : goal.returns-clause-ended
 returns-clause-ended g c = let within = c.loop-next.invariant.copies.within in omega arith

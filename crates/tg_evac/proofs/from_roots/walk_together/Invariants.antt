@@ -4,7 +4,7 @@ use Rattle.tg_space.specs.Targets.{from_space, all_root_targets}
 use Rattle.tg_space.specs.declared.root.Root.{Root}
 use Rattle.tg_evac.specs.Claims.{AreTraced}
 use Rattle.tg_evac.specs.Claimers.{AreScanned, KeepsWins, KnowsMore}
-use Rattle.tg_evac.proofs.from_roots.walk.Given as goal
+use Rattle.tg_evac.proofs.from_roots.walk_together.Given as goal
 
 abbrev pub invariant-loop-root : goal.invariant-loop-root
 invariant-loop-root g l =

@@ -9,9 +9,9 @@ use Rattle.tg_space.specs.declared.root.Root.TheVariants.{Row}
 use Rattle.tg_evac.specs.declared.win.Win.{Win}
 use Rattle.tg_evac.specs.Claims.{AreTraced}
 use Rattle.tg_evac.proofs.Passing.{goes_refused, walk_still}
-use Rattle.tg_evac.proofs.Pieces.{met_root, ok_always}
+use Rattle.tg_evac.proofs.Pieces.{keeps_root, met_root, ok_always, scanned_more, traced_root}
 use Rattle.tg_evac.proofs.Walking.{still_met, wins_none, wins_then}
-use Rattle.tg_evac.proofs.from_roots.walk.Goals as goal
+use Rattle.tg_evac.proofs.from_roots.walk_together.Goals as goal
 
 no_root : Root
 no_root = Row (record { space = 0; block = 0; cell = 0 })
@@ -27,39 +27,34 @@ loop-root-init g c =
       scanned = c.requires.scanned;
     }
 
-pub walk_root-requires-clause-traced : goal.walk_root-requires-clause-traced
-unfolding no_root
-walk_root-requires-clause-traced g c =
-    let h = c.args.spaces.now.spaces in let all = c.requires.traced.0 in let i = c.loop-root.root-index in (
-      all,
-      c.requires.traced.1 _ (Contains-get_or c.args.roots.now i no_root c.loop-root-test.true),
-      subst (λ (k : Kind). AreTraced k h all (g.C.Claimer.walked c.loop-root.claimer).won) (sym c.loop-root.invariant.keeps.same_kind) (c.loop-root.invariant.traced all c.requires.traced.1 c.requires.traced.2),
-    )
+pub claim_root-requires-clause-walk : goal.claim_root-requires-clause-walk
+claim_root-requires-clause-walk g c = walk_still c.loop-root.invariant.keeps c.requires.walk
 
-pub returns-in_err-walk_root-clause-traced : goal.returns-in_err-walk_root-clause-traced
+pub returns-in_err-claim_root-clause-traced : goal.returns-in_err-claim_root-clause-traced
 unfolding no_root
-returns-in_err-walk_root-clause-traced g c all held traced =
+returns-in_err-claim_root-clause-traced g c all held traced =
     let m = g.C.Claimer in let h = c.args.spaces.now.spaces in let i = c.loop-root.root-index in
-    subst (λ (k : Kind). AreTraced k h all (m.walked c.loop-root.claimer).won → AreTraced k h all (m.walked c.walk_root.new.claimer).won) c.loop-root.invariant.keeps.same_kind (c.walk_root.ensures.traced all (held _ (Contains-get_or c.args.roots.now i no_root c.loop-root-test.true))) (c.loop-root.invariant.traced all held traced)
+    subst (λ (k : Kind). AreTraced k h all (m.walked c.loop-root.claimer).won → AreTraced k h all (m.walked c.claim_root.new.claimer).won) c.loop-root.invariant.keeps.same_kind
+    (traced_root h _ c.claim_root.ensures.added all (held _ (Contains-get_or c.args.roots.now i no_root c.loop-root-test.true))) (c.loop-root.invariant.traced all held traced)
 
-pub returns-in_err-walk_root-clause-goes : goal.returns-in_err-walk_root-clause-goes
-returns-in_err-walk_root-clause-goes g c =
+pub returns-in_err-claim_root-clause-goes : goal.returns-in_err-claim_root-clause-goes
+returns-in_err-claim_root-clause-goes g c =
     let m = g.C.Claimer in
-    goes_refused m.walked m.knows m.is_full c.from_residual.result _ c.from_residual.ensures.1 (wins_then c.loop-root.invariant.keeps c.walk_root.ensures.goes.keeps)
-    (λ to agrees. c.loop-root.invariant.grows to (c.walk_root.ensures.goes.grows to agrees)) c.in_err-walk_root.ensures.goes.full
+    goes_refused m.walked m.knows m.is_full c.from_residual.result _ c.from_residual.ensures.1 (wins_then c.loop-root.invariant.keeps (keeps_root c.args.spaces.now.spaces _ c.claim_root.ensures.added))
+    (λ to agrees. c.loop-root.invariant.grows to (c.claim_root.ensures.grows to agrees)) c.in_err-claim_root.ensures.full
 
 pub loop-root-preserved : goal.loop-root-preserved
 unfolding no_root
 loop-root-preserved g c =
     let m = g.C.Claimer in let h = c.args.spaces.now.spaces in let roots = c.args.roots.now in let i = c.loop-root.root-index in let inside = c.loop-root-test.true in
-    let one = c.loop-root.invariant.keeps in let two = c.walk_root.ensures.goes.keeps in
+    let one = c.loop-root.invariant.keeps in let two = keeps_root h _ c.claim_root.ensures.added in
     record {
       traced = λ all held traced.
-          subst (λ (k : Kind). AreTraced k h all (m.walked c.loop-root.claimer).won → AreTraced k h all (m.walked c.walk_root.new.claimer).won) one.same_kind (c.walk_root.ensures.traced all (held _ (Contains-get_or roots i no_root inside))) (c.loop-root.invariant.traced all held traced);
+          subst (λ (k : Kind). AreTraced k h all (m.walked c.loop-root.claimer).won → AreTraced k h all (m.walked c.claim_root.new.claimer).won) one.same_kind (traced_root h _ c.claim_root.ensures.added all (held _ (Contains-get_or roots i no_root inside))) (c.loop-root.invariant.traced all held traced);
       keeps = wins_then one two;
-      grows = λ to agrees. c.loop-root.invariant.grows to (c.walk_root.ensures.goes.grows to agrees);
-      met = met_root h roots i no_root inside one two c.loop-root.invariant.met c.in_ok-walk_root.ensures.met;
-      scanned = c.in_ok-walk_root.ensures.scanned;
+      grows = λ to agrees. c.loop-root.invariant.grows to (c.claim_root.ensures.grows to agrees);
+      met = met_root h roots i no_root inside one two c.loop-root.invariant.met c.in_ok-claim_root.ensures.met;
+      scanned = scanned_more c.loop-root.invariant.scanned c.claim_root.ensures.added c.claim_root.ensures.grows;
     }
 
 pub scan-requires : goal.scan-requires
@@ -92,5 +87,3 @@ returns-clause-met g c =
     let met = subst (λ (rs : List Root). All (Contains (m.walked c.loop-root.claimer).met) (all_root_targets (from_space kind) h rs)) all c.loop-root.invariant.met in
     ok_always c.scan.result (still_met c.scan.ensures.scans.goes.keeps (all_root_targets (from_space kind) h roots) met)
 
-pub walk_root-requires-clause-walk : goal.walk_root-requires-clause-walk
-walk_root-requires-clause-walk g c = walk_still c.loop-root.invariant.keeps c.requires.walk
