@@ -6,9 +6,10 @@ set -eu
 here=$(cd "$(dirname "$0")" && pwd)
 . "$here/../temporary.sh"
 take_crates copies tg_rights tg_model tg_word tg_block tg_closed tg_space tg_remember tg_evac
-mkdir -p "$program/proofs/are_plain"
-for name in Answers Invariants; do
-    cp "$here/$name.antt.in" "$program/proofs/are_plain/$name.antt"
+for proof in "$here"/*.antt.in; do
+    it=$(basename "$proof" .antt.in)
+    mkdir -p "$program/proofs/${it%.*}"
+    cp "$proof" "$program/proofs/${it%.*}/${it#*.}.antt"
 done
 cc -O2 -o "$build/copier" "$here/copier.c"
 (cd "$program" && rt run) > "$build/built" 2>&1 || { cat "$build/built"; exit 1; }
