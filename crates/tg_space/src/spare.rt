@@ -9,7 +9,8 @@ use tg_block::Block;
 pub struct Spare {
     /// Blocks that it emptied. They hold whatever they held.
     pub blocks: Vec<Block>,
-    /// The room of its forwarding table, where one thread collected: it takes 8 bytes a cell until the next collection.
+    /// The room of its forwarding table, where one thread collected. Until the next collection it takes 8 bytes for each cell that
+    /// might be moved, and at most four times as much where the heap had shrunk.
     pub words: Vec<u64>,
 }
 
