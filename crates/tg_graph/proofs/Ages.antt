@@ -1,7 +1,6 @@
 -- Which cells of a row lie in Old, and which rows.
-use Rattle.std.proofs.Common.{◌≡◌, ◌≢◌, ◌==◌, ℕ, Global, zero, suc, ◌+◌, ◌-◌, ◌<◌, ◌≤◌, ◌⊎◌, inl, inr, Bool, true, false, cond, List, [], ◌∷◌, ◌++◌, Option, None, Some, get_or, length, map, nat_eq, position, slice_get, take, refl, sym, ap, subst, arith, ◌∙◌}
+use Rattle.std.proofs.Common.{◌≡◌, ◌≢◌, ◌==◌, ℕ, zero, suc, ◌+◌, ◌-◌, ◌<◌, ◌≤◌, ◌⊎◌, inl, inr, Bool, true, false, cond, List, [], ◌∷◌, ◌++◌, Option, None, Some, get_or, length, map, nat_eq, position, slice_get, take, refl, sym, ap, subst, arith, ◌∙◌}
 use Rattle.std.specs.Prelude.{IfSome, swap, option_map}
-use Rattle.std.specs.declared.vec.Vec.{Vec}
 use Rattle.std.specs.List.{All}
 use Rattle.std.specs.Map.{keys_of, lookup, lookup_key, values_of}
 use Rattle.std.proofs.Math.Seq.{take-append-add}
@@ -17,6 +16,7 @@ use Rattle.tg_word.specs.declared.Place.{Place}
 use Rattle.tg_space.specs.Targets.{from_space}
 use Rattle.tg_space.specs.declared.kind.Kind.{Kind}
 use Rattle.tg_space.specs.declared.kind.Kind.TheVariants.{Full, Nursery}
+use Rattle.tg_graph.specs.Cells.{CellList}
 use Rattle.tg_graph.specs.Index.{AreAged, HasIndexAt, IsAged, IsOldPlace, IsOldRow, followed_place}
 use Rattle.tg_graph.specs.declared.index.IndexedRow.{IndexedRow}
 
@@ -249,10 +249,10 @@ old_or_behind es old aged name at was later still = by_place (cases_lt at old)
 pub same_aged : (row later : IndexedRow) → later.cells ≡ row.cells → later.old_cells ≡ row.old_cells → (IsAged row → IsAged later) × (IsOldRow row → IsOldRow later)
 same_aged row later cells known = (
   λ aged. record {
-    within = let low = aged.within in omega (arith, low, known, ap (λ (v : Vec Place Global). length v.items) cells);
-    cells = subst (All IsOldPlace) (sym (ap (λ n. take n later.cells.items) known ∙ ap (λ (v : Vec Place Global). take row.old_cells v.items) cells)) aged.cells;
+    within = let low = aged.within in omega (arith, low, known, ap (λ (v : CellList). length v.items) cells);
+    cells = subst (All IsOldPlace) (sym (ap (λ n. take n later.cells.items) known ∙ ap (λ (v : CellList). take row.old_cells v.items) cells)) aged.cells;
   },
-  λ old. known ∙ old ∙ sym (ap (λ (v : Vec Place Global). length v.items) cells),
+  λ old. known ∙ old ∙ sym (ap (λ (v : CellList). length v.items) cells),
 )
 
 pub none_of : (o : Option ℕ) → ((x : ℕ) → o ≢ Some x) → o ≡ None

@@ -1,5 +1,5 @@
 -- Cells of rows that lie in Old and aren't remembered.
-use Rattle.std.proofs.Common.{◌≡◌, ◌≢◌, ℕ, ◌+◌, ◌-◌, ◌*◌, ◌/◌, ◌<◌, ◌≤◌, ◌⊎◌, inl, inr, ◌++◌, ◌&&◌, not, Bool, true, false, List, [], ◌∷◌, Option, Some, None, length, get_or, map, take, refl, sym, ap, subst, arith, ◌∙◌, ⊎_elim, Vec, Global}
+use Rattle.std.proofs.Common.{◌≡◌, ◌≢◌, ℕ, ◌+◌, ◌-◌, ◌*◌, ◌/◌, ◌<◌, ◌≤◌, ◌⊎◌, inl, inr, ◌++◌, ◌&&◌, not, Bool, true, false, List, [], ◌∷◌, Option, Some, None, length, get_or, map, take, refl, sym, ap, subst, arith, ◌∙◌, ⊎_elim}
 use Rattle.std.specs.Prelude.{IfSome}
 use Rattle.std.specs.List.{All, Contains}
 use Rattle.std.proofs.lemmas.Bool.{cases_Bool}
@@ -18,6 +18,7 @@ use Rattle.tg_space.specs.declared.kind.Kind.{Kind}
 use Rattle.tg_space.specs.declared.kind.Kind.TheVariants.{Full as FullKind, Nursery}
 use Rattle.tg_payload.specs.Table.{Payloads}
 use Rattle.tg_index.specs.Slots.{Slots, IsFirstVacant}
+use Rattle.tg_graph.specs.Cells.{CellList}
 use Rattle.tg_graph.specs.Heap.{IsGraph}
 use Rattle.tg_graph.specs.Index.{IsOldPlace, IsPlaceOf, IsQuiet, IsQuietCell, IsRowIndex, known_notes, row_slots, followed_place}
 use Rattle.tg_graph.specs.Rows.{IsRow}
@@ -67,7 +68,7 @@ quiet_beside_none places row is = quiet_beside places [] row (λ p among quiet h
 pub quiet_same : (places : List Place) (row later : IndexedRow) → later.cells ≡ row.cells → later.quiet_cells ≡ row.quiet_cells → IsQuiet places row → IsQuiet places later
 quiet_same places row later cells known is =
     let within = is.within in
-    let items : later.cells.items ≡ row.cells.items = ap (λ (v : Vec Place Global). v.items) cells in
+    let items : later.cells.items ≡ row.cells.items = ap (λ (v : CellList). v.items) cells in
     quiet_from places later (omega (arith, within, known, ap (λ (ps : List Place). length ps) items)) (λ k d low.
     subst (λ (ps : List Place). IsQuietCell places (get_or ps k d)) (sym items) (quiet_at places row is k d (omega (arith, known))))
 

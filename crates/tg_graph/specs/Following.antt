@@ -1,7 +1,6 @@
 -- What a change of one row leaves for the indexes to follow.
-use Rattle.std.specs.Prelude.{[], ◌≡◌, ℕ, ◌<◌, ◌≤◌, Bool, List, Option, None, false, length, nat_eq, slice_index, vec_len}
+use Rattle.std.specs.Prelude.{[], ◌≡◌, ℕ, ◌<◌, ◌≤◌, Bool, List, Option, None, false, length, nat_eq, slice_index}
 use Rattle.std.specs.Map.{lookup}
-use Rattle.std.specs.Vec.{vec_capacity}
 use Rattle.tg_rights.specs.RightSet.{RightSet, is_none_held}
 use Rattle.tg_word.specs.declared.Place.{Place}
 use Rattle.tg_block.specs.declared.CellKind.TheVariants.{Object}
@@ -35,7 +34,7 @@ IsWay h rows from (New row) = (lookup (nat_eq (name_at h from)) rows ≡ None) �
 -- there is room in the index of a row for one more name and one more cell
 pub record HasRoomIn (row : IndexedRow) : Type 0 where
   pub names : HasRoom row.names
-  pub cells : vec_len row.cells < vec_capacity row.cells
+  pub cells : 0 < row.cells.spare
 
 -- the index says the same, of each row and of how much of it is known
 pub record HasSameIndex (row later : IndexedRow) : Type 0 where

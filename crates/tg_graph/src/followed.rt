@@ -8,15 +8,17 @@ ghost use Rattle.tg_space.specs.SpaceList.{cells_of};
 ghost use Rattle.tg_space.specs.SpaceTable.{IsSpaceTable};
 ghost use Rattle.tg_space.specs.Collection.{new_place};
 ghost use Rattle.tg_space.specs.Targets.{from_space};
+ghost use Rattle.tg_word.specs.Word.{place_in};
 ghost use Rattle.tg_graph.specs.Index.{AreAged, AreFollowed, AreStarts, IsAged, IsFollowable, IsFollowedTo, IsLeftBehind, IsNumbered, IsOldPlace, IsOldRow, IsQuiet, IsQuietCell, followed_place, known_notes, number_by};
 ghost use Rattle.tg_graph.specs.declared.index.IndexedRow.{IndexedRow as RowOf};
 
 use crate::index::IndexedRow;
 use crate::long_rows::LongRows;
+use crate::row_cells::RowCells;
 use indexmap::IndexMap;
 use tg_remember::Remembered;
 use tg_space::{Forwarding, Kind, Spaces};
-use tg_word::{CELLS, Place, SPACES, nursery_space, place_of};
+use tg_word::{CELLS, SPACES, number_of, nursery_space, place_of};
 
 // How many spaces there may be.
 const MOST_SPACES: usize = SPACES as usize;
@@ -57,35 +59,37 @@ impl Numbering {
         Numbering { starts }
     }
 
-    // The number of the cell at a place.
+    // The number of the cell that a word names.
     #[inline(always)]
-    fn number(&self, place: Place) -> u64
-        requires space { place.space < length self.now.starts }
-        requires few { number_by self.now.starts place < 2 ^ 64 }
-        ensures { result ≡ number_by self.now.starts place }
+    fn number(&self, word: u64) -> u64
+        requires space { (place_in word).space < length self.now.starts }
+        requires few { number_by self.now.starts (place_in word) < 2 ^ 64 }
+        ensures { result ≡ number_by self.now.starts (place_in word) }
     {
-        CELLS * (self.starts[place.space as usize] + place.block) + place.cell
+        let space = place_of(word).space;
+        CELLS * self.starts[space as usize] + number_of(word)
     }
 
-    // Where a collection of this kind has the cell at a place.
-    fn followed(&self, kind: Kind, forward: &Forwarding, place: Place) -> Place
-        requires { IsNumbered self.now.starts (length forward.now.words) place }
-        ensures { result ≡ followed_place (from_space kind) self.now.starts (new_place forward.now.words) place }
+    // The word of a cell becomes one of where a collection of this kind has it.
+    #[inline(always)]
+    fn followed(&self, kind: Kind, forward: &Forwarding, word: u64) -> u64
+        requires { IsNumbered self.now.starts (length forward.now.words) (place_in word) }
+        ensures { place_in result ≡ followed_place (from_space kind) self.now.starts (new_place forward.now.words) (place_in word) }
     {
-        if kind.moves(place.space) {
-            place_of(forward.word(self.number(place)))
+        if kind.moves(place_of(word).space) {
+            forward.word(self.number(word))
         } else {
-            place
+            word
         }
     }
 
-    // Each of these places becomes the one where a collection of this kind has its cell.
-    fn follow(&self, kind: Kind, forward: &Forwarding, places: &mut [Place])
-        requires { All (IsNumbered self.now.starts (length forward.now.words)) places.old }
-        ensures { places.new ≡ map (followed_place (from_space kind) self.now.starts (new_place forward.now.words)) places.old }
+    // Each of these words becomes one of where a collection of this kind has the cell.
+    fn follow(&self, kind: Kind, forward: &Forwarding, words: &mut [u64])
+        requires { All (λ word. IsNumbered self.now.starts (length forward.now.words) (place_in word)) words.old }
+        ensures { map place_in words.new ≡ map (followed_place (from_space kind) self.now.starts (new_place forward.now.words)) (map place_in words.old) }
     {
-        for place in places.iter_mut() {
-            *place = self.followed(kind, forward, *place);
+        for word in words.iter_mut() {
+            *word = self.followed(kind, forward, *word);
         }
     }
 }
@@ -187,8 +191,8 @@ fn follow_row(
     ensures old { result ≡ Fate.Old → IsOldRow row.new }
     ensures quiet { result ≢ Fate.Gone → IsQuiet noted.now.places row.new }
 {
-    let object = row.cells[0];
-    if kind.moves(object.space) && forward.word(numbering.number(object)) == 0 {
+    let object = row.cells.word(0);
+    if kind.moves(place_of(object).space) && forward.word(numbering.number(object)) == 0 {
         return Fate::Gone;
     }
     let first = match kind {
@@ -209,33 +213,38 @@ fn follow_cells(
     numbering: &Numbering,
     kind: Kind,
     forward: &Forwarding,
-    cells: &mut [Place],
+    cells: &mut RowCells,
     first: usize,
 ) -> usize
-    requires within { first ≤ length cells.old }
-    requires old { All IsOldPlace (take first cells.old) }
+    requires within { first ≤ length cells.old.items }
+    requires old { All IsOldPlace (take first cells.old.items) }
     requires full { kind ≡ Kind.Full → first ≡ 0 }
-    requires numbered { All (IsNumbered numbering.now.starts (length forward.now.words)) cells.old }
-    ensures moved { cells.new ≡ map (followed_place (from_space kind) numbering.now.starts (new_place forward.now.words)) cells.old }
-    ensures within { result ≤ length cells.new }
-    ensures old { All IsOldPlace (take result cells.new) }
+    requires numbered { All (IsNumbered numbering.now.starts (length forward.now.words)) cells.old.items }
+    requires to_old { kind ≡ Kind.Full → All (λ word. IsOldPlace (place_in word)) forward.now.words }
+    ensures moved { cells.new.items ≡ map (followed_place (from_space kind) numbering.now.starts (new_place forward.now.words)) cells.old.items }
+    ensures within { result ≤ length cells.new.items }
+    ensures old { All IsOldPlace (take result cells.new.items) }
 {
-    let (_, young) = cells.split_at_mut(first);
+    let (_, young) = cells.words.split_at_mut(first);
     numbering.follow(kind, forward, young);
-    first + count_old(young)
+    first
+        + match kind {
+            Kind::Full => young.len(),
+            Kind::Nursery => count_old(young),
+        }
 }
 
 // How many of the first cells lie in Old.
-fn count_old(cells: &[Place]) -> usize
-    ensures within { result ≤ length cells.now }
-    ensures old { All IsOldPlace (take result cells.now) }
+fn count_old(words: &[u64]) -> usize
+    ensures within { result ≤ length words.now }
+    ensures old { All (λ word. IsOldPlace (place_in word)) (take result words.now) }
 {
-    for (count, cell) in cells.iter().enumerate() {
-        if Kind::Nursery.moves(cell.space) {
+    for (count, word) in words.iter().enumerate() {
+        if Kind::Nursery.moves(place_of(*word).space) {
             return count;
         }
     }
-    cells.len()
+    words.len()
 }
 
 // How many of the first cells are known to stay in Old and not to be noted.
@@ -251,19 +260,20 @@ fn known_quiet(kind: Kind, row: &IndexedRow) -> usize
 
 // How many of the first cells lie in Old and aren't among the noted ones. The first `old` are known to lie there, and the first
 // `known` not to be noted either.
-fn count_quiet(noted: &Remembered, cells: &[Place], old: usize, known: usize) -> usize
-    requires old_within { old ≤ length cells.now }
-    requires old { All IsOldPlace (take old cells.now) }
-    requires within { known ≤ length cells.now }
-    requires quiet { All (IsQuietCell noted.now.places) (take known cells.now) }
-    ensures within { result ≤ length cells.now }
-    ensures quiet { All (IsQuietCell noted.now.places) (take result cells.now) }
+fn count_quiet(noted: &Remembered, cells: &RowCells, old: usize, known: usize) -> usize
+    requires old_within { old ≤ length cells.now.items }
+    requires old { All IsOldPlace (take old cells.now.items) }
+    requires within { known ≤ length cells.now.items }
+    requires quiet { All (IsQuietCell noted.now.places) (take known cells.now.items) }
+    ensures within { result ≤ length cells.now.items }
+    ensures quiet { All (IsQuietCell noted.now.places) (take result cells.now.items) }
 {
     if noted.len() == 0 {
         return old;
     }
     for count in known..cells.len() {
-        if Kind::Nursery.moves(cells[count].space) || noted.contains(cells[count]) {
+        let cell = cells.place(count);
+        if Kind::Nursery.moves(cell.space) || noted.contains(cell) {
             return count;
         }
     }

@@ -60,8 +60,8 @@ fn extend(spaces: &mut Spaces, nursery: u64, last: Place, word: u64)
     spaces.write(last, LINK, reference_to(chunk, Rights::empty()));
 }
 
-// The word of a reference.
-fn reference_to(place: Place, rights: Rights) -> u64
+/// The word of a reference.
+pub(crate) fn reference_to(place: Place, rights: Rights) -> u64
     requires { IsPlace place }
     ensures { result ≡ word_at rights place }
 {

@@ -9,9 +9,11 @@ ghost use Rattle.tg_graph.specs.Rows.{IsRow, edges_in, row_words};
 ghost use Rattle.tg_space.specs.Rows.{row_of};
 ghost use Rattle.tg_graph.specs.Spots.{cells_for, is_empty, note_for, old_cell_if, refers_to, spot_for_new as new_spot, IsPositionIn, IsSoundRow, IsSpotOf};
 
+use crate::references::reference_to;
+use crate::row_cells::RowCells;
 use std::alloc::{AllocError, Global};
 use tg_block::{LINK, NAME};
-use tg_rights::Label;
+use tg_rights::{Label, Rights};
 use tg_space::{Kind, Spaces, first_pointer};
 use tg_word::{Place, place_of, rights_of};
 
@@ -208,25 +210,25 @@ pub(crate) fn places_of(
     alloc: Global,
     spaces: &Spaces,
     from: Place,
-) -> Result<(Vec<Option<u64>>, Vec<Place>), AllocError>
+) -> Result<(Vec<Option<u64>>, RowCells), AllocError>
     requires { IsSoundRow spaces.now.spaces from }
     ensures table { OnOk result (IsSpaceTable spaces.now) }
     ensures names { IfOk result (λ places. places.0.items ≡ map (name_referred spaces.now.spaces) (row_words spaces.now.spaces from)) }
     ensures cells { IfOk result (λ places. places.1.items ≡ row_of spaces.now.spaces from) }
 {
     let mut names = Vec::new(alloc);
-    let mut cells = Vec::new(alloc);
-    let mut at = from;
+    let mut words = Vec::new(alloc);
     let mut left = spaces.cells();
+    let mut word = reference_to(from, Rights::empty());
     'row: loop {
-        let cell = spaces.words(at);
+        let cell = spaces.words(place_of(word));
         let first = first_pointer(cell[0]);
         push_names(spaces, &cell[first..LINK], &mut names)?;
-        cells.push(at)?;
+        words.push(word)?;
         if cell[LINK] == 0 {
-            return Ok((names, cells));
+            return Ok((names, RowCells::of_words(words)));
         }
-        at = place_of(cell[LINK]);
+        word = cell[LINK];
         left -= 1;
     }
 }

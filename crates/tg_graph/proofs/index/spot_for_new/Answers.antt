@@ -1,8 +1,8 @@
-use Rattle.std.proofs.Common.{◌≡◌, ◌∙◌, List, length, get_or, ◌-◌, arith, ap, subst}
-use Rattle.tg_word.specs.declared.Place.{Place}
+use Rattle.std.proofs.Common.{◌≡◌, Some, length, slice_get, ◌-◌, arith, subst, sym}
 use Rattle.tg_space.proofs.Tables.{table_list}
 use Rattle.tg_index.specs.Slots.{IsFirstVacant}
-use Rattle.tg_graph.specs.Index.{IsPlaceOf, row_slots}
+use Rattle.tg_graph.specs.Index.{row_slots}
+use Rattle.tg_graph.proofs.Ages.{slice_get_is}
 use Rattle.tg_graph.proofs.Indexed.{empty_none, empty_nth, last_is, places_long}
 use Rattle.tg_graph.proofs.index.spot_for_new.Goals as goal
 
@@ -14,8 +14,7 @@ place_of_number-index-requires c =
     let first = subst (IsFirstVacant (row_slots h c.args.from) c.args.row.now.names.len) c.in-Some.is (c.first_empty.ensures.first (row_slots h c.args.from) c.requires.row.index.names) in
     let low = first.0 in
     let long = places_long h is c.args.from c.requires.row.row c.args.row.now.names cells c.requires.row.index in
-    let same = ap (λ (cs : List Place). length cs) c.deref.ensures.value in
-    omega (arith, low, long, same)
+    omega (arith, low, long)
 
 pub returns-in-Some : goal.returns-in-Some
 returns-in-Some c =
@@ -25,8 +24,7 @@ returns-in-Some c =
     let e = c.place_of_number-index.result in
     let n = c.in-Some.number in
     let first = subst (IsFirstVacant (row_slots h c.args.from) c.args.row.now.names.len) c.in-Some.is (c.first_empty.ensures.first (row_slots h c.args.from) c.requires.row.index.names) in
-    let place = subst (λ (cs : List Place). IsPlaceOf cs n e) c.deref.ensures.value c.place_of_number-index.ensures in
-    record { table = c.cells.ensures.table; spot = (c.requires.absent, empty_nth h is c.args.from c.requires.row.row c.args.row.now.names cells c.requires.row.index n e.0 e.1 first place) }
+    record { table = c.cells.ensures.table; spot = (c.requires.absent, empty_nth h is c.args.from c.requires.row.row c.args.row.now.names cells c.requires.row.index n e.0 e.1 first c.place_of_number-index.ensures) }
 
 pub returns : goal.returns
 returns c =
@@ -34,5 +32,6 @@ returns c =
     let h = c.args.spaces.now.spaces in
     let cells = c.args.row.now.cells.items in
     let full = subst (IsFirstVacant (row_slots h c.args.from) c.args.row.now.names.len) c.in_default.is (c.first_empty.ensures.first (row_slots h c.args.from) c.requires.row.index.names) in
-    let last = last_is h is c.args.from c.requires.row.row c.args.row.now.names cells c.requires.row.index c.index.result.now (subst (λ k. c.index.result.now ≡ get_or cells (k - 1) c.index.result.now) (c.len.ensures ∙ c.args.row.now.cells.ok.0) c.index.ensures) in
+    let here : slice_get cells (length cells - 1) ≡ Some c.place.result = subst (λ k. slice_get cells (k - 1) ≡ Some c.place.result) c.len.ensures.len c.place.ensures in
+    let last = last_is h is c.args.from c.requires.row.row c.args.row.now.names cells c.requires.row.index c.place.result (sym (slice_get_is cells (length cells - 1) c.place.result here)) in
     record { table = c.cells.ensures.table; spot = (c.requires.absent, empty_none h is c.args.from c.requires.row.row c.args.row.now.names cells c.requires.row.index full, last) }

@@ -1,10 +1,10 @@
-use Rattle.std.proofs.Common.{◌<◌, List, Global, length, refl, sym, ap, subst}
-use Rattle.std.specs.declared.vec.Vec.{Vec}
+use Rattle.std.proofs.Common.{◌<◌, List, length, refl, sym, ap, subst}
 use Rattle.std.proofs.lemmas.Cmp.{nat_eq_equiv}
 use Rattle.std.proofs.lemmas.Option.{slice_get_within}
 use Rattle.indexmap.proofs.CallerLemmas.{updates-with_value_at}
 use Rattle.indexmap.specs.Layout.{set_value_at}
 use Rattle.tg_word.specs.declared.Place.{Place}
+use Rattle.tg_graph.specs.Cells.{CellList}
 use Rattle.tg_graph.specs.Following.{IsWay}
 use Rattle.tg_graph.specs.Index.{AreIndexed, HasIndexAt, Indexes, IsAged, IsOldRow, IsRowIndex, SameIndexed}
 use Rattle.tg_graph.specs.Rows.{name_at}
@@ -86,7 +86,7 @@ returns g c =
     let new = c.forget_if_empty.new.self in
     let is = index_at old taken.payloads taken.graph places es indexed c.args.from taken.object own refl row (row_there es own c.in-Index.at was row c.in-Some.ensures.value) in
     let index = index_narrowed taken row.names row.cells.items is.0 c.read-word.result c.read-word.ensures new.names c.forget_if_empty.ensures.len c.forget_if_empty.ensures.gone c.forget_if_empty.ensures.kept in
-    let cells = ap (λ (v : Vec Place Global). v.items) c.forget_if_empty.ensures.cells in
+    let cells = ap (λ (v : CellList). v.items) c.forget_if_empty.ensures.cells in
     let written = updates-with_value_at c.rows.inside.indexes c.in-Index.at new nat_eq_equiv c.get_index_mut.ensures.unique own was.row was.here in
     let rows = c.args.rows.now.entries in
     let first : SameIndexed rows es = subst (λ (s : Indexes). SameIndexed rows s.entries) (sym c.rows.view_is) (λ x. refl) in

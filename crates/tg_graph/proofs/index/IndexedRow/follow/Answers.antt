@@ -69,17 +69,16 @@ read-requires-clause-held c = last_held c.requires.put c.in-Full.last c.in-Full.
 pub returns-in-Full-clause-index : goal.returns-in-Full-clause-index
 returns-in-Full-clause-index c =
     let cells = c.args.self.now.cells.items in
-    let pushed : c.push.new.self.items ≡ cells ++ c.place_of.result ∷ [] = rw c.unwrap.ensures at c.push.ensures.items in
     index_extended c.requires.put c.in-Full.last c.in-Full.is c.put-in-Full.new.self c.push.new.self.items (c.put-in-Full.ensures.len ∙ c.grow.ensures.len)
     (λ slots later n of first puts. c.put-in-Full.ensures.put slots later n (c.grow.ensures.grown slots of) (subst (λ l. IsFirstVacant slots l (Some n)) (sym c.grow.ensures.len) first) puts)
-    (pushed ∙ ap (λ (p : Place). cells ++ p ∷ []) (c.place_of.ensures ∙ ap place_in c.read.ensures))
+    (c.push.ensures ∙ ap (λ word. cells ++ place_in word ∷ []) c.read.ensures)
 
 pub returns-in-Full-clause-aged : goal.returns-in-Full-clause-aged
 returns-in-Full-clause-aged c =
     λ aged.
     let row = c.args.self.now in
     let later : IndexedRow = record { names = c.put-in-Full.new.self; cells = c.push.new.self; old_cells = row.old_cells; quiet_cells = c.quiet_before-self.result } in
-    grown_aged row later c.place_of.result aged (rw c.unwrap.ensures at c.push.ensures.items) refl
+    grown_aged row later (place_in c.read.result) aged c.push.ensures refl
 
 pub returns-in-Full-clause-quiet : goal.returns-in-Full-clause-quiet
 returns-in-Full-clause-quiet c =
@@ -88,4 +87,4 @@ returns-in-Full-clause-quiet c =
     let lower : IndexedRow = record { names = row.names; cells = row.cells; old_cells = row.old_cells; quiet_cells = c.quiet_before-self.result } in
     let later : IndexedRow = record { names = c.put-in-Full.new.self; cells = c.push.new.self; old_cells = row.old_cells; quiet_cells = c.quiet_before-self.result } in
     let lowered = quiet_lowered places c.args.note row lower refl c.quiet_before-self.ensures.fewer c.quiet_before-self.ensures.apart quiet in
-    quiet_grown (with_note places c.args.note) lower later c.place_of.result (rw c.unwrap.ensures at c.push.ensures.items) refl lowered.1
+    quiet_grown (with_note places c.args.note) lower later (place_in c.read.result) c.push.ensures refl lowered.1

@@ -28,6 +28,6 @@ returns-clause-apart c =
     ])
     (λ same. elim c.match-first_empty.branch [
       | in-Some w ↦ absurd (none-some w.in-Some.number (sym same ∙ w.in-Some.is))
-      | in-None w ↦ w.number-is ∙ ap (λ k. k - 1) (w.len.ensures ∙ c.args.self.now.cells.ok.0)
+      | in-None w ↦ w.number-is ∙ ap (λ k. k - 1) w.len.ensures.len
     ])
     c.min.result (omega (arith, low))

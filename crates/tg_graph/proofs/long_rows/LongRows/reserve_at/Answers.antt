@@ -10,8 +10,6 @@ use Rattle.tg_graph.proofs.Ages.{aged_at, row_there, same_row, written_aged, wri
 use Rattle.tg_graph.proofs.Heaps.{success_gives, both_oks}
 use Rattle.tg_graph.proofs.IndexedRows.{indexes_replaced, written_indexed}
 use Rattle.tg_index.specs.Slots.{HasRoom}
-use Rattle.std.specs.Vec.{vec_capacity}
-use Rattle.std.specs.Prelude.{vec_len}
 use Rattle.std.proofs.lemmas.Bool.{false≢true}
 use Rattle.tg_graph.proofs.long_rows.LongRows.reserve_at.Goals as goal
 
@@ -57,5 +55,5 @@ returns-clause-ready c =
     let written = updates-with_value_at c.self.inside.indexes c.args.at next nat_eq_equiv c.get_index_mut.ensures.unique c.args.name was.row was.here in
     let same : nat_eq c.args.name c.args.name ≡ true = (Decides-eqb c.args.name c.args.name).1 refl in
     let found : lookup (nat_eq c.args.name) (set_value_at es c.args.at next) ≡ Some next = written.0 c.args.name ∙ ap (λ (b : Bool). cond b (Some next) (lookup (nat_eq c.args.name) es)) same in
-    success_gives c.reserve.result (λ (room : HasRoom next.names × (vec_len next.cells < vec_capacity next.cells)). record { here = record { row = next; here = written_there es c.args.name c.args.at was next; found = found }; behind = behind; room = record { names = room.0; cells = room.1 } })
-    (both_oks (HasRoom next.names) (vec_len next.cells < vec_capacity next.cells) c.reserve.result c.reserve.ensures.names c.reserve.ensures.cells)
+    success_gives c.reserve.result (λ (room : HasRoom next.names × (0 < next.cells.spare)). record { here = record { row = next; here = written_there es c.args.name c.args.at was next; found = found }; behind = behind; room = record { names = room.0; cells = room.1 } })
+    (both_oks (HasRoom next.names) (0 < next.cells.spare) c.reserve.result c.reserve.ensures.names c.reserve.ensures.cells)
