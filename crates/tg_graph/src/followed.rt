@@ -9,7 +9,7 @@ ghost use Rattle.tg_space.specs.SpaceTable.{IsSpaceTable};
 ghost use Rattle.tg_space.specs.Collection.{new_place};
 ghost use Rattle.tg_space.specs.Targets.{from_space};
 ghost use Rattle.tg_word.specs.Word.{place_in};
-ghost use Rattle.tg_graph.specs.Index.{AreAged, AreFollowed, AreStarts, IsAged, IsFollowable, IsFollowedTo, IsLeftBehind, IsNumbered, IsOldPlace, IsOldRow, IsQuiet, IsQuietCell, followed_place, known_notes, number_by};
+ghost use Rattle.tg_graph.specs.Index.{AreAged, AreFollowed, AreMovedToOld, AreStarts, IsAged, IsFollowable, IsFollowedTo, IsLeftBehind, IsNumbered, IsOldPlace, IsOldRow, IsQuiet, IsQuietCell, followed_place, followed_word, known_notes, number_by};
 ghost use Rattle.tg_graph.specs.declared.index.IndexedRow.{IndexedRow as RowOf};
 
 use crate::index::IndexedRow;
@@ -74,7 +74,7 @@ impl Numbering {
     #[inline(always)]
     fn followed(&self, kind: Kind, forward: &Forwarding, word: u64) -> u64
         requires { IsNumbered self.now.starts (length forward.now.words) (place_in word) }
-        ensures { place_in result ≡ followed_place (from_space kind) self.now.starts (new_place forward.now.words) (place_in word) }
+        ensures { result ≡ followed_word (from_space kind) self.now.starts forward.now.words word }
     {
         if kind.moves(place_of(word).space) {
             forward.word(self.number(word))
@@ -86,7 +86,7 @@ impl Numbering {
     // Each of these words becomes one of where a collection of this kind has the cell.
     fn follow(&self, kind: Kind, forward: &Forwarding, words: &mut [u64])
         requires { All (λ word. IsNumbered self.now.starts (length forward.now.words) (place_in word)) words.old }
-        ensures { map place_in words.new ≡ map (followed_place (from_space kind) self.now.starts (new_place forward.now.words)) (map place_in words.old) }
+        ensures { words.new ≡ map (followed_word (from_space kind) self.now.starts forward.now.words) words.old }
     {
         for word in words.iter_mut() {
             *word = self.followed(kind, forward, *word);
@@ -105,7 +105,8 @@ impl LongRows {
         forward: &Forwarding,
         noted: &Remembered,
     )
-        requires { (name : ℕ) (row : RowOf) → lookup (nat_eq name) self.old.entries ≡ Some row → IsFollowable numbering.now.starts (length forward.now.words) (known_notes kind noted.now.places) row }
+        requires rows { (name : ℕ) (row : RowOf) → lookup (nat_eq name) self.old.entries ≡ Some row → IsFollowable numbering.now.starts (length forward.now.words) (known_notes kind noted.now.places) row }
+        requires to_old { AreMovedToOld kind forward.now.words }
         ensures { AreFollowed kind numbering.now.starts forward.now.words noted.now.places self.old.entries self.new.entries }
     {
         let old = match kind {
@@ -128,6 +129,7 @@ fn follow_rows(
     requires rows { (name : ℕ) (row : RowOf) → lookup (nat_eq name) rows.old.entries ≡ Some row → IsFollowable numbering.now.starts (length forward.now.words) (known_notes kind noted.now.places) row }
     requires aged { AreAged rows.old.entries first }
     requires full { kind ≡ Kind.Full → first ≡ 0 }
+    requires to_old { AreMovedToOld kind forward.now.words }
     ensures followed { AreFollowed kind numbering.now.starts forward.now.words noted.now.places rows.old.entries rows.new.entries }
     ensures aged { AreAged rows.new.entries result }
 {
@@ -163,6 +165,7 @@ fn follow_row_at(
     requires some { (row : RowOf) → slice_get (values rows.old) at ≡ Some row → 0 < length row.cells.items }
     requires aged { (row : RowOf) → slice_get (values rows.old) at ≡ Some row → IsAged row }
     requires quiet { (row : RowOf) → slice_get (values rows.old) at ≡ Some row → IsQuiet (known_notes kind noted.now.places) row }
+    requires to_old { AreMovedToOld kind forward.now.words }
     ensures { (row followed : RowOf) × (slice_get (values rows.old) at ≡ Some row) × (rows.new.entries ≡ set_value_at rows.old.entries at followed)
         × (result ≢ Fate.Gone → IsFollowedTo kind numbering.now.starts forward.now.words row followed) × IsAged followed × (result ≡ Fate.Old → IsOldRow followed) × (result ≢ Fate.Gone → IsQuiet noted.now.places followed)
         × (result ≡ Fate.Gone → IsLeftBehind kind numbering.now.starts forward.now.words row) }
@@ -185,6 +188,7 @@ fn follow_row(
     requires some { 0 < length row.old.cells.items }
     requires aged { IsAged row.old }
     requires quiet { IsQuiet (known_notes kind noted.now.places) row.old }
+    requires to_old { AreMovedToOld kind forward.now.words }
     ensures gone { result ≡ Fate.Gone → IsLeftBehind kind numbering.now.starts forward.now.words row.old }
     ensures followed { result ≢ Fate.Gone → IsFollowedTo kind numbering.now.starts forward.now.words row.old row.new }
     ensures aged { IsAged row.new }
@@ -220,24 +224,32 @@ fn follow_cells(
     requires old { All IsOldPlace (take first cells.old.items) }
     requires full { kind ≡ Kind.Full → first ≡ 0 }
     requires numbered { All (IsNumbered numbering.now.starts (length forward.now.words)) cells.old.items }
-    requires to_old { kind ≡ Kind.Full → All (λ word. IsOldPlace (place_in word)) forward.now.words }
+    requires to_old { AreMovedToOld kind forward.now.words }
     ensures moved { cells.new.items ≡ map (followed_place (from_space kind) numbering.now.starts (new_place forward.now.words)) cells.old.items }
     ensures within { result ≤ length cells.new.items }
     ensures old { All IsOldPlace (take result cells.new.items) }
 {
     let (_, young) = cells.words.split_at_mut(first);
     numbering.follow(kind, forward, young);
-    first
-        + match kind {
-            Kind::Full => young.len(),
-            Kind::Nursery => count_old(young),
-        }
+    first + count_moved(kind, young)
+}
+
+// How many of the first of these cells lie in Old, where a collection of this kind has them.
+fn count_moved(kind: Kind, words: &[u64]) -> usize
+    requires { kind ≡ Kind.Full → All IsOldPlace (map place_in words.now) }
+    ensures within { result ≤ length words.now }
+    ensures old { All IsOldPlace (take result (map place_in words.now)) }
+{
+    match kind {
+        Kind::Full => words.len(),
+        Kind::Nursery => count_old(words),
+    }
 }
 
 // How many of the first cells lie in Old.
 fn count_old(words: &[u64]) -> usize
     ensures within { result ≤ length words.now }
-    ensures old { All (λ word. IsOldPlace (place_in word)) (take result words.now) }
+    ensures old { All IsOldPlace (take result (map place_in words.now)) }
 {
     for (count, word) in words.iter().enumerate() {
         if Kind::Nursery.moves(place_of(*word).space) {

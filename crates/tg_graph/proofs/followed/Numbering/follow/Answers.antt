@@ -1,39 +1,37 @@
--- The places before the loop's are those to which their cells were copied, and the others are still the old ones.
-use Rattle.std.proofs.Common.{◌<◌, ◌≤◌, List, ◌++◌, length, get_or, set, drop, map, sym, ap, subst, arith, ◌∙◌}
+-- The words before the loop's are those of where their cells are now, and the others are still the old ones.
+use Rattle.std.proofs.Common.{ℕ, ◌<◌, ◌≤◌, List, ◌++◌, length, get_or, set, drop, map, sym, ap, subst, arith, ◌∙◌}
 use Rattle.std.proofs.lemmas.List.{append-nil, drop_all, get_or_default, take_all}
 use Rattle.std.proofs.lemmas.List.Edits.{map_over_more}
-use Rattle.tg_word.specs.declared.Place.{Place}
 use Rattle.tg_space.specs.Targets.{from_space}
-use Rattle.tg_space.specs.Collection.{new_place}
-use Rattle.tg_graph.specs.Index.{IsNumbered, followed_place}
+use Rattle.tg_word.specs.Word.{place_in}
+use Rattle.tg_graph.specs.Index.{IsNumbered, followed_word}
 use Rattle.tg_graph.proofs.Members.{still_at}
 use Rattle.tg_graph.proofs.followed.Numbering.follow.Goals as goal
 
 pub followed-requires : goal.followed-requires
 followed-requires c =
-    let h = c.args.self.now.starts in
-    let d : Place = record { space = 0; block = 0; cell = 0 } in
-    let same = still_at Place (followed_place (from_space c.args.kind) h (new_place c.args.forward.now.words)) c.args.places.now c.loop-place.places c.loop-place.place-index d c.loop-place.invariant c.loop-place-test.true in
-    subst (IsNumbered h (length c.args.forward.now.words)) (sym same) (c.requires c.loop-place.place-index d c.loop-place-test.true)
+    let starts = c.args.self.now.starts in
+    let forward = c.args.forward.now.words in
+    let same = still_at ℕ (followed_word (from_space c.args.kind) starts forward) c.args.words.now c.loop-word.words c.loop-word.word-index 0 c.loop-word.invariant c.loop-word-test.true in
+    subst (λ word. IsNumbered starts (length forward) (place_in word)) (sym same) (c.requires c.loop-word.word-index 0 c.loop-word-test.true)
 
-pub loop-place-preserved : goal.loop-place-preserved
-loop-place-preserved c =
-    let f = followed_place (from_space c.args.kind) c.args.self.now.starts (new_place c.args.forward.now.words) in
-    let d : Place = record { space = 0; block = 0; cell = 0 } in
-    let ys = c.loop-place.places in
-    let i = c.loop-place.place-index in
-    let x = get_or ys i d in
+pub loop-word-preserved : goal.loop-word-preserved
+loop-word-preserved c =
+    let f = followed_word (from_space c.args.kind) c.args.self.now.starts c.args.forward.now.words in
+    let ys = c.loop-word.words in
+    let i = c.loop-word.word-index in
+    let x = get_or ys i 0 in
     let low : i < length ys = omega arith in
-    ap (λ (place : Place). set ys i place) c.followed.ensures
-    ∙ map_over_more f c.args.places.now ys i x c.loop-place-test.true c.loop-place.invariant (get_or_default ys i d x low)
+    ap (λ (word : ℕ). set ys i word) c.followed.ensures
+    ∙ map_over_more f c.args.words.now ys i x c.loop-word-test.true c.loop-word.invariant (get_or_default ys i 0 x low)
 
 pub returns : goal.returns
 returns c =
-    let f = followed_place (from_space c.args.kind) c.args.self.now.starts (new_place c.args.forward.now.words) in
-    let xs = c.args.places.now in
-    let i = c.loop-place.place-index in
-    let past : length xs ≤ i = c.loop-place-test.false in
-    c.loop-place.invariant
-    ∙ ap (λ (zs : List Place). map f zs ++ drop i xs) (take_all i xs past)
-    ∙ ap (λ (zs : List Place). map f xs ++ zs) (drop_all i xs past)
+    let f = followed_word (from_space c.args.kind) c.args.self.now.starts c.args.forward.now.words in
+    let xs = c.args.words.now in
+    let i = c.loop-word.word-index in
+    let past : length xs ≤ i = c.loop-word-test.false in
+    c.loop-word.invariant
+    ∙ ap (λ (zs : List ℕ). map f zs ++ drop i xs) (take_all i xs past)
+    ∙ ap (λ (zs : List ℕ). map f xs ++ zs) (drop_all i xs past)
     ∙ append-nil (map f xs)
