@@ -1,13 +1,13 @@
-use Rattle.std.proofs.Common.{◌≡◌, ◌∙◌, List, length, map, refl, subst, sym, ℕ, ◌≤◌, Some, take, ap, arith}
+use Rattle.std.proofs.Common.{◌≡◌, ◌∙◌, length, refl, subst, sym, ℕ, ◌≤◌, take, ap, arith}
 use Rattle.std.specs.List.{All}
+use Rattle.tg_word.specs.Word.{place_in}
 use Rattle.tg_word.specs.declared.Place.{Place}
 use Rattle.tg_space.specs.Collection.{new_place}
 use Rattle.tg_space.specs.Targets.{from_space}
-use Rattle.tg_graph.specs.Index.{IsNumbered, followed_place, IsOldPlace, IsQuietCell}
-use Rattle.tg_graph.proofs.KeptSettled.{items_mapped}
+use Rattle.tg_graph.specs.Index.{IsNumbered, IsOldPlace, IsQuietCell}
 use Rattle.tg_graph.proofs.Quiet.{quiet_moved}
 use Rattle.std.specs.Prelude.{slice_index}
-use Rattle.std.proofs.lemmas.Option.{slice_get-get_or}
+use Rattle.std.proofs.lemmas.Option.{get_or_from_slice_get}
 use Rattle.std.proofs.lemmas.List.Elements.{All-nil}
 use Rattle.tg_graph.proofs.FollowedRows.{old_or_gone, young_or_gone, young_or_old}
 use Rattle.tg_graph.proofs.Heaps.{full_or_nursery}
@@ -15,38 +15,22 @@ use Rattle.tg_graph.proofs.followed.follow_row.Goals.{in-Full, in-Nursery}
 use Rattle.tg_graph.proofs.followed.follow_row.Goals as goal
 
 -- the object of the row has a number
-numbered : (c : goal.Then-moves) → IsNumbered c.args.numbering.now.starts (length c.args.forward.now.words) c.index-object.result.now
+numbered : (c : goal.Then-moves) → IsNumbered c.args.numbering.now.starts (length c.args.forward.now.words) (place_in c.word-object.result)
 numbered c =
-    subst (IsNumbered c.args.numbering.now.starts (length c.args.forward.now.words)) (sym c.index-object.ensures) (c.requires.numbered 0 c.index-object.result.now c.requires.some)
+    let object = place_in c.word-object.result in
+    subst (IsNumbered c.args.numbering.now.starts (length c.args.forward.now.words)) (get_or_from_slice_get c.args.row.now.cells.items 0 object object c.word-object.ensures) (c.requires.numbered 0 object c.requires.some)
 
--- where a collection has a cell of the row
-abbrev followed_to : goal.After-deref → Place → Place
-followed_to c = followed_place (from_space c.args.kind) c.args.numbering.now.starts (new_place c.args.forward.now.words)
-
-moved : (c : goal.After-deref) → c.follow_cells-row.new.cells ≡ map (followed_to c) c.args.row.now.cells.items
-moved c = subst (λ (ps : List Place). c.follow_cells-row.new.cells ≡ map (followed_to c) ps) c.deref_mut.ensures.value c.follow_cells-row.ensures.moved
-
-shown : (c : goal.After-deref) → c.deref.result.now ≡ map (followed_to c) c.args.row.now.cells.items
-shown c = c.deref.ensures.value ∙ items_mapped c.args.row.now.cells (followed_to c) c.follow_cells-row.new.cells (moved c)
-
--- the row has the cells that were followed
-cells_followed : (c : goal.After-deref) → c.deref.result.now ≡ c.follow_cells-row.new.cells
-cells_followed c = shown c ∙ sym (moved c)
-
--- the first ones of them that are known to be quiet
-known_quiet : (c : goal.After-deref) → (c.known_quiet-known.result ≤ length c.deref.result.now) × All (IsQuietCell c.args.noted.now.places) (take c.known_quiet-known.result c.deref.result.now)
+-- the first cells of the row that are known to be quiet
+known_quiet : (c : goal.After-follow_cells-row) → (c.known_quiet-known.result ≤ length c.follow_cells-row.new.cells.items) × All (IsQuietCell c.args.noted.now.places) (take c.known_quiet-known.result c.follow_cells-row.new.cells.items)
 known_quiet c =
     quiet_moved c.args.kind c.args.numbering.now.starts (new_place c.args.forward.now.words) c.args.noted.now.places c.args.row.now c.known_quiet-known.result c.known_quiet-known.ensures.full c.known_quiet-known.ensures.nursery
-    c.requires.quiet c.deref.result.now (shown c)
+    c.requires.quiet c.follow_cells-row.new.cells.items c.follow_cells-row.ensures.moved
 
 pub count_quiet-row-requires-clause-quiet : goal.count_quiet-row-requires-clause-quiet
 count_quiet-row-requires-clause-quiet c = (known_quiet c).1
 
 pub count_quiet-row-requires-clause-within : goal.count_quiet-row-requires-clause-within
 count_quiet-row-requires-clause-within c = (known_quiet c).0
-
-pub follow_cells-row-requires-clause-numbered : goal.follow_cells-row-requires-clause-numbered
-follow_cells-row-requires-clause-numbered c = subst (All (IsNumbered c.args.numbering.now.starts (length c.args.forward.now.words))) (sym c.deref_mut.ensures.value) c.requires.numbered
 
 pub returns-then-word-eq0-clause-followed : goal.returns-then-word-eq0-clause-followed
 returns-then-word-eq0-clause-followed c = λ no. absurd (no refl)
@@ -63,9 +47,6 @@ returns-then-word-eq0-clause-quiet c = λ no. absurd (no refl)
 pub returns-then-min-len-clause-old : goal.returns-then-min-len-clause-old
 returns-then-min-len-clause-old c = λ is. absurd (young_or_old is)
 
-pub index-object-requires : goal.index-object-requires
-index-object-requires c = let some = c.requires.some in let long = c.args.row.now.cells.ok.0 in omega (arith, some, long)
-
 pub number-requires-clause-space : goal.number-requires-clause-space
 number-requires-clause-space c = (numbered c).space
 
@@ -75,9 +56,9 @@ number-requires-clause-few c = let inside = (numbered c).inside in let few = (nu
 pub returns-then-word-eq0-clause-gone : goal.returns-then-word-eq0-clause-gone
 returns-then-word-eq0-clause-gone c =
     λ same. record {
-      object = c.index-object.result.now;
-      first = slice_get-get_or c.args.row.now.cells.items 0 c.index-object.result.now c.requires.some ∙ ap (λ (p : Place). Some p) (sym c.index-object.ensures);
-      moves = sym c.moves.ensures ∙ c.if-moves.true;
+      object = place_in c.word-object.result;
+      first = c.word-object.ensures;
+      moves = ap (λ (p : Place). from_space c.args.kind p.space) (sym c.place_of.ensures) ∙ sym c.moves.ensures ∙ c.if-moves.true;
       uncopied = ap (slice_index c.args.forward.now.words) (sym c.number.ensures) ∙ sym c.word.ensures ∙ c.if-word-eq0.true;
     }
 
@@ -85,26 +66,18 @@ pub follow_cells-row-requires-clause-within : goal.follow_cells-row-requires-cla
 follow_cells-row-requires-clause-within c =
     elim c.match-kind.branch [
       | in-Full w ↦ let none = w.first-is in omega (arith, none)
-      | in-Nursery w ↦ subst (λ (ps : List Place). c.match-kind.first ≤ length ps) (sym c.deref_mut.ensures.value) (subst (λ (n : ℕ). n ≤ length c.args.row.now.cells.items) (sym w.first-is) c.requires.aged.within)
+      | in-Nursery w ↦ subst (λ (n : ℕ). n ≤ length c.args.row.now.cells.items) (sym w.first-is) c.requires.aged.within
     ]
 
 pub follow_cells-row-requires-clause-old : goal.follow_cells-row-requires-clause-old
 follow_cells-row-requires-clause-old c =
     elim c.match-kind.branch [
-      | in-Full w ↦ subst (λ (n : ℕ). All IsOldPlace (take n c.deref_mut.result.now)) (sym w.first-is) (All-nil IsOldPlace)
-      | in-Nursery w ↦
-          subst (λ (n : ℕ). All IsOldPlace (take n c.deref_mut.result.now)) (sym w.first-is)
-          (subst (λ (ps : List Place). All IsOldPlace (take c.args.row.now.old_cells ps)) (sym c.deref_mut.ensures.value) c.requires.aged.cells)
+      | in-Full w ↦ subst (λ (n : ℕ). All IsOldPlace (take n c.args.row.now.cells.items)) (sym w.first-is) (All-nil IsOldPlace)
+      | in-Nursery w ↦ subst (λ (n : ℕ). All IsOldPlace (take n c.args.row.now.cells.items)) (sym w.first-is) c.requires.aged.cells
     ]
 
 pub follow_cells-row-requires-clause-full : goal.follow_cells-row-requires-clause-full
 follow_cells-row-requires-clause-full c = λ full. elim c.match-kind.branch [ in-Full w ↦ w.first-is | in-Nursery w ↦ absurd (full_or_nursery (sym full ∙ w.in-Nursery.is)) ]
-
-pub count_quiet-row-requires-clause-old_within : goal.count_quiet-row-requires-clause-old_within
-count_quiet-row-requires-clause-old_within c = subst (λ (ps : List Place). c.follow_cells-row.result ≤ length ps) (sym (cells_followed c)) c.follow_cells-row.ensures.within
-
-pub count_quiet-row-requires-clause-old : goal.count_quiet-row-requires-clause-old
-count_quiet-row-requires-clause-old c = subst (λ (ps : List Place). All IsOldPlace (take c.follow_cells-row.result ps)) (sym (cells_followed c)) c.follow_cells-row.ensures.old
 
 pub returns-then-min-len-clause-gone : goal.returns-then-min-len-clause-gone
 returns-then-min-len-clause-gone c = λ is. absurd (young_or_gone is)
