@@ -21,7 +21,7 @@ numbered c =
     subst (IsNumbered c.args.numbering.now.starts (length c.args.forward.now.words)) (get_or_from_slice_get c.args.row.now.cells.items 0 object object c.word-object.ensures) (c.requires.numbered 0 object c.requires.some)
 
 -- the first cells of the row that are known to be quiet
-known_quiet : (c : goal.After-follow_cells-row) → (c.known_quiet-known.result ≤ length c.follow_cells-row.new.cells.items) × All (IsQuietCell c.args.noted.now.places) (take c.known_quiet-known.result c.follow_cells-row.new.cells.items)
+known_quiet : (c : goal.After-count_quiet-arg-1) → (c.known_quiet-known.result ≤ length c.follow_cells-row.new.cells.items) × All (IsQuietCell c.args.noted.now.places) (take c.known_quiet-known.result c.follow_cells-row.new.cells.items)
 known_quiet c =
     quiet_moved c.args.kind c.args.numbering.now.starts (new_place c.args.forward.now.words) c.args.noted.now.places c.args.row.now c.known_quiet-known.result c.known_quiet-known.ensures.full c.known_quiet-known.ensures.nursery
     c.requires.quiet c.follow_cells-row.new.cells.items c.follow_cells-row.ensures.moved
