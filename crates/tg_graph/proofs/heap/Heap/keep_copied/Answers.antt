@@ -3,7 +3,7 @@ use Rattle.std.proofs.Common.{[], ◌≡◌, length, ap, arith, refl, subst}
 use Rattle.tg_space.specs.SpaceTable.{with_adopted}
 use Rattle.tg_space.specs.declared.kind.Kind.TheVariants.{Full}
 use Rattle.tg_graph.specs.Heap.{HeapState}
-use Rattle.tg_graph.proofs.KeptHeap.{IsLeft, collected_words, followable, indexed_beside_none}
+use Rattle.tg_graph.proofs.KeptHeap.{IsLeft, collected_words, followable, forward_in_old, indexed_beside_none}
 use Rattle.tg_graph.proofs.KeptReached.{subject_objects}
 use Rattle.tg_graph.proofs.KeptSettled.{full_left}
 use Rattle.tg_graph.proofs.heap.Heap.keep_copied.Given.{Over}
@@ -49,13 +49,16 @@ returns-clause-blocks g c =
 pub returns-clause-settled : goal.returns-clause-settled
 returns-clause-settled g c = (left g c).settled
 
-pub follow-requires : goal.follow-requires
-follow-requires g c =
+pub follow-requires-clause-rows : goal.follow-requires-clause-rows
+follow-requires-clause-rows g c =
     let inside = c.self.inside in
     let whole = collected_words Full inside.cells.spaces.spaces c.args.self.now c.args.forward.now.words c.args.adoption.aged c.args.adoption.old c.args.remembered.places (ap (λ (heap : HeapState). heap.table.spaces) c.self.view_is) c.requires in
     let few = c.of-numbering.ensures.few in
     followable inside.cells.spaces.spaces inside.cells.payloads (table_list inside.cells.spaces c.of-numbering.ensures.table) c.self.invariant.0.graph c.of-numbering.result.starts c.of-numbering.ensures.starts [] inside.rows.entries
     (indexed_beside_none inside.cells.spaces.spaces inside.cells.remembered.places inside.rows.entries c.self.invariant.1) (length c.args.forward.now.words) whole (omega (arith, whole, few))
+
+pub follow-requires-clause-to_old : goal.follow-requires-clause-to_old
+follow-requires-clause-to_old g c = λ full. forward_in_old _ _ c.args.forward.now.words c.args.adoption.aged c.args.adoption.old c.args.remembered.places c.requires
 
 pub follow_subjects-requires : goal.follow_subjects-requires
 follow_subjects-requires g c =

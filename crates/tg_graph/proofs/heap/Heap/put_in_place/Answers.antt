@@ -10,6 +10,7 @@ use Rattle.tg_space.specs.Targets.{young_spaces}
 use Rattle.tg_space.specs.Collection.{IsCollection, new_place}
 use Rattle.tg_graph.specs.Heap.{HeapState, IsWellFormed, roots_of}
 use Rattle.tg_graph.specs.Kept.{IsPrepared, moved_place}
+use Rattle.tg_graph.proofs.Heaps.{full_or_nursery}
 use Rattle.tg_graph.proofs.KeptBlocks.{nursery_written}
 use Rattle.tg_graph.proofs.KeptHeap.{IsLeft, collected_words, followable, indexed_beside}
 use Rattle.tg_graph.proofs.KeptSettled.{cells_there, nursery_left, payloads_there}
@@ -92,8 +93,11 @@ invariant_of-self g c =
     let inside = c.self.inside in
     subst (λ (t : SpaceTable). IsWellFormed (record { table = t; payloads = inside.cells.payloads; subjects = inside.subjects; remembered = inside.cells.remembered.places; indexed = names_indexed t.spaces inside.rows.entries }) × AreIndexed t.spaces inside.cells.remembered.places inside.rows.entries) (sym c.in_err-adopt.ensures.refused) c.self.invariant
 
-pub follow-requires : goal.follow-requires
-follow-requires g c =
+pub follow-requires-clause-to_old : goal.follow-requires-clause-to_old
+follow-requires-clause-to_old g c = λ full. absurd (full_or_nursery (sym full))
+
+pub follow-requires-clause-rows : goal.follow-requires-clause-rows
+follow-requires-clause-rows g c =
     let inside = c.self.inside in
     let s : HeapState = record { table = inside.cells.spaces; payloads = inside.cells.payloads; subjects = inside.subjects; remembered = inside.cells.remembered.places; indexed = names_indexed inside.cells.spaces.spaces inside.rows.entries } in
     let collected : IsCollection Nursery s.table.spaces (roots_of Nursery s) c.args.forward.now.words c.args.adoption.aged c.args.adoption.old c.args.noted.places =

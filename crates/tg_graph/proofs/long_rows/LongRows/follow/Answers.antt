@@ -6,4 +6,4 @@ use Rattle.tg_graph.proofs.long_rows.LongRows.follow.Goals as goal
 
 pub follow_rows-self-inside-requires-clause-rows : goal.follow_rows-self-inside-requires-clause-rows
 follow_rows-self-inside-requires-clause-rows c =
-    subst (λ (s : Indexes). (name : ℕ) (row : IndexedRow) → lookup (nat_eq name) s.entries ≡ Some row → IsFollowable c.args.numbering.now.starts (length c.args.forward.now.words) (known_notes c.args.kind c.args.noted.now.places) row) (sym c.self.view_is) c.requires
+    subst (λ (s : Indexes). (name : ℕ) (row : IndexedRow) → lookup (nat_eq name) s.entries ≡ Some row → IsFollowable c.args.numbering.now.starts (length c.args.forward.now.words) (known_notes c.args.kind c.args.noted.now.places) row) (sym c.self.view_is) c.requires.rows
