@@ -70,7 +70,7 @@ impl Numbering {
         CELLS * self.starts[space as usize] + number_of(word)
     }
 
-    // The word of a cell becomes one of where a collection of this kind has it.
+    // A word of where a collection of this kind has the cell that a word names.
     #[inline(always)]
     fn followed(&self, kind: Kind, forward: &Forwarding, word: u64) -> u64
         requires { IsNumbered self.now.starts (length forward.now.words) (place_in word) }

@@ -1,4 +1,4 @@
-//! The cells of a long row: a word for each, in chain order, which is the link to it or has no rights either.
+//! The cells of a long row. See 'Rows and their indexes' in docs/ARCHITECTURE.md.
 ghost use Rattle.std.specs.Prelude.{◌≡◌, ◌<◌, ◌++◌, ◌∷◌, ◌^◌, [], Some, length, map, slice_get, OnOk};
 ghost use Rattle.tg_word.specs.Word.{place_in};
 
@@ -6,10 +6,10 @@ use std::alloc::AllocError;
 use std::marker::Model;
 use tg_word::{Place, place_of};
 
-/// The cells of a row, in chain order.
+/// The cells of a row, in chain order: of each the link to it, or another word that names it.
 #[derive(Drop)]
 pub(crate) struct RowCells {
-    // A word for each, of which the place counts alone.
+    // Only their places count.
     pub(crate) words: Vec<u64>,
 }
 
@@ -38,6 +38,7 @@ impl RowCells {
         ensures len { result ≡ length self.now.items }
         ensures few { length self.now.items < 2 ^ 60 }
     {
+        // Of a slice it is known how long it may be.
         self.words.as_slice().len()
     }
 

@@ -1,4 +1,4 @@
-use Rattle.std.proofs.Common.{◌≡◌, ◌∙◌, length, refl, subst, sym, ℕ, ◌≤◌, take, ap, arith}
+use Rattle.std.proofs.Common.{◌∙◌, length, refl, subst, sym, ℕ, ◌≤◌, take, ap, arith}
 use Rattle.std.specs.List.{All}
 use Rattle.tg_word.specs.Word.{place_in}
 use Rattle.tg_word.specs.declared.Place.{Place}

@@ -1,6 +1,5 @@
-use Rattle.std.proofs.Common.{◌≡◌, ◌∙◌, ◌++◌, ◌∷◌, ℕ, List, [], Some, ap, arith, nat_eq, refl, sym, subst}
+use Rattle.std.proofs.Common.{◌∙◌, ◌++◌, ◌∷◌, ℕ, List, [], Some, ap, arith, nat_eq, refl, sym, subst}
 use Rattle.std.specs.Map.{lookup}
-use Rattle.tg_word.specs.declared.Place.{Place}
 use Rattle.tg_word.specs.Word.{place_in}
 use Rattle.tg_index.specs.Slots.{IsFirstVacant}
 use Rattle.tg_graph.specs.Spots.{with_note}
