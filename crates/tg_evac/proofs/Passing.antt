@@ -1,5 +1,5 @@
 -- What goes on to the caller: a fault, and what a walk has kept.
-use Rattle.std.proofs.Common.{◌≡◌, ℕ, Bool, List, sym, ap, subst, ◌∙◌, Ok, Err, Result, IsErrAnd, IfErr}
+use Rattle.std.proofs.Common.{◌≡◌, ℕ, Bool, List, sym, ap, subst, ◌∙◌, Ok, Err, Result, IsErrAnd, IfErr, OnOk}
 use Rattle.tg_space.specs.SpaceList.{SpaceList}
 use Rattle.tg_space.specs.SpaceTable.{SpaceTable, kept_blocks}
 use Rattle.tg_space.specs.declared.kind.Kind.{Kind}
@@ -19,6 +19,11 @@ use Rattle.tg_evac.specs.Walks.{ClaimsAll, GoesOn, IsTableFor, MayWalk}
 pub passed_on : {A E : Type 0} (r : Result A E) (P : E → Type 0) (y : E) → IsErrAnd r (λ x. x ≡ y) → P y → IfErr r P
 passed_on (Ok x) P y same p = absurd same
 passed_on (Err x) P y same p = subst P (sym same) p
+
+-- what holds where nothing was refused
+pub refused_always : {A E : Type 0} (r : Result A E) (y : E) (P : Type 0) → IsErrAnd r (λ x. x ≡ y) → OnOk r P
+refused_always (Ok x) y P same = absurd same
+refused_always (Err x) y P same = tt
 
 -- a collection that is refused
 pub collects_refused : {Fault : Type 0} {heap_full : Fault} {kind : Kind} {t : SpaceTable} {roots : List Root} {more helpers : ℕ} (result : Result Copied Fault) (fault : Fault) → IsErrAnd result (λ x. x ≡ fault) →

@@ -7,6 +7,8 @@ use Rattle.tg_word.specs.declared.Place.{Place}
 use Rattle.tg_word.specs.Word.{place_in}
 use Rattle.tg_space.specs.SpaceList.{SpaceList, cells_of}
 use Rattle.tg_space.specs.SpaceTable.{kept_blocks}
+use Rattle.tg_space.specs.Soundness.{IsRootIn}
+use Rattle.tg_space.specs.Targets.{all_root_targets, from_space}
 use Rattle.tg_space.specs.declared.kind.Kind.{Kind}
 use Rattle.tg_space.specs.declared.root.Root.{Root}
 use Rattle.tg_evac.specs.declared.fault.CollectFault.{CollectFault}
@@ -82,3 +84,22 @@ pub record Scans {Table Fixed T : Type 0} (walked : Table → Walked Fixed) (kno
   pub goes : GoesOn walked knows is_full before after result
   pub traced : (roots : List Root) → AreTraced (walked before).kind h roots (walked before).won → AreTraced (walked before).kind h roots (walked after).won
   pub copies : OnOk result (AreScanned h (walked after) (knows after) scanned aged old)
+
+-- ---- the walk along roots
+
+-- what was won before is traced from these roots or more, and so many of it were scanned
+pub record MayWalkAlong {Table Fixed : Type 0} (walked : Table → Walked Fixed) (knows : Table → (ℕ → Place) → Type 0)
+    (kind : Kind) (h : SpaceList) (along : List Root) (table : Table) (count : ℕ) (aged old : List (List ℕ)) : Type 0 where
+  pub walk : MayWalk kind h (walked table)
+  pub roots : All (IsRootIn h) along
+  pub traced : (all : List Root) × ((root : Root) → Contains along root → Contains all root) × AreTraced (walked table).kind h all (walked table).won
+  pub scanned : AreScanned h (walked table) (knows table) count aged old
+
+-- what the roots name is met, and all that was won is traced from them and scanned
+pub record WalksAlong {Table Fixed T : Type 0} (walked : Table → Walked Fixed) (knows : Table → (ℕ → Place) → Type 0) (is_full : Table → Type 0)
+    (h : SpaceList) (along : List Root) (before after : Table) (count : ℕ) (aged old : List (List ℕ)) (result : Result T CollectFault) : Type 0 where
+  pub traced : (all : List Root) → ((root : Root) → Contains along root → Contains all root) → AreTraced (walked before).kind h all (walked before).won → AreTraced (walked before).kind h all (walked after).won
+  pub goes : GoesOn walked knows is_full before after result
+  pub met : OnOk result (All (Contains (walked after).met) (all_root_targets (from_space (walked before).kind) h along))
+  pub scanned : OnOk result (AreScanned h (walked after) (knows after) (length (walked after).won) aged old)
+  pub ended : OnOk result (count ≡ length (walked after).won)

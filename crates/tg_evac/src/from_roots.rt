@@ -6,7 +6,7 @@ ghost use Rattle.tg_space.specs.Targets.{all_root_targets, from_space, root_targ
 ghost use Rattle.tg_space.specs.declared.root.Root.{Root as RootOf};
 ghost use Rattle.tg_evac.specs.Claims.{AreTraced};
 ghost use Rattle.tg_evac.specs.Claimers.{AreScanned};
-ghost use Rattle.tg_evac.specs.Walks.{GoesOn, MayWalk};
+ghost use Rattle.tg_evac.specs.Walks.{GoesOn, MayWalk, MayWalkAlong, WalksAlong};
 
 use crate::claimer::Claimer;
 use crate::copies::{Copies, Reads, scan};
@@ -58,15 +58,8 @@ fn walk_each<C: Claimer>(
     roots: &[Root],
     copies: &mut Copies,
 ) -> Result<(), CollectFault>
-    requires walk { MayWalk kind spaces.now.spaces (C.walked claimer.old) }
-    requires roots { All (IsRootIn spaces.now.spaces) roots.now }
-    requires traced { (all : List RootOf) × ((root : RootOf) → Contains roots.now root → Contains all root) × AreTraced (C.walked claimer.old).kind spaces.now.spaces all (C.walked claimer.old).won }
-    requires scanned { AreScanned spaces.now.spaces (C.walked claimer.old) (C.knows claimer.old) copies.now.scanned copies.now.aged copies.now.old }
-    ensures traced { (all : List RootOf) → ((root : RootOf) → Contains roots.now root → Contains all root) → AreTraced (C.walked claimer.old).kind spaces.now.spaces all (C.walked claimer.old).won → AreTraced (C.walked claimer.old).kind spaces.now.spaces all (C.walked claimer.new).won }
-    ensures goes { GoesOn C.walked C.knows C.is_full claimer.old claimer.new result }
-    ensures met { OnOk result (All (Contains (C.walked claimer.new).met) (all_root_targets (from_space (C.walked claimer.old).kind) spaces.now.spaces roots.now)) }
-    ensures scanned { OnOk result (AreScanned spaces.now.spaces (C.walked claimer.new) (C.knows claimer.new) (length (C.walked claimer.new).won) copies.exit.now.aged copies.exit.now.old) }
-    ensures ended { OnOk result (copies.exit.now.scanned ≡ length (C.walked claimer.new).won) }
+    requires { MayWalkAlong C.walked C.knows kind spaces.now.spaces roots.now claimer.old copies.now.scanned copies.now.aged copies.now.old }
+    ensures { WalksAlong C.walked C.knows C.is_full spaces.now.spaces roots.now claimer.old claimer.new copies.exit.now.scanned copies.exit.now.aged copies.exit.now.old result }
 {
     let mut claimed = 0;
     loop {
@@ -91,15 +84,8 @@ fn walk_together<C: Claimer>(
     roots: &[Root],
     copies: &mut Copies,
 ) -> Result<(), CollectFault>
-    requires walk { MayWalk kind spaces.now.spaces (C.walked claimer.old) }
-    requires roots { All (IsRootIn spaces.now.spaces) roots.now }
-    requires traced { (all : List RootOf) × ((root : RootOf) → Contains roots.now root → Contains all root) × AreTraced (C.walked claimer.old).kind spaces.now.spaces all (C.walked claimer.old).won }
-    requires scanned { AreScanned spaces.now.spaces (C.walked claimer.old) (C.knows claimer.old) copies.now.scanned copies.now.aged copies.now.old }
-    ensures traced { (all : List RootOf) → ((root : RootOf) → Contains roots.now root → Contains all root) → AreTraced (C.walked claimer.old).kind spaces.now.spaces all (C.walked claimer.old).won → AreTraced (C.walked claimer.old).kind spaces.now.spaces all (C.walked claimer.new).won }
-    ensures goes { GoesOn C.walked C.knows C.is_full claimer.old claimer.new result }
-    ensures met { OnOk result (All (Contains (C.walked claimer.new).met) (all_root_targets (from_space (C.walked claimer.old).kind) spaces.now.spaces roots.now)) }
-    ensures scanned { OnOk result (AreScanned spaces.now.spaces (C.walked claimer.new) (C.knows claimer.new) (length (C.walked claimer.new).won) copies.exit.now.aged copies.exit.now.old) }
-    ensures ended { OnOk result (copies.exit.now.scanned ≡ length (C.walked claimer.new).won) }
+    requires { MayWalkAlong C.walked C.knows kind spaces.now.spaces roots.now claimer.old copies.now.scanned copies.now.aged copies.now.old }
+    ensures { WalksAlong C.walked C.knows C.is_full spaces.now.spaces roots.now claimer.old claimer.new copies.exit.now.scanned copies.exit.now.aged copies.exit.now.old result }
 {
     for root in roots {
         claim_root(claimer, spaces, kind, *root)?;

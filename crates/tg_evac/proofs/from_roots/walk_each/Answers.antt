@@ -9,7 +9,7 @@ use Rattle.tg_space.specs.declared.root.Root.TheVariants.{Row}
 use Rattle.tg_evac.specs.declared.win.Win.{Win}
 use Rattle.tg_evac.specs.Claims.{AreTraced}
 use Rattle.tg_evac.specs.Claimers.{AreScanned}
-use Rattle.tg_evac.proofs.Passing.{goes_refused, walk_still}
+use Rattle.tg_evac.proofs.Passing.{goes_refused, refused_always, walk_still}
 use Rattle.tg_evac.proofs.Pieces.{keeps_root, met_root, scanned_more, traced_root}
 use Rattle.tg_evac.proofs.Walking.{still_met, wins_none, wins_then}
 use Rattle.tg_evac.proofs.from_roots.walk_each.Goals as goal
@@ -38,54 +38,56 @@ scan-requires g c =
       copies = c.loop-claimer.invariant.scanned;
     }
 
-pub returns-in_err-scan-clause-traced : goal.returns-in_err-scan-clause-traced
-returns-in_err-scan-clause-traced g c all held traced =
+pub returns-in_err-scan : goal.returns-in_err-scan
+returns-in_err-scan g c =
     let m = g.C.Claimer in let h = c.args.spaces.now.spaces in
-    subst (λ (k : Kind). AreTraced k h all (m.walked c.loop-claimer.claimer).won → AreTraced k h all (m.walked c.scan.new.claimer).won) c.loop-claimer.invariant.keeps.same_kind (c.scan.ensures.scans.traced all) (c.loop-claimer.invariant.traced all held traced)
-
-pub returns-in_err-scan-clause-goes : goal.returns-in_err-scan-clause-goes
-returns-in_err-scan-clause-goes g c =
-    let m = g.C.Claimer in
-    goes_refused m.walked m.knows m.is_full c.from_residual.result _ c.from_residual.ensures.1 (wins_then c.loop-claimer.invariant.keeps c.scan.ensures.scans.goes.keeps)
-    (λ to agrees. c.loop-claimer.invariant.grows to (c.scan.ensures.scans.goes.grows to agrees)) c.in_err-scan.ensures.scans.goes.full
-
-pub returns-then-claimed-roots-clause-traced : goal.returns-then-claimed-roots-clause-traced
-returns-then-claimed-roots-clause-traced g c all held traced =
-    let m = g.C.Claimer in let h = c.args.spaces.now.spaces in
-    subst (λ (k : Kind). AreTraced k h all (m.walked c.loop-claimer.claimer).won → AreTraced k h all (m.walked c.scan.new.claimer).won) c.loop-claimer.invariant.keeps.same_kind (c.scan.ensures.scans.traced all) (c.loop-claimer.invariant.traced all held traced)
-
-pub returns-then-claimed-roots-clause-goes : goal.returns-then-claimed-roots-clause-goes
-returns-then-claimed-roots-clause-goes g c =
     record {
-      keeps = wins_then c.loop-claimer.invariant.keeps c.scan.ensures.scans.goes.keeps;
-      grows = λ to agrees. c.loop-claimer.invariant.grows to (c.scan.ensures.scans.goes.grows to agrees);
-      full = tt;
+      traced = λ all held traced.
+          subst (λ (k : Kind). AreTraced k h all (m.walked c.loop-claimer.claimer).won → AreTraced k h all (m.walked c.scan.new.claimer).won) c.loop-claimer.invariant.keeps.same_kind (c.scan.ensures.scans.traced all) (c.loop-claimer.invariant.traced all held traced);
+      goes = goes_refused m.walked m.knows m.is_full c.from_residual.result _ c.from_residual.ensures.1 (wins_then c.loop-claimer.invariant.keeps c.scan.ensures.scans.goes.keeps)
+          (λ to agrees. c.loop-claimer.invariant.grows to (c.scan.ensures.scans.goes.grows to agrees)) c.in_err-scan.ensures.scans.goes.full;
+      met = refused_always c.from_residual.result _ _ c.from_residual.ensures.1;
+      scanned = refused_always c.from_residual.result _ _ c.from_residual.ensures.1;
+      ended = refused_always c.from_residual.result _ _ c.from_residual.ensures.1;
     }
 
-pub returns-then-claimed-roots-clause-met : goal.returns-then-claimed-roots-clause-met
-returns-then-claimed-roots-clause-met g c =
-    let m = g.C.Claimer in let roots = c.args.roots.now in
-    let all = take_all c.loop-claimer.claimed roots (omega (arith, c.if-claimed-roots.true)) in
-    let kind = (m.walked c.args.claimer.now).kind in let h = c.args.spaces.now.spaces in
-    let met = subst (λ (rs : List Root). All (Contains (m.walked c.loop-claimer.claimer).met) (all_root_targets (from_space kind) h rs)) all c.loop-claimer.invariant.met in
-    still_met c.scan.ensures.scans.goes.keeps (all_root_targets (from_space kind) h roots) met
+pub returns-then-claimed-roots : goal.returns-then-claimed-roots
+returns-then-claimed-roots g c =
+    let m = g.C.Claimer in let h = c.args.spaces.now.spaces in let roots = c.args.roots.now in
+    let all_taken = take_all c.loop-claimer.claimed roots (omega (arith, c.if-claimed-roots.true)) in
+    let kind = (m.walked c.args.claimer.now).kind in
+    let met = subst (λ (rs : List Root). All (Contains (m.walked c.loop-claimer.claimer).met) (all_root_targets (from_space kind) h rs)) all_taken c.loop-claimer.invariant.met in
+    record {
+      traced = λ all held traced.
+          subst (λ (k : Kind). AreTraced k h all (m.walked c.loop-claimer.claimer).won → AreTraced k h all (m.walked c.scan.new.claimer).won) c.loop-claimer.invariant.keeps.same_kind (c.scan.ensures.scans.traced all) (c.loop-claimer.invariant.traced all held traced);
+      goes = record {
+        keeps = wins_then c.loop-claimer.invariant.keeps c.scan.ensures.scans.goes.keeps;
+        grows = λ to agrees. c.loop-claimer.invariant.grows to (c.scan.ensures.scans.goes.grows to agrees);
+        full = tt;
+      };
+      met = still_met c.scan.ensures.scans.goes.keeps (all_root_targets (from_space kind) h roots) met;
+      scanned = c.in_ok-scan.ensures.scans.copies;
+      ended = c.in_ok-scan.ensures.ended;
+    }
 
-pub returns-in_err-claim_root-clause-traced : goal.returns-in_err-claim_root-clause-traced
+pub returns-in_err-claim_root : goal.returns-in_err-claim_root
 unfolding no_root
-returns-in_err-claim_root-clause-traced g c all held traced =
+returns-in_err-claim_root g c =
     let m = g.C.Claimer in let h = c.args.spaces.now.spaces in let roots = c.args.roots.now in let i = c.loop-claimer.claimed in
     let inside : i < length roots = omega (arith, c.loop-claimer.invariant.inside, c.if-claimed-roots.false) in
     let keeps = wins_then c.loop-claimer.invariant.keeps c.scan.ensures.scans.goes.keeps in
-    let scanned = subst (λ (k : Kind). AreTraced k h all (m.walked c.loop-claimer.claimer).won → AreTraced k h all (m.walked c.scan.new.claimer).won) c.loop-claimer.invariant.keeps.same_kind (c.scan.ensures.scans.traced all) (c.loop-claimer.invariant.traced all held traced) in
-    subst (λ (k : Kind). AreTraced k h all (m.walked c.scan.new.claimer).won → AreTraced k h all (m.walked c.claim_root.new.claimer).won) keeps.same_kind
-    (traced_root h _ c.claim_root.ensures.added all (held _ (Contains-get_or roots i no_root inside))) scanned
-
-pub returns-in_err-claim_root-clause-goes : goal.returns-in_err-claim_root-clause-goes
-returns-in_err-claim_root-clause-goes g c =
-    let m = g.C.Claimer in
-    goes_refused m.walked m.knows m.is_full c.from_residual-in_err-claim_root.result _ c.from_residual-in_err-claim_root.ensures.1
-    (wins_then (wins_then c.loop-claimer.invariant.keeps c.scan.ensures.scans.goes.keeps) (keeps_root c.args.spaces.now.spaces _ c.claim_root.ensures.added))
-    (λ to agrees. c.loop-claimer.invariant.grows to (c.scan.ensures.scans.goes.grows to (c.claim_root.ensures.grows to agrees))) c.in_err-claim_root.ensures.full
+    record {
+      traced = λ all held traced.
+          let scanned = subst (λ (k : Kind). AreTraced k h all (m.walked c.loop-claimer.claimer).won → AreTraced k h all (m.walked c.scan.new.claimer).won) c.loop-claimer.invariant.keeps.same_kind (c.scan.ensures.scans.traced all) (c.loop-claimer.invariant.traced all held traced) in
+          subst (λ (k : Kind). AreTraced k h all (m.walked c.scan.new.claimer).won → AreTraced k h all (m.walked c.claim_root.new.claimer).won) keeps.same_kind
+          (traced_root h _ c.claim_root.ensures.added all (held _ (Contains-get_or roots i no_root inside))) scanned;
+      goes = goes_refused m.walked m.knows m.is_full c.from_residual-in_err-claim_root.result _ c.from_residual-in_err-claim_root.ensures.1
+          (wins_then keeps (keeps_root h _ c.claim_root.ensures.added))
+          (λ to agrees. c.loop-claimer.invariant.grows to (c.scan.ensures.scans.goes.grows to (c.claim_root.ensures.grows to agrees))) c.in_err-claim_root.ensures.full;
+      met = refused_always c.from_residual-in_err-claim_root.result _ _ c.from_residual-in_err-claim_root.ensures.1;
+      scanned = refused_always c.from_residual-in_err-claim_root.result _ _ c.from_residual-in_err-claim_root.ensures.1;
+      ended = refused_always c.from_residual-in_err-claim_root.result _ _ c.from_residual-in_err-claim_root.ensures.1;
+    }
 
 pub loop-claimer-preserved : goal.loop-claimer-preserved
 unfolding no_root

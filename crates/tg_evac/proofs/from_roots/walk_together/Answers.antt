@@ -8,7 +8,7 @@ use Rattle.tg_space.specs.declared.root.Root.{Root}
 use Rattle.tg_space.specs.declared.root.Root.TheVariants.{Row}
 use Rattle.tg_evac.specs.declared.win.Win.{Win}
 use Rattle.tg_evac.specs.Claims.{AreTraced}
-use Rattle.tg_evac.proofs.Passing.{goes_refused, walk_still}
+use Rattle.tg_evac.proofs.Passing.{goes_refused, refused_always, walk_still}
 use Rattle.tg_evac.proofs.Pieces.{keeps_root, met_root, ok_always, scanned_more, traced_root}
 use Rattle.tg_evac.proofs.Walking.{still_met, wins_none, wins_then}
 use Rattle.tg_evac.proofs.from_roots.walk_together.Goals as goal
@@ -30,18 +30,20 @@ loop-root-init g c =
 pub claim_root-requires-clause-walk : goal.claim_root-requires-clause-walk
 claim_root-requires-clause-walk g c = walk_still c.loop-root.invariant.keeps c.requires.walk
 
-pub returns-in_err-claim_root-clause-traced : goal.returns-in_err-claim_root-clause-traced
+pub returns-in_err-claim_root : goal.returns-in_err-claim_root
 unfolding no_root
-returns-in_err-claim_root-clause-traced g c all held traced =
+returns-in_err-claim_root g c =
     let m = g.C.Claimer in let h = c.args.spaces.now.spaces in let i = c.loop-root.root-index in
-    subst (λ (k : Kind). AreTraced k h all (m.walked c.loop-root.claimer).won → AreTraced k h all (m.walked c.claim_root.new.claimer).won) c.loop-root.invariant.keeps.same_kind
-    (traced_root h _ c.claim_root.ensures.added all (held _ (Contains-get_or c.args.roots.now i no_root c.loop-root-test.true))) (c.loop-root.invariant.traced all held traced)
-
-pub returns-in_err-claim_root-clause-goes : goal.returns-in_err-claim_root-clause-goes
-returns-in_err-claim_root-clause-goes g c =
-    let m = g.C.Claimer in
-    goes_refused m.walked m.knows m.is_full c.from_residual.result _ c.from_residual.ensures.1 (wins_then c.loop-root.invariant.keeps (keeps_root c.args.spaces.now.spaces _ c.claim_root.ensures.added))
-    (λ to agrees. c.loop-root.invariant.grows to (c.claim_root.ensures.grows to agrees)) c.in_err-claim_root.ensures.full
+    record {
+      traced = λ all held traced.
+          subst (λ (k : Kind). AreTraced k h all (m.walked c.loop-root.claimer).won → AreTraced k h all (m.walked c.claim_root.new.claimer).won) c.loop-root.invariant.keeps.same_kind
+          (traced_root h _ c.claim_root.ensures.added all (held _ (Contains-get_or c.args.roots.now i no_root c.loop-root-test.true))) (c.loop-root.invariant.traced all held traced);
+      goes = goes_refused m.walked m.knows m.is_full c.from_residual.result _ c.from_residual.ensures.1 (wins_then c.loop-root.invariant.keeps (keeps_root h _ c.claim_root.ensures.added))
+          (λ to agrees. c.loop-root.invariant.grows to (c.claim_root.ensures.grows to agrees)) c.in_err-claim_root.ensures.full;
+      met = refused_always c.from_residual.result _ _ c.from_residual.ensures.1;
+      scanned = refused_always c.from_residual.result _ _ c.from_residual.ensures.1;
+      ended = refused_always c.from_residual.result _ _ c.from_residual.ensures.1;
+    }
 
 pub loop-root-preserved : goal.loop-root-preserved
 unfolding no_root
@@ -66,24 +68,21 @@ scan-requires g c =
       copies = c.loop-root.invariant.scanned;
     }
 
-pub returns-clause-traced : goal.returns-clause-traced
-returns-clause-traced g c all held traced =
-    let m = g.C.Claimer in let h = c.args.spaces.now.spaces in
-    subst (λ (k : Kind). AreTraced k h all (m.walked c.loop-root.claimer).won → AreTraced k h all (m.walked c.scan.new.claimer).won) c.loop-root.invariant.keeps.same_kind (c.scan.ensures.scans.traced all) (c.loop-root.invariant.traced all held traced)
-
-pub returns-clause-goes : goal.returns-clause-goes
-returns-clause-goes g c =
+pub returns : goal.returns
+returns g c =
+    let m = g.C.Claimer in let h = c.args.spaces.now.spaces in let roots = c.args.roots.now in
+    let all_taken = take_all c.loop-root.root-index roots c.loop-root-test.false in
+    let kind = (m.walked c.args.claimer.now).kind in
+    let met = subst (λ (rs : List Root). All (Contains (m.walked c.loop-root.claimer).met) (all_root_targets (from_space kind) h rs)) all_taken c.loop-root.invariant.met in
     record {
-      keeps = wins_then c.loop-root.invariant.keeps c.scan.ensures.scans.goes.keeps;
-      grows = λ to agrees. c.loop-root.invariant.grows to (c.scan.ensures.scans.goes.grows to agrees);
-      full = c.scan.ensures.scans.goes.full;
+      traced = λ all held traced.
+          subst (λ (k : Kind). AreTraced k h all (m.walked c.loop-root.claimer).won → AreTraced k h all (m.walked c.scan.new.claimer).won) c.loop-root.invariant.keeps.same_kind (c.scan.ensures.scans.traced all) (c.loop-root.invariant.traced all held traced);
+      goes = record {
+        keeps = wins_then c.loop-root.invariant.keeps c.scan.ensures.scans.goes.keeps;
+        grows = λ to agrees. c.loop-root.invariant.grows to (c.scan.ensures.scans.goes.grows to agrees);
+        full = c.scan.ensures.scans.goes.full;
+      };
+      met = ok_always c.scan.result (still_met c.scan.ensures.scans.goes.keeps (all_root_targets (from_space kind) h roots) met);
+      scanned = c.scan.ensures.scans.copies;
+      ended = c.scan.ensures.ended;
     }
-
-pub returns-clause-met : goal.returns-clause-met
-returns-clause-met g c =
-    let m = g.C.Claimer in let roots = c.args.roots.now in
-    let all = take_all c.loop-root.root-index roots c.loop-root-test.false in
-    let kind = (m.walked c.args.claimer.now).kind in let h = c.args.spaces.now.spaces in
-    let met = subst (λ (rs : List Root). All (Contains (m.walked c.loop-root.claimer).met) (all_root_targets (from_space kind) h rs)) all c.loop-root.invariant.met in
-    ok_always c.scan.result (still_met c.scan.ensures.scans.goes.keeps (all_root_targets (from_space kind) h roots) met)
-

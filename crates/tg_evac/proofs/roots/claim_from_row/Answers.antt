@@ -28,4 +28,3 @@ returns g c =
       met = on_ok_weaker c.claim_chunks.result (row_met h c.args.straight c.args.object kept c.claim_targets.ensures.added two c.in_ok-claim_targets.ensures.met) rest;
       full = c.claim_chunks.ensures.full;
     }
-
