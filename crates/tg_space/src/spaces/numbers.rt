@@ -39,6 +39,12 @@ impl Spaces {
         ensures inside { result < length (cells_of self.now.spaces) }
     {
         let space = place_of(word).space;
+        if space == OLD {
+            // It tells what holds of all spaces (`IsSpaceTable`).
+            let _ = self.blocks();
+            // No cell stands before those of Old.
+            return number_of(word);
+        }
         CELLS * self.starts[space as usize] + number_of(word)
     }
 
