@@ -203,8 +203,9 @@ module _ (kind : Kind) (t : SpaceTable) (roots : List Root) (k : Counts) (words 
       let inside = held.1 in
       let many = whole.counts.root_count in
       let beyond = behind.2 in
-      let chunk : held.0 / 8 < 0 + length done.chunks = omega arith in
-      flat_has (roots_of_chunk roots) done.chunks (held.0 / 8) r ((chunks.exactly (held.0 / 8)).1 (omega arith, chunk)) (chunk_has roots held.0 r held.1 held.2)
+      let c = (length roots - 1 - held.0) / 8 in
+      let chunk : c < 0 + length done.chunks = omega arith in
+      flat_has (roots_of_chunk roots) done.chunks c r ((chunks.exactly c).1 (omega arith, chunk)) (chunk_has roots held.0 r held.1 held.2 c refl)
 
   complete : IsComplete (all_root_targets (from_space kind) h roots) (targets_of (from_space kind) h) (cells_won wins)
   complete = (

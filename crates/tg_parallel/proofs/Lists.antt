@@ -2,7 +2,7 @@
 use Rattle.std.proofs.Common.{◌≡◌, ◌≢◌, ℕ, zero, suc, ◌+◌, ◌-◌, ◌*◌, ◌/◌, ◌<◌, ◌≤◌, ◌==◌, ◌||◌, ◌++◌, if◌then◌else◌, List, [], ◌∷◌, Bool, true, false, length, get_or, take, drop, map, refl, sym, ap, subst, ◌∙◌, eqb, eqb-true, eq-eqb, ⊎_elim, arith}
 use Rattle.std.specs.List.{All, AllPairs, Contains, list_any, flat_map}
 use Rattle.std.proofs.lemmas.Bool.{cond-true, false≢true, cases_lt}
-use Rattle.std.proofs.lemmas.List.{get_or-map, length-map, length-append, get_or_append_left, get_or-append_right}
+use Rattle.std.proofs.lemmas.List.{get_or-map, get_or-take, length-map, length-append, length-take-le, get_or_append_left, get_or-append_right}
 use Rattle.std.proofs.lemmas.List.Elements.{Contains-append_left, Contains-append_right, Contains-append_cases}
 use Rattle.tg_race.specs.Weights.{weigh, one_at}
 use Rattle.tg_race.proofs.Drawn.{number_found, weighs_at}
@@ -96,13 +96,16 @@ module _ {A : Type 0} where
   drop_found (suc n) [] x held = absurd (let low = held.1 in omega arith)
   drop_found (suc n) (y ∷ xs) x held = Contains-append_right (y ∷ []) xs x (drop_found n xs x held)
 
-  pub chunk_found : (xs : List A) (c : ℕ) (x : A) → Contains (take 8 (drop (8 * c) xs)) x → Contains xs x
-  chunk_found xs c x held = drop_found (8 * c) xs x (take_found 8 (drop (8 * c) xs) x held)
+  pub chunk_found : (xs : List A) (c : ℕ) (x : A) → Contains (drop (length xs - 8 * (c + 1)) (take (length xs - 8 * c) xs)) x → Contains xs x
+  chunk_found xs c x held = take_found (length xs - 8 * c) xs x (drop_found (length xs - 8 * (c + 1)) (take (length xs - 8 * c) xs) x held)
 
-  pub chunk_has : (xs : List A) (i : ℕ) (x : A) → i < length xs → get_or xs i x ≡ x → Contains (take 8 (drop (8 * (i / 8)) xs)) x
-  chunk_has xs i x low is =
-      let there = drop_has (8 * (i / 8)) xs i x (omega arith) low is in
-      take_has 8 (drop (8 * (i / 8)) xs) (i - 8 * (i / 8)) x (omega arith) there.0 there.1
+  pub chunk_has : (xs : List A) (i : ℕ) (x : A) → i < length xs → get_or xs i x ≡ x →
+      (c : ℕ) → c ≡ (length xs - 1 - i) / 8 → Contains (drop (length xs - 8 * (c + 1)) (take (length xs - 8 * c) xs)) x
+  chunk_has xs i x low is c chunk =
+      let first = length xs - 8 * (c + 1) in let end = length xs - 8 * c in
+      let long : length (take end xs) ≡ end = length-take-le end xs (omega arith) in
+      let there = drop_has first (take end xs) i x (omega (arith, chunk, low)) (omega (arith, chunk, low, long)) (get_or-take end xs i x (omega (arith, chunk, low)) ∙ is) in
+      (i - first, there.0, there.1)
 
 -- ---- numbers that stand once
 

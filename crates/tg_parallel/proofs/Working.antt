@@ -1,5 +1,5 @@
 -- The work of a helper, chunk by chunk: what was won is earned, and what was met grows.
-use Rattle.std.proofs.Common.{◌≡◌, ℕ, ◌+◌, ◌*◌, ◌/◌, ◌<◌, ◌≤◌, ◌++◌, if◌then◌else◌, List, [], ◌∷◌, true, false, length, take, refl, sym, ap, subst, ◌∙◌, arith, Result, Ok, Err, IsErrAnd}
+use Rattle.std.proofs.Common.{◌-◌, drop, ◌≡◌, ℕ, ◌+◌, ◌*◌, ◌/◌, ◌<◌, ◌≤◌, ◌++◌, if◌then◌else◌, List, [], ◌∷◌, true, false, length, take, refl, sym, ap, subst, ◌∙◌, arith, Result, Ok, Err, IsErrAnd}
 use Rattle.std.specs.Int.{div_ceil}
 use Rattle.std.specs.Result.{OnOk}
 use Rattle.std.specs.List.{All, Contains}
@@ -109,7 +109,10 @@ copied_none kind h roots s n aged old none zero_is no_aged no_old = record {
 
 -- there are no roots past the last chunk
 no_roots : (roots : List Root) (c : ℕ) → (length roots + 7) / 8 ≤ c → roots_of_chunk roots c ≡ []
-no_roots roots c late = ap (take 8) (drop_all (8 * c) roots (omega arith))
+no_roots roots c late =
+    let first = length roots - 8 * (c + 1) in
+    let none : length roots - 8 * c ≡ 0 = omega arith in
+    ap (λ (n : ℕ). drop first (take n roots)) none ∙ drop_all first [] (omega arith)
 
 pub copied_all : (kind : Kind) (h : SpaceList) (roots : List Root) (before : List ℕ) (chunk : ℕ) (s : Sitting) (n : ℕ) (aged old : List (List ℕ)) → HasDrawn before chunk s → (length roots + 7) / 8 ≤ chunk →
     HasCopied kind h roots before s n aged old → HasCopied kind h roots s.done.chunks s n aged old

@@ -1,5 +1,5 @@
 -- What one helper of a collection has done, and what it hands over; and the same of several that became one.
-use Rattle.std.specs.Prelude.{◌≡◌, ◌≢◌, ◌⊎◌, ℕ, ◌*◌, ◌<◌, ◌≤◌, true, List, ◌++◌, length, map, take, drop}
+use Rattle.std.specs.Prelude.{◌+◌, ◌-◌, ◌≡◌, ◌≢◌, ◌⊎◌, ℕ, ◌*◌, ◌<◌, ◌≤◌, true, List, ◌++◌, length, map, take, drop}
 use Rattle.std.specs.List.{All, Contains, flat_map}
 use Rattle.tg_word.specs.declared.TheConstants.{CELLS}
 use Rattle.tg_word.specs.declared.Place.{Place}
@@ -41,9 +41,9 @@ win_of q = record { cell = q.0; word = link_to q.1 }
 abbrev pub wins_of : List (ℕ × Place) → List Win
 wins_of pairs = map win_of pairs
 
--- the roots of a chunk, and of all chunks that a record has claimed
+-- the roots of a chunk, which is an eight of them counted from the end; and those of all chunks that a record has claimed
 abbrev pub roots_of_chunk : List Root → ℕ → List Root
-roots_of_chunk roots c = take 8 (drop (8 * c) roots)
+roots_of_chunk roots c = drop (length roots - 8 * (c + 1)) (take (length roots - 8 * c) roots)
 
 abbrev pub roots_in : List Root → List ℕ → List Root
 roots_in roots chunks = flat_map (roots_of_chunk roots) chunks

@@ -1,5 +1,5 @@
 -- What the one helper that is left hands over, where the table is closed.
-use Rattle.std.specs.Prelude.{ℕ, ◌^◌, ◌<◌, ◌≤◌, List}
+use Rattle.std.specs.Prelude.{ℕ, ◌<◌, ◌≤◌, List}
 use Rattle.tg_word.specs.declared.TheConstants.{MOST_SPACE_BLOCKS}
 use Rattle.tg_space.specs.Soundness.{AreSound}
 use Rattle.tg_space.specs.SpaceTable.{IsSpaceTable, SpaceTable}
