@@ -7,7 +7,7 @@ mod helpers;
 mod sound;
 
 use sound::are_sound;
-use std::alloc::Global;
+use std::alloc::{AllocError, Global};
 use std::sync::Wait;
 use std::test::Fail;
 use std::thread::Threads;
@@ -129,12 +129,28 @@ fn rows_of(alloc: Global, content: Content, count: u64) -> Result<Vec<Root>, Fai
     Ok(roots)
 }
 
-// Whether a seat is served as one thread is, and gives each cell the same place in a full collection, which no contract says. In a
-// nursery collection it looks at eight roots at a time, so that other cells may go straight to Old.
+// These roots in the order in which a seat takes them: eights of them, from the end.
+fn as_taken(alloc: Global, roots: &[Root]) -> Result<Vec<Root>, AllocError> {
+    let mut taken = Vec::with_capacity(alloc, roots.len())?;
+    for eight in roots.rchunks(8) {
+        taken.extend_from_slice(eight)?;
+    }
+    Ok(taken)
+}
+
+// Whether a seat is served as one thread is that has the roots in the order of the seat, and gives each cell the same place in a full
+// collection, which no contract says. In a nursery collection it looks at eight roots at a time, so that other cells may go straight
+// to Old.
 fn same_at_a_seat(alloc: Global, spaces: &Spaces, roots: &[Root], kind: Kind) -> bool
     requires { AreSound spaces.now.spaces roots.now }
 {
-    let one = collect_one(alloc, spaces, roots, kind, Spare::none(alloc));
+    let Ok(taken) = as_taken(alloc, roots) else {
+        return false;
+    };
+    if !are_sound(spaces, &taken) {
+        return false;
+    }
+    let one = collect_one(alloc, spaces, &taken, kind, Spare::none(alloc));
     let seated = collect_seated(alloc, spaces, roots, kind, Spare::none(alloc));
     match (&one, &seated) {
         (Ok(one), Ok(seated)) => {
