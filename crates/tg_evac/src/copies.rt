@@ -1,5 +1,5 @@
 //! The scan of won cells: each is copied, and what it names is claimed, until none is left.
-ghost use Rattle.std.specs.Prelude.{◌≡◌, ℕ, ◌+◌, ◌<◌, ◌≤◌, ◌^◌, true, false, [], IfOk, OnOk, length};
+ghost use Rattle.std.specs.Prelude.{◌≡◌, ◌↔◌, ℕ, ◌+◌, ◌<◌, ◌≤◌, ◌^◌, true, false, [], IfOk, OnOk, length};
 ghost use Rattle.tg_space.specs.SpaceList.{IsSpace, cells_of};
 ghost use Rattle.tg_space.specs.Soundness.{IsPointer};
 ghost use Rattle.tg_space.specs.Targets.{cell_numbered, from_space, named_by, pointers_of};
@@ -41,7 +41,9 @@ pub enum Reads {
 impl Reads {
     /// The faster way to read the cells of these spaces: each where it stands, unless there are so many that a processor doesn't
     /// keep them at hand.
-    pub fn of(spaces: &Spaces) -> Self {
+    pub fn of(spaces: &Spaces) -> Self
+        ensures { (result ≡ Reads.Each) ↔ (length (cells_of spaces.now.spaces) < 2 ^ 17) }
+    {
         if spaces.cells() < FAR {
             Reads::Each
         } else {
