@@ -2,7 +2,7 @@
 use std::alloc::{AllocError, Global};
 use std::collections::LinkedList;
 use std::test::Fail;
-use tg_race::{Event, RaceTable, Record, Shape, World};
+use tg_race::{Event, Opened, RaceTable, Record, Shape, World};
 use tg_rights::Rights;
 use tg_word::{Place, Slot, unpack};
 
@@ -171,7 +171,11 @@ fn race_of_three_cells(rt: HostRuntime) -> Result<(), Fail> {
 // words it closes with.
 fn handed_at_the_table(alloc: Global) -> Result<(u64, bool, u64, u64, usize), Fail> {
     // three blocks of Old stay, and five cells behind them may be moved
-    let (table, mut helper) = RaceTable::open(alloc, 197, 9, 3, 1)?;
+    let Opened {
+        table,
+        mut helper,
+        ..
+    } = RaceTable::open(alloc, 197, 9, 3, 1, Vec::new(alloc))?;
     let chunk = helper.claim_roots(&table);
     let has_no_place = helper.look(&table, 196).is_none();
     let old = helper.claim_block(&table, false);

@@ -4,11 +4,11 @@
 //! reads these words in place (`tg_space`), so that closing the table copies none of them.
 #![tactic(auto)]
 
-ghost use Rattle.std.specs.Prelude.{◌≡◌, ◌+◌, ◌<◌, ◌≤◌, drop, length, slice_index};
+ghost use Rattle.std.specs.Prelude.{◌≡◌, ◌+◌, ◌<◌, ◌≤◌, IfOk, drop, length, replicate, slice_index};
 ghost use Rattle.std.specs.Slots.{IsFull, slots_items, slots_len};
 
 use atomic_table::Closed;
-use std::alloc::Global;
+use std::alloc::{AllocError, Global};
 use std::marker::Model;
 
 /// The words of a closed table, behind the first ones, which are of no use any more. A clause sees a list of words.
@@ -62,4 +62,21 @@ impl Drop for ClosedWords {
         let Self { closed, front: _ } = self;
         closed.free();
     }
+}
+
+/// As many zeros: in the room, whatever it holds, where that is enough and not more than four times as much as needed, so that a
+/// heap that shrank gives it back; else the room is given back, and the zeros take memory of their own.
+///
+/// It is refused only where memory was.
+#[inline(never)]
+pub fn zeros(alloc: Global, count: usize, mut room: Vec<u64>) -> Result<Vec<u64>, AllocError>
+    ensures { IfOk result (λ words. words.items ≡ replicate count 0) }
+{
+    if room.capacity() < count || count < room.capacity() / 4 {
+        drop(room);
+        return vec![in alloc; 0; count];
+    }
+    room.clear();
+    room.resize(count, 0)?;
+    Ok(room)
 }

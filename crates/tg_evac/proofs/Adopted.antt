@@ -12,7 +12,7 @@ use Rattle.tg_space.specs.SpaceList.{SpaceList, BlockList, space_of, cell_at}
 use Rattle.tg_space.specs.SpaceTable.{adopted, kept_blocks}
 use Rattle.tg_space.specs.declared.kind.Kind.{Kind}
 use Rattle.tg_space.specs.declared.kind.Kind.TheVariants.{Full, Nursery}
-use Rattle.tg_evac.specs.declared.win.Win.{Win}
+use Rattle.tg_evac.specs.Win.{Win}
 use Rattle.tg_evac.specs.Copies.{IsPlaceIn, new_cell}
 use Rattle.tg_evac.proofs.Copying.{same_place}
 

@@ -16,7 +16,7 @@ use Rattle.tg_word.proofs.Packing.{place_in-word_at, word_at-above_zero}
 use Rattle.tg_space.specs.Collection.{AreFewBlocks, copies_in, is_copy_in, new_place}
 use Rattle.tg_space.specs.SpaceList.{BlockList}
 use Rattle.tg_space.specs.SpaceTable.{place_in_space}
-use Rattle.tg_evac.specs.declared.win.Win.{Win}
+use Rattle.tg_evac.specs.Win.{Win}
 use Rattle.tg_evac.specs.Claims.{Claimed, StandsIn, IsGiven, AreApart, AreGivenInOrder, AreClaims, HasFilledRoom, cells_won, first_new, is_in, won_in, words_won, win_at, wins_at}
 use Rattle.tg_evac.specs.Claimers.{AddsWins, HasPlacesOf, IsLink, walked_of}
 

@@ -19,7 +19,7 @@ use Rattle.tg_space.specs.declared.root.Root.{Root}
 use Rattle.tg_space.specs.declared.root.Root.TheVariants.{Remembered}
 use Rattle.tg_space.proofs.Tables.{table_list}
 use Rattle.tg_evac.specs.declared.plan.Plan.{Plan}
-use Rattle.tg_evac.specs.declared.win.Win.{Win}
+use Rattle.tg_evac.specs.Win.{Win}
 use Rattle.tg_evac.specs.Claims.{Claimed, AreClaims, AreGivenInOrder, IsPlanFor, IsTracedFrom, StandsIn, AreTraced, AreWordsOf, cells_won, win_at, won_in}
 use Rattle.tg_evac.specs.Claimers.{copies_to}
 use Rattle.tg_evac.specs.Copies.{HasNewPlace, HoldCells, HoldCopies, IsPlaceIn, copy_of, moved_cell, new_cell}

@@ -18,7 +18,7 @@ use Rattle.tg_space.specs.Targets.{cell_numbered, every_space, first_pointer, im
 use Rattle.tg_space.specs.declared.kind.Kind.TheVariants.{Full}
 use Rattle.tg_space.specs.declared.root.Root.{Root}
 use Rattle.tg_space.proofs.Flat.{all_cells_whole, length-blocks}
-use Rattle.tg_evac.specs.declared.win.Win.{Win}
+use Rattle.tg_evac.specs.Win.{Win}
 use Rattle.tg_evac.specs.Claims.{AreClaims, AreGivenInOrder, Claimed, IsTracedFrom, StandsIn, is_in, win_at, won_in}
 use Rattle.tg_evac.specs.Copies.{AreOld, HasCopy, HavePlaces, HoldCells, HoldCopies, IsPlaceIn, copy_of, new_cell}
 use Rattle.tg_evac.proofs.Adopted.{find_place, free_is_not_young}

@@ -8,7 +8,7 @@ use Rattle.tg_space.specs.SpaceList.{SpaceList, IsSpaceList}
 use Rattle.tg_space.specs.Soundness.{IsRootIn}
 use Rattle.tg_space.specs.declared.kind.Kind.{Kind}
 use Rattle.tg_space.specs.declared.root.Root.{Root}
-use Rattle.tg_evac.specs.declared.win.Win.{Win}
+use Rattle.tg_evac.specs.Win.{Win}
 use Rattle.tg_evac.specs.Claims.{AreClaims, Claimed, HavePointers, IsTracedFrom, cells_won, is_in, won_in}
 use Rattle.tg_evac.proofs.Claiming.{won_distinct}
 use Rattle.tg_evac.proofs.Counting.{won_few}

@@ -7,7 +7,7 @@ use Rattle.tg_word.specs.declared.Place.{Place}
 use Rattle.tg_word.specs.Word.{place_in, rights_in, word_at}
 use Rattle.tg_space.specs.SpaceList.{SpaceList, Holds, flat_of}
 use Rattle.tg_space.specs.Targets.{moved_word, target_in}
-use Rattle.tg_evac.specs.declared.win.Win.{Win}
+use Rattle.tg_evac.specs.Win.{Win}
 use Rattle.tg_evac.specs.Claims.{IsClaimOf, IsWinFor, space_for}
 use Rattle.tg_evac.specs.Claimers.{AddsWins, Walked}
 use Rattle.tg_evac.proofs.Walking.{wins_weaker}

@@ -3,7 +3,7 @@ use Rattle.std.proofs.Common.{◌≡◌, ℕ, Bool, List, sym, ap, subst, ◌∙
 use Rattle.tg_space.specs.SpaceList.{SpaceList}
 use Rattle.tg_space.specs.SpaceTable.{SpaceTable, kept_blocks}
 use Rattle.tg_space.specs.declared.kind.Kind.{Kind}
-use Rattle.tg_evac.specs.declared.win.Win.{Win}
+use Rattle.tg_evac.specs.Win.{Win}
 use Rattle.tg_word.specs.declared.Place.{Place}
 use Rattle.tg_space.specs.declared.root.Root.{Root}
 use Rattle.tg_evac.specs.declared.collect.Copied.{Copied}

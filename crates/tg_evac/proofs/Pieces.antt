@@ -15,7 +15,7 @@ use Rattle.tg_space.specs.Targets.{cell_numbered, from_space, image_of, named_by
 use Rattle.tg_space.specs.declared.kind.Kind.{Kind}
 use Rattle.tg_space.specs.declared.root.Root.{Root}
 use Rattle.tg_space.specs.declared.root.Root.TheVariants.{Row}
-use Rattle.tg_evac.specs.declared.win.Win.{Win}
+use Rattle.tg_evac.specs.Win.{Win}
 use Rattle.tg_evac.specs.Claims.{AreTraced, Claimed, IsClaimOf, cells_won, chunk_targets, is_in, is_in_old, is_straight, win_at, won_in}
 use Rattle.tg_evac.specs.Claimers.{AddsCopy, AddsWins, AreScanned, KeepsWins, KnowsMore, Walked, copies_to, image_at, walked_of}
 use Rattle.tg_evac.proofs.Claiming.{in_other, in_push}

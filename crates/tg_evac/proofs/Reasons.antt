@@ -20,7 +20,7 @@ use Rattle.tg_space.specs.declared.root.Root.TheVariants.{Row, Remembered}
 use Rattle.tg_space.proofs.Adding.{piece}
 use Rattle.tg_space.proofs.Flat.{same_place, flat_inside}
 use Rattle.tg_space.proofs.Tracing.{reached_from_won}
-use Rattle.tg_evac.specs.declared.win.Win.{Win}
+use Rattle.tg_evac.specs.Win.{Win}
 use Rattle.tg_evac.specs.Claims.{HavePointers, StandsIn, IsClaimOf, IsRootClaim, AreTraced, AreWordsOf, cells_won, is_in_old, is_straight, space_for, win_at}
 use Rattle.tg_evac.specs.Claimers.{AddsWins, Walked}
 use Rattle.tg_evac.specs.Room.{IsReachedFrom}

@@ -4,7 +4,7 @@ use Rattle.tg_word.specs.declared.Place.{Place}
 use Rattle.tg_space.specs.SpaceList.{SpaceList}
 use Rattle.tg_space.specs.declared.kind.Kind.{Kind}
 use Rattle.tg_evac.specs.declared.fault.CollectFault.{CollectFault}
-use Rattle.tg_evac.specs.declared.win.Win.{Win}
+use Rattle.tg_evac.specs.Win.{Win}
 use Rattle.tg_evac.specs.Claims.{AreTraced}
 use Rattle.tg_evac.specs.Claimers.{Walked}
 use Rattle.tg_evac.specs.Walks.{IsUnderWay, Scans}

@@ -10,7 +10,7 @@ use Rattle.tg_space.specs.SpaceList.{SpaceList}
 use Rattle.tg_space.specs.Targets.{from_space, moved_word, named_by, target_in}
 use Rattle.tg_space.specs.declared.kind.Kind.{Kind}
 use Rattle.tg_space.proofs.Adding.{piece}
-use Rattle.tg_evac.specs.declared.win.Win.{Win}
+use Rattle.tg_evac.specs.Win.{Win}
 use Rattle.tg_evac.specs.Claims.{IsClaimOf}
 use Rattle.tg_evac.specs.Claimers.{AddsWins, KnowsMore, Walked}
 

@@ -6,7 +6,7 @@ use Rattle.tg_word.specs.Word.{link_to, place_in}
 use Rattle.tg_space.specs.SpaceList.{SpaceList}
 use Rattle.tg_space.specs.Targets.{cell_numbered, from_space, image_of, targets_of}
 use Rattle.tg_space.specs.declared.kind.Kind.{Kind}
-use Rattle.tg_evac.specs.declared.win.Win.{Win}
+use Rattle.tg_evac.specs.Win.{Win}
 use Rattle.tg_evac.specs.Claims.{Claimed, cells_won, win_at, won_in}
 
 -- the kind of the collection, how many blocks of Old stay, how many cells Old and Aged may have each, how many cells

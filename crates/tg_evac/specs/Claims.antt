@@ -16,7 +16,7 @@ use Rattle.tg_space.specs.declared.kind.Kind.TheVariants.{Full, Nursery}
 use Rattle.tg_space.specs.declared.root.Root.{Root}
 use Rattle.tg_space.specs.declared.root.Root.TheVariants.{Row, Remembered}
 use Rattle.tg_evac.specs.declared.plan.Plan.{Plan}
-use Rattle.tg_evac.specs.declared.win.Win.{Win}
+use Rattle.tg_evac.specs.Win.{Win}
 
 -- ---- where copies go
 

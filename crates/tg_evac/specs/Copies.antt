@@ -12,7 +12,7 @@ use Rattle.tg_space.specs.Collection.{new_place}
 use Rattle.tg_space.specs.SpaceList.{SpaceList, BlockList, IsSpace, cell_at, cells_of}
 use Rattle.tg_space.specs.Targets.{from_space, image_of}
 use Rattle.tg_space.specs.declared.kind.Kind.{Kind}
-use Rattle.tg_evac.specs.declared.win.Win.{Win}
+use Rattle.tg_evac.specs.Win.{Win}
 use Rattle.tg_evac.specs.Claims.{HavePointers}
 use Rattle.tg_evac.specs.Claimers.{image_at}
 

@@ -1,5 +1,5 @@
 //! What a walk over the cells asks of a table of claims.
-ghost use Rattle.std.specs.Prelude.{◌≡◌, ℕ, ◌^◌, ◌<◌, ◌≤◌, length};
+ghost use Rattle.std.specs.Prelude.{◌≡◌, ℕ, ◌^◌, ◌<◌, ◌≤◌, ◌==◌, length};
 ghost use Rattle.tg_word.specs.declared.TheConstants.{MOST_SPACE_CELLS};
 ghost use Rattle.tg_word.specs.declared.Place.{Place as PlaceOf};
 ghost use Rattle.tg_word.specs.Word.{place_in};
@@ -8,7 +8,6 @@ ghost use Rattle.tg_evac.specs.Claimers.{Walked};
 ghost use Rattle.tg_evac.specs.Walks.{ClaimsCell, MayClaim};
 
 use crate::fault::CollectFault;
-use crate::win::Win;
 
 /// A table in which cells are claimed, each for one new place.
 ///
@@ -33,12 +32,17 @@ pub trait Claimer {
         ensures few { result ≤ (walked self.now).cells }
         ensures room { (space : ℕ) → space < 2 → length (won_in space (walked self.now).won) ≤ MOST_SPACE_CELLS };
 
-    /// The pair that was won as the k-th. Its copy is in Old or in Aged.
-    fn win(&self, k: usize) -> Win
+    /// The cell that was won as the k-th.
+    fn won_cell(&self, k: usize) -> u64
         requires { k < length (walked self.now).won }
-        ensures win { result ≡ win_at (walked self.now).won k }
-        ensures inside { result.cell < (walked self.now).cells }
-        ensures two { (place_in result.word).space < 2 };
+        ensures cell { result ≡ (win_at (walked self.now).won k).cell }
+        ensures inside { result < (walked self.now).cells };
+
+    /// Whether the copy of the cell that was won as the k-th is in Old; else it is in Aged.
+    fn is_won_in_old(&self, k: usize) -> bool
+        requires { k < length (walked self.now).won }
+        ensures space { result ≡ ((place_in (win_at (walked self.now).won k).word).space == 0) }
+        ensures two { (place_in (win_at (walked self.now).won k).word).space < 2 };
 
     /// The word of the place of a cell: a new one in a space, unless it has one.
     ///

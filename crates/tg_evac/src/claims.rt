@@ -1,5 +1,5 @@
 //! The plain table of claims, which one thread has for itself.
-ghost use Rattle.std.specs.Prelude.{◌≡◌, ◌≢◌, ℕ, ◌+◌, ◌<◌, ◌≤◌, ◌^◌, ◌*◌, [], length, slice_index, IfErr, IfOk};
+ghost use Rattle.std.specs.Prelude.{◌≡◌, ◌≢◌, ℕ, ◌+◌, ◌<◌, ◌≤◌, ◌==◌, ◌^◌, ◌*◌, [], length, slice_index, IfErr, IfOk};
 ghost use Rattle.std.specs.List.{Contains};
 ghost use Rattle.tg_word.specs.declared.TheConstants.{CELLS, MOST_SPACE_BLOCKS, MOST_SPACE_CELLS};
 ghost use Rattle.tg_word.specs.Word.{place_in};
@@ -10,11 +10,10 @@ ghost use Rattle.tg_evac.specs.Walks.{HasClaimed, MayClaim};
 use crate::claimer::Claimer;
 use crate::fault::CollectFault;
 use crate::plan::Plan;
-use crate::win::Win;
 use std::alloc::Global;
 use std::marker::Model;
 use tg_space::ForwardingTable;
-use tg_word::{CELLS, link};
+use tg_word::{CELLS, OLD, link, place_of};
 
 /// What one collection has claimed: the forwarding word of each cell, and the cells that were won, in order.
 #[derive(Drop)]
@@ -74,19 +73,24 @@ impl Claims {
         self.won.len()
     }
 
-    // The pair that was won as the k-th.
+    // The cell that was won as the k-th.
     #[inline(always)]
-    fn pair(&self, k: usize) -> Win
+    fn cell(&self, k: usize) -> u64
         requires { k < length self.now.won }
-        ensures win { result ≡ win_at self.now.won k }
-        ensures inside { result.cell < length self.now.forward }
-        ensures two { (place_in result.word).space < 2 }
+        ensures cell { result ≡ (win_at self.now.won k).cell }
+        ensures inside { result < length self.now.forward }
     {
-        let cell = self.won[k];
-        Win {
-            cell,
-            word: self.forward.moved_word(cell),
-        }
+        self.won[k]
+    }
+
+    // Whether the copy of the cell that was won as the k-th is in Old.
+    #[inline(always)]
+    fn is_in_old(&self, k: usize) -> bool
+        requires { k < length self.now.won }
+        ensures space { result ≡ ((place_in (win_at self.now.won k).word).space == 0) }
+        ensures two { (place_in (win_at self.now.won k).word).space < 2 }
+    {
+        place_of(self.forward.moved_word(self.won[k])).space == OLD
     }
 
     // The word of a cell that is moved; where it isn't 0, it is that of the cell's pair.
@@ -148,8 +152,13 @@ impl Claimer for Claims {
     }
 
     #[inline(always)]
-    fn win(&self, k: usize) -> Win {
-        self.pair(k)
+    fn won_cell(&self, k: usize) -> u64 {
+        self.cell(k)
+    }
+
+    #[inline(always)]
+    fn is_won_in_old(&self, k: usize) -> bool {
+        self.is_in_old(k)
     }
 
     #[inline(always)]

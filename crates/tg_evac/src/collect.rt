@@ -70,7 +70,7 @@ pub fn collect_one(
     }
 }
 
-// A full collection. It is compiled for each way to read cells, and apart from all else, so that registers are left for it.
+// A full collection. Each way to read cells is compiled apart, and from all else, so that registers are left for it.
 #[inline(never)]
 fn collect_full(
     alloc: Global,
@@ -83,8 +83,22 @@ fn collect_full(
 {
     match Reads::of(spaces) {
         Reads::Each => collect_kind(alloc, spaces, roots, Kind::Full, Reads::Each, spare),
-        Reads::Ahead => collect_kind(alloc, spaces, roots, Kind::Full, Reads::Ahead, spare),
+        Reads::Ahead => collect_ahead(alloc, spaces, roots, spare),
     }
+}
+
+// A full collection that reads cells ahead.
+#[inline(never)]
+fn collect_ahead(
+    alloc: Global,
+    spaces: &Spaces,
+    roots: &[Root],
+    spare: Spare,
+) -> Result<Copied, CollectFault>
+    requires { AreSound spaces.now.spaces roots.now }
+    ensures { Collects CollectFault.HeapFull Kind.Full spaces.now roots.now 0 1 result }
+{
+    collect_kind(alloc, spaces, roots, Kind::Full, Reads::Ahead, spare)
 }
 
 // The collection of a kind. It is compiled for each, so that a full one asks of no cell which kind this is, nor how cells are read.

@@ -13,11 +13,10 @@ ghost use Rattle.tg_evac.specs.Walks.{ClaimsAll, IsTableFor, IsUnderWay, Scans};
 use crate::claimer::Claimer;
 use crate::fault::CollectFault;
 use crate::new_blocks::NewBlocks;
-use crate::plan::is_in_old;
 use std::alloc::{AllocError, Global};
 use tg_block::{Block, WORDS};
 use tg_space::{Adoption, Kind, Spaces};
-use tg_word::{OLD, place_of};
+use tg_word::OLD;
 
 // How many won cells are read before the first of them is scanned, where the heap is large. Memory answers for them side by side
 // then, though they lie apart from one another.
@@ -163,7 +162,7 @@ fn scan_each<C: Claimer>(
     let mut next = copies.scanned;
     let mut near = OLD;
     while next < claimer.len() {
-        let words = spaces.words_near(claimer.win(next).cell, &mut near);
+        let words = spaces.words_near(claimer.won_cell(next), &mut near);
         scan_next(claimer, spaces, kind, copies, next, words)?;
         next += 1;
     }
@@ -172,9 +171,7 @@ fn scan_each<C: Claimer>(
 }
 
 // Scans the won cells that were not, some of which are read before the first of them is scanned.
-//
-// It is a call of its own: with it inlined the walk is too large to be compiled for each kind.
-#[inline(never)]
+#[inline(always)]
 fn scan_apart<C: Claimer>(
     claimer: &mut C,
     spaces: &Spaces,
@@ -232,7 +229,7 @@ fn read_some<C: Claimer>(
 {
     let count = (claimer.len() - k).min(NEAR);
     for i in 0..count {
-        near[i] = *spaces.numbered_words(claimer.win(k + i).cell);
+        near[i] = *spaces.numbered_words(claimer.won_cell(k + i));
     }
     count
 }
@@ -254,7 +251,7 @@ fn scan_next<C: Claimer>(
     ensures scans { Scans C.walked C.knows C.is_full spaces.now.spaces claimer.old claimer.new (k + 1) copies.exit.now.aged copies.exit.now.old result }
     ensures next { copies.exit.now.scanned ≡ copies.entry.now.scanned }
 {
-    let win = claimer.win(k);
-    let straight = is_in_old(kind, place_of(win.word));
+    // All copies of a full collection are in Old, so that nothing is looked up there.
+    let straight = kind == Kind::Full || claimer.is_won_in_old(k);
     copies.push_copy(claimer, spaces, kind, words, straight)
 }

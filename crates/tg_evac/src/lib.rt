@@ -64,7 +64,6 @@ pub use new_blocks::NewBlocks;
 pub use notes::notes_of;
 pub use plan::Plan;
 pub use tg_space::Root;
-pub use win::Win;
 
 mod claimer;
 mod claims;
@@ -77,4 +76,3 @@ mod new_blocks;
 mod notes;
 mod plan;
 mod roots;
-mod win;

@@ -56,12 +56,3 @@ pub fn space_for(straight: bool, space: u64) -> u64
 {
     if straight || space == AGED { OLD } else { AGED }
 }
-
-/// Whether a copy with this place is in Old, as all are in a full collection.
-#[inline(always)]
-pub fn is_in_old(kind: Kind, place: Place) -> bool
-    requires { kind ≡ Kind.Full → place.space ≡ 0 }
-    ensures { result ≡ (place.space == 0) }
-{
-    kind == Kind::Full || place.space == OLD
-}

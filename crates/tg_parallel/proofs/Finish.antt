@@ -30,7 +30,7 @@ use Rattle.tg_race.proofs.Closed.{consecutive, one_cell}
 use Rattle.tg_race.proofs.Drawn.{number_found}
 use Rattle.tg_race.proofs.PlaceWords.{word_of-some}
 use Rattle.tg_race.proofs.Standing.{closed_pairs}
-use Rattle.tg_evac.specs.declared.win.Win.{Win}
+use Rattle.tg_evac.specs.Win.{Win}
 use Rattle.tg_evac.specs.Claims.{AreTraced, AreWordsOf, StandsIn, cells_won}
 use Rattle.tg_evac.specs.Copies.{AreOld, HasCopy, HasNewPlace, HavePlaces, HoldCopies, IsPlaceIn, copy_of, moved_cell, new_cell}
 use Rattle.tg_evac.proofs.Collecting.{AreWins, is_collection}

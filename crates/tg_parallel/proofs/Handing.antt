@@ -18,7 +18,7 @@ use Rattle.tg_race.specs.declared.record.Record.{Record}
 use Rattle.tg_race.specs.Conditions.{blocks_of}
 use Rattle.tg_race.specs.Race.{has_number, owns}
 use Rattle.tg_race.specs.Words.{space_of_age}
-use Rattle.tg_evac.specs.declared.win.Win.{Win}
+use Rattle.tg_evac.specs.Win.{Win}
 use Rattle.tg_evac.specs.Claims.{win_at, won_in}
 use Rattle.tg_evac.specs.Claimers.{copies_to, image_at}
 use Rattle.tg_evac.specs.Copies.{HoldCells}

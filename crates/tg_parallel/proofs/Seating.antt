@@ -20,7 +20,7 @@ use Rattle.tg_race.specs.Course.{has_met}
 use Rattle.tg_race.specs.Race.{empty}
 use Rattle.tg_race.specs.Seats.{Board, Seated}
 use Rattle.tg_race.specs.Words.{space_of_age}
-use Rattle.tg_evac.specs.declared.win.Win.{Win}
+use Rattle.tg_evac.specs.Win.{Win}
 use Rattle.tg_evac.specs.Claims.{IsWinFor, is_in, win_at, won_in}
 use Rattle.tg_evac.specs.declared.fault.CollectFault.{CollectFault}
 use Rattle.tg_evac.specs.declared.fault.CollectFault.TheVariants.{HeapFull}

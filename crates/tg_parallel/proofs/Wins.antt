@@ -19,7 +19,7 @@ use Rattle.tg_race.specs.Race.{Race}
 use Rattle.tg_race.specs.Words.{has_pair, same_pair, word_of}
 use Rattle.tg_race.proofs.Closed.{cells_differ}
 use Rattle.tg_race.proofs.Standing.{same_place_self, won_place, won_stands}
-use Rattle.tg_evac.specs.declared.win.Win.{Win}
+use Rattle.tg_evac.specs.Win.{Win}
 use Rattle.tg_evac.specs.Claims.{AreTraced, cells_won}
 use Rattle.tg_parallel.specs.Parts.{AreEarned, roots_in, roots_of_chunk, win_of, wins_of}
 use Rattle.tg_parallel.proofs.Lists.{any_has, chunk_found, flat_found}

@@ -15,7 +15,7 @@ use Rattle.tg_race.specs.declared.record.Counts.{Counts}
 use Rattle.tg_race.specs.declared.record.Record.{Record}
 use Rattle.tg_race.specs.Weights.{weigh, one_at}
 use Rattle.tg_race.specs.Race.{owns}
-use Rattle.tg_evac.specs.declared.win.Win.{Win}
+use Rattle.tg_evac.specs.Win.{Win}
 use Rattle.tg_evac.specs.Claims.{AreTraced}
 use Rattle.tg_evac.specs.Claimers.{image_at}
 
@@ -40,6 +40,10 @@ win_of q = record { cell = q.0; word = link_to q.1 }
 
 abbrev pub wins_of : List (ℕ × Place) → List Win
 wins_of pairs = map win_of pairs
+
+-- the pair as a helper notes it: twice the number of the cell, and the number of the space, which is Old or Aged
+abbrev pub note_of : ℕ × Place → ℕ
+note_of q = 2 * q.0 + q.1.space
 
 -- the roots of a chunk, which is an eight of them counted from the end; and those of all chunks that a record has claimed
 abbrev pub roots_of_chunk : List Root → ℕ → List Root

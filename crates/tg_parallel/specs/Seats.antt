@@ -1,6 +1,7 @@
 -- What a helper holds while it works: its record, and the places that it gives away in its own blocks, one after the other.
-use Rattle.std.specs.Prelude.{◌≡◌, ◌≢◌, ℕ, ◌+◌, ◌*◌, ◌/◌, ◌%◌, ◌<◌, ◌≤◌, ◌==◌, Bool, true, false, not, List, [], ◌∷◌, ◌++◌, length, slice_index, slice_index_or, Result, IfErr, IfOk, OnOk}
+use Rattle.std.specs.Prelude.{◌≡◌, ◌≢◌, ℕ, ◌+◌, ◌*◌, ◌/◌, ◌%◌, ◌^◌, ◌<◌, ◌≤◌, ◌==◌, Bool, true, false, not, List, [], ◌∷◌, ◌++◌, length, slice_index, slice_index_or, vec_capacity, Result, IfErr, IfOk, OnOk}
 use Rattle.std.specs.List.{All, AllPairs, Contains, filter}
+use Rattle.std.specs.Result.{OnErr}
 use Rattle.tg_word.specs.declared.TheConstants.{CELLS, MOST_SPACE_BLOCKS, MOST_SPACE_CELLS}
 use Rattle.tg_word.specs.declared.Place.{Place}
 use Rattle.tg_word.specs.Word.{IsPlace, link_to, place_in}
@@ -21,6 +22,7 @@ use Rattle.tg_evac.specs.declared.fault.CollectFault.TheVariants.{HeapFull}
 use Rattle.tg_evac.specs.Claims.{HavePointers}
 use Rattle.tg_evac.specs.Claimers.{AreScanned, IsLink, Walked}
 use Rattle.tg_parallel.specs.declared.own_blocks.OwnBlocks.{OwnBlocks}
+use Rattle.tg_parallel.specs.declared.seat.Lists.{Lists}
 use Rattle.tg_parallel.specs.Parts.{AreCountsOf, AreEarned, HasClaimedPast, HasPlaces, Numbered, cells_met, numbers_of, roots_in, wins_of}
 
 -- ---- a helper's own blocks of one space
@@ -54,16 +56,22 @@ pub record AreFilled (aged : Bool) (v : Record) (numbers : List ℕ) (used : ℕ
   -- so many cells at least lie in each block
   pub many : (i n : ℕ) → i < length numbers → n ≤ CELLS → CELLS * i + n ≤ used → n ≤ used_in (space_of_age aged) (slice_index numbers i) v.won
 
--- There is a next place, in a block that the layout can name, and its word is known. So many places at most are left in its block.
-pub record IsReady (b : OwnBlocks) : Type 0 where
-  pub room : b.used < CELLS * length b.numbers.items
-  pub left : b.left + b.used % CELLS ≤ CELLS
-  pub few : slice_index b.numbers.items (b.used / CELLS) < MOST_SPACE_BLOCKS
-  pub next : b.next ≡ link_to (own_place b.aged b.numbers.items b.used)
+-- so many won cells of the record have their place in the space
+abbrev pub used_of : Bool → Record → ℕ
+used_of aged v = length (pairs_in (space_of_age aged) v.won)
 
--- where places are left, the next one is known
-abbrev pub KnowsNext : OwnBlocks → Type 0
-KnowsNext b = 0 < b.left → IsReady b
+-- The word of the next place is known, behind so many that were given away: it is in a block that the layout can name, all of whose
+-- places that are left come last.
+pub record IsReady (used : ℕ) (b : OwnBlocks) : Type 0 where
+  pub left : used + b.left ≡ CELLS * length b.numbers.items
+  pub few : slice_index b.numbers.items (used / CELLS) < MOST_SPACE_BLOCKS
+  pub next : b.next ≡ link_to (own_place b.aged b.numbers.items used)
+
+-- As long as places are left, the next one is known. Where none is, all blocks are full, or the last one is past the limit.
+pub record KnowsNext (limit : ℕ) (v : Record) (b : OwnBlocks) : Type 0 where
+  pub some : 0 < b.left → IsReady (used_of b.aged v) b
+  pub none : b.left ≡ 0 → b.is_past ≡ false → used_of b.aged v ≡ CELLS * length b.numbers.items
+  pub past : b.is_past ≡ true → (b.left ≡ 0) × (n : ℕ) × Contains b.numbers.items n × (limit ≤ n)
 
 -- the blocks of the other space stay as they are
 abbrev pub OtherStays : Bool → Record → Record → Type 0
@@ -99,38 +107,63 @@ pub record HasWord (board : Board) (cell : ℕ) : Type 0 where
 -- the helper sits at the table, and the blocks are those that it has claimed, filled in order with what it has won
 pub record IsHeldBy (board : Board) (helper : Seated) (b : OwnBlocks) : Type 0 where
   pub own : helper.table ≡ board.table
-  pub filled : AreFilled b.aged helper.done b.numbers.items b.used
+  pub filled : AreFilled b.aged helper.done b.numbers.items (used_of b.aged helper.done)
+
+-- fewer cells were won than the table has words for cells, and twice the cell's number is a word
+pub record HasRoomFor (board : Board) (cell : ℕ) (helper : Seated) : Type 0 where
+  pub small : cell < 2 ^ 61
+  pub room : length helper.done.won + 3 < board.table.id.words
 
 -- they stay so, whatever else the helper has done, and the blocks of the other space stay as they are
 pub record StayFilled (before : OwnBlocks) (old : Seated) (after : OwnBlocks) (new : Seated) : Type 0 where
   pub space : after.aged ≡ before.aged
   pub seat : new.table ≡ old.table
-  pub filled : AreFilled before.aged new.done after.numbers.items after.used
+  pub filled : AreFilled before.aged new.done after.numbers.items (used_of before.aged new.done)
   pub other : OtherStays before.aged old.done new.done
 
--- there is room for a cell, in a block that was claimed for it where all were full
-pub record HaveRoom {T Fault : Type 0} (before : OwnBlocks) (old : Seated) (after : OwnBlocks) (new : Seated) (result : Result T Fault) : Type 0 where
+-- a block was claimed behind these ones, and its number is answered, or nothing has changed
+pub record IsDrawn {Fault : Type 0} (before : OwnBlocks) (old : Seated) (after : OwnBlocks) (new : Seated) (result : Result ℕ Fault) : Type 0 where
   pub stay : StayFilled before old after new
   pub blocks : OnlyBlocks old.done new.done
   pub left : after.left ≡ before.left
-  pub room : OnOk result (after.used < CELLS * length after.numbers.items)
+  pub past : after.is_past ≡ before.is_past
+  pub drawn : IfOk result (λ n. after.numbers.items ≡ before.numbers.items ++ n ∷ [])
+  pub none : OnErr result (after.numbers.items ≡ before.numbers.items)
 
 -- the next place is known; it is refused where that is past the limit
 pub record AreReady {T : Type 0} (limit : ℕ) (before : OwnBlocks) (old : Seated) (after : OwnBlocks) (new : Seated) (result : Result T CollectFault) : Type 0 where
   pub stay : StayFilled before old after new
   pub blocks : OnlyBlocks old.done new.done
-  pub next : KnowsNext after
+  pub next : KnowsNext limit new.done after
   pub some : OnOk result (0 < after.left)
   pub full : IfErr result (λ fault. fault ≡ HeapFull → HasClaimedPast limit new.done)
 
 -- the cell has a place, whose word is answered: the next one of these blocks, unless it had one
-pub record GivePlace (cell : ℕ) (before : OwnBlocks) (old : Seated) (after : OwnBlocks) (new : Seated) (result : Result ℕ CollectFault) : Type 0 where
+pub record FindsNext (cell : ℕ) (before : OwnBlocks) (old : Seated) (after : OwnBlocks) (new : Seated) (word : ℕ) : Type 0 where
   pub stay : StayFilled before old after new
   pub finds : Finds cell before.aged old.done new.done
-  pub next : KnowsNext after
+  pub ready : used_of before.aged new.done + after.left ≡ CELLS * length after.numbers.items
+  pub next : 0 < after.left → IsReady (used_of before.aged new.done) after
+  pub past : after.is_past ≡ before.is_past
+  pub met : Contains (cells_met new.done) cell
+  pub link : IsLink word
+  pub known : (to : ℕ → Place) → HasPlaces new.done to → to cell ≡ place_in word
+
+-- and a block was claimed for it where none had a place left; it is refused where that is past the limit
+pub record GivePlace (limit cell : ℕ) (before : OwnBlocks) (old : Seated) (after : OwnBlocks) (new : Seated) (result : Result ℕ CollectFault) : Type 0 where
+  pub stay : StayFilled before old after new
+  pub finds : Finds cell before.aged old.done new.done
+  pub next : KnowsNext limit new.done after
   pub met : OnOk result (Contains (cells_met new.done) cell)
   pub link : IfOk result IsLink
   pub known : IfOk result (λ word. (to : ℕ → Place) → HasPlaces new.done to → to cell ≡ place_in word)
+  pub full : IfErr result (λ fault. fault ≡ HeapFull → HasClaimedPast limit new.done)
+
+-- the lists are empty, and there is room for each cell that has one of so many words, three of which are counters
+pub record AreEmptyLists (words : ℕ) (lists : Lists) : Type 0 where
+  pub room : words ≤ vec_capacity lists.won + 3
+  pub aged : lists.aged.items ≡ []
+  pub old : lists.old.items ≡ []
 
 -- ---- a seat
 
@@ -146,15 +179,18 @@ pub record Sitting : Type 0 where
 pub record IsSeat (limit : ℕ) (board : Board) (helper : Seated) (aged old : OwnBlocks) : Type 0 where
   pub own : helper.table ≡ board.table
   pub few : limit ≤ MOST_SPACE_BLOCKS
+  pub small : board.counts.cells < 2 ^ 61
+  pub whole : board.table.id.words + CELLS * board.counts.kept ≡ board.counts.cells + 3
   pub differ : AllPairs (λ q r. q.0 ≢ r.0) helper.done.won
   pub inside : All (λ q. q.0 < board.counts.cells) helper.done.won
+  pub behind : All (λ q. CELLS * board.counts.kept ≤ q.0) helper.done.won
   pub places : All (λ q. IsPlace q.1 × (q.1.space < 2)) helper.done.won
   pub is_aged : aged.aged ≡ true
   pub is_old : old.aged ≡ false
-  pub in_aged : AreFilled true helper.done aged.numbers.items aged.used
-  pub in_old : AreFilled false helper.done old.numbers.items old.used
-  pub aged_next : KnowsNext aged
-  pub old_next : KnowsNext old
+  pub in_aged : AreFilled true helper.done aged.numbers.items (used_of true helper.done)
+  pub in_old : AreFilled false helper.done old.numbers.items (used_of false helper.done)
+  pub aged_next : KnowsNext limit helper.done aged
+  pub old_next : KnowsNext limit helper.done old
 
 -- what no claim of a cell changes: the table, the chunks of roots that were claimed, and the share
 abbrev pub Fixed : Type 0

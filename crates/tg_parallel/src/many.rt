@@ -29,15 +29,15 @@ use std::thread;
 use std::thread::{Promise, PromisedHandle, Scope, Threads, join_promised};
 use tg_block::Block;
 use tg_evac::{CollectFault, Copied, Plan, notes_of};
-use tg_race::{Helper, RaceTable};
+use tg_race::{Helper, Opened, RaceTable};
 use tg_space::{Forwarding, Kind, Root, Spaces, Spare};
 use tg_word::CELLS;
 
 /// Copies what the roots reach into new blocks, by one helper at a table of its own, on the calling thread.
 ///
 /// What it leaves is a collection as that of `tg_evac::collect_one`, and it is refused as that is, but that each space may
-/// have one block more than its copies need. The spare blocks are filled first; those that aren't needed are given back, and so is
-/// the spare room of forwarding words.
+/// have one block more than its copies need. The spare blocks are filled first; those that aren't needed are given back. The table is laid
+/// out in the spare room first, where the list of won cells stands then.
 pub fn collect_seated(
     alloc: Global,
     spaces: &Spaces,
@@ -66,9 +66,17 @@ fn collect_alone<G: Gate>(
 {
     let cells = spaces.cells();
     let plan = Plan::of(kind, spaces);
-    let blocks = blocks_of(spare);
-    let (table, helper) = RaceTable::open(alloc, cells, roots.len() as u64, plan.kept, 1)?;
-    let helped = help(alloc, &table, helper, 0, spaces, roots, kind, gate, blocks);
+    let Spare { blocks, words } = spare;
+    let Opened {
+        table,
+        helper,
+        room,
+    } = RaceTable::open(alloc, cells, roots.len() as u64, plan.kept, 1, words)?;
+    let spare = Spare {
+        blocks,
+        words: room,
+    };
+    let helped = help(alloc, &table, helper, 0, spaces, roots, kind, gate, spare);
     finish(alloc, table, spaces, roots, plan, helped)
 }
 
@@ -79,8 +87,8 @@ fn collect_alone<G: Gate>(
 /// its copies need as there are helpers. `HeapFull` is answered only where the cells that the roots reach may not fit into
 /// the blocks that a space may have, if each helper leaves one open; cells that they don't reach take no room. `NoThread` is
 /// answered where a thread couldn't be started, and never of one helper alone. Those that were started end before the
-/// answer. Each helper has a like share of the spare blocks, and fills them first. The spare room of forwarding words is given
-/// back.
+/// answer. Each helper has a like share of the spare blocks, and fills them first. The table is laid out in the
+/// spare room first, where the list of won cells of the helper on the calling thread stands then.
 #[tactic(auto, using(tg_evac::proofs::Behind::kept_within))]
 pub fn collect_many<R: Threads + Wait + Sync, G: Gate>(
     rt: &R,
@@ -103,17 +111,27 @@ pub fn collect_many<R: Threads + Wait + Sync, G: Gate>(
     }
     let cells = spaces.cells();
     let plan = Plan::of(kind, spaces);
-    let blocks = blocks_of(spare);
-    let (table, helper) = RaceTable::open(alloc, cells, roots.len() as u64, plan.kept, helpers)?;
+    let Spare { blocks, words } = spare;
+    let Opened {
+        table,
+        helper,
+        room,
+    } = RaceTable::open(
+        alloc,
+        cells,
+        roots.len() as u64,
+        plan.kept,
+        helpers,
+        words,
+    )?;
+    let spare = Spare {
+        blocks,
+        words: room,
+    };
     let helped = work_all(
-        rt, alloc, &table, helper, helpers, spaces, roots, kind, gate, blocks,
+        rt, alloc, &table, helper, helpers, spaces, roots, kind, gate, spare,
     )?;
     Ok(finish(alloc, table, spaces, roots, plan, helped)?)
-}
-
-// The spare blocks. The room of forwarding words is given back, since the table of helpers can't use it.
-fn blocks_of(spare: Spare) -> Vec<Block> {
-    spare.blocks
 }
 
 // What a helper on a thread promises.
@@ -143,7 +161,7 @@ fn work_all<R: Threads + Wait + Sync, G: Gate>(
     roots: &[Root],
     kind: Kind,
     gate: &G,
-    spare: Vec<Block>,
+    spare: Spare,
 ) -> Result<Helped, HelpersFault>
     requires table { IsOpenedFor kind spaces.now.spaces roots.now table.now.counts }
     requires own { helper.table ≡ table.now.table }
@@ -171,7 +189,7 @@ fn work_in_scope<R: Threads + Wait, G: Gate>(
     roots: &[Root],
     kind: Kind,
     gate: &G,
-    mut spare: Vec<Block>,
+    mut spare: Spare,
 ) -> Result<(Helped, Vec<Helped>), HelpersFault>
     requires table { IsOpenedFor kind spaces.now.spaces roots.now table.now.counts }
     requires new { IsNew table.now helper }
@@ -200,14 +218,14 @@ fn work_in_scope<R: Threads + Wait, G: Gate>(
     )
 }
 
-// Starts a thread of the scope for each helper, with its share of the spare blocks. One share is left.
+// Starts a thread of the scope for each helper, with its share of the spare blocks. One share is left, and the room.
 fn start_all<'s, E, G: Gate>(
     alloc: Global,
     scope: &Scope<'s, E>,
     promise: Helps<'s>,
     others: Vec<Helper>,
     gate: &'s G,
-    spare: &mut Vec<Block>,
+    spare: &mut Spare,
 ) -> Result<Vec<PromisedHandle<Helped, Helps<'s>>>, HelpersFault>
     requires table { IsOpenedFor promise.kind promise.spaces.now.spaces promise.roots.now promise.table.now.counts }
     requires new { All (IsNew promise.table.now) others.items }
@@ -216,12 +234,15 @@ fn start_all<'s, E, G: Gate>(
     ensures refused { IfErr result (IsNotStarted (length others.items)) }
 {
     let mut children = Vec::with_capacity(alloc, others.len())?;
-    let share = spare.len() / (others.len() + 1);
+    let blocks = spare.blocks.len() / (others.len() + 1);
     let mut number: u32 = 0;
     for other in others {
         number = number.wrapping_add(1);
-        let blocks = take_last(spare, share)?;
-        let child = start(alloc, scope, promise, other, number, gate, blocks)?;
+        let share = Spare {
+            blocks: take_last(&mut spare.blocks, blocks)?,
+            words: Vec::new(alloc),
+        };
+        let child = start(alloc, scope, promise, other, number, gate, share)?;
         children.push(child)?;
     }
     Ok(children)
@@ -235,7 +256,7 @@ fn start<'s, E, G: Gate>(
     other: Helper,
     number: u32,
     gate: &'s G,
-    blocks: Vec<Block>,
+    spare: Spare,
 ) -> Result<PromisedHandle<Helped, Helps<'s>>, HelpersFault>
     requires table { IsOpenedFor promise.kind promise.spaces.now.spaces promise.roots.now promise.table.now.counts }
     requires new { IsNew promise.table.now other }
@@ -255,7 +276,7 @@ fn start<'s, E, G: Gate>(
             ensures { IsHelped kind spaces.entry.now roots.entry.now table.entry.now 1 result }
         {
             help(
-                alloc, table, other, number, spaces, roots, kind, gate, blocks,
+                alloc, table, other, number, spaces, roots, kind, gate, spare,
             )
         },
     ) else {
@@ -319,8 +340,8 @@ fn finish(
     requires helped { IsHelped plan.kind spaces.now roots.now table table.counts.helpers helped }
     ensures { Collects CollectFault.HeapFull plan.kind spaces.now roots.now table.counts.helpers table.counts.helpers result }
 {
-    let Helped { helper, part } = helped;
-    let forward = Forwarding::of_closed(CELLS * plan.kept, table.close(helper));
+    let Helped { helper, part, room } = helped;
+    let forward = Forwarding::of_closed(CELLS * plan.kept, table.close(helper), room);
     match part {
         Ok(part) => Ok(put_together(alloc, forward, spaces, roots, plan, part)?),
         Err(fault) => Err(fault),

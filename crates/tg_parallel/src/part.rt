@@ -1,22 +1,23 @@
 //! One helper of a collection.
-ghost use Rattle.std.specs.Prelude.{◌≡◌, ◌<◌, ◌≤◌, ◌^◌, ◌⊎◌, ℕ, All, Contains, IfErr, IfOk, OnOk, drop, length, nat_lt, slice_index_or};
+ghost use Rattle.std.specs.Prelude.{◌≡◌, ◌<◌, ◌≤◌, ◌^◌, ◌⊎◌, ℕ, All, Contains, IfErr, IfOk, OnOk, drop, length, nat_lt, slice_index_or, vec_capacity};
 ghost use Rattle.std.specs.List.{list_all};
 ghost use Rattle.std.specs.Vec.Iter.{into_iter_items};
 ghost use Rattle.tg_word.specs.declared.TheConstants.{MOST_SPACE_CELLS};
 ghost use Rattle.tg_block.specs.Cells.{free_block};
 ghost use Rattle.tg_parallel.specs.Parts.{AreOnce, IsOpenedFor, numbers_of};
 ghost use Rattle.tg_parallel.specs.Helping.{IsHelped, IsNew};
-ghost use Rattle.tg_parallel.specs.Seats.{AreLaidOut, block_at};
+ghost use Rattle.tg_parallel.specs.Seats.{AreEmptyLists, AreLaidOut, block_at};
 
 use crate::gate::Gate;
-use crate::seat::Seat;
+use crate::seat::{Left, Lists, Seat};
 use crate::work::work;
 use std::alloc::{AllocError, Global};
 use std::vec::IntoIter;
 use tg_block::Block;
-use tg_evac::{CollectFault, Copies};
+use tg_evac::{CollectFault, Copies, Reads};
 use tg_race::{Helper, RaceTable};
-use tg_space::{Kind, Root, Space, Spaces};
+use tg_space::{Kind, Root, Space, Spaces, Spare};
+use tg_word::CELLS;
 
 /// What a helper has copied: its blocks, each with its number.
 #[derive(Drop)]
@@ -34,6 +35,8 @@ pub struct Helped {
     pub helper: Helper,
     /// What it made, or why it stopped.
     pub part: Result<Part, CollectFault>,
+    /// Room that it has no more use for.
+    pub room: Vec<u64>,
 }
 
 impl Part {
@@ -103,7 +106,7 @@ fn next_block(alloc: Global, blocks: &mut IntoIter<Block>) -> Result<Block, Allo
 
 /// Claims roots until there are none left, wins the cells that they lead to and that no other helper has won, and copies
 /// each to its place: one of several that collect together, as the collectors of Halstead's Multilisp do. No call of it
-/// waits, but that of the gate may. Copies go to the spare blocks first.
+/// waits, but that of the gate may. Copies go to the spare blocks first, and its list of won cells stands in the spare room.
 ///
 /// The record of the helper tells what it has won and seen, and its part has the copies of what it has won. It claims no block
 /// number twice. A helper that is refused memory, or room, says so and leaves what it has claimed claimed: the collection is then
@@ -117,7 +120,128 @@ pub fn help<G: Gate>(
     roots: &[Root],
     kind: Kind,
     gate: &G,
-    spare: Vec<Block>,
+    spare: Spare,
+) -> Helped
+    requires table { IsOpenedFor kind spaces.now.spaces roots.now table.now.counts }
+    requires new { IsNew table.now helper }
+    ensures helped { IsHelped kind spaces.now roots.now table.now 1 result }
+    ensures once { AreOnce result.helper.done.aged_blocks × AreOnce result.helper.done.old_blocks }
+{
+    match kind {
+        Kind::Full => help_in_full(alloc, table, helper, number, spaces, roots, gate, spare),
+        Kind::Nursery => help_nursery(alloc, table, helper, number, spaces, roots, gate, spare),
+    }
+}
+
+// The same in a full collection. Each way to read cells is compiled apart, so that the seat is kept in registers.
+#[inline(always)]
+fn help_in_full<G: Gate>(
+    alloc: Global,
+    table: &RaceTable,
+    helper: Helper,
+    number: u32,
+    spaces: &Spaces,
+    roots: &[Root],
+    gate: &G,
+    spare: Spare,
+) -> Helped
+    requires table { IsOpenedFor Kind.Full spaces.now.spaces roots.now table.now.counts }
+    requires new { IsNew table.now helper }
+    ensures helped { IsHelped Kind.Full spaces.now roots.now table.now 1 result }
+    ensures once { AreOnce result.helper.done.aged_blocks × AreOnce result.helper.done.old_blocks }
+{
+    match Reads::of(spaces) {
+        Reads::Each => help_kind(
+            alloc,
+            table,
+            helper,
+            number,
+            spaces,
+            roots,
+            Kind::Full,
+            Reads::Each,
+            gate,
+            spare,
+        ),
+        Reads::Ahead => help_ahead(alloc, table, helper, number, spaces, roots, gate, spare),
+    }
+}
+
+// The same in a full collection that reads cells ahead.
+#[inline(never)]
+fn help_ahead<G: Gate>(
+    alloc: Global,
+    table: &RaceTable,
+    helper: Helper,
+    number: u32,
+    spaces: &Spaces,
+    roots: &[Root],
+    gate: &G,
+    spare: Spare,
+) -> Helped
+    requires table { IsOpenedFor Kind.Full spaces.now.spaces roots.now table.now.counts }
+    requires new { IsNew table.now helper }
+    ensures helped { IsHelped Kind.Full spaces.now roots.now table.now 1 result }
+    ensures once { AreOnce result.helper.done.aged_blocks × AreOnce result.helper.done.old_blocks }
+{
+    help_kind(
+        alloc,
+        table,
+        helper,
+        number,
+        spaces,
+        roots,
+        Kind::Full,
+        Reads::Ahead,
+        gate,
+        spare,
+    )
+}
+
+// The same in a nursery collection.
+#[inline(never)]
+fn help_nursery<G: Gate>(
+    alloc: Global,
+    table: &RaceTable,
+    helper: Helper,
+    number: u32,
+    spaces: &Spaces,
+    roots: &[Root],
+    gate: &G,
+    spare: Spare,
+) -> Helped
+    requires table { IsOpenedFor Kind.Nursery spaces.now.spaces roots.now table.now.counts }
+    requires new { IsNew table.now helper }
+    ensures helped { IsHelped Kind.Nursery spaces.now roots.now table.now 1 result }
+    ensures once { AreOnce result.helper.done.aged_blocks × AreOnce result.helper.done.old_blocks }
+{
+    help_kind(
+        alloc,
+        table,
+        helper,
+        number,
+        spaces,
+        roots,
+        Kind::Nursery,
+        Reads::of(spaces),
+        gate,
+        spare,
+    )
+}
+
+// The same in a collection of a kind.
+#[inline(always)]
+fn help_kind<G: Gate>(
+    alloc: Global,
+    table: &RaceTable,
+    helper: Helper,
+    number: u32,
+    spaces: &Spaces,
+    roots: &[Root],
+    kind: Kind,
+    reads: Reads,
+    gate: &G,
+    spare: Spare,
 ) -> Helped
     requires table { IsOpenedFor kind spaces.now.spaces roots.now table.now.counts }
     requires new { IsNew table.now helper }
@@ -125,17 +249,57 @@ pub fn help<G: Gate>(
     ensures once { AreOnce result.helper.done.aged_blocks × AreOnce result.helper.done.old_blocks }
 {
     let limit = spaces.limits().space_blocks();
-    let mut seat = Seat::new(alloc, table, helper, kind, limit);
-    let worked = work(alloc, &mut seat, number, spaces, roots, kind, gate, spare);
-    let (helper, aged, old) = seat.into_parts();
-    match worked {
-        Ok(copies) => Helped {
+    let Spare { blocks, words } = spare;
+    let Ok(lists) = lists_of(alloc, table.len(), words) else {
+        return Helped {
             helper,
-            part: Part::of(alloc, copies, &aged, &old, limit),
-        },
-        Err(fault) => Helped {
-            helper,
-            part: Err(fault),
-        },
+            part: Err(CollectFault::OutOfMemory),
+            room: Vec::new(alloc),
+        };
+    };
+    let mut seat = Seat::new(table, helper, kind, limit, lists);
+    let worked = work(
+        alloc, &mut seat, number, spaces, roots, kind, reads, gate, blocks,
+    );
+    handed(alloc, seat.into_left(), worked, limit)
+}
+
+// The lists of a helper at a table of so many words that has done nothing yet. That of what it will have won stands in the room, where
+// that is enough.
+fn lists_of(alloc: Global, words: usize, room: Vec<u64>) -> Result<Lists, AllocError>
+    ensures { IfOk result (AreEmptyLists words) }
+{
+    // All of its blocks of a space but the last are full of cells that it has won.
+    let blocks = words / CELLS as usize + 1;
+    Ok(Lists {
+        won: roomy(alloc, words, room)?,
+        aged: Vec::with_capacity(alloc, blocks)?,
+        old: Vec::with_capacity(alloc, blocks)?,
+    })
+}
+
+// Room for so many words: this, where it is enough.
+fn roomy(alloc: Global, words: usize, room: Vec<u64>) -> Result<Vec<u64>, AllocError>
+    ensures { IfOk result (λ room. words ≤ vec_capacity room) }
+{
+    if words <= room.capacity() {
+        return Ok(room);
+    }
+    Vec::with_capacity(alloc, words)
+}
+
+// What a helper hands over that leaves its seat with its work done, or refused.
+fn handed(alloc: Global, left: Left, worked: Result<Copies, CollectFault>, limit: u64) -> Helped
+{
+    let Left { helper, lists } = left;
+    let Lists { won, aged, old } = lists;
+    let part = match worked {
+        Ok(copies) => Part::of(alloc, copies, &aged, &old, limit),
+        Err(fault) => Err(fault),
+    };
+    Helped {
+        helper,
+        part,
+        room: won,
     }
 }

@@ -1,6 +1,6 @@
 //! A helper at its seat, which claims cells at the table that it shares with others.
-ghost use Rattle.std.specs.Prelude.{◌≡◌, ℕ, ◌<◌, ◌≤◌, ◌^◌, false, true, All, IsTrue, length};
-ghost use Rattle.tg_word.specs.declared.TheConstants.{MOST_SPACE_BLOCKS, MOST_SPACE_CELLS};
+ghost use Rattle.std.specs.Prelude.{◌≡◌, ℕ, ◌+◌, ◌*◌, ◌<◌, ◌≤◌, ◌==◌, ◌^◌, false, true, All, IsTrue, length};
+ghost use Rattle.tg_word.specs.declared.TheConstants.{CELLS, MOST_SPACE_BLOCKS, MOST_SPACE_CELLS};
 ghost use Rattle.tg_word.specs.Word.{IsPlace, place_in};
 ghost use Rattle.tg_race.specs.Course.{has_met};
 ghost use Rattle.tg_race.specs.Conditions.{can_claim_roots};
@@ -9,13 +9,12 @@ ghost use Rattle.tg_evac.specs.Claims.{win_at, won_in};
 ghost use Rattle.tg_evac.specs.Walks.{ClaimsCell, MayClaim};
 ghost use Rattle.tg_parallel.specs.Helping.{IsNew};
 ghost use Rattle.tg_parallel.specs.Parts.{HasClaimedPast, HasPlaces, wins_of};
-ghost use Rattle.tg_parallel.specs.Seats.{AreFilled, walked_at};
+ghost use Rattle.tg_parallel.specs.Seats.{AreEmptyLists, AreFilled, walked_at};
 
 use crate::own_blocks::OwnBlocks;
 use crate::winner::Winner;
-use std::alloc::Global;
 use std::marker::Model;
-use tg_evac::{Claimer, CollectFault, Win};
+use tg_evac::{Claimer, CollectFault};
 use tg_race::{Helper, RaceTable};
 use tg_space::Kind;
 use tg_word::AGED;
@@ -32,6 +31,26 @@ pub struct Seat<'a> {
     old: OwnBlocks,
 }
 
+/// The lists of a helper, which have room for all that it may come to have, so that none of them grows.
+#[derive(Drop)]
+pub struct Lists {
+    /// The cells that it has won.
+    pub won: Vec<u64>,
+    /// The numbers of its blocks of Aged, in the order in which they were claimed.
+    pub aged: Vec<u64>,
+    /// Those of Old.
+    pub old: Vec<u64>,
+}
+
+/// What a helper leaves its seat with.
+#[derive(Drop)]
+pub struct Left {
+    /// The helper.
+    pub helper: Helper,
+    /// Its lists.
+    pub lists: Lists,
+}
+
 impl<'a> Model for Seat<'a> {
     ghost use Rattle.tg_parallel.specs.Seats.{IsSeat, Sitting};
 
@@ -44,22 +63,33 @@ impl<'a> Model for Seat<'a> {
 
 impl<'a> Seat<'a> {
     /// The seat of a helper that has done nothing yet.
-    pub fn new(alloc: Global, table: &'a RaceTable, helper: Helper, kind: Kind, limit: u64) -> Self
+    #[inline(always)]
+    pub fn new(
+        table: &'a RaceTable,
+        helper: Helper,
+        kind: Kind,
+        limit: u64,
+        lists: Lists,
+    ) -> Self
         requires new { IsNew table.now helper }
         requires few { limit ≤ MOST_SPACE_BLOCKS }
+        requires small { table.now.counts.cells < 2 ^ 61 }
+        requires whole { table.now.table.id.words + CELLS * table.now.counts.kept ≡ table.now.counts.cells + 3 }
+        requires lists { AreEmptyLists table.now.table.id.words lists }
         ensures { result ≡ record { kind = kind; limit = limit; board = table.now; done = helper.done } }
     {
         Seat {
             kind,
             limit,
             table,
-            winner: Winner::new(alloc, helper),
-            aged: OwnBlocks::new(alloc, true),
-            old: OwnBlocks::new(alloc, false),
+            winner: Winner::new(helper, lists.won),
+            aged: OwnBlocks::new(true, lists.aged),
+            old: OwnBlocks::new(false, lists.old),
         }
     }
 
     /// Claims the next chunk of roots, and answers its number, which may be past the last.
+    #[inline(always)]
     pub fn claim_chunk(&mut self) -> u64
         requires { IsTrue (can_claim_roots self.now.board.counts self.now.done) }
         ensures drawn { self.exit.now ≡ record self.entry.now { done = with_chunk self.entry.now.done result } }
@@ -68,13 +98,14 @@ impl<'a> Seat<'a> {
         self.winner.claim_roots(self.table)
     }
 
-    /// The helper, and the numbers of its blocks of Aged and of Old, in the order in which they were claimed.
-    pub fn into_parts(self) -> (Helper, Vec<u64>, Vec<u64>)
-        ensures seat { result.0.table ≡ self.entry.board.table }
-        ensures done { result.0.done ≡ self.entry.done }
+    /// What the helper leaves its seat with.
+    #[inline(always)]
+    pub fn into_left(self) -> Left
+        ensures seat { result.helper.table ≡ self.entry.board.table }
+        ensures done { result.helper.done ≡ self.entry.done }
         ensures places { All (λ q. IsPlace q.1 × (q.1.space < 2)) self.entry.done.won }
-        ensures aged { (used : ℕ) × AreFilled true self.entry.done result.1.items used }
-        ensures old { (used : ℕ) × AreFilled false self.entry.done result.2.items used }
+        ensures aged { (used : ℕ) × AreFilled true self.entry.done result.lists.aged.items used }
+        ensures old { (used : ℕ) × AreFilled false self.entry.done result.lists.old.items used }
     {
         let Seat {
             winner,
@@ -82,7 +113,15 @@ impl<'a> Seat<'a> {
             old,
             ..
         } = self;
-        (winner.into_helper(), aged.numbers, old.numbers)
+        let (helper, won) = winner.into_parts();
+        Left {
+            helper,
+            lists: Lists {
+                won,
+                aged: aged.numbers,
+                old: old.numbers,
+            },
+        }
     }
 
     // How many cells were won.
@@ -95,15 +134,24 @@ impl<'a> Seat<'a> {
         self.winner.len()
     }
 
-    // The pair that was won as the k-th.
+    // The cell that was won as the k-th.
     #[inline(always)]
-    fn pair(&self, k: usize) -> Win
+    fn cell(&self, k: usize) -> u64
         requires { k < length self.now.done.won }
-        ensures win { result ≡ win_at (wins_of self.now.done.won) k }
-        ensures inside { result.cell < self.now.board.counts.cells }
-        ensures two { (place_in result.word).space < 2 }
+        ensures cell { result ≡ (win_at (wins_of self.now.done.won) k).cell }
+        ensures inside { result < self.now.board.counts.cells }
     {
-        self.winner.win(k)
+        self.winner.cell(k)
+    }
+
+    // Whether the copy of the cell that was won as the k-th is in Old.
+    #[inline(always)]
+    fn is_in_old(&self, k: usize) -> bool
+        requires { k < length self.now.done.won }
+        ensures space { result ≡ ((place_in (win_at (wins_of self.now.done.won) k).word).space == 0) }
+        ensures two { (place_in (win_at (wins_of self.now.done.won) k).word).space < 2 }
+    {
+        self.winner.is_in_old(k)
     }
 
     // The word of the place of a cell: a new one in a space, unless it has one.
@@ -135,9 +183,7 @@ impl<'a> Seat<'a> {
     }
 
     // The same in Aged.
-    //
-    // It is a call of its own: with it inlined the scan of a cell is too large to be inlined itself. A full collection has no copy there.
-    #[inline(never)]
+    #[inline(always)]
     fn give_aged(&mut self, cell: u64) -> Result<u64, CollectFault>
         requires claim { MayClaim (walked_at self.now) cell 1 }
         requires unmet { has_met self.now.done cell ≡ false }
@@ -166,8 +212,13 @@ impl<'a> Claimer for Seat<'a> {
     }
 
     #[inline(always)]
-    fn win(&self, k: usize) -> Win {
-        self.pair(k)
+    fn won_cell(&self, k: usize) -> u64 {
+        self.cell(k)
+    }
+
+    #[inline(always)]
+    fn is_won_in_old(&self, k: usize) -> bool {
+        self.is_in_old(k)
     }
 
     #[inline(always)]

@@ -1,57 +1,60 @@
 //! A helper with the list of what it has won.
-ghost use Rattle.std.specs.Prelude.{◌≡◌, ◌≢◌, ◌<◌, false, All, IfOk, IsTrue, [], length};
-ghost use Rattle.std.specs.Result.{OnErr};
+ghost use Rattle.std.specs.Prelude.{◌≡◌, ◌≢◌, ◌+◌, ◌<◌, ◌≤◌, ◌==◌, false, All, IsTrue, [], length, vec_capacity};
 ghost use Rattle.tg_word.specs.Word.{IsPlace, place_in};
-ghost use Rattle.tg_race.specs.Conditions.{blocks_of, can_claim_block, can_claim_roots, can_use};
+ghost use Rattle.tg_race.specs.Conditions.{blocks_of, can_claim_block, can_claim_roots};
 ghost use Rattle.tg_race.specs.Course.{has_met};
-ghost use Rattle.tg_race.specs.Race.{with_claimed_block, with_chunk, with_seen, with_won};
+ghost use Rattle.tg_race.specs.Race.{with_claimed_block, with_chunk, with_seen};
 ghost use Rattle.tg_evac.specs.Claims.{win_at};
 ghost use Rattle.tg_evac.specs.Claimers.{IsLink};
 ghost use Rattle.tg_parallel.specs.Parts.{wins_of};
-ghost use Rattle.tg_parallel.specs.Seats.{HasWord};
+ghost use Rattle.tg_parallel.specs.Seats.{FindsNext, HasRoomFor, HasWord, IsHeldBy, IsReady, used_of};
 
-use std::alloc::{AllocError, Global};
+use crate::own_blocks::OwnBlocks;
 use std::marker::Model;
-use tg_evac::Win;
 use tg_race::{Helper, RaceTable};
+use tg_word::next_link;
 
 /// A helper, and the cells that it has won, which its record has in proofs alone.
 #[derive(Drop)]
 pub struct Winner {
     helper: Helper,
-    // The cells that were won, in the order in which they were.
-    won: Vec<Win>,
+    // Twice the number of each cell that was won, in the order in which they were, and 1 more where its copy is in Aged.
+    won: Vec<u64>,
 }
 
 impl Model for Winner {
-    ghost use Rattle.std.specs.Prelude.{◌≡◌};
+    ghost use Rattle.std.specs.Prelude.{◌≡◌, ◌+◌, ◌≤◌, map, vec_capacity};
     ghost use Rattle.tg_race.specs.Seats.{Seated};
-    ghost use Rattle.tg_parallel.specs.Parts.{wins_of};
+    ghost use Rattle.tg_parallel.specs.Parts.{note_of};
 
     ghost Value = { Seated };
 
     ghost view = { λ w. w.helper };
 
-    ghost invariant = { λ w. w.won.items ≡ wins_of w.helper.done.won };
+    ghost invariant = { λ w. (w.won.items ≡ map note_of w.helper.done.won) × (w.helper.table.id.words ≤ vec_capacity w.won + 3) };
 }
 
 impl Winner {
-    /// A helper that has won nothing yet.
-    pub fn new(alloc: Global, helper: Helper) -> Self
-        requires { helper.done.won ≡ [] }
+    /// A helper that has won nothing yet. Its list of won cells stands in the room, whatever that holds, and doesn't grow.
+    #[inline(always)]
+    pub fn new(helper: Helper, mut room: Vec<u64>) -> Self
+        requires none { helper.done.won ≡ [] }
+        requires room { helper.table.id.words ≤ vec_capacity room + 3 }
         ensures { result ≡ helper }
     {
+        room.clear();
         Winner {
             helper,
-            won: Vec::new(alloc),
+            won: room,
         }
     }
 
-    /// The helper alone.
-    pub fn into_helper(self) -> Helper
-        ensures { result ≡ self }
+    /// The helper alone, and the room of the list.
+    #[inline(always)]
+    pub fn into_parts(self) -> (Helper, Vec<u64>)
+        ensures { result.0 ≡ self }
     {
-        self.helper
+        (self.helper, self.won)
     }
 
     /// How many cells were won.
@@ -62,16 +65,28 @@ impl Winner {
         self.won.len()
     }
 
-    /// The pair that was won as the k-th.
+    /// The cell that was won as the k-th.
     #[inline(always)]
-    pub fn win(&self, k: usize) -> Win
-        requires { k < length self.now.done.won }
-        ensures { result ≡ win_at (wins_of self.now.done.won) k }
+    pub fn cell(&self, k: usize) -> u64
+        requires low { k < length self.now.done.won }
+        requires places { All (λ q. IsPlace q.1 × (q.1.space < 2)) self.now.done.won }
+        ensures { result ≡ (win_at (wins_of self.now.done.won) k).cell }
     {
-        self.won[k]
+        self.won[k] / 2
+    }
+
+    /// Whether the copy of the cell that was won as the k-th is in Old.
+    #[inline(always)]
+    pub fn is_in_old(&self, k: usize) -> bool
+        requires low { k < length self.now.done.won }
+        requires places { All (λ q. IsPlace q.1 × (q.1.space < 2)) self.now.done.won }
+        ensures { result ≡ ((place_in (win_at (wins_of self.now.done.won) k).word).space == 0) }
+    {
+        self.won[k] % 2 == 0
     }
 
     /// Claims the next chunk of roots, as the helper does.
+    #[inline(always)]
     pub fn claim_roots(&mut self, table: &RaceTable) -> u64
         requires own { self.old.table ≡ table.now.table }
         requires allowed { IsTrue (can_claim_roots table.now.counts self.old.done) }
@@ -95,30 +110,30 @@ impl Winner {
         self.helper.look_word(table, cell)
     }
 
-    /// Gives a cell the place in a word, if it has none, and answers 0; else the word of the place that it has. It is refused only
-    /// where memory for the list was; then nothing is changed.
+    /// Gives a cell that the helper hasn't met the next place of these blocks, unless another helper gives it one first, and
+    /// answers the word of the place that it has.
     #[inline(always)]
-    pub fn claim_word(&mut self, table: &RaceTable, cell: u64, word: u64) -> Result<u64, AllocError>
-        requires own { self.old.table ≡ table.now.table }
+    pub fn claim_next(&mut self, table: &RaceTable, cell: u64, blocks: &mut OwnBlocks) -> u64
+        requires held { IsHeldBy table.now self.old blocks.old }
         requires word { HasWord table.now cell }
-        requires place { IsPlace (place_in word) }
-        requires link { IsLink word }
-        requires allowed { IsTrue (can_use self.old.done (place_in word)) }
-        ensures won { IfOk result (λ found. found ≡ 0 → self.new ≡ record self.old { done = with_won self.old.done (cell, place_in word) }) }
-        ensures lost { IfOk result (λ found. found ≢ 0 → self.new ≡ record self.old { done = with_seen self.old.done (cell, place_in found) }) }
-        ensures place { IfOk result (λ found. found ≢ 0 → IsPlace (place_in found)) }
-        ensures link { IfOk result (λ found. found ≢ 0 → IsLink found) }
-        ensures refused { OnErr result (self.new ≡ self.old) }
+        requires room { HasRoomFor table.now cell self.old }
+        requires ready { IsReady (used_of blocks.old.aged self.old.done) blocks.old }
+        requires some { 0 < blocks.old.left }
+        ensures { FindsNext cell blocks.old self.old blocks.new self.new result }
     {
-        self.won.reserve(1)?;
+        let word = blocks.next;
         let found = self.helper.claim_word(table, cell, word);
-        if found == 0 {
-            self.won.push_reserved(Win { cell, word });
+        if found != 0 {
+            return found;
         }
-        Ok(found)
+        self.won.push_reserved(2 * cell + u64::from(blocks.aged));
+        blocks.left -= 1;
+        blocks.next = next_link(word);
+        word
     }
 
     /// Claims the next block of Aged or of Old, as the helper does.
+    #[inline(always)]
     pub fn claim_block(&mut self, table: &RaceTable, aged: bool) -> u64
         requires own { self.old.table ≡ table.now.table }
         requires allowed { IsTrue (can_claim_block aged self.old.done) }

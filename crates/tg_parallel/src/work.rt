@@ -17,6 +17,7 @@ const CHUNK: u64 = 8;
 /// The gate is passed before each claim of a chunk. Copies go to the spare blocks first.
 ///
 /// It is refused as a claim of a cell is, or with `OutOfMemory` where memory for a copy was refused.
+#[inline(always)]
 pub fn work<G: Gate>(
     alloc: Global,
     seat: &mut Seat,
@@ -24,36 +25,7 @@ pub fn work<G: Gate>(
     spaces: &Spaces,
     roots: &[Root],
     kind: Kind,
-    gate: &G,
-    spare: Vec<Block>,
-) -> Result<Copies, CollectFault>
-    requires { MayBegin kind spaces.now.spaces roots.now seat.now }
-    ensures { HasWorkedAll kind spaces.now.spaces roots.now seat.entry.now seat.exit.now result }
-{
-    match kind {
-        Kind::Full => work_kind(alloc, seat, number, spaces, roots, Kind::Full, gate, spare),
-        Kind::Nursery => work_kind(
-            alloc,
-            seat,
-            number,
-            spaces,
-            roots,
-            Kind::Nursery,
-            gate,
-            spare,
-        ),
-    }
-}
-
-// The work of a kind. It is compiled for each, so that a full collection asks of no cell which kind this is.
-#[inline(always)]
-fn work_kind<G: Gate>(
-    alloc: Global,
-    seat: &mut Seat,
-    number: u32,
-    spaces: &Spaces,
-    roots: &[Root],
-    kind: Kind,
+    reads: Reads,
     gate: &G,
     spare: Vec<Block>,
 ) -> Result<Copies, CollectFault>
@@ -65,7 +37,7 @@ fn work_kind<G: Gate>(
     gate.pass(number);
     let mut chunk = seat.claim_chunk();
     while chunk < chunks {
-        copy_chunk(seat, spaces, roots, kind, chunk, &mut copies)?;
+        copy_chunk(seat, spaces, roots, kind, reads, chunk, &mut copies)?;
         gate.pass(number);
         chunk = seat.claim_chunk();
     }
@@ -79,6 +51,7 @@ fn copy_chunk(
     spaces: &Spaces,
     roots: &[Root],
     kind: Kind,
+    reads: Reads,
     chunk: u64,
     copies: &mut Copies,
 ) -> Result<(), CollectFault>
@@ -94,7 +67,7 @@ fn copy_chunk(
         seat,
         spaces,
         kind,
-        Reads::of(spaces),
+        reads,
         chunk_of(roots, chunk),
         copies,
     )

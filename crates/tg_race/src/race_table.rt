@@ -1,5 +1,5 @@
 //! The table of forwarding words.
-ghost use Rattle.std.specs.Prelude.{◌≡◌, ◌+◌, ◌*◌, ◌++◌, ◌^◌, ◌<◌, ◌≤◌, IfOk, replicate};
+ghost use Rattle.std.specs.Prelude.{◌≡◌, ◌+◌, ◌*◌, ◌++◌, ◌^◌, ◌<◌, ◌≤◌, IfOk, length, replicate};
 ghost use Rattle.tg_word.specs.declared.TheConstants.{CELLS, MOST_SPACE_BLOCKS};
 ghost use Rattle.tg_race.specs.Race.{empty};
 ghost use Rattle.tg_race.specs.Board.{IsClosedTable};
@@ -10,7 +10,7 @@ use crate::record::Counts;
 use atomic_table::Table;
 use std::alloc::{AllocError, Global};
 use std::marker::Model;
-use tg_closed::ClosedWords;
+use tg_closed::{ClosedWords, zeros};
 use tg_word::CELLS;
 
 // How many words stand in front of those of the cells.
@@ -29,6 +29,17 @@ pub struct RaceTable {
     skipped: u64,
 }
 
+/// A table that was opened.
+#[derive(Drop)]
+pub struct Opened {
+    /// The table, in which no cell has a place.
+    pub table: RaceTable,
+    /// Its first helper, who stands for all.
+    pub helper: Helper,
+    /// The room in which its words were laid out first. It holds them still.
+    pub room: Vec<u64>,
+}
+
 impl Model for RaceTable {
     ghost use Rattle.std.specs.Prelude.{◌≡◌, ◌+◌, ◌^◌, ◌<◌, ◌≤◌};
     ghost use Rattle.tg_race.specs.Board.{skipped_of};
@@ -45,20 +56,23 @@ impl RaceTable {
     /// A table in which no cell has a place, and its first helper, who stands for all.
     ///
     /// It is the only call here that takes memory: a word for each cell that isn't in one of Old's `kept` blocks, which come
-    /// first, and as many until it returns. `kept` is also Old's first block number.
+    /// first. It lays them out in the room first, as `tg_closed::zeros` does, and hands that back, which has a word for each
+    /// such cell then. `kept` is also Old's first block number.
     pub fn open(
         alloc: Global,
         cells: u64,
         roots: u64,
         kept: u64,
         helpers: u32,
-    ) -> Result<(RaceTable, Helper), AllocError>
+        room: Vec<u64>,
+    ) -> Result<Opened, AllocError>
         requires few { cells < 2 ^ 61 }
         requires kept { kept ≤ MOST_SPACE_BLOCKS }
         requires within { CELLS * kept ≤ cells }
         requires some { 0 < helpers }
-        ensures counts { IfOk result (λ t. t.0.counts ≡ record { cells = cells; roots = roots; kept = kept; helpers = helpers }) }
-        ensures first { IfOk result (λ t. (t.1.table ≡ t.0.table) × (t.1.done ≡ empty helpers)) }
+        ensures counts { IfOk result (λ opened. opened.table.counts ≡ record { cells = cells; roots = roots; kept = kept; helpers = helpers }) }
+        ensures first { IfOk result (λ opened. (opened.helper.table ≡ opened.table.table) × (opened.helper.done ≡ empty helpers)) }
+        ensures room { IfOk result (λ opened. length opened.room.items ≡ opened.table.table.id.words) }
     {
         let counts = Counts {
             cells,
@@ -68,7 +82,7 @@ impl RaceTable {
         };
         let skipped = CELLS * kept;
         let moved = (cells - skipped) as usize;
-        let mut words = Vec::from_elem(alloc, 0u64, moved + COUNTERS)?;
+        let mut words = zeros(alloc, moved + COUNTERS, room)?;
         words[2] = counts.kept;
         let (table, seat) = Table::of_words(alloc, words.as_slice(), &counts)?;
         let shared = RaceTable {
@@ -76,7 +90,20 @@ impl RaceTable {
             counts,
             skipped,
         };
-        Ok((shared, Helper { seat }))
+        Ok(Opened {
+            table: shared,
+            helper: Helper { seat },
+            room: words,
+        })
+    }
+
+    /// How many words it has: three counters, and one for each cell that isn't in a block that Old keeps.
+    pub fn len(&self) -> usize
+        ensures len { result ≡ self.now.table.id.words }
+        ensures whole { result + CELLS * self.now.counts.kept ≡ self.now.counts.cells + 3 }
+        ensures small { self.now.counts.cells < 2 ^ 61 }
+    {
+        (self.counts.cells - self.skipped) as usize + COUNTERS
     }
 
     /// The words of the cells behind those that Old keeps, where they stand, once the helper that is left stands for all.

@@ -11,4 +11,4 @@ pub record ForwardingWords : Type 0 where
 -- the words, wherever they stand
 abbrev pub words_in : Words → List ℕ
 words_in (Listed words) = words.items
-words_in (Closed words) = words
+words_in (Closed words room) = words

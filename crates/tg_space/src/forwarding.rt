@@ -4,7 +4,7 @@ ghost use Rattle.tg_space.specs.Forwarding.{words_in};
 
 use std::alloc::{AllocError, Global};
 use std::marker::Model;
-use tg_closed::ClosedWords;
+use tg_closed::{ClosedWords, zeros};
 
 /// Forwarding words while one thread gives them: for each cell, by its flat number, the word of its new place, or 0 where it
 /// has none. The first cells may be skipped: their words are 0 for good, and take no memory.
@@ -72,21 +72,6 @@ impl ForwardingTable {
     }
 }
 
-// As many zeros: in the room, where that is enough and not more than four times as much as needed, so that a heap that shrank
-// gives it back.
-#[inline(never)]
-fn zeros(alloc: Global, count: usize, mut room: Vec<u64>) -> Result<Vec<u64>, AllocError>
-    ensures { IfOk result (λ words. words.items ≡ replicate count 0) }
-{
-    if room.capacity() < count || count < room.capacity() / 4 {
-        drop(room);
-        return vec![in alloc; 0; count];
-    }
-    room.clear();
-    room.resize(count, 0)?;
-    Ok(room)
-}
-
 /// The forwarding word of each cell, by its flat number: the word of its new place, or 0 where it has none. The first
 /// cells may be skipped: their words are 0. The others are read where they were given, by one thread or by several.
 #[derive(Drop)]
@@ -101,7 +86,12 @@ pub enum Words {
     /// In one thread's table.
     Listed(Vec<u64>),
     /// In a table that several helpers shared.
-    Closed(ClosedWords),
+    Closed {
+        /// The words.
+        words: ClosedWords,
+        /// Room that a helper has no more use for.
+        room: Vec<u64>,
+    },
 }
 
 impl Model for Forwarding {
@@ -114,21 +104,21 @@ impl Model for Forwarding {
 }
 
 impl Forwarding {
-    /// These words of a closed table behind those of the cells that are skipped.
-    pub fn of_closed(skipped: u64, words: ClosedWords) -> Self
+    /// These words of a closed table behind those of the cells that are skipped, and room for the next collection.
+    pub fn of_closed(skipped: u64, words: ClosedWords, room: Vec<u64>) -> Self
         ensures { result ≡ record { skipped = skipped; words = replicate skipped 0 ++ words } }
     {
         Forwarding {
             skipped,
-            words: Words::Closed(words),
+            words: Words::Closed { words, room },
         }
     }
 
-    /// The room of the words, where one thread gave them. Takes no memory.
-    pub(crate) fn into_room(self) -> Option<Vec<u64>> {
+    /// The room that the next collection may use: that of the words, where one thread gave them. Takes no memory.
+    pub(crate) fn into_room(self) -> Vec<u64> {
         match self.words {
-            Words::Listed(words) => Some(words),
-            Words::Closed(_) => None,
+            Words::Listed(words) => words,
+            Words::Closed { room, .. } => room,
         }
     }
 
@@ -171,7 +161,7 @@ impl Words {
     {
         match self {
             Words::Listed(words) => words[number],
-            Words::Closed(words) => words.word(number),
+            Words::Closed { words, .. } => words.word(number),
         }
     }
 }

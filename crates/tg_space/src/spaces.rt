@@ -265,14 +265,12 @@ impl Spaces {
         mem::replace(&mut self.spare, Spare::none(self.alloc))
     }
 
-    /// Keeps the room of forwarding words that nobody asks any more, where one thread gave them, for the next collection: 8 bytes
-    /// a cell until then. Those of a closed table are dropped. Takes no memory.
+    /// Keeps the room that came with forwarding words that nobody asks any more for the next collection: 8 bytes a cell until then.
+    /// Takes no memory.
     pub fn keep_words(&mut self, forward: Forwarding)
         ensures { self.new ≡ self.old }
     {
-        if let Some(words) = forward.into_room() {
-            self.spare.words = words;
-        }
+        self.spare.words = forward.into_room();
     }
 
     // How many spaces there are up to the last nursery that has a block: as many as a collection has to empty. Old and Aged count always.

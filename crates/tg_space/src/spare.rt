@@ -9,8 +9,8 @@ use tg_block::Block;
 pub struct Spare {
     /// Blocks that it emptied. They hold whatever they held.
     pub blocks: Vec<Block>,
-    /// The room of its forwarding table, where one thread collected. Until the next collection it takes 8 bytes for each cell that
-    /// might be moved, and at most four times as much where the heap had shrunk.
+    /// Room for a word of each cell that might be moved, or for no word: that of the forwarding words, where one thread collected,
+    /// and else that of a helper's list of won cells. It is at most four times as much where the heap had shrunk.
     pub words: Vec<u64>,
 }
 

@@ -11,7 +11,7 @@ use Rattle.tg_space.specs.declared.kind.Kind.{Kind}
 use Rattle.tg_space.specs.declared.kind.Kind.TheVariants.{Full}
 use Rattle.tg_space.specs.declared.root.Root.TheVariants.{Remembered}
 use Rattle.tg_evac.specs.declared.plan.Plan.{Plan}
-use Rattle.tg_evac.specs.declared.win.Win.{Win}
+use Rattle.tg_evac.specs.Win.{Win}
 use Rattle.tg_evac.specs.Claims.{Claimed, IsTracedFrom, cells_won, won_in, wins_at}
 use Rattle.tg_evac.specs.Claimers.{HasPlacesOf, copies_to, image_at}
 use Rattle.tg_evac.specs.Copies.{AreForwarded, HoldCells, IsPlaceIn, moved_cell, new_cell}

@@ -1,7 +1,7 @@
 use Rattle.std.proofs.Common.{ℕ, ◌+◌, ap, arith, ◌∙◌}
 use Rattle.std.proofs.lemmas.List.{length-set}
 use Rattle.tg_space.specs.Targets.{cell_numbered}
-use Rattle.tg_evac.specs.declared.win.Win.{Win}
+use Rattle.tg_evac.specs.Win.{Win}
 use Rattle.tg_evac.specs.Claims.{win_at}
 use Rattle.tg_evac.proofs.Reading.{more_words}
 use Rattle.tg_evac.proofs.copies.read_some.Goals as goal

@@ -1,6 +1,6 @@
 use Rattle.std.proofs.Common.{arith, ℕ, Ok, ap, subst, ◌∙◌}
 use Rattle.tg_space.specs.Targets.{cell_numbered}
-use Rattle.tg_evac.specs.declared.win.Win.{Win}
+use Rattle.tg_evac.specs.Win.{Win}
 use Rattle.tg_evac.specs.Walks.{Scans}
 use Rattle.tg_evac.proofs.Scanning.{scans_both, scans_none, scans_refused, still_under_way}
 use Rattle.tg_evac.proofs.copies.scan_each.Goals as goal

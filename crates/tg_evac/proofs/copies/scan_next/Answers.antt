@@ -4,7 +4,7 @@ use Rattle.std.proofs.lemmas.List.Elements.{Contains-get_or}
 use Rattle.tg_word.specs.Word.{place_in}
 use Rattle.tg_space.specs.Targets.{cell_numbered}
 use Rattle.tg_space.specs.declared.kind.Kind.{Kind}
-use Rattle.tg_evac.specs.declared.win.Win.{Win}
+use Rattle.tg_evac.specs.Win.{Win}
 use Rattle.tg_evac.specs.Claims.{AreTraced, win_at}
 use Rattle.tg_evac.proofs.Reasons.{all_in_old}
 use Rattle.tg_evac.proofs.Pieces.{scan_copied, scan_keeps, scan_room, scan_traced, straight_aged, straight_old}

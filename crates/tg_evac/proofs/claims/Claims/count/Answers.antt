@@ -1,6 +1,6 @@
 use Rattle.std.proofs.Common.{◌≡◌, ◌≤◌, ◌^◌, length, ap, subst, arith}
 use Rattle.std.proofs.lemmas.List.{length-map}
-use Rattle.tg_evac.specs.declared.win.Win.{Win}
+use Rattle.tg_evac.specs.Win.{Win}
 use Rattle.tg_evac.specs.Claims.{Claimed, cells_won, won_in, wins_at}
 use Rattle.tg_evac.proofs.Claiming.{in_room, won_le, won_length}
 use Rattle.tg_evac.proofs.claims.Claims.count.Goals as goal

@@ -6,7 +6,7 @@ use Rattle.std.proofs.lemmas.List.Elements.{All-push, Contains-append_right}
 use Rattle.tg_word.specs.declared.Place.{Place}
 use Rattle.tg_word.specs.Word.{link_to, place_in}
 use Rattle.tg_space.specs.SpaceTable.{place_in_space}
-use Rattle.tg_evac.specs.declared.win.Win.{Win}
+use Rattle.tg_evac.specs.Win.{Win}
 use Rattle.tg_evac.specs.Claims.{Claimed, HasFilledRoom, IsWinFor, wins_at}
 use Rattle.tg_evac.specs.declared.fault.CollectFault.TheVariants.{HeapFull}
 use Rattle.tg_evac.specs.Claimers.{AddsWins, walked_of}

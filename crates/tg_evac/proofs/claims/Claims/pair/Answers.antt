@@ -2,7 +2,7 @@ use Rattle.std.proofs.Common.{◌≡◌, ◌∙◌, ◌<◌, ◌≤◌, ◌*◌,
 use Rattle.std.proofs.lemmas.List.{get_or_default}
 use Rattle.std.proofs.lemmas.List.Elements.{All-get_or}
 use Rattle.tg_word.specs.Word.{place_in}
-use Rattle.tg_evac.specs.declared.win.Win.{Win}
+use Rattle.tg_evac.specs.Win.{Win}
 use Rattle.tg_evac.specs.Claims.{Claimed, win_at, wins_at}
 use Rattle.tg_evac.proofs.Claiming.{pair_at, stands, won_at, won_length, word_to}
 use Rattle.tg_evac.proofs.claims.Claims.pair.Goals as goal

@@ -1,6 +1,6 @@
 use Rattle.std.proofs.Common.{◌<◌, length, sym, subst}
 use Rattle.tg_word.specs.Word.{place_in}
-use Rattle.tg_evac.specs.declared.win.Win.{Win}
+use Rattle.tg_evac.specs.Win.{Win}
 use Rattle.tg_parallel.specs.Seats.{Sitting}
 use Rattle.tg_parallel.proofs.Seating.{pair_inside, pair_two}
 use Rattle.tg_parallel.proofs.seat.Seat.pair.Goals as goal

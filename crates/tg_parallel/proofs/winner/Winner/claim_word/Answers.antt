@@ -5,7 +5,7 @@ use Rattle.tg_race.specs.Conditions.{can_use}
 use Rattle.tg_race.specs.Race.{with_seen, with_won}
 use Rattle.tg_race.specs.Seats.{Seated}
 use Rattle.tg_race.specs.Words.{place_of, word_of}
-use Rattle.tg_evac.specs.declared.win.Win.{Win}
+use Rattle.tg_evac.specs.Win.{Win}
 use Rattle.tg_parallel.specs.Parts.{win_of, wins_of}
 use Rattle.tg_parallel.proofs.winner.Winner.claim_word.Goals as goal
 
