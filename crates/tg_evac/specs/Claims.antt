@@ -1,5 +1,5 @@
 -- What a collection claims: the cells that were won, in order, each with the word of its new place.
-use Rattle.std.specs.Prelude.{◌≡◌, ◌≢◌, ℕ, ◌+◌, ◌-◌, ◌*◌, ◌^◌, ◌<◌, ◌≤◌, ◌↔◌, ◌⊎◌, ◌==◌, ◌||◌, Bool, true, false, if◌then◌else◌, not, eqb, List, length, map, slice_index, slice_index_or}
+use Rattle.std.specs.Prelude.{◌≡◌, ◌≢◌, ℕ, ◌+◌, ◌-◌, ◌*◌, ◌<◌, ◌≤◌, ◌↔◌, ◌⊎◌, ◌==◌, ◌||◌, Bool, true, false, if◌then◌else◌, not, eqb, List, length, map, slice_index, slice_index_or}
 use Rattle.std.specs.List.{All, Contains, IsDistinct, filter, flat_map, take_while}
 use Rattle.tg_word.specs.declared.TheConstants.{CELLS, MOST_SPACE_CELLS}
 use Rattle.tg_word.specs.declared.Place.{Place}

@@ -1,3 +1,4 @@
+pub mod Win
 pub mod Claims
 pub mod Claimers
 pub mod Copies

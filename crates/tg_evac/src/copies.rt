@@ -1,10 +1,11 @@
 //! The scan of won cells: each is copied, and what it names is claimed, until none is left.
-ghost use Rattle.std.specs.Prelude.{◌≡◌, ◌↔◌, ℕ, ◌+◌, ◌<◌, ◌≤◌, ◌^◌, true, false, [], IfOk, OnOk, length};
+ghost use Rattle.std.specs.Prelude.{◌≡◌, ◌↔◌, ℕ, ◌+◌, ◌<◌, ◌≤◌, ◌==◌, ◌^◌, true, false, [], IfOk, OnOk, length};
 ghost use Rattle.tg_space.specs.SpaceList.{IsSpace, cells_of};
 ghost use Rattle.tg_space.specs.Soundness.{IsPointer};
 ghost use Rattle.tg_space.specs.Targets.{cell_numbered, from_space, named_by, pointers_of};
 ghost use Rattle.std.specs.List.{All};
 ghost use Rattle.tg_word.specs.declared.TheConstants.{MOST_SPACE_CELLS};
+ghost use Rattle.tg_word.specs.Word.{place_in};
 ghost use Rattle.tg_evac.specs.Claims.{win_at, won_in};
 ghost use Rattle.tg_evac.specs.Copies.{HoldCells};
 ghost use Rattle.tg_evac.specs.Claimers.{AddsCopy, AreRead};
@@ -251,7 +252,17 @@ fn scan_next<C: Claimer>(
     ensures scans { Scans C.walked C.knows C.is_full spaces.now.spaces claimer.old claimer.new (k + 1) copies.exit.now.aged copies.exit.now.old result }
     ensures next { copies.exit.now.scanned ≡ copies.entry.now.scanned }
 {
-    // All copies of a full collection are in Old, so that nothing is looked up there.
-    let straight = kind == Kind::Full || claimer.is_won_in_old(k);
+    let straight = is_in_old(claimer, kind, k);
     copies.push_copy(claimer, spaces, kind, words, straight)
+}
+
+// Whether the copy of the k-th won cell is in Old. All copies of a full collection are, so that nothing is looked up there.
+#[inline(always)]
+fn is_in_old<C: Claimer>(claimer: &C, kind: Kind, k: usize) -> bool
+    requires next { k < length (C.walked claimer.now).won }
+    requires full { kind ≡ Kind.Full → (place_in (win_at (C.walked claimer.now).won k).word).space ≡ 0 }
+    ensures space { result ≡ ((place_in (win_at (C.walked claimer.now).won k).word).space == 0) }
+    ensures two { (place_in (win_at (C.walked claimer.now).won k).word).space < 2 }
+{
+    kind == Kind::Full || claimer.is_won_in_old(k)
 }

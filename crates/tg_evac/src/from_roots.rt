@@ -2,7 +2,7 @@
 ghost use Rattle.std.specs.Prelude.{◌≡◌, List, OnOk, length};
 ghost use Rattle.std.specs.List.{All, Contains};
 ghost use Rattle.tg_space.specs.Soundness.{IsRootIn};
-ghost use Rattle.tg_space.specs.Targets.{all_root_targets, from_space, root_targets_of};
+ghost use Rattle.tg_space.specs.Targets.{all_root_targets, from_space};
 ghost use Rattle.tg_space.specs.declared.root.Root.{Root as RootOf};
 ghost use Rattle.tg_evac.specs.Claims.{AreTraced};
 ghost use Rattle.tg_evac.specs.Claimers.{AreScanned};

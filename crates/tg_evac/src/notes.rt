@@ -1,5 +1,5 @@
 //! The cells of Old that will name young ones.
-ghost use Rattle.std.specs.Prelude.{◌≡◌, ◌<◌, ◌≤◌, ◌+◌, ◌^◌, ◌↔◌, ◌⊎◌, length, IfOk, IsTrue, OnOk};
+ghost use Rattle.std.specs.Prelude.{◌≡◌, ◌<◌, ◌≤◌, ◌+◌, ◌↔◌, ◌⊎◌, length, IfOk, IsTrue, OnOk};
 ghost use Rattle.std.specs.List.{All, Contains};
 ghost use Rattle.tg_word.specs.declared.TheConstants.{MOST_SPACE_BLOCKS};
 ghost use Rattle.tg_word.specs.declared.Place.{Place as PlaceOf};

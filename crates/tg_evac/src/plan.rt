@@ -1,11 +1,11 @@
 //! What a collection is to do.
-ghost use Rattle.std.specs.Prelude.{◌≡◌, ◌==◌, ◌≤◌, ◌^◌};
+ghost use Rattle.std.specs.Prelude.{◌≡◌, ◌==◌, ◌≤◌};
 ghost use Rattle.tg_word.specs.declared.TheConstants.{MOST_SPACE_BLOCKS, MOST_SPACE_CELLS};
 ghost use Rattle.tg_space.specs.SpaceTable.{IsSpaceTable};
 ghost use Rattle.tg_evac.specs.Claims.{IsPlanFor, is_straight as straight_from, space_for as space_of_copy};
 
 use tg_space::{Kind, Root, Spaces};
-use tg_word::{AGED, CELLS, OLD, Place};
+use tg_word::{AGED, CELLS, OLD};
 
 /// Which cells a collection moves, and what room it has for them.
 #[derive(Clone, Copy)]

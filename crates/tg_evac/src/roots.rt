@@ -11,7 +11,7 @@ use crate::claimer::Claimer;
 use crate::fault::CollectFault;
 use crate::images::move_from;
 use crate::plan::{is_straight, space_for};
-use tg_block::{LINK, WORDS};
+use tg_block::LINK;
 use tg_space::{Kind, Root, Spaces, first_pointer};
 use tg_word::{Place, place_of};
 

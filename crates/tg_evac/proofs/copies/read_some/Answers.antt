@@ -1,7 +1,6 @@
 use Rattle.std.proofs.Common.{ℕ, ◌+◌, ap, arith, ◌∙◌}
 use Rattle.std.proofs.lemmas.List.{length-set}
 use Rattle.tg_space.specs.Targets.{cell_numbered}
-use Rattle.tg_evac.specs.Win.{Win}
 use Rattle.tg_evac.specs.Claims.{win_at}
 use Rattle.tg_evac.proofs.Reading.{more_words}
 use Rattle.tg_evac.proofs.copies.read_some.Goals as goal
@@ -15,5 +14,5 @@ loop-i-preserved g c =
           more_words c.loop-i.near c.loop-i.i c.numbered_words.result.now (λ (j : ℕ). cell_numbered h (win_at won (c.args.k + j)).cell)
           (omega (arith, c.loop-i.invariant.long, c.loop-i-test.true, c.min-count.ensures))
           c.loop-i.invariant.words
-          (c.numbered_words.ensures.words ∙ ap (λ (w : Win). cell_numbered h w.cell) c.win.ensures.win);
+          (c.numbered_words.ensures.words ∙ ap (cell_numbered h) c.won_cell.ensures.cell);
     }

@@ -1,6 +1,5 @@
 use Rattle.std.proofs.Common.{arith, ℕ, Ok, ap, subst, ◌∙◌}
 use Rattle.tg_space.specs.Targets.{cell_numbered}
-use Rattle.tg_evac.specs.Win.{Win}
 use Rattle.tg_evac.specs.Walks.{Scans}
 use Rattle.tg_evac.proofs.Scanning.{scans_both, scans_none, scans_refused, still_under_way}
 use Rattle.tg_evac.proofs.copies.scan_each.Goals as goal
@@ -18,7 +17,7 @@ pub scan_next-requires-clause-walk : goal.scan_next-requires-clause-walk
 scan_next-requires-clause-walk g c = let m = g.C.Claimer in still_under_way m.walked m.knows m.is_full c.loop-next.invariant c.requires
 
 pub scan_next-requires-clause-words : goal.scan_next-requires-clause-words
-scan_next-requires-clause-words g c = c.words_near-words.ensures.words ∙ ap (λ (w : Win). cell_numbered c.args.spaces.now.spaces w.cell) c.win.ensures.win
+scan_next-requires-clause-words g c = c.words_near-words.ensures.words ∙ ap (cell_numbered c.args.spaces.now.spaces) c.won_cell.ensures.cell
 
 pub returns-clause-ended : goal.returns-clause-ended
 returns-clause-ended g c = let within = c.loop-next.invariant.copies.within in omega arith
