@@ -60,18 +60,21 @@ pub record AreFilled (aged : Bool) (v : Record) (numbers : List ℕ) (used : ℕ
 abbrev pub used_of : Bool → Record → ℕ
 used_of aged v = length (pairs_in (space_of_age aged) v.won)
 
--- The word of the next place is known, behind so many that were given away: it is in a block that the layout can name, all of whose
--- places that are left come last.
+-- as many words are left before the last block's end as places are left, behind so many that were given away (256 divides a link)
+abbrev pub LeavesPlaces : ℕ → OwnBlocks → Type 0
+LeavesPlaces used b = b.next + 2 ^ 8 * (CELLS * length b.numbers.items) ≡ b.end + 2 ^ 8 * used
+
+-- the next word is that of the next place, behind so many, in a block that the layout can name
 pub record IsReady (used : ℕ) (b : OwnBlocks) : Type 0 where
-  pub left : used + b.left ≡ CELLS * length b.numbers.items
+  pub left : LeavesPlaces used b
   pub few : slice_index b.numbers.items (used / CELLS) < MOST_SPACE_BLOCKS
   pub next : b.next ≡ link_to (own_place b.aged b.numbers.items used)
 
 -- As long as places are left, the next one is known. Where none is, all blocks are full, or the last one is past the limit.
 pub record KnowsNext (limit : ℕ) (v : Record) (b : OwnBlocks) : Type 0 where
-  pub some : 0 < b.left → IsReady (used_of b.aged v) b
-  pub none : b.left ≡ 0 → b.is_past ≡ false → used_of b.aged v ≡ CELLS * length b.numbers.items
-  pub past : b.is_past ≡ true → (b.left ≡ 0) × (n : ℕ) × Contains b.numbers.items n × (limit ≤ n)
+  pub some : b.next ≢ b.end → IsReady (used_of b.aged v) b
+  pub none : b.next ≡ b.end → b.is_past ≡ false → used_of b.aged v ≡ CELLS * length b.numbers.items
+  pub past : b.is_past ≡ true → (b.next ≡ b.end) × (n : ℕ) × Contains b.numbers.items n × (limit ≤ n)
 
 -- the blocks of the other space stay as they are
 abbrev pub OtherStays : Bool → Record → Record → Type 0
@@ -99,11 +102,6 @@ pub record Finds (cell : ℕ) (aged : Bool) (v w : Record) : Type 0 where
 
 -- ---- what the blocks of a space do for a claim
 
--- the table has a word for the cell
-pub record HasWord (board : Board) (cell : ℕ) : Type 0 where
-  pub inside : cell < board.counts.cells
-  pub moved : CELLS * board.counts.kept ≤ cell
-
 -- the helper sits at the table, and the blocks are those that it has claimed, filled in order with what it has won
 pub record IsHeldBy (board : Board) (helper : Seated) (b : OwnBlocks) : Type 0 where
   pub own : helper.table ≡ board.table
@@ -125,7 +123,8 @@ pub record StayFilled (before : OwnBlocks) (old : Seated) (after : OwnBlocks) (n
 pub record IsDrawn {Fault : Type 0} (before : OwnBlocks) (old : Seated) (after : OwnBlocks) (new : Seated) (result : Result ℕ Fault) : Type 0 where
   pub stay : StayFilled before old after new
   pub blocks : OnlyBlocks old.done new.done
-  pub left : after.left ≡ before.left
+  pub next : after.next ≡ before.next
+  pub end : after.end ≡ before.end
   pub past : after.is_past ≡ before.is_past
   pub drawn : IfOk result (λ n. after.numbers.items ≡ before.numbers.items ++ n ∷ [])
   pub none : OnErr result (after.numbers.items ≡ before.numbers.items)
@@ -135,15 +134,15 @@ pub record AreReady {T : Type 0} (limit : ℕ) (before : OwnBlocks) (old : Seate
   pub stay : StayFilled before old after new
   pub blocks : OnlyBlocks old.done new.done
   pub next : KnowsNext limit new.done after
-  pub some : OnOk result (0 < after.left)
+  pub some : OnOk result (after.next ≢ after.end)
   pub full : IfErr result (λ fault. fault ≡ HeapFull → HasClaimedPast limit new.done)
 
 -- the cell has a place, whose word is answered: the next one of these blocks, unless it had one
 pub record FindsNext (cell : ℕ) (before : OwnBlocks) (old : Seated) (after : OwnBlocks) (new : Seated) (word : ℕ) : Type 0 where
   pub stay : StayFilled before old after new
   pub finds : Finds cell before.aged old.done new.done
-  pub ready : used_of before.aged new.done + after.left ≡ CELLS * length after.numbers.items
-  pub next : 0 < after.left → IsReady (used_of before.aged new.done) after
+  pub left : LeavesPlaces (used_of before.aged new.done) after
+  pub next : after.next ≢ after.end → IsReady (used_of before.aged new.done) after
   pub past : after.is_past ≡ before.is_past
   pub met : Contains (cells_met new.done) cell
   pub link : IsLink word

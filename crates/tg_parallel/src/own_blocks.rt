@@ -1,16 +1,16 @@
 //! The places that a helper gives away: in its own blocks of a space, one after the other.
 ghost use Rattle.std.specs.Prelude.{◌≡◌, ◌<◌, ◌≤◌, ◌*◌, ◌+◌, ◌^◌, [], false, IfErr, IfOk, OnOk, length};
 ghost use Rattle.tg_word.specs.declared.TheConstants.{CELLS, MOST_SPACE_BLOCKS};
-ghost use Rattle.tg_race.specs.Course.{has_met};
+ghost use Rattle.tg_race.specs.Seats.{IsWordIn};
 ghost use Rattle.tg_parallel.specs.Parts.{HasClaimedPast};
-ghost use Rattle.tg_parallel.specs.Seats.{AreReady, GivePlace, HasRoomFor, HasWord, IsDrawn, IsHeldBy, IsReady, KnowsNext, used_of};
+ghost use Rattle.tg_parallel.specs.Seats.{AreReady, GivePlace, HasRoomFor, IsDrawn, IsHeldBy, KnowsNext, used_of};
 
 use crate::links::word_to;
 use crate::winner::Winner;
 use std::alloc::AllocError;
 use tg_evac::CollectFault;
-use tg_race::RaceTable;
-use tg_word::{AGED, CELLS, OLD, Place};
+use tg_race::{CellWord, RaceTable};
+use tg_word::{AGED, CELL_AT, CELLS, OLD, Place};
 
 /// The blocks that a helper has claimed in a space, and what is left in the last of them.
 #[derive(Drop)]
@@ -19,10 +19,10 @@ pub struct OwnBlocks {
     pub aged: bool,
     /// The numbers of the blocks, in the order in which they were claimed.
     pub numbers: Vec<u64>,
-    /// The word of the next place, where one is left.
+    /// The word of the next place, in the last block. All others are full.
     pub next: u64,
-    /// How many places are left in the last block. All others are full.
-    pub left: u64,
+    /// The word behind that of the last place of the block: where it is the next one, no place is left.
+    pub end: u64,
     /// Whether the last block is past the limit. Then it has no place to give.
     pub is_past: bool,
 }
@@ -34,14 +34,14 @@ impl OwnBlocks {
         requires { numbers.items ≡ [] }
         ensures space { result.aged ≡ aged }
         ensures numbers { result.numbers.items ≡ [] }
-        ensures left { result.left ≡ 0 }
+        ensures next { result.next ≡ result.end }
         ensures within { result.is_past ≡ false }
     {
         OwnBlocks {
             aged,
             numbers,
             next: 0,
-            left: 0,
+            end: 0,
             is_past: false,
         }
     }
@@ -55,18 +55,18 @@ impl OwnBlocks {
         &mut self,
         winner: &mut Winner,
         table: &RaceTable,
-        cell: u64,
+        at: CellWord,
         limit: u64,
     ) -> Result<u64, CollectFault>
         requires held { IsHeldBy table.now winner.old self.now }
-        requires word { HasWord table.now cell }
-        requires room { HasRoomFor table.now cell winner.old }
+        requires word { IsWordIn table.now at }
+        requires room { HasRoomFor table.now at.cell winner.old }
         requires limit { limit ≤ MOST_SPACE_BLOCKS }
         requires next { KnowsNext limit winner.old.done self.now }
-        ensures { GivePlace limit cell self.entry.now winner.old self.exit.now winner.new result }
+        ensures { GivePlace limit at.cell self.entry.now winner.old self.exit.now winner.new result }
     {
         self.make_ready(winner, table, limit)?;
-        Ok(winner.claim_next(table, cell, self))
+        Ok(winner.claim_next(table, at, self))
     }
 
     // Claims a block, where no place is left.
@@ -82,7 +82,7 @@ impl OwnBlocks {
         requires next { KnowsNext limit winner.old.done self.now }
         ensures { AreReady limit self.entry.now winner.old self.exit.now winner.new result }
     {
-        if self.left != 0 {
+        if self.next != self.end {
             return Ok(());
         }
         self.open(winner, table, limit)
@@ -101,7 +101,7 @@ impl OwnBlocks {
         requires held { IsHeldBy table.now winner.old self.now }
         requires limit { limit ≤ MOST_SPACE_BLOCKS }
         requires next { KnowsNext limit winner.old.done self.now }
-        requires none { self.now.left ≡ 0 }
+        requires none { self.now.next ≡ self.now.end }
         ensures { AreReady limit self.entry.now winner.old self.exit.now winner.new result }
     {
         if self.is_past {
@@ -117,7 +117,7 @@ impl OwnBlocks {
             block,
             cell: 0,
         });
-        self.left = CELLS;
+        self.end = self.next + (CELLS << CELL_AT);
         Ok(())
     }
 

@@ -5,6 +5,7 @@ ghost use Rattle.tg_word.specs.Word.{IsPlace, place_in};
 ghost use Rattle.tg_race.specs.Course.{has_met};
 ghost use Rattle.tg_race.specs.Conditions.{can_claim_roots};
 ghost use Rattle.tg_race.specs.Race.{with_chunk};
+ghost use Rattle.tg_race.specs.Seats.{IsWordIn};
 ghost use Rattle.tg_evac.specs.Claims.{win_at, won_in};
 ghost use Rattle.tg_evac.specs.Walks.{ClaimsCell, MayClaim};
 ghost use Rattle.tg_parallel.specs.Helping.{IsNew};
@@ -15,7 +16,7 @@ use crate::own_blocks::OwnBlocks;
 use crate::winner::Winner;
 use std::marker::Model;
 use tg_evac::{Claimer, CollectFault};
-use tg_race::{Helper, RaceTable};
+use tg_race::{CellWord, Helper, RaceTable};
 use tg_space::Kind;
 use tg_word::AGED;
 
@@ -160,37 +161,29 @@ impl<'a> Seat<'a> {
         requires { MayClaim (walked_at self.now) cell space }
         ensures { ClaimsCell walked_at (λ s. HasPlaces s.done) (λ s. HasClaimedPast s.limit s.done) cell space self.entry.now self.exit.now result }
     {
-        let word = self.winner.look_word(self.table, cell);
+        let at = self.table.word_of(cell);
+        let word = self.winner.look_word(self.table, at);
         if word != 0 {
             return Ok(word);
         }
-        self.give_word(cell, space)
+        self.give_word(at, space)
     }
 
     // Gives a cell that has no place the next one of a space, unless another helper does so first, and answers its word.
     #[inline(always)]
-    fn give_word(&mut self, cell: u64, space: u64) -> Result<u64, CollectFault>
-        requires claim { MayClaim (walked_at self.now) cell space }
-        requires unmet { has_met self.now.done cell ≡ false }
-        ensures { ClaimsCell walked_at (λ s. HasPlaces s.done) (λ s. HasClaimedPast s.limit s.done) cell space self.entry.now self.exit.now result }
+    fn give_word(&mut self, at: CellWord, space: u64) -> Result<u64, CollectFault>
+        requires word { IsWordIn self.now.board at }
+        requires two { space < 2 }
+        requires unmet { has_met self.now.done at.cell ≡ false }
+        ensures { ClaimsCell walked_at (λ s. HasPlaces s.done) (λ s. HasClaimedPast s.limit s.done) at.cell space self.entry.now self.exit.now result }
     {
         if space == AGED {
-            self.give_aged(cell)
+            self.aged
+                .word_of(&mut self.winner, self.table, at, self.limit)
         } else {
             self.old
-                .word_of(&mut self.winner, self.table, cell, self.limit)
+                .word_of(&mut self.winner, self.table, at, self.limit)
         }
-    }
-
-    // The same in Aged.
-    #[inline(always)]
-    fn give_aged(&mut self, cell: u64) -> Result<u64, CollectFault>
-        requires claim { MayClaim (walked_at self.now) cell 1 }
-        requires unmet { has_met self.now.done cell ≡ false }
-        ensures { ClaimsCell walked_at (λ s. HasPlaces s.done) (λ s. HasClaimedPast s.limit s.done) cell 1 self.entry.now self.exit.now result }
-    {
-        self.aged
-            .word_of(&mut self.winner, self.table, cell, self.limit)
     }
 }
 

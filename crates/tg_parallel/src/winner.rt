@@ -3,15 +3,16 @@ ghost use Rattle.std.specs.Prelude.{◌≡◌, ◌≢◌, ◌+◌, ◌<◌, ◌�
 ghost use Rattle.tg_word.specs.Word.{IsPlace, place_in};
 ghost use Rattle.tg_race.specs.Conditions.{blocks_of, can_claim_block, can_claim_roots};
 ghost use Rattle.tg_race.specs.Course.{has_met};
+ghost use Rattle.tg_race.specs.Seats.{IsWordIn};
 ghost use Rattle.tg_race.specs.Race.{with_claimed_block, with_chunk, with_seen};
 ghost use Rattle.tg_evac.specs.Claims.{win_at};
 ghost use Rattle.tg_evac.specs.Claimers.{IsLink};
 ghost use Rattle.tg_parallel.specs.Parts.{wins_of};
-ghost use Rattle.tg_parallel.specs.Seats.{FindsNext, HasRoomFor, HasWord, IsHeldBy, IsReady, used_of};
+ghost use Rattle.tg_parallel.specs.Seats.{FindsNext, HasRoomFor, IsHeldBy, IsReady, used_of};
 
 use crate::own_blocks::OwnBlocks;
 use std::marker::Model;
-use tg_race::{Helper, RaceTable};
+use tg_race::{CellWord, Helper, RaceTable};
 use tg_word::next_link;
 
 /// A helper, and the cells that it has won, which its record has in proofs alone.
@@ -98,36 +99,35 @@ impl Winner {
 
     /// The word of the place that a cell has got, as the helper sees it, or 0 where it has none.
     #[inline(always)]
-    pub fn look_word(&mut self, table: &RaceTable, cell: u64) -> u64
+    pub fn look_word(&mut self, table: &RaceTable, at: CellWord) -> u64
         requires own { self.old.table ≡ table.now.table }
-        requires word { HasWord table.now cell }
+        requires word { IsWordIn table.now at }
         ensures none { result ≡ 0 → self.new ≡ self.old }
-        ensures some { result ≢ 0 → self.new ≡ record self.old { done = with_seen self.old.done (cell, place_in result) } }
+        ensures some { result ≢ 0 → self.new ≡ record self.old { done = with_seen self.old.done (at.cell, place_in result) } }
         ensures place { result ≢ 0 → IsPlace (place_in result) }
         ensures link { result ≢ 0 → IsLink result }
-        ensures unmet { result ≡ 0 → has_met self.old.done cell ≡ false }
+        ensures unmet { result ≡ 0 → has_met self.old.done at.cell ≡ false }
     {
-        self.helper.look_word(table, cell)
+        self.helper.look_word(table, at)
     }
 
     /// Gives a cell that the helper hasn't met the next place of these blocks, unless another helper gives it one first, and
     /// answers the word of the place that it has.
     #[inline(always)]
-    pub fn claim_next(&mut self, table: &RaceTable, cell: u64, blocks: &mut OwnBlocks) -> u64
+    pub fn claim_next(&mut self, table: &RaceTable, at: CellWord, blocks: &mut OwnBlocks) -> u64
         requires held { IsHeldBy table.now self.old blocks.old }
-        requires word { HasWord table.now cell }
-        requires room { HasRoomFor table.now cell self.old }
+        requires word { IsWordIn table.now at }
+        requires room { HasRoomFor table.now at.cell self.old }
         requires ready { IsReady (used_of blocks.old.aged self.old.done) blocks.old }
-        requires some { 0 < blocks.old.left }
-        ensures { FindsNext cell blocks.old self.old blocks.new self.new result }
+        requires some { blocks.old.next ≢ blocks.old.end }
+        ensures { FindsNext at.cell blocks.old self.old blocks.new self.new result }
     {
         let word = blocks.next;
-        let found = self.helper.claim_word(table, cell, word);
+        let found = self.helper.claim_word(table, at, word);
         if found != 0 {
             return found;
         }
-        self.won.push_reserved(2 * cell + u64::from(blocks.aged));
-        blocks.left -= 1;
+        self.won.push_reserved(2 * at.cell + u64::from(blocks.aged));
         blocks.next = next_link(word);
         word
     }

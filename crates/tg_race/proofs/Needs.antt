@@ -1,5 +1,5 @@
 -- The conditions of the events, as the steps use them.
-use Rattle.std.proofs.Common.{◌≡◌, ℕ, ◌+◌, ◌-◌, ◌*◌, ◌<◌, ◌≤◌, ◌==◌, List, [], ◌∷◌, length, true, false, not, eqb-true, nat_lt, sym, refl, ap, ◌∙◌, arith}
+use Rattle.std.proofs.Common.{◌≡◌, ℕ, ◌+◌, ◌-◌, ◌*◌, ◌<◌, ◌≤◌, ◌==◌, List, [], ◌∷◌, length, true, false, not, eqb-true, nat_lt, sym, refl, ap, subst, ◌∙◌, arith}
 use Rattle.std.specs.List.{list_all}
 use Rattle.std.proofs.lemmas.Bool.{cond-true, cond-false, and_parts, ltb-true, not-true}
 use Rattle.tg_word.specs.declared.Place.{Place}
@@ -8,7 +8,8 @@ use Rattle.tg_race.specs.declared.record.Record.{Record}
 use Rattle.tg_race.specs.Weights.{weigh}
 use Rattle.tg_race.specs.Words.{same_place, place_at, OLD, AGED}
 use Rattle.tg_race.specs.Race.{empty, is_chunk, past, used_in, owns}
-use Rattle.tg_race.specs.Seats.{Board, Seated, TableOf}
+use Rattle.tg_race.specs.declared.race_table.CellWord.{CellWord}
+use Rattle.tg_race.specs.Seats.{Board, IsWordIn, Seated, TableOf}
 use Rattle.tg_race.specs.Conditions.{can_claim_roots, can_claim_block, uses, can_use, is_new, can_part}
 use Rattle.tg_race.proofs.Sums.{none_weighs}
 use Rattle.tg_race.proofs.Parts.{is_past, is_open, open_aged, open_old, claims_of, owns_claims}
@@ -26,6 +27,13 @@ pub stands_at : (k : Counts) (y board : Board) (cell number : ℕ) → y ≡ boa
 stands_at k y board cell number table key is moved inside =
     let same : k ≡ board.counts = key ∙ ap (λ (b : Board). b.counts) table in
     rw same (record { is = omega arith; inside = omega arith })
+
+-- a cell's word is one of the table
+pub word_within : {y board : Board} {at : CellWord} → y ≡ board → y.table.id.words + 64 * y.counts.kept ≡ y.counts.cells + 3 → IsWordIn board at → at.number < y.table.id.words
+word_within table whole word =
+    let there = subst (λ (b : Board). b.table.id.words + 64 * b.counts.kept ≡ b.counts.cells + 3) table whole in
+    let is = word.is in let inside = word.inside in
+    rw table (omega (arith, there))
 
 past_none : (k : Counts) (l : List ℕ) → list_all (is_chunk k) l ≡ true → weigh (is_past k) l ≡ 0
 past_none k [] h = refl

@@ -5,6 +5,7 @@ ghost use Rattle.tg_word.specs.declared.Place.{Place as PlaceOf};
 ghost use Rattle.tg_word.specs.Word.{IsPlace};
 ghost use Rattle.tg_race.specs.Race.{HasMet, empty, with_chunk, with_seen, with_won, with_claimed_block, both, less_one};
 ghost use Rattle.tg_race.specs.Board.{IsKnown};
+ghost use Rattle.tg_race.specs.Seats.{IsWordIn};
 ghost use Rattle.tg_race.specs.Words.{IsForward, place_of};
 ghost use Rattle.tg_race.specs.Conditions.{blocks_of, can_claim_roots, can_claim_block, can_use, can_part};
 ghost use Rattle.tg_race.specs.Course.{has_met};
@@ -12,7 +13,7 @@ ghost use Rattle.tg_race.specs.Claims.{claimed, place_found};
 
 use crate::links::{place_in, word_to};
 use crate::plays::{Cut, DrawAged, DrawChunk, DrawOld, Glue, Look, Try, View};
-use crate::race_table::RaceTable;
+use crate::race_table::{CellWord, RaceTable};
 use atomic_table::Seat;
 use std::marker::Model;
 use tg_word::Place;
@@ -94,7 +95,7 @@ impl Helper {
         ensures unmet { IfNone result (has_met self.old.done cell ≡ false) }
         ensures known { (p : PlaceOf) → IsPlace p → HasMet self.old.done cell p → result ≡ Some p }
     {
-        let word = self.look_word(table, cell);
+        let word = self.look_word(table, table.word_of(cell));
         if word == 0 {
             None
         } else {
@@ -104,19 +105,15 @@ impl Helper {
 
     /// The word of the place that a cell has got, or 0 where it has none. The helper has then seen it.
     #[inline(always)]
-    pub fn look_word(&mut self, table: &RaceTable, cell: u64) -> u64
+    pub fn look_word(&mut self, table: &RaceTable, at: CellWord) -> u64
         requires own { self.old.table ≡ table.now.table }
-        requires inside { cell < table.now.counts.cells }
-        requires moved { CELLS * table.now.counts.kept ≤ cell }
+        requires word { IsWordIn table.now at }
         ensures none { result ≡ 0 → self.new ≡ self.old }
-        ensures some { result ≢ 0 → self.new ≡ record self.old { done = with_seen self.old.done (cell, place_of result) } }
+        ensures some { result ≢ 0 → self.new ≡ record self.old { done = with_seen self.old.done (at.cell, place_of result) } }
         ensures forward { result ≢ 0 → IsForward result }
-        ensures known { IsKnown self.old.done cell result }
+        ensures known { IsKnown self.old.done at.cell result }
     {
-        table
-            .table
-            .shared
-            .load::<Look>(&mut self.seat, table.word_number(cell))
+        table.table.shared.load::<Look>(&mut self.seat, at.number)
     }
 
     /// Gives a cell this place, if it has none. The place is unused, in a block that the helper has claimed.
@@ -132,7 +129,7 @@ impl Helper {
         ensures done { self.new ≡ record self.old { done = claimed self.old.done cell place result } }
         ensures place { IsPlace (place_found place result) }
     {
-        let found = self.claim_word(table, cell, word_to(place));
+        let found = self.claim_word(table, table.word_of(cell), word_to(place));
         if found == 0 {
             return Claim::Won;
         }
@@ -141,20 +138,19 @@ impl Helper {
 
     /// Gives a cell the place in a word, if it has none, and answers 0; else the word of the place that it has.
     #[inline(always)]
-    pub fn claim_word(&mut self, table: &RaceTable, cell: u64, word: u64) -> u64
+    pub fn claim_word(&mut self, table: &RaceTable, at: CellWord, word: u64) -> u64
         requires own { self.old.table ≡ table.now.table }
-        requires inside { cell < table.now.counts.cells }
-        requires moved { CELLS * table.now.counts.kept ≤ cell }
+        requires word { IsWordIn table.now at }
         requires forward { IsForward word }
         requires allowed { IsTrue (can_use self.old.done (place_of word)) }
-        ensures won { result ≡ 0 → self.new ≡ record self.old { done = with_won self.old.done (cell, place_of word) } }
-        ensures lost { result ≢ 0 → self.new ≡ record self.old { done = with_seen self.old.done (cell, place_of result) } }
+        ensures won { result ≡ 0 → self.new ≡ record self.old { done = with_won self.old.done (at.cell, place_of word) } }
+        ensures lost { result ≢ 0 → self.new ≡ record self.old { done = with_seen self.old.done (at.cell, place_of result) } }
         ensures forward { result ≢ 0 → IsForward result }
     {
         table
             .table
             .shared
-            .compare_exchange::<Try>(&mut self.seat, table.word_number(cell), 0, word)
+            .compare_exchange::<Try>(&mut self.seat, at.number, 0, word)
     }
 
     /// Claims the next block of Aged or of Old, and answers its number, which is greater than those of all blocks of that

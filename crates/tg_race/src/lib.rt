@@ -47,7 +47,7 @@
 
 pub use event::Event;
 pub use helper::{Claim, Helper};
-pub use race_table::{Opened, RaceTable};
+pub use race_table::{CellWord, Opened, RaceTable};
 pub use record::{Counts, Record};
 pub use shape::Shape;
 pub use world::World;

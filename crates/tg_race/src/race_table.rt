@@ -3,6 +3,7 @@ ghost use Rattle.std.specs.Prelude.{◌≡◌, ◌+◌, ◌*◌, ◌++◌, ◌^�
 ghost use Rattle.tg_word.specs.declared.TheConstants.{CELLS, MOST_SPACE_BLOCKS};
 ghost use Rattle.tg_race.specs.Race.{empty};
 ghost use Rattle.tg_race.specs.Board.{IsClosedTable};
+ghost use Rattle.tg_race.specs.Seats.{IsWordIn};
 
 use crate::helper::Helper;
 use crate::plays::{Forwards, View};
@@ -27,6 +28,15 @@ pub struct RaceTable {
     pub(crate) counts: Counts,
     // How many cells lie in the blocks that Old keeps.
     skipped: u64,
+}
+
+/// The word of a cell in the table. It is asked for once where it is looked at and then claimed.
+#[derive(Clone, Copy)]
+pub struct CellWord {
+    /// The cell's flat number.
+    pub cell: u64,
+    /// The number of its word, behind the counters.
+    pub number: usize,
 }
 
 /// A table that was opened.
@@ -119,14 +129,17 @@ impl RaceTable {
         ClosedWords::of(table.close_with(seat), COUNTERS)
     }
 
-    // The number of a cell's word in the table.
+    /// The word of a cell that isn't in a block that Old keeps.
     #[inline(always)]
-    pub(crate) fn word_number(&self, cell: u64) -> usize
+    pub fn word_of(&self, cell: u64) -> CellWord
         requires inside { cell < self.now.counts.cells }
         requires moved { CELLS * self.now.counts.kept ≤ cell }
-        ensures is { result + CELLS * self.now.counts.kept ≡ cell + 3 }
-        ensures within { result < self.now.table.id.words }
+        ensures cell { result.cell ≡ cell }
+        ensures word { IsWordIn self.now result }
     {
-        (cell - self.skipped) as usize + COUNTERS
+        CellWord {
+            cell,
+            number: (cell - self.skipped) as usize + COUNTERS,
+        }
     }
 }

@@ -17,4 +17,4 @@ pub returns-then-found-eq0-clause-done : goal.returns-then-found-eq0-clause-done
 returns-then-found-eq0-clause-done c =
     let at = ap place_of c.word_to.ensures ∙ place_of-word_of c.args.place c.requires.place in
     c.claim_word-found.ensures.won c.if-found-eq0.true
-    ∙ (λ i. record { table = c.args.self.now.table; done = with_won c.args.self.now.done (c.args.cell, at i) })
+    ∙ (λ i. record { table = c.args.self.now.table; done = with_won c.args.self.now.done (c.word_of.ensures.cell i, at i) })
