@@ -116,14 +116,7 @@ pub fn collect_many<R: Threads + Wait + Sync, G: Gate>(
         table,
         helper,
         room,
-    } = RaceTable::open(
-        alloc,
-        cells,
-        roots.len() as u64,
-        plan.kept,
-        helpers,
-        words,
-    )?;
+    } = RaceTable::open(alloc, cells, roots.len() as u64, plan.kept, helpers, words)?;
     let spare = Spare {
         blocks,
         words: room,

@@ -261,7 +261,20 @@ fn help_kind<G: Gate>(
     let worked = work(
         alloc, &mut seat, number, spaces, roots, kind, reads, gate, blocks,
     );
-    handed(alloc, seat.into_left(), worked, limit)
+    let Left { helper, lists } = seat.into_left();
+    let Lists { won, aged, old } = lists;
+    match worked {
+        Ok(copies) => Helped {
+            helper,
+            part: Part::of(alloc, copies, &aged, &old, limit),
+            room: won,
+        },
+        Err(fault) => Helped {
+            helper,
+            part: Err(fault),
+            room: won,
+        },
+    }
 }
 
 // The lists of a helper at a table of so many words that has done nothing yet. That of what it will have won stands in the room, where
@@ -286,20 +299,4 @@ fn roomy(alloc: Global, words: usize, room: Vec<u64>) -> Result<Vec<u64>, AllocE
         return Ok(room);
     }
     Vec::with_capacity(alloc, words)
-}
-
-// What a helper hands over that leaves its seat with its work done, or refused.
-fn handed(alloc: Global, left: Left, worked: Result<Copies, CollectFault>, limit: u64) -> Helped
-{
-    let Left { helper, lists } = left;
-    let Lists { won, aged, old } = lists;
-    let part = match worked {
-        Ok(copies) => Part::of(alloc, copies, &aged, &old, limit),
-        Err(fault) => Err(fault),
-    };
-    Helped {
-        helper,
-        part,
-        room: won,
-    }
 }

@@ -65,13 +65,7 @@ impl<'a> Model for Seat<'a> {
 impl<'a> Seat<'a> {
     /// The seat of a helper that has done nothing yet.
     #[inline(always)]
-    pub fn new(
-        table: &'a RaceTable,
-        helper: Helper,
-        kind: Kind,
-        limit: u64,
-        lists: Lists,
-    ) -> Self
+    pub fn new(table: &'a RaceTable, helper: Helper, kind: Kind, limit: u64, lists: Lists) -> Self
         requires new { IsNew table.now helper }
         requires few { limit ≤ MOST_SPACE_BLOCKS }
         requires small { table.now.counts.cells < 2 ^ 61 }

@@ -44,10 +44,7 @@ impl Winner {
         ensures { result ≡ helper }
     {
         room.clear();
-        Winner {
-            helper,
-            won: room,
-        }
+        Winner { helper, won: room }
     }
 
     /// The helper alone, and the room of the list.

@@ -63,14 +63,7 @@ fn copy_chunk(
     ensures chunks { seat.exit.now.done.chunks ≡ seat.entry.now.done.chunks }
     ensures copied { OnOk result (HasCopied kind spaces.now.spaces roots.now seat.exit.now.done.chunks seat.exit.now copies.exit.now.scanned copies.exit.now.aged copies.exit.now.old) }
 {
-    walk(
-        seat,
-        spaces,
-        kind,
-        reads,
-        chunk_of(roots, chunk),
-        copies,
-    )
+    walk(seat, spaces, kind, reads, chunk_of(roots, chunk), copies)
 }
 
 // The roots of a chunk: eights of them are counted from the end. What stands first reaches more of what the others reach, as a

@@ -15,7 +15,7 @@ compare_exchange-requires c =
     let mine = ap (λ (x : Seated). claims_of place x.done) me in
     let usage = usable c.args.self.now.done place c.requires.allowed in (
       at_table _ _ _ _ me c.requires.own c.table.view_is,
-      word_within c.table.view_is c.table.invariant.1.0 c.requires.word,
+      word_within c.table.view_is c.table.invariant.1 c.requires.word,
       rw word.is (tries_word _ _ _ _ c.args.word _ c.self.invariant.1 word.inside c.requires.forward (omega (arith, usage.0))
           (ap (λ (x : Seated). weigh (place_at place) x.done.won) me ∙ usage.1)),
     )

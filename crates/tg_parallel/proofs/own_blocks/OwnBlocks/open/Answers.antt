@@ -2,7 +2,7 @@ use Rattle.std.proofs.Common.{◌<◌, ap, sym, subst, ◌∙◌, arith}
 use Rattle.tg_word.specs.declared.Place.{Place}
 use Rattle.tg_word.specs.Word.{IsPlace, link_to}
 use Rattle.tg_parallel.proofs.Filled.{claimed_past, own_is_place, ready_refused}
-use Rattle.tg_parallel.proofs.own_blocks.OwnBlocks.find_next.Goals as goal
+use Rattle.tg_parallel.proofs.own_blocks.OwnBlocks.open.Goals as goal
 
 pub returns-in_err-make_room : goal.returns-in_err-make_room
 returns-in_err-make_room c =

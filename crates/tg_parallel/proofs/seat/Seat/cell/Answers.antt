@@ -3,7 +3,7 @@ use Rattle.tg_word.specs.Word.{place_in}
 use Rattle.tg_evac.specs.Win.{Win}
 use Rattle.tg_parallel.specs.Seats.{Sitting}
 use Rattle.tg_parallel.proofs.Seating.{pair_inside, pair_two}
-use Rattle.tg_parallel.proofs.seat.Seat.pair.Goals as goal
+use Rattle.tg_parallel.proofs.seat.Seat.cell.Goals as goal
 
 pub returns-clause-inside : goal.returns-clause-inside
 returns-clause-inside c =

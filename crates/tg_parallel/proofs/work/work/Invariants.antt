@@ -1,7 +1,7 @@
 use Rattle.std.proofs.Common.{◌-◌, List, ℕ}
 use Rattle.tg_parallel.specs.Parts.{AreEarned}
 use Rattle.tg_parallel.specs.Seats.{HasCopied, HasDrawn, IsSameSeat}
-use Rattle.tg_parallel.proofs.work.work_kind.Given as goal
+use Rattle.tg_parallel.proofs.work.work.Given as goal
 
 abbrev pub invariant-loop-chunk : goal.invariant-loop-chunk
 invariant-loop-chunk g l = record {

@@ -3,8 +3,8 @@ use Rattle.std.proofs.lemmas.List.{length_push}
 use Rattle.tg_race.specs.Seats.{Seated}
 use Rattle.tg_parallel.specs.Seats.{AreFilled}
 use Rattle.tg_parallel.proofs.Filled.{filled_grown, may_claim, only_claimed, only_none, other_claimed, room_refused}
-use Rattle.tg_parallel.proofs.own_blocks.OwnBlocks.open_block.Goals as goal
-use Rattle.tg_parallel.proofs.own_blocks.OwnBlocks.open_block.Goals.{After-reserve}
+use Rattle.tg_parallel.proofs.own_blocks.OwnBlocks.draw.Goals as goal
+use Rattle.tg_parallel.proofs.own_blocks.OwnBlocks.draw.Goals.{After-reserve}
 
 -- all blocks are full
 full : (c : After-reserve) → c.args.self.now.used ≡ 64 * length c.args.self.now.numbers.items

@@ -9,7 +9,7 @@ use Rattle.tg_evac.proofs.Sound.{have_pointers}
 use Rattle.tg_parallel.specs.Parts.{AreCountsOf, AreEarned, AreOnce, HasClaimedPast, IsPart}
 use Rattle.tg_parallel.specs.Seats.{AreFilled, Sitting}
 use Rattle.tg_parallel.proofs.Handing.{aged_room, err_weaker, filled_once, is_part, ok_always, old_room, parts_are, past_limit}
-use Rattle.tg_parallel.proofs.part.help.Goals as goal
+use Rattle.tg_parallel.proofs.part.help_kind.Goals as goal
 
 pub work-worked-requires : goal.work-worked-requires
 work-worked-requires g c =
@@ -28,19 +28,19 @@ work-worked-requires g c =
 
 pub of-requires-clause-aged_room : goal.of-requires-clause-aged_room
 of-requires-clause-aged_room g c =
-    let s = c.work-worked.new.seat in let e = c.into_parts-helper.ensures in
+    let s = c.work-worked.new.seat in let e = c.into_left.ensures in
     let kind = c.in-Ok.ensures.worked.same.kind ∙ ap (λ (x : Sitting). x.kind) c.new-seat.ensures in
-    aged_room c.args.kind c.args.spaces.now c.args.roots.now s kind e.places c.in-Ok.ensures.copied c.into_parts-helper.result.1.items c.into_parts-helper.result.2.items e.aged.0 e.old.0 e.aged.1 e.old.1
+    aged_room c.args.kind c.args.spaces.now c.args.roots.now s kind e.places c.in-Ok.ensures.copied c.into_left.result.lists.aged.items c.into_left.result.lists.old.items e.aged.0 e.old.0 e.aged.1 e.old.1
 
 pub of-requires-clause-old_room : goal.of-requires-clause-old_room
 of-requires-clause-old_room g c =
-    let s = c.work-worked.new.seat in let e = c.into_parts-helper.ensures in
+    let s = c.work-worked.new.seat in let e = c.into_left.ensures in
     let kind = c.in-Ok.ensures.worked.same.kind ∙ ap (λ (x : Sitting). x.kind) c.new-seat.ensures in
-    old_room c.args.kind c.args.spaces.now c.args.roots.now s kind e.places c.in-Ok.ensures.copied c.into_parts-helper.result.1.items c.into_parts-helper.result.2.items e.aged.0 e.old.0 e.aged.1 e.old.1
+    old_room c.args.kind c.args.spaces.now c.args.roots.now s kind e.places c.in-Ok.ensures.copied c.into_left.result.lists.aged.items c.into_left.result.lists.old.items e.aged.0 e.old.0 e.aged.1 e.old.1
 
 pub returns-in-Ok-clause-helped : goal.returns-in-Ok-clause-helped
 returns-in-Ok-clause-helped g c =
-    let s = c.work-worked.new.seat in let e = c.into_parts-helper.ensures in
+    let s = c.work-worked.new.seat in let e = c.into_left.ensures in
     let t = c.args.spaces.now in let h = t.spaces in let roots = c.args.roots.now in let kind = c.args.kind in
     let same_kind : s.kind ≡ kind = c.in-Ok.ensures.worked.same.kind ∙ ap (λ (x : Sitting). x.kind) c.new-seat.ensures in
     let board : s.board ≡ c.args.table.now = c.in-Ok.ensures.worked.same.board ∙ ap (λ (x : Sitting). x.board) c.new-seat.ensures in
@@ -66,12 +66,12 @@ returns-in-Ok-clause-helped g c =
 
 pub returns-in-Ok-clause-once : goal.returns-in-Ok-clause-once
 returns-in-Ok-clause-once g c =
-    let v = c.work-worked.new.seat.done in let e = c.into_parts-helper.ensures in
+    let v = c.work-worked.new.seat.done in let e = c.into_left.ensures in
     subst (λ (w : Record). AreOnce w.aged_blocks × AreOnce w.old_blocks) (sym e.done)
-    (filled_once true v c.into_parts-helper.result.1.items e.aged.0 e.aged.1, filled_once false v c.into_parts-helper.result.2.items e.old.0 e.old.1)
+    (filled_once true v c.into_left.result.lists.aged.items e.aged.0 e.aged.1, filled_once false v c.into_left.result.lists.old.items e.old.0 e.old.1)
 
 pub returns-clause-once : goal.returns-clause-once
 returns-clause-once g c =
-    let v = c.work-worked.new.seat.done in let e = c.into_parts-helper.ensures in
+    let v = c.work-worked.new.seat.done in let e = c.into_left.ensures in
     subst (λ (w : Record). AreOnce w.aged_blocks × AreOnce w.old_blocks) (sym e.done)
-    (filled_once true v c.into_parts-helper.result.1.items e.aged.0 e.aged.1, filled_once false v c.into_parts-helper.result.2.items e.old.0 e.old.1)
+    (filled_once true v c.into_left.result.lists.aged.items e.aged.0 e.aged.1, filled_once false v c.into_left.result.lists.old.items e.old.0 e.old.1)

@@ -7,7 +7,7 @@ use Rattle.tg_race.specs.Seats.{Seated}
 use Rattle.tg_race.specs.Words.{place_of, word_of}
 use Rattle.tg_evac.specs.Win.{Win}
 use Rattle.tg_parallel.specs.Parts.{win_of, wins_of}
-use Rattle.tg_parallel.proofs.winner.Winner.claim_word.Goals as goal
+use Rattle.tg_parallel.proofs.winner.Winner.claim_next.Goals as goal
 
 pub claim_word-found-requires-clause-forward : goal.claim_word-found-requires-clause-forward
 unfolding place_of word_of
