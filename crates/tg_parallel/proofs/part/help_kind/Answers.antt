@@ -28,34 +28,34 @@ work-worked-requires g c =
 
 pub of-requires-clause-aged_room : goal.of-requires-clause-aged_room
 of-requires-clause-aged_room g c =
-    let s = c.work-worked.new.seat in let e = c.into_left.ensures in
-    let kind = c.in-Ok.ensures.worked.same.kind ∙ ap (λ (x : Sitting). x.kind) c.new-seat.ensures in
-    aged_room c.args.kind c.args.spaces.now c.args.roots.now s kind e.places c.in-Ok.ensures.copied c.into_left.result.lists.aged.items c.into_left.result.lists.old.items e.aged.0 e.old.0 e.aged.1 e.old.1
+    let s = c.work-worked.new.seat in let e = c.into_left-helper.ensures in
+    let kind = c.in-Ok-worked.ensures.worked.same.kind ∙ ap (λ (x : Sitting). x.kind) c.new-seat.ensures in
+    aged_room c.args.kind c.args.spaces.now c.args.roots.now s kind e.places c.in-Ok-worked.ensures.copied c.into_left-helper.result.lists.aged.items c.into_left-helper.result.lists.old.items e.aged.0 e.old.0 e.aged.1 e.old.1
 
 pub of-requires-clause-old_room : goal.of-requires-clause-old_room
 of-requires-clause-old_room g c =
-    let s = c.work-worked.new.seat in let e = c.into_left.ensures in
-    let kind = c.in-Ok.ensures.worked.same.kind ∙ ap (λ (x : Sitting). x.kind) c.new-seat.ensures in
-    old_room c.args.kind c.args.spaces.now c.args.roots.now s kind e.places c.in-Ok.ensures.copied c.into_left.result.lists.aged.items c.into_left.result.lists.old.items e.aged.0 e.old.0 e.aged.1 e.old.1
+    let s = c.work-worked.new.seat in let e = c.into_left-helper.ensures in
+    let kind = c.in-Ok-worked.ensures.worked.same.kind ∙ ap (λ (x : Sitting). x.kind) c.new-seat.ensures in
+    old_room c.args.kind c.args.spaces.now c.args.roots.now s kind e.places c.in-Ok-worked.ensures.copied c.into_left-helper.result.lists.aged.items c.into_left-helper.result.lists.old.items e.aged.0 e.old.0 e.aged.1 e.old.1
 
-pub returns-in-Ok-clause-helped : goal.returns-in-Ok-clause-helped
-returns-in-Ok-clause-helped g c =
-    let s = c.work-worked.new.seat in let e = c.into_left.ensures in
+pub returns-in-Ok-worked-clause-helped : goal.returns-in-Ok-worked-clause-helped
+returns-in-Ok-worked-clause-helped g c =
+    let s = c.work-worked.new.seat in let e = c.into_left-helper.ensures in
     let t = c.args.spaces.now in let h = t.spaces in let roots = c.args.roots.now in let kind = c.args.kind in
-    let same_kind : s.kind ≡ kind = c.in-Ok.ensures.worked.same.kind ∙ ap (λ (x : Sitting). x.kind) c.new-seat.ensures in
-    let board : s.board ≡ c.args.table.now = c.in-Ok.ensures.worked.same.board ∙ ap (λ (x : Sitting). x.board) c.new-seat.ensures in
+    let same_kind : s.kind ≡ kind = c.in-Ok-worked.ensures.worked.same.kind ∙ ap (λ (x : Sitting). x.kind) c.new-seat.ensures in
+    let board : s.board ≡ c.args.table.now = c.in-Ok-worked.ensures.worked.same.board ∙ ap (λ (x : Sitting). x.board) c.new-seat.ensures in
     let limit : c.space_blocks-limit.result ≡ t.limits.space_blocks = c.space_blocks-limit.ensures.value ∙ ap (λ (l : BlockLimits). l.space_blocks) c.limits.ensures.limits in
-    let aged = c.deref.result.now in let old = c.deref-in-Ok.result.now in
+    let aged = c.deref.result.now in let old = c.deref-in-Ok-worked.result.now in
     let in_aged : AreFilled true s.done aged e.aged.0 = subst (λ (l : List ℕ). AreFilled true s.done l e.aged.0) (sym c.deref.ensures.value) e.aged.1 in
-    let in_old : AreFilled false s.done old e.old.0 = subst (λ (l : List ℕ). AreFilled false s.done l e.old.0) (sym c.deref-in-Ok.ensures.value) e.old.1 in
+    let in_old : AreFilled false s.done old e.old.0 = subst (λ (l : List ℕ). AreFilled false s.done l e.old.0) (sym c.deref-in-Ok-worked.ensures.value) e.old.1 in
     record {
       seat = e.seat ∙ ap (λ (b : Board). b.table) board;
-      share = ap (λ (v : Record). v.share) e.done ∙ c.in-Ok.ensures.worked.same.share ∙ ap (λ (x : Sitting). x.done.share) c.new-seat.ensures ∙ ap (λ (v : Record). v.share) c.requires.new.done;
-      earned = subst (λ (v : Record). AreEarned kind h roots v) (sym e.done) c.in-Ok.ensures.worked.earned;
-      last = ok_always c.of.result (subst (λ (v : Record). 0 < past c.args.table.now.counts v) (sym e.done) (subst (λ (b : Board). 0 < past b.counts s.done) board c.in-Ok.ensures.last));
+      share = ap (λ (v : Record). v.share) e.done ∙ c.in-Ok-worked.ensures.worked.same.share ∙ ap (λ (x : Sitting). x.done.share) c.new-seat.ensures ∙ ap (λ (v : Record). v.share) c.requires.new.done;
+      earned = subst (λ (v : Record). AreEarned kind h roots v) (sym e.done) c.in-Ok-worked.ensures.worked.earned;
+      last = ok_always c.of.result (subst (λ (v : Record). 0 < past c.args.table.now.counts v) (sym e.done) (subst (λ (b : Board). 0 < past b.counts s.done) board c.in-Ok-worked.ensures.last));
       whole = parts_are c.of.result
           (λ part laid_aged laid_old few_aged few_old. subst (λ (v : Record). IsPart kind t roots v part.aged.items part.old.items) (sym e.done)
-          (is_part kind t roots s same_kind e.places c.in-Ok.ensures.copied aged old e.aged.0 e.old.0 in_aged in_old part.aged.items part.old.items laid_aged laid_old
+          (is_part kind t roots s same_kind e.places c.in-Ok-worked.ensures.copied aged old e.aged.0 e.old.0 in_aged in_old part.aged.items part.old.items laid_aged laid_old
           (subst (λ (n : ℕ). All (λ b. b < n) aged) limit few_aged) (subst (λ (n : ℕ). All (λ b. b < n) old) limit few_old)))
           c.of.ensures.aged c.of.ensures.old c.of.ensures.aged_few c.of.ensures.old_few;
       full = err_weaker c.of.result
@@ -64,14 +64,30 @@ returns-in-Ok-clause-helped g c =
           c.of.ensures.full;
     }
 
-pub returns-in-Ok-clause-once : goal.returns-in-Ok-clause-once
-returns-in-Ok-clause-once g c =
-    let v = c.work-worked.new.seat.done in let e = c.into_left.ensures in
+pub returns-in-Ok-worked-clause-once : goal.returns-in-Ok-worked-clause-once
+returns-in-Ok-worked-clause-once g c =
+    let v = c.work-worked.new.seat.done in let e = c.into_left-helper.ensures in
     subst (λ (w : Record). AreOnce w.aged_blocks × AreOnce w.old_blocks) (sym e.done)
-    (filled_once true v c.into_left.result.lists.aged.items e.aged.0 e.aged.1, filled_once false v c.into_left.result.lists.old.items e.old.0 e.old.1)
+    (filled_once true v c.into_left-helper.result.lists.aged.items e.aged.0 e.aged.1, filled_once false v c.into_left-helper.result.lists.old.items e.old.0 e.old.1)
+
+pub returns-clause-helped : goal.returns-clause-helped
+returns-clause-helped g c =
+    let s = c.work-worked.new.seat in let e = c.into_left-helper.ensures in
+    let t = c.args.spaces.now in let h = t.spaces in let roots = c.args.roots.now in let kind = c.args.kind in
+    let same = c.in-Err.ensures.worked.same in
+    let board : s.board ≡ c.args.table.now = same.board ∙ ap (λ (x : Sitting). x.board) c.new-seat.ensures in
+    let limit : s.limit ≡ t.limits.space_blocks = same.limit ∙ ap (λ (x : Sitting). x.limit) c.new-seat.ensures ∙ c.space_blocks-limit.ensures.value ∙ ap (λ (l : BlockLimits). l.space_blocks) c.limits.ensures.limits in
+    record {
+      seat = e.seat ∙ ap (λ (b : Board). b.table) board;
+      share = ap (λ (v : Record). v.share) e.done ∙ same.share ∙ ap (λ (x : Sitting). x.done.share) c.new-seat.ensures ∙ ap (λ (v : Record). v.share) c.requires.new.done;
+      earned = subst (λ (v : Record). AreEarned kind h roots v) (sym e.done) c.in-Err.ensures.worked.earned;
+      last = tt;
+      whole = tt;
+      full = λ is. subst (λ (v : Record). HasClaimedPast t.limits.space_blocks v) (sym e.done) (subst (λ (n : ℕ). HasClaimedPast n s.done) limit (c.in-Err.ensures.worked.full is));
+    }
 
 pub returns-clause-once : goal.returns-clause-once
 returns-clause-once g c =
-    let v = c.work-worked.new.seat.done in let e = c.into_left.ensures in
+    let v = c.work-worked.new.seat.done in let e = c.into_left-helper.ensures in
     subst (λ (w : Record). AreOnce w.aged_blocks × AreOnce w.old_blocks) (sym e.done)
-    (filled_once true v c.into_left.result.lists.aged.items e.aged.0 e.aged.1, filled_once false v c.into_left.result.lists.old.items e.old.0 e.old.1)
+    (filled_once true v c.into_left-helper.result.lists.aged.items e.aged.0 e.aged.1, filled_once false v c.into_left-helper.result.lists.old.items e.old.0 e.old.1)
