@@ -1,4 +1,4 @@
-use Rattle.std.proofs.Common.{◌≡◌, ◌<◌, true, false, ap, ◌∙◌, arith}
+use Rattle.std.proofs.Common.{◌≡◌, true, false, ap, ◌∙◌, arith}
 use Rattle.tg_race.specs.Seats.{Seated}
 use Rattle.tg_parallel.proofs.Seating.{filled_none, knows_none}
 use Rattle.tg_parallel.proofs.seat.Seat.new.Goals as goal
