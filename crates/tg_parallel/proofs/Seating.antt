@@ -1,11 +1,11 @@
 -- A seat: what it holds at first and after a claim, and what a walk sees of it.
-use Rattle.std.proofs.Common.{◌≡◌, ◌≢◌, ℕ, suc, ◌^◌, ◌<◌, ◌≤◌, ◌==◌, ◌||◌, ◌++◌, List, [], ◌∷◌, Bool, true, false, length, get_or, map, refl, sym, ap, subst, ◌∙◌, eqb, eq-eqb, ⊎_elim, arith}
+use Rattle.std.proofs.Common.{◌≡◌, ◌≢◌, ℕ, suc, ◌+◌, ◌-◌, ◌*◌, ◌^◌, ◌<◌, ◌≤◌, ◌==◌, ◌||◌, not, ◌++◌, List, [], ◌∷◌, Bool, true, false, length, get_or, map, refl, sym, ap, subst, ◌∙◌, eqb, eq-eqb, ⊎_elim, arith}
 use Rattle.std.specs.List.{All, AllPairs, Contains, list_any}
 use Rattle.std.specs.Prelude.{Result, IfErr, IfOk, OnOk}
 use Rattle.std.proofs.lemmas.Bool.{cases_eq, false≢true}
 use Rattle.std.proofs.lemmas.Bool.Decides.{Decides-eqb}
-use Rattle.std.proofs.lemmas.List.{append-nil, get_or-map, length-map, map-append}
-use Rattle.std.proofs.lemmas.List.Elements.{All-append, All-contains, All-map, All-weaker, Contains-append_cases, Contains-append_left, Contains-append_right, Contains-get_or}
+use Rattle.std.proofs.lemmas.List.{append-nil, get_or-map, length-map, length_push, map-append}
+use Rattle.std.proofs.lemmas.List.Elements.{All-append, All-contains, All-map, All-nil, All-push, All-weaker, Contains-append_cases, Contains-append_left, Contains-append_right, Contains-get_or}
 use Rattle.std.proofs.lemmas.List.Quantifiers.{all_pairs_push}
 use Rattle.std.proofs.lemmas.Map.Made.{IsDistinct-from_AllPairs}
 use Rattle.std.proofs.lemmas.Map.Steps.{length-le_from_distinct_below}
@@ -18,7 +18,8 @@ use Rattle.tg_space.specs.declared.kind.Kind.{Kind}
 use Rattle.tg_race.specs.declared.record.Record.{Record}
 use Rattle.tg_race.specs.Course.{has_met}
 use Rattle.tg_race.specs.Race.{empty}
-use Rattle.tg_race.specs.Seats.{Board, Seated}
+use Rattle.tg_race.specs.Seats.{Board, IsWordIn, Seated}
+use Rattle.tg_race.specs.declared.race_table.CellWord.{CellWord}
 use Rattle.tg_race.specs.Words.{space_of_age}
 use Rattle.tg_evac.specs.Win.{Win}
 use Rattle.tg_evac.specs.Claims.{IsWinFor, is_in, win_at, won_in}
@@ -28,7 +29,7 @@ use Rattle.tg_evac.specs.Claimers.{AddsWins, IsLink}
 use Rattle.tg_evac.specs.Walks.{ClaimsCell}
 use Rattle.tg_parallel.specs.declared.own_blocks.OwnBlocks.{OwnBlocks}
 use Rattle.tg_parallel.specs.Parts.{HasClaimedPast, HasPlaceOf, HasPlaces, cells_met, win_of, wins_of}
-use Rattle.tg_parallel.specs.Seats.{AreFilled, Finds, IsSeat, KnowsNext, OtherStays, Sitting, pair_at, pairs_in, walked_at}
+use Rattle.tg_parallel.specs.Seats.{AreFilled, Finds, HasRoomFor, IsReady, IsSeat, KnowsNext, OtherStays, Sitting, pair_at, pairs_in, used_of, walked_at}
 use Rattle.tg_parallel.proofs.Lists.{all_left, any_has, map_found}
 
 place_back : (p : Place) → IsPlace p → place_in (link_to p) ≡ p
@@ -36,14 +37,45 @@ place_back p inside = place_in-word_at no_rights p inside
 
 -- ---- at first
 
-pub filled_none : (aged : Bool) (numbers : List ℕ) (used : ℕ) → numbers ≡ [] → used ≡ 0 → AreFilled aged (empty 1) numbers used
-filled_none aged numbers used none zero_is = rw (none, zero_is) (by_space aged)
+pub filled_none : (aged : Bool) (numbers : List ℕ) → numbers ≡ [] → AreFilled aged (empty 1) numbers (used_of aged (empty 1))
+filled_none aged numbers none = rw none (by_space aged)
   where
-    by_space : (a : Bool) → AreFilled a (empty 1) [] 0
+    by_space : (a : Bool) → AreFilled a (empty 1) [] (used_of a (empty 1))
     by_space true = record { same = refl; rising = λ i j lt low. absurd (omega arith); room = omega arith; close = omega arith; few = omega arith; ends = refl; order = λ k low. absurd (omega arith); many = λ i n low few le. absurd (omega arith) }
     by_space false = record { same = refl; rising = λ i j lt low. absurd (omega arith); room = omega arith; close = omega arith; few = omega arith; ends = refl; order = λ k low. absurd (omega arith); many = λ i n low few le. absurd (omega arith) }
 
+-- no place is left, and no block is past the limit
+pub knows_none : (limit : ℕ) (b : OwnBlocks) → b.numbers.items ≡ [] → b.next ≡ b.end → b.is_past ≡ false → KnowsNext limit (empty 1) b
+knows_none limit b none next within = record {
+  some = λ ne. absurd (ne next);
+  none = λ e w. rw none refl;
+  past = λ past. absurd (false≢true (sym within ∙ past));
+}
+
 -- ---- what was won
+
+-- cells between two bounds that differ are no more than there are
+few_between : (low high : ℕ) (won : List (ℕ × Place)) → AllPairs (λ q r. q.0 ≢ r.0) won → All (λ q. low ≤ q.0) won → All (λ q. q.0 < high) won → length won ≤ high - low
+few_between low high won differ above below =
+    let f = λ (q : ℕ × Place). q.0 - low in
+    let cells = map f won in
+    let none = pair_at [] 0 in
+    let long : length cells ≡ length won = length-map won f in
+    let at = λ (i d : ℕ) (le : i < length won). get_or-map f won i none d le in
+    let few : length cells ≤ high - low = length-le_from_distinct_below cells (high - low)
+    (IsDistinct-from_AllPairs {eq = eqb} Decides-eqb cells (λ i j d lt le e.
+    let ai = at i d (omega arith) in
+    let aj = at j d (omega arith) in
+    let li = above i none (omega arith) in
+    let lj = above j none (omega arith) in
+    differ i j none lt (omega arith) (omega arith)))
+    (λ n any.
+    let found = map_found f won n (Contains-from_any {eq = eqb} (λ x y t. (Decides-eqb x y).0 t) n cells any) in
+    let is = found.2 in
+    let lo = All-contains (λ (x : ℕ × Place). low ≤ x.0) won found.0 above found.1 in
+    let hi = All-contains (λ (x : ℕ × Place). x.0 < high) won found.0 below found.1 in
+    omega arith) in
+    omega arith
 
 -- the pairs of a space are those of the collection
 pub wins_in : (s : ℕ) (won : List (ℕ × Place)) → All (λ q. IsPlace q.1 × (q.1.space < 2)) won → won_in s (wins_of won) ≡ wins_of (pairs_in s won)
@@ -61,28 +93,17 @@ module _ (limit : ℕ) (board : Board) (helper : Seated) (aged old : OwnBlocks) 
   abbrev won : List (ℕ × Place)
   won = helper.done.won
 
-  cell_of_pair : (i : ℕ) (d : ℕ) → i < length won → get_or (map (λ (q : ℕ × Place). q.0) won) i d ≡ (pair_at won i).0
-  cell_of_pair i d low = get_or-map (λ (q : ℕ × Place). q.0) won i (pair_at [] 0) d low
-
   -- no more cells were won than there are
   pub won_few : length won ≤ board.counts.cells
-  won_few =
-      let cells = map (λ (q : ℕ × Place). q.0) won in
-      let long : length cells ≡ length won = length-map won (λ (q : ℕ × Place). q.0) in
-      let le : length cells ≤ board.counts.cells = length-le_from_distinct_below cells board.counts.cells
-      (IsDistinct-from_AllPairs {eq = eqb} Decides-eqb cells (λ i j d lt low e. seat.differ i j (pair_at [] 0) lt (omega arith) (sym (cell_of_pair i d (omega arith)) ∙ e ∙ cell_of_pair j d (omega arith))))
-      (λ q any.
-      let found = map_found (λ (x : ℕ × Place). x.0) won q (Contains-from_any {eq = eqb} (λ x y t. (Decides-eqb x y).0 t) q cells any) in
-      subst (λ (n : ℕ). n < board.counts.cells) found.2 (All-contains (λ (x : ℕ × Place). x.0 < board.counts.cells) won found.0 seat.inside found.1)) in
-      omega arith
+  won_few = let few = few_between (64 * board.counts.kept) board.counts.cells won seat.differ seat.behind seat.inside in omega arith
 
   -- nor more of either space than it has room for
   pub won_room : (space : ℕ) → space < 2 → length (won_in space (wins_of won)) ≤ 2 ^ 26
   won_room space two =
       let long : length (won_in space (wins_of won)) ≡ length (pairs_in space won) = ap length (wins_in space won seat.places) ∙ length-map (pairs_in space won) win_of in
       ⊎_elim
-      (λ (e : space ≡ 0). (let here : length (pairs_in space won) ≡ old.used = ap (λ (s : ℕ). length (pairs_in s won)) e ∙ seat.in_old.ends in let few = seat.in_old.few in omega arith))
-      (λ (ne : space ≢ 0). (let e : space ≡ 1 = omega arith in let here : length (pairs_in space won) ≡ aged.used = ap (λ (s : ℕ). length (pairs_in s won)) e ∙ seat.in_aged.ends in let few = seat.in_aged.few in omega arith))
+      (λ (e : space ≡ 0). (let here : length (pairs_in space won) ≡ used_of false helper.done = ap (λ (s : ℕ). length (pairs_in s won)) e in let few = seat.in_old.few in omega arith))
+      (λ (ne : space ≢ 0). (let e : space ≡ 1 = omega arith in let here : length (pairs_in space won) ≡ used_of true helper.done = ap (λ (s : ℕ). length (pairs_in s won)) e in let few = seat.in_aged.few in omega arith))
       (cases_eq space 0)
 
   win_is : (k : ℕ) → k < length won → win_at (wins_of won) k ≡ win_of (pair_at won k)
@@ -163,8 +184,35 @@ module _ (cell : ℕ) (v : Record) (unmet : has_met v cell ≡ false) where
   differ_more (p ∷ []) one all differ = all_pairs_push (λ (q r : ℕ × Place). q.0 ≢ r.0) v.won p differ (λ k d low e. not_won (get_or v.won k d) (Contains-get_or v.won k d low) (e ∙ all 0 p (omega arith)))
   differ_more (p ∷ q ∷ more) one all differ = absurd (omega arith)
 
+-- there is a word for one more cell that isn't met
+pub room_for : (limit : ℕ) (board : Board) (helper : Seated) (aged old : OwnBlocks) → IsSeat limit board helper aged old → (at : CellWord) → IsWordIn board at → has_met helper.done at.cell ≡ false → HasRoomFor board at.cell helper
+room_for limit board helper aged old seat at word unmet =
+    let v = helper.done in
+    let kept = 64 * board.counts.kept in
+    let q : ℕ × Place = (at.cell, record { space = 0; block = 0; cell = 0 }) in
+    let small = seat.small in
+    let inside = word.inside in
+    let whole = seat.whole in
+    let long = length_push v.won q in
+    let few : length (v.won ++ q ∷ []) ≤ board.counts.cells - kept = few_between kept board.counts.cells (v.won ++ q ∷ [])
+    (differ_more at.cell v unmet (q ∷ []) (omega arith) (All-push (λ (x : ℕ × Place). x.0 ≡ at.cell) [] q (All-nil (λ (x : ℕ × Place). x.0 ≡ at.cell)) refl) seat.differ)
+    (All-push (λ (x : ℕ × Place). kept ≤ x.0) v.won q seat.behind word.moved)
+    (All-push (λ (x : ℕ × Place). x.0 < board.counts.cells) v.won q seat.inside inside) in
+    record { small = omega arith; room = omega arith }
+
+-- what is known of the next place depends on the record through how many were given away alone
+knows_still : (limit : ℕ) (v w : Record) (b : OwnBlocks) → used_of b.aged w ≡ used_of b.aged v → KnowsNext limit v b → KnowsNext limit w b
+knows_still limit v w b same next = record {
+  some = λ ne. subst (λ (used : ℕ). IsReady used b) (sym same) (next.some ne);
+  none = λ e within. same ∙ next.none e within;
+  past = next.past;
+}
+
 module _ (limit : ℕ) (board : Board) (before after : Seated) (aged old : OwnBlocks) (seat : IsSeat limit board before aged old) (same : after.table ≡ before.table)
-    (cell : ℕ) (inside : cell < board.counts.cells) (unmet : has_met before.done cell ≡ false) where
+    (at : CellWord) (word : IsWordIn board at) (unmet : has_met before.done at.cell ≡ false) where
+  abbrev cell : ℕ
+  cell = at.cell
+
   module _ (a : Bool) (finds : Finds cell a before.done after.done) where
     differ_now : AllPairs (λ q r. q.0 ≢ r.0) after.done.won
     differ_now = subst (λ (l : List (ℕ × Place)). AllPairs (λ q r. q.0 ≢ r.0) l) (sym finds.is_won)
@@ -173,7 +221,12 @@ module _ (limit : ℕ) (board : Board) (before after : Seated) (aged old : OwnBl
     inside_now : All (λ q. q.0 < board.counts.cells) after.done.won
     inside_now = subst (λ (l : List (ℕ × Place)). All (λ q. q.0 < board.counts.cells) l) (sym finds.is_won)
         (All-append (λ (q : ℕ × Place). q.0 < board.counts.cells) before.done.won finds.won seat.inside
-        (All-weaker (λ (q : ℕ × Place). (q.0 ≡ cell) × (q.1.space ≡ space_of_age a) × IsPlace q.1) (λ (q : ℕ × Place). q.0 < board.counts.cells) (λ q r. (let e = r.0 in omega arith)) finds.won finds.reasons))
+        (All-weaker (λ (q : ℕ × Place). (q.0 ≡ cell) × (q.1.space ≡ space_of_age a) × IsPlace q.1) (λ (q : ℕ × Place). q.0 < board.counts.cells) (λ q r. (let e = r.0 in let low = word.inside in omega arith)) finds.won finds.reasons))
+
+    behind_now : All (λ q. 64 * board.counts.kept ≤ q.0) after.done.won
+    behind_now = subst (λ (l : List (ℕ × Place)). All (λ q. 64 * board.counts.kept ≤ q.0) l) (sym finds.is_won)
+        (All-append (λ (q : ℕ × Place). 64 * board.counts.kept ≤ q.0) before.done.won finds.won seat.behind
+        (All-weaker (λ (q : ℕ × Place). (q.0 ≡ cell) × (q.1.space ≡ space_of_age a) × IsPlace q.1) (λ (q : ℕ × Place). 64 * board.counts.kept ≤ q.0) (λ q r. (let e = r.0 in let low = word.moved in omega arith)) finds.won finds.reasons))
 
     two_of : (b : Bool) → space_of_age b < 2
     two_of true = omega arith
@@ -184,16 +237,22 @@ module _ (limit : ℕ) (board : Board) (before after : Seated) (aged old : OwnBl
         (All-append (λ (q : ℕ × Place). IsPlace q.1 × (q.1.space < 2)) before.done.won finds.won seat.places
         (All-weaker (λ (q : ℕ × Place). (q.0 ≡ cell) × (q.1.space ≡ space_of_age a) × IsPlace q.1) (λ (q : ℕ × Place). IsPlace q.1 × (q.1.space < 2)) (λ q r. (r.2, (let e = r.1 in let t = two_of a in omega arith))) finds.won finds.reasons))
 
-    seat_now : (first second : OwnBlocks) → first.aged ≡ true → second.aged ≡ false → AreFilled true after.done first.numbers.items first.used → AreFilled false after.done second.numbers.items second.used → KnowsNext first → KnowsNext second → IsSeat limit board after first second
+    seat_now : (first second : OwnBlocks) → first.aged ≡ true → second.aged ≡ false → AreFilled true after.done first.numbers.items (used_of true after.done) → AreFilled false after.done second.numbers.items (used_of false after.done) → KnowsNext limit after.done first → KnowsNext limit after.done second → IsSeat limit board after first second
     seat_now first second is_aged is_old in_aged in_old aged_next old_next =
-        record { own = same ∙ seat.own; few = seat.few; differ = differ_now; inside = inside_now; places = places_now; is_aged = is_aged; is_old = is_old; in_aged = in_aged; in_old = in_old; aged_next = aged_next; old_next = old_next }
+        record { own = same ∙ seat.own; few = seat.few; small = seat.small; whole = seat.whole; differ = differ_now; inside = inside_now; behind = behind_now; places = places_now; is_aged = is_aged; is_old = is_old; in_aged = in_aged; in_old = in_old; aged_next = aged_next; old_next = old_next }
 
-  pub seat_aged : (now : OwnBlocks) → now.aged ≡ aged.aged → Finds cell aged.aged before.done after.done → AreFilled aged.aged after.done now.numbers.items now.used → OtherStays aged.aged before.done after.done → KnowsNext now → IsSeat limit board after now old
+  -- the blocks of the other space are filled as they were
+  other_filled : (a : Bool) (b : OwnBlocks) → b.aged ≡ not a → AreFilled (not a) before.done b.numbers.items (used_of (not a) before.done) → KnowsNext limit before.done b → OtherStays a before.done after.done → AreFilled (not a) after.done b.numbers.items (used_of (not a) after.done) × KnowsNext limit after.done b
+  other_filled a b is filled next other =
+      let now = other b.numbers.items (used_of (not a) before.done) filled in
+      (subst (λ (used : ℕ). AreFilled (not a) after.done b.numbers.items used) (sym now.ends) now, knows_still limit before.done after.done b (rw is now.ends) next)
+
+  pub seat_aged : (now : OwnBlocks) → now.aged ≡ aged.aged → Finds cell aged.aged before.done after.done → AreFilled aged.aged after.done now.numbers.items (used_of aged.aged after.done) → OtherStays aged.aged before.done after.done → KnowsNext limit after.done now → IsSeat limit board after now old
   seat_aged now space finds filled other next =
-      seat_now aged.aged finds now old (space ∙ seat.is_aged) seat.is_old (subst (λ (a : Bool). AreFilled a after.done now.numbers.items now.used) seat.is_aged filled)
-      (subst (λ (a : Bool). OtherStays a before.done after.done) seat.is_aged other old.numbers.items old.used seat.in_old) next seat.old_next
+      let rest = other_filled true old seat.is_old seat.in_old seat.old_next (subst (λ (a : Bool). OtherStays a before.done after.done) seat.is_aged other) in
+      seat_now aged.aged finds now old (space ∙ seat.is_aged) seat.is_old (subst (λ (a : Bool). AreFilled a after.done now.numbers.items (used_of a after.done)) seat.is_aged filled) rest.0 next rest.1
 
-  pub seat_old : (now : OwnBlocks) → now.aged ≡ old.aged → Finds cell old.aged before.done after.done → AreFilled old.aged after.done now.numbers.items now.used → OtherStays old.aged before.done after.done → KnowsNext now → IsSeat limit board after aged now
+  pub seat_old : (now : OwnBlocks) → now.aged ≡ old.aged → Finds cell old.aged before.done after.done → AreFilled old.aged after.done now.numbers.items (used_of old.aged after.done) → OtherStays old.aged before.done after.done → KnowsNext limit after.done now → IsSeat limit board after aged now
   seat_old now space finds filled other next =
-      seat_now old.aged finds aged now seat.is_aged (space ∙ seat.is_old) (subst (λ (a : Bool). OtherStays a before.done after.done) seat.is_old other aged.numbers.items aged.used seat.in_aged)
-      (subst (λ (a : Bool). AreFilled a after.done now.numbers.items now.used) seat.is_old filled) seat.aged_next next
+      let rest = other_filled false aged seat.is_aged seat.in_aged seat.aged_next (subst (λ (a : Bool). OtherStays a before.done after.done) seat.is_old other) in
+      seat_now old.aged finds aged now seat.is_aged (space ∙ seat.is_old) rest.0 (subst (λ (a : Bool). AreFilled a after.done now.numbers.items (used_of a after.done)) seat.is_old filled) rest.1 next
