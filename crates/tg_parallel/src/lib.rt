@@ -18,6 +18,9 @@
 //! place in one's own blocks; a loser of the exchange sees the winner's place. Places never change, so a copy is right when it
 //! is made. When no roots are left the helper hands over its record and its blocks, each with its number ([`Part`]).
 //!
+//! A helper's lists don't grow: there is room for a word of each cell that has one in the table, which is what it may win at most.
+//! So no call in the walk refers to what a helper has at its seat, and the compiler keeps that in registers.
+//!
 //! *Joining.* Records become one, list after list, and so do parts ([`laws::parts_become_one`]). The record that is left
 //! stands for all; then the table is closed. Its rule says that each cell was won once, that places differ, and that block
 //! numbers have no gap. So the blocks in the order of their numbers are the new spaces, and the words and they are a

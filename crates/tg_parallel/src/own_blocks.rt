@@ -128,6 +128,7 @@ impl OwnBlocks {
         requires full { used_of self.now.aged winner.old.done ≡ CELLS * length self.now.numbers.items }
         ensures { IsDrawn self.entry.now winner.old self.exit.now winner.new result }
     {
+        // There is room for as many blocks as all cells of the table fill. That it is enough isn't proved.
         if self.numbers.len() == self.numbers.capacity() {
             return Err(AllocError);
         }
