@@ -5,3 +5,4 @@ pub mod Copies
 pub mod Room
 pub mod Walks
 pub mod Collects
+pub mod Reads

@@ -9,6 +9,7 @@ ghost use Rattle.tg_word.specs.Word.{place_in};
 ghost use Rattle.tg_evac.specs.Claims.{win_at, won_in};
 ghost use Rattle.tg_evac.specs.Copies.{HoldCells};
 ghost use Rattle.tg_evac.specs.Claimers.{AddsCopy, AreRead};
+ghost use Rattle.tg_evac.specs.Reads.{HasRead};
 ghost use Rattle.tg_evac.specs.Walks.{ClaimsAll, IsTableFor, IsUnderWay, Scans};
 
 use crate::claimer::Claimer;
@@ -115,13 +116,12 @@ impl Copies {
         ensures aged_kept { is_in_old ≡ true → self.exit.now.aged ≡ self.entry.now.aged }
         ensures scanned { self.exit.now.scanned ≡ self.entry.now.scanned }
     {
-        if is_in_old {
-            return self
-                .old
-                .push_copy(&mut self.spare, claimer, spaces, kind, words, true);
-        }
-        self.aged
-            .push_copy(&mut self.spare, claimer, spaces, kind, words, false)
+        let blocks = if is_in_old {
+            &mut self.old
+        } else {
+            &mut self.aged
+        };
+        blocks.push_copy(&mut self.spare, claimer, spaces, kind, words, is_in_old)
     }
 }
 
@@ -142,28 +142,18 @@ pub fn scan<C: Claimer>(
     ensures scans { Scans C.walked C.knows C.is_full spaces.now.spaces claimer.old claimer.new (length (C.walked claimer.new).won) copies.exit.now.aged copies.exit.now.old result }
     ensures ended { OnOk result (copies.exit.now.scanned ≡ length (C.walked claimer.new).won) }
 {
-    match reads {
-        Reads::Each => scan_each(claimer, spaces, kind, copies),
-        Reads::Ahead => scan_apart(claimer, spaces, kind, copies),
-    }
-}
-
-// Scans the won cells that were not, each where it stands.
-#[inline(always)]
-fn scan_each<C: Claimer>(
-    claimer: &mut C,
-    spaces: &Spaces,
-    kind: Kind,
-    copies: &mut Copies,
-) -> Result<(), CollectFault>
-    requires { IsUnderWay C.walked C.knows kind spaces.now.spaces claimer.old copies.now.scanned copies.now.aged copies.now.old }
-    ensures scans { Scans C.walked C.knows C.is_full spaces.now.spaces claimer.old claimer.new (length (C.walked claimer.new).won) copies.exit.now.aged copies.exit.now.old result }
-    ensures ended { OnOk result (copies.exit.now.scanned ≡ length (C.walked claimer.new).won) }
-{
     let mut next = copies.scanned;
     let mut near = OLD;
+    let mut ahead = Ahead::new();
     while next < claimer.len() {
-        let words = spaces.words_near(claimer.won_cell(next), &mut near);
+        // The scan of a cell stands here once, for both ways to read.
+        let words = match reads {
+            Reads::Each => spaces.words_near(claimer.won_cell(next), &mut near),
+            Reads::Ahead => {
+                ahead.read(claimer, spaces, next);
+                ahead.words(next)
+            }
+        };
         scan_next(claimer, spaces, kind, copies, next, words)?;
         next += 1;
     }
@@ -171,47 +161,56 @@ fn scan_each<C: Claimer>(
     Ok(())
 }
 
-// Scans the won cells that were not, some of which are read before the first of them is scanned.
-#[inline(always)]
-fn scan_apart<C: Claimer>(
-    claimer: &mut C,
-    spaces: &Spaces,
-    kind: Kind,
-    copies: &mut Copies,
-) -> Result<(), CollectFault>
-    requires { IsUnderWay C.walked C.knows kind spaces.now.spaces claimer.old copies.now.scanned copies.now.aged copies.now.old }
-    ensures scans { Scans C.walked C.knows C.is_full spaces.now.spaces claimer.old claimer.new (length (C.walked claimer.new).won) copies.exit.now.aged copies.exit.now.old result }
-    ensures ended { OnOk result (copies.exit.now.scanned ≡ length (C.walked claimer.new).won) }
-{
-    let mut near = [[0; WORDS]; NEAR];
-    while copies.scanned < claimer.len() {
-        scan_some(claimer, spaces, kind, copies, &mut near)?;
-    }
-    Ok(())
+// Some won cells that were read, one behind the other.
+#[derive(Drop)]
+struct Ahead {
+    words: [[u64; WORDS]; NEAR],
+    // The number of the first among the won cells.
+    first: usize,
+    count: usize,
 }
 
-// Scans the next won cells, which are read first: one at least, and as many as there is room for.
-#[inline(always)]
-fn scan_some<C: Claimer>(
-    claimer: &mut C,
-    spaces: &Spaces,
-    kind: Kind,
-    copies: &mut Copies,
-    near: &mut [[u64; WORDS]; NEAR],
-) -> Result<(), CollectFault>
-    requires walk { IsUnderWay C.walked C.knows kind spaces.now.spaces claimer.old copies.now.scanned copies.now.aged copies.now.old }
-    requires next { copies.now.scanned < length (C.walked claimer.old).won }
-    ensures scans { Scans C.walked C.knows C.is_full spaces.now.spaces claimer.old claimer.new copies.exit.now.scanned copies.exit.now.aged copies.exit.now.old result }
-    ensures further { OnOk result (copies.entry.now.scanned < copies.exit.now.scanned) }
-{
-    let count = read_some(claimer, spaces, copies.scanned, near);
-    for i in 0..count {
-        // It tells that no more was won than a space has room for (`room`), which the next scan asks for.
-        let _ = claimer.len();
-        scan_next(claimer, spaces, kind, copies, copies.scanned, &near[i])?;
-        copies.scanned += 1;
+impl Ahead {
+    // None was read.
+    #[inline(always)]
+    fn new() -> Self
+        ensures { result.count ≡ 0 }
+    {
+        Ahead {
+            words: [[0; WORDS]; NEAR],
+            first: 0,
+            count: 0,
+        }
     }
-    Ok(())
+
+    // Reads won cells from the k-th on, as many as there is room for, unless that one was read.
+    #[inline(always)]
+    fn read<C: Claimer>(&mut self, claimer: &C, spaces: &Spaces, k: usize)
+        requires whole { (C.walked claimer.now).cells ≡ length (cells_of spaces.now.spaces) }
+        requires next { k < length (C.walked claimer.now).won }
+        requires before { self.old.first ≤ k }
+        requires read { HasRead spaces.now.spaces (C.walked claimer.now).won self.old }
+        ensures read { HasRead spaces.now.spaces (C.walked claimer.now).won self.new }
+        ensures before { self.new.first ≤ k }
+        ensures there { k < self.new.first + self.new.count }
+    {
+        if k < self.first + self.count {
+            return;
+        }
+        self.first = k;
+        self.count = read_some(claimer, spaces, k, &mut self.words);
+    }
+
+    // The words of the k-th won cell, which was read.
+    #[inline(always)]
+    fn words(&self, k: usize) -> &[u64; WORDS]
+        requires before { self.now.first ≤ k }
+        requires there { k < self.now.first + self.now.count }
+        requires few { self.now.count ≤ 8 }
+        ensures { result.now ≡ slice_index_or self.now.words (k - self.now.first) [] }
+    {
+        &self.words[k - self.first]
+    }
 }
 
 // Reads the won cells from the k-th on, as many as there is room for, and answers how many.

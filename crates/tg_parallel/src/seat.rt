@@ -171,13 +171,12 @@ impl<'a> Seat<'a> {
         requires unmet { has_met self.now.done at.cell ≡ false }
         ensures { ClaimsCell walked_at (λ s. HasPlaces s.done) (λ s. HasClaimedPast s.limit s.done) at.cell space self.entry.now self.exit.now result }
     {
-        if space == AGED {
-            self.aged
-                .word_of(&mut self.winner, self.table, at, self.limit)
+        let blocks = if space == AGED {
+            &mut self.aged
         } else {
-            self.old
-                .word_of(&mut self.winner, self.table, at, self.limit)
-        }
+            &mut self.old
+        };
+        blocks.word_of(&mut self.winner, self.table, at, self.limit)
     }
 }
 

@@ -1,0 +1,11 @@
+-- What was read ahead.
+use Rattle.std.specs.Prelude.{ℕ, ◌≤◌, List}
+use Rattle.tg_space.specs.SpaceList.{SpaceList}
+use Rattle.tg_evac.specs.Win.{Win}
+use Rattle.tg_evac.specs.Claimers.{AreRead}
+use Rattle.tg_evac.specs.declared.copies.Ahead.{Ahead}
+
+-- the words are those of so many won cells from the first on, and there is room for no more than eight
+pub record HasRead (h : SpaceList) (won : List Win) (ahead : Ahead) : Type 0 where
+  pub few : ahead.count ≤ 8
+  pub read : AreRead h won ahead.first ahead.count ahead.words
