@@ -1,10 +1,10 @@
 -- A helper's own blocks of a space: one more block, one more place given away, and what changes elsewhere.
-use Rattle.std.proofs.Common.{◌≡◌, ◌≢◌, ℕ, zero, suc, ◌+◌, ◌-◌, ◌*◌, ◌/◌, ◌%◌, ◌^◌, ◌<◌, ◌≤◌, ◌==◌, ◌&&◌, ◌++◌, if◌then◌else◌, not, List, [], ◌∷◌, Bool, true, false, length, get_or, map, refl, sym, ap, subst, ◌∙◌, eqb-true, eq-eqb, inl, inr, ⊎_elim, arith, Result, Ok, Err, IsErrAnd}
+use Rattle.std.proofs.Common.{◌≡◌, ◌≢◌, ℕ, zero, suc, ◌+◌, ◌-◌, ◌*◌, ◌/◌, ◌%◌, ◌^◌, ◌<◌, ◌≤◌, ◌==◌, ◌&&◌, ◌++◌, if◌then◌else◌, not, List, [], ◌∷◌, Bool, true, false, length, get_or, map, refl, sym, ap, subst, ◌∙◌, eqb-true, eq-eqb, ⊎_elim, arith}
 use Rattle.std.specs.List.{All, Contains, filter, list_all}
 use Rattle.std.proofs.lemmas.Bool.{cases_lt, cases_eq, and_parts, cond-true}
 use Rattle.std.proofs.lemmas.Bool.Decides.{nat_tests}
 use Rattle.std.proofs.lemmas.List.{length_push, get_or_append_left, get_or_push, get_or_default, append-nil}
-use Rattle.std.proofs.lemmas.List.Elements.{All-contains, All-nil, All-push, Contains-append_left, Contains-append_right, Contains-get_or, Contains-push, filter-append}
+use Rattle.std.proofs.lemmas.List.Elements.{All-contains, All-nil, All-push, Contains-append_left, Contains-append_right, Contains-push, filter-append}
 use Rattle.tg_word.specs.declared.Place.{Place}
 use Rattle.tg_rights.specs.RightSet.{no_rights}
 use Rattle.tg_word.specs.Word.{IsPlace, link_to, place_in}
@@ -16,11 +16,9 @@ use Rattle.tg_race.specs.Seats.{Board, Seated}
 use Rattle.tg_race.specs.Words.{lies_in, same_place, space_of_age}
 use Rattle.tg_race.proofs.Sums.{weigh_push}
 use Rattle.tg_evac.specs.Claimers.{IsLink}
-use Rattle.tg_evac.specs.declared.fault.CollectFault.{CollectFault}
-use Rattle.tg_evac.specs.declared.fault.CollectFault.TheVariants.{HeapFull}
-use Rattle.tg_parallel.specs.Parts.{HasClaimedPast, HasPlaceOf, HasPlaces, cells_met}
+use Rattle.tg_parallel.specs.Parts.{HasPlaceOf, HasPlaces, cells_met}
 use Rattle.tg_parallel.specs.declared.own_blocks.OwnBlocks.{OwnBlocks}
-use Rattle.tg_parallel.specs.Seats.{AreFilled, AreReady, AreRising, Finds, FindsNext, GivePlace, IsHeldBy, IsReady, KnowsNext, LeavesPlaces, OnlyBlocks, OtherStays, StayFilled, own_place, pair_at, pairs_in, used_of}
+use Rattle.tg_parallel.specs.Seats.{AreFilled, AreRising, Finds, FindsNext, IsHeldBy, IsReady, KnowsNext, LeavesPlaces, OnlyBlocks, OtherStays, StayFilled, own_place, pair_at, pairs_in, used_of}
 use Rattle.tg_parallel.proofs.Lists.{any_at, any_found, map_has}
 
 -- ---- lists
@@ -135,9 +133,6 @@ same_won false v b = refl
 more_blocks : (aged : Bool) (v : Record) (b : ℕ) → blocks_of aged (with_claimed_block aged v b) ≡ blocks_of aged v ++ b ∷ []
 more_blocks true v b = refl
 more_blocks false v b = refl
-
-pub only_none : (v : Record) → OnlyBlocks v v
-only_none v = record { chunks = refl; won = refl; seen = refl; share = refl }
 
 module _ (aged : Bool) (v : Record) (numbers : List ℕ) (used n : ℕ) (filled : AreFilled aged v numbers used) (fresh : All (λ b. b < n) (blocks_of aged v)) (full : used ≡ 64 * length numbers) where
   index : (i : ℕ) → i < length numbers → get_or (numbers ++ n ∷ []) i 0 ≡ get_or numbers i 0
@@ -260,18 +255,6 @@ module _ (aged : Bool) (v : Record) (numbers : List ℕ) (used cell : ℕ) (fill
 -- ---- what a claim finds
 
 module _ (cell : ℕ) (aged : Bool) (v : Record) where
-  pub finds_blocks : (w : Record) → OnlyBlocks v w → Finds cell aged v w
-  finds_blocks w only = record {
-    won = [];
-    one = omega arith;
-    is_won = only.won ∙ sym (append-nil v.won);
-    reasons = All-nil (λ (q : ℕ × Place). (q.0 ≡ cell) × (q.1.space ≡ space_of_age aged) × IsPlace q.1);
-    seen = [];
-    is_seen = only.seen ∙ sym (append-nil v.seen);
-    chunks = only.chunks;
-    share = only.share;
-  }
-
   pub finds_won : (p : Place) → p.space ≡ space_of_age aged → IsPlace p → Finds cell aged v (with_won v (cell, p))
   finds_won p s inside = record {
     won = (cell, p) ∷ [];
@@ -401,10 +384,6 @@ only_claimed false v b = record { chunks = refl; won = refl; seen = refl; share 
 filled_seen : (aged : Bool) (v : Record) (q : ℕ × Place) (numbers : List ℕ) (used : ℕ) → AreFilled aged v numbers used → AreFilled aged (with_seen v q) numbers used
 filled_seen aged v q numbers used filled = record { same = filled.same; rising = filled.rising; room = filled.room; close = filled.close; few = filled.few; ends = filled.ends; order = filled.order; many = filled.many }
 
--- where nothing was done
-pub stay_none : (board : Board) (helper : Seated) (b : OwnBlocks) → IsHeldBy board helper b → StayFilled b helper b helper
-stay_none board helper b held = record { space = refl; seat = refl; filled = held.filled; other = λ numbers used filled. filled }
-
 -- where the cell was seen
 pub stay_seen : (board : Board) (helper : Seated) (b : OwnBlocks) → IsHeldBy board helper b → (q : ℕ × Place) → StayFilled b helper b (record helper { done = with_seen helper.done q })
 stay_seen board helper b held q = record {
@@ -465,9 +444,6 @@ module _ (board : Board) (cell : ℕ) (b : OwnBlocks) (old : Seated) (held : IsH
 -- ---- one claim after another
 
 module _ {before : OwnBlocks} {old : Seated} {after : OwnBlocks} {new : Seated} (stay : StayFilled before old after new) where
-  pub still_held : {board : Board} → IsHeldBy board old before → IsHeldBy board new after
-  still_held held = record { own = stay.seat ∙ held.own; filled = subst (λ (a : Bool). AreFilled a new.done after.numbers.items (used_of a new.done)) (sym stay.space) stay.filled }
-
   pub stay_both : {last : OwnBlocks} {newest : Seated} → StayFilled after new last newest → StayFilled before old last newest
   stay_both {last = last} {newest = newest} two = record {
     space = two.space ∙ stay.space;
@@ -477,30 +453,12 @@ module _ {before : OwnBlocks} {old : Seated} {after : OwnBlocks} {new : Seated} 
         subst (λ (a : Bool). AreFilled (not a) new.done numbers used → AreFilled (not a) newest.done numbers used) stay.space (two.other numbers used) (stay.other numbers used filled);
   }
 
-  -- where the claim was refused
-  pub ready_refused : {T : Type 0} {limit : ℕ} (result : Result T CollectFault) (fault : CollectFault) → IsErrAnd result (λ x. x ≡ fault) → OnlyBlocks old.done new.done → KnowsNext limit new.done after →
-      (fault ≡ HeapFull → HasClaimedPast limit new.done) → AreReady limit before old after new result
-  ready_refused (Ok x) fault same only next full = absurd same
-  ready_refused (Err x) fault same only next full = record { stay = stay; blocks = only; next = next; some = tt; full = λ is. full (sym same ∙ is) }
-
-  pub place_refused : {limit cell : ℕ} (result : Result ℕ CollectFault) (fault : CollectFault) → IsErrAnd result (λ x. x ≡ fault) → Finds cell before.aged old.done new.done → KnowsNext limit new.done after →
-      (fault ≡ HeapFull → HasClaimedPast limit new.done) → GivePlace limit cell before old after new result
-  place_refused (Ok x) fault same finds next full = absurd same
-  place_refused (Err x) fault same finds next full = record { stay = stay; finds = finds; next = next; met = tt; link = tt; known = tt; full = λ is. full (sym same ∙ is) }
-
--- ---- where no place is left
-
--- a block past the limit is one that the record has claimed
-pub has_past : (aged : Bool) (v : Record) (numbers : List ℕ) (limit n : ℕ) → numbers ≡ blocks_of aged v → Contains numbers n → limit ≤ n → HasClaimedPast limit v
-has_past true v numbers limit n same held past = (n, inl (subst (λ (l : List ℕ). Contains l n) same held), past)
-has_past false v numbers limit n same held past = (n, inr (subst (λ (l : List ℕ). Contains l n) same held), past)
-
--- none but blocks were claimed, and these are as they were
-pub knows_still : {limit : ℕ} {v w : Record} (b : OwnBlocks) → OnlyBlocks v w → KnowsNext limit v b → KnowsNext limit w b
-knows_still {limit = limit} {v = v} {w = w} b only next =
-    let same : used_of b.aged w ≡ used_of b.aged v = ap (λ (l : List (ℕ × Place)). length (pairs_in (space_of_age b.aged) l)) only.won in
+-- after a claim of the next place the next one is known, or all blocks are full
+pub knows_after : {limit cell : ℕ} {before : OwnBlocks} {old : Seated} {after : OwnBlocks} {new : Seated} {word : ℕ} → FindsNext cell before old after new word → KnowsNext limit old.done before → before.next ≢ before.end → KnowsNext limit new.done after
+knows_after {before = before} {after = after} {new = new} finds known some =
+    let same : used_of before.aged new.done ≡ used_of after.aged new.done = ap (λ (a : Bool). used_of a new.done) (sym finds.stay.space) in
     record {
-      some = λ left. subst (λ (n : ℕ). IsReady n b) (sym same) (next.some left);
-      none = λ end within. same ∙ next.none end within;
-      past = next.past;
+      some = λ left. subst (λ (n : ℕ). IsReady n after) same (finds.next left);
+      none = λ end within. (let left = finds.left in omega arith);
+      past = λ past. absurd (some (known.past (sym finds.past ∙ past)).0);
     }

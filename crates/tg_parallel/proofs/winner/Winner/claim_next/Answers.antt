@@ -1,4 +1,4 @@
-use Rattle.std.proofs.Common.{◌≡◌, ◌+◌, ◌*◌, ◌++◌, ◌∷◌, [], ℕ, List, length, map, Bool, true, false, refl, ap, subst, sym, ◌∙◌, arith}
+use Rattle.std.proofs.Common.{◌≡◌, ◌+◌, ◌*◌, ◌++◌, ◌∷◌, [], ℕ, List, map, Bool, true, false, refl, ap, subst, sym, ◌∙◌, arith}
 use Rattle.std.proofs.lemmas.List.{map-append}
 use Rattle.tg_word.specs.declared.Place.{Place}
 use Rattle.tg_word.specs.Word.{IsPlace, place_in}
@@ -45,12 +45,13 @@ invariant_of-self-2 c =
     let capacity = c.push_reserved.ensures.capacity in
     let words = ap (λ (s : Seated). s.table.id.words) is in
     let space = ap (λ (p : Place). p.space) (next_read (used_of b.aged c.args.self.now.done) b c.requires.ready) in
-    let byte = c.from.ensures ∙ byte_of b.aged ∙ sym space in
-    (c.push_reserved.ensures.items
-        ∙ ap (λ (l : List ℕ). l ++ (2 * cell + c.from.result) ∷ []) c.self.invariant.0
-        ∙ ap (λ (n : ℕ). map note_of won ++ (2 * cell + n) ∷ []) byte
-        ∙ sym (ap (λ (s : Seated). map note_of s.done.won) is ∙ map-append note_of won ((cell, place_in b.next) ∷ [])),
-    (let before = c.self.invariant.1 in omega arith))
+    let byte = c.from.ensures ∙ byte_of b.aged ∙ sym space in (
+      c.push_reserved.ensures.items
+          ∙ ap (λ (l : List ℕ). l ++ (2 * cell + c.from.result) ∷ []) c.self.invariant.0
+          ∙ ap (λ (n : ℕ). map note_of won ++ (2 * cell + n) ∷ []) byte
+          ∙ sym (ap (λ (s : Seated). map note_of s.done.won) is ∙ map-append note_of won ((cell, place_in b.next) ∷ [])),
+      (let before = c.self.invariant.1 in omega arith),
+    )
 
 pub returns : goal.returns
 unfolding place_of

@@ -1,4 +1,4 @@
-use Rattle.std.proofs.Common.{◌≡◌, false, subst, sym}
+use Rattle.std.proofs.Common.{◌≡◌, subst, sym}
 use Rattle.tg_word.specs.Word.{place_in}
 use Rattle.tg_race.specs.Race.{with_seen}
 use Rattle.tg_race.specs.Seats.{Seated}
