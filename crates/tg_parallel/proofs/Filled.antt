@@ -1,10 +1,10 @@
 -- A helper's own blocks of a space: one more block, one more place given away, and what changes elsewhere.
-use Rattle.std.proofs.Common.{◌≡◌, ◌≢◌, ℕ, zero, suc, ◌+◌, ◌-◌, ◌*◌, ◌/◌, ◌%◌, ◌^◌, ◌<◌, ◌≤◌, ◌==◌, ◌&&◌, ◌++◌, if◌then◌else◌, not, List, [], ◌∷◌, Bool, true, false, length, get_or, map, refl, sym, ap, subst, ◌∙◌, eqb-true, eq-eqb, inl, inr, ⊎_elim, arith, Result, Ok, Err, IsErrAnd}
+use Rattle.std.proofs.Common.{◌≡◌, ◌≢◌, ℕ, zero, suc, ◌+◌, ◌-◌, ◌*◌, ◌/◌, ◌%◌, ◌^◌, ◌<◌, ◌≤◌, ◌==◌, ◌&&◌, ◌++◌, if◌then◌else◌, not, List, [], ◌∷◌, Bool, true, false, length, get_or, map, refl, sym, ap, subst, ◌∙◌, eqb-true, eq-eqb, ⊎_elim, arith}
 use Rattle.std.specs.List.{All, Contains, filter, list_all}
 use Rattle.std.proofs.lemmas.Bool.{cases_lt, cases_eq, and_parts, cond-true}
 use Rattle.std.proofs.lemmas.Bool.Decides.{nat_tests}
 use Rattle.std.proofs.lemmas.List.{length_push, get_or_append_left, get_or_push, get_or_default, append-nil}
-use Rattle.std.proofs.lemmas.List.Elements.{All-contains, All-nil, All-push, Contains-append_left, Contains-append_right, Contains-get_or, Contains-push, filter-append}
+use Rattle.std.proofs.lemmas.List.Elements.{All-contains, All-nil, All-push, Contains-append_left, Contains-append_right, Contains-push, filter-append}
 use Rattle.tg_word.specs.declared.Place.{Place}
 use Rattle.tg_rights.specs.RightSet.{no_rights}
 use Rattle.tg_word.specs.Word.{IsPlace, link_to, place_in}
@@ -15,11 +15,10 @@ use Rattle.tg_race.specs.Race.{has_number, has_room, owns, used_in, with_claimed
 use Rattle.tg_race.specs.Seats.{Board, Seated}
 use Rattle.tg_race.specs.Words.{lies_in, same_place, space_of_age}
 use Rattle.tg_race.proofs.Sums.{weigh_push}
-use Rattle.tg_evac.specs.declared.fault.CollectFault.{CollectFault}
-use Rattle.tg_evac.specs.declared.fault.CollectFault.TheVariants.{HeapFull}
-use Rattle.tg_parallel.specs.Parts.{HasClaimedPast, HasPlaceOf, HasPlaces, cells_met}
+use Rattle.tg_evac.specs.Claimers.{IsLink}
+use Rattle.tg_parallel.specs.Parts.{HasPlaceOf, HasPlaces, cells_met}
 use Rattle.tg_parallel.specs.declared.own_blocks.OwnBlocks.{OwnBlocks}
-use Rattle.tg_parallel.specs.Seats.{AreFilled, AreReady, AreRising, Finds, GivePlace, HaveRoom, IsHeldBy, IsReady, KnowsNext, OnlyBlocks, OtherStays, StayFilled, own_place, pair_at, pairs_in}
+use Rattle.tg_parallel.specs.Seats.{AreFilled, AreRising, Finds, FindsNext, IsHeldBy, IsReady, KnowsNext, LeavesPlaces, OnlyBlocks, OtherStays, StayFilled, own_place, pair_at, pairs_in, used_of}
 use Rattle.tg_parallel.proofs.Lists.{any_at, any_found, map_has}
 
 -- ---- lists
@@ -125,14 +124,6 @@ module _ (aged : Bool) (v : Record) (numbers : List ℕ) (used : ℕ) (filled : 
     pub may_give : can_use v (own_place aged numbers used) ≡ true
     may_give = rw (mine, unused) refl
 
-    -- a number past the limit is one of a block that was claimed
-    pub claimed_past : (limit : ℕ) → limit ≤ get_or numbers (used / 64) 0 → HasClaimedPast limit v
-    claimed_past limit past = by_space aged (subst (λ (l : List ℕ). Contains l (get_or numbers (used / 64) 0)) filled.same (Contains-get_or numbers (used / 64) 0 (omega arith)))
-      where
-        by_space : (a : Bool) → Contains (blocks_of a v) (get_or numbers (used / 64) 0) → HasClaimedPast limit v
-        by_space true held = (get_or numbers (used / 64) 0, inl held, past)
-        by_space false held = (get_or numbers (used / 64) 0, inr held, past)
-
 -- ---- what the blocks are then
 
 same_won : (aged : Bool) (v : Record) (b : ℕ) → (with_claimed_block aged v b).won ≡ v.won
@@ -142,9 +133,6 @@ same_won false v b = refl
 more_blocks : (aged : Bool) (v : Record) (b : ℕ) → blocks_of aged (with_claimed_block aged v b) ≡ blocks_of aged v ++ b ∷ []
 more_blocks true v b = refl
 more_blocks false v b = refl
-
-pub only_none : (v : Record) → OnlyBlocks v v
-only_none v = record { chunks = refl; won = refl; seen = refl; share = refl }
 
 module _ (aged : Bool) (v : Record) (numbers : List ℕ) (used n : ℕ) (filled : AreFilled aged v numbers used) (fresh : All (λ b. b < n) (blocks_of aged v)) (full : used ≡ 64 * length numbers) where
   index : (i : ℕ) → i < length numbers → get_or (numbers ++ n ∷ []) i 0 ≡ get_or numbers i 0
@@ -267,18 +255,6 @@ module _ (aged : Bool) (v : Record) (numbers : List ℕ) (used cell : ℕ) (fill
 -- ---- what a claim finds
 
 module _ (cell : ℕ) (aged : Bool) (v : Record) where
-  pub finds_blocks : (w : Record) → OnlyBlocks v w → Finds cell aged v w
-  finds_blocks w only = record {
-    won = [];
-    one = omega arith;
-    is_won = only.won ∙ sym (append-nil v.won);
-    reasons = All-nil (λ (q : ℕ × Place). (q.0 ≡ cell) × (q.1.space ≡ space_of_age aged) × IsPlace q.1);
-    seen = [];
-    is_seen = only.seen ∙ sym (append-nil v.seen);
-    chunks = only.chunks;
-    share = only.share;
-  }
-
   pub finds_won : (p : Place) → p.space ≡ space_of_age aged → IsPlace p → Finds cell aged v (with_won v (cell, p))
   finds_won p s inside = record {
     won = (cell, p) ∷ [];
@@ -341,12 +317,12 @@ module _ (aged : Bool) (numbers : List ℕ) (used : ℕ) (few : get_or numbers (
   own_is_place = record { space = (let two = age_two aged in omega arith); block = few; cell = omega arith }
 
 -- the place that is read in the word of the next one
-module _ (b : OwnBlocks) (ready : IsReady b) where
+module _ (used : ℕ) (b : OwnBlocks) (ready : IsReady used b) where
   abbrev next_own : Place
-  next_own = own_place b.aged b.numbers.items b.used
+  next_own = own_place b.aged b.numbers.items used
 
   pub next_inside : IsPlace next_own
-  next_inside = own_is_place b.aged b.numbers.items b.used ready.few
+  next_inside = own_is_place b.aged b.numbers.items used ready.few
 
   pub next_read : place_in b.next ≡ next_own
   next_read = ap place_in ready.next ∙ place_in-word_at no_rights next_own next_inside
@@ -354,28 +330,48 @@ module _ (b : OwnBlocks) (ready : IsReady b) where
   pub next_link : b.next ≡ link_to (place_in b.next)
   next_link = ready.next ∙ ap link_to (sym next_read)
 
+-- where the next word isn't the end, a place is left
+pub places_left : (used : ℕ) (b : OwnBlocks) → LeavesPlaces used b → used ≤ 64 * length b.numbers.items → b.next ≢ b.end → used < 64 * length b.numbers.items
+places_left used b left room some = omega arith
+
 -- the place behind another one in its block
 abbrev place_behind : Place → Place
 place_behind p = record { space = p.space; block = p.block; cell = p.cell + 1 }
 
+-- its word is one cell further
+word_behind : (p : Place) → link_to (place_behind p) ≡ link_to p + 2 ^ 8
+word_behind p = omega arith
+
 -- after one more win the next place is the one behind, where some are left
-pub ready_more : (b : OwnBlocks) (used left next : ℕ) → IsReady b → used ≡ b.used + 1 → left + 1 ≡ b.left → next ≡ link_to (place_behind (place_in b.next)) → KnowsNext (record { aged = b.aged; numbers = b.numbers; used = used; next = next; left = left })
-ready_more b used left next ready one less on some =
-    let l = ready.left in let room = ready.room in
-    let more : b.used % 64 < 63 = omega arith in
-    let same : used / 64 ≡ b.used / 64 = omega arith in
-    let block : get_or b.numbers.items (used / 64) 0 ≡ get_or b.numbers.items (b.used / 64) 0 = ap (λ (i : ℕ). get_or b.numbers.items i 0) same in
-    let cell : used % 64 ≡ b.used % 64 + 1 = omega arith in
-    let few = ready.few in
-    let behind : place_behind (own_place b.aged b.numbers.items b.used) ≡ own_place b.aged b.numbers.items used = λ i. record { space = space_of_age b.aged; block = sym block i; cell = sym cell i } in
-    record {
-      room = omega arith;
-      left = omega arith;
-      few = omega arith;
-      next = on ∙ ap link_to (ap place_behind (next_read b ready) ∙ behind);
-    }
+module _ (used : ℕ) (b : OwnBlocks) (next : ℕ) (ready : IsReady used b) (on : next ≡ link_to (place_behind (place_in b.next))) where
+  abbrev after : OwnBlocks
+  after = record { aged = b.aged; numbers = b.numbers; next = next; end = b.end; is_past = b.is_past }
+
+  pub left_more : LeavesPlaces (used + 1) after
+  left_more =
+      let step : next ≡ b.next + 2 ^ 8 = on ∙ word_behind (place_in b.next) ∙ ap (λ (w : ℕ). w + 2 ^ 8) (sym (next_link used b ready)) in
+      let left = ready.left in
+      omega arith
+
+  pub ready_more : used < 64 * length b.numbers.items → 64 * length b.numbers.items ≤ used + 64 → next ≢ b.end → IsReady (used + 1) after
+  ready_more room close some =
+      let low = places_left (used + 1) after left_more (omega arith) some in
+      let same : (used + 1) / 64 ≡ used / 64 = omega arith in
+      let block : get_or b.numbers.items ((used + 1) / 64) 0 ≡ get_or b.numbers.items (used / 64) 0 = ap (λ (i : ℕ). get_or b.numbers.items i 0) same in
+      let cell : (used + 1) % 64 ≡ used % 64 + 1 = omega arith in
+      let few = ready.few in
+      let behind : place_behind (own_place b.aged b.numbers.items used) ≡ own_place b.aged b.numbers.items (used + 1) = λ i. record { space = space_of_age b.aged; block = sym block i; cell = sym cell i } in
+      record {
+        left = left_more;
+        few = omega arith;
+        next = on ∙ ap link_to (ap place_behind (next_read used b ready) ∙ behind);
+      }
 
 -- ---- what stays
+
+-- so many places were given away as there are won cells
+pub filled_all : (aged : Bool) (v : Record) (numbers : List ℕ) (used : ℕ) → AreFilled aged v numbers used → AreFilled aged v numbers (used_of aged v)
+filled_all aged v numbers used filled = subst (λ (n : ℕ). AreFilled aged v numbers n) (sym filled.ends) filled
 
 pub other_claimed : (aged : Bool) (v : Record) (b : ℕ) → OtherStays aged v (with_claimed_block aged v b)
 other_claimed true v b numbers used filled = record { same = filled.same; rising = filled.rising; room = filled.room; close = filled.close; few = filled.few; ends = filled.ends; order = filled.order; many = filled.many }
@@ -388,42 +384,81 @@ only_claimed false v b = record { chunks = refl; won = refl; seen = refl; share 
 filled_seen : (aged : Bool) (v : Record) (q : ℕ × Place) (numbers : List ℕ) (used : ℕ) → AreFilled aged v numbers used → AreFilled aged (with_seen v q) numbers used
 filled_seen aged v q numbers used filled = record { same = filled.same; rising = filled.rising; room = filled.room; close = filled.close; few = filled.few; ends = filled.ends; order = filled.order; many = filled.many }
 
--- where nothing was done
-pub stay_none : (board : Board) (helper : Seated) (b : OwnBlocks) → IsHeldBy board helper b → StayFilled b helper b helper
-stay_none board helper b held = record { space = refl; seat = refl; filled = held.filled; other = λ numbers used filled. filled }
-
 -- where the cell was seen
 pub stay_seen : (board : Board) (helper : Seated) (b : OwnBlocks) → IsHeldBy board helper b → (q : ℕ × Place) → StayFilled b helper b (record helper { done = with_seen helper.done q })
 stay_seen board helper b held q = record {
   space = refl;
   seat = refl;
-  filled = filled_seen b.aged helper.done q b.numbers.items b.used held.filled;
+  filled = filled_seen b.aged helper.done q b.numbers.items (used_of b.aged helper.done) held.filled;
   other = λ numbers used filled. filled_seen (not b.aged) helper.done q numbers used filled;
 }
 
-module _ {before : OwnBlocks} {old : Seated} {after : OwnBlocks} {new : Seated} (stay : StayFilled before old after new) where
-  pub still_held : {board : Board} → IsHeldBy board old before → IsHeldBy board new after
-  still_held held = record { own = stay.seat ∙ held.own; filled = subst (λ (a : Bool). AreFilled a new.done after.numbers.items after.used) (sym stay.space) stay.filled }
+-- ---- what a claim of the next place finds
 
+module _ (board : Board) (cell : ℕ) (b : OwnBlocks) (old : Seated) (held : IsHeldBy board old b) (ready : IsReady (used_of b.aged old.done) b) where
+  abbrev used : ℕ
+  used = used_of b.aged old.done
+
+  pub found_seen : (word : ℕ) → IsPlace (place_in word) → IsLink word → FindsNext cell b old b (record old { done = with_seen old.done (cell, place_in word) }) word
+  found_seen word inside link = record {
+    stay = stay_seen board old b held (cell, place_in word);
+    finds = finds_seen cell b.aged old.done (place_in word);
+    left = ready.left;
+    next = λ some. ready;
+    past = refl;
+    met = seen_met old.done cell (place_in word);
+    link = link;
+    known = seen_known old.done cell (place_in word) inside;
+  }
+
+  module _ (some : b.next ≢ b.end) where
+    room_left : used < 64 * length b.numbers.items
+    room_left = places_left used b ready.left held.filled.room some
+
+    pub may_use : can_use old.done (place_in b.next) ≡ true
+    may_use = subst (λ (p : Place). can_use old.done p ≡ true) (sym (next_read used b ready)) (may_give b.aged old.done b.numbers.items used held.filled room_left)
+
+    pub found_won : (next : ℕ) → next ≡ link_to (place_behind (place_in b.next)) → FindsNext cell b old (record b { next = next }) (record old { done = with_won old.done (cell, place_in b.next) }) b.next
+    found_won next on =
+        let at = next_read used b ready in
+        let inside = subst IsPlace (sym at) (next_inside used b ready) in
+        let space = ap (λ (p : Place). p.space) at in
+        let filled = subst (λ (p : Place). AreFilled b.aged (with_won old.done (cell, p)) b.numbers.items (used + 1)) (sym at) (filled_won b.aged old.done b.numbers.items used cell held.filled room_left ready.few) in
+        let more = filled.ends in
+        record {
+          stay = record {
+            space = refl;
+            seat = refl;
+            filled = filled_all b.aged (with_won old.done (cell, place_in b.next)) b.numbers.items (used + 1) filled;
+            other = other_won b.aged old.done (cell, place_in b.next) space;
+          };
+          finds = finds_won cell b.aged old.done (place_in b.next) space inside;
+          left = subst (λ (n : ℕ). LeavesPlaces n (record b { next = next })) (sym more) (left_more used b next ready on);
+          next = λ left. subst (λ (n : ℕ). IsReady n (record b { next = next })) (sym more) (ready_more used b next ready on room_left held.filled.close left);
+          past = refl;
+          met = won_met old.done cell (place_in b.next);
+          link = next_link used b ready;
+          known = won_known old.done cell (place_in b.next) inside;
+        }
+
+-- ---- one claim after another
+
+module _ {before : OwnBlocks} {old : Seated} {after : OwnBlocks} {new : Seated} (stay : StayFilled before old after new) where
   pub stay_both : {last : OwnBlocks} {newest : Seated} → StayFilled after new last newest → StayFilled before old last newest
   stay_both {last = last} {newest = newest} two = record {
     space = two.space ∙ stay.space;
     seat = two.seat ∙ stay.seat;
-    filled = subst (λ (a : Bool). AreFilled a newest.done last.numbers.items last.used) stay.space two.filled;
+    filled = subst (λ (a : Bool). AreFilled a newest.done last.numbers.items (used_of a newest.done)) stay.space two.filled;
     other = λ numbers used filled.
         subst (λ (a : Bool). AreFilled (not a) new.done numbers used → AreFilled (not a) newest.done numbers used) stay.space (two.other numbers used) (stay.other numbers used filled);
   }
 
-  -- where the claim was refused
-  pub room_refused : {T Fault : Type 0} (result : Result T Fault) (fault : Fault) → IsErrAnd result (λ x. x ≡ fault) → OnlyBlocks old.done new.done → after.left ≡ before.left → HaveRoom before old after new result
-  room_refused (Ok x) fault same only left = absurd same
-  room_refused (Err x) fault same only left = record { stay = stay; blocks = only; left = left; room = tt }
-
-  pub ready_refused : {T : Type 0} {limit : ℕ} (result : Result T CollectFault) (fault : CollectFault) → IsErrAnd result (λ x. x ≡ fault) → OnlyBlocks old.done new.done → KnowsNext after →
-      (fault ≡ HeapFull → HasClaimedPast limit new.done) → AreReady limit before old after new result
-  ready_refused (Ok x) fault same only next full = absurd same
-  ready_refused (Err x) fault same only next full = record { stay = stay; blocks = only; next = next; some = tt; full = λ is. full (sym same ∙ is) }
-
-  pub place_refused : {cell : ℕ} (result : Result ℕ CollectFault) (fault : CollectFault) → IsErrAnd result (λ x. x ≡ fault) → Finds cell before.aged old.done new.done → KnowsNext after → GivePlace cell before old after new result
-  place_refused (Ok x) fault same finds next = absurd same
-  place_refused (Err x) fault same finds next = record { stay = stay; finds = finds; next = next; met = tt; link = tt; known = tt }
+-- after a claim of the next place the next one is known, or all blocks are full
+pub knows_after : {limit cell : ℕ} {before : OwnBlocks} {old : Seated} {after : OwnBlocks} {new : Seated} {word : ℕ} → FindsNext cell before old after new word → KnowsNext limit old.done before → before.next ≢ before.end → KnowsNext limit new.done after
+knows_after {before = before} {after = after} {new = new} finds known some =
+    let same : used_of before.aged new.done ≡ used_of after.aged new.done = ap (λ (a : Bool). used_of a new.done) (sym finds.stay.space) in
+    record {
+      some = λ left. subst (λ (n : ℕ). IsReady n after) same (finds.next left);
+      none = λ end within. (let left = finds.left in omega arith);
+      past = λ past. absurd (some (known.past (sym finds.past ∙ past)).0);
+    }

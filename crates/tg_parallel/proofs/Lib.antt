@@ -2,6 +2,7 @@ pub mod Lists
 pub mod Traces
 pub mod Joins
 pub mod Wins
+pub mod Notes
 pub mod Room
 pub mod Finish
 pub mod Merging

@@ -8,7 +8,7 @@ use Rattle.tg_parallel.proofs.winner.Winner.look_word.Goals as goal
 pub returns-clause-some : goal.returns-clause-some
 unfolding place_of
 returns-clause-some c some =
-    subst (λ (s : Seated). c.look_word.new.self ≡ record s { done = with_seen s.done (c.args.cell, place_in c.look_word.result) }) c.self.view_is (c.look_word.ensures.some some)
+    subst (λ (s : Seated). c.look_word.new.self ≡ record s { done = with_seen s.done (c.args.at.cell, place_in c.look_word.result) }) c.self.view_is (c.look_word.ensures.some some)
 
 pub returns-clause-place : goal.returns-clause-place
 unfolding place_of
