@@ -1,5 +1,5 @@
 -- A seat: what it holds at first and after a claim, and what a walk sees of it.
-use Rattle.std.proofs.Common.{◌≡◌, ◌≢◌, ℕ, suc, ◌+◌, ◌-◌, ◌*◌, ◌^◌, ◌<◌, ◌≤◌, ◌==◌, ◌||◌, not, ◌++◌, List, [], ◌∷◌, Bool, true, false, length, get_or, map, refl, sym, ap, subst, ◌∙◌, eqb, eq-eqb, ⊎_elim, arith}
+use Rattle.std.proofs.Common.{◌≡◌, ◌≢◌, ℕ, suc, ◌-◌, ◌*◌, ◌^◌, ◌<◌, ◌≤◌, ◌==◌, ◌||◌, not, ◌++◌, List, [], ◌∷◌, Bool, true, false, length, get_or, map, refl, sym, ap, subst, ◌∙◌, eqb, eq-eqb, ⊎_elim, arith}
 use Rattle.std.specs.List.{All, AllPairs, Contains, list_any}
 use Rattle.std.specs.Prelude.{Result, IfErr, IfOk, OnOk}
 use Rattle.std.proofs.lemmas.Bool.{cases_eq, false≢true}
@@ -256,3 +256,7 @@ module _ (limit : ℕ) (board : Board) (before after : Seated) (aged old : OwnBl
   seat_old now space finds filled other next =
       let rest = other_filled false aged seat.is_aged seat.in_aged seat.aged_next (subst (λ (a : Bool). OtherStays a before.done after.done) seat.is_old other) in
       seat_now old.aged finds aged now seat.is_aged (space ∙ seat.is_old) rest.0 (subst (λ (a : Bool). AreFilled a after.done now.numbers.items (used_of a after.done)) seat.is_old filled) rest.1 next
+
+-- what is asked of a seat is known of what it is seen as
+pub asked : (at : CellWord) (seen now : Sitting) → seen ≡ now → IsWordIn now.board at → has_met now.done at.cell ≡ false → IsWordIn seen.board at × (has_met seen.done at.cell ≡ false)
+asked at seen now is word unmet = (subst (λ (x : Sitting). IsWordIn x.board at) (sym is) word, subst (λ (x : Sitting). has_met x.done at.cell ≡ false) (sym is) unmet)

@@ -171,12 +171,25 @@ impl<'a> Seat<'a> {
         requires unmet { has_met self.now.done at.cell ≡ false }
         ensures { ClaimsCell walked_at (λ s. HasPlaces s.done) (λ s. HasClaimedPast s.limit s.done) at.cell space self.entry.now self.exit.now result }
     {
-        let blocks = if space == AGED {
-            &mut self.aged
+        if space == AGED {
+            self.give_aged(at)
         } else {
-            &mut self.old
-        };
-        blocks.word_of(&mut self.winner, self.table, at, self.limit)
+            self.old
+                .word_of(&mut self.winner, self.table, at, self.limit)
+        }
+    }
+
+    // The same in Aged.
+    //
+    // It is a call of its own, since a full collection, whose seat is to be kept in registers, has no copy there.
+    #[inline(never)]
+    fn give_aged(&mut self, at: CellWord) -> Result<u64, CollectFault>
+        requires word { IsWordIn self.now.board at }
+        requires unmet { has_met self.now.done at.cell ≡ false }
+        ensures { ClaimsCell walked_at (λ s. HasPlaces s.done) (λ s. HasClaimedPast s.limit s.done) at.cell 1 self.entry.now self.exit.now result }
+    {
+        self.aged
+            .word_of(&mut self.winner, self.table, at, self.limit)
     }
 }
 

@@ -1,8 +1,7 @@
-use Rattle.std.proofs.Common.{◌≡◌, ◌*◌, ◌<◌, ◌≤◌, ℕ, false, ap, subst, sym, ◌∙◌}
+use Rattle.std.proofs.Common.{◌≡◌, ◌*◌, ◌<◌, ◌≤◌, ℕ, ap, subst, sym, ◌∙◌}
 use Rattle.std.specs.Prelude.{Ok}
 use Rattle.tg_word.specs.Word.{place_in}
 use Rattle.tg_race.specs.declared.record.Record.{Record}
-use Rattle.tg_race.specs.Course.{has_met}
 use Rattle.tg_race.specs.Race.{with_seen}
 use Rattle.tg_race.specs.Seats.{Seated}
 use Rattle.tg_evac.specs.Walks.{ClaimsCell}
