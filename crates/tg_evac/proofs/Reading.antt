@@ -7,6 +7,8 @@ use Rattle.tg_space.specs.Targets.{cell_numbered}
 use Rattle.tg_evac.specs.Win.{Win}
 use Rattle.tg_evac.specs.Claims.{win_at}
 use Rattle.tg_evac.specs.Claimers.{AddsWins, AreRead, Walked}
+use Rattle.tg_evac.specs.Reads.{HasRead}
+use Rattle.tg_evac.specs.declared.copies.Ahead.{Ahead}
 
 -- one more row of words that are as they should be
 pub more_words : (rows : List (List ℕ)) (i : ℕ) (words : List ℕ) (wanted : ℕ → List ℕ) → i < length rows → ((j : ℕ) → j < i → get_or rows j [] ≡ wanted j) → words ≡ wanted i → (j : ℕ) → j < i + 1 → get_or (set rows i words) j [] ≡ wanted j
@@ -30,3 +32,20 @@ module _ (h : SpaceList) {Fixed : Type 0} {reason : Win → Type 0} {a b : Walke
   still_read =
       read.words i more ∙
       sym (ap (λ (l : List Win). cell_numbered h (win_at l (k + i)).cell) adds.is ∙ ap (λ (w : Win). cell_numbered h w.cell) (get_or_append_left a.won adds.added (win_at [] 0) (k + i) inside))
+
+-- where nothing is read yet
+pub has_read_none : (h : SpaceList) (won : List Win) (ahead : Ahead) → ahead.first ≡ 0 → ahead.count ≡ 0 → HasRead h won ahead
+has_read_none h won ahead first none = record {
+  few = omega (arith, none);
+  read = record { within = omega (arith, first, none); words = λ i more. absurd (omega (arith, none, more)) };
+}
+
+-- and what was read ahead, too
+pub has_read_still : (h : SpaceList) {Fixed : Type 0} {reason : Win → Type 0} {a b : Walked Fixed} → AddsWins reason a b → (ahead : Ahead) → HasRead h a.won ahead → HasRead h b.won ahead
+has_read_still h {a = a} {b = b} adds ahead has = record {
+  few = has.few;
+  read = record {
+    within = omega (arith, has.read.within, ap (λ (l : List Win). length l) adds.is ∙ length-append a.won adds.added);
+    words = still_read h adds ahead.first ahead.count ahead.words has.read;
+  };
+}

@@ -1,5 +1,5 @@
 -- What was read ahead.
-use Rattle.std.specs.Prelude.{ℕ, ◌≤◌, List}
+use Rattle.std.specs.Prelude.{◌≤◌, List}
 use Rattle.tg_space.specs.SpaceList.{SpaceList}
 use Rattle.tg_evac.specs.Win.{Win}
 use Rattle.tg_evac.specs.Claimers.{AreRead}

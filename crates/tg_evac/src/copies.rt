@@ -1,8 +1,9 @@
 //! The scan of won cells: each is copied, and what it names is claimed, until none is left.
-ghost use Rattle.std.specs.Prelude.{◌≡◌, ◌↔◌, ℕ, ◌+◌, ◌<◌, ◌≤◌, ◌==◌, ◌^◌, true, false, [], IfOk, OnOk, length};
+ghost use Rattle.std.specs.Prelude.{◌≡◌, ◌↔◌, ℕ, ◌+◌, ◌<◌, ◌≤◌, ◌==◌, ◌^◌, ◌-◌, true, false, [], IfOk, OnOk, length, slice_index_or};
 ghost use Rattle.tg_space.specs.SpaceList.{IsSpace, cells_of};
 ghost use Rattle.tg_space.specs.Soundness.{IsPointer};
 ghost use Rattle.tg_space.specs.Targets.{cell_numbered, from_space, named_by, pointers_of};
+ghost use Rattle.std.specs.Borrow.{sem};
 ghost use Rattle.std.specs.List.{All};
 ghost use Rattle.tg_word.specs.declared.TheConstants.{MOST_SPACE_CELLS};
 ghost use Rattle.tg_word.specs.Word.{place_in};
@@ -105,6 +106,7 @@ impl Copies {
         words: &[u64; WORDS],
         is_in_old: bool,
     ) -> Result<(), CollectFault>
+        requires full { kind ≡ Kind.Full → is_in_old ≡ true }
         requires old_room { is_in_old ≡ true → length self.now.old < MOST_SPACE_CELLS }
         requires aged_room { is_in_old ≡ false → length self.now.aged < MOST_SPACE_CELLS }
         requires pointers { All (IsPointer spaces.now.spaces) (pointers_of words.now) }
@@ -116,12 +118,48 @@ impl Copies {
         ensures aged_kept { is_in_old ≡ true → self.exit.now.aged ≡ self.entry.now.aged }
         ensures scanned { self.exit.now.scanned ≡ self.entry.now.scanned }
     {
-        let blocks = if is_in_old {
-            &mut self.old
-        } else {
-            &mut self.aged
-        };
-        blocks.push_copy(&mut self.spare, claimer, spaces, kind, words, is_in_old)
+        match kind {
+            Kind::Full => self
+                .old
+                .push_copy(&mut self.spare, claimer, spaces, kind, words, true),
+            Kind::Nursery => self.push_young(claimer, spaces, words, is_in_old),
+        }
+    }
+
+    // The same in a nursery collection.
+    //
+    // It is a call of its own, so that the scan of a full collection, which has no copy in Aged, is small enough to be compiled into
+    // the walk.
+    #[inline(never)]
+    fn push_young<C: Claimer>(
+        &mut self,
+        claimer: &mut C,
+        spaces: &Spaces,
+        words: &[u64; WORDS],
+        is_in_old: bool,
+    ) -> Result<(), CollectFault>
+        requires old_room { is_in_old ≡ true → length self.now.old < MOST_SPACE_CELLS }
+        requires aged_room { is_in_old ≡ false → length self.now.aged < MOST_SPACE_CELLS }
+        requires pointers { All (IsPointer spaces.now.spaces) (pointers_of words.now) }
+        requires table { IsTableFor Kind.Nursery spaces.now.spaces (C.walked claimer.old) }
+        ensures claims { ClaimsAll C.walked C.knows C.is_full spaces.now.spaces is_in_old (named_by (from_space (C.walked claimer.old).kind) spaces.now.spaces (pointers_of words.now)) claimer.old claimer.new result }
+        ensures old { OnOk result (is_in_old ≡ true → AddsCopy (C.walked claimer.old).kind spaces.now.spaces (C.knows claimer.new) words.now self.entry.now.old self.exit.now.old) }
+        ensures old_kept { is_in_old ≡ false → self.exit.now.old ≡ self.entry.now.old }
+        ensures aged { OnOk result (is_in_old ≡ false → AddsCopy (C.walked claimer.old).kind spaces.now.spaces (C.knows claimer.new) words.now self.entry.now.aged self.exit.now.aged) }
+        ensures aged_kept { is_in_old ≡ true → self.exit.now.aged ≡ self.entry.now.aged }
+        ensures scanned { self.exit.now.scanned ≡ self.entry.now.scanned }
+    {
+        if is_in_old {
+            return self.old.push_copy(&mut self.spare, claimer, spaces, Kind::Nursery, words, true);
+        }
+        self.aged.push_copy(
+            &mut self.spare,
+            claimer,
+            spaces,
+            Kind::Nursery,
+            words,
+            false,
+        )
     }
 }
 
@@ -174,7 +212,8 @@ impl Ahead {
     // None was read.
     #[inline(always)]
     fn new() -> Self
-        ensures { result.count ≡ 0 }
+        ensures first { result.first ≡ 0 }
+        ensures count { result.count ≡ 0 }
     {
         Ahead {
             words: [[0; WORDS]; NEAR],
@@ -194,7 +233,7 @@ impl Ahead {
         ensures before { self.new.first ≤ k }
         ensures there { k < self.new.first + self.new.count }
     {
-        if k < self.first + self.count {
+        if k - self.first < self.count {
             return;
         }
         self.first = k;
