@@ -1,5 +1,5 @@
 -- Won cells that are read before they are scanned.
-use Rattle.std.proofs.Common.{◌≡◌, ℕ, ◌<◌, ◌≤◌, ◌+◌, List, [], length, get_or, set, sym, ap, subst, arith, ◌∙◌, ⊎_elim}
+use Rattle.std.proofs.Common.{◌≡◌, ℕ, ◌<◌, ◌≤◌, ◌+◌, ◌-◌, List, [], length, get_or, set, sym, ap, subst, arith, ◌∙◌, ⊎_elim}
 use Rattle.std.proofs.lemmas.Bool.{cases_lt}
 use Rattle.std.proofs.lemmas.List.{get_or_append_left, get_or-set_same, get_or-set_other, length-append}
 use Rattle.tg_space.specs.SpaceList.{SpaceList}
@@ -25,9 +25,6 @@ module _ (h : SpaceList) {Fixed : Type 0} {reason : Win → Type 0} {a b : Walke
   inside : k + i < length a.won
   inside = omega (arith, read.within, more)
 
-  pub still_inside : k + i < length b.won
-  still_inside = omega (arith, inside, ap (λ (l : List Win). length l) adds.is ∙ length-append a.won adds.added)
-
   pub still_read : get_or near i [] ≡ cell_numbered h (win_at b.won (k + i)).cell
   still_read =
       read.words i more ∙
@@ -49,3 +46,9 @@ has_read_still h {a = a} {b = b} adds ahead has = record {
     words = still_read h adds ahead.first ahead.count ahead.words has.read;
   };
 }
+
+-- the words of the n-th won cell, which was read ahead
+pub read_ahead : (h : SpaceList) (won : List Win) (ahead : Ahead) (n : ℕ) → ahead.first ≤ n → n < ahead.first + ahead.count → HasRead h won ahead → get_or ahead.words (n - ahead.first) [] ≡ cell_numbered h (win_at won n).cell
+read_ahead h won ahead n before there has =
+    let same : ahead.first + (n - ahead.first) ≡ n = omega (arith, before) in
+    has.read.words (n - ahead.first) (omega (arith, before, there)) ∙ ap (λ (k : ℕ). cell_numbered h (win_at won k).cell) same

@@ -2,6 +2,7 @@ pub mod Win
 pub mod Claims
 pub mod Claimers
 pub mod Copies
+pub mod Lending
 pub mod Room
 pub mod Walks
 pub mod Collects

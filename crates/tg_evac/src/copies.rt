@@ -1,15 +1,16 @@
 //! The scan of won cells: each is copied, and what it names is claimed, until none is left.
-ghost use Rattle.std.specs.Prelude.{◌≡◌, ◌↔◌, ℕ, ◌+◌, ◌<◌, ◌≤◌, ◌==◌, ◌^◌, ◌-◌, true, false, [], IfOk, OnOk, length, slice_index_or};
+ghost use Rattle.std.specs.Prelude.{◌≡◌, ◌↔◌, ℕ, ◌+◌, ◌<◌, ◌≤◌, ◌-◌, ◌==◌, ◌^◌, true, false, [], IfOk, OnOk, length, slice_index_or};
+ghost use Rattle.std.specs.Borrow.{sem};
 ghost use Rattle.tg_space.specs.SpaceList.{IsSpace, cells_of};
 ghost use Rattle.tg_space.specs.Soundness.{IsPointer};
 ghost use Rattle.tg_space.specs.Targets.{cell_numbered, from_space, named_by, pointers_of};
-ghost use Rattle.std.specs.Borrow.{sem};
 ghost use Rattle.std.specs.List.{All};
 ghost use Rattle.tg_word.specs.declared.TheConstants.{MOST_SPACE_CELLS};
 ghost use Rattle.tg_word.specs.Word.{place_in};
 ghost use Rattle.tg_evac.specs.Claims.{win_at, won_in};
 ghost use Rattle.tg_evac.specs.Copies.{HoldCells};
 ghost use Rattle.tg_evac.specs.Claimers.{AddsCopy, AreRead};
+ghost use Rattle.tg_evac.specs.Lending.{LendsBlocks};
 ghost use Rattle.tg_evac.specs.Reads.{HasRead};
 ghost use Rattle.tg_evac.specs.Walks.{ClaimsAll, IsTableFor, IsUnderWay, Scans};
 
@@ -106,7 +107,6 @@ impl Copies {
         words: &[u64; WORDS],
         is_in_old: bool,
     ) -> Result<(), CollectFault>
-        requires full { kind ≡ Kind.Full → is_in_old ≡ true }
         requires old_room { is_in_old ≡ true → length self.now.old < MOST_SPACE_CELLS }
         requires aged_room { is_in_old ≡ false → length self.now.aged < MOST_SPACE_CELLS }
         requires pointers { All (IsPointer spaces.now.spaces) (pointers_of words.now) }
@@ -118,48 +118,35 @@ impl Copies {
         ensures aged_kept { is_in_old ≡ true → self.exit.now.aged ≡ self.entry.now.aged }
         ensures scanned { self.exit.now.scanned ≡ self.entry.now.scanned }
     {
-        match kind {
-            Kind::Full => self
-                .old
-                .push_copy(&mut self.spare, claimer, spaces, kind, words, true),
-            Kind::Nursery => self.push_young(claimer, spaces, words, is_in_old),
-        }
+        let mut both = Both {
+            old: &mut self.old,
+            aged: &mut self.aged,
+        };
+        both.blocks_in(is_in_old)
+            .push_copy(&mut self.spare, claimer, spaces, kind, words, is_in_old)
     }
+}
 
-    // The same in a nursery collection.
-    //
-    // It is a call of its own, so that the scan of a full collection, which has no copy in Aged, is small enough to be compiled into
-    // the walk.
-    #[inline(never)]
-    fn push_young<C: Claimer>(
-        &mut self,
-        claimer: &mut C,
-        spaces: &Spaces,
-        words: &[u64; WORDS],
-        is_in_old: bool,
-    ) -> Result<(), CollectFault>
-        requires old_room { is_in_old ≡ true → length self.now.old < MOST_SPACE_CELLS }
-        requires aged_room { is_in_old ≡ false → length self.now.aged < MOST_SPACE_CELLS }
-        requires pointers { All (IsPointer spaces.now.spaces) (pointers_of words.now) }
-        requires table { IsTableFor Kind.Nursery spaces.now.spaces (C.walked claimer.old) }
-        ensures claims { ClaimsAll C.walked C.knows C.is_full spaces.now.spaces is_in_old (named_by (from_space (C.walked claimer.old).kind) spaces.now.spaces (pointers_of words.now)) claimer.old claimer.new result }
-        ensures old { OnOk result (is_in_old ≡ true → AddsCopy (C.walked claimer.old).kind spaces.now.spaces (C.knows claimer.new) words.now self.entry.now.old self.exit.now.old) }
-        ensures old_kept { is_in_old ≡ false → self.exit.now.old ≡ self.entry.now.old }
-        ensures aged { OnOk result (is_in_old ≡ false → AddsCopy (C.walked claimer.old).kind spaces.now.spaces (C.knows claimer.new) words.now self.entry.now.aged self.exit.now.aged) }
-        ensures aged_kept { is_in_old ≡ true → self.exit.now.aged ≡ self.entry.now.aged }
-        ensures scanned { self.exit.now.scanned ≡ self.entry.now.scanned }
+// The blocks of both spaces. A copy goes to those of one, so that what puts it there is compiled once.
+#[derive(Drop)]
+struct Both<'a> {
+    old: &'a mut NewBlocks,
+    aged: &'a mut NewBlocks,
+}
+
+impl<'a> Both<'a> {
+    // The blocks of Old, or of Aged.
+    #[inline(always)]
+    fn blocks_in(&mut self, is_in_old: bool) -> &mut NewBlocks
+        ensures* writes_back { sem 𝓛 (LendsBlocks self.entry is_in_old result) }
+        ensures old { is_in_old ≡ true → result.now ≡ self.entry.now.old.now }
+        ensures aged { is_in_old ≡ false → result.now ≡ self.entry.now.aged.now }
     {
         if is_in_old {
-            return self.old.push_copy(&mut self.spare, claimer, spaces, Kind::Nursery, words, true);
+            &mut *self.old
+        } else {
+            &mut *self.aged
         }
-        self.aged.push_copy(
-            &mut self.spare,
-            claimer,
-            spaces,
-            Kind::Nursery,
-            words,
-            false,
-        )
     }
 }
 

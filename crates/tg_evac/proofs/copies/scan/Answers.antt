@@ -1,8 +1,9 @@
-use Rattle.std.proofs.Common.{arith, ℕ, ◌≤◌, Ok, sym, subst}
+use Rattle.std.proofs.Common.{arith, ℕ, ◌≤◌, Ok, sym, ap, subst, ◌∙◌}
+use Rattle.tg_space.specs.Targets.{cell_numbered}
 use Rattle.tg_evac.specs.Reads.{HasRead}
 use Rattle.tg_evac.specs.Walks.{Scans}
 use Rattle.tg_evac.specs.declared.copies.Ahead.{Ahead}
-use Rattle.tg_evac.proofs.Reading.{has_read_none, has_read_still}
+use Rattle.tg_evac.proofs.Reading.{has_read_none, has_read_still, read_ahead}
 use Rattle.tg_evac.proofs.Scanning.{scans_both, scans_none, scans_refused, still_under_way}
 use Rattle.tg_evac.proofs.copies.scan.Goals as goal
 use Rattle.tg_evac.proofs.copies.scan.Goals.{in-Each, in-Ahead}
@@ -36,6 +37,16 @@ returns-in_err-scan_next-clause-scans g c = let m = g.C.Claimer in scans_refused
 
 pub scan_next-requires-clause-walk : goal.scan_next-requires-clause-walk
 scan_next-requires-clause-walk g c = let m = g.C.Claimer in still_under_way m.walked m.knows m.is_full c.loop-next.invariant.scans c.requires
+
+pub scan_next-requires-clause-words : goal.scan_next-requires-clause-words
+scan_next-requires-clause-words g c =
+    let h = c.args.spaces.now.spaces in let won = (g.C.Claimer.walked c.loop-next.claimer).won in let n = c.loop-next.next in
+    elim c.match-reads.branch [
+      | in-Each w ↦ ap (λ r. r.now) w.words-is ∙ w.words_near-words.ensures.words ∙ ap (cell_numbered h) w.won_cell.ensures.cell
+      | in-Ahead w ↦
+          ap (λ r. r.now) w.words-is ∙ w.words-words.ensures ∙
+          read_ahead h won w.read.new.self n w.read.ensures.before w.read.ensures.there w.read.ensures.read
+    ]
 
 pub returns-clause-ended : goal.returns-clause-ended
 returns-clause-ended g c = let within = c.loop-next.invariant.scans.copies.within in omega arith

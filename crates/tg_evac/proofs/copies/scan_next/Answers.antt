@@ -1,16 +1,12 @@
-use Rattle.std.proofs.Common.{eq-eqb, ℕ, ◌≡◌, ◌<◌, List, ◌^◌, [], length, refl, sym, subst, arith, lit<, ◌∙◌, ⊎_elim}
+use Rattle.std.proofs.Common.{ℕ, List, ◌^◌, [], length, refl, sym, subst, arith, lit<, ◌∙◌, ⊎_elim}
 use Rattle.std.specs.List.{All}
 use Rattle.std.proofs.lemmas.Bool.{cases_lt}
 use Rattle.std.proofs.lemmas.List.{get_or_past}
 use Rattle.std.proofs.lemmas.List.Elements.{All-nil, Contains-get_or}
-use Rattle.tg_word.specs.Word.{place_in}
 use Rattle.tg_space.specs.Soundness.{IsPointer}
 use Rattle.tg_space.specs.SpaceList.{SpaceList, cells_of}
 use Rattle.tg_space.specs.Targets.{cell_numbered, pointers_of}
 use Rattle.tg_space.specs.declared.kind.Kind.{Kind}
-use Rattle.tg_space.specs.declared.kind.Kind.TheVariants.{Full}
-use Rattle.tg_space.specs.declared.root.Root.{Root}
-use Rattle.tg_evac.specs.Claimers.{Walked}
 use Rattle.tg_evac.specs.Claims.{AreTraced, HavePointers, win_at}
 use Rattle.tg_evac.proofs.Reasons.{all_in_old}
 use Rattle.tg_evac.proofs.Pieces.{scan_copied, scan_keeps, scan_room, scan_traced, straight_aged, straight_old}
@@ -48,19 +44,11 @@ push_copy-requires-clause-aged_room g c isnt =
     let other = straight_aged h n w straight source so c.requires.next refl is_old c.requires.words isnt in
     scan_room h n w straight source so c.requires.next refl is_old c.requires.words 1 (2 ^ 26) c.args.copies.now.aged so.aged_long (c.requires.room 1 (lit< tt)) (omega arith)
 
--- all that a full collection has won is in Old
-won_in_old : (h : SpaceList) {Fixed : Type 0} (w : Walked Fixed) → (roots : List Root) × AreTraced w.kind h roots w.won → w.kind ≡ Full → (k : ℕ) → k < length w.won → (place_in (win_at w.won k).word).space ≡ 0
-won_in_old h w traced full k next =
-    let all = subst (λ (kind : Kind). AreTraced kind h traced.0 w.won) full traced.1 in
-    all_in_old h traced.0 w.won all (win_at w.won k) (Contains-get_or w.won k (win_at [] 0) next)
-
 pub is_in_old-straight-requires-clause-full : goal.is_in_old-straight-requires-clause-full
-is_in_old-straight-requires-clause-full g c full = won_in_old c.args.spaces.now.spaces (g.C.Claimer.walked c.args.claimer.now) c.requires.walk.traced (c.requires.walk.walk.table.same ∙ full) c.args.k c.requires.next
-
-pub push_copy-requires-clause-full : goal.push_copy-requires-clause-full
-push_copy-requires-clause-full g c full =
-    let w = win_at (g.C.Claimer.walked c.args.claimer.now).won c.args.k in
-    c.is_in_old-straight.ensures.space ∙ eq-eqb (place_in w.word).space 0 (won_in_old c.args.spaces.now.spaces (g.C.Claimer.walked c.args.claimer.now) c.requires.walk.traced (c.requires.walk.walk.table.same ∙ full) c.args.k c.requires.next)
+is_in_old-straight-requires-clause-full g c full =
+    let h = c.args.spaces.now.spaces in let won = (g.C.Claimer.walked c.args.claimer.now).won in let n = c.args.k in
+    let traced = subst (λ (k : Kind). AreTraced k h c.requires.walk.traced.0 won) (c.requires.walk.walk.table.same ∙ full) c.requires.walk.traced.1 in
+    all_in_old h c.requires.walk.traced.0 won traced (win_at won n) (Contains-get_or won n (win_at [] 0) c.requires.next)
 
 -- what stands behind the last cell has no words
 pointers_numbered : (h : SpaceList) → HavePointers h → (n : ℕ) → All (IsPointer h) (pointers_of (cell_numbered h n))
