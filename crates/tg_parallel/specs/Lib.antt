@@ -4,3 +4,4 @@ pub mod Helping
 pub mod Merged
 pub mod Whole
 pub mod Faults
+pub mod Lending
