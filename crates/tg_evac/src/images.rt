@@ -34,7 +34,7 @@ pub fn move_cell<C: Claimer>(
     match cell[0] {
         OBJECT_TAG => move_from(claimer, spaces, kind, straight, OBJECT_POINTERS, cell),
         CHUNK_TAG => move_from(claimer, spaces, kind, straight, CHUNK_POINTERS, cell),
-        _ => move_from(claimer, spaces, kind, straight, WORDS, cell),
+        _ => Ok(()),
     }
 }
 
