@@ -1,9 +1,9 @@
 //! The worked rows of words, nurseries, flat numbers and adoption.
 use std::alloc::Global;
 use std::test::Fail;
-use tg_nursery::{AllocateFault, allocate};
+use tg_nursery::allocate;
 use tg_rights::{Right, Rights};
-use tg_space::{Adoption, Kind, Limits, Space, Spaces};
+use tg_space::{Adoption, Kind, Limits, RoomFault, Space, Spaces};
 use tg_word::{Place, Slot, pack, unpack};
 
 // The spaces of two nurseries, with two blocks of two: 64 cells were allocated in nursery 0, and then one in nursery 1.
@@ -36,7 +36,7 @@ fn is_next(spaces: &mut Spaces, nursery: u64, cell: u64) -> bool {
 }
 
 // The next cell of the nursery, where there is such a nursery.
-fn next_cell(spaces: &mut Spaces, nursery: u64) -> Option<Result<Place, AllocateFault>> {
+fn next_cell(spaces: &mut Spaces, nursery: u64) -> Option<Result<Place, RoomFault>> {
     if nursery > 1 || spaces.nurseries() != 2 {
         return None;
     }
@@ -102,7 +102,7 @@ fn words_off_the_layout(rt: HostRuntime) {
 }
 
 // What is answered for another cell of nursery 0 once it is full, and how many blocks there are then.
-fn next_of_full(alloc: Global) -> Result<(Option<Result<Place, AllocateFault>>, u64), Fail> {
+fn next_of_full(alloc: Global) -> Result<(Option<Result<Place, RoomFault>>, u64), Fail> {
     let mut spaces = filled(alloc)?;
     let next = next_cell(&mut spaces, 0);
     Ok((next, spaces.blocks()))
@@ -111,7 +111,7 @@ fn next_of_full(alloc: Global) -> Result<(Option<Result<Place, AllocateFault>>, 
 #[test]
 fn nurseries_fill_and_refuse(rt: HostRuntime) -> Result<(), Fail> {
     let seen = next_of_full(rt.alloc())?;
-    assert_eq!(rt; seen, (Some(Err(AllocateFault::HeapFull)), 2));
+    assert_eq!(rt; seen, (Some(Err(RoomFault::HeapFull)), 2));
     Ok(())
 }
 

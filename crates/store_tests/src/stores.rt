@@ -12,8 +12,8 @@ use tg_model::{Cause, Command, Denial, Law, Numbers, Opening, Reply, Rule, Value
 use tg_payload::{CellPayload, Draft, LogPayload, Payload, PayloadBox};
 use tg_rights::{Label, Right, Rights};
 use tg_store::{
-    ApplyFault, Census, CollectFault, CreateFault, CreateRefused, Kind, Limits, OpenFault,
-    OpenRefused, Store,
+    ApplyFault, Census, CreateFault, CreateRefused, Kind, Limits, OpenFault, OpenRefused,
+    RoomFault, Store,
 };
 
 // A cell with the number.
@@ -214,7 +214,7 @@ fn fill<P: Payload>(
 }
 
 // Why a collection of the kind is refused.
-fn why_not_collected<P: Payload>(store: &mut Store<P>, kind: Kind) -> Option<CollectFault> {
+fn why_not_collected<P: Payload>(store: &mut Store<P>, kind: Kind) -> Option<RoomFault> {
     store.collect(kind).err()
 }
 
@@ -224,7 +224,7 @@ fn fill_and_collect<P: Payload>(
     alloc: Global,
     store: &mut Store<P>,
     payloads: Vec<P>,
-) -> Option<(u64, CreateFault, CollectFault, CollectFault, Census)> {
+) -> Option<(u64, CreateFault, RoomFault, RoomFault, Census)> {
     let (last, why) = fill(alloc, store, payloads)?;
     let full = why_not_collected(store, Kind::Full)?;
     let nursery = why_not_collected(store, Kind::Nursery)?;
@@ -242,7 +242,7 @@ fn filled<P: Payload>(
     alloc: Global,
     workers: (P, P),
     payloads: Vec<P>,
-) -> Option<(u64, CreateFault, CollectFault, CollectFault, Census)> {
+) -> Option<(u64, CreateFault, RoomFault, RoomFault, Census)> {
     let mut store = open_small(alloc, workers)?;
     let seen = fill_and_collect(alloc, &mut store, payloads);
     drop(store);
@@ -262,7 +262,7 @@ fn cell_boxes(alloc: Global, number: u64) -> Option<Vec<PayloadBox>> {
 fn filled_with_boxes(
     alloc: Global,
     number: u64,
-) -> Option<(u64, CreateFault, CollectFault, CollectFault, Census)> {
+) -> Option<(u64, CreateFault, RoomFault, RoomFault, Census)> {
     let payloads = cell_boxes(alloc, number)?;
     filled(alloc, (cell_box(alloc, 0)?, cell_box(alloc, 0)?), payloads)
 }
@@ -275,7 +275,7 @@ fn one_block_a_space(rt: HostRuntime) -> Result<(), Fail> {
         payloads: 56,
         blocks: 2,
     };
-    let full = CollectFault::HeapFull;
+    let full = RoomFault::HeapFull;
     assert_eq!(rt; seen, (55, CreateFault::HeapFull, full, full, counts));
     Ok(())
 }

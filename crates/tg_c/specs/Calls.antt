@@ -23,8 +23,8 @@ use Rattle.tg_graph.specs.Heap.{content_of, nursery_of}
 use Rattle.tg_graph.specs.Shown.{shown_in}
 use Rattle.tg_graph.specs.Spots.{LacksCellsFor}
 use Rattle.tg_rules.specs.Effect.{AddsEdge, LacksCellsToServe}
-use Rattle.tg_evac.specs.declared.fault.CollectFault.{CollectFault}
-use Rattle.tg_evac.specs.declared.fault.CollectFault.TheVariants as collect
+use Rattle.tg_space.specs.declared.room_fault.RoomFault.{RoomFault}
+use Rattle.tg_space.specs.declared.room_fault.RoomFault.TheVariants as no_room
 use Rattle.tg_journal.specs.declared.entry.Entry.{Entry}
 use Rattle.tg_journal.specs.declared.replay.AuditFault.{AuditFault}
 use Rattle.tg_journal.specs.declared.replay.AuditFault.TheVariants as audit
@@ -207,10 +207,10 @@ pub record MakesOfForms (makes : StorePlace → StorePlace → ℕ → RightSet 
 -- ---- collections
 
 -- the answer to a collection: the clauses of the store's `collect`
-pub record Collects (kind : Kind) (old new : StoreState) (answer : Result ℕ CollectFault) : Type 0 where
+pub record Collects (kind : Kind) (old new : StoreState) (answer : Result ℕ RoomFault) : Type 0 where
   pub swept : IfOk answer (IsSwept kind old new)
   pub blocks : OnOk answer (HasFewBlocks kind 0 old.heap.table new.heap.table)
-  pub full : answer ≡ Err collect.HeapFull → LacksRoomToCollect kind 1 old.heap
+  pub full : answer ≡ Err no_room.HeapFull → LacksRoomToCollect kind 1 old.heap
   pub history : KeepsHistory old new answer
 
 abbrev pub Sweeps : StorePlace → StorePlace → Kind → (Result ℕ CallRefusal → Type 0) → Type 0

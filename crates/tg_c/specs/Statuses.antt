@@ -11,8 +11,8 @@ use Rattle.tg_store.specs.declared.fault.ApplyFault.{ApplyFault}
 use Rattle.tg_store.specs.declared.fault.ApplyFault.TheVariants as apply
 use Rattle.tg_store.specs.declared.fault.CreateFault.{CreateFault}
 use Rattle.tg_store.specs.declared.fault.CreateFault.TheVariants as create
-use Rattle.tg_evac.specs.declared.fault.CollectFault.{CollectFault}
-use Rattle.tg_evac.specs.declared.fault.CollectFault.TheVariants as collect
+use Rattle.tg_space.specs.declared.room_fault.RoomFault.{RoomFault}
+use Rattle.tg_space.specs.declared.room_fault.RoomFault.TheVariants as no_room
 use Rattle.tg_journal.specs.declared.entry.Entry.{Entry}
 use Rattle.tg_journal.specs.declared.replay.AuditFault.{AuditFault}
 use Rattle.tg_journal.specs.declared.replay.AuditFault.TheVariants as audit
@@ -72,9 +72,9 @@ of_create create.WorkersFull = refusal.WorkersFull
 of_create create.OutOfMemory = refusal.OutOfMemory
 of_create create.HeapFull = refusal.HeapFull
 
-abbrev pub of_collect : CollectFault → CallRefusal
-of_collect collect.OutOfMemory = refusal.OutOfMemory
-of_collect collect.HeapFull = refusal.HeapFull
+abbrev pub of_collect : RoomFault → CallRefusal
+of_collect no_room.OutOfMemory = refusal.OutOfMemory
+of_collect no_room.HeapFull = refusal.HeapFull
 
 abbrev pub of_audit : AuditFault → CallRefusal
 of_audit audit.OutOfMemory = refusal.OutOfMemory

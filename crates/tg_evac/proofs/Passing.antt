@@ -7,8 +7,8 @@ use Rattle.tg_evac.specs.Win.{Win}
 use Rattle.tg_word.specs.declared.Place.{Place}
 use Rattle.tg_space.specs.declared.root.Root.{Root}
 use Rattle.tg_evac.specs.declared.collect.Copied.{Copied}
-use Rattle.tg_evac.specs.declared.fault.CollectFault.{CollectFault}
-use Rattle.tg_evac.specs.declared.fault.CollectFault.TheVariants.{HeapFull}
+use Rattle.tg_space.specs.declared.room_fault.RoomFault.{RoomFault}
+use Rattle.tg_space.specs.declared.room_fault.RoomFault.TheVariants.{HeapFull}
 use Rattle.tg_evac.specs.Claims.{IsClaimOf}
 use Rattle.tg_evac.specs.Claimers.{AddsWins, KeepsWins, KnowsMore, Walked}
 use Rattle.tg_evac.specs.Collects.{Collects}
@@ -44,12 +44,12 @@ walk_still adds is = record { pointers = is.pointers; table = table_still adds i
 
 module _ {Table Fixed : Type 0} (walked : Table → Walked Fixed) (knows : Table → (ℕ → Place) → Type 0) (is_full : Table → Type 0) {before after : Table} where
   -- what was claimed till a claim was refused
-  pub claims_refused : {T : Type 0} {h : SpaceList} {straight : Bool} {cells : List ℕ} (r : Result T CollectFault) (fault : CollectFault) → IsErrAnd r (λ x. x ≡ fault) →
+  pub claims_refused : {T : Type 0} {h : SpaceList} {straight : Bool} {cells : List ℕ} (r : Result T RoomFault) (fault : RoomFault) → IsErrAnd r (λ x. x ≡ fault) →
       AddsWins (IsClaimOf h straight cells) (walked before) (walked after) → KnowsMore (knows before) (knows after) → (fault ≡ HeapFull → is_full after) → ClaimsAll walked knows is_full h straight cells before after r
   claims_refused (Ok x) fault same added grows full = absurd same
   claims_refused (Err x) fault same added grows full = record { added = added; grows = grows; met = tt; full = λ is. full (sym same ∙ is) }
 
   -- what was won till then
-  pub goes_refused : {T : Type 0} (r : Result T CollectFault) (fault : CollectFault) → IsErrAnd r (λ x. x ≡ fault) →
+  pub goes_refused : {T : Type 0} (r : Result T RoomFault) (fault : RoomFault) → IsErrAnd r (λ x. x ≡ fault) →
       KeepsWins (walked before) (walked after) → KnowsMore (knows before) (knows after) → (fault ≡ HeapFull → is_full after) → GoesOn walked knows is_full before after r
   goes_refused r fault same keeps grows full = record { keeps = keeps; grows = grows; full = passed_on r (λ x. x ≡ HeapFull → is_full after) fault same full }

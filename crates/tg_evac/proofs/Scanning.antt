@@ -3,7 +3,7 @@ use Rattle.std.proofs.Common.{◌≡◌, ℕ, List, sym, subst, ◌∙◌, Ok, E
 use Rattle.tg_word.specs.declared.Place.{Place}
 use Rattle.tg_space.specs.SpaceList.{SpaceList}
 use Rattle.tg_space.specs.declared.kind.Kind.{Kind}
-use Rattle.tg_evac.specs.declared.fault.CollectFault.{CollectFault}
+use Rattle.tg_space.specs.declared.room_fault.RoomFault.{RoomFault}
 use Rattle.tg_evac.specs.Win.{Win}
 use Rattle.tg_evac.specs.Claims.{AreTraced}
 use Rattle.tg_evac.specs.Claimers.{Walked}
@@ -20,7 +20,7 @@ module _ {Table Fixed : Type 0} (walked : Table → Walked Fixed) (knows : Table
     copies = under.copies;
   }
 
-  pub scans_both : {T : Type 0} {a b c : Table} {m n : ℕ} {aged old aged_after old_after : List (List ℕ)} {result : Result T CollectFault} →
+  pub scans_both : {T : Type 0} {a b c : Table} {m n : ℕ} {aged old aged_after old_after : List (List ℕ)} {result : Result T RoomFault} →
       Scans walked knows is_full h a b m aged old (Ok (tt {0})) → Scans walked knows is_full h b c n aged_after old_after result → Scans walked knows is_full h a c n aged_after old_after result
   scans_both {b = b} {c = c} one two = record {
     goes = record { keeps = wins_then one.goes.keeps two.goes.keeps; grows = λ to agrees. one.goes.grows to (two.goes.grows to agrees); full = two.goes.full };
@@ -39,7 +39,7 @@ module _ {Table Fixed : Type 0} (walked : Table → Walked Fixed) (knows : Table
   }
 
   -- the fault goes on to the caller
-  pub scans_refused : {T U : Type 0} {a b : Table} {m n : ℕ} {aged old aged_after old_after : List (List ℕ)} (result : Result T CollectFault) (fault : CollectFault) → IsErrAnd result (λ x. x ≡ fault) →
+  pub scans_refused : {T U : Type 0} {a b : Table} {m n : ℕ} {aged old aged_after old_after : List (List ℕ)} (result : Result T RoomFault) (fault : RoomFault) → IsErrAnd result (λ x. x ≡ fault) →
       Scans {T = U} walked knows is_full h a b m aged old (Err fault) → Scans walked knows is_full h a b n aged_after old_after result
   scans_refused (Ok x) fault same scans = absurd same
   scans_refused (Err x) fault same scans = record {

@@ -11,8 +11,8 @@ use Rattle.tg_space.specs.Soundness.{IsRootIn}
 use Rattle.tg_space.specs.Targets.{all_root_targets, from_space}
 use Rattle.tg_space.specs.declared.kind.Kind.{Kind}
 use Rattle.tg_space.specs.declared.root.Root.{Root}
-use Rattle.tg_evac.specs.declared.fault.CollectFault.{CollectFault}
-use Rattle.tg_evac.specs.declared.fault.CollectFault.TheVariants.{HeapFull}
+use Rattle.tg_space.specs.declared.room_fault.RoomFault.{RoomFault}
+use Rattle.tg_space.specs.declared.room_fault.RoomFault.TheVariants.{HeapFull}
 use Rattle.tg_evac.specs.Claims.{AreTraced, Claimed, HasFilledRoom, HavePointers, IsClaimOf, IsWinFor}
 use Rattle.tg_evac.specs.Claimers.{AddsWins, AreScanned, IsLink, KeepsWins, KnowsMore, Walked, walked_of}
 
@@ -26,7 +26,7 @@ pub record MayClaim {Fixed : Type 0} (w : Walked Fixed) (cell space : ℕ) : Typ
 
 -- the cell has a place, whose word is answered: a new one in the space, unless it had one
 pub record ClaimsCell {Table Fixed : Type 0} (walked : Table → Walked Fixed) (knows : Table → (ℕ → Place) → Type 0) (is_full : Table → Type 0)
-    (cell space : ℕ) (before after : Table) (result : Result ℕ CollectFault) : Type 0 where
+    (cell space : ℕ) (before after : Table) (result : Result ℕ RoomFault) : Type 0 where
   pub added : AddsWins (IsWinFor cell space) (walked before) (walked after)
   pub grows : KnowsMore (knows before) (knows after)
   pub met : OnOk result (Contains (walked after).met cell)
@@ -35,7 +35,7 @@ pub record ClaimsCell {Table Fixed : Type 0} (walked : Table → Walked Fixed) (
   pub full : IfErr result (λ fault. fault ≡ HeapFull → is_full after)
 
 -- the plain table has a pair of the cell with the word that is answered
-pub record HasClaimed (cell space : ℕ) (before after : Claimed) (result : Result ℕ CollectFault) : Type 0 where
+pub record HasClaimed (cell space : ℕ) (before after : Claimed) (result : Result ℕ RoomFault) : Type 0 where
   pub added : AddsWins (IsWinFor cell space) (walked_of before) (walked_of after)
   pub held : IfOk result (λ word. Contains after.won (record { cell = cell; word = word }))
   pub link : IfOk result IsLink
@@ -56,7 +56,7 @@ pub record MayWalk {Fixed : Type 0} (kind : Kind) (h : SpaceList) (w : Walked Fi
 
 -- these cells have places, to which they go straight or not, and nothing else was claimed
 pub record ClaimsAll {Table Fixed T : Type 0} (walked : Table → Walked Fixed) (knows : Table → (ℕ → Place) → Type 0) (is_full : Table → Type 0)
-    (h : SpaceList) (straight : Bool) (cells : List ℕ) (before after : Table) (result : Result T CollectFault) : Type 0 where
+    (h : SpaceList) (straight : Bool) (cells : List ℕ) (before after : Table) (result : Result T RoomFault) : Type 0 where
   pub added : AddsWins (IsClaimOf h straight cells) (walked before) (walked after)
   pub grows : KnowsMore (knows before) (knows after)
   pub met : OnOk result (All (Contains (walked after).met) cells)
@@ -73,14 +73,14 @@ pub record IsUnderWay {Table Fixed : Type 0} (walked : Table → Walked Fixed) (
 
 -- more was won, and nothing that is known is forgotten
 pub record GoesOn {Table Fixed T : Type 0} (walked : Table → Walked Fixed) (knows : Table → (ℕ → Place) → Type 0) (is_full : Table → Type 0)
-    (before after : Table) (result : Result T CollectFault) : Type 0 where
+    (before after : Table) (result : Result T RoomFault) : Type 0 where
   pub keeps : KeepsWins (walked before) (walked after)
   pub grows : KnowsMore (knows before) (knows after)
   pub full : IfErr result (λ fault. fault ≡ HeapFull → is_full after)
 
 -- and it is traced from the roots from which what was won before is; then so many are scanned
 pub record Scans {Table Fixed T : Type 0} (walked : Table → Walked Fixed) (knows : Table → (ℕ → Place) → Type 0) (is_full : Table → Type 0)
-    (h : SpaceList) (before after : Table) (scanned : ℕ) (aged old : List (List ℕ)) (result : Result T CollectFault) : Type 0 where
+    (h : SpaceList) (before after : Table) (scanned : ℕ) (aged old : List (List ℕ)) (result : Result T RoomFault) : Type 0 where
   pub goes : GoesOn walked knows is_full before after result
   pub traced : (roots : List Root) → AreTraced (walked before).kind h roots (walked before).won → AreTraced (walked before).kind h roots (walked after).won
   pub copies : OnOk result (AreScanned h (walked after) (knows after) scanned aged old)
@@ -97,7 +97,7 @@ pub record MayWalkAlong {Table Fixed : Type 0} (walked : Table → Walked Fixed)
 
 -- what the roots name is met, and all that was won is traced from them and scanned
 pub record WalksAlong {Table Fixed T : Type 0} (walked : Table → Walked Fixed) (knows : Table → (ℕ → Place) → Type 0) (is_full : Table → Type 0)
-    (h : SpaceList) (along : List Root) (before after : Table) (count : ℕ) (aged old : List (List ℕ)) (result : Result T CollectFault) : Type 0 where
+    (h : SpaceList) (along : List Root) (before after : Table) (count : ℕ) (aged old : List (List ℕ)) (result : Result T RoomFault) : Type 0 where
   pub traced : (all : List Root) → ((root : Root) → Contains along root → Contains all root) → AreTraced (walked before).kind h all (walked before).won → AreTraced (walked before).kind h all (walked after).won
   pub goes : GoesOn walked knows is_full before after result
   pub met : OnOk result (All (Contains (walked after).met) (all_root_targets (from_space (walked before).kind) h along))

@@ -7,7 +7,7 @@ ghost use Rattle.tg_evac.specs.Claims.{win_at, won_in};
 ghost use Rattle.tg_evac.specs.Claimers.{Walked};
 ghost use Rattle.tg_evac.specs.Walks.{ClaimsCell, MayClaim};
 
-use crate::fault::CollectFault;
+use tg_space::RoomFault;
 
 /// A table in which cells are claimed, each for one new place.
 ///
@@ -47,7 +47,7 @@ pub trait Claimer {
     /// The word of the place of a cell: a new one in a space, unless it has one.
     ///
     /// It may be refused with `OutOfMemory`, or with `HeapFull` where the space has no room.
-    fn claim(&mut self, cell: u64, space: u64) -> Result<u64, CollectFault>
+    fn claim(&mut self, cell: u64, space: u64) -> Result<u64, RoomFault>
         requires { MayClaim (walked self.old) cell space }
         ensures { ClaimsCell walked knows is_full cell space self.old self.new result };
 }

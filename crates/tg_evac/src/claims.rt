@@ -8,11 +8,10 @@ ghost use Rattle.tg_evac.specs.Claimers.{HasPlacesOf, IsLink, walked_of};
 ghost use Rattle.tg_evac.specs.Walks.{HasClaimed, MayClaim};
 
 use crate::claimer::Claimer;
-use crate::fault::CollectFault;
 use crate::plan::Plan;
 use std::alloc::Global;
 use std::marker::Model;
-use tg_space::ForwardingTable;
+use tg_space::{ForwardingTable, RoomFault};
 use tg_word::{CELLS, OLD, link, place_of};
 
 /// What one collection has claimed: the forwarding word of each cell, and the cells that were won, in order.
@@ -44,14 +43,14 @@ impl Claims {
     /// No claim yet, over as many cells. Those of the blocks that stay have no forwarding word. The words of the others stand in the
     /// given room, as `ForwardingTable::new` says.
     #[inline(always)]
-    pub fn new(alloc: Global, cells: u64, plan: Plan, room: Vec<u64>) -> Result<Self, CollectFault>
+    pub fn new(alloc: Global, cells: u64, plan: Plan, room: Vec<u64>) -> Result<Self, RoomFault>
         requires room { plan.room ≤ MOST_SPACE_CELLS }
         requires kept { plan.kept ≤ MOST_SPACE_BLOCKS }
         requires within { CELLS * plan.kept ≤ cells }
         ensures won { IfOk result (λ claims. claims.won ≡ []) }
         ensures whole { IfOk result (λ claims. length claims.forward ≡ cells) }
         ensures plan { IfOk result (λ claims. claims.plan ≡ plan) }
-        ensures refused { IfErr result (λ fault. fault ≡ CollectFault.OutOfMemory) }
+        ensures refused { IfErr result (λ fault. fault ≡ RoomFault.OutOfMemory) }
     {
         let kept = CELLS * plan.kept;
         Ok(Claims {
@@ -107,7 +106,7 @@ impl Claims {
 
     // The word of the place of a cell: the next of a space, unless it has one.
     #[inline(always)]
-    fn claim_place(&mut self, cell: u64, space: u64) -> Result<u64, CollectFault>
+    fn claim_place(&mut self, cell: u64, space: u64) -> Result<u64, RoomFault>
         requires { MayClaim (walked_of self.old) cell space }
         ensures { HasClaimed cell space self.old self.new result }
     {
@@ -120,14 +119,14 @@ impl Claims {
 
     // Gives a cell the next place of a space, and answers its word.
     #[inline(always)]
-    fn give_place(&mut self, cell: u64, space: u64) -> Result<u64, CollectFault>
+    fn give_place(&mut self, cell: u64, space: u64) -> Result<u64, RoomFault>
         requires claim { MayClaim (walked_of self.old) cell space }
         requires none { slice_index self.old.forward cell ≡ 0 }
         ensures { HasClaimed cell space self.old self.new result }
     {
         let number = self.next[space as usize];
         if self.plan.room <= number {
-            return Err(CollectFault::HeapFull);
+            return Err(RoomFault::HeapFull);
         }
         let word = link(space, number);
         self.forward.set(cell, word);
@@ -162,7 +161,7 @@ impl Claimer for Claims {
     }
 
     #[inline(always)]
-    fn claim(&mut self, cell: u64, space: u64) -> Result<u64, CollectFault> {
+    fn claim(&mut self, cell: u64, space: u64) -> Result<u64, RoomFault> {
         self.claim_place(cell, space)
     }
 }

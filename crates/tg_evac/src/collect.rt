@@ -11,14 +11,13 @@ ghost use Rattle.tg_evac.specs.Walks.{MayWalk};
 
 use crate::claims::Claims;
 use crate::copies::{Copies, Reads};
-use crate::fault::CollectFault;
 use crate::from_roots::walk;
 use crate::notes::notes_of;
 use crate::plan::Plan;
 use std::alloc::Global;
 use tg_block::Block;
 use tg_remember::Remembered;
-use tg_space::{Adoption, Forwarding, Kind, Root, Spaces, Spare};
+use tg_space::{Adoption, Forwarding, Kind, RoomFault, Root, Spaces, Spare};
 
 /// What a collection hands over.
 #[derive(Drop)]
@@ -53,9 +52,9 @@ pub fn collect_one(
     roots: &[Root],
     kind: Kind,
     spare: Spare,
-) -> Result<Copied, CollectFault>
+) -> Result<Copied, RoomFault>
     requires { AreSound spaces.now.spaces roots.now }
-    ensures { Collects CollectFault.HeapFull kind spaces.now roots.now 0 1 result }
+    ensures { Collects RoomFault.HeapFull kind spaces.now roots.now 0 1 result }
 {
     match kind {
         Kind::Full => collect_full(alloc, spaces, roots, spare),
@@ -77,9 +76,9 @@ fn collect_full(
     spaces: &Spaces,
     roots: &[Root],
     spare: Spare,
-) -> Result<Copied, CollectFault>
+) -> Result<Copied, RoomFault>
     requires { AreSound spaces.now.spaces roots.now }
-    ensures { Collects CollectFault.HeapFull Kind.Full spaces.now roots.now 0 1 result }
+    ensures { Collects RoomFault.HeapFull Kind.Full spaces.now roots.now 0 1 result }
 {
     match Reads::of(spaces) {
         Reads::Each => collect_kind(alloc, spaces, roots, Kind::Full, Reads::Each, spare),
@@ -94,9 +93,9 @@ fn collect_ahead(
     spaces: &Spaces,
     roots: &[Root],
     spare: Spare,
-) -> Result<Copied, CollectFault>
+) -> Result<Copied, RoomFault>
     requires { AreSound spaces.now.spaces roots.now }
-    ensures { Collects CollectFault.HeapFull Kind.Full spaces.now roots.now 0 1 result }
+    ensures { Collects RoomFault.HeapFull Kind.Full spaces.now roots.now 0 1 result }
 {
     collect_kind(alloc, spaces, roots, Kind::Full, Reads::Ahead, spare)
 }
@@ -111,9 +110,9 @@ fn collect_kind(
     kind: Kind,
     reads: Reads,
     spare: Spare,
-) -> Result<Copied, CollectFault>
+) -> Result<Copied, RoomFault>
     requires { AreSound spaces.now.spaces roots.now }
-    ensures { Collects CollectFault.HeapFull kind spaces.now roots.now 0 1 result }
+    ensures { Collects RoomFault.HeapFull kind spaces.now roots.now 0 1 result }
 {
     let cells = spaces.cells();
     let plan = Plan::of(kind, spaces);
@@ -149,7 +148,7 @@ fn trace(
     reads: Reads,
     roots: &[Root],
     spare: Vec<Block>,
-) -> Result<Copies, CollectFault>
+) -> Result<Copies, RoomFault>
     requires walk { MayWalk kind spaces.now.spaces (walked_of claims.old) }
     requires roots { All (IsRootIn spaces.now.spaces) roots.now }
     requires none_yet { claims.old.won ≡ [] }
@@ -157,7 +156,7 @@ fn trace(
     ensures plan { claims.new.plan ≡ claims.old.plan }
     ensures aged { IfOk result (λ copies. (to : ℕ → PlaceOf) → HasPlacesOf claims.new.won to → copies.aged ≡ copies_to 1 claims.old.plan.kind spaces.now.spaces to claims.new.won) }
     ensures old { IfOk result (λ copies. (to : ℕ → PlaceOf) → HasPlacesOf claims.new.won to → copies.old ≡ copies_to 0 claims.old.plan.kind spaces.now.spaces to claims.new.won) }
-    ensures full { IfErr result (λ fault. fault ≡ CollectFault.HeapFull → HasFilledRoom claims.new × All (IsReachedFrom claims.old.plan.kind spaces.now.spaces roots.now) (cells_won claims.new.won)) }
+    ensures full { IfErr result (λ fault. fault ≡ RoomFault.HeapFull → HasFilledRoom claims.new × All (IsReachedFrom claims.old.plan.kind spaces.now.spaces roots.now) (cells_won claims.new.won)) }
 {
     let mut copies = Copies::new(alloc, spare)?;
     walk(claims, spaces, kind, reads, roots, &mut copies)?;

@@ -15,11 +15,10 @@ ghost use Rattle.tg_evac.specs.Reads.{HasRead};
 ghost use Rattle.tg_evac.specs.Walks.{ClaimsAll, IsTableFor, IsUnderWay, Scans};
 
 use crate::claimer::Claimer;
-use crate::fault::CollectFault;
 use crate::new_blocks::NewBlocks;
 use std::alloc::{AllocError, Global};
 use tg_block::{Block, WORDS};
-use tg_space::{Adoption, Kind, Spaces};
+use tg_space::{Adoption, Kind, RoomFault, Spaces};
 use tg_word::OLD;
 
 // How many won cells are read before the first of them is scanned, where the heap is large. Memory answers for them side by side
@@ -106,7 +105,7 @@ impl Copies {
         kind: Kind,
         words: &[u64; WORDS],
         is_in_old: bool,
-    ) -> Result<(), CollectFault>
+    ) -> Result<(), RoomFault>
         requires old_room { is_in_old ≡ true → length self.now.old < MOST_SPACE_CELLS }
         requires aged_room { is_in_old ≡ false → length self.now.aged < MOST_SPACE_CELLS }
         requires pointers { All (IsPointer spaces.now.spaces) (pointers_of words.now) }
@@ -162,7 +161,7 @@ pub fn scan<C: Claimer>(
     kind: Kind,
     reads: Reads,
     copies: &mut Copies,
-) -> Result<(), CollectFault>
+) -> Result<(), RoomFault>
     requires { IsUnderWay C.walked C.knows kind spaces.now.spaces claimer.old copies.now.scanned copies.now.aged copies.now.old }
     ensures scans { Scans C.walked C.knows C.is_full spaces.now.spaces claimer.old claimer.new (length (C.walked claimer.new).won) copies.exit.now.aged copies.exit.now.old result }
     ensures ended { OnOk result (copies.exit.now.scanned ≡ length (C.walked claimer.new).won) }
@@ -269,7 +268,7 @@ fn scan_next<C: Claimer>(
     copies: &mut Copies,
     k: usize,
     words: &[u64; WORDS],
-) -> Result<(), CollectFault>
+) -> Result<(), RoomFault>
     requires walk { IsUnderWay C.walked C.knows kind spaces.now.spaces claimer.old k copies.now.aged copies.now.old }
     requires next { k < length (C.walked claimer.old).won }
     requires words { words.now ≡ cell_numbered spaces.now.spaces (win_at (C.walked claimer.old).won k).cell }

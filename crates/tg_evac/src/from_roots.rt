@@ -10,9 +10,8 @@ ghost use Rattle.tg_evac.specs.Walks.{GoesOn, MayWalk, MayWalkAlong, WalksAlong}
 
 use crate::claimer::Claimer;
 use crate::copies::{Copies, Reads, scan};
-use crate::fault::CollectFault;
 use crate::roots::claim_root;
-use tg_space::{Kind, Root, Spaces};
+use tg_space::{Kind, RoomFault, Root, Spaces};
 
 /// Claims the targets of the roots, and scans the won cells until none is left.
 ///
@@ -29,7 +28,7 @@ pub fn walk<C: Claimer>(
     reads: Reads,
     roots: &[Root],
     copies: &mut Copies,
-) -> Result<(), CollectFault>
+) -> Result<(), RoomFault>
     requires walk { MayWalk kind spaces.now.spaces (C.walked claimer.old) }
     requires roots { All (IsRootIn spaces.now.spaces) roots.now }
     requires traced { (all : List RootOf) × ((root : RootOf) → Contains roots.now root → Contains all root) × AreTraced (C.walked claimer.old).kind spaces.now.spaces all (C.walked claimer.old).won }
@@ -57,7 +56,7 @@ fn walk_each<C: Claimer>(
     reads: Reads,
     roots: &[Root],
     copies: &mut Copies,
-) -> Result<(), CollectFault>
+) -> Result<(), RoomFault>
     requires { MayWalkAlong C.walked C.knows kind spaces.now.spaces roots.now claimer.old copies.now.scanned copies.now.aged copies.now.old }
     ensures { WalksAlong C.walked C.knows C.is_full spaces.now.spaces roots.now claimer.old claimer.new copies.exit.now.scanned copies.exit.now.aged copies.exit.now.old result }
 {
@@ -83,7 +82,7 @@ fn walk_together<C: Claimer>(
     reads: Reads,
     roots: &[Root],
     copies: &mut Copies,
-) -> Result<(), CollectFault>
+) -> Result<(), RoomFault>
     requires { MayWalkAlong C.walked C.knows kind spaces.now.spaces roots.now claimer.old copies.now.scanned copies.now.aged copies.now.old }
     ensures { WalksAlong C.walked C.knows C.is_full spaces.now.spaces roots.now claimer.old claimer.new copies.exit.now.scanned copies.exit.now.aged copies.exit.now.old result }
 {

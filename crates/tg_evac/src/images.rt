@@ -9,10 +9,9 @@ ghost use Rattle.tg_evac.specs.Claimers.{IsLink};
 ghost use Rattle.tg_evac.specs.Walks.{ClaimsAll, IsTableFor};
 
 use crate::claimer::Claimer;
-use crate::fault::CollectFault;
 use crate::plan::space_for;
 use tg_block::{CHUNK_POINTERS, CHUNK_TAG, OBJECT_POINTERS, OBJECT_TAG, WORDS};
-use tg_space::{Kind, Spaces};
+use tg_space::{Kind, RoomFault, Spaces};
 use tg_word::{place_of, rights_of};
 
 /// Makes these words of a cell those of its copy. What they name is claimed, to go straight to Old or not.
@@ -23,7 +22,7 @@ pub fn move_cell<C: Claimer>(
     kind: Kind,
     straight: bool,
     cell: &mut [u64; WORDS],
-) -> Result<(), CollectFault>
+) -> Result<(), RoomFault>
     requires pointers { All (IsPointer spaces.now.spaces) (pointers_of cell.old) }
     requires table { IsTableFor kind spaces.now.spaces (C.walked claimer.old) }
     ensures claims { ClaimsAll C.walked C.knows C.is_full spaces.now.spaces straight (named_by (from_space (C.walked claimer.old).kind) spaces.now.spaces (pointers_of cell.old)) claimer.old claimer.new result }
@@ -47,7 +46,7 @@ pub fn move_from<C: Claimer>(
     straight: bool,
     first: usize,
     cell: &mut [u64; WORDS],
-) -> Result<(), CollectFault>
+) -> Result<(), RoomFault>
     requires inside { first ≤ 8 }
     requires pointers { All (IsPointer spaces.now.spaces) (drop first cell.old) }
     requires table { IsTableFor kind spaces.now.spaces (C.walked claimer.old) }
@@ -70,7 +69,7 @@ fn move_word<C: Claimer>(
     kind: Kind,
     straight: bool,
     word: &mut u64,
-) -> Result<(), CollectFault>
+) -> Result<(), RoomFault>
     requires pointer { IsPointer spaces.now.spaces word.old }
     requires table { IsTableFor kind spaces.now.spaces (C.walked claimer.old) }
     ensures claims { ClaimsAll C.walked C.knows C.is_full spaces.now.spaces straight (target_in (from_space (C.walked claimer.old).kind) spaces.now.spaces word.old) claimer.old claimer.new result }

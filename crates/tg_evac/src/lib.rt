@@ -58,7 +58,6 @@
 pub use claimer::Claimer;
 pub use collect::{Copied, collect_one};
 pub use copies::{Copies, Reads};
-pub use fault::CollectFault;
 pub use from_roots::walk;
 pub use new_blocks::NewBlocks;
 pub use notes::notes_of;
@@ -69,7 +68,6 @@ mod claimer;
 mod claims;
 mod collect;
 mod copies;
-mod fault;
 mod from_roots;
 mod images;
 mod new_blocks;

@@ -11,13 +11,12 @@ ghost use Rattle.tg_evac.specs.Copies.{HaveOpenBlock, HoldCells, IsOpenBlock};
 ghost use Rattle.tg_evac.specs.Walks.{ClaimsAll, IsTableFor};
 
 use crate::claimer::Claimer;
-use crate::fault::CollectFault;
 use crate::images::move_cell;
 use std::alloc::{AllocError, Global};
 use std::marker::Model;
 use std::mem;
 use tg_block::{Block, WORDS};
-use tg_space::{Kind, Space, Spaces};
+use tg_space::{Kind, RoomFault, Space, Spaces};
 use tg_word::CELLS;
 
 /// The blocks that a collection makes in a space. Contracts see the list of their cells.
@@ -70,7 +69,7 @@ impl NewBlocks {
         kind: Kind,
         words: &[u64; WORDS],
         straight: bool,
-    ) -> Result<(), CollectFault>
+    ) -> Result<(), RoomFault>
         requires room { length self.old < MOST_SPACE_CELLS }
         requires pointers { All (IsPointer spaces.now.spaces) (pointers_of words.now) }
         requires table { IsTableFor kind spaces.now.spaces (C.walked claimer.old) }

@@ -8,11 +8,10 @@ ghost use Rattle.tg_evac.specs.Claims.{chunk_targets, is_straight as straight_fr
 ghost use Rattle.tg_evac.specs.Walks.{ClaimsAll, MayWalk};
 
 use crate::claimer::Claimer;
-use crate::fault::CollectFault;
 use crate::images::move_from;
 use crate::plan::{is_straight, space_for};
 use tg_block::LINK;
-use tg_space::{Kind, Root, Spaces, first_pointer};
+use tg_space::{Kind, RoomFault, Root, Spaces, first_pointer};
 use tg_word::{Place, place_of};
 
 /// Claims the targets of a root.
@@ -24,7 +23,7 @@ pub fn claim_root<C: Claimer>(
     spaces: &Spaces,
     kind: Kind,
     root: Root,
-) -> Result<(), CollectFault>
+) -> Result<(), RoomFault>
     requires walk { MayWalk kind spaces.now.spaces (C.walked claimer.old) }
     requires root { IsRootIn spaces.now.spaces root }
     ensures { ClaimsAll C.walked C.knows C.is_full spaces.now.spaces (straight_from (C.walked claimer.old).kind root) (root_targets_of (from_space (C.walked claimer.old).kind) spaces.now.spaces root) claimer.old claimer.new result }
@@ -45,7 +44,7 @@ fn claim_row<C: Claimer>(
     kind: Kind,
     object: Place,
     straight: bool,
-) -> Result<(), CollectFault>
+) -> Result<(), RoomFault>
     requires walk { MayWalk kind spaces.now.spaces (C.walked claimer.old) }
     requires held { Holds spaces.now.spaces object }
     ensures { ClaimsAll C.walked C.knows C.is_full spaces.now.spaces straight (root_targets_of (from_space (C.walked claimer.old).kind) spaces.now.spaces (Row object)) claimer.old claimer.new result }
@@ -65,7 +64,7 @@ fn claim_from_row<C: Claimer>(
     kind: Kind,
     object: Place,
     straight: bool,
-) -> Result<(), CollectFault>
+) -> Result<(), RoomFault>
     requires walk { MayWalk kind spaces.now.spaces (C.walked claimer.old) }
     requires held { Holds spaces.now.spaces object }
     requires kept { from_space kind object.space ≡ false }
@@ -82,7 +81,7 @@ fn claim_chunks<C: Claimer>(
     kind: Kind,
     first: u64,
     straight: bool,
-) -> Result<(), CollectFault>
+) -> Result<(), RoomFault>
     requires walk { MayWalk kind spaces.now.spaces (C.walked claimer.old) }
     requires link { IsPointer spaces.now.spaces first }
     ensures { ClaimsAll C.walked C.knows C.is_full spaces.now.spaces straight (chunk_targets (from_space (C.walked claimer.old).kind) spaces.now.spaces (length (cells_of spaces.now.spaces)) first) claimer.old claimer.new result }
@@ -110,7 +109,7 @@ fn claim_targets<C: Claimer>(
     kind: Kind,
     place: Place,
     straight: bool,
-) -> Result<(), CollectFault>
+) -> Result<(), RoomFault>
     requires walk { MayWalk kind spaces.now.spaces (C.walked claimer.old) }
     requires held { Holds spaces.now.spaces place }
     ensures { ClaimsAll C.walked C.knows C.is_full spaces.now.spaces straight (targets_at (from_space (C.walked claimer.old).kind) spaces.now.spaces place) claimer.old claimer.new result }

@@ -25,9 +25,9 @@ use Rattle.tg_graph.specs.Steps.{ChangesTo}
 use Rattle.tg_graph.proofs.Growing.{graph_entries}
 use Rattle.tg_graph.proofs.Lookups.{name_of_vertex}
 use Rattle.tg_graph.proofs.Members.{Contains-filter, Contains-from_filter}
-use Rattle.tg_space.specs.declared.allocate_fault.AllocateFault.TheVariants.{HeapFull, OutOfMemory}
+use Rattle.tg_space.specs.declared.room_fault.RoomFault.TheVariants.{HeapFull, OutOfMemory}
 use Rattle.tg_space.specs.declared.kind.Kind.TheVariants.{Full, Nursery}
-use Rattle.tg_space.specs.declared.allocate_fault.AllocateFault.{AllocateFault}
+use Rattle.tg_space.specs.declared.room_fault.RoomFault.{RoomFault}
 
 pub either_way : {T E A B C : Type 0} (r : Result T E) → OnOk r A → OnErr r B → (A → C) → (B → C) → C
 either_way (Ok x) done refused f g = f done
@@ -41,7 +41,7 @@ ok_or_err x e same = cc
 pub memory_or_full : OutOfMemory ≡ HeapFull → ⊥
 memory_or_full same = cc
 
-pub no_full : {T : Type 0} → ◌≡◌ {A = Result T AllocateFault} (Err OutOfMemory) (Err HeapFull) → ⊥
+pub no_full : {T : Type 0} → ◌≡◌ {A = Result T RoomFault} (Err OutOfMemory) (Err HeapFull) → ⊥
 no_full same = let inside : OutOfMemory ≡ HeapFull = cc in memory_or_full inside
 
 -- a full collection isn't one of the nurseries

@@ -12,8 +12,8 @@ use Rattle.tg_space.specs.SpaceList.{space_of}
 use Rattle.tg_space.specs.SpaceTable.{IsFull, IsSpaceTable}
 use Rattle.tg_space.specs.Soundness.{IsKindAt}
 use Rattle.tg_space.specs.Generations.{AreRemembered}
-use Rattle.tg_space.specs.declared.allocate_fault.AllocateFault.{AllocateFault}
-use Rattle.tg_space.specs.declared.allocate_fault.AllocateFault.TheVariants.{HeapFull}
+use Rattle.tg_space.specs.declared.room_fault.RoomFault.{RoomFault}
+use Rattle.tg_space.specs.declared.room_fault.RoomFault.TheVariants.{HeapFull}
 use Rattle.tg_nursery.specs.Allocation.{HasFewerLeft, HasLeft, room_made_for}
 use Rattle.tg_graph.specs.Content.{IsNamed}
 use Rattle.tg_graph.specs.Following.{IsWay}
@@ -85,7 +85,7 @@ pub record IsEdgeFound {P : Type 0} (cells : Cells P) (p : Place) (name : ℕ) (
 
 -- There is room for a note, if there is one, and for so many cells of a nursery, and nothing else changed. Where it is refused, there
 -- may be room for the note.
-pub record MakesRoom {P A : Type 0} (old new : Cells P) (n : ℕ) (wanted : Option Place) (count : ℕ) (result : Result A AllocateFault) : Type 0 where
+pub record MakesRoom {P A : Type 0} (old new : Cells P) (n : ℕ) (wanted : Option Place) (count : ℕ) (result : Result A RoomFault) : Type 0 where
   pub remembered : new.remembered.places ≡ old.remembered.places
   pub note : OnOk result (IfSome wanted (λ _. 0 < new.remembered.spare))
   pub spaces : OnOk result (new.spaces ≡ room_made_for old.spaces (nursery_space n) count)
@@ -96,7 +96,7 @@ pub record MakesRoom {P A : Type 0} (old new : Cells P) (n : ℕ) (wanted : Opti
 
 -- Rights over one object were put in the row of another, and the written cell is remembered if it has to be; where it is refused,
 -- there may be room for one more note.
-pub record AddsEdge {P A : Type 0} (old new : Cells P) (n : ℕ) (p q : Place) (rights : RightSet) (result : Result A AllocateFault) : Type 0 where
+pub record AddsEdge {P A : Type 0} (old new : Cells P) (n : ℕ) (p q : Place) (rights : RightSet) (result : Result A RoomFault) : Type 0 where
   pub added : let content = content_in old.spaces.spaces old.payloads in
       OnOk result (ChangesTo old.spaces new.spaces old.payloads (IsNamed content)
       (with_rights content.label (name_at old.spaces.spaces p) (name_at old.spaces.spaces q) rights) content.value)

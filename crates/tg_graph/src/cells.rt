@@ -28,11 +28,11 @@ use crate::rows::{Spot, edges_of};
 use std::alloc::{AllocError, Global};
 use tg_block::{KEY, NAME, OBJECT_TAG};
 use tg_model::{EdgeList, Law, Numbers};
-use tg_nursery::{AllocateFault, reserve};
+use tg_nursery::reserve;
 use tg_payload::{Draft, Payload, PayloadTable};
 use tg_remember::Remembered;
 use tg_rights::Rights;
-use tg_space::{Kind, Spaces};
+use tg_space::{Kind, RoomFault, Spaces};
 use tg_word::{Place, nursery_space, place_of, rights_of};
 
 /// The cells of all spaces, what the objects among them store, and which cells of Old are remembered.
@@ -143,7 +143,7 @@ impl<P: Payload> Cells<P> {
         to: Place,
         spot: Spot,
         rights: Rights,
-    ) -> Result<(), AllocateFault>
+    ) -> Result<(), RoomFault>
         requires row { HasSpot self.old from (name_at self.old.spaces.spaces to) spot }
         requires gift { CanGive self.old nursery to rights }
         ensures edge { AddsEdge self.old self.new nursery from to rights result }
@@ -209,14 +209,14 @@ impl<P: Payload> Cells<P> {
         nursery: u64,
         note: Option<Place>,
         cells: u64,
-    ) -> Result<(), AllocateFault>
+    ) -> Result<(), RoomFault>
         requires { CanReserve self.old nursery cells }
         ensures room { MakesRoom self.old self.new nursery note cells result }
         ensures payloads { self.new.payloads.entries ≡ self.old.payloads.entries }
         ensures spare { OnOk result (0 < self.new.payloads.spare) }
     {
         let Ok(()) = self.payloads.reserve(1) else {
-            return Err(AllocateFault::OutOfMemory);
+            return Err(RoomFault::OutOfMemory);
         };
         self.make_room(nursery, note, cells)
     }
@@ -227,14 +227,14 @@ impl<P: Payload> Cells<P> {
         nursery: u64,
         note: Option<Place>,
         cells: u64,
-    ) -> Result<(), AllocateFault>
+    ) -> Result<(), RoomFault>
         requires { CanReserve self.old nursery cells }
         ensures room { MakesRoom self.old self.new nursery note cells result }
         ensures payloads { self.new.payloads ≡ self.old.payloads }
         ensures had_room { HasLeft self.old.spaces (nursery_space nursery) cells → note ≡ None → IsOk result }
     {
         let Ok(()) = reserve_note(&mut self.remembered, note) else {
-            return Err(AllocateFault::OutOfMemory);
+            return Err(RoomFault::OutOfMemory);
         };
         reserve(&mut self.spaces, nursery, cells)
     }

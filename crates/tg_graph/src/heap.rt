@@ -23,11 +23,10 @@ use crate::opening::opened;
 use std::alloc::{AllocError, Global};
 use std::marker::Model;
 use tg_model::{EdgeList, Law, Numbers, Opening};
-use tg_nursery::AllocateFault;
 use tg_payload::{Draft, Payload, PayloadTable};
 use tg_remember::Remembered;
 use tg_rights::{Label, Rights};
-use tg_space::{Limits, Spaces};
+use tg_space::{Limits, RoomFault, Spaces};
 use tg_subjects::{Subject, Subjects};
 use tg_word::Place;
 
@@ -44,14 +43,14 @@ pub struct Found {
 #[derive(Drop)]
 pub struct HeapRefused<P: Payload> {
     pub drafts: Vec<Draft<P>>,
-    pub why: AllocateFault,
+    pub why: RoomFault,
 }
 
 /// No vertex was made. The draft comes back as it was.
 #[derive(Drop)]
 pub struct VertexRefused<P: Payload> {
     pub draft: Draft<P>,
-    pub why: AllocateFault,
+    pub why: RoomFault,
 }
 
 /// The cells of a graph, what its vertices store, and its active subjects.
@@ -97,7 +96,7 @@ impl<P: Payload> Heap<P> {
         ensures limits { IfOk result (λ heap. heap.table.limits ≡ limits) }
         ensures blocks { IfOk result (λ heap. block_count heap.table.spaces ≡ opening.now.workers) }
         ensures handed_back { IfErr result (λ refused. refused.drafts.items ≡ drafts.items) }
-        ensures full { IsErrAnd result (λ refused. refused.why ≡ AllocateFault.HeapFull) ↔ (limits.max_blocks < opening.now.workers) }
+        ensures full { IsErrAnd result (λ refused. refused.why ≡ RoomFault.HeapFull) ↔ (limits.max_blocks < opening.now.workers) }
     {
         let (cells, subjects) = opened(alloc, opening, limits, drafts)?;
         Ok(Heap {
@@ -262,7 +261,7 @@ impl<P: Payload> Heap<P> {
         from: Place,
         to: Place,
         label: Label,
-    ) -> Result<(), AllocateFault>
+    ) -> Result<(), RoomFault>
         requires worker { IsActive self.old worker }
         requires from { IsObject self.old from }
         requires to { IsObject self.old to }
@@ -272,7 +271,7 @@ impl<P: Payload> Heap<P> {
         ensures kept { OnOk result (KeepsPlaces self.old self.new) }
         ensures indexed { OnOk result (KeepsIndexes self.old self.new from) }
         ensures refused { OnErr result (self.new ≡ self.old) }
-        ensures full { result ≡ Err AllocateFault.HeapFull → LacksCellsFor self.old.table (nursery_space (nursery_of self.old worker)) 0 (name_of self.old from) (name_of self.old to) }
+        ensures full { result ≡ Err RoomFault.HeapFull → LacksCellsFor self.old.table (nursery_space (nursery_of self.old worker)) 0 (name_of self.old from) (name_of self.old to) }
     {
         let subject = self.active(worker);
         self.add_edge_as(subject, from, to, label)
@@ -286,7 +285,7 @@ impl<P: Payload> Heap<P> {
         from: Place,
         to: Place,
         label: Label,
-    ) -> Result<(), AllocateFault>
+    ) -> Result<(), RoomFault>
         requires worker { Contains self.old.subjects worker }
         requires from { IsObject self.old from }
         requires to { IsObject self.old to }
@@ -296,7 +295,7 @@ impl<P: Payload> Heap<P> {
         ensures kept { OnOk result (KeepsPlaces self.old self.new) }
         ensures indexed { OnOk result (KeepsIndexes self.old self.new from) }
         ensures refused { OnErr result (self.new ≡ self.old) }
-        ensures full { result ≡ Err AllocateFault.HeapFull → LacksCellsFor self.old.table (nursery_space worker.nursery) 0 (name_of self.old from) (name_of self.old to) }
+        ensures full { result ≡ Err RoomFault.HeapFull → LacksCellsFor self.old.table (nursery_space worker.nursery) 0 (name_of self.old from) (name_of self.old to) }
     {
         // It tells what holds of all spaces (`IsSpaceTable`).
         let _ = self.cells.spaces.blocks();
@@ -346,7 +345,7 @@ impl<P: Payload> Heap<P> {
         ensures indexed { OnOk result ((row : PlaceOf) × IsVertexAt self.old.table.spaces worker row × KeepsIndexes self.old self.new row) }
         ensures handed_back { IfErr result (λ refused. refused.draft ≡ draft) }
         ensures refused { OnErr result (IsUnchangedHeap self.old self.new) }
-        ensures full { IfErr result (λ refused. refused.why ≡ AllocateFault.HeapFull → LacksCellsFor self.old.table (nursery_space (nursery_of self.old worker)) 1 worker name) }
+        ensures full { IfErr result (λ refused. refused.why ≡ RoomFault.HeapFull → LacksCellsFor self.old.table (nursery_space (nursery_of self.old worker)) 1 worker name) }
     {
         let subject = self.active(worker);
         self.new_vertex_as(subject, name, label, draft)?;
@@ -372,7 +371,7 @@ impl<P: Payload> Heap<P> {
         ensures indexed { OnOk result (KeepsIndexes self.old self.new worker.place) }
         ensures handed_back { IfErr result (λ refused. refused.draft ≡ draft) }
         ensures refused { OnErr result (IsUnchangedHeap self.old self.new) }
-        ensures full { IfErr result (λ refused. refused.why ≡ AllocateFault.HeapFull → LacksCellsFor self.old.table (nursery_space worker.nursery) 1 worker.name name) }
+        ensures full { IfErr result (λ refused. refused.why ≡ RoomFault.HeapFull → LacksCellsFor self.old.table (nursery_space worker.nursery) 1 worker.name name) }
     {
         // It tells what holds of all spaces (`IsSpaceTable`).
         let _ = self.cells.spaces.blocks();
@@ -410,7 +409,7 @@ impl<P: Payload> Heap<P> {
         ensures indexed { OnOk result ((row : PlaceOf) × IsVertexAt self.old.table.spaces worker row × KeepsIndexes self.old self.new row) }
         ensures handed_back { IfErr result (λ refused. refused.draft ≡ draft) }
         ensures refused { OnErr result (IsUnchangedHeap self.old self.new) }
-        ensures full { IfErr result (λ refused. refused.why ≡ AllocateFault.HeapFull → LacksCellsFor self.old.table (nursery_space (nursery_of self.old worker)) 1 worker name) }
+        ensures full { IfErr result (λ refused. refused.why ≡ RoomFault.HeapFull → LacksCellsFor self.old.table (nursery_space (nursery_of self.old worker)) 1 worker name) }
     {
         let subject = self.active(worker);
         let place = self.new_vertex_as(subject, name, label, draft)?;

@@ -25,11 +25,10 @@ use crate::heap::HeapRefused;
 use crate::rows::find_spot;
 use std::alloc::{AllocError, Global};
 use tg_model::{Edge, Opening};
-use tg_nursery::AllocateFault;
 use tg_payload::{Draft, Payload, PayloadTable};
 use tg_remember::Remembered;
 use tg_rights::Rights;
-use tg_space::{Limits, Spaces};
+use tg_space::{Limits, RoomFault, Spaces};
 use tg_subjects::{Subject, Subjects};
 use tg_word::{MAX_NURSERIES, Place, nursery_space};
 
@@ -59,7 +58,7 @@ pub(crate) fn opened<P: Payload>(
     ensures remembered { IfOk result (λ parts. AreRemembered parts.0.spaces.spaces parts.0.remembered.places) }
     ensures plan { IsPlan opening.now }
     ensures handed_back { IfErr result (λ refused. refused.drafts.items ≡ drafts.items) }
-    ensures full { IsErrAnd result (λ refused. refused.why ≡ AllocateFault.HeapFull) ↔ (limits.max_blocks < opening.now.workers) }
+    ensures full { IsErrAnd result (λ refused. refused.why ≡ RoomFault.HeapFull) ↔ (limits.max_blocks < opening.now.workers) }
 {
     let mut room = match with_room(alloc, opening.workers(), limits) {
         Ok(room) => room,
@@ -76,22 +75,18 @@ pub(crate) fn opened<P: Payload>(
 }
 
 // Room for the graph of so many workers: cells with no vertex, where the nursery of each has a block.
-fn with_room<P: Payload>(
-    alloc: Global,
-    workers: u64,
-    limits: Limits,
-) -> Result<Room<P>, AllocateFault>
+fn with_room<P: Payload>(alloc: Global, workers: u64, limits: Limits) -> Result<Room<P>, RoomFault>
     requires { AreFewWorkers workers }
     ensures room { IfOk result (IsRoomFor workers) }
     ensures ready { IfOk result (λ room. HasBlocks room.cells.spaces workers limits) }
     ensures table { IfOk result (λ room. IsSpaceTable room.cells.spaces) }
-    ensures full { IsErrAnd result (λ why. why ≡ AllocateFault.HeapFull) ↔ (limits.max_blocks < workers) }
+    ensures full { IsErrAnd result (λ why. why ≡ RoomFault.HeapFull) ↔ (limits.max_blocks < workers) }
 {
     if limits.max_blocks() < workers {
-        return Err(AllocateFault::HeapFull);
+        return Err(RoomFault::HeapFull);
     }
     let Ok(mut room) = empty_room(alloc, workers, limits) else {
-        return Err(AllocateFault::OutOfMemory);
+        return Err(RoomFault::OutOfMemory);
     };
     add_blocks(&mut room.cells.spaces, workers)?;
     Ok(room)
@@ -141,7 +136,7 @@ fn empty_cells<P: Payload>(
 }
 
 // Gives the nursery of each worker its first block.
-fn add_blocks(spaces: &mut Spaces, workers: u64) -> Result<(), AllocateFault>
+fn add_blocks(spaces: &mut Spaces, workers: u64) -> Result<(), RoomFault>
     requires workers { AreFewWorkers workers }
     requires limits { AreLimits spaces.old.limits }
     requires empty { HasNoBlocks spaces.old }
@@ -149,7 +144,7 @@ fn add_blocks(spaces: &mut Spaces, workers: u64) -> Result<(), AllocateFault>
     requires allowed { workers ≤ spaces.old.limits.max_blocks }
     ensures blocks { OnOk result (HasBlocks spaces.new workers spaces.old.limits) }
     ensures table { OnOk result (IsSpaceTable spaces.new) }
-    ensures full { result ≢ Err AllocateFault.HeapFull }
+    ensures full { result ≢ Err RoomFault.HeapFull }
 {
     for worker in 0..workers {
         spaces.add_block(nursery_space(worker))?;

@@ -20,10 +20,9 @@ use crate::long_rows::{LongRows, Way};
 use crate::rows::{Spot, find_spot, may_get_long, places_of};
 use std::alloc::AllocError;
 use tg_index::RowIndex;
-use tg_nursery::AllocateFault;
 use tg_payload::{Draft, Payload};
 use tg_rights::Rights;
-use tg_space::Kind;
+use tg_space::{Kind, RoomFault};
 use tg_word::Place;
 
 impl<P: Payload> Cells<P> {
@@ -167,14 +166,14 @@ impl<P: Payload> Cells<P> {
         from: Place,
         to: Place,
         rights: Rights,
-    ) -> Result<(), AllocateFault>
+    ) -> Result<(), RoomFault>
         requires row { CanLook self.old rows.old from }
         requires gift { CanGive self.old nursery to rights }
         ensures edge { AddsEdge self.old self.new nursery from to rights result }
         ensures rows { FollowsChange self.old self.new rows.old rows.new from result }
     {
         let Ok(way) = self.way_to_change(rows, from) else {
-            return Err(AllocateFault::OutOfMemory);
+            return Err(RoomFault::OutOfMemory);
         };
         let name = self.name_of(to);
         let spot = self.spot(rows, &way, from, name);
@@ -247,7 +246,7 @@ impl<P: Payload> Cells<P> {
         ensures rows { FollowsChange self.old self.new rows.old rows.new from result }
     {
         let Ok(way) = self.way_to_change(rows, from) else {
-            let why = AllocateFault::OutOfMemory;
+            let why = RoomFault::OutOfMemory;
             return Err(VertexRefused { draft, why });
         };
         let spot = self.spot_for_new(rows, &way, from, name);

@@ -23,8 +23,7 @@ ghost use Rattle.tg_space.specs.SpaceList.{space_of};
 ghost use Rattle.tg_space.specs.SpaceTable.{IsFull, IsSpaceTable, place_in_space, used_of, with_one_used};
 ghost use Rattle.tg_nursery.specs.Allocation.{Allocates, HasFewerLeft, HasLeft, IsUsedUp, room_made, room_made_for};
 
-pub use tg_space::AllocateFault;
-use tg_space::Spaces;
+use tg_space::{RoomFault, Spaces};
 use tg_word::{CELLS, Place, nursery_space};
 
 /// Allocates a cell in the nursery with a number.
@@ -32,14 +31,14 @@ use tg_word::{CELLS, Place, nursery_space};
 /// The cell is free, and nothing else changes but that the nursery may have one more block. The refusals change
 /// nothing: `HeapFull` where every cell of the nursery was handed out, and all spaces together have `max_blocks` or
 /// more or the nursery has `space_blocks`; `OutOfMemory` where memory for a block was refused.
-pub fn allocate(spaces: &mut Spaces, nursery: u64) -> Result<Place, AllocateFault>
+pub fn allocate(spaces: &mut Spaces, nursery: u64) -> Result<Place, RoomFault>
     requires few { nursery < MAX_NURSERIES }
     requires nursery { nursery_space nursery < length spaces.old.spaces }
     ensures place { IfOk result (λ place. place ≡ place_in_space (nursery_space nursery) (used_of spaces.old (nursery_space nursery))) }
     ensures exact { OnOk result (spaces.new ≡ with_one_used (room_made spaces.old (nursery_space nursery)) (nursery_space nursery)) }
     ensures fresh { IfOk result (Allocates spaces.old spaces.new (nursery_space nursery)) }
     ensures refused { OnErr result (spaces.new ≡ spaces.old) }
-    ensures full { (result ≡ Err AllocateFault.HeapFull) ↔ (IsUsedUp spaces.old (nursery_space nursery) × IsFull spaces.old (nursery_space nursery)) }
+    ensures full { (result ≡ Err RoomFault.HeapFull) ↔ (IsUsedUp spaces.old (nursery_space nursery) × IsFull spaces.old (nursery_space nursery)) }
 {
     let space = nursery_space(nursery);
     make_room(spaces, space)?;
@@ -51,7 +50,7 @@ pub fn allocate(spaces: &mut Spaces, nursery: u64) -> Result<Place, AllocateFaul
 /// The nursery gets one more block where it has fewer cells left, and nothing else changes. The refusals change
 /// nothing: `HeapFull` where a block is needed, and all spaces together have `max_blocks` or more or the nursery has
 /// `space_blocks`; `OutOfMemory` where memory for it was refused.
-pub fn reserve(spaces: &mut Spaces, nursery: u64, cells: u64) -> Result<(), AllocateFault>
+pub fn reserve(spaces: &mut Spaces, nursery: u64, cells: u64) -> Result<(), RoomFault>
     requires few { nursery < MAX_NURSERIES }
     requires few_cells { cells ≤ CELLS }
     requires nursery { nursery_space nursery < length spaces.old.spaces }
@@ -60,7 +59,7 @@ pub fn reserve(spaces: &mut Spaces, nursery: u64, cells: u64) -> Result<(), Allo
     ensures room { OnOk result (HasLeft spaces.new (nursery_space nursery) cells) }
     ensures had_room { HasLeft spaces.old (nursery_space nursery) cells → IsOk result }
     ensures refused { OnErr result (spaces.new ≡ spaces.old) }
-    ensures full { (result ≡ Err AllocateFault.HeapFull) ↔ (HasFewerLeft spaces.old (nursery_space nursery) cells × IsFull spaces.old (nursery_space nursery)) }
+    ensures full { (result ≡ Err RoomFault.HeapFull) ↔ (HasFewerLeft spaces.old (nursery_space nursery) cells × IsFull spaces.old (nursery_space nursery)) }
 {
     let space = nursery_space(nursery);
     if spaces.used(space) + cells <= CELLS * spaces.len(space) {
@@ -70,13 +69,13 @@ pub fn reserve(spaces: &mut Spaces, nursery: u64, cells: u64) -> Result<(), Allo
 }
 
 // Adds a block where every cell of the nursery was handed out.
-fn make_room(spaces: &mut Spaces, space: u64) -> Result<(), AllocateFault>
+fn make_room(spaces: &mut Spaces, space: u64) -> Result<(), RoomFault>
     requires { space < length spaces.old.spaces }
     ensures made { OnOk result (spaces.new ≡ room_made spaces.old space) }
     ensures counted { space < length spaces.old.used }
     ensures room { OnOk result (used_of spaces.new space < CELLS * length (space_of spaces.new.spaces space)) }
     ensures refused { OnErr result (spaces.new ≡ spaces.old) }
-    ensures full { (result ≡ Err AllocateFault.HeapFull) ↔ (IsUsedUp spaces.old space × IsFull spaces.old space) }
+    ensures full { (result ≡ Err RoomFault.HeapFull) ↔ (IsUsedUp spaces.old space × IsFull spaces.old space) }
 {
     if spaces.used(space) < CELLS * spaces.len(space) {
         return Ok(());

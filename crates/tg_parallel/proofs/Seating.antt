@@ -23,8 +23,8 @@ use Rattle.tg_race.specs.declared.race_table.CellWord.{CellWord}
 use Rattle.tg_race.specs.Words.{space_of_age}
 use Rattle.tg_evac.specs.Win.{Win}
 use Rattle.tg_evac.specs.Claims.{IsWinFor, is_in, win_at, won_in}
-use Rattle.tg_evac.specs.declared.fault.CollectFault.{CollectFault}
-use Rattle.tg_evac.specs.declared.fault.CollectFault.TheVariants.{HeapFull}
+use Rattle.tg_space.specs.declared.room_fault.RoomFault.{RoomFault}
+use Rattle.tg_space.specs.declared.room_fault.RoomFault.TheVariants.{HeapFull}
 use Rattle.tg_evac.specs.Claimers.{AddsWins, IsLink}
 use Rattle.tg_evac.specs.Walks.{ClaimsCell}
 use Rattle.tg_parallel.specs.declared.own_blocks.OwnBlocks.{OwnBlocks}
@@ -160,7 +160,7 @@ module _ (cell : ℕ) (aged : Bool) (v w : Record) (finds : Finds cell aged v w)
   }
 
 -- a place that was given from blocks of the right age is a claim of the cell
-pub claims_cell : (cell space : ℕ) (kind : Kind) (limit : ℕ) (board : Board) (v w : Record) (before : Sitting) (a : Bool) (result : Result ℕ CollectFault) → record { kind = kind; limit = limit; board = board; done = v } ≡ before → space ≡ space_of_age a → Finds cell a v w
+pub claims_cell : (cell space : ℕ) (kind : Kind) (limit : ℕ) (board : Board) (v w : Record) (before : Sitting) (a : Bool) (result : Result ℕ RoomFault) → record { kind = kind; limit = limit; board = board; done = v } ≡ before → space ≡ space_of_age a → Finds cell a v w
     → OnOk result (Contains (cells_met w) cell) → IfOk result (λ word. (to : ℕ → Place) → HasPlaces w to → to cell ≡ place_in word) → IfOk result IsLink → IfErr result (λ fault. fault ≡ HeapFull → HasClaimedPast limit w)
     → ClaimsCell walked_at (λ s. HasPlaces s.done) (λ s. HasClaimedPast s.limit s.done) cell space before (record { kind = kind; limit = limit; board = board; done = w }) result
 claims_cell cell space kind limit board v w before a result same right finds met known link full =

@@ -17,8 +17,8 @@ use Rattle.tg_race.specs.Race.{chunks_of, empty, is_chunk, past, with_chunk}
 use Rattle.tg_race.specs.Seats.{Board}
 use Rattle.tg_race.proofs.Sums.{weigh_push}
 use Rattle.tg_evac.specs.declared.copies.Copies.{Copies}
-use Rattle.tg_evac.specs.declared.fault.CollectFault.{CollectFault}
-use Rattle.tg_evac.specs.declared.fault.CollectFault.TheVariants.{HeapFull}
+use Rattle.tg_space.specs.declared.room_fault.RoomFault.{RoomFault}
+use Rattle.tg_space.specs.declared.room_fault.RoomFault.TheVariants.{HeapFull}
 use Rattle.tg_evac.specs.Claims.{AreTraced}
 use Rattle.tg_evac.specs.Claimers.{AreScanned, KeepsWins}
 use Rattle.tg_evac.proofs.Pieces.{none_scanned}
@@ -72,7 +72,7 @@ same_walk s t keeps = record {
 }
 
 -- what was done till the work was refused
-pub work_refused : {kind : Kind} {h : SpaceList} {roots : List Root} {before after : Sitting} (result : Result Copies CollectFault) (fault : CollectFault) → IsErrAnd result (λ x. x ≡ fault) →
+pub work_refused : {kind : Kind} {h : SpaceList} {roots : List Root} {before after : Sitting} (result : Result Copies RoomFault) (fault : RoomFault) → IsErrAnd result (λ x. x ≡ fault) →
     IsSameSeat before after → AreEarned kind h roots after.done → (fault ≡ HeapFull → HasClaimedPast after.limit after.done) → HasWorkedAll kind h roots before after result
 work_refused (Ok x) fault told same earned full = absurd told
 work_refused (Err x) fault told same earned full = record { worked = record { same = same; earned = earned; full = λ is. full (sym told ∙ is) }; last = tt; copied = tt }

@@ -5,10 +5,10 @@ use Rattle.tg_space.specs.declared.kind.Kind.{Kind}
 use Rattle.tg_space.specs.declared.root.Root.{Root}
 use Rattle.tg_race.specs.Race.{empty, past}
 use Rattle.tg_race.specs.Seats.{Board, Seated}
-use Rattle.tg_evac.specs.declared.fault.CollectFault.TheVariants.{HeapFull}
+use Rattle.tg_space.specs.declared.room_fault.RoomFault.TheVariants.{HeapFull}
 use Rattle.tg_parallel.specs.declared.part.Helped.{Helped}
 use Rattle.tg_parallel.specs.declared.part.Part.{Part}
-use Rattle.tg_evac.specs.declared.fault.CollectFault.{CollectFault}
+use Rattle.tg_space.specs.declared.room_fault.RoomFault.{RoomFault}
 use Rattle.tg_parallel.specs.Parts.{AreEarned, IsPart, IsPastLimit}
 
 -- Helpers of so many shares sat at the table. Their wins are earned, whatever came of it. Where they made a part, the chunk
@@ -28,7 +28,7 @@ pub record IsOneOf (a b c : Part) : Type 0 where
   pub old : c.old.items ≡ a.old.items ++ b.old.items
 
 -- all that two parts have, or a fault: that of one of the two, or want of memory
-abbrev pub IsOfBoth : Result Part CollectFault → Result Part CollectFault → Result Part CollectFault → Type 0
+abbrev pub IsOfBoth : Result Part RoomFault → Result Part RoomFault → Result Part RoomFault → Type 0
 IsOfBoth (Ok a) (Ok b) (Ok c) = IsOneOf a b c
 IsOfBoth (Ok a) (Ok b) (Err fault) = fault ≢ HeapFull
 IsOfBoth (Ok a) (Err why) (Ok c) = ⊥

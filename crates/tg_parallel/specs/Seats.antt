@@ -17,8 +17,8 @@ use Rattle.tg_race.specs.Race.{empty, is_chunk, past, used_in}
 use Rattle.tg_race.specs.Seats.{Board, Seated}
 use Rattle.tg_race.specs.Words.{space_of_age}
 use Rattle.tg_evac.specs.declared.copies.Copies.{Copies}
-use Rattle.tg_evac.specs.declared.fault.CollectFault.{CollectFault}
-use Rattle.tg_evac.specs.declared.fault.CollectFault.TheVariants.{HeapFull}
+use Rattle.tg_space.specs.declared.room_fault.RoomFault.{RoomFault}
+use Rattle.tg_space.specs.declared.room_fault.RoomFault.TheVariants.{HeapFull}
 use Rattle.tg_evac.specs.Claims.{HavePointers}
 use Rattle.tg_evac.specs.Claimers.{AreScanned, IsLink, Walked}
 use Rattle.tg_parallel.specs.declared.own_blocks.OwnBlocks.{OwnBlocks}
@@ -130,7 +130,7 @@ pub record IsDrawn {Fault : Type 0} (before : OwnBlocks) (old : Seated) (after :
   pub none : OnErr result (after.numbers.items ≡ before.numbers.items)
 
 -- the next place is known; it is refused where that is past the limit
-pub record AreReady {T : Type 0} (limit : ℕ) (before : OwnBlocks) (old : Seated) (after : OwnBlocks) (new : Seated) (result : Result T CollectFault) : Type 0 where
+pub record AreReady {T : Type 0} (limit : ℕ) (before : OwnBlocks) (old : Seated) (after : OwnBlocks) (new : Seated) (result : Result T RoomFault) : Type 0 where
   pub stay : StayFilled before old after new
   pub blocks : OnlyBlocks old.done new.done
   pub next : KnowsNext limit new.done after
@@ -149,7 +149,7 @@ pub record FindsNext (cell : ℕ) (before : OwnBlocks) (old : Seated) (after : O
   pub known : (to : ℕ → Place) → HasPlaces new.done to → to cell ≡ place_in word
 
 -- and a block was claimed for it where none had a place left; it is refused where that is past the limit
-pub record GivePlace (limit cell : ℕ) (before : OwnBlocks) (old : Seated) (after : OwnBlocks) (new : Seated) (result : Result ℕ CollectFault) : Type 0 where
+pub record GivePlace (limit cell : ℕ) (before : OwnBlocks) (old : Seated) (after : OwnBlocks) (new : Seated) (result : Result ℕ RoomFault) : Type 0 where
   pub stay : StayFilled before old after new
   pub finds : Finds cell before.aged old.done new.done
   pub next : KnowsNext limit new.done after
@@ -241,13 +241,13 @@ pub record MayBegin (kind : Kind) (h : SpaceList) (roots : List Root) (s : Sitti
   pub fresh : s.done ≡ empty 1
 
 -- what it has won is earned, and it tells that the heap is full only where it has claimed a block past the limit
-pub record HasWorked {T : Type 0} (kind : Kind) (h : SpaceList) (roots : List Root) (before after : Sitting) (result : Result T CollectFault) : Type 0 where
+pub record HasWorked {T : Type 0} (kind : Kind) (h : SpaceList) (roots : List Root) (before after : Sitting) (result : Result T RoomFault) : Type 0 where
   pub same : IsSameSeat before after
   pub earned : AreEarned kind h roots after.done
   pub full : IfErr result (λ fault. fault ≡ HeapFull → HasClaimedPast after.limit after.done)
 
 -- all chunks of roots were claimed, and what the helper won was copied
-pub record HasWorkedAll (kind : Kind) (h : SpaceList) (roots : List Root) (before after : Sitting) (result : Result Copies CollectFault) : Type 0 where
+pub record HasWorkedAll (kind : Kind) (h : SpaceList) (roots : List Root) (before after : Sitting) (result : Result Copies RoomFault) : Type 0 where
   pub worked : HasWorked kind h roots before after result
   pub last : OnOk result (0 < past after.board.counts after.done)
   pub copied : IfOk result (λ copies. HasCopied kind h roots after.done.chunks after copies.scanned copies.aged copies.old)

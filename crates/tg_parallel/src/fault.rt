@@ -1,6 +1,6 @@
 //! Why a collection by several helpers was refused.
 use std::alloc::{AllocError, AllocFailed};
-use tg_evac::CollectFault;
+use tg_space::RoomFault;
 use thiserror::Error;
 
 /// Why a collection by several helpers was refused; nothing was changed then.
@@ -10,23 +10,23 @@ pub enum HelpersFault {
     #[error("out of memory")]
     OutOfMemory,
     /// A space would need more blocks than the limits give it.
-    #[error("heap is full")]
+    #[error("heap full")]
     HeapFull,
     /// A thread for a helper couldn't be started.
     #[error("no thread")]
     NoThread,
 }
 
-impl From<CollectFault> for HelpersFault {
+impl From<RoomFault> for HelpersFault {
     ghost use Rattle.std.specs.Prelude.{◌≡◌};
     ghost use Rattle.tg_parallel.specs.Faults.{helpers_fault_of};
 
     ghost from_gives = { λ fault e. e ≡ helpers_fault_of fault };
 
-    fn from(fault: CollectFault) -> Self {
+    fn from(fault: RoomFault) -> Self {
         match fault {
-            CollectFault::OutOfMemory => Self::OutOfMemory,
-            CollectFault::HeapFull => Self::HeapFull,
+            RoomFault::OutOfMemory => Self::OutOfMemory,
+            RoomFault::HeapFull => Self::HeapFull,
         }
     }
 }

@@ -28,9 +28,9 @@ use std::sync::Wait;
 use std::thread;
 use std::thread::{Promise, PromisedHandle, Scope, Threads, join_promised};
 use tg_block::Block;
-use tg_evac::{CollectFault, Copied, Plan, notes_of};
+use tg_evac::{Copied, Plan, notes_of};
 use tg_race::{Helper, Opened, RaceTable};
-use tg_space::{Forwarding, Kind, Root, Spaces, Spare};
+use tg_space::{Forwarding, Kind, RoomFault, Root, Spaces, Spare};
 use tg_word::CELLS;
 
 /// Copies what the roots reach into new blocks, by one helper at a table of its own, on the calling thread.
@@ -44,9 +44,9 @@ pub fn collect_seated(
     roots: &[Root],
     kind: Kind,
     spare: Spare,
-) -> Result<Copied, CollectFault>
+) -> Result<Copied, RoomFault>
     requires { AreSound spaces.now.spaces roots.now }
-    ensures { Collects CollectFault.HeapFull kind spaces.now roots.now 1 1 result }
+    ensures { Collects RoomFault.HeapFull kind spaces.now roots.now 1 1 result }
 {
     collect_alone(alloc, spaces, roots, kind, &NoGate, spare)
 }
@@ -60,9 +60,9 @@ fn collect_alone<G: Gate>(
     kind: Kind,
     gate: &G,
     spare: Spare,
-) -> Result<Copied, CollectFault>
+) -> Result<Copied, RoomFault>
     requires { AreSound spaces.now.spaces roots.now }
-    ensures { Collects CollectFault.HeapFull kind spaces.now roots.now 1 1 result }
+    ensures { Collects RoomFault.HeapFull kind spaces.now roots.now 1 1 result }
 {
     let cells = spaces.cells();
     let plan = Plan::of(kind, spaces);
@@ -326,12 +326,12 @@ fn finish(
     roots: &[Root],
     plan: Plan,
     helped: Helped,
-) -> Result<Copied, CollectFault>
+) -> Result<Copied, RoomFault>
     requires plan { MayFinish spaces.now roots.now plan }
     requires few { plan.kept ≤ MOST_SPACE_BLOCKS }
     requires counts { AreCountsOf plan.kind spaces.now.spaces roots.now table.counts }
     requires helped { IsHelped plan.kind spaces.now roots.now table table.counts.helpers helped }
-    ensures { Collects CollectFault.HeapFull plan.kind spaces.now roots.now table.counts.helpers table.counts.helpers result }
+    ensures { Collects RoomFault.HeapFull plan.kind spaces.now roots.now table.counts.helpers table.counts.helpers result }
 {
     let Helped { helper, part, room } = helped;
     let forward = Forwarding::of_closed(CELLS * plan.kept, table.close(helper), room);

@@ -8,8 +8,8 @@ ghost use Rattle.tg_parallel.specs.Seats.{AreReady, GivePlace, HasRoomFor, IsDra
 use crate::links::word_to;
 use crate::winner::Winner;
 use std::alloc::AllocError;
-use tg_evac::CollectFault;
 use tg_race::{CellWord, RaceTable};
+use tg_space::RoomFault;
 use tg_word::{AGED, CELL_AT, CELLS, OLD, Place};
 
 /// The blocks that a helper has claimed in a space, and what is left in the last of them.
@@ -57,7 +57,7 @@ impl OwnBlocks {
         table: &RaceTable,
         at: CellWord,
         limit: u64,
-    ) -> Result<u64, CollectFault>
+    ) -> Result<u64, RoomFault>
         requires held { IsHeldBy table.now winner.old self.now }
         requires word { IsWordIn table.now at }
         requires room { HasRoomFor table.now at.cell winner.old }
@@ -76,7 +76,7 @@ impl OwnBlocks {
         winner: &mut Winner,
         table: &RaceTable,
         limit: u64,
-    ) -> Result<(), CollectFault>
+    ) -> Result<(), RoomFault>
         requires held { IsHeldBy table.now winner.old self.now }
         requires limit { limit ≤ MOST_SPACE_BLOCKS }
         requires next { KnowsNext limit winner.old.done self.now }
@@ -92,12 +92,7 @@ impl OwnBlocks {
     //
     // It is small, and refers to nothing that stands in the seat but by a call that is laid out here: so the seat is kept in registers.
     #[inline(always)]
-    fn open(
-        &mut self,
-        winner: &mut Winner,
-        table: &RaceTable,
-        limit: u64,
-    ) -> Result<(), CollectFault>
+    fn open(&mut self, winner: &mut Winner, table: &RaceTable, limit: u64) -> Result<(), RoomFault>
         requires held { IsHeldBy table.now winner.old self.now }
         requires limit { limit ≤ MOST_SPACE_BLOCKS }
         requires next { KnowsNext limit winner.old.done self.now }
@@ -105,12 +100,12 @@ impl OwnBlocks {
         ensures { AreReady limit self.entry.now winner.old self.exit.now winner.new result }
     {
         if self.is_past {
-            return Err(CollectFault::HeapFull);
+            return Err(RoomFault::HeapFull);
         }
         let block = self.draw(winner, table)?;
         if block >= limit {
             self.is_past = true;
-            return Err(CollectFault::HeapFull);
+            return Err(RoomFault::HeapFull);
         }
         self.next = word_to(Place {
             space: if self.aged { AGED } else { OLD },

@@ -14,9 +14,9 @@ use crate::work::work;
 use std::alloc::{AllocError, Global};
 use std::vec::IntoIter;
 use tg_block::Block;
-use tg_evac::{CollectFault, Copies, Reads};
+use tg_evac::{Copies, Reads};
 use tg_race::{Helper, RaceTable};
-use tg_space::{Kind, Root, Space, Spaces, Spare};
+use tg_space::{Kind, RoomFault, Root, Space, Spaces, Spare};
 use tg_word::CELLS;
 
 /// What a helper has copied: its blocks, each with its number.
@@ -34,7 +34,7 @@ pub struct Helped {
     /// The helper.
     pub helper: Helper,
     /// What it made, or why it stopped.
-    pub part: Result<Part, CollectFault>,
+    pub part: Result<Part, RoomFault>,
     /// Room that it has no more use for.
     pub room: Vec<u64>,
 }
@@ -49,20 +49,20 @@ impl Part {
         aged: &[u64],
         old: &[u64],
         limit: u64,
-    ) -> Result<Part, CollectFault>
+    ) -> Result<Part, RoomFault>
         requires aged_room { length copies.aged ≤ MOST_SPACE_CELLS }
         requires old_room { length copies.old ≤ MOST_SPACE_CELLS }
         ensures aged { IfOk result (λ part. AreLaidOut copies.aged aged.now part.aged.items) }
         ensures old { IfOk result (λ part. AreLaidOut copies.old old.now part.old.items) }
         ensures aged_few { OnOk result (All (λ b. b < limit) aged.now) }
         ensures old_few { OnOk result (All (λ b. b < limit) old.now) }
-        ensures full { IfErr result (λ fault. fault ≡ CollectFault.HeapFull → (b : ℕ) × (Contains aged.now b ⊎ Contains old.now b) × (limit ≤ b)) }
+        ensures full { IfErr result (λ fault. fault ≡ RoomFault.HeapFull → (b : ℕ) × (Contains aged.now b ⊎ Contains old.now b) × (limit ≤ b)) }
     {
         if !are_below(aged, limit) {
-            return Err(CollectFault::HeapFull);
+            return Err(RoomFault::HeapFull);
         }
         if !are_below(old, limit) {
-            return Err(CollectFault::HeapFull);
+            return Err(RoomFault::HeapFull);
         }
         let blocks = copies.finish()?;
         Ok(Part {
@@ -253,7 +253,7 @@ fn help_kind<G: Gate>(
     let Ok(lists) = lists_of(alloc, table.len(), words) else {
         return Helped {
             helper,
-            part: Err(CollectFault::OutOfMemory),
+            part: Err(RoomFault::OutOfMemory),
             room: Vec::new(alloc),
         };
     };

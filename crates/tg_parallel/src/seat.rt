@@ -17,9 +17,9 @@ ghost use Rattle.tg_parallel.specs.Seats.{AreEmptyLists, AreFilled, walked_at};
 use crate::own_blocks::OwnBlocks;
 use crate::winner::Winner;
 use std::marker::Model;
-use tg_evac::{Claimer, CollectFault};
+use tg_evac::Claimer;
 use tg_race::{CellWord, Helper, RaceTable};
-use tg_space::Kind;
+use tg_space::{Kind, RoomFault};
 use tg_word::AGED;
 
 /// A helper with its own blocks, at the table that it shares with other helpers.
@@ -153,7 +153,7 @@ impl<'a> Seat<'a> {
 
     // The word of the place of a cell: a new one in a space, unless it has one.
     #[inline(always)]
-    fn claim_place(&mut self, cell: u64, space: u64) -> Result<u64, CollectFault>
+    fn claim_place(&mut self, cell: u64, space: u64) -> Result<u64, RoomFault>
         requires { MayClaim (walked_at self.now) cell space }
         ensures { ClaimsCell walked_at (λ s. HasPlaces s.done) (λ s. HasClaimedPast s.limit s.done) cell space self.entry.now self.exit.now result }
     {
@@ -167,7 +167,7 @@ impl<'a> Seat<'a> {
 
     // Gives a cell that has no place the next one of a space, unless another helper does so first, and answers its word.
     #[inline(always)]
-    fn give_word(&mut self, at: CellWord, space: u64) -> Result<u64, CollectFault>
+    fn give_word(&mut self, at: CellWord, space: u64) -> Result<u64, RoomFault>
         requires word { IsWordIn self.now.board at }
         requires two { space < 2 }
         requires unmet { has_met self.now.done at.cell ≡ false }
@@ -233,7 +233,7 @@ impl<'a> Claimer for Seat<'a> {
     }
 
     #[inline(always)]
-    fn claim(&mut self, cell: u64, space: u64) -> Result<u64, CollectFault> {
+    fn claim(&mut self, cell: u64, space: u64) -> Result<u64, RoomFault> {
         self.claim_place(cell, space)
     }
 }

@@ -7,8 +7,8 @@ use crate::gate::Gate;
 use crate::seat::Seat;
 use std::alloc::Global;
 use tg_block::Block;
-use tg_evac::{CollectFault, Copies, Reads, walk};
-use tg_space::{Kind, Root, Spaces};
+use tg_evac::{Copies, Reads, walk};
+use tg_space::{Kind, RoomFault, Root, Spaces};
 
 // How many roots a chunk has; the last may have fewer.
 const CHUNK: u64 = 8;
@@ -28,7 +28,7 @@ pub fn work<G: Gate>(
     reads: Reads,
     gate: &G,
     spare: Vec<Block>,
-) -> Result<Copies, CollectFault>
+) -> Result<Copies, RoomFault>
     requires { MayBegin kind spaces.now.spaces roots.now seat.now }
     ensures { HasWorkedAll kind spaces.now.spaces roots.now seat.entry.now seat.exit.now result }
 {
@@ -54,7 +54,7 @@ fn copy_chunk(
     reads: Reads,
     chunk: u64,
     copies: &mut Copies,
-) -> Result<(), CollectFault>
+) -> Result<(), RoomFault>
     requires seat { MayWork kind spaces.now.spaces roots.now seat.now }
     requires inside { 8 * chunk < length roots.now }
     requires earned { AreEarned kind spaces.now.spaces roots.now seat.now.done }

@@ -1,9 +1,5 @@
 -- How faults are told, and the statuses of the program.
 use Rattle.std.specs.Prelude.{ℕ, Result, Ok, Err}
-use Rattle.tg_parallel.specs.declared.fault.HelpersFault.{HelpersFault}
-use Rattle.tg_parallel.specs.declared.fault.HelpersFault.TheVariants as helpers
-use Rattle.tg_text.specs.declared.answer.Refusal.{Refusal}
-use Rattle.tg_text.specs.declared.answer.Refusal.TheVariants as refusal
 use Rattle.tg_text.specs.declared.stock.StockFault.{StockFault}
 use Rattle.tg_text.specs.declared.stock.StockFault.TheVariants as stock
 use Rattle.tg_script.specs.Lines.{read_failures, write_failures}
@@ -16,12 +12,6 @@ use Rattle.tg_program.specs.declared.stop.Stop.TheVariants as stop
 abbrev pub start_fault_of : StockFault → StartFault
 start_fault_of stock.OutOfMemory = start.OutOfMemory
 start_fault_of stock.BadStock = start.BadStock
-
--- how a line is answered whose collection was refused
-abbrev pub refusal_of : HelpersFault → Refusal
-refusal_of helpers.OutOfMemory = refusal.Memory
-refusal_of helpers.HeapFull = refusal.Heap
-refusal_of helpers.NoThread = refusal.Threads
 
 -- how many failures of the source the end of a run is
 abbrev pub stop_read_failures : {T : Type 0} → Result T Stop → ℕ

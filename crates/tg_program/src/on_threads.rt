@@ -1,13 +1,12 @@
 //! Collections by helpers on threads.
-ghost use Rattle.std.specs.Prelude.{◌≡◌};
 ghost use Rattle.std.specs.Thread.{IsSync};
-ghost use Rattle.tg_program.specs.Faults.{refusal_of};
 
 use std::alloc::Global;
 use std::sync::Wait;
 use std::thread::Threads;
-use tg_helpers::{HelpersFault, NoGate, collect_with};
+use tg_helpers::{NoGate, collect_with};
 use tg_payload::Payload;
+use tg_refusals::helpers_refusal;
 use tg_script::{Collector, Helpers, OneThread, Refusal};
 use tg_store::{Kind, Store};
 
@@ -41,17 +40,7 @@ impl<R: Threads + Wait + Sync> Collector for OnThreads<'_, R> {
         }
         match collect_with(self.rt, self.alloc, store, kind, number, &NoGate) {
             Ok(kept) => Ok(kept),
-            Err(fault) => Err(refusal_of(fault)),
+            Err(fault) => Err(helpers_refusal(fault)),
         }
-    }
-}
-
-fn refusal_of(fault: HelpersFault) -> Refusal
-    ensures { result ≡ refusal_of fault }
-{
-    match fault {
-        HelpersFault::OutOfMemory => Refusal::Memory,
-        HelpersFault::HeapFull => Refusal::Heap,
-        HelpersFault::NoThread => Refusal::Threads,
     }
 }

@@ -1,7 +1,9 @@
 -- How a fault of the store is told.
-use Rattle.tg_evac.specs.declared.fault.CollectFault.{CollectFault}
-use Rattle.tg_evac.specs.declared.fault.CollectFault.TheVariants as collect
+use Rattle.tg_space.specs.declared.room_fault.RoomFault.{RoomFault}
+use Rattle.tg_space.specs.declared.room_fault.RoomFault.TheVariants as no_room
 use Rattle.tg_model.specs.declared.reply.Reply.TheVariants as reply
+use Rattle.tg_parallel.specs.declared.fault.HelpersFault.{HelpersFault}
+use Rattle.tg_parallel.specs.declared.fault.HelpersFault.TheVariants as helpers
 use Rattle.tg_store.specs.declared.fault.ApplyFault.{ApplyFault}
 use Rattle.tg_store.specs.declared.fault.ApplyFault.TheVariants as apply
 use Rattle.tg_store.specs.declared.fault.CreateFault.{CreateFault}
@@ -23,6 +25,11 @@ create_answer create.WorkersFull = told.Reply reply.WorkersFull
 create_answer create.OutOfMemory = told.Refused refusal.Memory
 create_answer create.HeapFull = told.Refused refusal.Heap
 
-abbrev pub collect_refusal : CollectFault → Refusal
-collect_refusal collect.OutOfMemory = refusal.Memory
-collect_refusal collect.HeapFull = refusal.Heap
+abbrev pub collect_refusal : RoomFault → Refusal
+collect_refusal no_room.OutOfMemory = refusal.Memory
+collect_refusal no_room.HeapFull = refusal.Heap
+
+abbrev pub helpers_refusal : HelpersFault → Refusal
+helpers_refusal helpers.OutOfMemory = refusal.Memory
+helpers_refusal helpers.HeapFull = refusal.Heap
+helpers_refusal helpers.NoThread = refusal.Threads

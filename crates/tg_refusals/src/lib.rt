@@ -4,10 +4,11 @@
 #![tactic(auto)]
 
 ghost use Rattle.std.specs.Prelude.{◌≡◌};
-ghost use Rattle.tg_refusals.specs.Refusals.{apply_refusal, create_answer, collect_refusal};
+ghost use Rattle.tg_refusals.specs.Refusals.{apply_refusal, create_answer, collect_refusal, helpers_refusal};
 
 use tg_model::Reply;
-use tg_store::{ApplyFault, CollectFault, CreateFault};
+use tg_parallel::HelpersFault;
+use tg_store::{ApplyFault, CreateFault, RoomFault};
 use tg_text::{Answer, Refusal};
 
 /// What a command is told that the store refused.
@@ -36,11 +37,22 @@ pub fn create_answer(fault: CreateFault) -> Answer
 }
 
 /// What a collection is told that was refused.
-pub fn collect_refusal(fault: CollectFault) -> Refusal
+pub fn collect_refusal(fault: RoomFault) -> Refusal
     ensures { result ≡ collect_refusal fault }
 {
     match fault {
-        CollectFault::OutOfMemory => Refusal::Memory,
-        CollectFault::HeapFull => Refusal::Heap,
+        RoomFault::OutOfMemory => Refusal::Memory,
+        RoomFault::HeapFull => Refusal::Heap,
+    }
+}
+
+/// What a collection by several helpers is told that was refused.
+pub fn helpers_refusal(fault: HelpersFault) -> Refusal
+    ensures { result ≡ helpers_refusal fault }
+{
+    match fault {
+        HelpersFault::OutOfMemory => Refusal::Memory,
+        HelpersFault::HeapFull => Refusal::Heap,
+        HelpersFault::NoThread => Refusal::Threads,
     }
 }

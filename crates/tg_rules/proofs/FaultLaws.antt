@@ -1,17 +1,9 @@
--- How a refusal of the heap is told.
-use Rattle.std.proofs.Common.{◌≡◌, ℕ, refl, subst, ◌∙◌}
-use Rattle.tg_space.specs.declared.allocate_fault.AllocateFault.{AllocateFault}
-use Rattle.tg_space.specs.declared.allocate_fault.AllocateFault.TheVariants as allocate
+-- For which vertices there is no room.
+use Rattle.std.proofs.Common.{◌≡◌, ℕ, subst, ◌∙◌}
 use Rattle.tg_graph.specs.Heap.{HeapState, name_of}
 use Rattle.tg_graph.specs.Spots.{LacksCellsFor}
-use Rattle.tg_rules.specs.declared.effect.PerformFault.TheVariants as perform
 use Rattle.tg_rules.specs.declared.vertex.Vertex.{Vertex}
-use Rattle.tg_rules.specs.Effect.{perform_fault_of}
 use Rattle.tg_rules.specs.Verdict.{HasVertex}
-
-pub heap_full : (fault : AllocateFault) → perform_fault_of fault ≡ perform.HeapFull → fault ≡ allocate.HeapFull
-heap_full allocate.OutOfMemory e = absurd (cc e)
-heap_full allocate.HeapFull e = refl
 
 -- the vertices at two places are those with these names
 pub lacks_by_name : (s : HeapState) (space x y : ℕ) (from to : Vertex) → HasVertex s from → HasVertex s to → from.name ≡ x → to.name ≡ y →

@@ -7,8 +7,6 @@ use Rattle.tg_model.specs.declared.reply.Reply.{Reply}
 use Rattle.tg_model.specs.declared.reply.Reply.TheVariants.{Done}
 use Rattle.tg_model.specs.Rules.{labels_after, values_after, reply_of}
 use Rattle.tg_word.specs.Word.{nursery_space}
-use Rattle.tg_space.specs.declared.allocate_fault.AllocateFault.{AllocateFault}
-use Rattle.tg_space.specs.declared.allocate_fault.AllocateFault.TheVariants as allocate
 use Rattle.tg_space.specs.SpaceTable.{SpaceTable}
 use Rattle.tg_graph.specs.Content.{Content, IsNamed, IsContent}
 use Rattle.tg_graph.specs.Heap.{HeapState, IsUnchangedHeap, KeepsIndexes, KeepsPlaces}
@@ -16,8 +14,6 @@ use Rattle.tg_graph.specs.Rows.{IsVertexAt}
 use Rattle.tg_graph.specs.Spots.{LacksCellsFor}
 use Rattle.tg_word.specs.declared.Place.{Place}
 use Rattle.tg_rules.specs.Parties.{owner_of_row}
-use Rattle.tg_rules.specs.declared.effect.PerformFault.{PerformFault}
-use Rattle.tg_rules.specs.declared.effect.PerformFault.TheVariants as perform
 
 -- The reply to a command of x that is served, whatever number above all names says how many vertices were made.
 abbrev pub IsReplyOn : Content → ℕ → Command → Reply → Type 0
@@ -91,7 +87,3 @@ LacksCellsToServe t nursery x (Append y v) = ⊥
 LacksCellsToServe t nursery x (Inspect y) = ⊥
 LacksCellsToServe t nursery x Listing = ⊥
 LacksCellsToServe t nursery x Retire = ⊥
-
-abbrev pub perform_fault_of : AllocateFault → PerformFault
-perform_fault_of allocate.OutOfMemory = perform.OutOfMemory
-perform_fault_of allocate.HeapFull = perform.HeapFull

@@ -13,50 +13,12 @@ ghost use Rattle.tg_rules.specs.Verdict.{HasSubject, HasVertex};
 
 use crate::decision::find_parties;
 use crate::vertex::{Parties, Vertex, subject_of};
-use std::alloc::AllocError;
 use tg_graph::Heap;
 use tg_model::{Command, Reply};
 use tg_payload::Payload;
 use tg_rights::Label;
-use tg_space::AllocateFault;
+use tg_space::RoomFault;
 use tg_subjects::Subject;
-use thiserror::Error;
-
-/// Why a command that is to be served was not performed. The heap is as it was.
-#[derive(Clone, Copy, PartialEq, Eq, Debug, Error)]
-pub enum PerformFault {
-    /// Memory for the reply, for a block or for a payload's state was refused.
-    #[error("out of memory")]
-    OutOfMemory,
-    /// A new reference needs a cell, and the nursery of the worker has none left and gets no more blocks.
-    #[error("heap full")]
-    HeapFull,
-}
-
-impl From<AllocError> for PerformFault {
-    ghost use Rattle.std.specs.Prelude.{◌≡◌};
-    ghost use Rattle.tg_rules.specs.declared.effect.PerformFault.TheVariants.{OutOfMemory};
-
-    ghost from_gives = { λ _ e. e ≡ OutOfMemory };
-
-    fn from(_error: AllocError) -> PerformFault {
-        PerformFault::OutOfMemory
-    }
-}
-
-impl From<AllocateFault> for PerformFault {
-    ghost use Rattle.std.specs.Prelude.{◌≡◌};
-    ghost use Rattle.tg_rules.specs.Effect.{perform_fault_of};
-
-    ghost from_gives = { λ fault e. e ≡ perform_fault_of fault };
-
-    fn from(fault: AllocateFault) -> PerformFault {
-        match fault {
-            AllocateFault::OutOfMemory => PerformFault::OutOfMemory,
-            AllocateFault::HeapFull => PerformFault::HeapFull,
-        }
-    }
-}
 
 /// Performs a command of a worker that is to be served: answers as the rules say on what the heap has, and changes
 /// that as they say. The vertices that there are stay where they are; one who retires is no active subject any more, and all other
@@ -68,7 +30,7 @@ pub fn perform<P: Payload>(
     heap: &mut Heap<P>,
     worker: u64,
     command: &Command,
-) -> Result<Reply, PerformFault>
+) -> Result<Reply, RoomFault>
     requires worker { IsActive heap.old worker }
     requires served { denial_of (content_of heap.old).label (content_of heap.old).value worker command.now ≡ None }
     ensures reply { IfOk result (λ reply. IsReplyOn (content_of heap.old) worker command.now reply) }
@@ -76,7 +38,7 @@ pub fn perform<P: Payload>(
     ensures subjects { OnOk result (subject_names heap.new ≡ subjects_after (subject_names heap.old) worker command.now) }
     ensures indexed { OnOk result (IndexesAfter heap.old heap.new worker command.now) }
     ensures left { LeavesHeap command.now heap.old heap.new result }
-    ensures full { result ≡ Err PerformFault.HeapFull → AddsEdge command.now × LacksCellsToServe heap.old.table (nursery_of heap.old worker) worker command.now }
+    ensures full { result ≡ Err RoomFault.HeapFull → AddsEdge command.now × LacksCellsToServe heap.old.table (nursery_of heap.old worker) worker command.now }
 {
     let subject = subject_of(heap, worker);
     match find_parties(heap, subject, command) {
@@ -93,7 +55,7 @@ pub fn perform_between<P: Payload>(
     subject: Subject,
     command: &Command,
     parties: Parties,
-) -> Result<Reply, PerformFault>
+) -> Result<Reply, RoomFault>
     requires subject { HasSubject heap.old subject }
     requires parties { AreParties heap.old subject.name command.now parties }
     ensures reply { IfOk result (λ reply. IsReplyOn (content_of heap.old) subject.name command.now reply) }
@@ -101,7 +63,7 @@ pub fn perform_between<P: Payload>(
     ensures subjects { OnOk result (subject_names heap.new ≡ subjects_after (subject_names heap.old) subject.name command.now) }
     ensures indexed { OnOk result (IndexesAfter heap.old heap.new subject.name command.now) }
     ensures left { LeavesHeap command.now heap.old heap.new result }
-    ensures full { result ≡ Err PerformFault.HeapFull → AddsEdge command.now × LacksCellsToServe heap.old.table subject.nursery subject.name command.now }
+    ensures full { result ≡ Err RoomFault.HeapFull → AddsEdge command.now × LacksCellsToServe heap.old.table subject.nursery subject.name command.now }
 {
     let Parties { from, target } = parties;
     match *command {
@@ -141,7 +103,7 @@ fn add<P: Payload>(
     from: Vertex,
     target: Vertex,
     rights: Label,
-) -> Result<Reply, PerformFault>
+) -> Result<Reply, RoomFault>
     requires subject { HasSubject heap.old subject }
     requires from { HasVertex heap.old from }
     requires target { HasVertex heap.old target }
@@ -149,7 +111,7 @@ fn add<P: Payload>(
         (with_rights (content_of heap.old).label from.name target.name rights) (content_of heap.old).value) }
     ensures indexed { OnOk result (KeepsIndexes heap.old heap.new from.place) }
     ensures done { IsDoneInPlace heap.old heap.new result }
-    ensures full { result ≡ Err PerformFault.HeapFull → LacksCellsFor heap.old.table (nursery_space subject.nursery) 0 from.name target.name }
+    ensures full { result ≡ Err RoomFault.HeapFull → LacksCellsFor heap.old.table (nursery_space subject.nursery) 0 from.name target.name }
 {
     heap.add_edge_as(subject, from.place, target.place, rights)?;
     Ok(Reply::Done)
@@ -171,23 +133,23 @@ fn remove<P: Payload>(heap: &mut Heap<P>, from: Vertex, name: u64, rights: Label
 
 // The state of a vertex.
 #[inline(always)]
-fn read<P: Payload>(heap: &Heap<P>, target: Vertex) -> Result<Reply, PerformFault>
+fn read<P: Payload>(heap: &Heap<P>, target: Vertex) -> Result<Reply, RoomFault>
     requires { HasVertex heap.now target }
     ensures reply { IfOk result (λ reply. reply ≡ Reply.Values (state_of ((content_of heap.now).value target.name))) }
-    ensures room { result ≢ Err PerformFault.HeapFull }
+    ensures room { result ≢ Err RoomFault.HeapFull }
 {
     Ok(Reply::Values(heap.state(target.place)?))
 }
 
 // The state of a vertex becomes that after a number is written or appended.
 #[inline(always)]
-fn write<P: Payload>(heap: &mut Heap<P>, target: Vertex, number: u64) -> Result<Reply, PerformFault>
+fn write<P: Payload>(heap: &mut Heap<P>, target: Vertex, number: u64) -> Result<Reply, RoomFault>
     requires { HasVertex heap.old target }
     ensures content { OnOk result (IsContent (content_of heap.new) (IsNamed (content_of heap.old)) (content_of heap.old).label
         (written_at (content_of heap.old).value target.name number)) }
     ensures indexed { OnOk result (heap.new.indexed ≡ heap.old.indexed) }
     ensures done { IsDoneInPlace heap.old heap.new result }
-    ensures room { result ≢ Err PerformFault.HeapFull }
+    ensures room { result ≢ Err RoomFault.HeapFull }
 {
     heap.write(target.place, number)?;
     Ok(Reply::Done)
@@ -208,10 +170,10 @@ fn retire<P: Payload>(heap: &mut Heap<P>, name: u64) -> Reply
 
 // The edges of a vertex.
 #[inline(always)]
-fn list<P: Payload>(heap: &Heap<P>, from: Vertex) -> Result<Reply, PerformFault>
+fn list<P: Payload>(heap: &Heap<P>, from: Vertex) -> Result<Reply, RoomFault>
     requires { HasVertex heap.now from }
     ensures reply { IfOk result (λ reply. (n : ℕ) → All (λ name. name < n) (content_of heap.now).names → reply ≡ Reply.Edges (listing_of (content_of heap.now).label n from.name)) }
-    ensures room { result ≢ Err PerformFault.HeapFull }
+    ensures room { result ≢ Err RoomFault.HeapFull }
 {
     Ok(Reply::Edges(heap.row(from.place)?))
 }

@@ -37,5 +37,5 @@ pub mod laws;
 mod vertex;
 
 pub use decision::{Verdict, decide, find_parties};
-pub use effect::{PerformFault, perform, perform_between, readable};
+pub use effect::{perform, perform_between, readable};
 pub use vertex::Parties;

@@ -18,7 +18,7 @@ use std::sync::Wait;
 use tg_model::{Command, Reply};
 use tg_payload::{Draft, Payload};
 use tg_rights::Label;
-use tg_store::{ApplyFault, CollectFault, CreateFault, CreateRefused, Kind};
+use tg_store::{ApplyFault, CreateFault, CreateRefused, Kind, RoomFault};
 
 impl<L: Round> Session<L> {
     ghost use Rattle.std.specs.Borrow.{sem};
@@ -144,10 +144,10 @@ impl<L: Round> Session<L> {
         rt: &R,
         store: &SharedStore<L, P>,
         kind: Kind,
-    ) -> Result<u64, CollectFault>
+    ) -> Result<u64, RoomFault>
         ensures number { IfOk result (λ number. AtSome L.start (λ s.
             (number ≡ length (content_of s.heap).names) × (kind ≡ Kind.Full → IsCountOf (IsReachable (graph_of_store s)) number))) }
-        ensures full { IfErr result (λ why. why ≡ CollectFault.HeapFull → AtSome L.start (λ s.
+        ensures full { IfErr result (λ why. why ≡ RoomFault.HeapFull → AtSome L.start (λ s.
             LacksRoomToCollect kind 1 s.heap)) }
     {
         let mut locked = store.locked.lock(rt);

@@ -12,7 +12,7 @@ use tg_journal::Entry;
 use tg_model::{Command, Deed, Reply};
 use tg_payload::{Draft, Payload};
 use tg_rights::Label;
-use tg_store::{ApplyFault, CollectFault, CreateFault, CreateRefused, Kind, Store};
+use tg_store::{ApplyFault, CreateFault, CreateRefused, Kind, RoomFault, Store};
 use tg_subjects::Subject;
 
 /// What is behind the lock: the store, the book that counts its entries since it was shared, and the parts of the ledger
@@ -239,11 +239,11 @@ impl<L: Round, P: Payload> Locked<L, P> {
     }
 
     /// Collects the heap, by one call of the store. The journal stays as it is, and no session is touched.
-    pub fn collect(&mut self, kind: Kind) -> Result<u64, CollectFault>
+    pub fn collect(&mut self, kind: Kind) -> Result<u64, RoomFault>
         ensures swept { IfOk result (IsSwept kind self.old.store self.new.store) }
         ensures blocks { OnOk result (HasFewBlocks kind 0 self.old.store.heap.table self.new.store.heap.table) }
         ensures kept { KeepsLocked self.old self.new result }
-        ensures full { result ≡ Err CollectFault.HeapFull →
+        ensures full { result ≡ Err RoomFault.HeapFull →
             LacksRoomToCollect kind 1 self.old.store.heap }
     {
         self.store.collect(kind)

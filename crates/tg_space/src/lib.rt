@@ -32,24 +32,24 @@
 #![tactic(auto)]
 
 pub use adoption::Adoption;
-pub use allocate_fault::AllocateFault;
 pub use forwarding::{Forwarding, ForwardingTable};
 pub use kind::Kind;
 pub use limits::{Limits, MOST_BLOCKS};
 pub use pointers::first_pointer;
+pub use room_fault::RoomFault;
 pub use root::Root;
 pub use space::Space;
 pub use spaces::Spaces;
 pub use spare::Spare;
 
 mod adoption;
-mod allocate_fault;
 mod forwarding;
 mod images;
 mod kind;
 pub mod laws;
 mod limits;
 mod pointers;
+mod room_fault;
 mod root;
 mod space;
 mod space_list;

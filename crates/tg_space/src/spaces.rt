@@ -8,10 +8,10 @@ ghost use Rattle.tg_space.specs.SpaceList.{Holds, IsEmptyFrom, block_count, cell
 ghost use Rattle.tg_space.specs.SpaceTable.{IsFull, IsHandedOut, IsNursery, IsPrefixCount, IsSpaceTable, kept_blocks, no_blocks, place_in_space, used_of, with_adopted, with_one_used, with_spaces};
 
 use crate::adoption::Adoption;
-use crate::allocate_fault::AllocateFault;
 use crate::forwarding::Forwarding;
 use crate::kind::Kind;
 use crate::limits::Limits;
+use crate::room_fault::RoomFault;
 use crate::space::Space;
 use crate::space_list::{add_one, count_old_and_aged, empty_spaces, put_alone, put_behind};
 use crate::spare::Spare;
@@ -216,20 +216,18 @@ impl Spaces {
     /// Adds a block of free cells at the end of a space.
     ///
     /// It is refused where memory was, and where the space is full; then nothing is changed.
-    pub fn add_block(&mut self, space: u64) -> Result<(), AllocateFault>
+    pub fn add_block(&mut self, space: u64) -> Result<(), RoomFault>
         requires { space < length self.old.spaces }
         ensures added { OnOk result (self.new ≡ with_spaces self.old (with_block self.old.spaces space)) }
         ensures table { OnOk result (IsSpaceTable self.new) }
         ensures refused { OnErr result (self.new ≡ self.old) }
-        ensures full { (result ≡ Err AllocateFault.HeapFull) ↔ IsFull self.old space }
+        ensures full { (result ≡ Err RoomFault.HeapFull) ↔ IsFull self.old space }
     {
         if self.is_full(space) {
-            return Err(AllocateFault::HeapFull);
+            return Err(RoomFault::HeapFull);
         }
         let grown = &mut self.spaces[space as usize];
-        let Ok(()) = grown.add_block(self.alloc) else {
-            return Err(AllocateFault::OutOfMemory);
-        };
+        grown.add_block(self.alloc)?;
         // From the space that grew on, one block more stands before each space, and before the end.
         add_one(&mut self.starts[space as usize + 1..]);
         Ok(())

@@ -22,8 +22,8 @@ use Rattle.tg_graph.specs.Content.{Content, IsNamed, OnlyNamedHold}
 use Rattle.tg_graph.specs.Heap.{IsActive, content_of, subject_names}
 use Rattle.tg_graph.specs.Standing as standing
 use Rattle.tg_graph.proofs.StandingLaws as content
-use Rattle.tg_space.specs.declared.allocate_fault.AllocateFault.{AllocateFault}
-use Rattle.tg_space.specs.declared.allocate_fault.AllocateFault.TheVariants as allocate
+use Rattle.tg_space.specs.declared.room_fault.RoomFault.{RoomFault}
+use Rattle.tg_space.specs.declared.room_fault.RoomFault.TheVariants as no_room
 use Rattle.tg_store.specs.declared.fault.CreateFault.TheVariants as fault
 use Rattle.tg_store.specs.declared.making.Limit.{Limit}
 use Rattle.tg_store.specs.declared.making.Limit.TheVariants.{Vertices, Subjects}
@@ -207,17 +207,17 @@ enters before ready after worker kind label value given deed reply is same kept 
 
 -- ---- how refusals of the heap are told
 
-pub no_such_create_fault : (why : AllocateFault) → create_fault_of why ≡ fault.NoSuchWorker → ⊥
-no_such_create_fault allocate.OutOfMemory e = cc
-no_such_create_fault allocate.HeapFull e = cc
+pub no_such_create_fault : (why : RoomFault) → create_fault_of why ≡ fault.NoSuchWorker → ⊥
+no_such_create_fault no_room.OutOfMemory e = cc
+no_such_create_fault no_room.HeapFull e = cc
 
-pub heap_full : (why : AllocateFault) → create_fault_of why ≡ fault.HeapFull → why ≡ allocate.HeapFull
-heap_full allocate.OutOfMemory e = absurd (cc e)
-heap_full allocate.HeapFull e = refl
+pub heap_full : (why : RoomFault) → create_fault_of why ≡ fault.HeapFull → why ≡ no_room.HeapFull
+heap_full no_room.OutOfMemory e = absurd (cc e)
+heap_full no_room.HeapFull e = refl
 
 -- no refusal of the heap is told as a limit
-pub no_limit_fault : (why : AllocateFault) → (create_fault_of why ≡ fault.VerticesFull) ⊎ (create_fault_of why ≡ fault.WorkersFull) → ⊥
-no_limit_fault allocate.OutOfMemory (inl e) = cc
-no_limit_fault allocate.OutOfMemory (inr e) = cc
-no_limit_fault allocate.HeapFull (inl e) = cc
-no_limit_fault allocate.HeapFull (inr e) = cc
+pub no_limit_fault : (why : RoomFault) → (create_fault_of why ≡ fault.VerticesFull) ⊎ (create_fault_of why ≡ fault.WorkersFull) → ⊥
+no_limit_fault no_room.OutOfMemory (inl e) = cc
+no_limit_fault no_room.OutOfMemory (inr e) = cc
+no_limit_fault no_room.HeapFull (inl e) = cc
+no_limit_fault no_room.HeapFull (inr e) = cc

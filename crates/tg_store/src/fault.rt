@@ -3,8 +3,7 @@ use std::alloc::AllocError;
 use tg_graph::VertexRefused;
 use tg_model::Opening;
 use tg_payload::{Draft, Payload};
-use tg_rules::PerformFault;
-use tg_space::AllocateFault;
+use tg_space::RoomFault;
 use thiserror::Error;
 
 /// Why a store was not opened.
@@ -71,16 +70,16 @@ pub struct CreateRefused<P: Payload> {
     pub why: CreateFault,
 }
 
-impl From<AllocateFault> for OpenFault {
+impl From<RoomFault> for OpenFault {
     ghost use Rattle.std.specs.Prelude.{◌≡◌};
     ghost use Rattle.tg_store.specs.Faults.{open_fault_of};
 
     ghost from_gives = { λ fault e. e ≡ open_fault_of fault };
 
-    fn from(fault: AllocateFault) -> OpenFault {
+    fn from(fault: RoomFault) -> OpenFault {
         match fault {
-            AllocateFault::OutOfMemory => OpenFault::OutOfMemory,
-            AllocateFault::HeapFull => OpenFault::HeapFull,
+            RoomFault::OutOfMemory => OpenFault::OutOfMemory,
+            RoomFault::HeapFull => OpenFault::HeapFull,
         }
     }
 }
@@ -96,30 +95,30 @@ impl From<AllocError> for ApplyFault {
     }
 }
 
-impl From<PerformFault> for ApplyFault {
+impl From<RoomFault> for ApplyFault {
     ghost use Rattle.std.specs.Prelude.{◌≡◌};
     ghost use Rattle.tg_store.specs.Faults.{apply_fault_of};
 
     ghost from_gives = { λ fault e. e ≡ apply_fault_of fault };
 
-    fn from(fault: PerformFault) -> ApplyFault {
+    fn from(fault: RoomFault) -> ApplyFault {
         match fault {
-            PerformFault::OutOfMemory => ApplyFault::OutOfMemory,
-            PerformFault::HeapFull => ApplyFault::HeapFull,
+            RoomFault::OutOfMemory => ApplyFault::OutOfMemory,
+            RoomFault::HeapFull => ApplyFault::HeapFull,
         }
     }
 }
 
-impl From<AllocateFault> for CreateFault {
+impl From<RoomFault> for CreateFault {
     ghost use Rattle.std.specs.Prelude.{◌≡◌};
     ghost use Rattle.tg_store.specs.Faults.{create_fault_of};
 
     ghost from_gives = { λ fault e. e ≡ create_fault_of fault };
 
-    fn from(fault: AllocateFault) -> CreateFault {
+    fn from(fault: RoomFault) -> CreateFault {
         match fault {
-            AllocateFault::OutOfMemory => CreateFault::OutOfMemory,
-            AllocateFault::HeapFull => CreateFault::HeapFull,
+            RoomFault::OutOfMemory => CreateFault::OutOfMemory,
+            RoomFault::HeapFull => CreateFault::HeapFull,
         }
     }
 }

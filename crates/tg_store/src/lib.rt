@@ -41,5 +41,4 @@ pub use census::Census;
 pub use fault::{ApplyFault, CreateFault, CreateRefused, OpenFault, OpenRefused};
 pub use store::Store;
 pub use store_fault::StoreFault;
-pub use tg_evac::CollectFault;
-pub use tg_space::{Kind, Limits};
+pub use tg_space::{Kind, Limits, RoomFault};

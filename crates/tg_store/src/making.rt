@@ -15,7 +15,7 @@ use tg_journal::Journal;
 use tg_model::{Deed, Reply, Value};
 use tg_payload::{Draft, Payload};
 use tg_rights::Label;
-use tg_space::AllocateFault;
+use tg_space::RoomFault;
 
 /// What a vertex that is made is.
 #[derive(Clone, Copy, PartialEq, Eq, Debug)]
@@ -105,7 +105,7 @@ pub(crate) fn add_vertex<P: Payload>(
     ensures subjects { OnOk result (subject_names heap.new ≡ subjects_making kind (subject_names heap.old) name) }
     ensures handed_back { IfErr result (λ refused. refused.draft ≡ draft) }
     ensures refused { OnErr result (IsUnchangedHeap heap.old heap.new) }
-    ensures full { IfErr result (λ refused. refused.why ≡ AllocateFault.HeapFull → LacksCellsFor heap.old.table (nursery_space (nursery_of heap.old worker)) 1 worker name) }
+    ensures full { IfErr result (λ refused. refused.why ≡ RoomFault.HeapFull → LacksCellsFor heap.old.table (nursery_space (nursery_of heap.old worker)) 1 worker name) }
 {
     match kind {
         Making::Object => heap.new_vertex(worker, name, label, draft),

@@ -9,14 +9,14 @@ use crate::fault::{ApplyFault, CreateFault, CreateRefused, OpenFault, OpenRefuse
 use crate::making::{Limit, Making, add_vertex, deed_to_enter};
 use std::alloc::{AllocError, Global};
 use std::marker::Model;
-use tg_evac::{CollectFault, Copied, collect_one};
+use tg_evac::{Copied, collect_one};
 use tg_graph::{Heap, HeapRefused};
 use tg_journal::{Entry, Journal};
 use tg_model::{Command, Deed, MAX_WORKERS, Opening, Reply, Value};
 use tg_payload::{Draft, Payload};
 use tg_rights::Label;
 use tg_rules::readable;
-use tg_space::{Kind, Limits, Root, Spaces, Spare};
+use tg_space::{Kind, Limits, RoomFault, Root, Spaces, Spare};
 use tg_subjects::Subject;
 use tg_word::OLD;
 
@@ -377,10 +377,10 @@ impl<P: Payload> Store<P> {
     ///
     /// `HeapFull` is answered only where the cells that are reached and would be moved may not fit into the blocks that a space
     /// may have, so never for what nobody reaches; else `OutOfMemory` alone. The store is then as it was.
-    pub fn collect(&mut self, kind: Kind) -> Result<u64, CollectFault>
+    pub fn collect(&mut self, kind: Kind) -> Result<u64, RoomFault>
         ensures swept { IfOk result (IsSwept kind self.old self.new) }
         ensures blocks { OnOk result (HasFewBlocks kind 0 self.old.heap.table self.new.heap.table) }
-        ensures full { result ≡ Err CollectFault.HeapFull →
+        ensures full { result ≡ Err RoomFault.HeapFull →
             LacksRoomToCollect kind 1 self.old.heap }
         ensures history { KeepsHistory self.old self.new result }
     {
@@ -402,11 +402,11 @@ impl<P: Payload> Store<P> {
     }
 
     // Copies what a collection of this kind keeps, first into the spare blocks.
-    fn copy_reached(&self, kind: Kind, spare: Spare) -> Result<Copied, CollectFault>
+    fn copy_reached(&self, kind: Kind, spare: Spare) -> Result<Copied, RoomFault>
         ensures collected { IfOk result (λ copied. IsCollection kind self.now.heap.table.spaces (roots_of kind self.now.heap) copied.forward.words copied.adoption.aged copied.adoption.old copied.remembered.places) }
         ensures moved { IfOk result (λ copied. copies_in copied.forward.words 0 + copies_in copied.forward.words 1 ≤ used_cells kind self.now.heap.table.spaces) }
         ensures few { IfOk result (λ copied. AreFewBlocks self.now.heap.table.limits.space_blocks (kept_blocks kind self.now.heap.table.spaces) 0 copied.forward.words copied.adoption.aged copied.adoption.old) }
-        ensures full { IfErr result (λ fault. fault ≡ CollectFault.HeapFull → LacksRoomToCollect kind 1 self.now.heap) }
+        ensures full { IfErr result (λ fault. fault ≡ RoomFault.HeapFull → LacksRoomToCollect kind 1 self.now.heap) }
     {
         let roots = self.heap.roots(self.alloc, kind)?;
         let copied = collect_one(self.alloc, self.heap.spaces(), &roots, kind, spare)?;

@@ -1,10 +1,10 @@
 //! One error for all calls of a store, for callers that hand each of them on.
 use crate::fault::{ApplyFault, CreateFault, CreateRefused, OpenFault, OpenRefused};
 use std::alloc::{AllocError, AllocFailed};
-use tg_evac::CollectFault;
 use tg_journal::AuditFault;
 use tg_model::OpeningFault;
 use tg_payload::{DraftRefused, Payload};
+use tg_space::RoomFault;
 use thiserror::Error;
 
 /// Any refusal of a store, from the opening to the audit. The question mark makes it of each of them. What a refused call handed
@@ -28,7 +28,7 @@ pub enum StoreFault {
     Apply(ApplyFault),
     /// A collection was refused.
     #[error("{0}")]
-    Collect(CollectFault),
+    Collect(RoomFault),
     /// The audit did not pass.
     #[error("{0}")]
     Audit(AuditFault),
@@ -115,13 +115,13 @@ impl From<ApplyFault> for StoreFault {
     }
 }
 
-impl From<CollectFault> for StoreFault {
+impl From<RoomFault> for StoreFault {
     ghost use Rattle.std.specs.Prelude.{◌≡◌};
     ghost use Rattle.tg_store.specs.declared.store_fault.StoreFault.TheVariants.{Collect};
 
     ghost from_gives = { λ fault e. e ≡ Collect fault };
 
-    fn from(fault: CollectFault) -> StoreFault {
+    fn from(fault: RoomFault) -> StoreFault {
         StoreFault::Collect(fault)
     }
 }

@@ -24,11 +24,11 @@ use std::sync::Wait;
 use std::thread::Threads;
 use tg_model::Command;
 use tg_payload::{Draft, Payload};
-use tg_refusals::{apply_refusal, create_answer};
+use tg_refusals::{apply_refusal, collect_refusal, create_answer, helpers_refusal};
 use tg_rights::Label;
 use tg_script::Helpers;
-use tg_shared::{Gate, HelpersFault, NoGate, Round, Session, SharedStore};
-use tg_store::{ApplyFault, CollectFault, CreateFault, Kind};
+use tg_shared::{Gate, NoGate, Round, Session, SharedStore};
+use tg_store::{ApplyFault, CreateFault, Kind};
 use tg_text::{Answer, Line, Refusal};
 use tg_weave::{Task, Told};
 
@@ -275,15 +275,12 @@ pub fn collect_by<L: Round, P: Payload, R: Threads + Wait + Sync, G: Gate>(
     if number == 1 {
         return match session.collect(rt, store, kind) {
             Ok(kept) => Ok(kept),
-            Err(CollectFault::OutOfMemory) => Err(Refusal::Memory),
-            Err(CollectFault::HeapFull) => Err(Refusal::Heap),
+            Err(fault) => Err(collect_refusal(fault)),
         };
     }
     match session.collect_with(rt, store, kind, number, gate) {
         Ok(kept) => Ok(kept),
-        Err(HelpersFault::OutOfMemory) => Err(Refusal::Memory),
-        Err(HelpersFault::HeapFull) => Err(Refusal::Heap),
-        Err(HelpersFault::NoThread) => Err(Refusal::Threads),
+        Err(fault) => Err(helpers_refusal(fault)),
     }
 }
 

@@ -13,7 +13,7 @@ use Rattle.tg_graph.proofs.Remembering.{nothing_remembered}
 use Rattle.tg_graph.proofs.OpenedSubjects.{subjects_counted}
 use Rattle.tg_graph.proofs.Openings.{edges_opened, opened_same}
 use Rattle.tg_space.specs.SpaceTable.{BlockLimits}
-use Rattle.tg_space.specs.declared.allocate_fault.AllocateFault.TheVariants.{HeapFull}
+use Rattle.tg_space.specs.declared.room_fault.RoomFault.TheVariants.{HeapFull}
 use Rattle.tg_graph.specs.Opened.{HasBlocks}
 use Rattle.tg_graph.proofs.opening.opened.Goals as goal
 

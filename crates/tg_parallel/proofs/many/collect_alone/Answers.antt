@@ -1,7 +1,7 @@
 use Rattle.std.proofs.Common.{ℕ, ap, subst}
 use Rattle.tg_space.specs.declared.kind.Kind.{Kind}
 use Rattle.tg_race.specs.declared.record.Counts.{Counts}
-use Rattle.tg_evac.specs.declared.fault.CollectFault.TheVariants.{HeapFull}
+use Rattle.tg_space.specs.declared.room_fault.RoomFault.TheVariants.{HeapFull}
 use Rattle.tg_evac.specs.Collects.{Collects}
 use Rattle.tg_evac.proofs.Passing.{collects_refused}
 use Rattle.tg_parallel.proofs.many.collect_alone.Goals as goal

@@ -4,8 +4,8 @@ use Rattle.tg_race.specs.Board.{IsClosedTable}
 use Rattle.tg_space.specs.Collection.{AreFewBlocks, IsCollection, copies_in, used_cells}
 use Rattle.tg_space.specs.SpaceTable.{kept_blocks}
 use Rattle.tg_race.specs.Race.{past}
-use Rattle.tg_evac.specs.declared.fault.CollectFault.{CollectFault}
-use Rattle.tg_evac.specs.declared.fault.CollectFault.TheVariants.{HeapFull}
+use Rattle.tg_space.specs.declared.room_fault.RoomFault.{RoomFault}
+use Rattle.tg_space.specs.declared.room_fault.RoomFault.TheVariants.{HeapFull}
 use Rattle.tg_parallel.specs.declared.part.Part.{Part}
 use Rattle.tg_parallel.specs.Parts.{IsPart, IsPastLimit}
 use Rattle.tg_parallel.specs.Whole.{IsWholePart}
@@ -56,6 +56,6 @@ returns-in-Err c =
       moved = tt;
       few = tt;
       full = λ is.
-          let past = err_at (λ (fault : CollectFault). fault ≡ HeapFull → IsPastLimit c.args.spaces.now c.args.helped.helper.done) c.args.helped.part c.in-Err.fault c.in-Err.is c.requires.helped.full is in
+          let past = err_at (λ (fault : RoomFault). fault ≡ HeapFull → IsPastLimit c.args.spaces.now c.args.helped.helper.done) c.args.helped.part c.in-Err.fault c.in-Err.is c.requires.helped.full is in
           lacks c.args.plan.kind c.args.spaces.now c.args.roots.now c.args.table.counts _ c.args.helped.helper.done c.requires.counts c.close.ensures c.requires.helped.earned past;
     }

@@ -8,7 +8,7 @@ use Rattle.tg_word.specs.Word.{link_to, place_in}
 use Rattle.tg_space.specs.SpaceTable.{place_in_space}
 use Rattle.tg_evac.specs.Win.{Win}
 use Rattle.tg_evac.specs.Claims.{Claimed, HasFilledRoom, IsWinFor, wins_at}
-use Rattle.tg_evac.specs.declared.fault.CollectFault.TheVariants.{HeapFull}
+use Rattle.tg_space.specs.declared.room_fault.RoomFault.TheVariants.{HeapFull}
 use Rattle.tg_evac.specs.Claimers.{AddsWins, walked_of}
 use Rattle.tg_evac.specs.Walks.{HasClaimed}
 use Rattle.tg_evac.proofs.Claiming.{claims_more, adds_one, full_at, place_back, wins_more, won_behind, won_length, won_others}

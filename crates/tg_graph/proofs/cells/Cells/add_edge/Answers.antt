@@ -3,7 +3,7 @@ use Rattle.std.proofs.lemmas.Result.{err_from_is_err_and}
 use Rattle.tg_word.specs.declared.Place.{Place}
 use Rattle.tg_space.specs.SpaceTable.{SpaceTable}
 use Rattle.tg_space.specs.Targets.{young_spaces}
-use Rattle.tg_space.specs.declared.allocate_fault.AllocateFault.{AllocateFault}
+use Rattle.tg_space.specs.declared.room_fault.RoomFault.{RoomFault}
 use Rattle.tg_graph.specs.Following.{IsRowPut}
 use Rattle.tg_graph.specs.Index.{AreIndexed, MayIndex, indexed_in}
 use Rattle.tg_graph.specs.Rows.{name_at}
@@ -78,7 +78,7 @@ returns-in_err-put_edge-clause-edge g c =
       added = rw given.1 tt;
       payloads = was.payloads;
       refused = rw given.1 was.refused;
-      full = λ is. let refused : c.put_edge.result ≡ Err AllocateFault.HeapFull = c.in_err-put_edge.was ∙ ap (λ (why : AllocateFault). Err why) (sym given.2) ∙ sym given.1 ∙ is in c.put_edge.ensures.edge.full refused;
+      full = λ is. let refused : c.put_edge.result ≡ Err RoomFault.HeapFull = c.in_err-put_edge.was ∙ ap (λ (why : RoomFault). Err why) (sym given.2) ∙ sym given.1 ∙ is in c.put_edge.ensures.edge.full refused;
       placed = rw given.1 tt;
       remembered = was.remembered;
       places = rw given.1 was.places;

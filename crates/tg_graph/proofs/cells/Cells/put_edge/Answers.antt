@@ -13,11 +13,11 @@ use Rattle.tg_graph.specs.Rows.{name_at}
 use Rattle.tg_graph.proofs.Growing.{left, room, there}
 use Rattle.tg_graph.specs.Heap.{IsOutOfCells}
 use Rattle.tg_space.specs.Generations.{AreRemembered}
-use Rattle.tg_space.specs.declared.allocate_fault.AllocateFault.TheVariants.{HeapFull}
+use Rattle.tg_space.specs.declared.room_fault.RoomFault.TheVariants.{HeapFull}
 use Rattle.std.proofs.lemmas.Result.{err_from_is_err_and}
 use Rattle.tg_space.proofs.Tables.{table_list}
 use Rattle.tg_graph.proofs.Places.{held_place}
-use Rattle.tg_space.specs.declared.allocate_fault.AllocateFault.{AllocateFault}
+use Rattle.tg_space.specs.declared.room_fault.RoomFault.{RoomFault}
 use Rattle.tg_graph.proofs.Heaps.{ok_or_err}
 use Rattle.std.proofs.lemmas.Bool.{false≢true}
 use Rattle.tg_graph.proofs.cells.Cells.put_edge.Goals as goal
@@ -132,7 +132,7 @@ returns-in_err-make_room-clause-edge g c =
       payloads = c.make_room.ensures.payloads;
       refused = rw given.1 c.in_err-make_room.ensures.room.refused;
       full = λ is.
-          let refused : c.make_room.result ≡ Err HeapFull = c.in_err-make_room.was ∙ ap (λ (why : AllocateFault). Err why) (sym given.2) ∙ sym given.1 ∙ is in
+          let refused : c.make_room.result ≡ Err HeapFull = c.in_err-make_room.was ∙ ap (λ (why : RoomFault). Err why) (sym given.2) ∙ sym given.1 ∙ is in
           let out = was.full refused in
           record {
             row = c.args.from;

@@ -4,7 +4,7 @@ use Rattle.tg_word.specs.Word.{nursery_space}
 use Rattle.tg_remember.specs.Notes.{Notes}
 use Rattle.tg_word.specs.declared.Place.{Place}
 use Rattle.tg_space.specs.SpaceTable.{SpaceTable}
-use Rattle.tg_space.specs.declared.allocate_fault.AllocateFault.{AllocateFault}
+use Rattle.tg_space.specs.declared.room_fault.RoomFault.{RoomFault}
 use Rattle.tg_space.specs.Generations.{AreRemembered}
 use Rattle.tg_graph.specs.Heap.{IsOutOfCells}
 use Rattle.tg_graph.specs.Spots.{with_note}
@@ -100,7 +100,7 @@ returns-in-Err-clause-vertex g c =
       placed = tt;
       full = λ is.
           let spot = c.args.spot in
-          let out = was.room.full (c.in-Err.is ∙ ap (λ (why : AllocateFault). Err why) is) in
+          let out = was.room.full (c.in-Err.is ∙ ap (λ (why : RoomFault). Err why) is) in
           record {
             row = c.args.from;
             held = record { object = c.requires.row.from; named = refl };

@@ -10,7 +10,7 @@ use Rattle.tg_rights.specs.RightSet.{RightSet}
 use Rattle.tg_model.specs.Graph.{with_rights}
 use Rattle.tg_model.specs.Rules.{with_value}
 use Rattle.tg_word.specs.Word.{nursery_space}
-use Rattle.tg_space.specs.declared.allocate_fault.AllocateFault.TheVariants.{HeapFull}
+use Rattle.tg_space.specs.declared.room_fault.RoomFault.TheVariants.{HeapFull}
 use Rattle.tg_graph.specs.Index.{SameIndexed, indexed_in, names_indexed}
 use Rattle.tg_graph.specs.Content.{IsContent, IsNamed}
 use Rattle.tg_graph.specs.Heap.{HeapState, IsLongRow, IsUnchangedHeap, KeepsIndexes, KeepsPlaces, content_of, name_of}

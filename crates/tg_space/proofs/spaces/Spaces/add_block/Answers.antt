@@ -8,7 +8,7 @@ invariant_of-self-2 c =
     let inside = c.self.inside in
     let space = c.args.space in
     let left = c.add_block.new.self in
-    let added = block_added _ _ space c.index_mut-grown.result.now left c.self.view_is c.self.invariant.0 c.requires c.index_mut-grown.ensures.value c.in-Ok.ensures.added c.in-Ok.ensures.whole in (
+    let added = block_added _ _ space c.index_mut-grown.result.now left c.self.view_is c.self.invariant.0 c.requires c.index_mut-grown.ensures.value c.in_ok-add_block.ensures.added c.in_ok-add_block.ensures.whole in (
       added.table,
       count_put inside.spaces.items _ space inside.starts.items c.deref_mut.result.now c.add_one.new.numbers inside.starts.len added.changed added.low c.self.invariant.1 c.deref_mut.ensures.value inside.starts.ok.0 c.add_one.ensures,
     )
@@ -21,5 +21,5 @@ add_one-requires c =
 
 pub returns-clause-table : goal.returns-clause-table
 returns-clause-table c =
-    let added = block_added _ _ c.args.space c.index_mut-grown.result.now _ c.self.view_is c.self.invariant.0 c.requires c.index_mut-grown.ensures.value c.in-Ok.ensures.added c.in-Ok.ensures.whole in
+    let added = block_added _ _ c.args.space c.index_mut-grown.result.now _ c.self.view_is c.self.invariant.0 c.requires c.index_mut-grown.ensures.value c.in_ok-add_block.ensures.added c.in_ok-add_block.ensures.whole in
     added.table
