@@ -66,9 +66,11 @@ files_of_crate() {
     find "$1" -path "$1/out" -prune -o -type f -print
 }
 
-# A sum over what the proved archive is made from: the kit, and of tg_c and each crate below it the line of crates.txt and the text.
+# A sum over what the proved archive is made from: the kit, and of tg_c and each crate below it the line of crates.txt
+# and the text.
 sum_of_text() {
     (
+        set -o pipefail
         cd "$top"
         export LC_ALL=C
         {
@@ -81,7 +83,8 @@ sum_of_text() {
     )
 }
 
-# The sum of the text of which the archive was proved, which bindings/build leaves beside it; none where the archive is another one.
+# The sum of the text of which the archive was proved, which bindings/build leaves beside it; none where the archive is
+# another one.
 sum_of_proved() {
     text=none
     if test -e "$archive" && test -e "$archive.of"; then
@@ -105,7 +108,8 @@ sum_of_library() {
     fi
 }
 
-# Whether the library in 'out' fits the header, the modules and the crate which lie here; and with the sum of a text, whether it is of that.
+# Whether the library in 'out' fits the header, the modules and the crate which lie here; and with the sum of a text,
+# whether it is of that.
 is_library_of() {
     test -e "$out/built" || return 1
     read -r of_c of_text of_library <"$out/built"
@@ -116,7 +120,8 @@ is_library_of() {
 # Ends the run where there is no library that fits the header, the modules and the crate which lie here.
 wants_library() {
     test -e "$out/libkovshenul.a" || stop "nothing is built: no $out/libkovshenul.a. Run bindings/build first"
-    is_library_of || stop "the library in $out is of another header or version, or changed since it was built: run bindings/build first"
+    is_library_of ||
+        stop "the library in $out is of another header or version, or changed since it was built: run bindings/build first"
 }
 
 # ---- what is put into an installation or a release
@@ -124,6 +129,12 @@ wants_library() {
 put() {
     mkdir -p "$2"
     install -m 644 "$1" "$2/"
+}
+
+# Puts a file of bindings/packages into a folder, with what it leaves open filled in. The third word is the prefix.
+fill() {
+    escaped=$(printf '%s' "${3-}" | sed 's/[\\|&]/\\&/g')
+    sed "s|@PREFIX@|$escaped|; s|@SHARED@|$shared|; s|@VERSION@|$version|" "$here/packages/$1.in" >"$2/$1"
 }
 
 # What C needs, below a folder. The second word is what pkg-config reads as the prefix.
@@ -134,10 +145,9 @@ put_for_c() {
     put "$out/libkovshenul.a" "$1/lib"
     install -m 755 "$out/$shared" "$1/lib/"
     ln -sf "$shared" "$1/lib/libkovshenul.so"
-    prefix_line=$(printf '%s' "$2" | sed 's/[\\|&]/\\&/g')
-    sed "s|@PREFIX@|$prefix_line|; s|@VERSION@|$version|" "$here/packages/kovshenul.pc.in" >"$1/lib/pkgconfig/kovshenul.pc"
-    sed "s|@SHARED@|$shared|" "$here/packages/kovshenul-config.cmake.in" >"$cmake/kovshenul-config.cmake"
-    sed "s|@VERSION@|$version|" "$here/packages/kovshenul-config-version.cmake.in" >"$cmake/kovshenul-config-version.cmake"
+    fill kovshenul.pc "$1/lib/pkgconfig" "$2"
+    fill kovshenul-config.cmake "$cmake"
+    fill kovshenul-config-version.cmake "$cmake"
     put_pages "$1/share/man"
 }
 

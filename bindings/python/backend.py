@@ -1,8 +1,9 @@
 """Makes the wheel, with the shared object that bindings/build has made: python3 backend.py FOLDER [NOTE ..]
 
-pip calls build_wheel too, for 'pip wheel' and 'pip install' of this folder. The library is bindings/out's, or the one that KOVSHENUL_LIBRARY
-names. The same files make the same bytes: their times are SOURCE_DATE_EPOCH, or that of 1980 where it isn't set. Each NOTE is a file that
-goes beside the wheel's metadata, and with notes goes SHA256SUMS, of all files before it.
+pip calls build_wheel too, for 'pip wheel' and 'pip install' of this folder. The library is bindings/out's, or the one
+that KOVSHENUL_LIBRARY names. The same files make the same bytes: their times are SOURCE_DATE_EPOCH, or that of 1980
+where it isn't set. Each NOTE is a file that goes beside the wheel's metadata, and with notes goes SHA256SUMS, of all
+files before it.
 """
 import base64
 import hashlib
@@ -40,28 +41,29 @@ def library():
     return found[0]
 
 
-def least_glibc(code):
+def least_glibc():
     """The least glibc that has all that the shared object wants, as its table of names says."""
-    wanted = [tuple(map(int, it.split(b"."))) for it in re.findall(rb"(?<=\0)GLIBC_(\d+\.\d+)(?:\.\d+)?(?=\0)", code)]
-    return max([LEAST_GLIBC, *wanted])
+    wanted = re.findall(rb"(?<=\0)GLIBC_(\d+)\.(\d+)(?:\.\d+)?(?=\0)", library().read_bytes())
+    return max([LEAST_GLIBC, *((int(major), int(minor)) for major, minor in wanted)])
 
 
-def tag(code):
+def tag():
     """For each Python 3 on Linux with that glibc: no code in the wheel was built for one of them."""
-    return "py3-none-manylinux_{}_{}_x86_64".format(*least_glibc(code))
+    return "py3-none-manylinux_{}_{}_x86_64".format(*least_glibc())
 
 
 def modules():
     """The files of the package, by their place in the wheel."""
-    files = {f"kovshenul/{path.name}": path.read_bytes() for path in (HERE / "kovshenul").iterdir() if path.suffix in (".py", ".pyi", ".typed")}
-    return {**files, f"kovshenul/{library().name}": library().read_bytes()}
+    of_package = [path for path in (HERE / "kovshenul").iterdir() if path.suffix in (".py", ".pyi", ".typed")]
+    return {f"kovshenul/{path.name}": path.read_bytes() for path in [*of_package, library()]}
 
 
 def metadata(files, notes):
     """The wheel's own files, but for the list of all."""
     folder = f"kovshenul-{version()}.dist-info"
-    about = f"Metadata-Version: 2.1\nName: kovshenul\nVersion: {version()}\nSummary: {told('description')}\nRequires-Python: {told('requires-python')}\n"
-    wheel = f"Wheel-Version: 1.0\nGenerator: kovshenul\nRoot-Is-Purelib: false\nTag: {tag(library().read_bytes())}\n"
+    about = f"Metadata-Version: 2.1\nName: kovshenul\nVersion: {version()}\n"
+    about += f"Summary: {told('description')}\nRequires-Python: {told('requires-python')}\n"
+    wheel = f"Wheel-Version: 1.0\nGenerator: kovshenul\nRoot-Is-Purelib: false\nTag: {tag()}\n"
     made = {f"{folder}/METADATA": about.encode(), f"{folder}/WHEEL": wheel.encode()}
     made.update((f"{folder}/{Path(note).name}", Path(note).read_bytes()) for note in notes)
     if notes:
@@ -83,7 +85,7 @@ def make(folder, notes=()):
     files = dict(sorted(modules().items()))
     files.update(metadata(files, notes))
     files.update(record(files))
-    name = f"kovshenul-{version()}-{tag(library().read_bytes())}.whl"
+    name = f"kovshenul-{version()}-{tag()}.whl"
     when = time.gmtime(int(os.environ.get("SOURCE_DATE_EPOCH", 315532800)))[:6]
     with zipfile.ZipFile(Path(folder) / name, "w", zipfile.ZIP_DEFLATED) as wheel:
         for place, data in files.items():

@@ -1,5 +1,6 @@
-//! Finds the library: in the folder that KOVSHENUL_LIB_DIR names, else in the crate's own `lib`, else in that of the prefix in which the
-//! crate is installed, else by pkg-config. Where it is nowhere, the crate can be checked and documented, and a warning says what is missing.
+//! Finds the library: in the folder that KOVSHENUL_LIB_DIR names, else in the crate's own `lib`, else in that of the
+//! prefix in which the crate is installed, else by pkg-config. Where it is nowhere, the crate can be checked and
+//! documented, and a warning says what is missing.
 use std::env;
 use std::path::{Path, PathBuf};
 use std::process::{exit, Command};
@@ -24,8 +25,8 @@ fn main() {
     match &folder {
         Some(folder) => println!("cargo:rustc-link-search=native={}", folder.display()),
         None => println!(
-            "cargo:warning=no {ARCHIVE}: KOVSHENUL_LIB_DIR is not set, {} has no lib/{ARCHIVE}, and pkg-config knows no kovshenul. \
-             'cargo check' and 'cargo doc' do without; a build needs it",
+            "cargo:warning=no {ARCHIVE}: KOVSHENUL_LIB_DIR is not set, {} has no lib/{ARCHIVE}, and pkg-config knows \
+             no kovshenul. 'cargo check' and 'cargo doc' do without; a build needs it",
             own.display()
         ),
     }
