@@ -76,7 +76,7 @@ sum_of_text() {
         {
             rt version
             for name in $(crates_of_library); do
-                grep "^$name[ :]" crates.txt
+                grep "^${name}[ :]" crates.txt
                 files_of_crate "crates/$name" | sort | tr '\n' '\0' | xargs -0 sha256sum
             done
         } | sum
