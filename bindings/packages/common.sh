@@ -1,0 +1,172 @@
+# What bindings/build, check, install and release share. The one that reads this has its own folder in 'here'.
+
+top=$(dirname "$here")
+out=$here/out
+cc=${CC:-cc}
+warnings="-std=c11 -Wall -Wextra -pedantic -Werror"
+version=$(cat "$top/VERSION")
+abi=$(sed -n 's/^#define TG_ABI //p' "$here/kovshenul.h")
+shared=libkovshenul.so.$abi
+archive=$top/crates/tg_c/out/libtg_c.a
+
+say() {
+    echo "bindings: $1"
+}
+
+stop() {
+    echo "bindings: $1" >&2
+    exit 1
+}
+
+# Ends a call that has wrong words: what is wrong, and how the call goes.
+misused() {
+    echo "$1" >&2
+    echo "usage: $2" >&2
+    exit 2
+}
+
+has() {
+    command -v "$1" >/dev/null 2>&1 || {
+        say "$1 isn't here: $2 left out"
+        return 1
+    }
+}
+
+# Ends the run where one of the programs that it needs isn't there.
+needs() {
+    for program in "$@"; do
+        command -v "$program" >/dev/null 2>&1 || stop "$program isn't here, and $(basename "$0") needs it"
+    done
+}
+
+# ---- sums
+
+# The sum of what comes in.
+sum() {
+    sha256sum | cut -d ' ' -f 1
+}
+
+# The crates on which tg_c stands, lowest first, and tg_c behind them.
+crates_of_library() {
+    awk -F: '
+        function visit(name, used, count, at) {
+            if (name in seen || !(name in uses)) return
+            seen[name] = 1
+            count = split(uses[name], used, " ")
+            for (at = 1; at <= count; at++) visit(used[at])
+            print name
+        }
+        { sub(/#.*/, "") }
+        NF > 1 { split($1, head, " "); uses[head[1]] = $2 }
+        END { visit("tg_c") }' "$top/crates.txt"
+}
+
+# The files of a crate's folder, as sources of it.
+files_of_crate() {
+    find "$1" -path "$1/out" -prune -o -type f -print
+}
+
+# A sum over what the proved archive is made from: the kit, and of tg_c and each crate below it the line of crates.txt
+# and the text.
+sum_of_text() {
+    (
+        set -o pipefail
+        cd "$top"
+        export LC_ALL=C
+        {
+            rt version
+            for name in $(crates_of_library); do
+                grep "^${name}[ :]" crates.txt
+                files_of_crate "crates/$name" | sort | tr '\n' '\0' | xargs -0 sha256sum
+            done
+        } | sum
+    )
+}
+
+# The sum of the text of which the archive was proved, which bindings/build leaves beside it; none where the archive is
+# another one.
+sum_of_proved() {
+    text=none
+    if test -e "$archive" && test -e "$archive.of"; then
+        read -r text bytes <"$archive.of"
+        test "$bytes" = "$(sum <"$archive")" || text=none
+    fi
+    echo "$text"
+}
+
+# A sum over what stands before the proved calls.
+sum_of_c() {
+    cat "$here/kovshenul.c" "$here/kovshenul.h" "$top/VERSION" | sum
+}
+
+# A sum over the library as it lies in 'out', or none where a part of it isn't there.
+sum_of_library() {
+    if test -e "$out/libkovshenul.a" && test -e "$out/$shared" && test -e "$out/libkovshenul.so"; then
+        cat "$out/libkovshenul.a" "$out/$shared" | sum
+    else
+        echo none
+    fi
+}
+
+# Whether the library in 'out' fits the header, the modules and the crate which lie here; and with the sum of a text,
+# whether it is of that.
+is_library_of() {
+    test -e "$out/built" || return 1
+    read -r of_c of_text of_library <"$out/built"
+    test "$of_c $of_library" = "$(sum_of_c) $(sum_of_library)" || return 1
+    test $# = 0 || test "$of_text" = "$1"
+}
+
+# Ends the run where there is no library that fits the header, the modules and the crate which lie here.
+wants_library() {
+    test -e "$out/libkovshenul.a" || stop "nothing is built: no $out/libkovshenul.a. Run bindings/build first"
+    is_library_of ||
+        stop "the library in $out is of another header or version, or changed since it was built: run bindings/build first"
+}
+
+# ---- what is put into an installation or a release
+
+put() {
+    mkdir -p "$2"
+    install -m 644 "$1" "$2/"
+}
+
+# Puts a file of bindings/packages into a folder, with what it leaves open filled in. The third word is the prefix.
+fill() {
+    escaped=$(printf '%s' "${3-}" | sed 's/[\\|&]/\\&/g')
+    sed "s|@PREFIX@|$escaped|; s|@SHARED@|$shared|; s|@VERSION@|$version|" "$here/packages/$1.in" >"$2/$1"
+}
+
+# What C needs, below a folder. The second word is what pkg-config reads as the prefix.
+put_for_c() {
+    cmake=$1/lib/cmake/kovshenul
+    mkdir -p "$1/lib/pkgconfig" "$cmake"
+    put "$here/kovshenul.h" "$1/include"
+    put "$out/libkovshenul.a" "$1/lib"
+    install -m 755 "$out/$shared" "$1/lib/"
+    ln -sf "$shared" "$1/lib/libkovshenul.so"
+    fill kovshenul.pc "$1/lib/pkgconfig" "$2"
+    fill kovshenul-config.cmake "$cmake"
+    fill kovshenul-config-version.cmake "$cmake"
+    put_pages "$1/share/man"
+}
+
+# The man pages: the library's, which is made from the header, and those in docs/man.
+put_pages() {
+    mkdir -p "$1/man3"
+    "$here/packages/page" >"$1/man3/kovshenul.3"
+    for page in "$top"/docs/man/*.[1-9]; do
+        test -e "$page" || continue
+        put "$page" "$1/man${page##*.}"
+    done
+}
+
+# The crate for Rust, without the examples, whose texts lie beside it.
+put_crate() {
+    mkdir -p "$1/src"
+    sed '/^\[\[example\]\]/,$d' "$here/rust/Cargo.toml" >"$1/Cargo.toml"
+    for file in Cargo.lock build.rs; do
+        put "$here/rust/$file" "$1"
+    done
+    install -m 644 "$here"/rust/src/*.rs "$1/src/"
+}
