@@ -19,13 +19,15 @@ use tg_race::{Helper, RaceTable};
 use tg_space::{Kind, Root, Space, Spaces, Spare};
 use tg_word::CELLS;
 
-/// What a helper has copied: its blocks, each with its number.
+/// What a helper has copied: its blocks, each with its number. And the spare blocks that it had no use for.
 #[derive(Drop)]
 pub struct Part {
     /// Its blocks of Aged.
     pub aged: Vec<(u64, Block)>,
     /// Its blocks of Old.
     pub old: Vec<(u64, Block)>,
+    /// Spare blocks that it didn't fill.
+    pub left: Vec<Block>,
 }
 
 /// A helper that has done its work, and what it made.
@@ -68,6 +70,7 @@ impl Part {
         Ok(Part {
             aged: laid_out(alloc, aged, blocks.aged)?,
             old: laid_out(alloc, old, blocks.old)?,
+            left: blocks.left,
         })
     }
 }
