@@ -89,6 +89,7 @@ impl Copies {
         requires old { length self.old ≤ MOST_SPACE_CELLS }
         ensures aged { IfOk result (λ adoption. HoldCells self.aged adoption.aged × IsSpace adoption.aged) }
         ensures old { IfOk result (λ adoption. HoldCells self.old adoption.old × IsSpace adoption.old) }
+        ensures left { IfOk result (λ adoption. adoption.left.items ≡ self.spare.items) }
     {
         Ok(Adoption {
             aged: self.aged.finish()?,

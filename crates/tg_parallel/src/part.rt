@@ -56,6 +56,7 @@ impl Part {
         requires old_room { length copies.old ≤ MOST_SPACE_CELLS }
         ensures aged { IfOk result (λ part. AreLaidOut copies.aged aged.now part.aged.items) }
         ensures old { IfOk result (λ part. AreLaidOut copies.old old.now part.old.items) }
+        ensures left { IfOk result (λ part. part.left.items ≡ copies.spare.items) }
         ensures aged_few { OnOk result (All (λ b. b < limit) aged.now) }
         ensures old_few { OnOk result (All (λ b. b < limit) old.now) }
         ensures full { IfErr result (λ fault. fault ≡ CollectFault.HeapFull → (b : ℕ) × (Contains aged.now b ⊎ Contains old.now b) × (limit ≤ b)) }
