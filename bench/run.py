@@ -17,6 +17,8 @@ import sys
 import tempfile
 from concurrent.futures import ThreadPoolExecutor
 
+from mixture.mixture import WORKERS, Mixture
+
 HERE = os.path.dirname(os.path.abspath(__file__))
 BUILT = os.path.join(HERE, "..", "crates", "tgstore", "out", "tgstore")
 PLAIN = ("reference", "boxed")
@@ -101,6 +103,25 @@ def minors():
     return ["--workers", "1", "--stock", "c20000"], lines + ["minor"] * 1_000, lines
 
 
+def minors_beside_a_hole():
+    """The same beside a row of 30,000 whose first edge was given up, with a vertex made and given up before each."""
+    lines = ["0 create r"] * 30_000 + ["full", "0 remove 1 r"]
+    rounds = [line for name in range(30_001, 31_001) for line in ("0 create r", f"0 remove {name} r", "minor")]
+    return ["--workers", "1", "--stock", "c31000"], lines + rounds, lines
+
+
+def spawns():
+    """40,000 workers that are spawned and retire, one after the other, beside 63 others."""
+    lines = [line for name in range(63, 40_063) for line in ("0 spawn r", f"{name} retire")]
+    return ["--workers", "63", "--stock", "c40000"], lines
+
+
+def mixture(live, commands):
+    """A server of so many vertices (mixture/mixture.py)."""
+    it = Mixture(live, commands)
+    return ["--workers", str(WORKERS), "--stock", f"c{it.creates()}"], it.lines()
+
+
 SCRIPTS = {
     "lists": lists,
     "creates": creates,
@@ -112,11 +133,15 @@ SCRIPTS = {
     "collections": collections,
     "fulls of 64 rows": lambda: fulls(64),
     "fulls of one row": lambda: fulls(1),
+    "spawns": spawns,
+    "a mixture, 1,000": lambda: mixture(1_000, 60_000),
+    "a mixture, 20,000": lambda: mixture(20_000, 33_000),
 }
 
 # These are too short for a clock.
 COUNTED = {
     "minors": minors,
+    "minors beside a hole": minors_beside_a_hole,
     "a full of young cells": lambda: young(64, "full"),
     "a minor of young cells": lambda: young(64, "minor"),
 }

@@ -9,15 +9,10 @@ row of the taker is as long in both.
 
 PROGRAM is crates/tgstore/out/tgstore unless it is given. Exit status 1 where takes from the long row cost more, or a run ended
 otherwise than it is to. Where valgrind isn't here, nothing is run."""
-import os
-import re
-import shutil
-import subprocess
 import sys
-import tempfile
 
-HERE = os.path.dirname(os.path.abspath(__file__))
-BUILT = os.path.join(HERE, "..", "crates", "tgstore", "out", "tgstore")
+from counted import BUILT, can_count, instructions
+
 SHORT_ROW, LONG_ROW = 200, 20_000
 NAMES = 100
 TAKES = 2_000
@@ -34,29 +29,16 @@ def taking(size):
     return [f"1 take 0 {2 + i % NAMES * step} r" for i in range(TAKES)]
 
 
-def instructions(program, lines):
-    """How many instructions a run of the script takes."""
-    counter = ["valgrind", "--tool=cachegrind", "--cache-sim=no", "--cachegrind-out-file=/dev/null"]
-    options = ["--workers", "2", "--stock", f"c{LONG_ROW}"]
-    with tempfile.TemporaryFile() as script:
-        script.write("".join(f"{line}\n" for line in lines).encode())
-        script.seek(0)
-        run = subprocess.run([*counter, program, *options], stdin=script, stdout=subprocess.DEVNULL, stderr=subprocess.PIPE, text=True)
-    counted = re.search(r"I\s+refs:\s+([\d,]+)", run.stderr)
-    if run.returncode != 0 or not counted:
-        sys.exit(f"takes: a run ended with status {run.returncode}:\n{run.stderr}")
-    return int(counted[1].replace(",", ""))
-
-
 def of_one_take(program, size):
-    made = instructions(program, making(size))
-    taken = instructions(program, making(size) + taking(size))
+    options = ["--workers", "2", "--stock", f"c{LONG_ROW}"]
+    made = instructions(program, options, making(size))
+    taken = instructions(program, options, making(size) + taking(size))
     return (taken - made) / TAKES
 
 
 def main():
     program = sys.argv[1] if len(sys.argv) > 1 else BUILT
-    if not shutil.which("valgrind"):
+    if not can_count():
         print("takes: valgrind isn't here: left out")
         return 0
     short, long = (of_one_take(program, size) for size in (SHORT_ROW, LONG_ROW))

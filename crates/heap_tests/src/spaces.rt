@@ -151,7 +151,8 @@ fn one_block(alloc: Global) -> Result<Space, Fail> {
 fn adopt_one(alloc: Global, spaces: &mut Spaces) -> Result<(), Fail> {
     let old = one_block(alloc)?;
     let aged = Space::new(alloc);
-    Ok(spaces.adopt(Kind::Full, Adoption { aged, old })?)
+    let left = Vec::new(alloc);
+    Ok(spaces.adopt(Kind::Full, Adoption { aged, old, left })?)
 }
 
 // Whether only Old has blocks, and it has one.

@@ -65,15 +65,15 @@ impl Drop for ClosedWords {
     }
 }
 
-/// As many zeros: in the room, whatever it holds, where that is enough and not more than four times as much as needed, so that a
-/// heap that shrank gives it back; else the room is given back, and the zeros take memory of their own.
+/// As many zeros: in the room, whatever it holds, where that is enough; else the room is given back, and the zeros take memory
+/// of their own.
 ///
 /// It is refused only where memory was.
 #[inline(never)]
 pub fn zeros(alloc: Global, count: usize, mut room: Vec<u64>) -> Result<Vec<u64>, AllocError>
     ensures { IfOk result (λ words. words.items ≡ replicate count 0) }
 {
-    if room.capacity() < count || count < room.capacity() / 4 {
+    if room.capacity() < count {
         drop(room);
         return vec![in alloc; 0; count];
     }

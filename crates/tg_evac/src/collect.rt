@@ -40,8 +40,8 @@ pub struct Copied {
 /// more cells are copied than there are cells of from-space that aren't free.
 ///
 /// The spare blocks are filled first, whatever their cells hold, so that a collection that is handed those which the last one
-/// emptied takes few from the allocator; those that aren't needed are given back. The forwarding words stand in the spare room,
-/// where that is enough and not far too much.
+/// emptied takes few from the allocator; those that aren't needed are handed over with the others. The forwarding words stand in
+/// the spare room, where that is enough.
 ///
 /// The refusals change nothing: `OutOfMemory` where memory was refused, and `HeapFull` where Aged or Old would need more
 /// than `space_blocks` blocks, so that the roots reach at least as many cells of from-space as there is room for in Old.

@@ -82,16 +82,18 @@ impl Copies {
         })
     }
 
-    /// The blocks of both spaces; spare ones that are left are given back. It is refused only where memory was.
+    /// The blocks of both spaces, and the spare ones that are left. It is refused only where memory was.
     pub fn finish(self) -> Result<Adoption, AllocError>
         requires aged { length self.aged ≤ MOST_SPACE_CELLS }
         requires old { length self.old ≤ MOST_SPACE_CELLS }
         ensures aged { IfOk result (λ adoption. HoldCells self.aged adoption.aged × IsSpace adoption.aged) }
         ensures old { IfOk result (λ adoption. HoldCells self.old adoption.old × IsSpace adoption.old) }
+        ensures left { IfOk result (λ adoption. adoption.left.items ≡ self.spare.items) }
     {
         Ok(Adoption {
             aged: self.aged.finish()?,
             old: self.old.finish()?,
+            left: self.spare,
         })
     }
 
@@ -174,7 +176,7 @@ pub fn scan<C: Claimer>(
         let words = match reads {
             Reads::Each => spaces.words_near(claimer.won_cell(next), &mut near),
             Reads::Ahead => {
-                ahead.read(claimer, spaces, next);
+                ahead.read(claimer, spaces, next, &mut near);
                 ahead.words(next)
             }
         };
@@ -208,9 +210,10 @@ impl Ahead {
         }
     }
 
-    // Reads won cells from the k-th on, as many as there is room for, unless that one was read.
+    // Reads won cells from the k-th on, as many as there is room for, unless that one was read. Each is looked for from the space of
+    // the one before it (`near`).
     #[inline(always)]
-    fn read<C: Claimer>(&mut self, claimer: &C, spaces: &Spaces, k: usize)
+    fn read<C: Claimer>(&mut self, claimer: &C, spaces: &Spaces, k: usize, near: &mut u64)
         requires whole { (C.walked claimer.now).cells ≡ length (cells_of spaces.now.spaces) }
         requires next { k < length (C.walked claimer.now).won }
         requires before { self.old.first ≤ k }
@@ -223,7 +226,7 @@ impl Ahead {
             return;
         }
         self.first = k;
-        self.count = read_some(claimer, spaces, k, &mut self.words);
+        self.count = read_some(claimer, spaces, k, &mut self.words, near);
     }
 
     // The words of the k-th won cell, which was read.
@@ -238,23 +241,25 @@ impl Ahead {
     }
 }
 
-// Reads the won cells from the k-th on, as many as there is room for, and answers how many.
+// Reads the won cells from the k-th on, as many as there is room for, and answers how many. Each is looked for from the space of
+// the one before it (`near`).
 #[inline(always)]
 fn read_some<C: Claimer>(
     claimer: &C,
     spaces: &Spaces,
     k: usize,
-    near: &mut [[u64; WORDS]; NEAR],
+    words: &mut [[u64; WORDS]; NEAR],
+    near: &mut u64,
 ) -> usize
     requires whole { (C.walked claimer.now).cells ≡ length (cells_of spaces.now.spaces) }
     requires next { k < length (C.walked claimer.now).won }
     ensures some { 0 < result }
     ensures few { result ≤ 8 }
-    ensures read { AreRead spaces.now.spaces (C.walked claimer.now).won k result near.new }
+    ensures read { AreRead spaces.now.spaces (C.walked claimer.now).won k result words.new }
 {
     let count = (claimer.len() - k).min(NEAR);
     for i in 0..count {
-        near[i] = *spaces.numbered_words(claimer.won_cell(k + i));
+        words[i] = *spaces.words_near(claimer.won_cell(k + i), near);
     }
     count
 }

@@ -26,6 +26,7 @@ pub record IsHelped (kind : Kind) (t : SpaceTable) (from : List Root) (board : B
 pub record IsOneOf (a b c : Part) : Type 0 where
   pub aged : c.aged.items ≡ a.aged.items ++ b.aged.items
   pub old : c.old.items ≡ a.old.items ++ b.old.items
+  pub left : c.left.items ≡ a.left.items ++ b.left.items
 
 -- all that two parts have, or a fault: that of one of the two, or want of memory
 abbrev pub IsOfBoth : Result Part RoomFault → Result Part RoomFault → Result Part RoomFault → Type 0

@@ -36,8 +36,8 @@ use tg_word::CELLS;
 /// Copies what the roots reach into new blocks, by one helper at a table of its own, on the calling thread.
 ///
 /// What it leaves is a collection as that of `tg_evac::collect_one`, and it is refused as that is, but that each space may
-/// have one block more than its copies need. The spare blocks are filled first; those that aren't needed are given back. The table is laid
-/// out in the spare room first, where the list of won cells stands then.
+/// have one block more than its copies need. The spare blocks are filled first; those that aren't needed are handed over with
+/// the others. The table is laid out in the spare room first, where the list of won cells stands then.
 pub fn collect_seated(
     alloc: Global,
     spaces: &Spaces,

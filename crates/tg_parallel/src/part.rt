@@ -19,13 +19,15 @@ use tg_race::{Helper, RaceTable};
 use tg_space::{Kind, RoomFault, Root, Space, Spaces, Spare};
 use tg_word::CELLS;
 
-/// What a helper has copied: its blocks, each with its number.
+/// What a helper has copied: its blocks, each with its number. And the spare blocks that it had no use for.
 #[derive(Drop)]
 pub struct Part {
     /// Its blocks of Aged.
     pub aged: Vec<(u64, Block)>,
     /// Its blocks of Old.
     pub old: Vec<(u64, Block)>,
+    /// Spare blocks that it didn't fill.
+    pub left: Vec<Block>,
 }
 
 /// A helper that has done its work, and what it made.
@@ -54,6 +56,7 @@ impl Part {
         requires old_room { length copies.old ≤ MOST_SPACE_CELLS }
         ensures aged { IfOk result (λ part. AreLaidOut copies.aged aged.now part.aged.items) }
         ensures old { IfOk result (λ part. AreLaidOut copies.old old.now part.old.items) }
+        ensures left { IfOk result (λ part. part.left.items ≡ copies.spare.items) }
         ensures aged_few { OnOk result (All (λ b. b < limit) aged.now) }
         ensures old_few { OnOk result (All (λ b. b < limit) old.now) }
         ensures full { IfErr result (λ fault. fault ≡ RoomFault.HeapFull → (b : ℕ) × (Contains aged.now b ⊎ Contains old.now b) × (limit ≤ b)) }
@@ -68,6 +71,7 @@ impl Part {
         Ok(Part {
             aged: laid_out(alloc, aged, blocks.aged)?,
             old: laid_out(alloc, old, blocks.old)?,
+            left: blocks.left,
         })
     }
 }

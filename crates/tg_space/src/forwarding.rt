@@ -26,8 +26,8 @@ impl Model for ForwardingTable {
 }
 
 impl ForwardingTable {
-    /// A word of 0 for each of as many cells, of which the first ones are skipped. The words of the others stand in the given room,
-    /// whatever it holds, where that is enough and not more than four times as much as they need; else the room is given back.
+    /// A word of 0 for each of as many cells, of which the first ones are skipped. The words of the others stand in the given
+    /// room, whatever it holds, where that is enough; else the room is given back.
     ///
     /// It is refused only where memory for the words of the others was.
     #[inline(always)]

@@ -149,8 +149,8 @@ impl Space {
     }
 }
 
-// Puts blocks behind others, where there is room for them.
-fn push_all(blocks: &mut Vec<Block>, more: Vec<Block>)
+/// Puts blocks behind others, where there is room for them. Takes no memory.
+pub(crate) fn push_all(blocks: &mut Vec<Block>, more: Vec<Block>)
     requires { length blocks.old.items + length more.items ≤ vec_capacity blocks.old }
     ensures { blocks.new.items ≡ blocks.old.items ++ more.items }
 {

@@ -6,7 +6,7 @@ ghost use Rattle.tg_space.specs.SpaceList.{IsEmptyFrom, IsSpace, space_of};
 ghost use Rattle.tg_space.specs.SpaceTable.{adopted, IsPrefixCount};
 ghost use Rattle.tg_space.specs.declared.kind.Kind.{Kind};
 
-use crate::space::Space;
+use crate::space::{Space, push_all};
 use std::alloc::{AllocError, Global};
 use std::mem;
 use tg_block::Block;
@@ -22,15 +22,18 @@ pub fn empty_spaces(alloc: Global, count: usize) -> Result<Vec<Space>, AllocErro
     Ok(spaces)
 }
 
-/// Old is followed by these blocks, Aged is the other ones, and every nursery has none. The answer is the blocks that Aged had.
+/// Old is followed by these blocks, Aged is the other ones, and every nursery has none. The answer is the blocks that were left,
+/// and behind them those that Aged had.
 ///
-/// The spaces from a number on, at least 2, have no block: it looks at none of them.
+/// The spaces from a number on, at least 2, have no block: it looks at none of them. It is refused only where memory was; then
+/// nothing is changed.
 pub fn put_behind(
     alloc: Global,
     spaces: &mut [Space],
     filled: usize,
     aged: Space,
     old: Space,
+    mut left: Vec<Block>,
 ) -> Result<Vec<Block>, AllocError>
     requires enough { 2 ≤ filled }
     requires empty { IsEmptyFrom filled spaces.old }
@@ -38,12 +41,15 @@ pub fn put_behind(
     ensures adopted { OnOk result (spaces.new ≡ adopted Kind.Nursery spaces.old aged old) }
     ensures first { OnOk result (IsSpace (space_of spaces.old 0 ++ old)) }
     ensures second { OnOk result (IsSpace aged) }
+    ensures spare { IfOk result (λ spare. spare.items ≡ left.items ++ space_of spaces.old 1) }
     ensures refused { OnErr result (spaces.new ≡ spaces.old) }
 {
+    left.reserve(spaces[1].len() as usize)?;
     spaces[0].append(old)?;
     let emptied = take_all(alloc, &mut spaces[1..], filled - 1);
     spaces[1] = aged;
-    Ok(emptied)
+    push_all(&mut left, emptied);
+    Ok(left)
 }
 
 /// Old is these blocks, and every other space has none. The answer is the blocks that Old had.
@@ -54,6 +60,7 @@ pub fn put_alone(alloc: Global, spaces: &mut [Space], filled: usize, old: Space)
     requires empty { IsEmptyFrom filled spaces.old }
     ensures adopted { spaces.new ≡ adopted Kind.Full spaces.old [] old }
     ensures whole { IsSpace old }
+    ensures spare { result.items ≡ space_of spaces.old 0 }
 {
     // It tells that these are the blocks of a space (`IsSpace`).
     let _ = old.len();
@@ -66,7 +73,8 @@ pub fn put_alone(alloc: Global, spaces: &mut [Space], filled: usize, old: Space)
 fn take_all(alloc: Global, spaces: &mut [Space], filled: usize) -> Vec<Block>
     requires some { 1 ≤ filled }
     requires empty { IsEmptyFrom filled spaces.old }
-    ensures { spaces.new ≡ replicate (length spaces.old) [] }
+    ensures empty { spaces.new ≡ replicate (length spaces.old) [] }
+    ensures first { result.items ≡ space_of spaces.old 0 }
 {
     let emptied = mem::replace(&mut spaces[0], Space::new(alloc));
     empty_all(alloc, spaces, filled);

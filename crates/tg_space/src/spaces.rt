@@ -18,7 +18,7 @@ use crate::spare::Spare;
 use std::alloc::{AllocError, Global};
 use std::marker::Model;
 use std::mem;
-use tg_block::WORDS;
+use tg_block::{Block, WORDS};
 use tg_word::{CELLS, Place, nursery_space};
 
 mod numbers;
@@ -240,7 +240,9 @@ impl Spaces {
     /// Aged is its new blocks, and the nurseries have none. That is refused only where memory was; then nothing is
     /// changed.
     ///
-    /// The blocks that Old had before a full collection, and Aged before one of the nurseries, are spare then.
+    /// The blocks that Old had before a full collection are spare then. So are those that Aged had before a nursery collection,
+    /// behind the spare ones that it had no use for: the next full collection finds blocks to copy to. Of these, no more are
+    /// kept than the heap has blocks.
     pub fn adopt(&mut self, kind: Kind, adoption: Adoption) -> Result<(), AllocError>
         requires { kind ≡ Kind.Nursery → kept_blocks kind self.old.spaces + length adoption.old ≤ MOST_SPACE_BLOCKS }
         ensures adopted { OnOk result (self.new ≡ with_adopted self.old kind adoption.aged adoption.old) }
@@ -248,10 +250,10 @@ impl Spaces {
         ensures full { kind ≡ Kind.Full → IsOk result }
         ensures table { OnOk result (IsSpaceTable self.new) }
     {
-        let Adoption { aged, old } = adoption;
+        let Adoption { aged, old, left } = adoption;
         match kind {
             Kind::Full => self.keep_only(old),
-            Kind::Nursery => self.keep_old_and(aged, old)?,
+            Kind::Nursery => self.keep_old_and(aged, old, left)?,
         }
         Ok(())
     }
@@ -263,12 +265,14 @@ impl Spaces {
         mem::replace(&mut self.spare, Spare::none(self.alloc))
     }
 
-    /// Keeps the room that came with forwarding words that nobody asks any more for the next collection: 8 bytes a cell until then.
-    /// Takes no memory.
+    /// Keeps the room that came with forwarding words that nobody asks any more for the next collection: 8 bytes a cell of the
+    /// last one until then, and at most 32 a cell that the heap has now. Takes no memory.
     pub fn keep_words(&mut self, forward: Forwarding)
         ensures { self.new ≡ self.old }
     {
-        self.spare.words = forward.into_room();
+        let cells = self.cells();
+        self.spare
+            .keep_words(self.alloc, forward.into_room(), cells);
     }
 
     // How many spaces there are up to the last nursery that has a block: as many as a collection has to empty. Old and Aged count always.
@@ -285,19 +289,20 @@ impl Spaces {
         filled
     }
 
-    // Old is followed by these blocks, Aged is the other ones, and every nursery has none.
+    // Old is followed by these blocks, Aged is the other ones, and every nursery has none. What is left of the spare blocks stays.
     #[tactic(auto, using(crate::proofs::Tables::table_adopted))]
-    fn keep_old_and(&mut self, aged: Space, old: Space) -> Result<(), AllocError>
+    fn keep_old_and(&mut self, aged: Space, old: Space, left: Vec<Block>) -> Result<(), AllocError>
         requires { length (space_of self.old.spaces 0) + length old ≤ MOST_SPACE_BLOCKS }
         ensures adopted { OnOk result (self.new ≡ with_adopted self.old Kind.Nursery aged old) }
         ensures refused { OnErr result (self.new ≡ self.old) }
         ensures table { OnOk result (IsSpaceTable self.new) }
     {
         let filled = self.filled();
-        let emptied = put_behind(self.alloc, &mut self.spaces, filled, aged, old)?;
+        let spare = put_behind(self.alloc, &mut self.spaces, filled, aged, old, left)?;
         self.used.fill(0);
         count_old_and_aged(&self.spaces, &mut self.starts);
-        self.spare.blocks = emptied;
+        let most = self.starts[self.spaces.len()];
+        self.spare.keep_blocks(spare, most);
         Ok(())
     }
 
@@ -310,6 +315,7 @@ impl Spaces {
         let emptied = put_alone(self.alloc, &mut self.spaces, filled, old);
         self.used.fill(0);
         count_old_and_aged(&self.spaces, &mut self.starts);
-        self.spare.blocks = emptied;
+        let most = self.starts[self.spaces.len()];
+        self.spare.keep_blocks(emptied, most);
     }
 }

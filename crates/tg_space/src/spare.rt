@@ -1,16 +1,19 @@
 //! What a collection leaves for the next one to use.
-ghost use Rattle.std.specs.Prelude.{◌≡◌, []};
+ghost use Rattle.std.specs.Prelude.{◌≡◌, ◌≤◌, ◌*◌, ◌<◌, ◌^◌, [], take, vec_capacity};
 
 use std::alloc::Global;
 use tg_block::Block;
 
-/// What the last collection left for the next one to use. It counts for no limit.
+/// What the last collection left for the next one to use. It counts for no limit, and is no more than the heap may need for a
+/// full collection.
 #[derive(Drop)]
 pub struct Spare {
-    /// Blocks that it emptied. They hold whatever they held.
+    /// Blocks that collections emptied or had no use for, at most as many as the heap had behind the last one. They hold
+    /// whatever they held.
     pub blocks: Vec<Block>,
-    /// Room for a word of each cell that might be moved, or for no word: that of the forwarding words, where one thread collected,
-    /// and else that of a helper's list of won cells. It is at most four times as much where the heap had shrunk.
+    /// Room for a word of each cell that might be moved, or for no word: that of the forwarding words, where one thread
+    /// collected, and else that of a helper's list of won cells. It is at most for four times as many cells as the heap had
+    /// behind the last collection.
     pub words: Vec<u64>,
 }
 
@@ -24,5 +27,26 @@ impl Spare {
             blocks: Vec::new(alloc),
             words: Vec::new(alloc),
         }
+    }
+
+    /// Keeps these blocks for the next collection, but no more than `most`; the others are given back. Takes no memory.
+    pub(crate) fn keep_blocks(&mut self, mut blocks: Vec<Block>, most: u64)
+        ensures { self.new.blocks.items ≡ take most blocks.items }
+    {
+        blocks.truncate(most as usize);
+        self.blocks = blocks;
+    }
+
+    /// Keeps this room for the next collection of as many cells, but gives it back where it is for more than four times as many.
+    /// Takes no memory.
+    pub(crate) fn keep_words(&mut self, alloc: Global, room: Vec<u64>, cells: u64)
+        requires { 4 * cells < 2 ^ 64 }
+        ensures { vec_capacity self.new.words ≤ 4 * cells }
+    {
+        self.words = if room.capacity() as u64 <= 4 * cells {
+            room
+        } else {
+            Vec::new(alloc)
+        };
     }
 }

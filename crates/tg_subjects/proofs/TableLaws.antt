@@ -5,6 +5,7 @@ use Rattle.std.specs.Cmp.{nat_eq_equiv}
 use Rattle.std.specs.List.{All, AllPairs, Contains}
 use Rattle.std.proofs.lemmas.Bool.{cond-true, cond-false}
 use Rattle.std.proofs.lemmas.List.{length-map, map-set}
+use Rattle.std.proofs.Math.ListN.{get_or-map}
 use Rattle.std.proofs.Math.Seq.{map-set_same}
 use Rattle.tg_word.specs.declared.Place.{Place}
 use Rattle.std.proofs.lemmas.List.Elements.{All-head, All-tail, All-nil, All-cons, All-filter, All-push, All-contains}
@@ -135,6 +136,28 @@ nursery_found ss name None are there = tt
 nursery_found ss name (Some s) are there = sym (held_by ss name s are there)
 
 -- ---- where objects are
+
+-- a table with the same names and nurseries is one as well
+pub subjects_same : (old new : List Subject) → names_of new ≡ names_of old → nurseries_of new ≡ nurseries_of old → AreSubjects old → AreSubjects new
+subjects_same old new names nurseries are = record {
+  rising = λ i j d lt low.
+      let before = are.rising i j d lt (omega (arith, low, many)) in
+      let first = column (λ s. s.name) names i d in
+      let second = column (λ s. s.name) names j d in
+      omega (arith, before, first, second);
+  nurseries = λ i d low.
+      let before = are.nurseries i d (omega (arith, low, many)) in
+      let here = column (λ s. s.nursery) nurseries i d in
+      omega (arith, before, here);
+  apart = λ i j d lt low same. are.apart i j d lt (omega (arith, low, many))
+      (sym (column (λ s. s.nursery) nurseries i d) ∙ same ∙ column (λ s. s.nursery) nurseries j d);
+}
+  where
+    many : length new ≡ length old
+    many = sym (length-map new (λ (s : Subject). s.name)) ∙ ap length names ∙ length-map old (λ (s : Subject). s.name)
+
+    column : (f : Subject → ℕ) → map f new ≡ map f old → (i : ℕ) (d : Subject) → f (get_or new i d) ≡ f (get_or old i d)
+    column f same i d = sym (get_or-map f new i d) ∙ ap (λ l. get_or l i (f d)) same ∙ get_or-map f old i d
 
 -- only the place of one subject changes
 pub record Moves (old new : List Subject) (at : ℕ) (place : Place) : Type 0 where

@@ -1,5 +1,6 @@
 -- The subjects that are active, by rising name. Each has a nursery and an object.
-use Rattle.std.specs.Prelude.{◌≡◌, ◌≢◌, ℕ, ◌<◌, ◌==◌, ◌∷◌, [], List, if◌then◌else◌, length, map, not, slice_index_or}
+use Rattle.std.specs.Prelude.{◌≡◌, ◌≢◌, ◌↔◌, ℕ, ◌<◌, ◌==◌, ◌∷◌, [], List, if◌then◌else◌, length, map, not, slice_index_or}
+use Rattle.std.specs.Int.{bit_at}
 use Rattle.std.specs.List.{All, AllPairs, Contains, filter}
 use Rattle.tg_word.specs.declared.Place.{Place}
 use Rattle.tg_word.specs.declared.TheConstants.{MAX_NURSERIES}
@@ -54,6 +55,10 @@ pub record IsLeastFree (subjects : List Subject) (nursery : ℕ) : Type 0 where
   pub few : nursery < MAX_NURSERIES
   pub free : ¬ IsHeld subjects nursery
   pub least : (lower : ℕ) → lower < nursery → IsHeld subjects lower
+
+-- the bits of a word that are set are those of the nurseries that are held, and no other's
+abbrev pub MarksHeld : (word : ℕ) (held : List ℕ) → Type 0
+MarksHeld word held = (nursery : ℕ) → nursery < MAX_NURSERIES → bit_at word nursery ≡ 1 ↔ Contains held nursery
 
 -- all but the one with a name
 abbrev pub without : List Subject → ℕ → List Subject

@@ -13,21 +13,24 @@ use tg_word::{MAX_NURSERIES, Place};
 #[derive(Drop)]
 pub struct Subjects {
     items: Vec<Subject>,
+    // A bit for each nursery that a subject holds; there are as many bits as there may be nurseries.
+    held: u64,
 }
 
 impl Model for Subjects {
     ghost use Rattle.std.specs.Prelude.{◌≤◌, List};
     ghost use Rattle.std.specs.Vec.{vec_capacity};
     ghost use Rattle.tg_word.specs.declared.TheConstants.{MAX_NURSERIES};
-    ghost use Rattle.tg_subjects.specs.Subjects.{AreSubjects};
+    ghost use Rattle.tg_subjects.specs.Subjects.{AreSubjects, MarksHeld, nurseries_of};
     ghost use Rattle.tg_subjects.specs.declared.subject.Subject.{Subject};
 
     ghost Value = { List Subject };
 
     ghost view = { λ table. table.items.items };
 
-    // names rise, each subject has a nursery of its own, and there is room for all that there may be
-    ghost invariant = { λ table. AreSubjects table.items.items × (MAX_NURSERIES ≤ vec_capacity table.items) };
+    // names rise, each subject has a nursery of its own, there is room for all that there may be, and just the bits of held
+    // nurseries are set
+    ghost invariant = { λ table. AreSubjects table.items.items × (MAX_NURSERIES ≤ vec_capacity table.items) × MarksHeld table.held (nurseries_of table.items.items) };
 }
 
 impl Subjects {
@@ -39,6 +42,7 @@ impl Subjects {
     {
         Ok(Subjects {
             items: Vec::with_capacity(alloc, MAX_NURSERIES as usize)?,
+            held: 0,
         })
     }
 
@@ -76,12 +80,7 @@ impl Subjects {
         requires { length self.now < MAX_NURSERIES }
         ensures { IsLeastFree self.now result }
     {
-        for nursery in 0..MAX_NURSERIES {
-            if !is_held(self.as_slice(), nursery) {
-                return nursery;
-            }
-        }
-        unreachable!()
+        u64::from(self.held.trailing_ones())
     }
 
     /// Adds a subject, and answers the number of its nursery: the least that is free. It takes no memory.
@@ -100,6 +99,7 @@ impl Subjects {
             nursery,
             place,
         });
+        self.held |= 1 << nursery;
         nursery
     }
 
@@ -109,7 +109,8 @@ impl Subjects {
         ensures subjects { AreSubjects self.new }
     {
         if let Some(at) = position(self.as_slice(), name) {
-            self.items.remove(at);
+            let retired = self.items.remove(at);
+            self.held &= !(1 << retired.nursery);
         }
     }
 
@@ -145,6 +146,7 @@ impl Subjects {
 // The subject with a name, if it is there. Where none was retired, it stands at the place with the name's number.
 #[inline(always)]
 fn find_in(subjects: &[Subject], name: u64) -> Option<Subject>
+    requires { AreSubjects subjects.now }
     ensures there { IfSome result (IsSubjectNamed subjects.now name) }
     ensures none { result ≡ None → All (λ s. s.name ≢ name) subjects.now }
 {
@@ -156,27 +158,13 @@ fn find_in(subjects: &[Subject], name: u64) -> Option<Subject>
     Some(subjects[position(subjects, name)?])
 }
 
-// Where the subject with a name stands, if it is there.
+// Where the subject with a name stands, if it is there. Names rise.
 fn position(subjects: &[Subject], name: u64) -> Option<usize>
+    requires { AreSubjects subjects.now }
     ensures there { IfSome result (IsAt subjects.now name) }
     ensures none { result ≡ None → All (λ s. s.name ≢ name) subjects.now }
 {
-    for at in 0..subjects.len() {
-        if subjects[at].name == name {
-            return Some(at);
-        }
-    }
-    None
-}
-
-// Whether a subject holds a nursery.
-fn is_held(subjects: &[Subject], nursery: u64) -> bool
-    ensures { IsTrue result ↔ IsHeld subjects.now nursery }
-{
-    for subject in subjects {
-        if subject.nursery == nursery {
-            return true;
-        }
-    }
-    false
+    subjects
+        .binary_search_by_key(&name, |subject| subject.name)
+        .ok()
 }

@@ -9,10 +9,10 @@ pub loop-i-preserved : goal.loop-i-preserved
 loop-i-preserved g c =
     let h = c.args.spaces.now.spaces in let won = (g.C.Claimer.walked c.args.claimer.now).won in
     record {
-      long = length-set c.loop-i.near c.loop-i.i c.numbered_words.result.now ∙ c.loop-i.invariant.long;
+      long = length-set c.loop-i.words c.loop-i.i c.words_near.result.now ∙ c.loop-i.invariant.long;
       words =
-          more_words c.loop-i.near c.loop-i.i c.numbered_words.result.now (λ (j : ℕ). cell_numbered h (win_at won (c.args.k + j)).cell)
+          more_words c.loop-i.words c.loop-i.i c.words_near.result.now (λ (j : ℕ). cell_numbered h (win_at won (c.args.k + j)).cell)
           (omega (arith, c.loop-i.invariant.long, c.loop-i-test.true, c.min-count.ensures))
           c.loop-i.invariant.words
-          (c.numbered_words.ensures.words ∙ ap (cell_numbered h) c.won_cell.ensures.cell);
+          (c.words_near.ensures.words ∙ ap (cell_numbered h) c.won_cell.ensures.cell);
     }

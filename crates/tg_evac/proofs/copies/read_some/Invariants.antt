@@ -6,6 +6,6 @@ use Rattle.tg_evac.proofs.copies.read_some.Given as goal
 abbrev pub invariant-loop-i : goal.invariant-loop-i
 invariant-loop-i g l =
     record {
-      long : length l.near ≡ 8;
-      words : (j : ℕ) → j < l.i → slice_index_or l.near j [] ≡ cell_numbered l.spaces.spaces (win_at (g.C.Claimer.walked l.claimer).won (l.k + j)).cell;
+      long : length l.words ≡ 8;
+      words : (j : ℕ) → j < l.i → slice_index_or l.words j [] ≡ cell_numbered l.spaces.spaces (win_at (g.C.Claimer.walked l.claimer).won (l.k + j)).cell;
     }

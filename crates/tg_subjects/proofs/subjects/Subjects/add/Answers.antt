@@ -1,21 +1,30 @@
-use Rattle.std.proofs.Common.{◌<◌, ◌≤◌, ℕ, List, sym, subst}
+use Rattle.std.proofs.Common.{◌<◌, ◌≤◌, ◌*◌, ◌%◌, ◌^◌, ℕ, List, bit_or, sym, subst}
 use Rattle.std.specs.List.{All}
 use Rattle.tg_word.specs.declared.TheConstants.{MAX_NURSERIES}
 use Rattle.tg_subjects.specs.declared.subject.Subject.{Subject}
-use Rattle.tg_subjects.specs.Subjects.{AreSubjects, IsLeastFree}
+use Rattle.tg_subjects.specs.Subjects.{AreSubjects, IsLeastFree, MarksHeld, nurseries_of}
+use Rattle.tg_subjects.proofs.HeldLaws.{marks_more}
 use Rattle.tg_subjects.proofs.TableLaws.{subjects_push}
 use Rattle.tg_subjects.proofs.subjects.Subjects.add.Goals as goal
 
-are_more : (c : goal.After-push_reserved) → AreSubjects c.push_reserved.new.self.items
+free : (c : goal.After-self-1) → IsLeastFree c.self.inside.items.items c.free_nursery-nursery.result
+free c = subst (λ (l : List Subject). IsLeastFree l c.free_nursery-nursery.result) (sym c.self.view_is) c.free_nursery-nursery.ensures
+
+are_more : (c : goal.After-self-1) → AreSubjects c.push_reserved.new.self.items
 are_more c =
     let ss : List Subject = c.self.inside.items.items in
     let s : Subject = record { name = c.args.name; nursery = c.free_nursery-nursery.result; place = c.args.place } in
-    let free : IsLeastFree ss s.nursery = subst (λ (l : List Subject). IsLeastFree l s.nursery) (sym c.self.view_is) c.free_nursery-nursery.ensures in
     let above : All (λ t. t.name < s.name) ss = subst (λ (l : List Subject). All (λ t. t.name < s.name) l) (sym c.self.view_is) c.requires.above in
-    subst AreSubjects (sym c.push_reserved.ensures.items) (subjects_push ss s c.self.invariant.0 free above)
+    subst AreSubjects (sym c.push_reserved.ensures.items) (subjects_push ss s c.self.invariant.0 (free c) above)
 
 pub invariant_of-self : goal.invariant_of-self
-invariant_of-self c = (are_more c, subst (λ (n : ℕ). MAX_NURSERIES ≤ n) (sym c.push_reserved.ensures.capacity) c.self.invariant.1)
+invariant_of-self c =
+    let s : Subject = record { name = c.args.name; nursery = c.free_nursery-nursery.result; place = c.args.place } in (
+      are_more c,
+      subst (λ (n : ℕ). MAX_NURSERIES ≤ n) (sym c.push_reserved.ensures.capacity) c.self.invariant.1,
+      subst (λ (l : List Subject). MarksHeld (bit_or c.self.inside.held (1 * 2 ^ c.free_nursery-nursery.result % 2 ^ 64)) (nurseries_of l)) (sym c.push_reserved.ensures.items)
+          (marks_more c.self.inside.items.items s c.self.inside.held (free c).few c.self.invariant.2),
+    )
 
 pub returns-clause-subjects : goal.returns-clause-subjects
 returns-clause-subjects c = are_more c

@@ -1,0 +1,73 @@
+#!/usr/bin/env python3
+"""run.py [--instructions]
+
+What collections of young vertices take, and the first nursery collection after a full one, through the library for C that
+bindings/check has built (young.c).
+
+By itself it prints the processor time of the first nursery collection after a full one and of the next one, each of 1,000 young
+vertices, at 10,000, 100,000 and 1,000,000 vertices: medians of nine runs, and their ratio. With --instructions it counts, under
+valgrind, what a full collection and one of the nurseries take for a vertex that was just made, at 100,000 and at 1,000,000, and
+prints how many times as much the second is. It wants a C compiler."""
+import os
+import re
+import subprocess
+import sys
+import tempfile
+from pathlib import Path
+from statistics import median
+
+HERE = Path(__file__).resolve().parent
+BINDINGS = HERE.parent.parent / "bindings"
+ROUNDS = 9
+CLOCKED = (10_000, 100_000, 1_000_000)
+COUNTED = (100_000, 1_000_000)
+KINDS = {"full": "f", "minor": "n"}
+
+
+def built(folder):
+    program = Path(folder) / "young"
+    words = [os.environ.get("CC", "cc"), "-O2", "-I", BINDINGS, "-o", program, HERE / "young.c", BINDINGS / "out" / "libkovshenul.a"]
+    subprocess.run(words, check=True)
+    return program
+
+
+def ran(words):
+    run = subprocess.run([str(word) for word in words], capture_output=True, text=True)
+    if run.returncode:
+        sys.exit(f"young: status {run.returncode}: {run.stderr[-500:]}")
+    return run
+
+
+def instructions(program, vertices, steps):
+    counter = ["valgrind", "--tool=cachegrind", "--cache-sim=no", "--cachegrind-out-file=/dev/null"]
+    said = ran([*counter, program, vertices, steps]).stderr
+    return int(re.search(r"I\s+refs:\s+([\d,]+)", said)[1].replace(",", ""))
+
+
+def count(program):
+    made = {vertices: instructions(program, vertices, "") for vertices in COUNTED}
+    for kind, step in KINDS.items():
+        few, many = ((instructions(program, vertices, step) - made[vertices]) / vertices for vertices in COUNTED)
+        print(f"{kind}: {few:.0f} instructions a young vertex of {COUNTED[0]:,}, {many:.0f} of {COUNTED[1]:,}: {many / few:.2f} times", flush=True)
+
+
+def clock(program):
+    for vertices in CLOCKED:
+        times = [[float(line) for line in ran([program, vertices, "fcncn"]).stdout.split()] for _ in range(ROUNDS)]
+        full, first, following = (median(it) for it in zip(*times))
+        print(f"{vertices:,} vertices: full {full:.0f} µs, first minor {first:.0f} µs, the next {following:.0f} µs: {first / following:.2f} times", flush=True)
+
+
+def main():
+    with tempfile.TemporaryDirectory() as folder:
+        program = built(folder)
+        if sys.argv[1:] == ["--instructions"]:
+            count(program)
+        elif len(sys.argv) == 1:
+            clock(program)
+        else:
+            sys.exit(__doc__)
+
+
+if __name__ == "__main__":
+    main()
