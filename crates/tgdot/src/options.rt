@@ -1,5 +1,6 @@
 //! The words of the command line.
 
+use crate::fault::DrawFault;
 use clap::builder::ValueParser;
 use clap::{Arg, ArgAction, ArgMatches, Command, Error};
 use std::alloc::{AllocError, Global};
@@ -27,9 +28,10 @@ const VERTICES: &str = "How many vertices may ever be made, from 1 to 16777216 [
 
 const STOCK: &str = "The boxes that creates and spawns take, as tgstore has them";
 
-const STEPS: &str = "A digraph for each line, of at most 400 lines, and 100000 vertices in all";
+const STEPS: &str =
+    "A digraph for each line, of at most 400 lines, and one before the first; 100000 vertices in all";
 
-const FROM: &str = "With --steps: the first line that is shown [default: the first of all]";
+const FROM: &str = "With --steps: the first line that is shown, not above --to [default: 1]";
 
 const TO: &str = "With --steps: the last line that is shown [default: the last of all]";
 
@@ -125,6 +127,15 @@ impl LineRange {
     pub fn contains(self, line: u64) -> bool {
         self.from <= line && line <= self.to
     }
+
+    /// A fault where there is no such line, whatever the script.
+    pub fn check(self) -> Result<(), DrawFault> {
+        let LineRange { from, to } = self;
+        if from > to {
+            return Err(DrawFault::BadRange { from, to });
+        }
+        Ok(())
+    }
 }
 
 /// Reads the words, the first of which is the program's name. An `Err` is the text for the user, of the help as of a fault.
@@ -157,7 +168,7 @@ fn steps_of(matches: &ArgMatches) -> Option<LineRange> {
         return None;
     }
     Some(LineRange {
-        from: matches.get_one("from").unwrap_or(0),
+        from: matches.get_one("from").unwrap_or(1),
         to: matches.get_one("to").unwrap_or(u64::MAX),
     })
 }
