@@ -22,8 +22,10 @@ const NO_ROOM: Room = Room {
     ever_subject: false,
 };
 
-// The most columns of a circle that is as wide as others: one with a longer text is wider alone.
-const MOST_ALIKE: usize = 12;
+// The columns for which each circle has room at least, and at most.
+const LEAST_IN_CIRCLE: usize = 6;
+
+const MOST_IN_CIRCLE: usize = 12;
 
 /// The vertices and edges that ever stand at a step, and how many columns the texts of each take, so that every picture has the same
 /// places. It remembers whether memory was wanting for a part of it.
@@ -81,11 +83,11 @@ impl Frame {
         self.widen_edges(shot);
     }
 
-    /// The columns that each circle has room for, so that circles are of one size; one with a longer text is wider.
+    /// The columns for which each circle has room, so that all are of one size.
     pub fn circle_columns(&self) -> usize {
-        let mut most = 0;
+        let mut most = LEAST_IN_CIRCLE;
         for (_, room) in self.vertices.iter() {
-            if !room.ever_subject && room.columns <= MOST_ALIKE {
+            if !room.ever_subject && room.columns <= MOST_IN_CIRCLE {
                 most = room.columns.max(most);
             }
         }

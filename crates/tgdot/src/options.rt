@@ -9,7 +9,8 @@ use std::convert::AsStr;
 const ABOUT: &str = "Draws the graph that a script leaves, for GraphViz's dot
 
 Reads a script of tgstore's from standard input, runs it, and writes a digraph to standard output: subjects as boxes,
-with a dashed border where they retired, objects as circles, an arrow with its rights for each edge, and grey what no subject reaches.
+with a dashed border where they retired, objects as circles, or ellipses where the text is long, an arrow with its rights for each edge,
+and grey what no subject reaches.
 
 With --steps it writes a digraph for each line that is no edge line, and one before the first of them. Each names the same vertices and
 edges, and hides what isn't there, so that dot puts a vertex at one place in all of them. A vertex shows its law and its state. Bold are

@@ -81,16 +81,22 @@ fn write_vertex(text: &mut Draft, shot: &Shot, name: u64) {
     }
 }
 
-// The shape and the size of a vertex, which are its own for all steps. A circle has room for so many columns at least.
+// The shape and the size of a vertex, which are its own for all steps. All circles have room for so many columns; one with a longer text is an
+// ellipse of their height.
 fn write_room(text: &mut Draft, room: Room, circle: usize) {
     if room.ever_subject {
         let height = if room.is_noted { NOTED_HEIGHT } else { HEIGHT };
         text.add(" [shape=box width=");
         write_sizes(text, width_of(room.columns, BOX_MARGIN), height);
-    } else {
-        let width = width_of(room.columns.max(circle), CIRCLE_MARGIN);
+    } else if room.columns <= circle {
+        let width = width_of(circle, CIRCLE_MARGIN);
         text.add(" [shape=circle width=");
         write_sizes(text, width, width);
+    } else {
+        // A quarter more, since it narrows above and below the middle.
+        let width = width_of(room.columns.saturating_add(room.columns / 4), CIRCLE_MARGIN);
+        text.add(" [shape=ellipse width=");
+        write_sizes(text, width, width_of(circle, CIRCLE_MARGIN));
     }
 }
 
