@@ -19,7 +19,7 @@ pub(crate) struct Noted<S: Source + Drop> {
 
 impl<S: Source + Drop> Noted<S> {
     /// The source as it is; its lines are noted where that is asked for.
-    pub fn new(source: S, is_asked: bool) -> Noted<S>
+    pub(crate) fn new(source: S, is_asked: bool) -> Noted<S>
         ensures { result.source ≡ source }
     {
         Noted {
@@ -31,7 +31,7 @@ impl<S: Source + Drop> Noted<S> {
     }
 
     /// Why the last line is bad, where a bad line ended a run with so many workers at first, and that was asked for.
-    pub fn reason(&self, outcome: &Result<(), Stop>, workers: u64) -> Option<&'static str> {
+    pub(crate) fn reason(&self, outcome: &Result<(), Stop>, workers: u64) -> Option<&'static str> {
         if !self.is_asked {
             return None;
         }
