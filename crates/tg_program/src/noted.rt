@@ -1,5 +1,5 @@
 //! A source whose last line is noted, so that it can be said why it is bad.
-ghost use Rattle.std.specs.Prelude.{◌≡◌};
+ghost use Rattle.std.specs.Prelude.{◌≡◌, ◌≤◌, length};
 
 use crate::stop::Stop;
 use tg_reason::reason_of;
@@ -7,14 +7,48 @@ use tg_script::{MOST_LINE_BYTES, Next, ScriptFault, Source};
 use tg_text::LineBuffer;
 use tg_threads::RaceFault;
 
+// The line that came last, without its line feed, and whether that came.
+#[derive(Drop)]
+struct LastLine {
+    bytes: LineBuffer,
+    is_ended: bool,
+}
+
+impl LastLine {
+    // No byte came.
+    fn new() -> LastLine {
+        LastLine {
+            bytes: LineBuffer::new(),
+            is_ended: false,
+        }
+    }
+
+    // Notes a line that came whole.
+    fn set(&mut self, bytes: &[u8])
+        requires { length bytes.now ≤ 256 }
+    {
+        self.bytes.set(bytes);
+        self.is_ended = true;
+    }
+
+    // Notes a byte. Those of a line before it go, and so do those that are more than a line may have.
+    fn push(&mut self, byte: u8) {
+        if self.is_ended {
+            self.bytes.clear();
+        }
+        self.is_ended = byte == b'\n';
+        if !self.is_ended && self.bytes.len() < MOST_LINE_BYTES {
+            self.bytes.push(byte);
+        }
+    }
+}
+
 /// A source that notes the line which it gave last, where that is asked for.
 #[derive(Drop)]
 pub(crate) struct Noted<S: Source + Drop> {
     pub source: S,
     is_asked: bool,
-    // The line, without its line feed, and whether that came.
-    line: LineBuffer,
-    is_ended: bool,
+    last: LastLine,
 }
 
 impl<S: Source + Drop> Noted<S> {
@@ -25,8 +59,7 @@ impl<S: Source + Drop> Noted<S> {
         Noted {
             source,
             is_asked,
-            line: LineBuffer::new(),
-            is_ended: false,
+            last: LastLine::new(),
         }
     }
 
@@ -39,21 +72,11 @@ impl<S: Source + Drop> Noted<S> {
             Err(
                 Stop::Script(ScriptFault::BadLine { .. })
                 | Stop::Race(RaceFault::Script(ScriptFault::BadLine { .. })),
-            ) => Some(reason_of(self.line.as_slice(), self.is_ended, workers)),
+            ) => {
+                let LastLine { bytes, is_ended } = &self.last;
+                Some(reason_of(bytes.as_slice(), *is_ended, workers))
+            }
             _ => None,
-        }
-    }
-
-    // Notes a byte. Those of a line before it go, and so do those that no line may have.
-    fn note(&mut self, byte: u8)
-        ensures { self.new.source ≡ self.old.source }
-    {
-        if self.is_ended {
-            self.line.clear();
-        }
-        self.is_ended = byte == b'\n';
-        if !self.is_ended && self.line.len() < MOST_LINE_BYTES {
-            self.line.push(byte);
         }
     }
 }
@@ -75,7 +98,7 @@ impl<S: Source + Drop> Source for Noted<S> {
     fn next(&mut self) -> Next {
         let next = self.source.next();
         if let Next::Byte(byte) = next {
-            self.note(byte);
+            self.last.push(byte);
         }
         next
     }
@@ -84,8 +107,7 @@ impl<S: Source + Drop> Source for Noted<S> {
     fn take_line(&mut self, line: &mut LineBuffer, most: usize) -> bool {
         let took = self.source.take_line(line, most);
         if took && self.is_asked {
-            self.line.set(line.as_slice());
-            self.is_ended = true;
+            self.last.set(line.as_slice());
         }
         took
     }

@@ -29,7 +29,7 @@ pub enum Stop {
 }
 
 /// Why the program ended, and why a line of the script is bad, where that was asked for.
-#[derive(Clone, Copy, Debug)]
+#[derive(Clone, Copy)]
 pub(crate) struct Failure {
     pub stop: Stop,
     pub reason: Option<&'static str>,

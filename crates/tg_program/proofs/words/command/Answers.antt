@@ -1,15 +1,14 @@
-use Rattle.std.proofs.Common.{◌≡◌, ◌∙◌, ap, ap₂, codes, true, sym, subst}
+use Rattle.std.proofs.Common.{◌≡◌, ◌∙◌, ap, ap₂, true, sym, subst}
 use Rattle.clap.specs.Built.{AddsArg, AddsInTurn}
 use Rattle.clap.specs.Simple.{app_of_fields, on_top}
-use Rattle.clap.specs.Words.{app_of, new_app, with_rule}
+use Rattle.clap.specs.Words.{app_of, with_rule}
 use Rattle.tg_program.specs.Words.{bare_line}
 use Rattle.tg_program.proofs.words.command.Goals as goal
 
 pub returns : goal.returns
 returns c =
-    let named : app_of c.in_ok-bin_name.bin_name ≡ new_app (codes "tgstore") = ap app_of_fields c.in_ok-bin_name.ensures.0 ∙ c.new.ensures.app in
     let start : app_of c.after_help.result ≡ bare_line = ap app_of_fields c.after_help.ensures ∙ ap app_of_fields c.about.ensures
-    ∙ ap app_of_fields c.version.ensures ∙ ap (on_top (λ s. record s { has_version = true })) named in
+    ∙ ap app_of_fields c.version.ensures ∙ ap (on_top (λ s. record s { has_version = true })) (ap app_of_fields c.in_ok-bin_name.ensures.0 ∙ c.new.ensures.app) in
     let first = subst (λ xs. AddsInTurn AddsArg c.after_help.result xs c.in_ok-command.command) c.in_ok-options.ensures.items c.in_ok-command.ensures in
     let second = first.2 in
     let third = second.2 in
