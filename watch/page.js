@@ -7,27 +7,51 @@
   const said = document.getElementById("said");
   let at = 0;
 
+  // The number in the address leads to a step without the browser's help: a step has the number as its id only where no script runs, so that
+  // the browser doesn't scroll to it, and the page opens at its top.
+  steps.forEach((step) => {
+    step.dataset.number = step.id;
+    step.removeAttribute("id");
+  });
+
   // What a screen reader says of the step.
   function spoken(step) {
-    const reply = step.querySelector(".reply").textContent;
-    return `Line ${step.querySelector("h2").textContent}` + (reply ? `, reply ${reply}` : "");
+    const [reply, change] = [".reply", ".change"].map((it) => step.querySelector(it).textContent);
+    return `Line ${step.querySelector("h2").textContent}` + (reply ? `, reply ${reply}` : "") + (change ? `: ${change}` : "");
   }
 
-  // Marks the step's line in the list, and scrolls the list alone to it.
+  // Marks the step's line in the list, and scrolls the list alone, so that the line stands in the window.
   function mark(step) {
     for (const link of links) {
-      const isNow = link.hash === `#${step.id}`;
+      const isNow = link.hash === `#${step.dataset.number}`;
       link.classList.toggle("now", isNow);
       if (isNow) {
         link.setAttribute("aria-current", "step");
         const list = link.closest("nav");
-        const top = link.getBoundingClientRect().top - list.getBoundingClientRect().top + list.scrollTop;
-        if (top < list.scrollTop || top + link.offsetHeight > list.scrollTop + list.clientHeight) {
-          list.scrollTop = top - list.clientHeight / 2;
+        const [line, box] = [link, list].map((it) => it.getBoundingClientRect());
+        const [top, bottom] = [Math.max(box.top, 0), Math.min(box.bottom, window.innerHeight)];
+        if (line.top < top || line.bottom > bottom) {
+          list.scrollTop += (line.top + line.bottom - top - bottom) / 2;
         }
       } else {
         link.removeAttribute("aria-current");
       }
+    }
+  }
+
+  // Scrolls the figure in its box to what the line names, as far as all of that fits in, and else to the first of it.
+  function look(step) {
+    const figure = step.querySelector("figure");
+    const named = Array.from(step.querySelectorAll("svg .n.bold, svg .l.bold, svg .n.red, svg .l.red")).map((it) => it.getBoundingClientRect());
+    if (named.length === 0) {
+      return;
+    }
+    const box = figure.getBoundingClientRect();
+    for (const [side, end, scroll, size] of [["left", "right", "scrollLeft", "clientWidth"], ["top", "bottom", "scrollTop", "clientHeight"]]) {
+      const first = Math.min(...named.map((it) => it[side])) - box[side];
+      const last = Math.max(...named.map((it) => it[end])) - box[side];
+      const room = figure[size];
+      figure[scroll] += last - first <= room ? (first + last - room) / 2 : first;
     }
   }
 
@@ -42,18 +66,21 @@
     slider.setAttribute("aria-valuetext", spoken(steps[at]));
     said.textContent = spoken(steps[at]);
     mark(steps[at]);
-    history.replaceState(null, "", `#${steps[at].id}`);
+    look(steps[at]);
+    if (document.readyState === "complete") {
+      history.replaceState(null, "", `#${steps[at].dataset.number}`);
+    }
   }
 
   // The place of the step that the address names, or else of the first.
   function named() {
-    const place = steps.findIndex((step) => `#${step.id}` === location.hash);
+    const place = steps.findIndex((step) => `#${step.dataset.number}` === location.hash);
     return place < 0 ? 0 : place;
   }
 
-  // The place of the next denial, beginning anew behind the last one.
+  // The place of the next line that was denied or refused, beginning anew behind the last one.
   function nextDenial() {
-    const isDenied = (step) => step.classList.contains("denied");
+    const isDenied = (step) => step.classList.contains("denied") || step.classList.contains("refused");
     const later = steps.findIndex((step, place) => place > at && isDenied(step));
     return later < 0 ? steps.findIndex(isDenied) : later;
   }
@@ -83,7 +110,7 @@
   // A click on a line keeps the page where it is.
   links.forEach((link) => link.addEventListener("click", (event) => {
     event.preventDefault();
-    show(steps.findIndex((step) => `#${step.id}` === link.hash));
+    show(steps.findIndex((step) => `#${step.dataset.number}` === link.hash));
   }));
 
   document.documentElement.classList.add("stepped");

@@ -1,10 +1,11 @@
 -- What the words of the command line say. How they are taken apart is clap's matter: behind the program's name `--NAME` takes
--- the next word, `--NAME=TEXT` takes the text, `--race` stands alone, and no option comes twice.
+-- the next word, `--NAME=TEXT` takes the text, `--race` and `--why` stand alone, and no option comes twice.
 use Rattle.std.specs.Prelude.{◌≡◌, ℕ, Bool, true, false, List, [], Option, Some, None, codes, unwrap_or}
 use Rattle.std.specs.Option.{option_map_or}
 use Rattle.std.specs.Str.Parse.{digits_value, without_leading_plus}
 use Rattle.tg_word.specs.declared.TheConstants.{MOST_SPACE_BLOCKS}
 use Rattle.clap.specs.Words.{App, Rule, first_of, matches_of, new_app, new_rule, one_of, one_text, rule_of, with_rule}
+use Rattle.clap.specs.Simple.{on_top}
 use Rattle.clap.specs.declared.builder.arg.Arg.{Arg}
 use Rattle.clap.specs.declared.builder.action.ArgAction.TheVariants.{Set, SetTrue}
 use Rattle.clap.specs.declared.builder.value_parser.ValueParser.TheVariants.{Unsigned}
@@ -29,14 +30,20 @@ pub record IsArgOf (asked : Rule) (arg : Arg) : Type 0 where
   pub rule : rule_of arg ≡ asked
   pub local : arg.global ≡ false
 
+-- the program, which has a version
+abbrev pub bare_line : App
+bare_line = on_top (λ s. record s { has_version = true }) (new_app (codes "tgstore"))
+
 -- the options that there are
 abbrev pub command_line : App
 command_line =
     with_rule
     (with_rule
-    (with_rule (with_rule (with_rule (with_rule (new_app (codes "tgstore")) (number_rule (codes "workers"))) (number_rule (codes "helpers"))) (number_rule (codes "vertices"))) (number_rule (codes "blocks")))
+    (with_rule
+    (with_rule (with_rule (with_rule (with_rule bare_line (number_rule (codes "workers"))) (number_rule (codes "helpers"))) (number_rule (codes "vertices"))) (number_rule (codes "blocks")))
     (option_rule (codes "stock")))
-    (flag_rule (codes "race"))
+    (flag_rule (codes "race")))
+    (flag_rule (codes "why"))
 
 -- the number that a text writes, or this one where there is no text
 abbrev pub number_or : ℕ → Option (List ℕ) → ℕ
@@ -64,6 +71,7 @@ pub record AreSaid (words : List (List ℕ)) (o : Options) : Type 0 where
   pub blocks : o.settings.limits.max_blocks ≡ number_said (codes "blocks") 4096 words
   pub space_blocks : o.settings.limits.space_blocks ≡ MOST_SPACE_BLOCKS
   pub race : IsFlag (one_of (codes "race") (matches_of command_line words)) o.race
+  pub why : IsFlag (one_of (codes "why") (matches_of command_line words)) o.why
   pub stock : o.stock.now ≡ text_said (codes "stock") words
 
 -- the numbers are those that were found in words which were taken apart; no space has more than 1,048,576 blocks

@@ -1,4 +1,7 @@
-//! The texts of the help.
+//! The texts of the help, and the version.
+
+/// The version of all that this repository has. The file `VERSION` says the same.
+pub const VERSION: &str = "0.3.0";
 
 pub const ABOUT: &str = "An object store whose access control is proved
 
@@ -29,6 +32,8 @@ with as many threads as --helpers says. In what order lines of different
 workers are run is then open. The replies are written when all have ended, in
 the script's order, and behind them 'entries N audit ok'";
 
+pub const WHY: &str = "Says why a line is bad, on a second line of standard error";
+
 pub const MANUAL: &str = "Script:
   One command a line, of at most 256 bytes, with one space between words; at most 1 MiB in all. X, Y and Z are names
   of vertices, V is a number, and RIGHTS are letters out of r (read), w (write), t (take), g (grant), a (append),
@@ -52,7 +57,7 @@ pub const MANUAL: &str = "Script:
   Any other line is a bad line, and the run stops there: a blank line, a comment, a tab, a capital letter, a byte order
   mark, a carriage return before the line's end, a second space, a word too few or too many, a number with a sign, with a
   leading zero or over 18446744073709551615, rights out of order or one twice, an edge to no worker or to itself, or an
-  end without a line feed. tgdot says of a line why it is bad.
+  end without a line feed. --why says which of these it is.
 
 Replies:
   One line for each command. What was written is shown before more input is waited for, on pipes too.
@@ -65,7 +70,7 @@ Replies:
 
 Exit status:
   0  the whole script was run
-  1  the run stopped, and standard error has one line that says why
+  1  the run stopped, and standard error has one line that says where and why
   2  the words of the command line were not accepted
 
 Example:

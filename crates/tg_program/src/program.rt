@@ -6,7 +6,7 @@ ghost use Rattle.tg_program.specs.Ranges.{AreInRange};
 use crate::on_threads::OnThreads;
 use crate::settings::Options;
 use crate::start::{StartFault, prepare};
-use crate::stop::Stop;
+use crate::stop::{Failure, Stop};
 use crate::streams::{Ended, serve_buffered};
 use crate::words::options;
 use clap::Error;
@@ -18,7 +18,7 @@ use std::thread::Threads;
 use std::{env, io};
 
 /// Does what the words of the command line ask for: runs the reader's script and writes the replies to the writer, or prints the
-/// help. What goes wrong is one line on standard error. The exit status.
+/// help. What goes wrong is one line on standard error, and a second one where it is asked why a line is bad. The exit status.
 pub fn obey<R, I, O>(rt: &R, reader: I, writer: O) -> u8
 where
     R: AllocGlobal + Env + Print + Eprint + Threads + Wait + Sync,
@@ -26,10 +26,19 @@ where
     O: Write + Drop,
 {
     let outcome = obey_words(rt, reader, writer);
-    if let Err(stop) = &outcome {
-        let _ = eprintln!(rt; "tgstore: {stop}");
+    if let Err(failure) = &outcome {
+        tell_failure(rt, *failure);
     }
-    exit_status(&outcome)
+    exit_status(&outcome.map_err(|failure| failure.stop))
+}
+
+// Says why the program ended, and on a second line why a line is bad, where that was asked for.
+fn tell_failure<R: Eprint>(rt: &R, failure: Failure) {
+    let Failure { stop, reason } = failure;
+    let _ = eprintln!(rt; "tgstore: {stop}");
+    if let Some(reason) = reason {
+        let _ = eprintln!(rt; "tgstore: {reason}");
+    }
 }
 
 /// The exit status where all was done, or where the program ended before.
@@ -43,7 +52,7 @@ pub fn exit_status(outcome: &Result<u8, Stop>) -> u8
 }
 
 // Does what the words ask for, and answers the status.
-fn obey_words<R, I, O>(rt: &R, reader: I, writer: O) -> Result<u8, Stop>
+fn obey_words<R, I, O>(rt: &R, reader: I, writer: O) -> Result<u8, Failure>
 where
     R: AllocGlobal + Env + Print + Eprint + Threads + Wait + Sync,
     I: Read + Drop,
@@ -55,7 +64,7 @@ where
             serve_streams(rt, reader, writer, &options)?;
             Ok(0)
         }
-        Err(error) => tell(rt, &error),
+        Err(error) => Ok(tell(rt, &error)?),
     }
 }
 
@@ -72,20 +81,22 @@ fn words_of<R: Env + AllocGlobal>(rt: &R) -> Result<Vec<String>, Stop> {
     }
 }
 
-// Writes the help, or what is wrong with the words, and answers the status. A help that couldn't be written is a fault.
+// Writes the help, or what is wrong with the words, and answers the status. A help that couldn't be written is a fault, unless nobody
+// reads it any more.
 fn tell<R: Print + Eprint>(rt: &R, error: &Error) -> Result<u8, Stop> {
     if error.kind() == ErrorKind::OutOfMemory {
         return Err(Stop::Start(StartFault::OutOfMemory));
     }
-    let told = error.print(rt);
-    if told.is_err() && !error.use_stderr() {
-        return Err(Stop::HelpUnwritten);
+    match error.print(rt) {
+        Err(fault) if !error.use_stderr() && fault.kind() != io::ErrorKind::BrokenPipe => {
+            Err(Stop::HelpUnwritten)
+        }
+        _ => Ok(error.exit_code() as u8),
     }
-    Ok(error.exit_code() as u8)
 }
 
 // Runs the reader's script, and writes the replies.
-fn serve_streams<R, I, O>(rt: &R, reader: I, writer: O, options: &Options) -> Result<(), Stop>
+fn serve_streams<R, I, O>(rt: &R, reader: I, writer: O, options: &Options) -> Result<(), Failure>
 where
     R: AllocGlobal + Threads + Wait + Sync,
     I: Read + Drop,
@@ -94,13 +105,18 @@ where
 {
     let alloc = rt.alloc();
     let start = prepare(alloc, options).map_err(Stop::Start)?;
-    let Ended { outcome, .. } = serve_buffered(
+    let Ended {
+        outcome,
+        reason,
+        ..
+    } = serve_buffered(
         rt,
         alloc,
         &OnThreads::new(rt, alloc),
         reader,
         writer,
         &start,
+        options.why,
     )?;
-    outcome
+    outcome.map_err(|stop| Failure { stop, reason })
 }

@@ -28,6 +28,23 @@ pub enum Stop {
     Race(RaceFault),
 }
 
+/// Why the program ended, and why a line of the script is bad, where that was asked for.
+#[derive(Clone, Copy)]
+pub(crate) struct Failure {
+    pub stop: Stop,
+    pub reason: Option<&'static str>,
+}
+
+impl From<Stop> for Failure {
+    ghost use Rattle.std.specs.Prelude.{◌≡◌};
+
+    ghost from_gives = { λ stop failure. failure.stop ≡ stop };
+
+    fn from(stop: Stop) -> Failure {
+        Failure { stop, reason: None }
+    }
+}
+
 impl From<AllocError> for Stop {
     ghost use Rattle.std.specs.Prelude.{◌≡◌};
     ghost use Rattle.tg_program.specs.declared.start.StartFault.TheVariants.{OutOfMemory};

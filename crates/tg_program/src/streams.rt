@@ -7,6 +7,7 @@ ghost use Rattle.tg_program.specs.Serving.{ServesFrom};
 ghost use Rattle.tg_program.specs.Starts.{MayServe};
 
 use crate::boxes::serve_with_boxes;
+use crate::noted::Noted;
 use crate::start::{Start, StartFault};
 use crate::stop::Stop;
 use std::alloc::Global;
@@ -20,12 +21,14 @@ use tg_script::{Collector, Count, OfRead, OfWrite};
 /// How many bytes are read, and how many are written, at once.
 const BLOCK: usize = 65536;
 
-/// A run that is over: its reader with what is left, its writer with what was written, and how it ended.
+/// A run that is over: its reader with what is left, its writer with what was written, how it ended, and why a line was bad, where that
+/// was asked for.
 #[derive(Drop)]
 pub(crate) struct Ended<R: Drop, W: Drop> {
     pub reader: R,
     pub writer: W,
     pub outcome: Result<(), Stop>,
+    pub reason: Option<&'static str>,
 }
 
 /// Runs the reader's script from the start with new boxes, and writes the replies. Whatever was written is flushed before more is
@@ -43,6 +46,7 @@ pub(crate) fn serve_buffered<
     reader: R,
     writer: W,
     start: &Start,
+    why: bool,
 ) -> Result<Ended<BufReader<R>, BufWriter<W>>, Stop>
     requires servable { MayServe C.Ready start.now }
     ensures status { IfErr result (λ stop. status_of_stop stop ≡ 1) }
@@ -66,6 +70,7 @@ pub(crate) fn serve_buffered<
         reader,
         writer,
         start,
+        why,
     ))
 }
 
@@ -88,20 +93,23 @@ fn serve_counted<
     reader: R,
     writer: W,
     start: &Start,
+    why: bool,
 ) -> Ended<R, W>
     requires servable { MayServe C.Ready start.now }
     requires countable { MayCountStreams A.name A.parts B.name B.parts F.name F.parts asked read_failures write_failures }
     ensures served { ServesFrom start.now (R.remaining reader) (R.remaining result.reader) (W.contents writer) (W.contents result.writer) result.outcome }
 {
     let (asked, read_failures) = (Count::<A>::new(asked), Count::<B>::new(read_failures));
-    let mut source = OfRead::new(reader, asked, read_failures);
+    let mut source = Noted::new(OfRead::new(reader, asked, read_failures), why);
     let mut sink = OfWrite::new(writer, Count::<F>::new(write_failures));
     let outcome = serve_with_boxes(rt, alloc, collector, &mut source, &mut sink, start);
-    let OfRead { reader, .. } = source;
+    let reason = source.reason(&outcome, start.settings.workers);
+    let OfRead { reader, .. } = source.source;
     let OfWrite { writer, .. } = sink;
     Ended {
         reader,
         writer,
         outcome,
+        reason,
     }
 }

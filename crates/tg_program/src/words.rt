@@ -31,7 +31,7 @@ pub const DEFAULT_BLOCKS: u64 = 4096;
 
 /// Reads the words, the first of which is the program's name: the options that they say, and the defaults of those that
 /// they don't. `Ok` only where each number is in its range: workers from 1 to 64, helpers from 1 to 8, vertices from 1 to 2^24,
-/// blocks from 1 to 65,536. An `Err` is the text for the user, of the help as of a fault, or want of memory.
+/// blocks from 1 to 65,536. An `Err` is the text for the user, of the help and the version as of a fault, or want of memory.
 pub fn options<'a, S: AsStr>(alloc: Global, words: &'a [S]) -> Result<Options<'a>, Error>
     ensures said { IfOk result (AreSaid (map S.text words.entry.now)) }
     ensures in_range { IfOk result (λ o. AreInRange o.settings) }
@@ -49,6 +49,7 @@ fn options_of<'a>(
 ) -> Result<Options<'a>, Error>
     ensures found { IfOk result (λ o. AreFound (found_of matches.now) o.settings) }
     ensures race { IfOk result (λ o. IsFlag (one_text (found_of matches.now) (codes "race")) o.race) }
+    ensures why { IfOk result (λ o. IsFlag (one_text (found_of matches.now) (codes "why")) o.why) }
     ensures stock { IfOk result (λ o. o.stock.now ≡ unwrap_or (first_value (found_of matches.now) (codes "stock")) []) }
     ensures in_range { IfOk result (λ o. AreInRange o.settings) }
 {
@@ -56,6 +57,7 @@ fn options_of<'a>(
     Ok(Options {
         settings,
         race: matches.get_flag("race"),
+        why: matches.get_flag("why"),
         stock: matches.get_str("stock").unwrap_or(""),
     })
 }
@@ -144,10 +146,12 @@ fn command<'a>(alloc: Global) -> Result<Command<'a>, Error>
         number_arg(alloc, "vertices", help::VERTICES),
         number_arg(alloc, "blocks", help::BLOCKS),
         option_arg(alloc, "stock", "TEXT", help::STOCK),
-        race_arg(alloc),
+        flag_arg(alloc, "race", help::RACE),
+        flag_arg(alloc, "why", help::WHY),
     ]?;
     let command = Command::new(alloc, "tgstore")
         .bin_name("tgstore")?
+        .version(help::VERSION)
         .about(help::ABOUT)
         .after_help(help::MANUAL)
         .args(options)?;
@@ -172,13 +176,13 @@ fn number_arg<'a>(alloc: Global, name: &'a str, help: &'a str) -> Arg<'a>
     option_arg(alloc, name, "N", help).value_parser(clap::value_parser!(u64))
 }
 
-// The option of a race, which has no value.
-fn race_arg<'a>(alloc: Global) -> Arg<'a>
-    ensures arg { IsArgOf (flag_rule (codes "race")) result }
+// An option with no value.
+fn flag_arg<'a>(alloc: Global, name: &'a str, help: &'a str) -> Arg<'a>
+    ensures arg { IsArgOf (flag_rule name.entry.now) result }
 {
-    Arg::new(alloc, "race")
-        .long("race")
-        .help(help::RACE)
+    Arg::new(alloc, name)
+        .long(name)
+        .help(help)
         .action(ArgAction::SetTrue)
 }
 

@@ -21,10 +21,16 @@ pub enum DrawFault {
     /// The workers and vertices don't fit each other.
     #[error(transparent)]
     Opening(#[from] OpeningFault),
-    /// The line is none of the grammar, or an edge where it may not stand, or has no end. The reason is empty where none is known.
-    #[error("line {number}: bad line{reason}")]
+    /// The first line that is asked for stands behind the last.
+    #[error("--from {from} is behind --to {to}")]
+    BadRange { from: u64, to: u64 },
+    /// The script has no line that is asked for.
+    #[error("--from {from} is behind the last of {lines} lines")]
+    NoStep { from: u64, lines: u64 },
+    /// The line is none of the grammar, or an edge where it may not stand, or has no end.
+    #[error("line {number}: bad line: {reason}")]
     BadLine { number: u64, reason: &'static str },
-    /// There are more steps, or more vertices in all steps, than are drawn at once.
+    /// There are more lines, or more vertices in all steps, than are drawn at once.
     #[error("more than {most} {what}: choose some of the lines by --from and --to")]
     TooMany { most: u64, what: &'static str },
     /// Standard input or standard output failed.
@@ -36,8 +42,10 @@ impl DrawFault {
     /// The exit status: 2 where the words of the command line are at fault, else 1.
     pub fn status(&self) -> u8 {
         match self {
-            DrawFault::BadWords | DrawFault::Stock(StockFault::BadStock) | DrawFault::Opening(_) =>
-                2,
+            DrawFault::BadWords
+            | DrawFault::Stock(StockFault::BadStock)
+            | DrawFault::Opening(_)
+            | DrawFault::BadRange { .. } => 2,
             _ => 1,
         }
     }

@@ -10,14 +10,22 @@ use std::collections::BTreeMap;
 pub struct Room {
     /// The columns of the longest of its lines.
     pub columns: usize,
+    /// Whether it ever has a third line, of a note.
+    pub is_noted: bool,
     /// Whether it is a subject, or was one until it retired.
     pub ever_subject: bool,
 }
 
 const NO_ROOM: Room = Room {
     columns: 0,
+    is_noted: false,
     ever_subject: false,
 };
+
+// The columns for which each circle has room at least, and at most.
+const LEAST_IN_CIRCLE: usize = 6;
+
+const MOST_IN_CIRCLE: usize = 12;
 
 /// The vertices and edges that ever stand at a step, and how many columns the texts of each take, so that every picture has the same
 /// places. It remembers whether memory was wanting for a part of it.
@@ -75,6 +83,17 @@ impl Frame {
         self.widen_edges(shot);
     }
 
+    /// The columns for which each circle has room, so that all are of one size.
+    pub fn circle_columns(&self) -> usize {
+        let mut most = LEAST_IN_CIRCLE;
+        for (_, room) in self.vertices.iter() {
+            if !room.ever_subject && room.columns <= MOST_IN_CIRCLE {
+                most = room.columns.max(most);
+            }
+        }
+        most
+    }
+
     // Widens the room of the vertices that are there.
     fn widen_vertices(&mut self, shot: &Shot) {
         for name in shot.run.names.iter() {
@@ -103,9 +122,8 @@ impl Frame {
     // Widens the room of a vertex, where the step shows it.
     fn widen_vertex(&mut self, shot: &Shot, name: u64) {
         if let Some(view) = shot.vertex(name) {
-            let columns = columns_of_vertex(&mut self.scratch, shot, name);
             let mut room = self.vertices.get(&name).copied().unwrap_or(NO_ROOM);
-            room.columns = room.columns.max(columns);
+            widen_room(&mut room, &mut self.scratch, shot, name);
             room.ever_subject = room.ever_subject || view.ever_subject;
             self.is_short |= self.vertices.insert(name, room).is_err();
         }
@@ -123,12 +141,16 @@ impl Frame {
     }
 }
 
-// The columns of the longer line of a vertex.
-fn columns_of_vertex(scratch: &mut Draft, shot: &Shot, name: u64) -> usize {
+// Widens the room of a vertex, so that it holds the lines of its text.
+fn widen_room(room: &mut Room, scratch: &mut Draft, shot: &Shot, name: u64) {
     scratch.clear();
-    shot.write_name(scratch, name);
-    let first = scratch.len();
+    scratch.add_number(name);
+    room.columns = room.columns.max(scratch.len());
     scratch.clear();
     shot.write_state(scratch, name);
-    first.max(scratch.len())
+    room.columns = room.columns.max(scratch.len());
+    scratch.clear();
+    shot.write_note(scratch, name);
+    room.columns = room.columns.max(scratch.len());
+    room.is_noted = room.is_noted || scratch.len() > 0;
 }

@@ -6,7 +6,7 @@
 //! subject reaches any more, which is what a collection of the whole heap frees. With `--steps` it prints a digraph for
 //! each line.
 //!
-//! The words of the command line are `options`' matter, and lines `script`'s, and `reason` says why one is bad. `run` runs them, and knows
+//! The words of the command line are `options`' matter, and lines `script`'s; `tg_reason` says why one is bad. `run` runs them, and knows
 //! which edges there are, so that no pair of vertices is asked for its edge in vain; `reach` says what subjects reach. `drawing` writes the
 //! last graph. Of the steps, `shot` says what is shown at one, `marks` what stands out and `look` how that looks, `frame` what all have in
 //! common, `picture` writes one, and `steps` all. What they write is a `draft`, which is printed at once. A line of the grammar has a place
@@ -22,7 +22,6 @@ mod marks;
 mod options;
 mod picture;
 mod reach;
-mod reason;
 mod run;
 mod script;
 mod shot;
@@ -78,13 +77,12 @@ fn draw_script<R: Print + Input>(
     alloc: Global,
     options: DotOptions,
 ) -> Result<(), DrawFault> {
-    match read_stock(alloc, options.stock.as_bytes()) {
-        Ok(stock) => {
-            let mut script = Script::new(alloc, options.workers, options.max_vertices, stock);
-            draw(rt, options.steps, &mut script)
-        }
-        Err(fault) => Err(DrawFault::Stock(fault)),
+    if let Some(range) = options.steps {
+        range.check()?;
     }
+    let stock = read_stock(alloc, options.stock.as_bytes())?;
+    let mut script = Script::new(alloc, options.workers, options.max_vertices, stock);
+    draw(rt, options.steps, &mut script)
 }
 
 // Reads the lines, and draws what they leave, or their steps.

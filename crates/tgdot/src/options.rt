@@ -1,5 +1,6 @@
 //! The words of the command line.
 
+use crate::fault::DrawFault;
 use clap::builder::ValueParser;
 use clap::{Arg, ArgAction, ArgMatches, Command, Error};
 use std::alloc::{AllocError, Global};
@@ -8,7 +9,8 @@ use std::convert::AsStr;
 const ABOUT: &str = "Draws the graph that a script leaves, for GraphViz's dot
 
 Reads a script of tgstore's from standard input, runs it, and writes a digraph to standard output: subjects as boxes,
-with a dashed border where they retired, objects as circles, an arrow with its rights for each edge, and grey what no subject reaches.
+with a dashed border where they retired, objects as circles, or ellipses where the text is long, an arrow with its rights for each edge,
+and grey what no subject reaches.
 
 With --steps it writes a digraph for each line that is no edge line, and one before the first of them. Each names the same vertices and
 edges, and hides what isn't there, so that dot puts a vertex at one place in all of them. A vertex shows its law and its state. Bold are
@@ -27,9 +29,10 @@ const VERTICES: &str = "How many vertices may ever be made, from 1 to 16777216 [
 
 const STOCK: &str = "The boxes that creates and spawns take, as tgstore has them";
 
-const STEPS: &str = "A digraph for each line, of at most 400 lines, and 100000 vertices in all";
+const STEPS: &str =
+    "A digraph for each line, of at most 400 lines, and one before the first; 100000 vertices in all";
 
-const FROM: &str = "With --steps: the first line that is shown [default: the first of all]";
+const FROM: &str = "With --steps: the first line that is shown, not above --to [default: 1]";
 
 const TO: &str = "With --steps: the last line that is shown [default: the last of all]";
 
@@ -125,6 +128,15 @@ impl LineRange {
     pub fn contains(self, line: u64) -> bool {
         self.from <= line && line <= self.to
     }
+
+    /// A fault where there is no such line, whatever the script.
+    pub fn check(self) -> Result<(), DrawFault> {
+        let LineRange { from, to } = self;
+        if from > to {
+            return Err(DrawFault::BadRange { from, to });
+        }
+        Ok(())
+    }
 }
 
 /// Reads the words, the first of which is the program's name. An `Err` is the text for the user, of the help as of a fault.
@@ -157,7 +169,7 @@ fn steps_of(matches: &ArgMatches) -> Option<LineRange> {
         return None;
     }
     Some(LineRange {
-        from: matches.get_one("from").unwrap_or(0),
+        from: matches.get_one("from").unwrap_or(1),
         to: matches.get_one("to").unwrap_or(u64::MAX),
     })
 }

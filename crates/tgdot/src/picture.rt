@@ -4,10 +4,13 @@ use crate::draft::Draft;
 use crate::frame::{Frame, Room};
 use crate::shot::{EdgeView, Shot};
 
-// The width of a letter, the height of a vertex's text, and what stands round it, in hundredths of an inch.
+// The width of a letter, the height of a box with two lines and with a note below them, and what stands round a text, in hundredths of an
+// inch.
 const LETTER: u64 = 12;
 
 const HEIGHT: u64 = 60;
+
+const NOTED_HEIGHT: u64 = 82;
 
 const BOX_MARGIN: u64 = 20;
 
@@ -51,10 +54,11 @@ fn write_kinds(text: &mut Draft, are_many: bool) {
 }
 
 fn write_vertices(text: &mut Draft, frame: &Frame, shot: &Shot) {
+    let circle = frame.circle_columns();
     for (name, room) in frame.vertices.iter() {
         text.add("    ");
         text.add_number(*name);
-        write_room(text, *room);
+        write_room(text, *room, circle);
         write_vertex(text, shot, *name);
     }
 }
@@ -64,29 +68,50 @@ fn write_vertex(text: &mut Draft, shot: &Shot, name: u64) {
     match shot.vertex(name) {
         Some(view) => {
             let look = view.look;
-            shot.write_name(text, name);
+            text.add_number(name);
             text.add("\\n");
             shot.write_state(text, name);
+            if shot.has_note(name) {
+                text.add("\\n");
+                shot.write_note(text, name);
+            }
             look.write(text);
         }
         None => text.add("\" style=invis]\n"),
     }
 }
 
-// The shape and the size of a vertex, which are its own for all steps.
-fn write_room(text: &mut Draft, room: Room) {
-    let (shape, margin) = if room.ever_subject {
-        (" [shape=box width=", BOX_MARGIN)
+// The shape and the size of a vertex, which are its own for all steps. All circles have room for so many columns; one with a longer text is an
+// ellipse of their height.
+fn write_room(text: &mut Draft, room: Room, circle: usize) {
+    if room.ever_subject {
+        let height = if room.is_noted { NOTED_HEIGHT } else { HEIGHT };
+        text.add(" [shape=box width=");
+        write_sizes(text, width_of(room.columns, BOX_MARGIN), height);
+    } else if room.columns <= circle {
+        let width = width_of(circle, CIRCLE_MARGIN);
+        text.add(" [shape=circle width=");
+        write_sizes(text, width, width);
     } else {
-        (" [shape=circle width=", CIRCLE_MARGIN)
-    };
-    let width = (room.columns as u64)
+        // A quarter more, since it narrows above and below the middle.
+        let width = width_of(room.columns.saturating_add(room.columns / 4), CIRCLE_MARGIN);
+        text.add(" [shape=ellipse width=");
+        write_sizes(text, width, width_of(circle, CIRCLE_MARGIN));
+    }
+}
+
+// The width of what has so many columns and this round them, in hundredths of an inch.
+fn width_of(columns: usize, margin: u64) -> u64 {
+    (columns as u64)
         .saturating_mul(LETTER)
-        .saturating_add(margin);
-    text.add(shape);
+        .saturating_add(margin)
+}
+
+// A width and a height, as far as into the label behind them.
+fn write_sizes(text: &mut Draft, width: u64, height: u64) {
     write_inches(text, width);
     text.add(" height=");
-    write_inches(text, if room.ever_subject { HEIGHT } else { width });
+    write_inches(text, height);
     text.add(" label=\"");
 }
 

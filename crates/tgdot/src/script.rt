@@ -1,10 +1,10 @@
 //! The lines of a script.
 
 use crate::fault::DrawFault;
-use crate::reason::reason_of;
 use std::alloc::{AllocError, Global};
 use std::io::{self, ErrorKind, Input};
 use tg_model::Edge;
+use tg_reason::{NO_TEXT, reason_of};
 use tg_text::{Line, StockItem, read_line};
 
 /// A line of a script.
@@ -19,7 +19,7 @@ pub struct ScriptLine {
     end: usize,
 }
 
-// A bad line of a script: its number, and why it is one, or nothing where that isn't known.
+// A bad line of a script: its number, and why it is one.
 #[derive(Clone, Copy)]
 struct BadLine {
     number: u64,
@@ -111,7 +111,7 @@ impl Script {
     // Notes why the next line can't be read. Bytes that are no text are a bad line.
     fn fail(&mut self, number: u64, error: io::Error) -> bool {
         if matches!(error.kind(), ErrorKind::InvalidData) {
-            self.refuse(number, ": bytes that are no text")
+            self.refuse(number, NO_TEXT)
         } else {
             self.failure = Some(error);
             false
@@ -126,10 +126,38 @@ impl Script {
 
     // Adds the line whose text begins here. False if it is a bad one.
     fn add(&mut self, number: u64, first: usize) -> bool {
-        match line_at(self.text.as_str(), first) {
-            Ok(Line::Edge(edge)) => self.add_edge(number, &edge),
-            Ok(line) => self.add_line(number, line, first),
-            Err(reason) => self.refuse(number, reason),
+        match self.line_at(first) {
+            Some(Line::Edge(edge)) => self.add_edge(edge),
+            Some(line) => self.add_line(number, line, first),
+            None => self.refuse(number, self.reason_at(first)),
+        }
+    }
+
+    // The text from here on.
+    fn text_from(&self, first: usize) -> &[u8] {
+        self.text.as_bytes().get(first..).unwrap_or(b"")
+    }
+
+    // The line whose text begins here, if it may stand behind the lines before it.
+    fn line_at(&self, first: usize) -> Option<Line> {
+        let line = read_line(self.text_from(first).strip_suffix(b"\n")?)?;
+        match line {
+            Line::Edge(edge) if !self.may_stand(&edge) => None,
+            _ => Some(line),
+        }
+    }
+
+    // Whether an edge line may stand behind the lines before it.
+    fn may_stand(&self, edge: &Edge) -> bool {
+        self.lines.is_empty() && edge.joins_workers(self.workers)
+    }
+
+    // Why the text that begins here is a bad line.
+    fn reason_at(&self, first: usize) -> &'static str {
+        let text = self.text_from(first);
+        match text.strip_suffix(b"\n") {
+            Some(line) => reason_of(line, true, self.workers),
+            None => reason_of(text, false, self.workers),
         }
     }
 
@@ -146,36 +174,9 @@ impl Script {
         !self.is_short
     }
 
-    // Adds an edge, unless it may not stand where it stands.
-    fn add_edge(&mut self, number: u64, edge: &Edge) -> bool {
-        if let Some(reason) = self.reason_of_edge(edge) {
-            return self.refuse(number, reason);
-        }
-        self.is_short |= self.edges.push(*edge).is_err();
+    // Adds an edge.
+    fn add_edge(&mut self, edge: Edge) -> bool {
+        self.is_short |= self.edges.push(edge).is_err();
         !self.is_short
-    }
-
-    // Why an edge may not stand behind the lines before it.
-    fn reason_of_edge(&self, edge: &Edge) -> Option<&'static str> {
-        if !self.lines.is_empty() {
-            Some(": an edge line stands before all others")
-        } else if edge.from == edge.to {
-            Some(": an edge joins two different workers")
-        } else if !edge.joins_workers(self.workers) {
-            Some(": an edge to or from no worker")
-        } else {
-            None
-        }
-    }
-}
-
-// The line whose text begins here, or why it is a bad one.
-fn line_at(text: &str, first: usize) -> Result<Line, &'static str> {
-    let Some(text) = text.get(first..).unwrap_or("").strip_suffix('\n') else {
-        return Err(": no line feed at the end");
-    };
-    match read_line(text.as_bytes()) {
-        Some(line) => Ok(line),
-        None => Err(reason_of(text)),
     }
 }

@@ -90,29 +90,41 @@ impl Shot {
         })
     }
 
-    /// Writes the first line of a vertex: its name, and a note behind it. The border of a subject that retired isn't dotted where no
-    /// subject reaches it, so a word says that.
-    pub fn write_name(&self, text: &mut Draft, name: u64) {
-        text.add_number(name);
-        if self.run.has_retired(name) && !self.run.is_reached(name) {
-            text.add(" unreached");
-        }
-        if self.marks.twice == Some(name) {
-            text.add(" twice");
+    /// Writes the second line of a vertex, below its name: its law and its state, or that it isn't there.
+    pub fn write_state(&self, text: &mut Draft, name: u64) {
+        match self.run.value(name) {
+            Some(value) => write_value(text, value),
+            None => text.add("not there"),
         }
     }
 
-    /// Writes the second line of a vertex: its law and its state, or that it isn't there.
-    pub fn write_state(&self, text: &mut Draft, name: u64) {
-        match self.run.value(name) {
-            Some(value) => {
-                write_value(text, value);
-                if self.marks.no_log == Some(name) {
-                    text.add(" no log");
-                }
+    /// Writes the third line of a vertex, or nothing where there is nothing to note.
+    pub fn write_note(&self, text: &mut Draft, name: u64) {
+        let mut space = "";
+        for (holds, note) in self.notes(name) {
+            if holds {
+                text.add(space);
+                text.add(note);
+                space = " ";
             }
-            None => text.add("not there"),
         }
+    }
+
+    /// Whether there is something to note.
+    pub fn has_note(&self, name: u64) -> bool {
+        let [(is_left, _), (is_twice, _), (is_no_log, _)] = self.notes(name);
+        is_left || is_twice || is_no_log
+    }
+
+    // What may be noted of a vertex, and whether it is. The border of a subject that retired isn't dotted where no subject reaches it, so a
+    // word says that.
+    fn notes(&self, name: u64) -> [(bool, &'static str); 3] {
+        let is_left = self.run.has_retired(name) && !self.run.is_reached(name);
+        [
+            (is_left, "unreached"),
+            (self.marks.twice == Some(name), "twice"),
+            (self.marks.no_log == Some(name), "no log"),
+        ]
     }
 
     // How a vertex looks.

@@ -9,25 +9,41 @@ use crate::run::graph_of;
 use crate::script::Script;
 use crate::shot::Shot;
 
-// The most steps that are drawn at once.
-const MOST_STEPS: u64 = 400;
+// The most lines of which the steps are drawn at once.
+const MOST_LINES: u64 = 400;
 
 // The most vertices that are drawn at once, in all steps together.
 const MOST_VERTICES: u64 = 100_000;
 
-/// Writes a digraph for each line in the range, and one before the first of all, which has the number of the last edge line. All have the
-/// same vertices and edges, in the same order: so the lines are run twice, first to learn which there are.
+/// Writes a digraph for each line in the range, and one before the first of all, which has the number of the last edge line: it is shown
+/// where the range begins at an edge line or at line 1. All have the same vertices and edges, in the same order: so the lines are run
+/// twice, first to learn which there are. Where there is none, the bad line is told that ends the script, or that there are no such lines.
 pub fn write_steps(text: &mut Draft, range: LineRange, script: &Script) -> Result<(), DrawFault> {
-    let number = count(range, script);
-    if number > MOST_STEPS {
+    let lines = count(range, script);
+    if lines > MOST_LINES {
         return Err(DrawFault::TooMany {
-            most: MOST_STEPS,
-            what: "steps",
+            most: MOST_LINES,
+            what: "lines",
         });
     }
-    let most = MOST_VERTICES.checked_div(number).unwrap_or(0);
-    let mut frame = Frame::new(script.alloc, most);
-    write_framed(text, &mut frame, range, script)
+    let steps = if shows_start(range, script) {
+        lines + 1
+    } else {
+        lines
+    };
+    match MOST_VERTICES.checked_div(steps) {
+        Some(most) => write_framed(text, &mut Frame::new(script.alloc, most), range, script),
+        None => refuse_range(range, script),
+    }
+}
+
+// Why no step is drawn.
+fn refuse_range(range: LineRange, script: &Script) -> Result<(), DrawFault> {
+    script.whole()?;
+    Err(DrawFault::NoStep {
+        from: range.from,
+        lines: last_line(script),
+    })
 }
 
 // Measures the steps, and then writes them, unless there are too many vertices.
@@ -70,22 +86,23 @@ fn show_lines(
     shot: &mut Shot,
 ) {
     shot.open(script);
-    show(text, frame, range, shot);
+    if shows_start(range, script) {
+        show(text, frame, shot);
+    }
     for line in script.lines.as_slice() {
         if line.number > range.to {
             break;
         }
         shot.take(script, line);
-        show(text, frame, range, shot);
+        if range.contains(line.number) {
+            show(text, frame, shot);
+        }
     }
     text.is_short |= shot.run.is_short() || frame.is_short();
 }
 
-// Shows a step if it is to be shown.
-fn show(text: &mut Draft, frame: &mut Frame, range: LineRange, shot: &mut Shot) {
-    if !range.contains(shot.number) {
-        return;
-    }
+// Shows a step to the frame, or writes it where that is whole.
+fn show(text: &mut Draft, frame: &mut Frame, shot: &mut Shot) {
     shot.run.reach();
     if frame.is_whole {
         write_shot(text, frame, shot);
@@ -94,12 +111,22 @@ fn show(text: &mut Draft, frame: &mut Frame, range: LineRange, shot: &mut Shot) 
     }
 }
 
-// How many steps there are.
+// Whether the graph before the first line is shown: the range begins at an edge line, or at line 1.
+fn shows_start(range: LineRange, script: &Script) -> bool {
+    range.from <= (script.edges.len() as u64).max(1)
+}
+
+// The number of the last line.
+fn last_line(script: &Script) -> u64 {
+    (script.edges.len() as u64).saturating_add(script.lines.len() as u64)
+}
+
+// How many lines that are no edge lines are in the range.
 fn count(range: LineRange, script: &Script) -> u64 {
-    let last_edge = script.edges.len() as u64;
-    let last_line = last_edge.saturating_add(script.lines.len() as u64);
-    let last = range.to.min(last_line);
-    let first = range.from.max(last_edge);
+    let first = (script.edges.len() as u64)
+        .saturating_add(1)
+        .max(range.from);
+    let last = last_line(script).min(range.to);
     if first > last {
         0
     } else {

@@ -1,7 +1,17 @@
-//! Why a text is no line of a script, for who wrote it.
+//! Why the text is no line of a script, for who wrote it.
 //!
-//! It is looked for only where no line was read, and nothing depends on it: the first reason that fits is told, and none where none does.
-//! A reason begins with what stands between it and 'bad line'.
+//! It is looked for only where no line was read, and nothing depends on it: the first reason that fits is told.
+#![tactic(auto)]
+
+use std::str;
+use tg_model::Edge;
+use tg_text::{Line, read_line};
+
+/// What is said of bytes that aren't UTF-8.
+pub const NO_TEXT: &str = "bytes that are no text";
+
+// What is said of a text in which nothing of the below is wrong.
+const NO_LINE: &str = "no line of the grammar";
 
 // The letters of the rights, in their order.
 const LETTERS: &[u8] = b"rwtgaluv";
@@ -19,13 +29,13 @@ enum Place {
 
 // What stands nowhere in a line of the grammar, whatever its words are, and what is said of it.
 const STRAYS: &[(Place, &str, &str)] = &[
-    (Place::Front, "\u{feff}", ": a byte order mark"),
-    (Place::End, "\r", ": a carriage return before the line feed"),
-    (Place::Front, "#", ": a comment"),
-    (Place::Inside, "\t", ": a tab, where one space stands"),
-    (Place::Front, " ", ": a space in front"),
-    (Place::End, " ", ": a space behind the last word"),
-    (Place::Inside, "  ", ": two spaces side by side"),
+    (Place::Front, "\u{feff}", "a byte order mark"),
+    (Place::End, "\r", "a carriage return before the line feed"),
+    (Place::Front, "#", "a comment"),
+    (Place::Inside, "\t", "a tab, where one space stands"),
+    (Place::Front, " ", "a space in front"),
+    (Place::End, " ", "a space behind the last word"),
+    (Place::Inside, "  ", "two spaces side by side"),
 ];
 
 // What a word behind a command's own is.
@@ -53,13 +63,39 @@ const COMMANDS: &[(&str, &[Kind])] = &[
     ("grant", &[Kind::Number, Kind::Number, Kind::Rights]),
 ];
 
-/// Why the text, without its line feed, is none of the grammar.
-pub fn reason_of(line: &str) -> &'static str {
+/// Why a bad line of a script is bad, where so many workers are there at first: its bytes without the line feed, and whether one stood behind
+/// them. One sentence without its dot.
+pub fn reason_of(line: &[u8], is_ended: bool, workers: u64) -> &'static str {
+    let Ok(text) = str::from_utf8(line) else {
+        return NO_TEXT;
+    };
+    if !is_ended {
+        return "no line feed at the end";
+    }
+    match read_line(line) {
+        Some(Line::Edge(edge)) => reason_of_edge(edge, workers),
+        _ => reason_of_text(text),
+    }
+}
+
+// Why an edge line may not stand where it stands.
+fn reason_of_edge(edge: Edge, workers: u64) -> &'static str {
+    if edge.from == edge.to {
+        "an edge joins two different workers"
+    } else if !edge.joins_workers(workers) {
+        "an edge to or from no worker"
+    } else {
+        "an edge line stands before all others"
+    }
+}
+
+// Why the text is none of the grammar.
+fn reason_of_text(line: &str) -> &'static str {
     if line.len() > MOST_BYTES {
-        return ": over 256 bytes";
+        return "over 256 bytes";
     }
     if line.is_empty() {
-        return ": a blank line";
+        return "a blank line";
     }
     match reason_of_strays(line) {
         Some(reason) => reason,
@@ -90,10 +126,10 @@ fn reason_of_letters(line: &[u8]) -> Option<&'static str> {
     let mut reason = None;
     for byte in line {
         if byte.is_ascii_control() {
-            return Some(": a control character");
+            return Some("a control character");
         }
         if byte.is_ascii_uppercase() {
-            reason = Some(": a capital letter");
+            reason = Some("a capital letter");
         }
     }
     reason
@@ -106,10 +142,10 @@ fn reason_of_words(line: &str) -> &'static str {
         return reason_of_arguments(EDGE, rest);
     }
     if is_collection(first) {
-        return ": full and minor stand alone";
+        return "full and minor stand alone";
     }
     if kinds_behind(first).is_some() {
-        return ": no worker in front of the command";
+        return "no worker in front of the command";
     }
     match reason_of_number(first) {
         Some(reason) => reason,
@@ -128,11 +164,11 @@ fn reason_of_command(words: &str) -> &'static str {
         return reason_of_arguments(kinds, rest);
     }
     if is_collection(command) {
-        ": full and minor stand alone"
+        "full and minor stand alone"
     } else if command.is_empty() {
-        ": no command behind the worker"
+        "no command behind the worker"
     } else {
-        ": no such command"
+        "no such command"
     }
 }
 
@@ -161,9 +197,9 @@ fn reason_of_arguments(kinds: &[Kind], words: &str) -> &'static str {
         left = rest;
     }
     if left.is_empty() {
-        ""
+        NO_LINE
     } else {
-        ": too many words"
+        "too many words"
     }
 }
 
@@ -178,15 +214,15 @@ fn cut(words: &str) -> (&str, &str) {
 fn reason_of_number(word: &str) -> Option<&'static str> {
     let first = word.as_bytes().first();
     if word.is_empty() {
-        Some(": too few words")
+        Some("too few words")
     } else if matches!(first, Some(b'+' | b'-')) {
-        Some(": a number has no sign")
+        Some("a number has no sign")
     } else if !is_number(word.as_bytes()) {
-        Some(": a word where a number stands")
+        Some("a word where a number stands")
     } else if word.len() > 1 && matches!(first, Some(b'0')) {
-        Some(": a number has no leading zero")
+        Some("a number has no leading zero")
     } else if word.parse::<u64>().is_err() {
-        Some(": a number over 18446744073709551615")
+        Some("a number over 18446744073709551615")
     } else {
         None
     }
@@ -203,7 +239,7 @@ fn is_number(word: &[u8]) -> bool {
 
 fn reason_of_rights(word: &[u8]) -> Option<&'static str> {
     if word.is_empty() {
-        return Some(": no rights at the end");
+        return Some("no rights at the end");
     }
     let mut rest = LETTERS;
     let mut last = None;
@@ -220,11 +256,11 @@ fn reason_of_rights(word: &[u8]) -> Option<&'static str> {
 // Why a right may not stand behind the last one.
 fn reason_of_right(letter: u8, last: Option<u8>) -> &'static str {
     if !LETTERS.contains(&letter) {
-        ": rights are letters out of r w t g a l u v"
+        "rights are letters out of r w t g a l u v"
     } else if last == Some(letter) {
-        ": a right twice"
+        "a right twice"
     } else {
-        ": rights stand in the order r w t g a l u v"
+        "rights stand in the order r w t g a l u v"
     }
 }
 
