@@ -34,7 +34,8 @@
 extern "C" {
 #endif
 
-/* The number of the interface that this header tells of. tg_abi() answers that of the library. */
+/* The number of the interface that this header tells of. tg_abi() answers that of the library: a program compares the two
+   at its start. */
 #define TG_ABI 3
 
 /* A store: 16 bytes, all zero while it is closed. */

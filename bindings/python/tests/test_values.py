@@ -2,6 +2,7 @@
 import copy
 import ctypes
 import gc
+import inspect
 import os
 import pickle
 import re
@@ -9,6 +10,7 @@ import subprocess
 import sys
 import threading
 import tracemalloc
+import typing
 import unittest
 from pathlib import Path
 
@@ -88,6 +90,13 @@ class Values(unittest.TestCase):
     def test_version(self):
         self.assertRegex(kovshenul.__version__, r"^0\.\d+\.\d+$")
 
+    def test_each_call_says_its_types(self):
+        self.assertTrue(Path(kovshenul.__file__).with_name("py.typed").exists())
+        calls = [call for name, call in vars(Store).items() if inspect.isfunction(call) and not name.startswith("_")]
+        self.assertGreater(len(calls), 15)
+        for call in (*calls, Store.__init__, Denied.__init__, Refused.__init__, Rights.of):
+            wanted = {"return", *inspect.signature(call).parameters} - {"self"}
+            self.assertEqual(set(typing.get_type_hints(call)), wanted, call)
 
     def test_without_a_library_all_places_are_named(self):
         environment = {**os.environ, "KOVSHENUL_LIBRARY": "/nowhere/kovshenul.so"}
