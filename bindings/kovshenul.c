@@ -1,10 +1,19 @@
-/* What stands before the proved calls: NULL for an array of no items, the texts of the statuses and the library's version.
+/* What stands before the proved calls: NULL for an array of no items and for a denial that isn't wanted, the texts of
+   statuses, denials and rights, and the library's version.
 
-   It is tested, and nothing of it is proved. bindings/check names each proved call below proved_.., and links this file with them. */
+   It is tested, and nothing of it is proved. The build names each proved call below proved_.., and links this file with
+   them. */
 #include "kovshenul.h"
 
 tg_status proved_tg_open(tg_store *store, const tg_value *workers, size_t worker_count, const tg_edge *edges, size_t edge_count,
                          const tg_limits *limits);
+tg_status proved_tg_take(tg_store *store, uint64_t worker, uint64_t via, uint64_t target, uint64_t rights,
+                         tg_denial *denial);
+tg_status proved_tg_grant(tg_store *store, uint64_t worker, uint64_t via, uint64_t target, uint64_t rights,
+                          tg_denial *denial);
+tg_status proved_tg_remove(tg_store *store, uint64_t worker, uint64_t target, uint64_t rights, tg_denial *denial);
+tg_status proved_tg_write(tg_store *store, uint64_t worker, uint64_t target, uint64_t value, tg_denial *denial);
+tg_status proved_tg_append(tg_store *store, uint64_t worker, uint64_t target, uint64_t value, tg_denial *denial);
 tg_status proved_tg_read(tg_store *store, uint64_t worker, uint64_t target, uint64_t *numbers, size_t room, uint64_t *count,
                          tg_denial *denial);
 tg_status proved_tg_list(tg_store *store, uint64_t worker, tg_target *edges, size_t room, uint64_t *count);
@@ -27,12 +36,40 @@ tg_status tg_open(tg_store *store, const tg_value *workers, size_t worker_count,
     return proved_tg_open(store, workers, worker_count, edges, edge_count, limits);
 }
 
+tg_status tg_take(tg_store *store, uint64_t worker, uint64_t via, uint64_t target, uint64_t rights,
+                  tg_denial *denial) {
+    tg_denial unwanted;
+    return proved_tg_take(store, worker, via, target, rights, denial == NULL ? &unwanted : denial);
+}
+
+tg_status tg_grant(tg_store *store, uint64_t worker, uint64_t via, uint64_t target, uint64_t rights,
+                   tg_denial *denial) {
+    tg_denial unwanted;
+    return proved_tg_grant(store, worker, via, target, rights, denial == NULL ? &unwanted : denial);
+}
+
+tg_status tg_remove(tg_store *store, uint64_t worker, uint64_t target, uint64_t rights, tg_denial *denial) {
+    tg_denial unwanted;
+    return proved_tg_remove(store, worker, target, rights, denial == NULL ? &unwanted : denial);
+}
+
+tg_status tg_write(tg_store *store, uint64_t worker, uint64_t target, uint64_t value, tg_denial *denial) {
+    tg_denial unwanted;
+    return proved_tg_write(store, worker, target, value, denial == NULL ? &unwanted : denial);
+}
+
+tg_status tg_append(tg_store *store, uint64_t worker, uint64_t target, uint64_t value, tg_denial *denial) {
+    tg_denial unwanted;
+    return proved_tg_append(store, worker, target, value, denial == NULL ? &unwanted : denial);
+}
+
 tg_status tg_read(tg_store *store, uint64_t worker, uint64_t target, uint64_t *numbers, size_t room, uint64_t *count,
                   tg_denial *denial) {
+    tg_denial unwanted;
     uint64_t none;
     if (numbers == NULL && room == 0)
         numbers = &none;
-    return proved_tg_read(store, worker, target, numbers, room, count, denial);
+    return proved_tg_read(store, worker, target, numbers, room, count, denial == NULL ? &unwanted : denial);
 }
 
 tg_status tg_list(tg_store *store, uint64_t worker, tg_target *edges, size_t room, uint64_t *count) {
@@ -44,10 +81,11 @@ tg_status tg_list(tg_store *store, uint64_t worker, tg_target *edges, size_t roo
 
 tg_status tg_inspect(tg_store *store, uint64_t worker, uint64_t target, tg_target *edges, size_t room, uint64_t *count,
                      tg_denial *denial) {
+    tg_denial unwanted;
     tg_target none;
     if (edges == NULL && room == 0)
         edges = &none;
-    return proved_tg_inspect(store, worker, target, edges, room, count, denial);
+    return proved_tg_inspect(store, worker, target, edges, room, count, denial == NULL ? &unwanted : denial);
 }
 
 tg_status tg_names(tg_store *store, uint64_t *names, size_t room, uint64_t *count) {
@@ -90,7 +128,7 @@ const char *tg_status_text(tg_status status) {
     case TG_VERTICES_FULL: return "as many vertices were made as may be";
     case TG_WORKERS_FULL: return "as many workers are active as may be";
     case TG_NO_SUCH_WORKER: return "no such worker";
-    case TG_BAD_RIGHTS: return "no right, or a bit that is none";
+    case TG_BAD_RIGHTS: return "no right, a bit or a letter that is none, or letters out of order";
     case TG_BAD_LAW: return "no such law, or a log of 0 or of more than 64 numbers";
     case TG_BAD_KIND: return "no such kind of collection";
     case TG_BAD_WORKERS: return "not from 1 to 64 workers";
@@ -101,4 +139,106 @@ const char *tg_status_text(tg_status status) {
     case TG_BAD_PLACE: return "the journal has no entry at the place";
     default: return "unknown status";
     }
+}
+
+/* ---- texts that the caller has room for */
+
+/* The letters of the rights, by their bits. */
+static const char right_letters[] = "rwtgaluv";
+
+enum { RIGHTS = sizeof right_letters - 1, DIGITS = 20 };
+
+/* Where a text is written, for how many bytes there is room, and how many were to be written so far. */
+struct writer {
+    char *text;
+    size_t room, length;
+};
+
+/* One byte more, where there is room for it and for the 0 behind it. */
+static void put(struct writer *to, char byte) {
+    if (to->room > 0 && to->length < to->room - 1)
+        to->text[to->length] = byte;
+    to->length++;
+}
+
+static void put_words(struct writer *to, const char *words) {
+    for (; *words != '\0'; words++)
+        put(to, *words);
+}
+
+static void put_number(struct writer *to, uint64_t number) {
+    char digits[DIGITS];
+    int count = 0;
+    do {
+        digits[count++] = (char)('0' + number % 10);
+        number /= 10;
+    } while (number > 0);
+    while (count > 0)
+        put(to, digits[--count]);
+}
+
+static void put_rights(struct writer *to, uint64_t rights) {
+    for (int bit = 0; bit < RIGHTS; bit++)
+        if (rights >> bit & 1)
+            put(to, right_letters[bit]);
+}
+
+/* Puts the 0 behind what there was room for, and answers how long the whole text is. */
+static size_t ended(const struct writer *to) {
+    if (to->room > 0)
+        to->text[to->length < to->room ? to->length : to->room - 1] = '\0';
+    return to->length;
+}
+
+static const char *rule_text(uint32_t rule) {
+    switch (rule) {
+    case TG_RULE_TAKE: return "take";
+    case TG_RULE_GRANT: return "grant";
+    case TG_RULE_REMOVE: return "remove";
+    case TG_RULE_READ: return "read";
+    case TG_RULE_WRITE: return "write";
+    case TG_RULE_APPEND: return "append";
+    case TG_RULE_INSPECT: return "inspect";
+    default: return "unknown rule";
+    }
+}
+
+static void put_missing(struct writer *to, const tg_denial *denial) {
+    put_rights(to, denial->rights);
+    put_words(to, " is missing on ");
+    put_number(to, denial->from);
+    put_words(to, "->");
+    put_number(to, denial->to);
+}
+
+size_t tg_denial_text(const tg_denial *denial, char *text, size_t room) {
+    struct writer to = { text, room, 0 };
+    put_words(&to, rule_text(denial->rule));
+    put_words(&to, ": ");
+    switch (denial->cause) {
+    case TG_NOT_DISTINCT: put_words(&to, "two vertices that must differ are one"); break;
+    case TG_MISSING: put_missing(&to, denial); break;
+    case TG_NOT_LOG: put_words(&to, "the target stores no log"); break;
+    default: put_words(&to, "unknown cause");
+    }
+    return ended(&to);
+}
+
+size_t tg_rights_text(uint64_t rights, char *text, size_t room) {
+    struct writer to = { text, room, 0 };
+    put_rights(&to, rights);
+    return ended(&to);
+}
+
+tg_status tg_rights_read(const char *letters, uint64_t *rights) {
+    uint64_t held = 0;
+    for (int bit = 0; bit < RIGHTS; bit++)
+        if (*letters == right_letters[bit]) {
+            held |= UINT64_C(1) << bit;
+            letters++;
+        }
+    if (*letters != '\0' || held == 0)
+        return TG_BAD_RIGHTS;
+    *rights = held;
+    return TG_DONE;
 }

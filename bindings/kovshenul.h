@@ -6,12 +6,13 @@
    A name is never used again.
 
    Each call answers a status. What a status below 16 says, and which status comes when, is proved at the library's
-   exports (crates/tg_c/specs). Tested and not proved is what stands before them (kovshenul.c): NULL for no items, tg_status_text
-   and tg_version. What this header asks of its caller is not checked by anything.
+   exports (crates/tg_c/specs). Tested and not proved is what stands before them (kovshenul.c): NULL where it may stand,
+   the texts and tg_version. What this header asks of its caller is not checked by anything.
 
    What C owes:
    - Each pointer is to memory of the stated type, which no other argument of the call overlaps, and which nobody else uses
-     while the call runs. It is NULL for an array of 0 items alone.
+     while the call runs. NULL stands for an array of 0 items, for a text with no room and for a denial that isn't
+     wanted, and for nothing else.
    - A tg_store is all zero before tg_open, and its bytes are changed by these functions alone. It may be moved, and never
      copied: of two copies only one may be used from then on.
    - A bool in it is 0 or 1.
@@ -33,7 +34,8 @@
 extern "C" {
 #endif
 
-/* The number of the interface that this header tells of. tg_abi() answers that of the library. */
+/* The number of the interface that this header tells of. tg_abi() answers that of the library: a program compares the two
+   at its start. */
 #define TG_ABI 3
 
 /* A store: 16 bytes, all zero while it is closed. */
@@ -76,7 +78,7 @@ enum {
 
     TG_NO_SUCH_WORKER = 48,   /* exactly where no worker of an open store has the name, and nothing asked for is TG_BAD_.. */
 
-    TG_BAD_RIGHTS = 64,       /* no right, or a bit that is none */
+    TG_BAD_RIGHTS = 64,       /* no right, or a bit that is none; tg_rights_read: letters that are no set of rights */
     TG_BAD_LAW = 65,          /* no such law, or a log of 0 or of more than 64 numbers */
     TG_BAD_KIND = 66,         /* tg_collect: no such kind */
 
@@ -115,6 +117,9 @@ typedef struct tg_limits {
     uint64_t max_blocks;          /* of 64 cells of 64 bytes, in all: from 1 to 65,536, and one a worker at least */
     uint64_t max_space_blocks;    /* in one space: from 1 to 2^20 */
 } tg_limits;
+
+/* Limits to start with: 2^20 vertices, 4,096 blocks in all (16 MiB of cells), and as many in one space as may be. */
+#define TG_LIMITS_INIT { 1048576, 4096, 1048576 }
 
 enum {
     TG_RULE_TAKE = 0,
@@ -206,6 +211,20 @@ const char *tg_version(void);
 /* What a status says, in words. It stays for as long as the program runs. */
 const char *tg_status_text(tg_status status);
 
+/* Texts that the caller has room for: as much as fits goes to text, with a 0 behind it, and where room is 0 nothing is
+   written. The answer is how long the whole text is, without the 0: it was cut where this is not below room. */
+
+/* What a denial says: the rule, and which rights are missing on which edge, as "write: w is missing on 1->2", or what
+   else was wrong. 80 bytes are room for each. */
+size_t tg_denial_text(const tg_denial *denial, char *text, size_t room);
+
+/* The letters of the rights, in the order rwtgaluv. A bit that is no right has none. 9 bytes are room for all. */
+size_t tg_rights_text(uint64_t rights, char *text, size_t room);
+
+/* The rights of these letters, which end with a 0, go to *rights. As in a script they stand in the order rwtgaluv, each
+   at most once, and one at least. Any other text is TG_BAD_RIGHTS. */
+tg_status tg_rights_read(const char *letters, uint64_t *rights);
+
 /* Opens a store: as many workers as values, and the edges between them. A refused *store is as it was.
 
    What is asked for is looked at in this order, before any memory is asked for, and the first fault is told: the values'
@@ -218,7 +237,8 @@ tg_status tg_open(tg_store *store, const tg_value *workers, size_t worker_count,
 /* Gives back all memory of the store. *store is closed then, and may be opened again. */
 tg_status tg_close(tg_store *store);
 
-/* The rules. TG_DENIED alone writes to *denial. Each command that is done or denied has its entry in the journal.
+/* The rules. TG_DENIED alone writes to *denial, and denial may be NULL. Each command that is done or denied has its
+   entry in the journal.
 
    take: the worker takes rights over the target that `via` has, by its own t over `via`.
    grant: the worker grants rights over the target to `via`, by its g over `via` and its own rights over the target.
@@ -240,10 +260,11 @@ tg_status tg_create(tg_store *store, uint64_t worker, uint64_t rights, const tg_
    TG_WORKERS_FULL where 64 workers are active. Both have an entry, and change nothing else. */
 tg_status tg_spawn(tg_store *store, uint64_t worker, uint64_t rights, const tg_value *value, uint64_t *name);
 
-/* The worker retires: it asks for nothing more, and each later call in its name is TG_NO_SUCH_WORKER. Its vertex, what that stores and its
-   edges stay as they are, for as long as a worker reaches them; what only it reached goes with the next full collection. A worker
-   that retires is owed nothing, so nothing is handed back. It is never denied, and the last worker may retire too. Its name is
-   never used again, and another may be spawned in its place. */
+/* The worker retires: it asks for nothing more, and each later call in its name is TG_NO_SUCH_WORKER. Its vertex, what
+   that stores and its edges stay as they are, for as long as a worker reaches them. So whoever has an edge to it, as
+   its spawner has, keeps all that it held: give that edge up, or remove the edges of the one who goes before it
+   retires, since nobody can afterwards. What no worker reaches goes with the next full collection. A retire is never
+   denied, hands nothing back, and the last worker may retire too. No name is used again; another may be spawned. */
 tg_status tg_retire(tg_store *store, uint64_t worker);
 
 /* The names of the workers, by rising name: the first `room` of them go to names, and how many there are, at most 64, to *count. The

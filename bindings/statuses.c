@@ -110,6 +110,85 @@ static void texts(void) {
     WANT(strlen(tg_version()) >= 5);
 }
 
+/* That the text of a denial is this one, and is cut where there is less room. */
+static void is_told(tg_denial denial, const char *wanted) {
+    const size_t length = strlen(wanted);
+    char text[96];
+    WANT(length < 80);
+    for (size_t room = 0; room < sizeof text; room++) {
+        const size_t kept = room == 0 ? 0 : length < room ? length : room - 1;
+        memset(text, UNTOUCHED, sizeof text);
+        WANT(tg_denial_text(&denial, text, room) == length);
+        WANT(memcmp(text, wanted, kept) == 0 && (room == 0 || text[kept] == '\0'));
+        for (size_t i = room == 0 ? 0 : kept + 1; i < sizeof text; i++)
+            WANT(text[i] == UNTOUCHED);
+    }
+    WANT(tg_denial_text(&denial, NULL, 0) == length);
+}
+
+static void texts_of_denials(void) {
+    is_told((tg_denial){ TG_RULE_WRITE, TG_MISSING, 1, 2, TG_WRITE }, "write: w is missing on 1->2");
+    is_told((tg_denial){ TG_RULE_INSPECT, TG_MISSING, UINT64_MAX, UINT64_MAX, 255 },
+            "inspect: rwtgaluv is missing on 18446744073709551615->18446744073709551615");
+    is_told((tg_denial){ TG_RULE_GRANT, TG_MISSING, 0, 10, TG_READ | TG_FREE_V }, "grant: rv is missing on 0->10");
+    is_told((tg_denial){ TG_RULE_TAKE, TG_NOT_DISTINCT, 0, 0, 0 }, "take: two vertices that must differ are one");
+    is_told((tg_denial){ TG_RULE_REMOVE, TG_NOT_DISTINCT, 0, 0, 0 }, "remove: two vertices that must differ are one");
+    is_told((tg_denial){ TG_RULE_READ, TG_NOT_DISTINCT, 0, 0, 0 }, "read: two vertices that must differ are one");
+    is_told((tg_denial){ TG_RULE_APPEND, TG_NOT_LOG, 0, 0, 0 }, "append: the target stores no log");
+    is_told((tg_denial){ 7, 3, 0, 0, 0 }, "unknown rule: unknown cause");
+}
+
+/* Each set of rights has letters, which are read back. No other text is read: each of three letters is looked at. */
+static void letters_of_rights(void) {
+    static const char letters[] = "rwtgaluvRx ";
+    const size_t count = sizeof letters;    /* with the 0, so that shorter ones are among them */
+    uint64_t rights = UNTOUCHED;
+    char text[9], again[9];
+    size_t read = 0;
+    for (uint64_t bits = 1; bits < 256; bits++) {
+        const size_t length = tg_rights_text(bits, text, sizeof text);
+        WANT(length < sizeof text && strlen(text) == length);
+        WANT(tg_rights_read(text, &rights) == TG_DONE && rights == bits);
+    }
+    WANT(strcmp(text, "rwtgaluv") == 0 && tg_rights_text(255, NULL, 0) == 8);
+    WANT(tg_rights_text(0, text, sizeof text) == 0 && text[0] == '\0');
+    WANT(tg_rights_text(~(uint64_t)254, text, 2) == 1 && strcmp(text, "r") == 0);
+    for (size_t i = 0; i < count * count * count; i++) {
+        const char said[4] = { letters[i / count / count], letters[i / count % count], letters[i % count], '\0' };
+        rights = UNTOUCHED;
+        if (tg_rights_read(said, &rights) == TG_DONE) {
+            WANT(tg_rights_text(rights, again, sizeof again) > 0 && strcmp(again, said) == 0);
+            read++;
+        } else
+            WANT(tg_rights_read(said, &rights) == TG_BAD_RIGHTS && rights == UNTOUCHED);
+    }
+    /* Of one letter, which any of 12 may follow behind the 0; of two, which one may follow; of three. */
+    WANT(read == 8 * count + 28 + 56);
+    WANT(tg_rights_read("rwtgaluvv", &rights) == TG_BAD_RIGHTS && tg_rights_read("", &rights) == TG_BAD_RIGHTS);
+}
+
+/* A denial that isn't wanted may be NULL, and the journal has it all the same; limits to start with are some. */
+static void unwanted_denials(void) {
+    static const tg_limits start = TG_LIMITS_INIT;
+    tg_store store = TG_STORE_INIT;
+    uint64_t count = UNTOUCHED;
+    tg_target row[1];
+    tg_record entry;
+    WANT(tg_open(&store, workers, 2, NULL, 0, &start) == TG_DONE);
+    WANT(tg_take(&store, 0, 1, 2, TG_READ, NULL) == TG_DENIED);
+    WANT(tg_grant(&store, 0, 1, 2, TG_READ, NULL) == TG_DENIED);
+    WANT(tg_remove(&store, 0, 1, TG_READ, NULL) == TG_DENIED);
+    WANT(tg_write(&store, 0, 1, 2, NULL) == TG_DENIED);
+    WANT(tg_append(&store, 0, 1, 2, NULL) == TG_DENIED);
+    WANT(tg_read(&store, 0, 1, numbers, 64, &count, NULL) == TG_DENIED);
+    WANT(tg_inspect(&store, 0, 1, row, 1, &count, NULL) == TG_DENIED && count == UNTOUCHED);
+    for (uint64_t at = 0; at < 7; at++)
+        WANT(tg_entry(&store, at, &entry, NULL, 0, NULL, 0) == TG_DONE && entry.reply == TG_REPLY_DENIED);
+    WANT(entry.denial.rule == TG_RULE_INSPECT && entry.denial.cause == TG_MISSING && entry.denial.rights == TG_INSPECT);
+    WANT(tg_take(&store, 5, 1, 2, TG_READ, NULL) == TG_NO_SUCH_WORKER);
+    WANT(tg_close(&store) == TG_DONE);
+}
+
 /* One opening that must be refused. */
 static void refused(tg_status status, const tg_value *values, size_t count, tg_edge edge, tg_limits bounds) {
     tg_store store = TG_STORE_INIT;
@@ -588,6 +667,9 @@ int main(void) {
     WANT(tg_abi() == TG_ABI);
     no_items();
     texts();
+    texts_of_denials();
+    letters_of_rights();
+    unwanted_denials();
     closed();
     openings();
     first_faults();

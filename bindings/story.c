@@ -13,21 +13,15 @@ enum { CARETAKER = 0, VISITOR = 1 };
 /* Stops where a call was refused: this story has memory and room for all. */
 static tg_status served(tg_status status) {
     if (status >= 16) {
-        fprintf(stderr, "story: refused with status %" PRIu32 "\n", status);
+        fprintf(stderr, "story: refused, %s\n", tg_status_text(status));
         exit(1);
     }
     return status;
 }
 
-static void print_rights(uint64_t rights) {
-    static const char letters[] = "rwtgaluv";
-    for (int bit = 0; bit < 8; bit++)
-        if (rights >> bit & 1)
-            putchar(letters[bit]);
-}
-
 /* Prints how a command ended. */
 static void tell(const char *what, tg_status status, const tg_denial *why) {
+    char letters[9];
     printf("%s: ", what);
     if (served(status) == TG_DONE) {
         puts("ok");
@@ -42,8 +36,8 @@ static void tell(const char *what, tg_status status, const tg_denial *why) {
         puts("what the target stores is no log");
         return;
     }
-    print_rights(why->rights);
-    printf(" is missing on %" PRIu64 "->%" PRIu64 "\n", why->from, why->to);
+    tg_rights_text(why->rights, letters, sizeof letters);
+    printf("%s is missing on %" PRIu64 "->%" PRIu64 "\n", letters, why->from, why->to);
 }
 
 static void visitor_reads(tg_store *store, uint64_t document) {

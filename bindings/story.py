@@ -4,12 +4,19 @@ from kovshenul import GRANT, READ, WRITE, Cell, Denied, Edge, Limits, Refused, S
 CARETAKER, VISITOR = 0, 1
 
 
+def why(denial):
+    """What was wrong, without the rule: each line names its command already."""
+    if denial.edge is None:
+        return str(denial)
+    return f"{denial.rights.letters} is missing on {denial.edge[0]}->{denial.edge[1]}"
+
+
 def tell(what, command, *arguments):
     """Prints how a command ended."""
     try:
         answer = command(*arguments)
     except Denied as denial:
-        print(f"{what}: denied, {denial}")
+        print(f"{what}: denied, {why(denial)}")
     else:
         print(f"{what}: ok" if answer is None else f"{what}: ok, {answer}")
 

@@ -1,7 +1,12 @@
-/* A table of processes. A slot of the table is a worker; a process opens objects, hands handles to them on, gives them up, and ends.
-   What an object's name stands for is in the host's own table.
+/* A table of processes. The system spawns a worker for each process and introduces it to the others; a process opens
+   objects, hands handles to them on, gives them up, and ends. What an object's name stands for is in the host's own
+   table.
 
-   A count alone tells how many objects a collection has left; which they were, the host finds by the rows of all slots.
+   Who holds what is asked by tg_label, of which the journal gets no entry: a list would keep the whole row in it each
+   time. After a collection tg_names says which objects there still are; what was kept beside the others is freed.
+
+   Whoever has an edge to a process that retired keeps all that it held. So when one ends, the others forget it first:
+   the host speaks for every worker, and removes in their names.
 
    Build it with: cc processes.c -lkovshenul */
 #include "kovshenul.h"
@@ -9,12 +14,15 @@
 #include <stdio.h>
 #include <stdlib.h>
 
-enum { SLOTS = 8, OBJECTS = 1000, NAMES = SLOTS + OBJECTS, ROUNDS = 4000 };
+enum { SYSTEM = 0, SLOTS = 8, OBJECTS = 1000, ROUNDS = 4000, NAMES = 4096, NONE = 0 };
 
+/* The worker of each slot's process, or none: the system itself has no slot. */
+static uint64_t processes[SLOTS];
 /* What the host keeps beside each object: here its size, and 0 where there is no object. */
 static unsigned sizes[NAMES];
+static uint64_t objects[OBJECTS];
 static tg_store store = TG_STORE_INIT;
-static unsigned long made, handed_on, given_up, denied, freed;
+static unsigned long made, started, handed_on, given_up, denied, freed;
 
 /* Numbers that are the same in each run. */
 static uint32_t next_random(uint32_t below) {
@@ -34,83 +42,98 @@ static bool done(tg_status status) {
     return status == TG_DONE;
 }
 
-/* Each slot may grant to each other one. */
 static void open_table(void) {
-    static tg_value values[SLOTS];
-    static tg_edge edges[SLOTS * (SLOTS - 1)];
-    const tg_limits limits = { NAMES, 1000, 1 << 20 };
-    size_t count = 0;
-    for (uint64_t from = 0; from < SLOTS; from++)
-        for (uint64_t to = 0; to < SLOTS; to++)
-            if (from != to)
-                edges[count++] = (tg_edge) { from, to, TG_GRANT };
-    done(tg_open(&store, values, SLOTS, edges, count, &limits));
+    const tg_value system = { TG_CELL, 0, 0 };
+    tg_limits limits = TG_LIMITS_INIT;
+    limits.max_vertices = NAMES;
+    done(tg_open(&store, &system, 1, NULL, 0, &limits));
 }
 
-static void open_object(uint64_t slot) {
+/* A process starts in an empty slot. The system may grant to it, and lets it and the others grant to each other. */
+static void start_process(uint64_t *slot) {
+    const tg_value cell = { TG_CELL, 0, 0 };
+    uint64_t process;
+    done(tg_spawn(&store, SYSTEM, TG_GRANT, &cell, &process));
+    for (int i = 0; i < SLOTS; i++)
+        if (processes[i] != NONE) {
+            done(tg_grant(&store, SYSTEM, processes[i], process, TG_GRANT, NULL));
+            done(tg_grant(&store, SYSTEM, process, processes[i], TG_GRANT, NULL));
+        }
+    *slot = process;
+    started++;
+}
+
+/* The process of a slot ends. All forget it, and what it alone reached goes with the next full collection. */
+static void end_process(uint64_t *slot) {
+    uint64_t process = *slot;
+    *slot = NONE;
+    for (int i = 0; i < SLOTS; i++)
+        if (processes[i] != NONE)
+            done(tg_remove(&store, processes[i], process, TG_GRANT, NULL));
+    done(tg_remove(&store, SYSTEM, process, TG_GRANT, NULL));
+    done(tg_retire(&store, process));
+}
+
+static void open_object(uint64_t process) {
     const tg_value sum = { TG_SUM, 0, 0 };
     uint64_t name;
-    if (!done(tg_create(&store, slot, TG_READ | TG_WRITE, &sum, &name)))
+    if (made == OBJECTS || !done(tg_create(&store, process, TG_READ | TG_WRITE, &sum, &name)))
         return;
     sizes[name] = 1 + next_random(4096);
-    made++;
+    objects[made++] = name;
 }
 
-/* An object that the slot has a handle to, any of its row; or a slot, where it has none. */
-static tg_target handle_of(uint64_t slot) {
-    static tg_target row[NAMES];
-    uint64_t count;
-    done(tg_list(&store, slot, row, NAMES, &count));
-    return row[next_random((uint32_t)count)];
+/* An object that the process has a handle to, of a few that are looked at; or none. */
+static uint64_t object_of(uint64_t process, uint64_t *rights) {
+    for (int tries = 0; made > 0 && tries < 50; tries++) {
+        uint64_t name = objects[next_random((uint32_t)made)];
+        done(tg_label(&store, process, name, rights));
+        if (*rights != 0)
+            return name;
+    }
+    return NONE;
 }
 
-static void hand_on(uint64_t slot) {
-    tg_target handle = handle_of(slot);
-    tg_denial why;
-    uint64_t other = next_random(SLOTS);
-    if (done(tg_grant(&store, slot, other, handle.to, handle.rights & TG_READ ? TG_READ : handle.rights, &why)))
+/* To one that it was introduced to. To itself it may not, which is denied: it holds no right over itself. */
+static void hand_on(uint64_t process) {
+    uint64_t rights, other = processes[next_random(SLOTS)], name = object_of(process, &rights);
+    if (name == NONE || other == NONE)
+        return;
+    if (done(tg_grant(&store, process, other, name, rights & TG_READ ? TG_READ : rights, NULL)))
         handed_on++;
 }
 
-static void give_up(uint64_t slot) {
-    tg_target handle = handle_of(slot);
-    tg_denial why;
-    if (handle.to >= SLOTS && done(tg_remove(&store, slot, handle.to, handle.rights, &why)))
+static void give_up(uint64_t process) {
+    uint64_t rights, name = object_of(process, &rights);
+    if (name != NONE && done(tg_remove(&store, process, name, rights, NULL)))
         given_up++;
 }
 
-/* The process of a slot ends: it gives up each handle but those to other slots, which the next process has too. */
-static void end_process(uint64_t slot) {
-    static tg_target row[NAMES];
-    tg_denial why;
-    uint64_t count;
-    done(tg_list(&store, slot, row, NAMES, &count));
-    for (uint64_t i = 0; i < count; i++)
-        if (row[i].to >= SLOTS && done(tg_remove(&store, slot, row[i].to, row[i].rights, &why)))
-            given_up++;
-}
-
-/* Collects, and frees in the host's table what no slot has a handle to. */
+/* Collects, and frees in the host's table what the store doesn't have any more. */
 static void collect(void) {
-    static tg_target row[NAMES];
-    static bool held[NAMES];
+    static uint64_t names[NAMES];
+    static bool is_left[NAMES];
     uint64_t left, count;
     done(tg_collect(&store, TG_FULL, &left));
+    done(tg_names(&store, names, NAMES, &count));
     for (uint64_t name = 0; name < NAMES; name++)
-        held[name] = name < SLOTS;
-    for (uint64_t slot = 0; slot < SLOTS; slot++) {
-        done(tg_list(&store, slot, row, NAMES, &count));
-        for (uint64_t i = 0; i < count; i++)
-            held[row[i].to] = true;
-    }
-    for (uint64_t name = SLOTS; name < NAMES; name++) {
-        left -= held[name];
-        freed += sizes[name] > 0 && !held[name];
-        sizes[name] = held[name] ? sizes[name] : 0;
-    }
-    if (left != SLOTS) {
-        fputs("processes: the host's table is not the store's\n", stderr);
-        exit(1);
+        is_left[name] = false;
+    for (uint64_t i = 0; i < count; i++)
+        is_left[names[i]] = true;
+    for (uint64_t name = 0; name < NAMES; name++)
+        if (sizes[name] > 0 && !is_left[name]) {
+            sizes[name] = 0;
+            freed++;
+        }
+}
+
+/* What a process does next, and now and then its end. */
+static void step(uint64_t *slot) {
+    switch (next_random(5)) {
+    case 0: open_object(*slot); break;
+    case 1: give_up(*slot); break;
+    case 2: if (next_random(20) == 0) end_process(slot); break;
+    default: hand_on(*slot);
     }
 }
 
@@ -118,23 +141,25 @@ int main(void) {
     uint64_t entries;
     open_table();
     for (unsigned round = 1; round <= ROUNDS; round++) {
-        uint64_t slot = next_random(SLOTS);
-        switch (next_random(5)) {
-        case 0: if (made < OBJECTS) open_object(slot); break;
-        case 1: give_up(slot); break;
-        case 2: if (next_random(20) == 0) end_process(slot); break;
-        default: hand_on(slot);
-        }
+        uint64_t *slot = &processes[next_random(SLOTS)];
+        if (*slot == NONE)
+            start_process(slot);
+        else
+            step(slot);
         if (round % 1000 == 0)
             collect();
     }
-    while (made < OBJECTS)
-        open_object(next_random(SLOTS));
-    for (uint64_t slot = 0; slot < SLOTS; slot++)
-        end_process(slot);
+    for (int i = 0; i < SLOTS; i++)
+        if (processes[i] != NONE)
+            end_process(&processes[i]);
     collect();
+    if (freed != made) {
+        fprintf(stderr, "processes: %lu objects are kept by nobody\n", made - freed);
+        return 1;
+    }
     done(tg_audit(&store, &entries));
-    printf("%lu objects, %lu handles handed on, %lu given up, %lu denied, %lu objects freed\n", made, handed_on, given_up, denied, freed);
+    printf("%lu processes, %lu objects, %lu handles handed on, %lu given up, %lu denied, all objects freed\n", started,
+           made, handed_on, given_up, denied);
     printf("audit ok, %" PRIu64 " entries\n", entries);
     return done(tg_close(&store)) ? 0 : 1;
 }

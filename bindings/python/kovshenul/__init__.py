@@ -5,8 +5,9 @@
         store.grant(0, 1, document, READ)
         print(store.read(1, document))
 
-A command that the rules don't allow raises Denied, which says by its cause which check failed. Any other refusal raises a Refused. A number that isn't from 0 to
-2^64 - 1 raises OverflowError, and what is no number TypeError: nothing happened then.
+A command that the rules don't allow raises Denied, which says by its cause which check failed. Any other refusal raises
+a Refused. Both are an Error. A number that isn't from 0 to 2^64 - 1 raises OverflowError, and what is no number
+TypeError: nothing happened then.
 
 A store's journal is read by `entry` and `journal`. The types of what an entry says are those of `kovshenul.journal`.
 
@@ -29,6 +30,7 @@ from ._refusals import (
     BadValues,
     BadWorkers,
     Denied,
+    Error,
     HeapFull,
     NoSuchWorker,
     NotOpen,
@@ -62,6 +64,7 @@ __all__ = [
     "Counts",
     "Denied",
     "Edge",
+    "Error",
     "FREE_U",
     "FREE_V",
     "FULL",

@@ -1,7 +1,7 @@
 """What a call raises that wasn't served."""
 from __future__ import annotations
 
-from typing import Optional, Tuple
+from typing import Iterable, Optional, Tuple
 
 from ._library import Denial, text_of
 from ._values import RIGHTS, Rights
@@ -22,26 +22,39 @@ def told_by(denial: Denial) -> Tuple[str, str, Optional[Tuple[int, int]], Rights
     return rule, cause, edge, RIGHTS[denial.rights]
 
 
-class Denied(Exception):
+class Error(Exception):
+    """What a store raises: Denied, or a Refused."""
+
+
+class Denied(Error, PermissionError):
     """The rules don't allow a command. Nothing changed but that the journal has it.
 
-    `rule` and `cause` are words of RULES and CAUSES. Where the cause is `missing`, `rights` are those that are, on the edge from
-    `edge[0]` to `edge[1]`; else there is no edge. It is `not log` where the target of an append stores no log.
+    `rule` and `cause` are words of RULES and CAUSES. Where the cause is `missing`, `rights` are those that are, on the
+    edge from `edge[0]` to `edge[1]`; else there is no edge. It is `not log` where the target of an append stores no log.
+    `vertices` are those that the command named: the worker, for a take or a grant the one between, and the target.
     """
 
     def __init__(
-        self, rule: str, cause: str, edge: Optional[Tuple[int, int]] = None, rights: Rights = Rights(0)
+        self,
+        rule: str,
+        cause: str,
+        edge: Optional[Tuple[int, int]] = None,
+        rights: Rights = Rights(0),
+        vertices: Iterable[int] = (),
     ) -> None:
-        super().__init__(rule, cause, edge, rights)
-        self.rule, self.cause, self.edge, self.rights = rule, cause, edge, rights
+        # Of several arguments an OSError would make a number and a file's name.
+        super().__init__(rule)
+        self.rule, self.cause, self.edge, self.rights, self.vertices = rule, cause, edge, rights, tuple(vertices)
+        self.args = rule, cause, edge, rights, self.vertices
 
     def __str__(self) -> str:
-        if self.edge is None:
-            return SENTENCES.get(self.cause, self.cause)
-        return f"{self.rights.letters} is missing on {self.edge[0]}->{self.edge[1]}"
+        if self.edge is not None:
+            return f"{self.rule}: {self.rights.letters} is missing on {self.edge[0]}->{self.edge[1]}"
+        named = f" ({', '.join(map(str, self.vertices))})" if self.vertices else ""
+        return f"{self.rule}: {SENTENCES.get(self.cause, self.cause)}{named}"
 
 
-class Refused(Exception):
+class Refused(Error):
     """A call was refused. The store is as it was, but that VerticesFull and WorkersFull have an entry in the journal."""
 
     status: int = 0

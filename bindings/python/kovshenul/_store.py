@@ -2,24 +2,29 @@
 from __future__ import annotations
 
 from array import array
-from ctypes import byref, c_size_t, c_uint32
+from ctypes import Array, byref, c_size_t, c_uint32, c_uint64
 from functools import partial
 from itertools import count as from_on
 from threading import RLock
-from typing import Callable, Iterable, Iterator, List, NoReturn, Set, Tuple
+from typing import Callable, Iterable, Iterator, List, NoReturn, Optional, Set, Tuple
 
 from . import _library
 from ._library import BITS, library, number_in, short
 from ._refusals import BadPlace, Denied, NotOpen, refusal, told_by
 from ._values import MOST_NUMBERS, RIGHTS, Counts, Kind, Limits, Rights, Target, Value
-from .journal import Entry, entry_of
+from .journal import DEEDS, Entry, Inspect, entry_of
+from .journal import List as Listed
 
 NO_VALUE = "a value is a Cell, a Sum, a Max or a Log"
 DENIED = 1
-MAX_VERTICES = 2**24
-FIRST_ROW = 64
 MOST_WORKERS = 64
 MOST_ASKED = 4
+
+# How many edges of a row are taken at once. A longer row is read from the journal, which has all of it.
+SHORT_ROW = 64
+
+# What a denial says: rule, cause, edge, rights, and the vertices that the command named.
+Told = Tuple[str, str, Optional[Tuple[int, int]], Rights, Tuple[int, ...]]
 
 # A target of a pair, and rights by their bits, with no call of Python's in between; and the type that a method of Store hides.
 target_of = partial(tuple.__new__, Target)
@@ -30,15 +35,14 @@ list_of = list
 class _Room:
     """What a call asks, and where the library writes what it answers."""
 
-    def __init__(self, row: int = FIRST_ROW) -> None:
+    def __init__(self) -> None:
         # What is put into `asked` must be a number in its range. A call takes it by the cells, which are the same memory: to have
         # ctypes make an argument of a plain number takes three times as long.
         self.asked = array("Q", [0] * MOST_ASKED)
         cells = (_library.Number.from_buffer(self.asked, 8 * at) for at in range(MOST_ASKED))
         self.first, self.second, self.third, self.fourth = cells
-        self.row, self.row_size = row, c_size_t(row)
-        self.numbers = (_library.Number * (2 * row))()
-        self.numbers_at = byref(self.numbers)
+        self.edges, self.row_size = (_library.Number * (2 * SHORT_ROW))(), c_size_t(SHORT_ROW)
+        self.edges_at = byref(self.edges)
         self.count = _library.Number()
         self.count_at = byref(self.count)
         self.denial = _library.Denial()
@@ -48,9 +52,23 @@ class _Room:
         self.record = _library.Record()
         self.record_at = byref(self.record)
 
-    def entry(self, store_at: object, at: _library.Number) -> int:
-        """Reads the entry at a place of the journal, and answers the status."""
-        return short.tg_entry(store_at, at, self.record_at, self.state_at, self.state_size, self.numbers_at, self.row_size)
+    def told(self, named: int) -> Told:
+        """What the denial says, of a command that named so many vertices."""
+        return (*told_by(self.denial), tuple(self.asked[:named]))
+
+    def entry(self, store_at: object, at: _library.Number) -> Tuple[int, Array[c_uint64]]:
+        """Reads the entry at a place of the journal. Answers the status, and the entry's edges as pairs of numbers."""
+        status = short.tg_entry(
+            store_at, at, self.record_at, self.state_at, self.state_size, self.edges_at, self.row_size
+        )
+        count = 0 if status else self.record.edge_count
+        if count <= SHORT_ROW:
+            return status, self.edges
+        edges = (_library.Number * (2 * count))()
+        status = library.tg_entry(
+            store_at, at, self.record_at, self.state_at, self.state_size, byref(edges), c_size_t(count)
+        )
+        return status, edges
 
 
 def _number(it: int) -> _library.Number:
@@ -69,11 +87,11 @@ def _targets(numbers: List[int]) -> List[Target]:
     return list_of(map(target_of, zip(each, map(rights_of, each))))
 
 
-def _raise(status: int, denial: _library.Denial) -> NoReturn:
-    """Raises what a status other than 0 says."""
+def _raise(status: int, told: Told) -> NoReturn:
+    """Raises what a status other than 0 says, and where it is a denial what that told."""
     if status != DENIED:
         raise refusal(status)
-    raise Denied(*told_by(denial))
+    raise Denied(*told)
 
 
 class Store:
@@ -98,15 +116,16 @@ class Store:
         self,
         workers: Iterable[Value],
         edges: Iterable[Tuple[int, int, int]] = (),
-        limits: Tuple[int, int, int] = Limits(2**20, 4096, 2**20),
+        limits: Tuple[int, int, int] = Limits(),
     ) -> None:
         values = list_of(workers)
-        if not all(isinstance(value, Value) for value in values):
-            raise TypeError(NO_VALUE)
+        try:
+            values_in = (_library.Value * len(values))(*[value._asked for value in values])
+        except AttributeError:
+            raise TypeError(NO_VALUE) from None
         pairs = [_numbers(source, target, rights) for source, target, rights in edges]
         max_vertices, max_blocks, max_space_blocks = limits
         bounds = _library.Limits(*_numbers(max_vertices, max_blocks, max_space_blocks))
-        values_in = (_library.Value * len(values))(*(value._asked for value in values))
         pairs_in = (_library.Edge * len(pairs))(*pairs)
         with self._lock:
             status = library.tg_open(
@@ -149,8 +168,8 @@ class Store:
     def __repr__(self) -> str:
         return f"<kovshenul.Store, {'closed' if self.closed else 'open'}>"
 
-    # The lock may be taken again by the thread that has it, since a signal's handler or a finalizer may call in between: so a call
-    # takes the room out, and leaves it for the next.
+    # The lock may be taken again by the thread that has it, since a signal's handler or a finalizer may call in
+    # between. So a call takes the room out, and puts it back when all that the library wrote there has been read.
 
     def take(self, worker: int, via: int, target: int, rights: int) -> None:
         """The worker takes rights over the target that `via` has."""
@@ -167,9 +186,12 @@ class Store:
             asked = room.asked
             asked[0], asked[1], asked[2], asked[3] = worker, via, target, rights
             status = function(self._at, room.first, room.second, room.third, room.fourth, room.denial_at)
+            if not status:
+                self._room = room
+                return
+            told = room.told(3)
             self._room = room
-            if status:
-                _raise(status, room.denial)
+        _raise(status, told)
 
     def remove(self, worker: int, target: int, rights: int) -> None:
         """The worker gives up its own rights over the target."""
@@ -190,9 +212,12 @@ class Store:
             asked = room.asked
             asked[0], asked[1], asked[2] = worker, target, number
             status = function(self._at, room.first, room.second, room.third, room.denial_at)
+            if not status:
+                self._room = room
+                return
+            told = room.told(2)
             self._room = room
-            if status:
-                _raise(status, room.denial)
+        _raise(status, told)
 
     def create(self, worker: int, rights: int, value: Value) -> int:
         """Makes a vertex over which the worker has the rights, and answers its name."""
@@ -223,7 +248,9 @@ class Store:
         return name
 
     def retire(self, worker: int) -> None:
-        """The worker retires, and asks for nothing more. Its vertex and its edges stay for as long as a worker reaches them."""
+        """The worker retires, and asks for nothing more. Its vertex and its edges stay for as long as a worker reaches
+        them: whoever has an edge to it, as its spawner has, keeps all that it held. Give that edge up, or remove the
+        edges of the one who goes before it retires."""
         worker_in = _number(worker)
         with self._lock:
             status = short.tg_retire(self._at, worker_in)
@@ -245,47 +272,65 @@ class Store:
             status = short.tg_read(
                 self._at, room.first, room.second, room.state_at, room.state_size, room.count_at, room.denial_at
             )
-            numbers = room.state[: room.count.value]
+            if not status:
+                numbers = room.state[: room.count.value]
+                self._room = room
+                return numbers
+            told = room.told(2)
             self._room = room
-            if status:
-                _raise(status, room.denial)
-        return numbers
+        _raise(status, told)
 
-    def list(self, worker: int, room: int = FIRST_ROW) -> List[Target]:
-        """The worker's edges by rising name. With more than `room` they are listed again, which the journal tells."""
-        with self._lock:
-            place = self._room_for(room)
-            place.asked[0] = worker
-            status = library.tg_list(self._at, place.first, place.numbers_at, place.row_size, place.count_at)
-            count, numbers = self._row_in(place, status)
-        return _targets(numbers) if 2 * count == len(numbers) else self.list(worker, count)
+    def list(self, worker: int, room: int = SHORT_ROW) -> List[Target]:
+        """The worker's edges by rising name. The journal gets one entry with all of them, however many there are.
 
-    def inspect(self, worker: int, target: int, room: int = FIRST_ROW) -> List[Target]:
-        """The target's edges by rising name, by the worker's right to inspect it. Room is made for them as by `list`."""
+        `room` was for how many edges to make room. It is looked at, and no longer needed.
+        """
+        number_in(BITS, room)
         with self._lock:
-            place = self._room_for(room)
+            place, self._room = self._room or _Room(), None
+            place.asked[0], place.asked[1] = worker, 0
+            status = library.tg_list(self._at, place.first, place.edges_at, place.row_size, place.count_at)
+            numbers = [] if status else self._row(place, Listed)
+            self._room = place
+        if status:
+            raise refusal(status)
+        return _targets(numbers)
+
+    def inspect(self, worker: int, target: int, room: int = SHORT_ROW) -> List[Target]:
+        """The target's edges by rising name, by the worker's right to inspect it: one entry, and `room`, as by `list`."""
+        number_in(BITS, room)
+        with self._lock:
+            place, self._room = self._room or _Room(), None
             place.asked[0], place.asked[1] = worker, target
             status = library.tg_inspect(
-                self._at, place.first, place.second, place.numbers_at, place.row_size, place.count_at, place.denial_at
+                self._at, place.first, place.second, place.edges_at, place.row_size, place.count_at, place.denial_at
             )
-            count, numbers = self._row_in(place, status)
-        return _targets(numbers) if 2 * count == len(numbers) else self.inspect(worker, target, count)
+            if not status:
+                numbers = self._row(place, Inspect)
+                self._room = place
+                return _targets(numbers)
+            told = place.told(2)
+            self._room = place
+        _raise(status, told)
 
-    def _room_for(self, row: int) -> _Room:
-        """The room, taken out, or a larger one for a row of so many edges."""
-        room, self._room = self._room or _Room(), None
-        room.asked[0] = row
-        row = room.asked[0]
-        return room if row <= room.row else _Room(min(row, MAX_VERTICES))
-
-    def _row_in(self, room: _Room, status: int) -> Tuple[int, List[int]]:
-        """How many edges there are, and those for which there was room, as numbers. The room is left for the next."""
+    def _row(self, room: _Room, deed: type) -> List[int]:
+        """All edges of the row that was just shown, as numbers. Those of a long row are read from its entry."""
         count = room.count.value
-        numbers = room.numbers[: 2 * count]
-        self._room = room
-        if status:
-            _raise(status, room.denial)
-        return count, numbers
+        first = room.edges[: 2 * min(count, SHORT_ROW)]
+        if count <= SHORT_ROW:
+            return first
+        worker, target = room.asked[:2]
+        # Its entry is the last one, but for those that a handler's or a finalizer's calls have made since.
+        for at in range(self.entries() - 1, -1, -1):
+            status, edges = room.entry(self._at, _library.Number(at))
+            if status:
+                raise refusal(status)
+            record = room.record
+            shown = record.worker, DEEDS[record.deed], record.target, record.edge_count
+            if shown == (worker, deed, target, count) and edges[: len(first)] == first:
+                return edges[:]
+        # Such a call has closed the store, and opened it anew.
+        raise NotOpen
 
     def label(self, worker: int, target: int) -> Rights:
         """The rights that the worker holds over the target, which may be none. The journal gets no entry of it."""
@@ -319,9 +364,13 @@ class Store:
         """The names of the vertices that the heap has. Those that nobody reaches are among them until a full collection."""
         with self._lock:
             room = self.census().vertices
-            names = (_library.Number * room)()
-            self._count(library.tg_names, byref(names), c_size_t(room))
-        return set(names)
+            while True:
+                names = (_library.Number * room)()
+                count = self._count(library.tg_names, byref(names), c_size_t(room))
+                if count <= room:
+                    return set(names[:count])
+                # A handler's or a finalizer's call has made vertices since they were counted, and may again.
+                room = count + count // 8 + 1
 
     def entries(self) -> int:
         """How many entries the journal has."""
@@ -332,11 +381,8 @@ class Store:
         at_in = _number(at)
         with self._lock:
             room, self._room = self._room or _Room(), None
-            status = room.entry(self._at, at_in)
-            if not status and room.row < room.record.edge_count:
-                room = _Room(room.record.edge_count)
-                status = room.entry(self._at, at_in)
-            entry = None if status else entry_of(room.record, room.state, room.numbers)
+            status, edges = room.entry(self._at, at_in)
+            entry = None if status else entry_of(room.record, room.state, edges)
             self._room = room
         if entry is None:
             raise refusal(status)

@@ -57,6 +57,9 @@ class Kind(IntEnum):
 class Value:
     """What a vertex stores at first, and the law by which a write changes it: a Cell, Sum, Max or Log."""
 
+    _asked: _library.Value
+    _value_at: object
+
     def _ask(self, law: int, most: int, first: int) -> None:
         """Keeps it as the library takes it, and where that stands."""
         asked = _library.Value(law, most, first)
@@ -120,9 +123,9 @@ class Limits(NamedTuple):
     """How many vertices may ever be made (to 2^24), and how many blocks of 64 cells the heap (to 65,536) and one space
     of it (to 2^20) may have."""
 
-    max_vertices: int
-    max_blocks: int
-    max_space_blocks: int
+    max_vertices: int = 2**20
+    max_blocks: int = 4096
+    max_space_blocks: int = 2**20
 
 
 class Target(NamedTuple):

@@ -2,12 +2,17 @@
 import copy
 import ctypes
 import gc
+import inspect
 import os
 import pickle
+import re
 import subprocess
 import sys
 import threading
+import tracemalloc
+import typing
 import unittest
+from pathlib import Path
 
 import kovshenul
 from kovshenul import (
@@ -85,6 +90,13 @@ class Values(unittest.TestCase):
     def test_version(self):
         self.assertRegex(kovshenul.__version__, r"^0\.\d+\.\d+$")
 
+    def test_each_call_says_its_types(self):
+        self.assertTrue(Path(kovshenul.__file__).with_name("py.typed").exists())
+        calls = [call for name, call in vars(Store).items() if inspect.isfunction(call) and not name.startswith("_")]
+        self.assertGreater(len(calls), 15)
+        for call in (*calls, Store.__init__, Denied.__init__, Refused.__init__, Rights.of):
+            wanted = {"return", *inspect.signature(call).parameters} - {"self"}
+            self.assertEqual(set(typing.get_type_hints(call)), wanted, call)
 
     def test_without_a_library_all_places_are_named(self):
         environment = {**os.environ, "KOVSHENUL_LIBRARY": "/nowhere/kovshenul.so"}
@@ -132,14 +144,30 @@ class Refusals(unittest.TestCase):
                 store.write(1, 0, 5)
         again = pickle.loads(pickle.dumps(caught.exception))
         self.assertEqual((again.rule, again.cause, again.edge, again.rights), ("write", "missing", (1, 0), WRITE))
-        self.assertEqual(str(again), "w is missing on 1->0")
+        self.assertEqual((str(again), again.vertices), ("write: w is missing on 1->0", (1, 0)))
+        self.assertEqual(str(copy.copy(caught.exception)), str(again))
+        self.assertEqual(str(Denied("write", "missing", (1, 0), WRITE)), str(again))
+
+    def test_all_are_errors(self):
+        for kind in (Denied, Refused, *Refused.__subclasses__()):
+            self.assertTrue(issubclass(kind, kovshenul.Error))
+        self.assertTrue(issubclass(Denied, PermissionError))
+        self.assertFalse(issubclass(Denied, Refused))
+        with opened() as store:
+            for call, *arguments in ((store.write, 1, 0, 5), (store.write, 7, 0, 5)):
+                self.assertRaises(kovshenul.Error, call, *arguments)
+            with self.assertRaises(PermissionError) as caught:
+                store.read(0, 1)
+        self.assertEqual(caught.exception.args, ("read", "missing", (0, 1), READ, (0, 1)))
+        self.assertEqual((caught.exception.errno, caught.exception.filename), (None, None))
 
     def test_a_denial_of_one_vertex(self):
         with opened() as store:
             with self.assertRaises(Denied) as caught:
                 store.write(1, 1, 5)
         self.assertEqual((caught.exception.cause, caught.exception.edge), ("not distinct", None))
-        self.assertEqual(str(caught.exception), "two vertices that must differ are one")
+        self.assertEqual(str(caught.exception), "write: two vertices that must differ are one (1, 1)")
+        self.assertEqual(str(Denied("take", "not distinct")), "take: two vertices that must differ are one")
 
     def test_a_denial_of_a_law(self):
         with opened() as store:
@@ -148,7 +176,7 @@ class Refusals(unittest.TestCase):
                 store.append(0, cell, 5)
         for denied in (caught.exception, pickle.loads(pickle.dumps(caught.exception))):
             self.assertEqual((denied.rule, denied.cause, denied.edge, denied.rights), ("append", "not log", None, 0))
-            self.assertEqual(str(denied), "the target stores no log")
+            self.assertEqual(str(denied), f"append: the target stores no log (0, {cell})")
 
     def test_each_denial_names_its_rule(self):
         with opened() as store:
@@ -158,6 +186,9 @@ class Refusals(unittest.TestCase):
                 with self.assertRaises(Denied) as caught:
                     call(0, *rest)
                 self.assertEqual((caught.exception.rule, caught.exception.cause), (rule, "not distinct"))
+                named = (0, 1, 1) if rule in ("take", "grant") else (0, 0)
+                self.assertEqual(caught.exception.vertices, named)
+                self.assertEqual(str(caught.exception), f"{rule}: two vertices that must differ are one {named}")
 
 
 class Stores(unittest.TestCase):
@@ -192,7 +223,7 @@ class Stores(unittest.TestCase):
 
     def test_values_are_values(self):
         with opened() as store:
-            for wrong in (None, 3, (0, 0, 3), "Cell", Cell, kovshenul.Value):
+            for wrong in (None, 3, (0, 0, 3), "Cell", Cell, kovshenul.Value, object.__new__(Cell)):
                 self.assertRaises(TypeError, store.create, 0, READ, wrong)
                 self.assertRaises(TypeError, Store, [wrong])
             self.assertEqual(store.entries(), 0)
@@ -213,7 +244,7 @@ class Stores(unittest.TestCase):
     def assert_denied(self, text, call, *arguments):
         with self.assertRaises(Denied) as caught:
             call(*arguments)
-        self.assertEqual(str(caught.exception), text)
+        self.assertEqual(str(caught.exception), f"{call.__name__}: {text}")
 
     def test_logs_are_added_to_and_edges_shown(self):
         with Store([Cell(0)] * 2, [(0, 1, INSPECT)], LIMITS) as store:
@@ -221,7 +252,7 @@ class Stores(unittest.TestCase):
             self.assertEqual(store.inspect(0, 1), [Target(2, Rights.of("rwa"))])
             self.assertIsInstance(store.inspect(0, 1)[0].rights, Rights)
             self.assert_denied("l is missing on 1->0", store.inspect, 1, 0)
-            self.assert_denied("the target stores no log", store.append, 1, 2, 5)
+            self.assert_denied("the target stores no log (1, 2)", store.append, 1, 2, 5)
             self.assertEqual(store.create(1, READ | APPEND, Log(4)), 3)
             self.assertIsNone(store.append(1, 3, 5))
             self.assertEqual(store.read(1, 3), [5])
@@ -293,7 +324,7 @@ class Stores(unittest.TestCase):
         with Store([Cell(0)] * 2, [(1, 0, INSPECT)], (1000, 64, 64)) as store:
             names = [store.create(0, FREE_U, Cell(0)) for _ in range(200)]
             self.assertEqual(store.inspect(1, 0), [(name, FREE_U) for name in names])
-            self.assertEqual(store.entries(), 202)
+            self.assertEqual(store.entries(), 201)
             self.assertEqual(store.inspect(1, 0, room=200), store.list(0, room=0))
             self.assertRaises(OverflowError, store.inspect, 1, 0, -1)
 
@@ -301,9 +332,35 @@ class Stores(unittest.TestCase):
         with Store([Cell(0)], limits=(1000, 64, 64)) as store:
             names = [store.create(0, READ, Cell(0)) for _ in range(200)]
             self.assertEqual(store.list(0), [(name, READ) for name in names])
-            self.assertEqual(store.entries(), 202)
+            self.assertEqual(store.entries(), 201)
             self.assertEqual(store.list(0, room=200), store.list(0, room=0))
             self.assertRaises(OverflowError, store.list, 0, -1)
+            self.assertRaises(TypeError, store.list, 0, None)
+
+    def test_rows_of_each_length(self):
+        with Store([Cell(0)] * 2, [(1, 0, INSPECT)]) as store:
+            for length in range(140):
+                self.assertEqual(store.list(0), [(2 + at, READ) for at in range(length)])
+                self.assertEqual(store.inspect(1, 0), store.list(0))
+                self.assertEqual(store.entries(), 4 * length + 3)
+                store.create(0, READ, Cell(0))
+
+    def test_a_list_takes_no_more_room_than_its_row(self):
+        with Store([Cell(0)] * 2) as store:
+            for _ in range(20_000):
+                store.create(0, READ, Cell(0))
+            self.assertEqual(len(store.list(0)), 20_000)
+            tracemalloc.start()
+            try:
+                self.assertEqual((store.list(1), store.list(1, 10**9)), ([], []))
+                self.assertLess(tracemalloc.get_traced_memory()[1], 10_000)
+            finally:
+                tracemalloc.stop()
+
+    def test_limits_to_start_with_are_those_of_c(self):
+        header = Path(__file__).parents[2].joinpath("kovshenul.h").read_text()
+        told = re.search(r"^#define TG_LIMITS_INIT \{ (\d+), (\d+), (\d+) \}$", header, re.MULTILINE)
+        self.assertEqual(Limits(), tuple(map(int, told.groups())))
 
     def test_what_the_heap_has(self):
         with opened() as store:

@@ -1,5 +1,5 @@
 //! The caretaker's story of `story.c`, over the safe wrapper.
-use kovshenul::{Edge, Error, Kind, Limits, Rights, Store, Value};
+use kovshenul::{Denial, Edge, Error, Kind, Limits, Rights, Store, Value};
 
 const CARETAKER: u64 = 0;
 
@@ -18,7 +18,7 @@ fn main() -> Result<(), Error> {
     };
     let mut store = Store::open(&[Value::Cell(0), Value::Cell(0)], &edges, &limits)?;
     let document = hand_on(&mut store)?;
-    ask(&mut store, document)?;
+    ask(&store, document)?;
     visit(&mut store, document)?;
     take_back(&mut store, document)?;
     println!("audit ok, {} entries", store.audit()?);
@@ -29,16 +29,24 @@ fn main() -> Result<(), Error> {
 fn tell(what: &str, answer: Result<(), Error>) -> Result<(), Error> {
     match answer {
         Ok(()) => println!("{what}: ok"),
-        Err(Error::Denied(denial)) => println!("{what}: denied, {denial}"),
+        Err(Error::Denied(denial)) => println!("{what}: denied, {}", why(&denial)),
         Err(error) => return Err(error),
     }
     Ok(())
 }
 
+// What was wrong, without the rule: each line names its command already.
+fn why(denial: &Denial) -> String {
+    match denial {
+        Denial::Missing { from, to, rights, .. } => format!("{rights} is missing on {from}->{to}"),
+        other => other.to_string(),
+    }
+}
+
 fn visitor_reads(store: &mut Store, document: u64) -> Result<(), Error> {
     match store.read(VISITOR, document) {
         Ok(numbers) => println!("visitor reads: ok, {numbers:?}"),
-        Err(Error::Denied(denial)) => println!("visitor reads: denied, {denial}"),
+        Err(Error::Denied(denial)) => println!("visitor reads: denied, {}", why(&denial)),
         Err(error) => return Err(error),
     }
     Ok(())
@@ -59,7 +67,7 @@ fn hand_on(store: &mut Store) -> Result<u64, Error> {
 }
 
 // What is held over the document, and what there is, is asked without an entry, and nothing is printed of it.
-fn ask(store: &mut Store, document: u64) -> Result<(), Error> {
+fn ask(store: &Store, document: u64) -> Result<(), Error> {
     assert_eq!(store.label(VISITOR, document)?, Rights::READ);
     assert!(store.label(CARETAKER, document)?.contains(Rights::WRITE));
     assert_eq!(store.label(VISITOR, CARETAKER)?, Rights::NONE);

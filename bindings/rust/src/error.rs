@@ -6,14 +6,37 @@ use std::fmt;
 
 /// What was asked for where it was denied.
 #[derive(Clone, Copy, PartialEq, Eq, Hash, Debug)]
+#[non_exhaustive]
 pub enum Rule {
+    /// [`Store::take`](crate::Store::take).
     Take,
+    /// [`Store::grant`](crate::Store::grant).
     Grant,
+    /// [`Store::remove`](crate::Store::remove).
     Remove,
+    /// [`Store::read`](crate::Store::read).
     Read,
+    /// [`Store::write`](crate::Store::write).
     Write,
+    /// [`Store::append`](crate::Store::append).
     Append,
+    /// [`Store::inspect`](crate::Store::inspect).
     Inspect,
+}
+
+impl fmt::Display for Rule {
+    /// Its word, as `take`.
+    fn fmt(&self, out: &mut fmt::Formatter<'_>) -> fmt::Result {
+        out.pad(match self {
+            Rule::Take => "take",
+            Rule::Grant => "grant",
+            Rule::Remove => "remove",
+            Rule::Read => "read",
+            Rule::Write => "write",
+            Rule::Append => "append",
+            Rule::Inspect => "inspect",
+        })
+    }
 }
 
 // By their numbers.
@@ -28,14 +51,36 @@ const RULES: [Rule; 7] = [
 ];
 
 /// Why a command was denied: the first check that failed.
+///
+/// ```
+/// use kovshenul::{Denial, Rights, Rule};
+/// let denial = Denial::Missing { rule: Rule::Write, from: 1, to: 2, rights: Rights::WRITE };
+/// assert_eq!(denial.to_string(), "write: w is missing on 1->2");
+/// ```
 #[derive(Clone, Copy, PartialEq, Eq, Hash, Debug)]
+#[non_exhaustive]
 pub enum Denial {
     /// Two vertices that must differ are one.
-    NotDistinct { rule: Rule },
+    NotDistinct {
+        /// What was asked for.
+        rule: Rule,
+    },
     /// The rights are missing on the edge from `from` to `to`.
-    Missing { rule: Rule, from: u64, to: u64, rights: Rights },
+    Missing {
+        /// What was asked for.
+        rule: Rule,
+        /// The vertex that lacks the rights.
+        from: u64,
+        /// The vertex over which they are missing.
+        to: u64,
+        /// The rights that are missing.
+        rights: Rights,
+    },
     /// The target of an append stores no log.
-    NotLog { rule: Rule },
+    NotLog {
+        /// What was asked for.
+        rule: Rule,
+    },
 }
 
 impl Denial {
@@ -48,11 +93,12 @@ impl Denial {
 }
 
 impl fmt::Display for Denial {
+    /// The sentence that `tg_denial_text` tells in C.
     fn fmt(&self, out: &mut fmt::Formatter<'_>) -> fmt::Result {
         match self {
-            Denial::NotDistinct { .. } => write!(out, "two vertices that must differ are one"),
-            Denial::Missing { from, to, rights, .. } => write!(out, "{rights} is missing on {from}->{to}"),
-            Denial::NotLog { .. } => write!(out, "the target stores no log"),
+            Denial::NotDistinct { rule } => write!(out, "{rule}: two vertices that must differ are one"),
+            Denial::Missing { rule, from, to, rights } => write!(out, "{rule}: {rights} is missing on {from}->{to}"),
+            Denial::NotLog { rule } => write!(out, "{rule}: the target stores no log"),
         }
     }
 }
@@ -77,6 +123,7 @@ impl From<&RawDenial> for Denial {
 /// Why a call was not served. `Denied` has its entry in the journal, and changed nothing else; of the others the store is as it
 /// was, but that `VerticesFull` and `WorkersFull` have an entry.
 #[derive(Clone, Copy, PartialEq, Eq, Hash, Debug)]
+#[non_exhaustive]
 pub enum Error {
     /// The rules don't allow it.
     Denied(Denial),

@@ -4,33 +4,80 @@ use crate::{Denial, Rights, Store, Target, Value};
 
 /// What a worker asked for.
 #[derive(Clone, Copy, PartialEq, Eq, Hash, Debug)]
+#[non_exhaustive]
 pub enum Deed {
     /// To take rights over the target that `via` has.
-    Take { via: u64, target: u64, rights: Rights },
+    Take {
+        /// The vertex whose rights were to be taken.
+        via: u64,
+        /// The vertex over which they are.
+        target: u64,
+        /// The rights that were asked for.
+        rights: Rights,
+    },
     /// To grant rights over the target to `via`.
-    Grant { via: u64, target: u64, rights: Rights },
+    Grant {
+        /// The vertex that was to get the rights.
+        via: u64,
+        /// The vertex over which they are.
+        target: u64,
+        /// The rights that were to be granted.
+        rights: Rights,
+    },
     /// To give up rights over the target.
-    Remove { target: u64, rights: Rights },
+    Remove {
+        /// The vertex over which they are.
+        target: u64,
+        /// The rights that were to be given up.
+        rights: Rights,
+    },
     /// To be shown what the target stores.
-    Read { target: u64 },
+    Read {
+        /// The vertex that was to be read.
+        target: u64,
+    },
     /// To write to the target.
-    Write { target: u64, value: u64 },
+    Write {
+        /// The vertex that was to be written to.
+        target: u64,
+        /// The number.
+        value: u64,
+    },
     /// To add to the log of the target.
-    Append { target: u64, value: u64 },
+    Append {
+        /// The vertex that stores the log.
+        target: u64,
+        /// The number.
+        value: u64,
+    },
     /// To be shown the target's edges.
-    Inspect { target: u64 },
+    Inspect {
+        /// The vertex whose edges were to be shown.
+        target: u64,
+    },
     /// To be shown one's own edges.
     List,
     /// To be a worker no more.
     Retire,
     /// To make a vertex that stores the value at first, and to have rights over it.
-    Create { rights: Rights, value: Value },
+    Create {
+        /// The rights over it.
+        rights: Rights,
+        /// What it stores at first.
+        value: Value,
+    },
     /// To make a worker that stores the value at first, and to have rights over it.
-    Spawn { rights: Rights, value: Value },
+    Spawn {
+        /// The rights over it.
+        rights: Rights,
+        /// What it stores at first.
+        value: Value,
+    },
 }
 
 /// What was answered.
 #[derive(Clone, PartialEq, Eq, Hash, Debug)]
+#[non_exhaustive]
 pub enum Reply {
     /// A take, grant, remove, write, append or retire was done.
     Done,
@@ -53,7 +100,9 @@ pub enum Reply {
 pub struct Entry {
     /// Who asked.
     pub worker: u64,
+    /// What for.
     pub deed: Deed,
+    /// What was answered.
     pub reply: Reply,
 }
 
@@ -126,12 +175,12 @@ impl Reply {
 /// The entries of a store's journal, from the first on ([`Store::journal`]).
 #[derive(Debug)]
 pub struct Journal<'a> {
-    store: &'a mut Store,
+    store: &'a Store,
     at: u64,
 }
 
 impl<'a> Journal<'a> {
-    pub(crate) fn new(store: &'a mut Store) -> Journal<'a> {
+    pub(crate) fn new(store: &'a Store) -> Journal<'a> {
         Journal { store, at: 0 }
     }
 }

@@ -10,13 +10,14 @@
 //! store.grant(0, 1, document, Rights::READ)?;
 //! assert_eq!(store.read(1, document)?, [40]);
 //! match store.write(1, document, 2) {
-//!     Err(Error::Denied(denial)) => assert_eq!(denial.to_string(), "w is missing on 1->2"),
+//!     Err(Error::Denied(denial)) => assert_eq!(denial.to_string(), "write: w is missing on 1->2"),
 //!     other => other?,
 //! }
 //! # Ok::<(), Error>(())
 //! ```
 //!
 //! Where it is built, `KOVSHENUL_LIB_DIR` names the folder of `libkovshenul.a`, or pkg-config knows it.
+#![deny(missing_docs)]
 mod error;
 mod journal;
 mod raw;

@@ -91,7 +91,7 @@ impl From<&Edge> for RawEdge {
 }
 
 #[repr(C)]
-#[derive(Clone, Default)]
+#[derive(Clone, Copy, Default)]
 pub struct RawTarget {
     pub to: u64,
     pub rights: u64,
@@ -129,25 +129,25 @@ extern "C" {
     pub fn tg_abi() -> u32;
     pub fn tg_status_text(status: u32) -> *const c_char;
     pub fn tg_open(
-        store: &mut RawStore,
+        store: *mut RawStore,
         workers: *const RawValue,
         worker_count: usize,
         edges: *const RawEdge,
         edge_count: usize,
         limits: &Limits,
     ) -> u32;
-    pub fn tg_close(store: &mut RawStore) -> u32;
-    pub fn tg_take(store: &mut RawStore, worker: u64, via: u64, target: u64, rights: u64, why: &mut RawDenial) -> u32;
-    pub fn tg_grant(store: &mut RawStore, worker: u64, via: u64, target: u64, rights: u64, why: &mut RawDenial) -> u32;
-    pub fn tg_remove(store: &mut RawStore, worker: u64, target: u64, rights: u64, why: &mut RawDenial) -> u32;
-    pub fn tg_write(store: &mut RawStore, worker: u64, target: u64, value: u64, why: &mut RawDenial) -> u32;
-    pub fn tg_append(store: &mut RawStore, worker: u64, target: u64, value: u64, why: &mut RawDenial) -> u32;
-    pub fn tg_create(store: &mut RawStore, worker: u64, rights: u64, value: &RawValue, name: &mut u64) -> u32;
-    pub fn tg_spawn(store: &mut RawStore, worker: u64, rights: u64, value: &RawValue, name: &mut u64) -> u32;
-    pub fn tg_retire(store: &mut RawStore, worker: u64) -> u32;
-    pub fn tg_subjects(store: &mut RawStore, names: *mut u64, room: usize, count: &mut u64) -> u32;
+    pub fn tg_close(store: *mut RawStore) -> u32;
+    pub fn tg_take(store: *mut RawStore, worker: u64, via: u64, target: u64, rights: u64, why: &mut RawDenial) -> u32;
+    pub fn tg_grant(store: *mut RawStore, worker: u64, via: u64, target: u64, rights: u64, why: &mut RawDenial) -> u32;
+    pub fn tg_remove(store: *mut RawStore, worker: u64, target: u64, rights: u64, why: &mut RawDenial) -> u32;
+    pub fn tg_write(store: *mut RawStore, worker: u64, target: u64, value: u64, why: &mut RawDenial) -> u32;
+    pub fn tg_append(store: *mut RawStore, worker: u64, target: u64, value: u64, why: &mut RawDenial) -> u32;
+    pub fn tg_create(store: *mut RawStore, worker: u64, rights: u64, value: &RawValue, name: &mut u64) -> u32;
+    pub fn tg_spawn(store: *mut RawStore, worker: u64, rights: u64, value: &RawValue, name: &mut u64) -> u32;
+    pub fn tg_retire(store: *mut RawStore, worker: u64) -> u32;
+    pub fn tg_subjects(store: *mut RawStore, names: *mut u64, room: usize, count: &mut u64) -> u32;
     pub fn tg_read(
-        store: &mut RawStore,
+        store: *mut RawStore,
         worker: u64,
         target: u64,
         numbers: *mut u64,
@@ -155,9 +155,9 @@ extern "C" {
         count: &mut u64,
         why: &mut RawDenial,
     ) -> u32;
-    pub fn tg_list(store: &mut RawStore, worker: u64, edges: *mut RawTarget, room: usize, count: &mut u64) -> u32;
+    pub fn tg_list(store: *mut RawStore, worker: u64, edges: *mut RawTarget, room: usize, count: &mut u64) -> u32;
     pub fn tg_inspect(
-        store: &mut RawStore,
+        store: *mut RawStore,
         worker: u64,
         target: u64,
         edges: *mut RawTarget,
@@ -165,13 +165,13 @@ extern "C" {
         count: &mut u64,
         why: &mut RawDenial,
     ) -> u32;
-    pub fn tg_label(store: &mut RawStore, worker: u64, target: u64, rights: &mut u64) -> u32;
-    pub fn tg_collect(store: &mut RawStore, kind: u32, left: &mut u64) -> u32;
-    pub fn tg_census(store: &mut RawStore, counts: &mut Counts) -> u32;
-    pub fn tg_names(store: &mut RawStore, names: *mut u64, room: usize, count: &mut u64) -> u32;
-    pub fn tg_entries(store: &mut RawStore, count: &mut u64) -> u32;
+    pub fn tg_label(store: *mut RawStore, worker: u64, target: u64, rights: &mut u64) -> u32;
+    pub fn tg_collect(store: *mut RawStore, kind: u32, left: &mut u64) -> u32;
+    pub fn tg_census(store: *mut RawStore, counts: &mut Counts) -> u32;
+    pub fn tg_names(store: *mut RawStore, names: *mut u64, room: usize, count: &mut u64) -> u32;
+    pub fn tg_entries(store: *mut RawStore, count: &mut u64) -> u32;
     pub fn tg_entry(
-        store: &mut RawStore,
+        store: *mut RawStore,
         at: u64,
         record: &mut RawRecord,
         numbers: *mut u64,
@@ -179,5 +179,5 @@ extern "C" {
         edges: *mut RawTarget,
         edge_room: usize,
     ) -> u32;
-    pub fn tg_audit(store: &mut RawStore, count: &mut u64) -> u32;
+    pub fn tg_audit(store: *mut RawStore, count: &mut u64) -> u32;
 }

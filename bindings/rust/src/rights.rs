@@ -1,6 +1,6 @@
 //! Sets of rights.
 use std::fmt;
-use std::ops::{BitAnd, BitOr, Sub};
+use std::ops::{BitAnd, BitAndAssign, BitOr, BitOrAssign, Not, Sub, SubAssign};
 use std::str::FromStr;
 
 /// A set of rights over a vertex.
@@ -12,10 +12,11 @@ use std::str::FromStr;
 /// assert!(rights.contains(Rights::READ) && !rights.contains(Rights::GRANT));
 /// assert_eq!((rights - Rights::READ).to_string(), "w");
 /// assert_eq!(rights.iter().collect::<Vec<_>>(), [Rights::READ, Rights::WRITE]);
-/// assert_eq!(Rights::all().to_string(), "rwtgaluv");
+/// assert_eq!((!rights).to_string(), "tgaluv");
+/// assert_eq!(format!("{rights:?}"), "Rights(rw)");
 /// # Ok::<(), kovshenul::NoRights>(())
 /// ```
-#[derive(Clone, Copy, PartialEq, Eq, PartialOrd, Ord, Hash, Debug, Default)]
+#[derive(Clone, Copy, PartialEq, Eq, PartialOrd, Ord, Hash, Default)]
 pub struct Rights(u64);
 
 // Each right with its letter, by its bit.
@@ -31,6 +32,7 @@ const LETTERS: [(Rights, char); 8] = [
 ];
 
 impl Rights {
+    /// The set with no right.
     pub const NONE: Rights = Rights(0);
     /// `r`: reads the state.
     pub const READ: Rights = Rights(1);
@@ -111,6 +113,33 @@ impl Sub for Rights {
     }
 }
 
+impl Not for Rights {
+    type Output = Rights;
+
+    /// The rights that aren't in it.
+    fn not(self) -> Rights {
+        Rights::all() - self
+    }
+}
+
+impl BitOrAssign for Rights {
+    fn bitor_assign(&mut self, other: Rights) {
+        *self = *self | other;
+    }
+}
+
+impl BitAndAssign for Rights {
+    fn bitand_assign(&mut self, other: Rights) {
+        *self = *self & other;
+    }
+}
+
+impl SubAssign for Rights {
+    fn sub_assign(&mut self, other: Rights) {
+        *self = *self - other;
+    }
+}
+
 impl FromIterator<Rights> for Rights {
     fn from_iter<I: IntoIterator<Item = Rights>>(rights: I) -> Rights {
         rights.into_iter().fold(Rights::NONE, BitOr::bitor)
@@ -118,9 +147,16 @@ impl FromIterator<Rights> for Rights {
 }
 
 impl fmt::Display for Rights {
+    /// The letters of the rights, in the order `rwtgaluv`.
     fn fmt(&self, out: &mut fmt::Formatter<'_>) -> fmt::Result {
         let held = LETTERS.iter().filter(|(right, _)| self.contains(*right));
         out.pad(&held.map(|(_, letter)| letter).collect::<String>())
+    }
+}
+
+impl fmt::Debug for Rights {
+    fn fmt(&self, out: &mut fmt::Formatter<'_>) -> fmt::Result {
+        write!(out, "Rights({self})")
     }
 }
 

@@ -2,7 +2,9 @@
 use crate::error::{decided, served};
 use crate::raw::{self, RawDenial, RawEdge, RawRecord, RawStore, RawTarget, RawValue};
 use crate::{Counts, Edge, Entry, Error, Journal, Kind, Limits, Rights, Target, Value};
+use std::cell::UnsafeCell;
 use std::fmt;
+use std::panic::RefUnwindSafe;
 use std::ptr::null_mut;
 
 /// The most numbers that a vertex can store.
@@ -11,12 +13,16 @@ const MOST_NUMBERS: usize = 64;
 /// The most workers that are active at a time.
 const MOST_WORKERS: usize = 64;
 
-/// As many edges as the first list of a store has room for, or the first look at another's.
-const FIRST_ROW: usize = 64;
+/// How many edges of a row are taken at once. A longer row is read from the journal, which has all of it.
+const SHORT_ROW: usize = 64;
 
 /// An open store. Dropping it closes it.
 ///
-/// Any thread may have it, and one at a time: it is `Send`. Behind a lock many threads call it in turn.
+/// What only looks takes `&self`: it makes no entry, and changes nothing. A read, a list and an inspect are commands,
+/// of which the journal gets an entry, so they take `&mut self`.
+///
+/// Any thread may have a store, and one at a time: it is `Send`, and not `Sync`. Behind a lock many threads call it in
+/// turn.
 ///
 /// ```
 /// # use kovshenul::{Limits, Rights, Store, Value};
@@ -32,11 +38,15 @@ const FIRST_ROW: usize = 64;
 /// # Ok::<(), kovshenul::Error>(())
 /// ```
 ///
-/// Two threads at once don't compile:
+/// Two threads at once don't compile, not even two that only look:
 ///
 /// ```compile_fail,E0277
-/// fn is_sync<T: Sync>() {}
-/// is_sync::<kovshenul::Store>();
+/// fn look(store: &kovshenul::Store) {
+///     std::thread::scope(|scope| {
+///         scope.spawn(|| store.census());
+///         store.census()
+///     });
+/// }
 /// ```
 ///
 /// Nor does a copy, or a store that was handed on:
@@ -48,13 +58,16 @@ const FIRST_ROW: usize = 64;
 /// }
 /// ```
 pub struct Store {
-    raw: RawStore,
-    // As many edges as the next list has room for, or the next look at another's.
-    row: usize,
+    // While a call runs, one that only looks too, the library takes the store out of its place, and puts it back. The
+    // cell is why that may be, and why no two threads call at once.
+    place: UnsafeCell<RawStore>,
 }
 
 // What the pointer leads to may go to another thread: the library has a function whose bound asks for it (crates/tg_c/src/place.rt).
 unsafe impl Send for Store {}
+
+// No call of the library unwinds, so none is left half done.
+impl RefUnwindSafe for Store {}
 
 impl Store {
     /// Opens a store with a worker for each value.
@@ -79,50 +92,54 @@ impl Store {
         };
         served(status)?;
         Ok(Store {
-            raw: place,
-            row: FIRST_ROW,
+            place: UnsafeCell::new(place),
         })
+    }
+
+    // The place, as each call of the library takes it.
+    fn at(&self) -> *mut RawStore {
+        self.place.get()
     }
 
     /// The worker takes rights over the target that `via` has.
     pub fn take(&mut self, worker: u64, via: u64, target: u64, rights: Rights) -> Result<(), Error> {
         let mut why = RawDenial::default();
-        let status = unsafe { raw::tg_take(&mut self.raw, worker, via, target, rights.bits(), &mut why) };
+        let status = unsafe { raw::tg_take(self.at(), worker, via, target, rights.bits(), &mut why) };
         decided(status, &why)
     }
 
     /// The worker grants rights over the target to `via`.
     pub fn grant(&mut self, worker: u64, via: u64, target: u64, rights: Rights) -> Result<(), Error> {
         let mut why = RawDenial::default();
-        let status = unsafe { raw::tg_grant(&mut self.raw, worker, via, target, rights.bits(), &mut why) };
+        let status = unsafe { raw::tg_grant(self.at(), worker, via, target, rights.bits(), &mut why) };
         decided(status, &why)
     }
 
     /// The worker gives up its own rights over the target.
     pub fn remove(&mut self, worker: u64, target: u64, rights: Rights) -> Result<(), Error> {
         let mut why = RawDenial::default();
-        let status = unsafe { raw::tg_remove(&mut self.raw, worker, target, rights.bits(), &mut why) };
+        let status = unsafe { raw::tg_remove(self.at(), worker, target, rights.bits(), &mut why) };
         decided(status, &why)
     }
 
     /// The worker writes to the target.
     pub fn write(&mut self, worker: u64, target: u64, value: u64) -> Result<(), Error> {
         let mut why = RawDenial::default();
-        let status = unsafe { raw::tg_write(&mut self.raw, worker, target, value, &mut why) };
+        let status = unsafe { raw::tg_write(self.at(), worker, target, value, &mut why) };
         decided(status, &why)
     }
 
     /// The worker adds to the log of the target, by its right to append. What stores no log is left to `write`.
     pub fn append(&mut self, worker: u64, target: u64, value: u64) -> Result<(), Error> {
         let mut why = RawDenial::default();
-        let status = unsafe { raw::tg_append(&mut self.raw, worker, target, value, &mut why) };
+        let status = unsafe { raw::tg_append(self.at(), worker, target, value, &mut why) };
         decided(status, &why)
     }
 
     /// Makes a vertex over which the worker has the rights, and answers its name.
     pub fn create(&mut self, worker: u64, rights: Rights, value: Value) -> Result<u64, Error> {
         let (value, mut name) = (RawValue::from(&value), 0);
-        served(unsafe { raw::tg_create(&mut self.raw, worker, rights.bits(), &value, &mut name) })?;
+        served(unsafe { raw::tg_create(self.at(), worker, rights.bits(), &value, &mut name) })?;
         Ok(name)
     }
 
@@ -145,20 +162,21 @@ impl Store {
     /// ```
     pub fn spawn(&mut self, worker: u64, rights: Rights, value: Value) -> Result<u64, Error> {
         let (value, mut name) = (RawValue::from(&value), 0);
-        served(unsafe { raw::tg_spawn(&mut self.raw, worker, rights.bits(), &value, &mut name) })?;
+        served(unsafe { raw::tg_spawn(self.at(), worker, rights.bits(), &value, &mut name) })?;
         Ok(name)
     }
 
-    /// The worker retires, and asks for nothing more. Its vertex and its edges stay for as long as a worker reaches them. It is never
-    /// denied.
+    /// The worker retires, and asks for nothing more. Its vertex and its edges stay for as long as a worker reaches them:
+    /// whoever has an edge to it, as its spawner has, keeps all that it held. Give that edge up, or remove the edges of
+    /// the one who goes before it retires. It is never denied.
     pub fn retire(&mut self, worker: u64) -> Result<(), Error> {
-        served(unsafe { raw::tg_retire(&mut self.raw, worker) })
+        served(unsafe { raw::tg_retire(self.at(), worker) })
     }
 
     /// The names of the active workers, rising. The journal gets no entry of it.
-    pub fn subjects(&mut self) -> Result<Vec<u64>, Error> {
+    pub fn subjects(&self) -> Result<Vec<u64>, Error> {
         let (mut names, mut count) = ([0; MOST_WORKERS], 0);
-        served(unsafe { raw::tg_subjects(&mut self.raw, names.as_mut_ptr(), names.len(), &mut count) })?;
+        served(unsafe { raw::tg_subjects(self.at(), names.as_mut_ptr(), names.len(), &mut count) })?;
         Ok(names[..count as usize].to_vec())
     }
 
@@ -168,7 +186,7 @@ impl Store {
         let mut why = RawDenial::default();
         let status = unsafe {
             raw::tg_read(
-                &mut self.raw,
+                self.at(),
                 worker,
                 target,
                 numbers.as_mut_ptr(),
@@ -181,73 +199,76 @@ impl Store {
         Ok(numbers[..count as usize].to_vec())
     }
 
-    /// The worker's edges by rising name. A row with more edges than any before and than 64 is listed twice, which the journal
-    /// tells.
+    /// The worker's edges by rising name. The journal gets one entry with all of them, however many there are.
     pub fn list(&mut self, worker: u64) -> Result<Vec<Target>, Error> {
-        self.targets(|raw, edges, count| {
-            served(unsafe { raw::tg_list(raw, worker, edges.as_mut_ptr(), edges.len(), count) })
-        })
+        let (mut edges, mut count) = ([RawTarget::default(); SHORT_ROW], 0);
+        served(unsafe { raw::tg_list(self.at(), worker, edges.as_mut_ptr(), edges.len(), &mut count) })?;
+        self.row(&edges, count as usize)
     }
 
-    /// The target's edges by rising name, by the worker's right to inspect it. A row that is longer than any before is asked for
-    /// twice, as by `list`.
+    /// The target's edges by rising name, by the worker's right to inspect it. The journal gets one entry with all of
+    /// them.
     pub fn inspect(&mut self, worker: u64, target: u64) -> Result<Vec<Target>, Error> {
-        self.targets(|raw, edges, count| {
-            let mut why = RawDenial::default();
-            let room = edges.len();
-            let status = unsafe { raw::tg_inspect(raw, worker, target, edges.as_mut_ptr(), room, count, &mut why) };
-            decided(status, &why)
-        })
+        let (mut edges, mut count) = ([RawTarget::default(); SHORT_ROW], 0);
+        let mut why = RawDenial::default();
+        let status = unsafe {
+            raw::tg_inspect(
+                self.at(),
+                worker,
+                target,
+                edges.as_mut_ptr(),
+                edges.len(),
+                &mut count,
+                &mut why,
+            )
+        };
+        decided(status, &why)?;
+        self.row(&edges, count as usize)
     }
 
-    // The edges of a row, which the call writes and counts. Where they are more than it had room for, it is made again.
-    fn targets(
-        &mut self,
-        call: impl Fn(&mut RawStore, &mut [RawTarget], &mut u64) -> Result<(), Error>,
-    ) -> Result<Vec<Target>, Error> {
-        let mut edges = vec![RawTarget::default(); self.row];
-        let mut count = 0;
-        call(&mut self.raw, &mut edges, &mut count)?;
-        if edges.len() < count as usize {
-            self.row = count as usize;
-            return self.targets(call);
+    // All edges of the row that was shown last, of which these are the first. With more, they are read from its entry.
+    fn row(&self, first: &[RawTarget], count: usize) -> Result<Vec<Target>, Error> {
+        if count <= first.len() {
+            return Ok(first[..count].iter().map(Target::from).collect());
         }
-        Ok(edges[..count as usize].iter().map(Target::from).collect())
+        let mut edges = vec![RawTarget::default(); count];
+        self.record(self.entries()? - 1, &mut [], &mut edges)?;
+        Ok(edges.iter().map(Target::from).collect())
     }
 
     /// The rights that the worker holds over the target, which may be none. The journal gets no entry of it.
-    pub fn label(&mut self, worker: u64, target: u64) -> Result<Rights, Error> {
+    pub fn label(&self, worker: u64, target: u64) -> Result<Rights, Error> {
         let mut rights = 0;
-        served(unsafe { raw::tg_label(&mut self.raw, worker, target, &mut rights) })?;
+        served(unsafe { raw::tg_label(self.at(), worker, target, &mut rights) })?;
         Ok(Rights::told(rights))
     }
 
     /// Collects, and answers how many vertices the heap then has.
     pub fn collect(&mut self, kind: Kind) -> Result<u64, Error> {
         let mut left = 0;
-        served(unsafe { raw::tg_collect(&mut self.raw, kind as u32, &mut left) })?;
+        served(unsafe { raw::tg_collect(self.at(), kind as u32, &mut left) })?;
         Ok(left)
     }
 
     /// What the heap has.
-    pub fn census(&mut self) -> Result<Counts, Error> {
+    pub fn census(&self) -> Result<Counts, Error> {
         let mut counts = Counts::default();
-        served(unsafe { raw::tg_census(&mut self.raw, &mut counts) })?;
+        served(unsafe { raw::tg_census(self.at(), &mut counts) })?;
         Ok(counts)
     }
 
     /// The names of the vertices that the heap has, each once. Those that nobody reaches are among them until a full collection.
-    pub fn names(&mut self) -> Result<Vec<u64>, Error> {
+    pub fn names(&self) -> Result<Vec<u64>, Error> {
         let mut names = vec![0; self.census()?.vertices as usize];
         let mut count = 0;
-        served(unsafe { raw::tg_names(&mut self.raw, names.as_mut_ptr(), names.len(), &mut count) })?;
+        served(unsafe { raw::tg_names(self.at(), names.as_mut_ptr(), names.len(), &mut count) })?;
         Ok(names)
     }
 
     /// How many entries the journal has.
-    pub fn entries(&mut self) -> Result<u64, Error> {
+    pub fn entries(&self) -> Result<u64, Error> {
         let mut count = 0;
-        served(unsafe { raw::tg_entries(&mut self.raw, &mut count) })?;
+        served(unsafe { raw::tg_entries(self.at(), &mut count) })?;
         Ok(count)
     }
 
@@ -265,7 +286,7 @@ impl Store {
     /// assert_eq!(store.entry(2), Err(Error::BadPlace));
     /// # Ok::<(), Error>(())
     /// ```
-    pub fn entry(&mut self, at: u64) -> Result<Entry, Error> {
+    pub fn entry(&self, at: u64) -> Result<Entry, Error> {
         let mut numbers = [0; MOST_NUMBERS];
         let mut record = self.record(at, &mut numbers, &mut [])?;
         // Few entries have edges. How many these are was told.
@@ -277,11 +298,11 @@ impl Store {
     }
 
     // The same as the library tells it, with as many of its numbers and edges as there is room for.
-    fn record(&mut self, at: u64, numbers: &mut [u64], edges: &mut [RawTarget]) -> Result<RawRecord, Error> {
+    fn record(&self, at: u64, numbers: &mut [u64], edges: &mut [RawTarget]) -> Result<RawRecord, Error> {
         let mut record = RawRecord::default();
         let status = unsafe {
             raw::tg_entry(
-                &mut self.raw,
+                self.at(),
                 at,
                 &mut record,
                 numbers.as_mut_ptr(),
@@ -306,21 +327,21 @@ impl Store {
     /// assert_eq!(replies, [Reply::Name(sum), Reply::Done, Reply::Values(vec![42])]);
     /// # Ok::<(), Error>(())
     /// ```
-    pub fn journal(&mut self) -> Journal<'_> {
+    pub fn journal(&self) -> Journal<'_> {
         Journal::new(self)
     }
 
     /// Replays the journal, and answers how many entries it has.
-    pub fn audit(&mut self) -> Result<u64, Error> {
+    pub fn audit(&self) -> Result<u64, Error> {
         let mut count = 0;
-        served(unsafe { raw::tg_audit(&mut self.raw, &mut count) })?;
+        served(unsafe { raw::tg_audit(self.at(), &mut count) })?;
         Ok(count)
     }
 }
 
 impl Drop for Store {
     fn drop(&mut self) {
-        unsafe { raw::tg_close(&mut self.raw) };
+        unsafe { raw::tg_close(self.at()) };
     }
 }
 

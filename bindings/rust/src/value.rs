@@ -4,6 +4,7 @@ use crate::Rights;
 
 /// What a vertex stores at first, and by which law a write changes it.
 #[derive(Clone, Copy, PartialEq, Eq, Hash, Debug)]
+#[non_exhaustive]
 pub enum Value {
     /// Keeps the last number.
     Cell(u64),
@@ -18,23 +19,46 @@ pub enum Value {
 /// The rights of worker `from` over worker `to`, at the opening.
 #[derive(Clone, Copy, PartialEq, Eq, Hash, Debug)]
 pub struct Edge {
+    /// The worker that holds the rights.
     pub from: u64,
+    /// The worker over which they are held.
     pub to: u64,
+    /// The rights: one at least.
     pub rights: Rights,
 }
 
-/// How many vertices may ever be made (to 2^24), and how many blocks of 64 cells the heap (to 65,536) and one space of it
-/// (to 2^20) may have.
+/// How many vertices and blocks there may be.
+///
+/// ```
+/// # use kovshenul::Limits;
+/// let few = Limits { max_vertices: 100, ..Limits::default() };
+/// assert_eq!((few.max_blocks, few.max_space_blocks), (4096, 1 << 20));
+/// ```
 #[repr(C)]
 #[derive(Clone, Copy, PartialEq, Eq, Hash, Debug)]
 pub struct Limits {
+    /// How many vertices may ever be made, workers included: from those of the opening to 2^24.
     pub max_vertices: u64,
+    /// How many blocks of 64 cells of 64 bytes there may be in all: from 1 to 65,536, and one a worker at least.
     pub max_blocks: u64,
+    /// How many of them in one space: from 1 to 2^20.
     pub max_space_blocks: u64,
+}
+
+impl Default for Limits {
+    /// 2^20 vertices, 4,096 blocks in all (16 MiB of cells), and as many in one space as may be.
+    fn default() -> Limits {
+        Limits {
+            max_vertices: 1 << 20,
+            max_blocks: 4096,
+            max_space_blocks: 1 << 20,
+        }
+    }
 }
 
 /// A kind of collection.
 #[derive(Clone, Copy, PartialEq, Eq, Hash, Debug)]
+#[non_exhaustive]
 pub enum Kind {
     /// Keeps exactly the vertices that can be reached from a worker.
     Full = 0,
@@ -45,7 +69,9 @@ pub enum Kind {
 /// A vertex over which a worker has rights.
 #[derive(Clone, Copy, PartialEq, Eq, Hash, Debug)]
 pub struct Target {
+    /// The vertex.
     pub to: u64,
+    /// The rights over it.
     pub rights: Rights,
 }
 
@@ -62,7 +88,10 @@ impl From<&RawTarget> for Target {
 #[repr(C)]
 #[derive(Clone, Copy, Default, PartialEq, Eq, Hash, Debug)]
 pub struct Counts {
+    /// How many vertices.
     pub vertices: u64,
+    /// How many payloads: what the vertices store.
     pub payloads: u64,
+    /// How many blocks of 64 cells, of all spaces.
     pub blocks: u64,
 }

@@ -29,6 +29,7 @@ fn call(store: &mut Store, worker: u64, deed: Deed) -> Reply {
         Deed::Retire => store.retire(worker).map(|()| Reply::Done),
         Deed::Create { rights, value } => store.create(worker, rights, value).map(Reply::Name),
         Deed::Spawn { rights, value } => store.spawn(worker, rights, value).map(Reply::Name),
+        other => panic!("{other:?} is no deed of this edition"),
     };
     match answer {
         Err(Error::Denied(why)) => Reply::Denied(why),
