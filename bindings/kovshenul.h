@@ -277,8 +277,9 @@ tg_status tg_read(tg_store *store, uint64_t worker, uint64_t target, uint64_t *n
                   tg_denial *denial);
 
 /* The worker's edges by rising name: the first `room` of them go to edges, and how many there are to *count. The journal
-   gets the whole list each time, so ask with room for as many as there may be. Never denied. So a worker that may only list can
-   fill its host's memory: limit how often one that you don't trust may (docs/EMBEDDING.md has the numbers). */
+   gets the whole list each time: where there was too little room, read it from its entry (tg_entry), and don't list
+   again. Never denied. So a worker that may only list can fill its host's memory: limit how often one that you don't
+   trust may (docs/EMBEDDING.md has the numbers). */
 tg_status tg_list(tg_store *store, uint64_t worker, tg_target *edges, size_t room, uint64_t *count);
 
 /* The target's edges by rising name, by the worker's l over it: the first `room` of them go to edges, and how many there are to *count.

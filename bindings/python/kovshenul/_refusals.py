@@ -1,7 +1,7 @@
 """What a call raises that wasn't served."""
 from __future__ import annotations
 
-from typing import Iterable, Optional, Tuple
+from typing import Optional, Tuple
 
 from ._library import Denial, text_of
 from ._values import RIGHTS, Rights
@@ -40,12 +40,11 @@ class Denied(Error, PermissionError):
         cause: str,
         edge: Optional[Tuple[int, int]] = None,
         rights: Rights = Rights(0),
-        vertices: Iterable[int] = (),
+        vertices: Tuple[int, ...] = (),
     ) -> None:
-        # Of several arguments an OSError would make a number and a file's name.
-        super().__init__(rule)
-        self.rule, self.cause, self.edge, self.rights, self.vertices = rule, cause, edge, rights, tuple(vertices)
-        self.args = rule, cause, edge, rights, self.vertices
+        # OSError's own __init__, which isn't called, would make a number and a file's name of these.
+        self.args = rule, cause, edge, rights, vertices
+        self.rule, self.cause, self.edge, self.rights, self.vertices = rule, cause, edge, rights, vertices
 
     def __str__(self) -> str:
         if self.edge is not None:

@@ -285,10 +285,9 @@ class Store:
 
         `room` was for how many edges to make room. It is looked at, and no longer needed.
         """
-        number_in(BITS, room)
         with self._lock:
             place, self._room = self._room or _Room(), None
-            place.asked[0], place.asked[1] = worker, 0
+            place.asked[0], place.asked[1], place.asked[2] = worker, 0, room
             status = library.tg_list(self._at, place.first, place.edges_at, place.row_size, place.count_at)
             numbers = [] if status else self._row(place, Listed)
             self._room = place
@@ -298,20 +297,20 @@ class Store:
 
     def inspect(self, worker: int, target: int, room: int = SHORT_ROW) -> List[Target]:
         """The target's edges by rising name, by the worker's right to inspect it: one entry, and `room`, as by `list`."""
-        number_in(BITS, room)
         with self._lock:
             place, self._room = self._room or _Room(), None
-            place.asked[0], place.asked[1] = worker, target
+            place.asked[0], place.asked[1], place.asked[2] = worker, target, room
             status = library.tg_inspect(
                 self._at, place.first, place.second, place.edges_at, place.row_size, place.count_at, place.denial_at
             )
-            if not status:
+            if status:
+                told = place.told(2)
+            else:
                 numbers = self._row(place, Inspect)
-                self._room = place
-                return _targets(numbers)
-            told = place.told(2)
             self._room = place
-        _raise(status, told)
+        if status:
+            _raise(status, told)
+        return _targets(numbers)
 
     def _row(self, room: _Room, deed: type) -> List[int]:
         """All edges of the row that was just shown, as numbers. Those of a long row are read from its entry."""

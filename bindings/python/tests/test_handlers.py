@@ -146,12 +146,14 @@ class Handlers(unittest.TestCase):
             thread = threading.Thread(target=grow)
             thread.start()
             try:
-                for _ in range(40):
-                    self.assert_row(store.list(0), 1, 0)
+                while store.entries() < 1000:
+                    time.sleep(0.001)
+                for _ in range(12):
+                    self.assert_row(store.list(0), 1, 1000)
             finally:
                 ended.set()
                 thread.join()
-            self.assertEqual(lists_in(store), 40)
+            self.assertEqual(lists_in(store), 12)
 
 
 if __name__ == "__main__":
