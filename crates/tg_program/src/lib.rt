@@ -1,10 +1,10 @@
 //! What the program `tgstore` is made of, so that its `main` is one call.
 //!
 //! The words of the command line are read first (`words`), then the stock and the limits are looked at (`start`), and
-//! only then are buffers (`streams`), boxes (`boxes`) and drafts of them (`making`) made and input read (`serving`), whose last line is
-//! noted where it is to be said why a line is bad (`noted`). Collections
-//! by several helpers run on threads (`on_threads`). What goes wrong is one line on standard error and a status (`stop`).
-//! [`obey`] does all of it.
+//! only then are buffers (`streams`), boxes (`boxes`) and drafts of them (`making`) made and input read (`serving`),
+//! whose last line is noted where it is to be said why a line is bad (`noted`). Collections by several helpers run on
+//! threads (`on_threads`). What goes wrong is one line on standard error and a status (`stop`). [`obey`] does all of
+//! it.
 //!
 //! What a reader has to believe stands in `specs/`: `Words` says what the words ask for, `Ranges` and `Starts` what is refused
 //! before any input is read, `Boxes` what boxes begin with, `Serving` what a run reads and writes, and `Faults` the statuses.

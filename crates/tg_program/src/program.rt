@@ -17,8 +17,9 @@ use std::sync::Wait;
 use std::thread::Threads;
 use std::{env, io};
 
-/// Does what the words of the command line ask for: runs the reader's script and writes the replies to the writer, or prints the
-/// help. What goes wrong is one line on standard error, and a second one where it is asked why a line is bad. The exit status.
+/// Does what the words of the command line ask for: runs the reader's script and writes the replies to the writer, or
+/// prints the help. What goes wrong is one line on standard error, and a second one where it is asked why a line is
+/// bad. The exit status.
 pub fn obey<R, I, O>(rt: &R, reader: I, writer: O) -> u8
 where
     R: AllocGlobal + Env + Print + Eprint + Threads + Wait + Sync,
@@ -81,8 +82,8 @@ fn words_of<R: Env + AllocGlobal>(rt: &R) -> Result<Vec<String>, Stop> {
     }
 }
 
-// Writes the help, or what is wrong with the words, and answers the status. A help that couldn't be written is a fault, unless nobody
-// reads it any more.
+// Writes the help, or what is wrong with the words, and answers the status. A help that couldn't be written is a fault,
+// unless nobody reads it any more.
 fn tell<R: Print + Eprint>(rt: &R, error: &Error) -> Result<u8, Stop> {
     if error.kind() == ErrorKind::OutOfMemory {
         return Err(Stop::Start(StartFault::OutOfMemory));

@@ -21,8 +21,8 @@ use tg_script::{Collector, Count, OfRead, OfWrite};
 /// How many bytes are read, and how many are written, at once.
 const BLOCK: usize = 65536;
 
-/// A run that is over: its reader with what is left, its writer with what was written, how it ended, and why a line was bad, where that
-/// was asked for.
+/// A run that is over: its reader with what is left, its writer with what was written, how it ended, and why a line was
+/// bad, where that was asked for.
 #[derive(Drop)]
 pub(crate) struct Ended<R: Drop, W: Drop> {
     pub reader: R,

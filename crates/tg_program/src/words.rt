@@ -30,8 +30,9 @@ pub const DEFAULT_VERTICES: u64 = 1_000_000;
 pub const DEFAULT_BLOCKS: u64 = 4096;
 
 /// Reads the words, the first of which is the program's name: the options that they say, and the defaults of those that
-/// they don't. `Ok` only where each number is in its range: workers from 1 to 64, helpers from 1 to 8, vertices from 1 to 2^24,
-/// blocks from 1 to 65,536. An `Err` is the text for the user, of the help and the version as of a fault, or want of memory.
+/// they don't. `Ok` only where each number is in its range: workers from 1 to 64, helpers from 1 to 8, vertices from 1
+/// to 2^24, blocks from 1 to 65,536. An `Err` is the text for the user, of the help and the version as of a fault, or
+/// want of memory.
 pub fn options<'a, S: AsStr>(alloc: Global, words: &'a [S]) -> Result<Options<'a>, Error>
     ensures said { IfOk result (AreSaid (map S.text words.entry.now)) }
     ensures in_range { IfOk result (λ o. AreInRange o.settings) }

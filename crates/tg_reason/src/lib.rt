@@ -63,8 +63,8 @@ const COMMANDS: &[(&str, &[Kind])] = &[
     ("grant", &[Kind::Number, Kind::Number, Kind::Rights]),
 ];
 
-/// Why a bad line of a script is bad, where so many workers are there at first: its bytes without the line feed, and whether one stood behind
-/// them. One sentence without its dot.
+/// Why a bad line of a script is bad, where so many workers are there at first: its bytes without the line feed, and
+/// whether one stood behind them. One sentence without its dot.
 pub fn reason_of(line: &[u8], is_ended: bool, workers: u64) -> &'static str {
     let Ok(text) = str::from_utf8(line) else {
         return NO_TEXT;

@@ -6,11 +6,12 @@
 //! subject reaches any more, which is what a collection of the whole heap frees. With `--steps` it prints a digraph for
 //! each line.
 //!
-//! The words of the command line are `options`' matter, and lines `script`'s; `tg_reason` says why one is bad. `run` runs them, and knows
-//! which edges there are, so that no pair of vertices is asked for its edge in vain; `reach` says what subjects reach. `drawing` writes the
-//! last graph. Of the steps, `shot` says what is shown at one, `marks` what stands out and `look` how that looks, `frame` what all have in
-//! common, `picture` writes one, and `steps` all. What they write is a `draft`, which is printed at once. A line of the grammar has a place
-//! in `run`, where it is taken and followed, and in `named` of `marks`.
+//! The words of the command line are `options`' matter, and lines `script`'s; `tg_reason` says why one is bad. `run`
+//! runs them, and knows which edges there are, so that no pair of vertices is asked for its edge in vain; `reach` says
+//! what subjects reach. `drawing` writes the last graph. Of the steps, `shot` says what is shown at one, `marks` what
+//! stands out and `look` how that looks, `frame` what all have in common, `picture` writes one, and `steps` all. What
+//! they write is a `draft`, which is printed at once. A line of the grammar has a place in `run`, where it is taken and
+//! followed, and in `named` of `marks`.
 #![tactic(auto)]
 
 mod draft;

@@ -4,8 +4,8 @@ use crate::draft::Draft;
 use crate::frame::{Frame, Room};
 use crate::shot::{EdgeView, Shot};
 
-// The width of a letter, the height of a box with two lines and with a note below them, and what stands round a text, in hundredths of an
-// inch.
+// The width of a letter, the height of a box with two lines and with a note below them, and what stands round a text,
+// in hundredths of an inch.
 const LETTER: u64 = 12;
 
 const HEIGHT: u64 = 60;
@@ -81,8 +81,8 @@ fn write_vertex(text: &mut Draft, shot: &Shot, name: u64) {
     }
 }
 
-// The shape and the size of a vertex, which are its own for all steps. All circles have room for so many columns; one with a longer text is an
-// ellipse of their height.
+// The shape and the size of a vertex, which are its own for all steps. All circles have room for so many columns; one
+// with a longer text is an ellipse of their height.
 fn write_room(text: &mut Draft, room: Room, circle: usize) {
     if room.ever_subject {
         let height = if room.is_noted { NOTED_HEIGHT } else { HEIGHT };

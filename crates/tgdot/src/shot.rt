@@ -116,8 +116,8 @@ impl Shot {
         is_left || is_twice || is_no_log
     }
 
-    // What may be noted of a vertex, and whether it is. The border of a subject that retired isn't dotted where no subject reaches it, so a
-    // word says that.
+    // What may be noted of a vertex, and whether it is. The border of a subject that retired isn't dotted where no
+    // subject reaches it, so a word says that.
     fn notes(&self, name: u64) -> [(bool, &'static str); 3] {
         let is_left = self.run.has_retired(name) && !self.run.is_reached(name);
         [

@@ -15,9 +15,10 @@ const MOST_LINES: u64 = 400;
 // The most vertices that are drawn at once, in all steps together.
 const MOST_VERTICES: u64 = 100_000;
 
-/// Writes a digraph for each line in the range, and one before the first of all, which has the number of the last edge line: it is shown
-/// where the range begins at an edge line or at line 1. All have the same vertices and edges, in the same order: so the lines are run
-/// twice, first to learn which there are. Where there is none, the bad line is told that ends the script, or that there are no such lines.
+/// Writes a digraph for each line in the range, and one before the first of all, which has the number of the last edge
+/// line: it is shown where the range begins at an edge line or at line 1. All have the same vertices and edges, in the
+/// same order: so the lines are run twice, first to learn which there are. Where there is none, the bad line is told
+/// that ends the script, or that there are no such lines.
 pub fn write_steps(text: &mut Draft, range: LineRange, script: &Script) -> Result<(), DrawFault> {
     let lines = count(range, script);
     if lines > MOST_LINES {
