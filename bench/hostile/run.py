@@ -3,7 +3,7 @@
 
 Runs the store on scripts of 1 MiB that are made to be slow, one after the other, and prints for each how many lines it has, how
 many bytes are written for it and the processor time of the whole program. No script has a `list`, whose replies may come to
-gigabytes, nor an `inspect` of a long row; but for the one that says so none has a collection. Exit status 1 where a script took over a second, or ended otherwise
+gigabytes, nor an `inspect` of a long row; but for those that say so none has a collection. Exit status 1 where a script took over a second, or ended otherwise
 than it is to. PROGRAM is crates/tgstore/out/tgstore unless it is given; with --only those cases alone whose name has the word. The words behind --
 are handed to the program too, as --race."""
 import collections
@@ -226,6 +226,16 @@ def one_collection_and_old_rows():
     return Case("--workers 1 --stock c100000", creates(size) + ["full"], rest)
 
 
+def minors_of_nothing_by_helpers():
+    """Nothing is young, so there is nothing to share."""
+    return Case("--workers 1 --helpers 8", ["minor"], ["minor"])
+
+
+def minors_beside_old_rows_by_helpers():
+    size = 40_000
+    return Case("--workers 1 --helpers 8 --stock c100000", creates(size) + ["full"], ["minor"])
+
+
 def a_mixture():
     """Commands drawn from all kinds, over 2,000 vertices and names near them."""
     def lines(seed=1):
@@ -249,7 +259,8 @@ CASES = [
     holes_filled_from_the_front, one_hole_at_the_end, one_hole_at_the_front, given_up_and_granted_again, reads_of_logs,
     reads_of_a_long_row, writes_to_logs, writes_of_the_greatest_number, denied_reads, names_never_made,
     appends_to_logs, appends_to_what_is_no_log, inspections_of_a_long_row, names_never_made_in_a_long_row, names_that_collide, unknown_workers, one_vertex_twice, edge_lines_of_one_pair,
-    edge_lines_of_all_pairs, a_bad_line_at_the_end, a_line_without_an_end, one_collection_and_old_rows, a_mixture,
+    edge_lines_of_all_pairs, a_bad_line_at_the_end, a_line_without_an_end, one_collection_and_old_rows,
+    minors_of_nothing_by_helpers, minors_beside_old_rows_by_helpers, a_mixture,
 ]
 
 

@@ -2,6 +2,7 @@
 use Rattle.std.proofs.Common.{◌≡◌, ◌≢◌, ◌⊎◌, ℕ, zero, suc, ◌+◌, ◌-◌, ◌*◌, ◌/◌, ◌<◌, ◌≤◌, ◌==◌, ◌&&◌, ◌||◌, ◌↔◌, List, [], ◌∷◌, ◌++◌, length, get_or, set, take, drop, slice_index, slice_index_or, Bool, true, false, not, cond, if◌then◌else◌, eqb, eqb-true, eq-eqb, ne_eqb, nat_lt, sym, refl, ap, ◌∙◌, subst, inl, inr, ⊎_elim, All, arith}
 use Rattle.std.specs.List.{list_any}
 use Rattle.std.proofs.lemmas.Bool.{cond-true, cond-false, or_cases, or_left, or_right, ltb-false, false≢true, cases_lt}
+use Rattle.std.proofs.lemmas.List.{length-take-le, take-take, take_all}
 use Rattle.std.proofs.lemmas.List.Elements.{All-head, All-tail}
 use mathlib.Core.Option.{some}
 use lib.ListN.{get_elem?}
@@ -12,7 +13,7 @@ use Rattle.tg_race.specs.declared.record.Counts.{Counts}
 use Rattle.tg_race.specs.declared.record.Record.{Record}
 use Rattle.tg_race.specs.Weights.{weigh, one_at}
 use Rattle.tg_race.specs.Words.{weigh_words, IsPair}
-use Rattle.tg_race.specs.Race.{Race, has_number, chunks_of}
+use Rattle.tg_race.specs.Race.{Race, chunk_of, chunks_of, has_number}
 use Rattle.tg_race.specs.Board.{IsClosedTable}
 use Rattle.tg_race.specs.Course.{Net, Course, counts_of, chunk_has, pair_has, is_target, forwarding_word, has_met, IsEarned, HasEarnedWins, KeepsRule, IsCompleteRecord, IsReachedCell, root, next}
 use Rattle.tg_race.proofs.Sums.{any_weighs, weighs_any, one_past, one_here}
@@ -47,26 +48,44 @@ module _ {A : Type 0} where
   within_take (suc n) [] p h = h
   within_take (suc n) (x ∷ l) p h = ⊎_elim (λ e. or_left (p x) (list_any p l) e) (λ e. or_right (p x) (list_any p l) (within_take n l p e)) (or_cases (p x) (list_any p (take n l)) h)
 
-  -- an item of a list stands in one of its chunks of 8
-  in_chunk : (p : A → Bool) (fuel : ℕ) (l : List A) → length l ≤ fuel → list_any p l ≡ true → (c : ℕ) × (8 * c < length l) × (list_any p (take 8 (drop (8 * c) l)) ≡ true)
-  in_chunk p zero [] few h = absurd (false≢true h)
-  in_chunk p zero (x ∷ l) few h = absurd (omega arith)
-  in_chunk p (suc fuel) [] few h = absurd (false≢true h)
-  in_chunk p (suc fuel) (x ∷ l) few h = ⊎_elim (λ e. (0, omega arith, e)) (λ e. later e (in_chunk p fuel (drop 8 (x ∷ l)))) (split 8 (x ∷ l) h)
-    where
-      split : (n : ℕ) (l : List A) → list_any p l ≡ true → (list_any p (take n l) ≡ true) ⊎ (list_any p (drop n l) ≡ true)
-      split zero l h = inr h
-      split (suc n) [] h = inl h
-      split (suc n) (x ∷ l) h = ⊎_elim (λ e. inl (or_left (p x) (list_any p (take n l)) e)) (λ e. ⊎_elim (λ a. inl (or_right (p x) (list_any p (take n l)) a)) (λ b. inr b) (split n l e)) (or_cases (p x) (list_any p l) h)
+  -- a part of a list stands in it from the front or from the end on
+  split : (p : A → Bool) (n : ℕ) (l : List A) → list_any p l ≡ true → (list_any p (take n l) ≡ true) ⊎ (list_any p (drop n l) ≡ true)
+  split p zero l h = inr h
+  split p (suc n) [] h = inl h
+  split p (suc n) (x ∷ l) h =
+      ⊎_elim (λ e. inl (or_left (p x) (list_any p (take n l)) e))
+      (λ e. ⊎_elim (λ a. inl (or_right (p x) (list_any p (take n l)) a)) (λ b. inr b) (split p n l e))
+      (or_cases (p x) (list_any p l) h)
 
-      later : list_any p (drop 8 (x ∷ l)) ≡ true → (length (drop 8 (x ∷ l)) ≤ fuel → list_any p (drop 8 (x ∷ l)) ≡ true → (c : ℕ) × (8 * c < length (drop 8 (x ∷ l))) × (list_any p (take 8 (drop (8 * c) (drop 8 (x ∷ l)))) ≡ true))
-          → (c : ℕ) × (8 * c < length (x ∷ l)) × (list_any p (take 8 (drop (8 * c) (x ∷ l))) ≡ true)
+  -- the chunks of what stands before the first chunk are those behind it
+  chunk_behind : (l : List A) (c : ℕ) → 8 ≤ length l → chunk_of (take (length l - 8) l) c ≡ chunk_of l (c + 1)
+  chunk_behind l c long =
+      let len : length (take (length l - 8) l) ≡ length l - 8 = length-take-le (length l - 8) l (omega arith) in
+      let start : length l - 8 - 8 * (c + 1) ≡ length l - 8 * (c + 1 + 1) = omega arith in
+      let stop : length l - 8 - 8 * c ≡ length l - 8 * (c + 1) = omega arith in
+      ap (λ (n : ℕ). drop (n - 8 * (c + 1)) (take (n - 8 * c) (take (length l - 8) l))) len
+      ∙ (ap (drop (length l - 8 - 8 * (c + 1))) (take-take (length l - 8 - 8 * c) (length l - 8) l (omega arith))
+      ∙ (ap (λ (n : ℕ). drop n (take (length l - 8 - 8 * c) l)) start ∙ ap (λ (n : ℕ). drop (length l - 8 * (c + 1 + 1)) (take n l)) stop))
+
+  -- an item of a list stands in one of its chunks
+  in_chunk : (p : A → Bool) (fuel : ℕ) (l : List A) → length l ≤ fuel → list_any p l ≡ true → (c : ℕ) × (8 * c < length l) × (list_any p (chunk_of l c) ≡ true)
+  in_chunk p fuel [] few h = absurd (false≢true h)
+  in_chunk p zero (x ∷ l) few h = absurd (omega arith)
+  in_chunk p (suc fuel) (x ∷ l) few h = ⊎_elim (λ e. later e (in_chunk p fuel (take (length (x ∷ l) - 8) (x ∷ l)))) first (split p (length (x ∷ l) - 8) (x ∷ l) h)
+    where
+      first : list_any p (drop (length (x ∷ l) - 8) (x ∷ l)) ≡ true → (c : ℕ) × (8 * c < length (x ∷ l)) × (list_any p (chunk_of (x ∷ l) c) ≡ true)
+      first e =
+          let whole : take (length (x ∷ l) - 8 * 0) (x ∷ l) ≡ x ∷ l = take_all (length (x ∷ l) - 8 * 0) (x ∷ l) (omega arith) in
+          (0, omega arith, subst (λ (m : List A). list_any p (drop (length (x ∷ l) - 8) m) ≡ true) (sym whole) e)
+
+      later : list_any p (take (length (x ∷ l) - 8) (x ∷ l)) ≡ true
+          → (length (take (length (x ∷ l) - 8) (x ∷ l)) ≤ fuel → list_any p (take (length (x ∷ l) - 8) (x ∷ l)) ≡ true → (c : ℕ) × (8 * c < length (take (length (x ∷ l) - 8) (x ∷ l))) × (list_any p (chunk_of (take (length (x ∷ l) - 8) (x ∷ l)) c) ≡ true))
+          → (c : ℕ) × (8 * c < length (x ∷ l)) × (list_any p (chunk_of (x ∷ l) c) ≡ true)
       later e rest =
-          let len = Rattle.std.proofs.Common.length-drop 8 (x ∷ l) in
+          let len : length (take (length (x ∷ l) - 8) (x ∷ l)) ≡ length (x ∷ l) - 8 = length-take-le (length (x ∷ l) - 8) (x ∷ l) (omega arith) in
           let r = rest (omega arith) e in
           let c : ℕ = r.0 in
-          let same : drop (8 * c) (drop 8 (x ∷ l)) ≡ drop (8 * (c + 1)) (x ∷ l) = Rattle.std.proofs.Common.drop-drop (8 * c) 8 (x ∷ l) ∙ ap (λ (n : ℕ). drop n (x ∷ l)) (let e : 8 + 8 * c ≡ 8 * (c + 1) = omega arith in e) in
-          (c + 1, omega (arith, r.1), subst (λ (m : List A). list_any p (take 8 m) ≡ true) same r.2)
+          (c + 1, omega (arith, r.1), subst (λ (m : List A). list_any p m ≡ true) (chunk_behind (x ∷ l) c (omega (arith, r.1))) r.2)
 
 -- a word of a cell, as a weight
 
@@ -107,7 +126,8 @@ any_pair f (x ∷ l) h =
 target_reached : (net : Net) (cs : List ℕ) (won : List (ℕ × Place)) (cell : ℕ) → AllReached net won → is_target net cs won cell ≡ true → IsReachedCell net cell
 target_reached net cs won cell all h =
     ⊎_elim (λ a. let c = any_some (chunk_has net cell) cs a in
-    root cell (within_drop (8 * c.0) net.roots (has_number cell) (within_take 8 (drop (8 * c.0) net.roots) (has_number cell) c.1)))
+    let last : ℕ = length net.roots - 8 * c.0 in
+    root cell (within_take last net.roots (has_number cell) (within_drop (length net.roots - 8 * (c.0 + 1)) (take last net.roots) (has_number cell) c.1)))
     (λ b. let q = any_pair (pair_has net cell) won b in next q.0.0 cell (all q.0.0 q.2) q.1)
     (or_cases (list_any (chunk_has net cell) cs) (list_any (pair_has net cell) won) h)
 

@@ -9,7 +9,7 @@ use Rattle.tg_race.specs.declared.shape.Shape.{Shape}
 use Rattle.tg_race.specs.declared.event.Event.{Event}
 use Rattle.tg_race.specs.declared.event.Event.TheVariants.{Claim, Look, Win, Lose, Block, Part, Meet}
 use Rattle.tg_race.specs.Words.{word_of, place_of}
-use Rattle.tg_race.specs.Race.{Race, Rule, EachRecord, empty, has_number, past, with_chunk, with_seen, with_won, with_claimed_block, both, less_one}
+use Rattle.tg_race.specs.Race.{Race, Rule, EachRecord, empty, chunk_of, has_number, past, with_chunk, with_seen, with_won, with_claimed_block, both, less_one}
 use Rattle.tg_race.specs.Conditions.{can_claim_roots, can_claim_block, blocks_of, can_use, can_part}
 
 -- the targets of each root and of each cell, Old's first block number, the limit of blocks and the number of helpers
@@ -32,7 +32,7 @@ pub record Course : Type 0 where
 
 -- whether the cell is a target of a root of the chunk
 abbrev pub chunk_has : Net → ℕ → ℕ → Bool
-chunk_has net cell c = list_any (has_number cell) (take 8 (drop (8 * c) net.roots))
+chunk_has net cell c = list_any (has_number cell) (chunk_of net.roots c)
 
 -- whether the cell is a target of the cell of the pair
 abbrev pub pair_has : Net → ℕ → ℕ × Place → Bool

@@ -1,5 +1,5 @@
 -- What the helpers of one collection share, what each has done, and the rule between the two.
-use Rattle.std.specs.Prelude.{◌≡◌, ◌≢◌, ◌↔◌, ◌<◌, ℕ, ◌+◌, ◌-◌, ◌/◌, ◌≤◌, ◌==◌, Bool, true, false, List, [], ◌∷◌, ◌++◌, length, if◌then◌else◌, nat_lt, All, IsTrue, ◌⊎◌}
+use Rattle.std.specs.Prelude.{◌≡◌, ◌≢◌, ◌↔◌, ◌<◌, ℕ, ◌+◌, ◌-◌, ◌/◌, ◌*◌, ◌≤◌, ◌==◌, Bool, true, false, List, [], ◌∷◌, ◌++◌, length, take, drop, if◌then◌else◌, nat_lt, All, IsTrue, ◌⊎◌}
 use Rattle.std.specs.List.{list_any, AllPairs, Contains}
 use mathlib.Core.Option.{some}
 use lib.ListN.{get_elem?}
@@ -24,7 +24,11 @@ empty share = record { chunks = []; won = []; seen = []; aged_blocks = []; old_b
 
 -- ---- words of the rule
 
--- a chunk is 8 roots, and the last may be shorter
+-- what stands in a chunk, which is an eight of the list counted from the end, so that the last chunk may be shorter
+abbrev pub chunk_of : {A : Type 0} → List A → ℕ → List A
+chunk_of l c = drop (length l - 8 * (c + 1)) (take (length l - 8 * c) l)
+
+-- how many chunks the roots have
 abbrev pub chunks_of : Counts → ℕ
 chunks_of k = (k.roots + 7) / 8
 

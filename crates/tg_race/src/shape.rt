@@ -42,11 +42,9 @@ impl Shape {
         if chunk >= (roots.len() as u64 + 7) / 8 {
             return false;
         }
-        let rest = &roots[chunk as usize * 8..];
-        if rest.len() < 8 {
-            return any_has(rest, cell);
-        }
-        any_has(&rest[..8], cell)
+        let last = roots.len() - chunk as usize * 8;
+        let first = last.saturating_sub(8);
+        any_has(&roots[first..last], cell)
     }
 
     fn some_chunk_has(&self, chunks: &LinkedList<u64>, cell: u64) -> bool

@@ -47,7 +47,7 @@ pub(crate) fn read_edges<S: Source, K: Sink>(
     Ok(Front { edges, first: None })
 }
 
-/// Opens the store with the workers, the edges between them and their payloads. Refused for a number of vertices that
+/// Opens the store with the workers, the edges between them and their payloads, and these limits. Refused for a number of vertices that
 /// is out of its range, or else for want of memory, or of a block for each worker where the heap may have fewer.
 pub fn open_store<P: Payload>(
     alloc: Global,
@@ -60,7 +60,8 @@ pub fn open_store<P: Payload>(
     requires workers { (1 ≤ workers) × (workers ≤ 64) }
     requires edges { All (JoinsWorkers workers) edges.items }
     requires drafts { length drafts.items ≡ workers }
-    ensures { let plan : Plan = record { workers = workers; edges = edges.items; values = drafts.items; limit = max_vertices } in OpensStore plan limits.max_blocks result }
+    ensures opened { let plan : Plan = record { workers = workers; edges = edges.items; values = drafts.items; limit = max_vertices } in OpensStore plan limits.max_blocks result }
+    ensures limits { IfOk result (λ store. store.heap.table.limits ≡ limits) }
 {
     if max_vertices < 1 || MAX_VERTICES < max_vertices || max_vertices < workers {
         return Err(ScriptFault::BadLimits);

@@ -1,12 +1,12 @@
 //! The run of a whole script.
-ghost use Rattle.std.specs.Prelude.{◌≡◌, ◌+◌, ◌≤◌, ℕ, List, [], Some, Err, true, false, IfErr};
+ghost use Rattle.std.specs.Prelude.{◌≡◌, ◌≢◌, ◌+◌, ◌≤◌, ℕ, List, [], Some, Err, true, false, IfErr};
 ghost use Rattle.std.specs.List.{All};
 ghost use Rattle.tg_model.specs.Opened.{Plan, JoinsWorkers};
 ghost use Rattle.tg_script.specs.Counting.{MayCountInMemory};
 ghost use Rattle.tg_script.specs.Lines.{CountsFailures, IsOfReading, read_failures, write_failures};
 ghost use Rattle.tg_script.specs.Opening.{IsAnswerable};
 ghost use Rattle.tg_script.specs.Run.{OpensRun, Shows};
-ghost use Rattle.tg_script.specs.Running.{Finishes, FinishesSink, Ran, RunsFrom, RunsLine, TellsAll};
+ghost use Rattle.tg_script.specs.Running.{Finishes, FinishesSink, IsDue, Ran, RunsFrom, RunsLine, TellsAll};
 ghost use Rattle.tg_script.specs.Script.{MayRun, MayStart, Scene, start_with};
 
 use crate::collector::{Collector, OneThread};
@@ -90,7 +90,7 @@ pub struct InMemory {
     pub outcome: Result<(), ScriptFault>,
 }
 
-/// Runs a script that lies in memory, as [`run_script_with`] does, and keeps what is written in memory.
+/// Runs a script that lies in memory, as [`run_script_with`] does, and keeps what is written in memory. Reading never fails.
 pub fn run_in_memory<P: Payload, C: Collector>(
     alloc: Global,
     collector: &C,
@@ -100,7 +100,9 @@ pub fn run_in_memory<P: Payload, C: Collector>(
     stock: Vec<Draft<P>>,
 ) -> InMemory
     requires runnable { MayRun C.Ready settings workers.items }
-    ensures { (left : List ℕ) × Ran (start_with settings workers.items stock.items) script.now [] result.outcome left (Some result.written.items) }
+    ensures ran { (left : List ℕ) × Ran (start_with settings workers.items stock.items) script.now [] result.outcome left (Some result.written.items) }
+    ensures due { IfErr result.outcome (IsDue (start_with settings workers.items stock.items)) }
+    ensures read { result.outcome ≢ Err ScriptFault.ReadFailed }
 {
     let (asked, failures) = (Blank::new(1), Blank::new(1));
     run_counted::<P, C, Brand, Brand>(
@@ -121,7 +123,9 @@ fn run_counted<P: Payload, C: Collector, A: Ledger, F: Ledger>(
 ) -> InMemory
     requires runnable { MayRun C.Ready settings workers.items }
     requires countable { MayCountInMemory A.name A.parts F.name F.parts asked failures }
-    ensures { (left : List ℕ) × Ran (start_with settings workers.items stock.items) script.now [] result.outcome left (Some result.written.items) }
+    ensures ran { (left : List ℕ) × Ran (start_with settings workers.items stock.items) script.now [] result.outcome left (Some result.written.items) }
+    ensures due { IfErr result.outcome (IsDue (start_with settings workers.items stock.items)) }
+    ensures read { result.outcome ≢ Err ScriptFault.ReadFailed }
 {
     let mut source = Bytes::new(script, Count::<A>::new(asked));
     let mut sink = Written::new(alloc, Count::<F>::new(failures));

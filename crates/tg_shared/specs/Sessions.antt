@@ -122,8 +122,8 @@ pub record Records (old new : StoreState) (before after : SessionState) (deed : 
 abbrev pub RecordsNothing : StoreState → StoreState → SessionState → SessionState → Type 0
 RecordsNothing old new before after = IsUnchanged old new × KeepsReceipts before after
 
--- When a session's deed makes no vertex, of a store that may have been behind the lock. Only where as many vertices were made as may be
--- is a receipt added, and the draft is handed back.
+-- When a session's deed makes no vertex, of a store that may have been behind the lock, and the draft is handed back. Where as many
+-- vertices were made as may be a receipt is added; a spawn's clauses tell of one where as many are subjects as may be.
 pub record MayRefuseAtSome {P T : Type 0} (start : SharedStart) (deed : Deed) (value : Value) (old new : SessionState) (result : Result T (CreateRefused P)) : Type 0 where
   pub full : IfErr result (λ refused. refused.why ≡ fault.VerticesFull → IsAnswered start old new deed VerticesFull)
   pub no_such_worker : IfErr result (λ refused. refused.why ≡ fault.NoSuchWorker → AtSome start (λ s. ¬ IsSubject (graph_of_store s) old.worker))

@@ -1,5 +1,5 @@
 -- The cells of a heap as lists: a list of spaces, each a list of blocks, each a list of cells, each a list of words.
-use Rattle.std.specs.Prelude.{◌≡◌, ℕ, ◌+◌, ◌*◌, ◌^◌, ◌<◌, ◌≤◌, List, [], ◌∷◌, ◌++◌, length, take, slice_index_or, slice_set}
+use Rattle.std.specs.Prelude.{◌≡◌, ℕ, ◌+◌, ◌*◌, ◌<◌, ◌≤◌, List, [], ◌∷◌, ◌++◌, length, take, slice_index_or, slice_set}
 use Rattle.std.specs.List.{All, flat_map, sum_by}
 use Rattle.tg_word.specs.declared.Place.{Place}
 use Rattle.tg_word.specs.declared.TheConstants.{SPACES, CELLS, MOST_SPACE_BLOCKS}
