@@ -1,5 +1,5 @@
 -- What one helper of a collection has done, and what it hands over; and the same of several that became one.
-use Rattle.std.specs.Prelude.{◌+◌, ◌-◌, ◌≡◌, ◌≢◌, ◌⊎◌, ℕ, ◌*◌, ◌<◌, ◌≤◌, true, List, ◌++◌, length, map, take, drop}
+use Rattle.std.specs.Prelude.{◌+◌, ◌≡◌, ◌≢◌, ◌⊎◌, ℕ, ◌*◌, ◌<◌, ◌≤◌, true, List, ◌++◌, length, map}
 use Rattle.std.specs.List.{All, Contains, flat_map}
 use Rattle.tg_word.specs.declared.TheConstants.{CELLS}
 use Rattle.tg_word.specs.declared.Place.{Place}
@@ -14,7 +14,7 @@ use Rattle.tg_space.specs.declared.root.Root.{Root}
 use Rattle.tg_race.specs.declared.record.Counts.{Counts}
 use Rattle.tg_race.specs.declared.record.Record.{Record}
 use Rattle.tg_race.specs.Weights.{weigh, one_at}
-use Rattle.tg_race.specs.Race.{owns}
+use Rattle.tg_race.specs.Race.{chunk_of, owns}
 use Rattle.tg_evac.specs.Win.{Win}
 use Rattle.tg_evac.specs.Claims.{AreTraced}
 use Rattle.tg_evac.specs.Claimers.{image_at}
@@ -45,9 +45,9 @@ wins_of pairs = map win_of pairs
 abbrev pub note_of : ℕ × Place → ℕ
 note_of q = 2 * q.0 + q.1.space
 
--- the roots of a chunk, which is an eight of them counted from the end; and those of all chunks that a record has claimed
+-- the roots of a chunk, as the race has it; and those of all chunks that a record has claimed
 abbrev pub roots_of_chunk : List Root → ℕ → List Root
-roots_of_chunk roots c = drop (length roots - 8 * (c + 1)) (take (length roots - 8 * c) roots)
+roots_of_chunk roots c = chunk_of roots c
 
 abbrev pub roots_in : List Root → List ℕ → List Root
 roots_in roots chunks = flat_map (roots_of_chunk roots) chunks

@@ -3,7 +3,7 @@ ghost use Rattle.std.specs.Prelude.{ℕ, List, ◌+◌, ◌++◌, ◌<◌, ◌�
 ghost use Rattle.std.specs.List.{Contains};
 ghost use Rattle.tg_word.specs.declared.TheConstants.{MOST_SPACE_BLOCKS};
 ghost use Rattle.tg_word.specs.declared.Place.{Place};
-ghost use Rattle.tg_space.specs.Collection.{AreFewBlocks, IsCollection, copies_in, used_cells};
+ghost use Rattle.tg_space.specs.Collection.{AreFewBlocks, IsCollection, MayLackRoom, copies_in, used_cells};
 ghost use Rattle.tg_space.specs.Generations.{NamesYoung};
 ghost use Rattle.tg_space.specs.Soundness.{AreSound};
 ghost use Rattle.tg_space.specs.SpaceList.{BlockList, SpaceList};
@@ -48,4 +48,9 @@ pub fn helpers_copy_cells_in_use()
 /// with the words of the closed table. The notes are those of the remembered roots, and of the new blocks of Old.
 pub fn what_helpers_made_is_a_collection()
     ensures { (kind : Kind) (t : SpaceTable) (roots : List Root) (k : Counts) (words : List ℕ) (done : Record) (aged old : Numbered) → IsSpaceTable t → t.limits.space_blocks ≤ MOST_SPACE_BLOCKS → IsWholePart kind t roots k words done aged old → (aged_blocks old_blocks : BlockList) → AreMerged kind (kept_blocks kind t.spaces) aged old aged_blocks old_blocks → (notes : List Place) → ((p : Place) → Contains notes p ↔ ((Contains roots (Remembered p) × NamesYoung (moved_cell kind t.spaces words p)) ⊎ (IsPlaceIn 0 (kept_blocks kind t.spaces) old_blocks p × NamesYoung (new_cell (kept_blocks kind t.spaces) old_blocks p)))) → IsCollection kind t.spaces roots words aged_blocks old_blocks notes }
+{}
+
+/// A reached cell is a cell in use: so where a collection may lack room for what is reached, it may for the cells in use.
+pub fn lack_of_room_is_of_cells_in_use()
+    ensures { (kind : Kind) (t : SpaceTable) (roots : List Root) (space_blocks helpers kept : ℕ) → IsSpaceTable t → AreSound t.spaces roots → LacksRoomFor space_blocks helpers kept (IsReachedFrom kind t.spaces roots) → MayLackRoom space_blocks helpers kept (used_cells kind t.spaces) }
 {}

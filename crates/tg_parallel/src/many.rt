@@ -81,7 +81,8 @@ fn collect_alone<G: Gate>(
 }
 
 /// Copies what the roots reach into new blocks, by as many helpers as are wanted: one on the calling thread, and each other
-/// on a thread of its own. All others are started before the one here begins.
+/// on a thread of its own. All others are started before the one here begins. Where no cell may move there is nothing to
+/// share: then it is done on the calling thread alone.
 ///
 /// What they leave is a collection as that of `tg_evac::collect_one`, but that each space may have as many blocks more than
 /// its copies need as there are helpers. `HeapFull` is answered only where the cells that the roots reach may not fit into
@@ -106,11 +107,11 @@ pub fn collect_many<R: Threads + Wait + Sync, G: Gate>(
     ensures collects { Collects HelpersFault.HeapFull kind spaces.now roots.now helpers helpers result }
     ensures alone { helpers ≡ 1 → IfErr result (λ fault. fault ≢ HelpersFault.NoThread) }
 {
-    if helpers == 1 {
-        return Ok(collect_alone(alloc, spaces, roots, kind, gate, spare)?);
-    }
     let cells = spaces.cells();
     let plan = Plan::of(kind, spaces);
+    if helpers == 1 || cells == CELLS * plan.kept {
+        return Ok(collect_alone(alloc, spaces, roots, kind, gate, spare)?);
+    }
     let Spare { blocks, words } = spare;
     let Opened {
         table,
