@@ -72,7 +72,7 @@ impl NumberSet {
 
     /// Takes a number out of the set. Takes no memory.
     pub fn remove(&mut self, number: usize)
-        requires { number < 64 * length self.old }
+        requires { bit_of self.old number ≡ 1 }
         ensures { SetsBit self.old self.new number 0 }
     {
         self.bits.remove(number);

@@ -37,7 +37,7 @@ returns-clause-indexed c =
     let next = c.reserve.new.self in
     let written = updates-with_value_at c.self.inside.indexes c.args.at next nat_eq_equiv c.get_index_mut.ensures.unique c.args.name was.row was.here in
     λ h places indexed.
-    indexes_replaced es (set_value_at es c.args.at next) c.args.name c.in-Some.row.now next (row_there es c.args.name c.args.at was c.in-Some.row.now c.in-Some.ensures.value) written.0 c.reserve.ensures.kept.kept c.reserve.ensures.kept.quiet h places
+    indexes_replaced es (set_value_at es c.args.at next) c.args.name c.in-Some.row.now next (row_there es c.args.name c.args.at was c.in-Some.row.now c.in-Some.ensures.value) written.0 c.reserve.ensures.kept.kept c.reserve.ensures.kept.marked h places
     (subst (λ (s : Indexes). AreIndexed h places s.entries) (sym c.self.view_is) indexed)
 
 pub returns-clause-names : goal.returns-clause-names
