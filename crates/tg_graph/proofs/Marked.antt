@@ -126,6 +126,27 @@ marked_noted places note row later aged cells old more noted is = record {
         (λ same_cell. at n low (get_or_default row.cells.items n cell d (omega arith) ∙ same_cell))
         ((Contains-noted places cell (get_or row.cells.items n d)).0 has)
 
+-- it is the cell with this number, which is marked now
+pub marked_set : (places : List Place) (note : Option Place) (row later : IndexedRow) (number : ℕ) → later.cells.items ≡ row.cells.items → later.old_cells ≡ row.old_cells → SetsBit row.noted later.noted number 1 → number < row.old_cells →
+    IfSome note (λ cell. (n : ℕ) → n < length row.cells.items → get_or row.cells.items n cell ≡ cell → n ≡ number) → IsMarked places row → IsMarked (with_note places note) later
+marked_set places note row later number cells old sets low at is =
+    marked_noted places note row later (aged_set row later number cells old sets low is.aged) cells old more (by_note note at) is
+  where
+    more : (n : ℕ) → bit_of row.noted n ≡ 1 → bit_of later.noted n ≡ 1
+    more n here = ⊎_elim (λ (same : n ≡ number). ap (λ k. bit_of later.noted k) same ∙ sets.here) (λ other. sets.others n other ∙ here) (cases_eq n number)
+
+    by_note : (o : Option Place) → IfSome o (λ cell. (n : ℕ) → n < length row.cells.items → get_or row.cells.items n cell ≡ cell → n ≡ number) → IfSome o (λ cell. (n : ℕ) → n < row.old_cells → get_or row.cells.items n cell ≡ cell → bit_of later.noted n ≡ 1)
+    by_note None _ = tt
+    by_note (Some cell) is_at = λ n below there. let within = is.aged.within in ap (λ k. bit_of later.noted k) (is_at n (omega arith) there) ∙ sets.here
+
+-- it isn't among those that are known to lie in Old
+pub marked_apart : (places : List Place) (note : Option Place) (row : IndexedRow) (number : ℕ) → row.old_cells ≤ number → IfSome note (λ cell. (n : ℕ) → n < length row.cells.items → get_or row.cells.items n cell ≡ cell → n ≡ number) → IsMarked places row → IsMarked (with_note places note) row
+marked_apart places note row number past at is = marked_noted places note row row is.aged refl refl (λ n here. here) (by_note note at) is
+  where
+    by_note : (o : Option Place) → IfSome o (λ cell. (n : ℕ) → n < length row.cells.items → get_or row.cells.items n cell ≡ cell → n ≡ number) → IfSome o (λ cell. (n : ℕ) → n < row.old_cells → get_or row.cells.items n cell ≡ cell → bit_of row.noted n ≡ 1)
+    by_note None _ = tt
+    by_note (Some cell) is_at = λ n below there. let within = is.aged.within in let same = is_at n (omega arith) there in absurd (omega (arith, same, below, past))
+
 -- the cells that are known to lie in Old stay where they are
 pub marked_moved : (kind : Kind) (starts : List ℕ) (to : ℕ → Place) (notes : List Place) (row later : IndexedRow) → IsMarked notes row → (kind ≡ FullKind → row.old_cells ≡ 0) → later.cells.items ≡ map (followed_place (from_space kind) starts to) row.cells.items → later.old_cells ≡ row.old_cells → later.noted ≡ row.noted → IsMarked notes later
 marked_moved kind starts to notes row later is full moved old marks = record {

@@ -1,10 +1,10 @@
 -- The roots of a nursery collection: the young cells that rows in Old name, in the place of the rows.
-use Rattle.std.proofs.Common.{◌≡◌, ◌≢◌, ◌↔◌, ℕ, zero, suc, ◌+◌, ◌-◌, ◌<◌, ◌≤◌, ◌⊎◌, inl, inr, ◌++◌, ◌==◌, not, Bool, true, false, cond, List, [], ◌∷◌, length, get_or, map, take, drop, append_assoc, refl, sym, ap, subst, arith, ◌∙◌, ⊎_elim}
+use Rattle.std.proofs.Common.{◌≡◌, ◌≢◌, ◌↔◌, ℕ, zero, suc, ◌+◌, ◌-◌, ◌<◌, ◌≤◌, ◌⊎◌, inl, inr, ◌++◌, ◌==◌, not, Bool, true, false, cond, List, [], ◌∷◌, length, get_or, map, take, drop, append_assoc, length-drop, refl, sym, ap, subst, arith, ◌∙◌, ⊎_elim}
 use Rattle.std.specs.List.{All, Contains, flat_map, take_while}
 use Rattle.std.proofs.lemmas.Bool.{cases_eq, false≢true, ne_eqb}
 use Rattle.std.proofs.lemmas.Bool.Decides.{nat_tests}
 use Rattle.std.proofs.lemmas.Grind.{flat_map-append}
-use Rattle.std.proofs.lemmas.List.{append-nil, drop_all, drop_more, get_or-take, length-take-le, map-append, take_more}
+use Rattle.std.proofs.lemmas.List.{append-nil, drop_all, drop_more, get_or-take, length-take-le, map-append, take_all, take_more}
 use Rattle.std.proofs.lemmas.List.Elements.{All-nil, All-cons, All-append, All-contains, All-map, All-weaker, Contains-append_cases, Contains-append_left, Contains-append_right}
 use Rattle.std.proofs.lemmas.List.Sums.{take_while-cons}
 use Rattle.tg_model.specs.Walks.{Walk-map}
@@ -31,6 +31,7 @@ use Rattle.tg_graph.specs.declared.index.IndexedRow.{IndexedRow}
 use Rattle.tg_graph.proofs.Chains.{chain_chunks, chain_enough, chain_short, row_held}
 use Rattle.tg_graph.proofs.KeptAdopted.{old_stays}
 use Rattle.tg_graph.proofs.KeptHeap.{remembered_cells, remembered_root}
+use Rattle.tg_graph.proofs.Places.{layout_at}
 use Rattle.tg_graph.proofs.Members.{Contains-flat_map, Contains-from_flat_map, Contains-from_map, Contains-here, Contains-map, Contains-more}
 
 -- where a list that is too short would be read
@@ -190,27 +191,27 @@ word_silent h word stays = by_test (word == 0)
     by_test true = refl
     by_test false = rw stays refl
 
+-- what a word names came to the roots
+pub word_named : (h : SpaceList) (word : ℕ) → young_spaces (place_in word).space ≡ true → NamesRow h word → (roots later : List Root) → later ≡ roots ++ Row (place_in word) ∷ [] → AddsRoots h (target_in young_spaces h word) roots later
+word_named h word moves names roots later is =
+    subst (λ (ts : List ℕ). AddsRoots h ts roots later) (sym (word_added h word moves)) (row_added h roots later (place_in word) (names (λ none. false≢true (sym (ap young_spaces none) ∙ moves))) is)
+
+pub word_passed : (h : SpaceList) (word : ℕ) → young_spaces (place_in word).space ≡ false → (roots : List Root) → AddsRoots h (target_in young_spaces h word) roots roots
+word_passed h word stays roots = subst (λ (ts : List ℕ). AddsRoots h ts roots roots) (sym (word_silent h word stays)) (none_added h roots)
+
 -- one more word
-named_more : (h : SpaceList) (words : List ℕ) (i d : ℕ) → i < length words → named_by young_spaces h (take (i + 1) words) ≡ named_by young_spaces h (take i words) ++ target_in young_spaces h (get_or words i d)
-named_more h words i d low =
-    ap (named_by young_spaces h) (take_more words i d low)
+pub words_more : (h : SpaceList) (words : List ℕ) (i d : ℕ) → i < length words → (roots mid later : List Root) → AddsRoots h (named_by young_spaces h (take i words)) roots mid → AddsRoots h (target_in young_spaces h (get_or words i d)) mid later →
+    AddsRoots h (named_by young_spaces h (take (i + 1) words)) roots later
+words_more h words i d low roots mid later before here =
+    subst (λ (ts : List ℕ). AddsRoots h ts roots later)
+    (sym (ap (named_by young_spaces h) (take_more words i d low)
     ∙ flat_map-append (target_in young_spaces h) (take i words) (get_or words i d ∷ [])
-    ∙ ap (λ (ts : List ℕ). named_by young_spaces h (take i words) ++ ts) (append-nil (target_in young_spaces h (get_or words i d)))
+    ∙ ap (λ (ts : List ℕ). named_by young_spaces h (take i words) ++ ts) (append-nil (target_in young_spaces h (get_or words i d)))))
+    (both_added h (named_by young_spaces h (take i words)) (target_in young_spaces h (get_or words i d)) roots mid later before here)
 
--- it names a young cell, which came to the roots
-pub young_word : (h : SpaceList) (words : List ℕ) (i d : ℕ) → i < length words → young_spaces (place_in (get_or words i d)).space ≡ true → All (NamesRow h) words → (roots mid later : List Root) → later ≡ mid ++ Row (place_in (get_or words i d)) ∷ [] →
-    AddsRoots h (named_by young_spaces h (take i words)) roots mid → AddsRoots h (named_by young_spaces h (take (i + 1) words)) roots later
-young_word h words i d low moves rows roots mid later is added =
-    let word = get_or words i d in
-    let young : (place_in word).space ≢ 0 = λ none. false≢true (sym (ap young_spaces none) ∙ moves) in
-    subst (λ (ts : List ℕ). AddsRoots h ts roots later) (sym (named_more h words i d low ∙ ap (λ (ts : List ℕ). named_by young_spaces h (take i words) ++ ts) (word_added h word moves)))
-    (both_added h (named_by young_spaces h (take i words)) (targets h (place_in word)) roots mid later added (row_added h mid later (place_in word) (rows i d low young) is))
-
--- it names none
-pub old_word : (h : SpaceList) (words : List ℕ) (i d : ℕ) → i < length words → young_spaces (place_in (get_or words i d)).space ≡ false → (roots mid : List Root) → AddsRoots h (named_by young_spaces h (take i words)) roots mid → AddsRoots h (named_by young_spaces h (take (i + 1) words)) roots mid
-old_word h words i d low stays roots mid added =
-    subst (λ (ts : List ℕ). AddsRoots h ts roots mid)
-    (sym (named_more h words i d low ∙ ap (λ (ts : List ℕ). named_by young_spaces h (take i words) ++ ts) (word_silent h (get_or words i d) stays) ∙ append-nil (named_by young_spaces h (take i words)))) added
+-- the words from one on
+pub rest_taken : (words : List ℕ) (n k : ℕ) → length words ≤ n + k → take k (drop n words) ≡ drop n words
+rest_taken words n k low = take_all k (drop n words) (omega (arith, length-drop n words))
 
 -- references name objects and links chunks
 names_row : (h : SpaceList) (word : ℕ) → IsReference h word ⊎ IsLink h word → NamesRow h word
@@ -269,6 +270,9 @@ module _ (s : HeapState) (formed : IsWellFormed s) (is : IsSpaceList s.table.spa
   -- a cell of the row by its number
   pub cell_held : (k : ℕ) (d : Place) → k < length row.cells.items → Holds h (get_or row.cells.items k d)
   cell_held k d low = subst (λ (ps : List Place). Holds h (get_or ps k d)) (sym row_cells) (held k d (subst (λ (ps : List Place). k < length ps) row_cells low))
+
+  pub cell_layout : (k : ℕ) (d : Place) → k < length row.cells.items → HasLayout h (cell_at h (get_or row.cells.items k d))
+  cell_layout k d low = layout_at h is [] formed.graph.sound (get_or row.cells.items k d) (cell_held k d low)
 
   pub cell_root : (k : ℕ) (d : Place) → k < length row.cells.items → IsRootIn h (Row (get_or row.cells.items k d))
   cell_root k d low = subst (λ (ps : List Place). IsRootIn h (Row (get_or ps k d))) (sym row_cells) (kind k d (subst (λ (ps : List Place). k < length ps) row_cells low))

@@ -1,9 +1,10 @@
 //! What a collection does to the indexes of rows. The blocks of from-space may be gone by then: cells are told by their numbers.
-ghost use Rattle.std.specs.Prelude.{◌≡◌, ◌≢◌, ◌≤◌, ◌<◌, ◌+◌, ◌^◌, ℕ, List, Some, length, map, nat_eq, slice_get, take};
+ghost use Rattle.std.specs.Prelude.{◌≡◌, ◌≢◌, ◌≤◌, ◌<◌, ◌+◌, ◌^◌, ℕ, List, Some, length, map, nat_eq, slice_get, take, OnOk};
 ghost use Rattle.std.specs.List.{All};
 ghost use Rattle.std.specs.Map.{lookup};
 ghost use Rattle.indexmap.specs.IndexMap.{index_map_len, values};
 ghost use Rattle.indexmap.specs.Layout.{set_value_at};
+ghost use Rattle.tg_index.specs.Bits.{bit_of};
 ghost use Rattle.tg_space.specs.SpaceList.{cells_of};
 ghost use Rattle.tg_space.specs.SpaceTable.{IsSpaceTable};
 ghost use Rattle.tg_space.specs.Collection.{new_place};
@@ -17,6 +18,7 @@ use crate::index::IndexedRow;
 use crate::long_rows::LongRows;
 use crate::row_cells::RowCells;
 use indexmap::IndexMap;
+use std::alloc::AllocError;
 use tg_remember::Remembered;
 use tg_space::{Forwarding, Kind, Spaces};
 use tg_word::{CELLS, SPACES, number_of, nursery_space, place_of};
@@ -201,9 +203,7 @@ fn follow_row(
     if kind.moves(place_of(object).space) && forward.word(numbering.number(object)) == 0 {
         return Fate::Gone;
     }
-    if let Kind::Full = kind {
-        forget_all(row);
-    }
+    forget_moved(kind, row);
     let old = follow_cells(numbering, kind, forward, &mut row.cells, row.old_cells);
     note_cells(noted, row, old);
     if row.old_cells < row.cells.len() || row.noted.next(0).is_some() {
@@ -212,16 +212,20 @@ fn follow_row(
     Fate::Old
 }
 
-// No cell is known to be in Old.
-fn forget_all(row: &mut IndexedRow)
+// What is known of cells that a collection of this kind moves is known no more: a full one moves all.
+fn forget_moved(kind: Kind, row: &mut IndexedRow)
     ensures names { row.new.names ≡ row.old.names }
     ensures cells { row.new.cells ≡ row.old.cells }
-    ensures none { row.new.old_cells ≡ 0 }
-    ensures aged { IsAged row.new }
-    ensures marked { (places : List PlaceOf) → IsMarked places row.new }
+    ensures full { kind ≡ Kind.Full → row.new.old_cells ≡ 0 }
+    ensures marked { (places : List PlaceOf) → IsMarked (known_notes kind places) row.old → IsMarked places row.new }
 {
-    row.noted.clear();
-    row.old_cells = 0;
+    match kind {
+        Kind::Full => {
+            row.noted.clear();
+            row.old_cells = 0;
+        }
+        Kind::Nursery => {}
+    }
 }
 
 // Follows the cells behind the first ones, which stay where they are. The answer is how many of the first lie in Old now.
@@ -274,14 +278,12 @@ fn count_old(words: &[u64]) -> usize
 
 // As many first cells of a row lie in Old. Those that are noted are marked, and no other.
 fn note_cells(noted: &Remembered, row: &mut IndexedRow, old: usize)
-    requires aged { IsAged row.old }
     requires marked { IsMarked noted.now.places row.old }
     requires from { row.old.old_cells ≤ old }
     requires within { old ≤ length row.old.cells.items }
     requires old { All IsOldPlace (take old row.old.cells.items) }
     ensures names { row.new.names ≡ row.old.names }
     ensures cells { row.new.cells ≡ row.old.cells }
-    ensures aged { IsAged row.new }
     ensures marked { IsMarked noted.now.places row.new }
 {
     if noted.len() == 0 {
@@ -295,42 +297,69 @@ fn note_cells(noted: &Remembered, row: &mut IndexedRow, old: usize)
 
 // Cells that aren't noted are marked no more.
 fn forget_unnoted(noted: &Remembered, row: &mut IndexedRow)
-    requires aged { IsAged row.old }
-    requires marked { IsMarked noted.now.places row.old }
+    requires { IsMarked noted.now.places row.old }
     ensures names { row.new.names ≡ row.old.names }
     ensures cells { row.new.cells ≡ row.old.cells }
     ensures old { row.new.old_cells ≡ row.old.old_cells }
-    ensures aged { IsAged row.new }
     ensures marked { IsMarked noted.now.places row.new }
 {
     let mut from = 0;
     while let Some(number) = row.noted.next(from) {
-        if !noted.contains(row.cells.place(number)) {
-            row.noted.remove(number);
-        }
+        forget_one(noted, row, number);
         from = number + 1;
     }
+}
+
+// A marked cell that isn't noted is marked no more.
+fn forget_one(noted: &Remembered, row: &mut IndexedRow, number: usize)
+    requires here { bit_of row.old.noted number ≡ 1 }
+    requires marked { IsMarked noted.now.places row.old }
+    ensures names { row.new.names ≡ row.old.names }
+    ensures cells { row.new.cells ≡ row.old.cells }
+    ensures old { row.new.old_cells ≡ row.old.old_cells }
+    ensures marked { IsMarked noted.now.places row.new }
+{
+    if noted.contains(row.cells.place(number)) {
+        return;
+    }
+    row.noted.remove(number);
 }
 
 // As many first cells of a row lie in Old. They are known to, and the noted ones of those that weren't are marked. Where memory for
 // a mark is refused, the cells from there on aren't known to.
 fn mark_noted(noted: &Remembered, row: &mut IndexedRow, old: usize)
-    requires aged { IsAged row.old }
     requires marked { IsMarked noted.now.places row.old }
     requires within { old ≤ length row.old.cells.items }
     requires old { All IsOldPlace (take old row.old.cells.items) }
     ensures names { row.new.names ≡ row.old.names }
     ensures cells { row.new.cells ≡ row.old.cells }
-    ensures aged { IsAged row.new }
     ensures marked { IsMarked noted.now.places row.new }
 {
     while row.old_cells < old {
-        if noted.contains(row.cells.place(row.old_cells)) {
-            if row.noted.reserve(old).is_err() {
-                return;
-            }
-            row.noted.insert(row.old_cells);
+        if mark_next(noted, row, old).is_err() {
+            return;
         }
-        row.old_cells += 1;
     }
+}
+
+// The first cell of a row that isn't known to lie in Old, as it does, is known to, and is marked if it is noted. There are as many
+// such cells. Where memory for the mark is refused, nothing changes.
+fn mark_next(noted: &Remembered, row: &mut IndexedRow, old: usize) -> Result<(), AllocError>
+    requires marked { IsMarked noted.now.places row.old }
+    requires below { row.old.old_cells < old }
+    requires within { old ≤ length row.old.cells.items }
+    requires old { All IsOldPlace (take old row.old.cells.items) }
+    ensures names { row.new.names ≡ row.old.names }
+    ensures cells { row.new.cells ≡ row.old.cells }
+    ensures more { OnOk result (row.new.old_cells ≡ row.old.old_cells + 1) }
+    ensures marked { IsMarked noted.now.places row.new }
+{
+    if !noted.contains(row.cells.place(row.old_cells)) {
+        row.old_cells += 1;
+        return Ok(());
+    }
+    row.noted.reserve(old)?;
+    row.noted.insert(row.old_cells);
+    row.old_cells += 1;
+    Ok(())
 }

@@ -68,7 +68,7 @@ invariant_of-rows g c =
     let low : c.in-Index.at < length es = slice_get_within es c.in-Index.at (own, was.row) was.here in
     let new = c.forget_if_empty.new.self in
     let same = same_row es own c.in-Index.at was c.in-Some.row.now c.in-Some.ensures.value in
-    let still = same_aged c.in-Some.row.now new c.forget_if_empty.ensures.cells c.forget_if_empty.ensures.old in
+    let still = same_aged c.in-Some.row.now new c.forget_if_empty.ensures.cells c.forget_if_empty.ensures.old c.forget_if_empty.ensures.noted in
     written_aged es (set_value_at es c.in-Index.at new) c.rows.inside.old_rows c.in-Index.at low c.rows.invariant new refl (still.0 (subst IsAged (sym same) (aged_at es c.rows.inside.old_rows c.rows.invariant own c.in-Index.at was)))
     (old_or_behind es c.rows.inside.old_rows c.rows.invariant own c.in-Index.at was new (λ is_old. still.1 (subst IsOldRow (sym same) is_old)))
 
@@ -93,6 +93,6 @@ returns g c =
     record {
       indexed = indexes_written old c.args.self.now.spaces.spaces (narrowed_vertices taken) c.args.from taken.object (narrowed_others taken) places places (others_marked_same old places places c.args.from refl) es indexed own refl
           (set_value_at es c.in-Index.at new) new written.0 (subst (λ (ps : List Place). IsRowIndex c.args.self.now.spaces.spaces c.args.from new.names ps) (sym cells) index)
-          (marked_same places row new c.forget_if_empty.ensures.cells c.forget_if_empty.ensures.marked is.1);
+          (marked_same places row new c.forget_if_empty.ensures.cells c.forget_if_empty.ensures.old c.forget_if_empty.ensures.noted is.1);
       kept = written_indexed rows es c.in-Index.at new first;
     }

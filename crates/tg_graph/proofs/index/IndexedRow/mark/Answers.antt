@@ -1,24 +1,13 @@
-use Rattle.std.proofs.Common.{◌≡◌, ◌∙◌, ◌-◌, ◌/◌, ◌+◌, ◌<◌, ◌≤◌, ℕ, List, Option, Some, None, arith, ap, refl, sym, subst, get_or, length, ⊎_elim}
-use Rattle.std.specs.Prelude.{IfSome}
-use Rattle.std.proofs.lemmas.Bool.{cases_eq}
-use Rattle.std.proofs.lemmas.Option.{none-some, same_Some}
-use Rattle.tg_word.specs.declared.Place.{Place}
-use Rattle.tg_index.specs.Bits.{bit_of}
-use Rattle.tg_index.specs.Slots.{IsFirstVacant}
-use Rattle.tg_graph.specs.Index.{row_slots}
-use Rattle.tg_graph.specs.Spots.{with_note}
-use Rattle.tg_graph.proofs.Marked.{aged_by, aged_set, marked_noted, note_is}
+use Rattle.std.proofs.Common.{refl}
+use Rattle.tg_graph.proofs.Marked.{aged_set, marked_apart, marked_set}
 use Rattle.tg_graph.proofs.index.IndexedRow.mark.Goals as goal
 
-pub overflow_add-number : goal.overflow_add-number
-overflow_add-number c =
-    let noted = c.requires.noted in
-    let first = subst (IsFirstVacant (row_slots noted.spaces noted.from) c.args.self.now.names.len) c.in-Some.is (c.first_empty.ensures.first (row_slots noted.spaces noted.from) noted.index.names) in
-    let low = first.0 in
-    omega (arith, low, c.requires.short)
+pub returns-then-number-self-clause-aged : goal.returns-then-number-self-clause-aged
+returns-then-number-self-clause-aged c = aged_set c.args.self.now _ c.number_noted-number.result refl refl c.insert.ensures c.if-number-self.true
 
 pub returns-then-number-self-clause-marked : goal.returns-then-number-self-clause-marked
-returns-then-number-self-clause-marked c = ?
+returns-then-number-self-clause-marked c = λ places marked.
+    marked_set places c.args.note c.args.self.now _ c.number_noted-number.result refl refl c.insert.ensures c.if-number-self.true c.number_noted-number.ensures marked
 
 pub returns-else-number-self-clause-marked : goal.returns-else-number-self-clause-marked
-returns-else-number-self-clause-marked c = ?
+returns-else-number-self-clause-marked c = λ places marked. marked_apart places c.args.note c.args.self.now c.number_noted-number.result c.if-number-self.false c.number_noted-number.ensures marked
