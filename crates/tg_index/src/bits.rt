@@ -4,7 +4,11 @@ ghost use Rattle.tg_index.specs.Bits.{IsFirstFrom, SetsBit};
 
 use std::alloc::{AllocError, Global};
 
-const BITS: usize = 64;
+/// How many numbers a word has a bit for.
+pub(crate) const BITS: usize = 64;
+
+/// How many words a set may have: its numbers are below 2 ^ 32.
+pub(crate) const MOST_WORDS: usize = 1 << 26;
 
 /// A set of numbers: each that is in it has its bit set.
 #[derive(Drop)]
@@ -58,6 +62,7 @@ impl Bits {
     /// The first word from one on that isn't 0, or the number of words.
     pub(crate) fn first_word(&self, from: usize) -> usize
         requires { from ≤ length self.now.words.items }
+        ensures behind { from ≤ result }
         ensures within { result ≤ length self.now.words.items }
         ensures before { (w : ℕ) → from ≤ w → w < result → slice_index self.now.words.items w ≡ 0 }
         ensures found { result < length self.now.words.items → slice_index self.now.words.items result ≢ 0 }

@@ -5,12 +5,9 @@
 ghost use Rattle.std.specs.Prelude.{◌≡◌, ℕ, List, ◌*◌, ◌^◌, ◌<◌, ◌≤◌, [], length, None, IfSome, OnOk};
 ghost use Rattle.tg_index.specs.Bits.{AreMarks, IsFirstOf, SetsBit, bit_of};
 
-use crate::bits::Bits;
+use crate::bits::{Bits, MOST_WORDS};
 use std::alloc::{AllocError, Global};
 use std::marker::Model;
-
-// The number of a place is below 2 ^ 32.
-const MOST_WORDS: usize = 1 << 26;
 
 /// The empty places of a row.
 #[derive(Drop)]
