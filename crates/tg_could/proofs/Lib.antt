@@ -1,0 +1,4 @@
+pub mod SeparationLaws
+pub mod StillLaws
+pub mod MarkLaws
+pub mod TurnLaws

@@ -1,0 +1,7 @@
+use Rattle.std.proofs.Common.{◌≡◌, ◌<◌}
+use Rattle.std.specs.List.{AllWithin, Contains}
+use Rattle.tg_could.proofs.separation.is_alone.Given as goal
+
+-- nobody before this place acts but y
+abbrev pub invariant-loop-subject : goal.invariant-loop-subject
+invariant-loop-subject l = AllWithin (λ v. ¬ (Contains l.silent v × (v < l.picture.made)) → v ≡ l.y) l.picture.subjects 0 l.subject-index

@@ -1,0 +1,23 @@
+use Rattle.std.proofs.Common.{sym, subst}
+use Rattle.tg_model.specs.declared.command.Command.TheVariants.{Grant}
+use Rattle.tg_rights.specs.RightSet.{RightSet}
+use Rattle.tg_model.specs.Rules.{HoldsOver}
+use Rattle.tg_model.proofs.AllowedLaws.{step-allowed}
+use Rattle.tg_could.specs.Trial.{Stands}
+use Rattle.tg_could.proofs.TurnLaws.{stands-added}
+use Rattle.tg_could.proofs.trial.Trial.grant.Goals as goal
+
+pub returns-then-are_all : goal.returns-then-are_all
+returns-then-are_all c t g stands =
+    let all = c.are_all.ensures c.if-are_all.true in
+    let three = c.are_three-three.ensures all.0 in
+    let added = c.in_ok-add.ensures in
+    subst (Stands c.args.edges.now c.add.new.self)
+    (sym (step-allowed g c.args.worker (Grant c.args.rights c.args.via c.args.target) (
+      three.0,
+      three.1,
+      three.2,
+      subst (λ (s : RightSet). HoldsOver g.label c.args.worker c.args.via s) c.of.ensures (c.has_all-may_grant.ensures all.1 g.label stands.first stands.later),
+      subst (λ (s : RightSet). HoldsOver g.label c.args.worker c.args.target s) c.rights.ensures.same (c.has_all-has.ensures all.2 g.label stands.first stands.later),
+    )))
+    (stands-added c.args.edges.now c.args.self.now c.add.new.self g (record { from = c.args.via; to = c.args.target; label = c.args.rights }) added.added added.subjects added.made added.limit stands)

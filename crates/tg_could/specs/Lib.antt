@@ -1,0 +1,4 @@
+pub mod Turns
+pub mod Separation
+pub mod Trial
+pub mod Answered

@@ -1,0 +1,78 @@
+//! The question and its answers.
+ghost use Rattle.std.specs.Prelude.{◌≡◌, ◌+◌, ◌<◌, ◌⊎◌, IfOk, IsTrue};
+ghost use Rattle.tg_model.specs.Graph.{ProtectionGraph};
+ghost use Rattle.tg_model.specs.Picture.{IsPictureOf};
+ghost use Rattle.tg_could.specs.Separation.{ComesLater};
+ghost use Rattle.tg_could.specs.Answered.{IsAnswer, IsShort};
+
+use crate::plan::turns_to;
+use crate::search::search;
+use crate::separation::{Separation, comes_later};
+use crate::witness::lead_there;
+use std::alloc::{AllocError, Global};
+use tg_model::{Deed, Picture};
+use tg_rights::Right;
+
+/// What comes of the question whether x could ever come to hold a right over y. Who acts is an active subject that isn't
+/// silent; whoever is spawned later acts too.
+#[derive(Drop)]
+pub enum Answer {
+    /// x never holds it, after no list of turns of those who act. The separation shows it, and may be kept and asked again
+    /// ([`Separation::parts`]) when the graph has changed.
+    Never(Separation),
+    /// x holds it after these turns, each of one who acts by then.
+    Could(Vec<(u64, Deed)>),
+    /// x holds it after these turns where so many more vertices may be made than are left. This doesn't say whether others
+    /// lead there with those that are left. It never comes where 64 names are left behind those asked about.
+    WantsNames {
+        /// The turns, each of one who acts by then.
+        turns: Vec<(u64, Deed)>,
+        /// How many names are wanting.
+        names: u64,
+    },
+    /// Neither was shown: the sets that the search found don't part x from the right, nor do its turns lead there.
+    Open,
+}
+
+/// Whether x could ever come to hold a right over y, by any turns of the active subjects but the silent ones, on the graph of
+/// which this is a picture. A name in `silent` that was never made counts for nothing. Who retired is asked about like any object. A
+/// name that isn't made yet is asked about as one that whoever acts may make, and may have the right over, or hand it
+/// to. Takes time and memory in proportion to the picture. Fails only when out of memory.
+pub fn could_hold(
+    alloc: Global,
+    picture: &Picture,
+    silent: &[u64],
+    x: u64,
+    right: Right,
+    y: u64,
+) -> Result<Answer, AllocError>
+    ensures { IfOk result (λ answer. (g : ProtectionGraph) → IsPictureOf picture.now g → IsAnswer silent.now g x right y answer) }
+{
+    let found = search(alloc, picture, silent, right, y)?;
+    if found.sides.parts(picture, silent, x, right, y) {
+        return Ok(Answer::Never(found.sides));
+    }
+    let planned = turns_to(alloc, picture, &found, x, right, y)?;
+    let names = planned.made.saturating_sub(picture.limit());
+    let turns = planned.turns;
+    let leads = lead_there(alloc, picture, silent, names, turns.as_slice(), x, right, y)?;
+    if !leads {
+        return Ok(Answer::Open);
+    }
+    if names == 0 {
+        return Ok(Answer::Could(turns));
+    }
+    if is_short(picture, x, y) {
+        return Ok(Answer::WantsNames { turns, names });
+    }
+    Ok(Answer::Open)
+}
+
+// Whether fewer than 64 names are left, or fewer behind x or y where one of these may yet be made.
+fn is_short(picture: &Picture, x: u64, y: u64) -> bool
+    ensures { IsTrue result → (g : ProtectionGraph) → IsPictureOf picture.now g → IsShort g x y }
+{
+    picture.limit().saturating_sub(picture.made()) < 64
+        || comes_later(picture, x) && picture.limit() - x <= 64
+        || comes_later(picture, y) && picture.limit() - y <= 64
+}

@@ -1,0 +1,36 @@
+//! Laws of the definitions alone. A function here does nothing: what it ensures is the law.
+ghost use Rattle.std.specs.Prelude.{◌≡◌, ◌<◌, ℕ, List, Bool, true};
+ghost use Rattle.std.specs.List.{Contains};
+ghost use Rattle.tg_rights.specs.RightSet.{RightSet};
+ghost use Rattle.tg_rights.specs.declared.Right.{Right};
+ghost use Rattle.tg_model.specs.declared.command.Command.TheVariants.{Grant};
+ghost use Rattle.tg_model.specs.declared.command.Deed.TheVariants.{Plain};
+ghost use Rattle.tg_model.specs.Graph.{ProtectionGraph};
+ghost use Rattle.tg_model.specs.Picture.{Holds, IsMade, with_edge};
+ghost use Rattle.tg_model.specs.Rules.{Permits, step};
+ghost use Rattle.tg_could.specs.Turns.{IsSilent, NeverHolds};
+ghost use Rattle.tg_could.specs.Separation.{Sides, Separates, IsConfined};
+
+/// Where two sets part x from a right over y, x never holds it, whatever any who act do.
+pub fn the_separated_never_hold()
+    ensures { (silent : List ℕ) (g : ProtectionGraph) (s : Sides) (x : ℕ) (right : Right) (y : ℕ) →
+        IsMade g → Separates (IsSilent silent g) s x right y g → NeverHolds silent g x right y }
+{}
+
+/// No take or grant edge leaves or enters a set of vertices: then none of the set ever holds a right over a vertex made before
+/// that none of the set held at first.
+pub fn the_confined_never_hold()
+    ensures { (silent : List ℕ) (g : ProtectionGraph) (inside : ℕ → Bool) (right : Right) (y : ℕ) →
+        IsMade g → IsConfined inside g → y < g.made →
+        ((a : ℕ) → inside a ≡ true → ¬ Holds g.label a right y) →
+        (x : ℕ) → x < g.made → inside x ≡ true → NeverHolds silent g x right y }
+{}
+
+/// A question is asked of a grant before it is made: where x never holds the right on the graph with the new edge, it never does
+/// after the host's grant either, whatever the others do while the host is silent.
+pub fn a_grant_is_asked_about_before_it_is_made()
+    ensures { (silent : List ℕ) (g : ProtectionGraph) (host via target : ℕ) (rights : RightSet) (x : ℕ) (right : Right) (y : ℕ) →
+        Contains silent host → Permits g.label g.value host (Grant rights via target) →
+        NeverHolds silent (with_edge g via target rights) x right y →
+        NeverHolds silent (step g host (Plain (Grant rights via target))) x right y }
+{}

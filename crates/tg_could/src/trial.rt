@@ -1,0 +1,295 @@
+//! A graph that turns are tried on: a picture, and what came since.
+ghost use Rattle.std.specs.Prelude.{◌≡◌, ◌≢◌, ◌<◌, true, ◌++◌, ◌∷◌, [], ℕ, List, IfOk, OnOk, IfSome, IsTrue};
+ghost use Rattle.std.specs.List.{Contains};
+ghost use Rattle.tg_rights.specs.RightSet.{RightSet, has};
+ghost use Rattle.tg_rights.specs.declared.Right.{Right as TheRight};
+ghost use Rattle.tg_model.specs.Graph.{ProtectionGraph};
+ghost use Rattle.tg_model.specs.Picture.{IsPictureOf, AreAmong};
+ghost use Rattle.tg_model.specs.Rules.{HoldsOver, step, with_vertex};
+ghost use Rattle.tg_model.specs.declared.edge.Edge.{Edge as TheEdge};
+ghost use Rattle.tg_model.specs.declared.law.Law.{Law};
+ghost use Rattle.tg_model.specs.declared.value.Value.{Value};
+ghost use Rattle.tg_model.specs.declared.command.Command.TheVariants as command;
+ghost use Rattle.tg_model.specs.declared.command.Deed.TheVariants as deed;
+ghost use Rattle.tg_could.specs.Turns.{Acts};
+ghost use Rattle.tg_could.specs.Trial.{Stands};
+
+use crate::chains::{Chains, NONE};
+use crate::separation::is_silent;
+use std::alloc::{AllocError, Global};
+use tg_model::{Command, Deed, Edge, MAX_WORKERS, Picture};
+use tg_rights::{Label, Right, Rights};
+
+/// What turns have changed of a picture's graph: the edges that came since, the subjects, and the vertices made.
+#[derive(Drop)]
+pub(crate) struct Trial {
+    rows: Chains,
+    added: Vec<Edge>,
+    subjects: Vec<u64>,
+    made: u64,
+    limit: u64,
+}
+
+// Whether three vertices differ.
+fn are_three(x: u64, y: u64, z: u64) -> bool
+    ensures { IsTrue result → (x ≢ y) × (y ≢ z) × (x ≢ z) }
+{
+    x != y && y != z && x != z
+}
+
+// Whether three things hold.
+fn are_all(one: bool, two: bool, third: bool) -> bool
+    ensures { IsTrue result → IsTrue one × IsTrue two × IsTrue third }
+{
+    one && two && third
+}
+
+// The rights of an edge, where it is one from x to y.
+fn rights_between(edge: Edge, x: u64, y: u64) -> Rights
+    ensures { (right : TheRight) → has result right ≡ true → (edge.from ≡ x) × (edge.to ≡ y) × (has edge.label right ≡ true) }
+{
+    if edge.from == x && edge.to == y {
+        edge.label.rights()
+    } else {
+        Rights::empty()
+    }
+}
+
+impl Trial {
+    /// The graph of a picture, on which so many vertices may be made. Fails only when out of memory.
+    pub(crate) fn new(alloc: Global, picture: &Picture, limit: u64) -> Result<Trial, AllocError>
+        ensures { IfOk result (λ trial. (g : ProtectionGraph) → IsPictureOf picture.now g →
+            Stands picture.now.edges trial (record g { limit = limit })) }
+    {
+        let subjects = Vec::from_slice(alloc, picture.subjects())?;
+        let rows = Chains::of_holders(alloc, picture.made() as usize, picture.edges())?;
+        Ok(Trial {
+            rows,
+            added: Vec::new(alloc),
+            subjects,
+            made: picture.made(),
+            limit,
+        })
+    }
+
+    /// How many vertices were made, and so the name of the next.
+    pub(crate) fn made(&self) -> u64 {
+        self.made
+    }
+
+    /// The active subjects.
+    pub(crate) fn subjects(&self) -> &[u64] {
+        self.subjects.as_slice()
+    }
+
+    /// Whether one vertex has these rights over another, all on one edge of the list or of those that came since.
+    pub(crate) fn has_all(&self, edges: &[Edge], from: u64, to: u64, rights: Rights) -> bool
+        ensures { IsTrue result → (label : ℕ → ℕ → RightSet) → AreAmong edges.now label → AreAmong self.now.added.items label →
+            HoldsOver label from to rights }
+    {
+        let mut found = Rights::empty();
+        let mut place = self.rows.first(from);
+        for _ in 0..NONE {
+            let Some(edge) = self.edge(edges, place) else {
+                break;
+            };
+            found = found.union(rights_between(edge, from, to));
+            if found.contains(rights) {
+                return true;
+            }
+            place = self.rows.next(place);
+        }
+        false
+    }
+
+    // The edge at a place: first those of the list, then those that came since.
+    fn edge(&self, edges: &[Edge], place: u32) -> Option<Edge>
+        ensures { IfSome result (λ edge. (label : ℕ → ℕ → RightSet) → AreAmong edges.now label → AreAmong self.now.added.items label →
+            HoldsOver label edge.from edge.to edge.label) }
+    {
+        let at = place as usize;
+        if at < edges.len() {
+            return Some(edges[at]);
+        }
+        let later = at - edges.len();
+        let added = self.added.as_slice();
+        if later < added.len() {
+            return Some(added[later]);
+        }
+        None
+    }
+
+    // Whether somebody acts: an active subject that isn't silent.
+    fn acts(&self, silent: &[u64], first: u64, worker: u64) -> bool
+        ensures { IsTrue result → (edges : List TheEdge) (g : ProtectionGraph) → Stands edges self.now g →
+            Acts (λ p. Contains silent.now p × (p < first)) g worker }
+    {
+        self.subjects.contains(&worker) && !is_silent(silent, first, worker)
+    }
+
+    /// Takes a turn of one who acts, where it is allowed and adds rights, makes a vertex or retires. Whether it was taken; else the
+    /// graph is as it was. Silent is who is in the list and has a name below `first`. Fails only when out of memory.
+    pub(crate) fn take_turn(
+        &mut self,
+        edges: &[Edge],
+        silent: &[u64],
+        first: u64,
+        turn: &(u64, Deed),
+    ) -> Result<bool, AllocError>
+        ensures acts { IfOk result (λ taken. IsTrue taken → (g : ProtectionGraph) → Stands edges.now self.old g →
+            Acts (λ p. Contains silent.now p × (p < first)) g turn.now.0) }
+        ensures step { IfOk result (λ taken. IsTrue taken → (g : ProtectionGraph) → Stands edges.now self.old g →
+            Stands edges.now self.new (step g turn.now.0 turn.now.1)) }
+    {
+        if !self.acts(silent, first, turn.0) {
+            return Ok(false);
+        }
+        let taken = self.take_deed(edges, turn.0, &turn.1)?;
+        Ok(taken)
+    }
+
+    // Does what an active subject asks for, where that is allowed and adds rights, makes a vertex or retires.
+    fn take_deed(&mut self, edges: &[Edge], worker: u64, asked: &Deed) -> Result<bool, AllocError>
+        ensures { IfOk result (λ taken. IsTrue taken → (g : ProtectionGraph) → Stands edges.now self.old g →
+            Stands edges.now self.new (step g worker asked.now)) }
+    {
+        match asked {
+            Deed::Create { label, .. } => self.create(worker, *label),
+            Deed::Spawn { label, .. } => self.spawn(worker, *label),
+            Deed::Plain(command) => self.take_command(edges, worker, command),
+        }
+    }
+
+    // The same of a command.
+    fn take_command(
+        &mut self,
+        edges: &[Edge],
+        worker: u64,
+        asked: &Command,
+    ) -> Result<bool, AllocError>
+        ensures { IfOk result (λ taken. IsTrue taken → (g : ProtectionGraph) → Stands edges.now self.old g →
+            Stands edges.now self.new (step g worker (deed.Plain asked.now))) }
+    {
+        match asked {
+            Command::Take {
+                rights,
+                via,
+                target,
+            } => self.take(edges, worker, *via, *target, *rights),
+            Command::Grant {
+                rights,
+                via,
+                target,
+            } => self.grant(edges, worker, *via, *target, *rights),
+            Command::Retire => {
+                self.retire(worker);
+                Ok(true)
+            }
+            _ => Ok(false),
+        }
+    }
+
+    // Takes rights along, where that is allowed.
+    fn take(
+        &mut self,
+        edges: &[Edge],
+        worker: u64,
+        via: u64,
+        target: u64,
+        rights: Label,
+    ) -> Result<bool, AllocError>
+        ensures { IfOk result (λ taken. IsTrue taken → (g : ProtectionGraph) → Stands edges.now self.old g →
+            Stands edges.now self.new (step g worker (deed.Plain (command.Take rights via target)))) }
+    {
+        let three = are_three(worker, via, target);
+        let may_take = self.has_all(edges, worker, via, Rights::of(Right::T));
+        let has = self.has_all(edges, via, target, rights.rights());
+        if are_all(three, may_take, has) {
+            self.add(worker, target, rights)?;
+            return Ok(true);
+        }
+        Ok(false)
+    }
+
+    // Hands rights on, where that is allowed.
+    fn grant(
+        &mut self,
+        edges: &[Edge],
+        worker: u64,
+        via: u64,
+        target: u64,
+        rights: Label,
+    ) -> Result<bool, AllocError>
+        ensures { IfOk result (λ taken. IsTrue taken → (g : ProtectionGraph) → Stands edges.now self.old g →
+            Stands edges.now self.new (step g worker (deed.Plain (command.Grant rights via target)))) }
+    {
+        let three = are_three(worker, via, target);
+        let may_grant = self.has_all(edges, worker, via, Rights::of(Right::G));
+        let has = self.has_all(edges, worker, target, rights.rights());
+        if are_all(three, may_grant, has) {
+            self.add(via, target, rights)?;
+            return Ok(true);
+        }
+        Ok(false)
+    }
+
+    // Makes an object, where there is a name left.
+    fn create(&mut self, worker: u64, label: Label) -> Result<bool, AllocError>
+        ensures { IfOk result (λ made. IsTrue made → (edges : List TheEdge) (g : ProtectionGraph) (law : Law) (state : List ℕ) → Stands edges self.old g →
+            Stands edges self.new (step g worker (deed.Create label law state))) }
+    {
+        if self.made >= self.limit {
+            return Ok(false);
+        }
+        self.add_vertex(worker, label)?;
+        Ok(true)
+    }
+
+    // Makes a subject, where there is a name left and fewer than 64 are active.
+    fn spawn(&mut self, worker: u64, label: Label) -> Result<bool, AllocError>
+        ensures { IfOk result (λ made. IsTrue made → (edges : List TheEdge) (g : ProtectionGraph) (law : Law) (state : List ℕ) → Stands edges self.old g →
+            Stands edges self.new (step g worker (deed.Spawn label law state))) }
+    {
+        if self.made >= self.limit || self.subjects.len() as u64 >= MAX_WORKERS {
+            return Ok(false);
+        }
+        let name = self.made;
+        self.add_vertex(worker, label)?;
+        self.subjects.push(name)?;
+        Ok(true)
+    }
+
+    // Ends a subject.
+    fn retire(&mut self, worker: u64)
+        ensures { (edges : List TheEdge) (g : ProtectionGraph) → Stands edges self.old g →
+            Stands edges self.new (step g worker (deed.Plain command.Retire)) }
+    {
+        self.subjects.retain(|subject| *subject != worker);
+    }
+
+    // The next vertex, over which the worker has these rights.
+    fn add_vertex(&mut self, worker: u64, label: Label) -> Result<(), AllocError>
+        requires { self.old.made < self.old.limit }
+        ensures stands { OnOk result ((edges : List TheEdge) (g : ProtectionGraph) (value : Value) → Stands edges self.old g →
+            Stands edges self.new (with_vertex g worker label value)) }
+        ensures subjects { self.new.subjects.items ≡ self.old.subjects.items }
+    {
+        let name = self.made;
+        self.made = name + 1;
+        self.rows.add_vertex()?;
+        self.add(worker, name, label)?;
+        Ok(())
+    }
+
+    // Adds an edge.
+    fn add(&mut self, from: u64, to: u64, label: Label) -> Result<(), AllocError>
+        ensures added { OnOk result (self.new.added.items ≡ self.old.added.items ++ record { from = from; to = to; label = label } ∷ []) }
+        ensures subjects { self.new.subjects.items ≡ self.old.subjects.items }
+        ensures made { self.new.made ≡ self.old.made }
+        ensures limit { self.new.limit ≡ self.old.limit }
+    {
+        self.rows.add(from)?;
+        self.added.push(Edge { from, to, label })?;
+        Ok(())
+    }
+}
