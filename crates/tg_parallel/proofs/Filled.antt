@@ -4,6 +4,7 @@ use Rattle.std.specs.List.{All, Contains, filter, list_all}
 use Rattle.std.proofs.lemmas.Bool.{cases_lt, cases_eq, and_parts, cond-true}
 use Rattle.std.proofs.lemmas.Bool.Decides.{nat_tests}
 use Rattle.std.proofs.lemmas.List.{length_push, get_or_append_left, get_or_push, get_or_default, append-nil}
+use Rattle.std.proofs.lemmas.List.Filters.{length-filter_both}
 use Rattle.std.proofs.lemmas.List.Elements.{All-contains, All-nil, All-push, Contains-append_left, Contains-append_right, Contains-push, filter-append}
 use Rattle.tg_word.specs.declared.Place.{Place}
 use Rattle.tg_rights.specs.RightSet.{no_rights}
@@ -369,6 +370,11 @@ module _ (used : ℕ) (b : OwnBlocks) (next : ℕ) (ready : IsReady used b) (on 
 
 -- ---- what stays
 
+-- no more places were given away in a space than cells were won
+pub used_few : (aged : Bool) (v : Record) → used_of aged v ≤ length v.won
+used_few aged v =
+    let both = length-filter_both (λ (q : ℕ × Place). q.1.space == space_of_age aged) (λ (q : ℕ × Place). not (q.1.space == space_of_age aged)) (λ q. refl) v.won in omega arith
+
 -- so many places were given away as there are won cells
 pub filled_all : (aged : Bool) (v : Record) (numbers : List ℕ) (used : ℕ) → AreFilled aged v numbers used → AreFilled aged v numbers (used_of aged v)
 filled_all aged v numbers used filled = subst (λ (n : ℕ). AreFilled aged v numbers n) (sym filled.ends) filled
@@ -391,6 +397,7 @@ stay_seen board helper b held q = record {
   seat = refl;
   filled = filled_seen b.aged helper.done q b.numbers.items (used_of b.aged helper.done) held.filled;
   other = λ numbers used filled. filled_seen (not b.aged) helper.done q numbers used filled;
+  room = refl;
 }
 
 -- ---- what a claim of the next place finds
@@ -431,6 +438,7 @@ module _ (board : Board) (cell : ℕ) (b : OwnBlocks) (old : Seated) (held : IsH
             seat = refl;
             filled = filled_all b.aged (with_won old.done (cell, place_in b.next)) b.numbers.items (used + 1) filled;
             other = other_won b.aged old.done (cell, place_in b.next) space;
+            room = refl;
           };
           finds = finds_won cell b.aged old.done (place_in b.next) space inside;
           left = subst (λ (n : ℕ). LeavesPlaces n (record b { next = next })) (sym more) (left_more used b next ready on);
@@ -451,6 +459,7 @@ module _ {before : OwnBlocks} {old : Seated} {after : OwnBlocks} {new : Seated} 
     filled = subst (λ (a : Bool). AreFilled a newest.done last.numbers.items (used_of a newest.done)) stay.space two.filled;
     other = λ numbers used filled.
         subst (λ (a : Bool). AreFilled (not a) new.done numbers used → AreFilled (not a) newest.done numbers used) stay.space (two.other numbers used) (stay.other numbers used filled);
+    room = two.room ∙ stay.room;
   }
 
 -- after a claim of the next place the next one is known, or all blocks are full

@@ -1,7 +1,7 @@
 -- A seat: what it holds at first and after a claim, and what a walk sees of it.
 use Rattle.std.proofs.Common.{◌≡◌, ◌≢◌, ℕ, suc, ◌-◌, ◌*◌, ◌^◌, ◌<◌, ◌≤◌, ◌==◌, ◌||◌, not, ◌++◌, List, [], ◌∷◌, Bool, true, false, length, get_or, map, refl, sym, ap, subst, ◌∙◌, eqb, eq-eqb, ⊎_elim, arith}
 use Rattle.std.specs.List.{All, AllPairs, Contains, list_any}
-use Rattle.std.specs.Prelude.{Result, IfErr, IfOk, OnOk}
+use Rattle.std.specs.Prelude.{Result, IfErr, IfOk, OnOk, vec_capacity}
 use Rattle.std.proofs.lemmas.Bool.{cases_eq, false≢true}
 use Rattle.std.proofs.lemmas.Bool.Decides.{Decides-eqb}
 use Rattle.std.proofs.lemmas.List.{append-nil, get_or-map, length-map, length_push, map-append}
@@ -31,7 +31,7 @@ use Rattle.tg_parallel.specs.declared.own_blocks.OwnBlocks.{OwnBlocks}
 use Rattle.tg_parallel.specs.declared.seat.Both.{Both}
 use Rattle.tg_parallel.specs.Lending.{with_blocks}
 use Rattle.tg_parallel.specs.Parts.{HasClaimedPast, HasPlaceOf, HasPlaces, cells_met, win_of, wins_of}
-use Rattle.tg_parallel.specs.Seats.{AreFilled, Finds, HasRoomFor, IsReady, IsSeat, KnowsNext, OtherStays, Sitting, StayFilled, pair_at, pairs_in, used_of, walked_at}
+use Rattle.tg_parallel.specs.Seats.{AreFilled, Finds, HasRoomFor, HasRoomForNumbers, IsReady, IsSeat, KnowsNext, OtherStays, Sitting, StayFilled, pair_at, pairs_in, used_of, walked_at}
 use Rattle.tg_parallel.proofs.Lists.{all_left, any_has, map_found}
 
 place_back : (p : Place) → IsPlace p → place_in (link_to p) ≡ p
@@ -239,9 +239,9 @@ module _ (limit : ℕ) (board : Board) (before after : Seated) (aged old : OwnBl
         (All-append (λ (q : ℕ × Place). IsPlace q.1 × (q.1.space < 2)) before.done.won finds.won seat.places
         (All-weaker (λ (q : ℕ × Place). (q.0 ≡ cell) × (q.1.space ≡ space_of_age a) × IsPlace q.1) (λ (q : ℕ × Place). IsPlace q.1 × (q.1.space < 2)) (λ q r. (r.2, (let e = r.1 in let t = two_of a in omega arith))) finds.won finds.reasons))
 
-    seat_now : (first second : OwnBlocks) → first.aged ≡ true → second.aged ≡ false → AreFilled true after.done first.numbers.items (used_of true after.done) → AreFilled false after.done second.numbers.items (used_of false after.done) → KnowsNext limit after.done first → KnowsNext limit after.done second → IsSeat limit board after first second
-    seat_now first second is_aged is_old in_aged in_old aged_next old_next =
-        record { own = same ∙ seat.own; few = seat.few; small = seat.small; whole = seat.whole; differ = differ_now; inside = inside_now; behind = behind_now; places = places_now; is_aged = is_aged; is_old = is_old; in_aged = in_aged; in_old = in_old; aged_next = aged_next; old_next = old_next }
+    seat_now : (first second : OwnBlocks) → first.aged ≡ true → second.aged ≡ false → AreFilled true after.done first.numbers.items (used_of true after.done) → AreFilled false after.done second.numbers.items (used_of false after.done) → KnowsNext limit after.done first → KnowsNext limit after.done second → HasRoomForNumbers board.table.id.words first → HasRoomForNumbers board.table.id.words second → IsSeat limit board after first second
+    seat_now first second is_aged is_old in_aged in_old aged_next old_next aged_room old_room =
+        record { own = same ∙ seat.own; few = seat.few; small = seat.small; whole = seat.whole; differ = differ_now; inside = inside_now; behind = behind_now; places = places_now; is_aged = is_aged; is_old = is_old; in_aged = in_aged; in_old = in_old; aged_next = aged_next; old_next = old_next; aged_room = aged_room; old_room = old_room }
 
   -- the blocks of the other space are filled as they were
   other_filled : (a : Bool) (b : OwnBlocks) → b.aged ≡ not a → AreFilled (not a) before.done b.numbers.items (used_of (not a) before.done) → KnowsNext limit before.done b → OtherStays a before.done after.done → AreFilled (not a) after.done b.numbers.items (used_of (not a) after.done) × KnowsNext limit after.done b
@@ -249,15 +249,15 @@ module _ (limit : ℕ) (board : Board) (before after : Seated) (aged old : OwnBl
       let now = other b.numbers.items (used_of (not a) before.done) filled in
       (subst (λ (used : ℕ). AreFilled (not a) after.done b.numbers.items used) (sym now.ends) now, knows_still limit before.done after.done b (rw is now.ends) next)
 
-  pub seat_aged : (now : OwnBlocks) → now.aged ≡ aged.aged → Finds cell aged.aged before.done after.done → AreFilled aged.aged after.done now.numbers.items (used_of aged.aged after.done) → OtherStays aged.aged before.done after.done → KnowsNext limit after.done now → IsSeat limit board after now old
-  seat_aged now space finds filled other next =
+  pub seat_aged : (now : OwnBlocks) → now.aged ≡ aged.aged → vec_capacity now.numbers ≡ vec_capacity aged.numbers → Finds cell aged.aged before.done after.done → AreFilled aged.aged after.done now.numbers.items (used_of aged.aged after.done) → OtherStays aged.aged before.done after.done → KnowsNext limit after.done now → IsSeat limit board after now old
+  seat_aged now space room finds filled other next =
       let rest = other_filled true old seat.is_old seat.in_old seat.old_next (subst (λ (a : Bool). OtherStays a before.done after.done) seat.is_aged other) in
-      seat_now aged.aged finds now old (space ∙ seat.is_aged) seat.is_old (subst (λ (a : Bool). AreFilled a after.done now.numbers.items (used_of a after.done)) seat.is_aged filled) rest.0 next rest.1
+      seat_now aged.aged finds now old (space ∙ seat.is_aged) seat.is_old (subst (λ (a : Bool). AreFilled a after.done now.numbers.items (used_of a after.done)) seat.is_aged filled) rest.0 next rest.1 (let was = seat.aged_room in omega arith) seat.old_room
 
-  pub seat_old : (now : OwnBlocks) → now.aged ≡ old.aged → Finds cell old.aged before.done after.done → AreFilled old.aged after.done now.numbers.items (used_of old.aged after.done) → OtherStays old.aged before.done after.done → KnowsNext limit after.done now → IsSeat limit board after aged now
-  seat_old now space finds filled other next =
+  pub seat_old : (now : OwnBlocks) → now.aged ≡ old.aged → vec_capacity now.numbers ≡ vec_capacity old.numbers → Finds cell old.aged before.done after.done → AreFilled old.aged after.done now.numbers.items (used_of old.aged after.done) → OtherStays old.aged before.done after.done → KnowsNext limit after.done now → IsSeat limit board after aged now
+  seat_old now space room finds filled other next =
       let rest = other_filled false aged seat.is_aged seat.in_aged seat.aged_next (subst (λ (a : Bool). OtherStays a before.done after.done) seat.is_old other) in
-      seat_now old.aged finds aged now seat.is_aged (space ∙ seat.is_old) rest.0 (subst (λ (a : Bool). AreFilled a after.done now.numbers.items (used_of a after.done)) seat.is_old filled) rest.1 next
+      seat_now old.aged finds aged now seat.is_aged (space ∙ seat.is_old) rest.0 (subst (λ (a : Bool). AreFilled a after.done now.numbers.items (used_of a after.done)) seat.is_old filled) rest.1 next seat.aged_room (let was = seat.old_room in omega arith)
 
 -- blocks of the space that is asked for are of the right age
 pub right_age : (space : ℕ) → space < 2 → (was aged old : OwnBlocks) → aged.aged ≡ true → old.aged ≡ false → ((space == 1) ≡ true → was ≡ aged) → ((space == 1) ≡ false → was ≡ old) → space ≡ space_of_age was.aged
@@ -273,11 +273,11 @@ pub seat_given : (limit : ℕ) (board : Board) (before after : Seated) (both : B
 seat_given limit board before after both seat at word unmet true was now first second stay finds next =
     let is = first refl in
     let kept = subst (λ (b : OwnBlocks). StayFilled b before now after) is stay in
-    seat_aged limit board before after both.aged.now both.old.now seat stay.seat at word unmet now kept.space (subst (λ (b : OwnBlocks). Finds at.cell b.aged before.done after.done) is finds) kept.filled kept.other next
+    seat_aged limit board before after both.aged.now both.old.now seat stay.seat at word unmet now kept.space kept.room (subst (λ (b : OwnBlocks). Finds at.cell b.aged before.done after.done) is finds) kept.filled kept.other next
 seat_given limit board before after both seat at word unmet false was now first second stay finds next =
     let is = second refl in
     let kept = subst (λ (b : OwnBlocks). StayFilled b before now after) is stay in
-    seat_old limit board before after both.aged.now both.old.now seat stay.seat at word unmet now kept.space (subst (λ (b : OwnBlocks). Finds at.cell b.aged before.done after.done) is finds) kept.filled kept.other next
+    seat_old limit board before after both.aged.now both.old.now seat stay.seat at word unmet now kept.space kept.room (subst (λ (b : OwnBlocks). Finds at.cell b.aged before.done after.done) is finds) kept.filled kept.other next
 
 -- what is asked of a seat is known of what it is seen as
 pub asked : (at : CellWord) (seen now : Sitting) → seen ≡ now → IsWordIn now.board at → has_met now.done at.cell ≡ false → IsWordIn seen.board at × (has_met seen.done at.cell ≡ false)

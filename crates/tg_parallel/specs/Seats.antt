@@ -1,7 +1,6 @@
 -- What a helper holds while it works: its record, and the places that it gives away in its own blocks, one after the other.
 use Rattle.std.specs.Prelude.{◌≡◌, ◌≢◌, ℕ, ◌+◌, ◌*◌, ◌/◌, ◌%◌, ◌^◌, ◌<◌, ◌≤◌, ◌==◌, Bool, true, false, not, List, [], ◌∷◌, ◌++◌, length, slice_index, slice_index_or, vec_capacity, Result, IfErr, IfOk, OnOk}
 use Rattle.std.specs.List.{All, AllPairs, Contains, filter}
-use Rattle.std.specs.Result.{OnErr}
 use Rattle.tg_word.specs.declared.TheConstants.{CELLS, MOST_SPACE_BLOCKS, MOST_SPACE_CELLS}
 use Rattle.tg_word.specs.declared.Place.{Place}
 use Rattle.tg_word.specs.Word.{IsPlace, link_to, place_in}
@@ -102,10 +101,15 @@ pub record Finds (cell : ℕ) (aged : Bool) (v w : Record) : Type 0 where
 
 -- ---- what the blocks of a space do for a claim
 
+-- the list has room for the number of one block more than cells with so many words fill
+abbrev pub HasRoomForNumbers : ℕ → OwnBlocks → Type 0
+HasRoomForNumbers words b = words < CELLS * vec_capacity b.numbers
+
 -- the helper sits at the table, and the blocks are those that it has claimed, filled in order with what it has won
 pub record IsHeldBy (board : Board) (helper : Seated) (b : OwnBlocks) : Type 0 where
   pub own : helper.table ≡ board.table
   pub filled : AreFilled b.aged helper.done b.numbers.items (used_of b.aged helper.done)
+  pub room : HasRoomForNumbers board.table.id.words b
 
 -- fewer cells were won than the table has words for cells, and twice the cell's number is a word
 pub record HasRoomFor (board : Board) (cell : ℕ) (helper : Seated) : Type 0 where
@@ -118,16 +122,16 @@ pub record StayFilled (before : OwnBlocks) (old : Seated) (after : OwnBlocks) (n
   pub seat : new.table ≡ old.table
   pub filled : AreFilled before.aged new.done after.numbers.items (used_of before.aged new.done)
   pub other : OtherStays before.aged old.done new.done
+  pub room : vec_capacity after.numbers ≡ vec_capacity before.numbers
 
--- a block was claimed behind these ones, and its number is answered, or nothing has changed
-pub record IsDrawn {Fault : Type 0} (before : OwnBlocks) (old : Seated) (after : OwnBlocks) (new : Seated) (result : Result ℕ Fault) : Type 0 where
+-- a block with this number was claimed behind these ones
+pub record IsDrawn (before : OwnBlocks) (old : Seated) (after : OwnBlocks) (new : Seated) (number : ℕ) : Type 0 where
   pub stay : StayFilled before old after new
   pub blocks : OnlyBlocks old.done new.done
   pub next : after.next ≡ before.next
   pub end : after.end ≡ before.end
   pub past : after.is_past ≡ before.is_past
-  pub drawn : IfOk result (λ n. after.numbers.items ≡ before.numbers.items ++ n ∷ [])
-  pub none : OnErr result (after.numbers.items ≡ before.numbers.items)
+  pub drawn : after.numbers.items ≡ before.numbers.items ++ number ∷ []
 
 -- the next place is known; it is refused where that is past the limit
 pub record AreReady {T : Type 0} (limit : ℕ) (before : OwnBlocks) (old : Seated) (after : OwnBlocks) (new : Seated) (result : Result T RoomFault) : Type 0 where
@@ -158,11 +162,20 @@ pub record GivePlace (limit cell : ℕ) (before : OwnBlocks) (old : Seated) (aft
   pub known : IfOk result (λ word. (to : ℕ → Place) → HasPlaces new.done to → to cell ≡ place_in word)
   pub full : IfErr result (λ fault. fault ≡ HeapFull → HasClaimedPast limit new.done)
 
--- the lists are empty, and there is room for each cell that has one of so many words, three of which are counters
+-- The lists are empty. There is room for each cell that has one of so many words, three of which are counters, and for each block
+-- that these cells may fill
 pub record AreEmptyLists (words : ℕ) (lists : Lists) : Type 0 where
   pub room : words ≤ vec_capacity lists.won + 3
   pub aged : lists.aged.items ≡ []
   pub old : lists.old.items ≡ []
+  pub aged_room : words < CELLS * vec_capacity lists.aged
+  pub old_room : words < CELLS * vec_capacity lists.old
+
+-- and for no more, where a room wasn't enough for the won cells
+pub record AreSmallLists (words room : ℕ) (lists : Lists) : Type 0 where
+  pub won : room < words → vec_capacity lists.won ≡ words
+  pub aged : vec_capacity lists.aged ≤ words / CELLS + 1
+  pub old : vec_capacity lists.old ≤ words / CELLS + 1
 
 -- ---- a seat
 
@@ -190,6 +203,8 @@ pub record IsSeat (limit : ℕ) (board : Board) (helper : Seated) (aged old : Ow
   pub in_old : AreFilled false helper.done old.numbers.items (used_of false helper.done)
   pub aged_next : KnowsNext limit helper.done aged
   pub old_next : KnowsNext limit helper.done old
+  pub aged_room : HasRoomForNumbers board.table.id.words aged
+  pub old_room : HasRoomForNumbers board.table.id.words old
 
 -- what no claim of a cell changes: the table, the chunks of roots that were claimed, and the share
 abbrev pub Fixed : Type 0

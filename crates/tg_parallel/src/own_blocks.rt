@@ -1,5 +1,5 @@
 //! The places that a helper gives away: in its own blocks of a space, one after the other.
-ghost use Rattle.std.specs.Prelude.{◌≡◌, ◌<◌, ◌≤◌, ◌*◌, ◌+◌, ◌^◌, [], false, IfErr, IfOk, OnOk, length};
+ghost use Rattle.std.specs.Prelude.{◌≡◌, ◌<◌, ◌≤◌, ◌*◌, ◌+◌, ◌^◌, [], false, length, vec_capacity};
 ghost use Rattle.tg_word.specs.declared.TheConstants.{CELLS, MOST_SPACE_BLOCKS};
 ghost use Rattle.tg_race.specs.Seats.{IsWordIn};
 ghost use Rattle.tg_parallel.specs.Parts.{HasClaimedPast};
@@ -7,7 +7,6 @@ ghost use Rattle.tg_parallel.specs.Seats.{AreReady, GivePlace, HasRoomFor, IsDra
 
 use crate::links::word_to;
 use crate::winner::Winner;
-use std::alloc::AllocError;
 use tg_race::{CellWord, RaceTable};
 use tg_space::RoomFault;
 use tg_word::{AGED, CELL_AT, CELLS, OLD, Place};
@@ -34,6 +33,7 @@ impl OwnBlocks {
         requires { numbers.items ≡ [] }
         ensures space { result.aged ≡ aged }
         ensures numbers { result.numbers.items ≡ [] }
+        ensures room { vec_capacity result.numbers ≡ vec_capacity numbers }
         ensures next { result.next ≡ result.end }
         ensures within { result.is_past ≡ false }
     {
@@ -49,7 +49,7 @@ impl OwnBlocks {
     /// The word of the place of a cell that the helper hasn't met: that which another helper gave it, or else the next of these
     /// blocks. A block is claimed late, for a cell that needs it.
     ///
-    /// It is refused with `OutOfMemory`, or with `HeapFull` where the block is past the limit.
+    /// It is refused with `HeapFull` where the block is past the limit, and takes no memory.
     #[inline(always)]
     pub fn word_of(
         &mut self,
@@ -78,6 +78,7 @@ impl OwnBlocks {
         limit: u64,
     ) -> Result<(), RoomFault>
         requires held { IsHeldBy table.now winner.old self.now }
+        requires room { length winner.old.done.won + 3 < table.now.table.id.words }
         requires limit { limit ≤ MOST_SPACE_BLOCKS }
         requires next { KnowsNext limit winner.old.done self.now }
         ensures { AreReady limit self.entry.now winner.old self.exit.now winner.new result }
@@ -94,6 +95,7 @@ impl OwnBlocks {
     #[inline(always)]
     fn open(&mut self, winner: &mut Winner, table: &RaceTable, limit: u64) -> Result<(), RoomFault>
         requires held { IsHeldBy table.now winner.old self.now }
+        requires room { length winner.old.done.won + 3 < table.now.table.id.words }
         requires limit { limit ≤ MOST_SPACE_BLOCKS }
         requires next { KnowsNext limit winner.old.done self.now }
         requires none { self.now.next ≡ self.now.end }
@@ -102,7 +104,7 @@ impl OwnBlocks {
         if self.is_past {
             return Err(RoomFault::HeapFull);
         }
-        let block = self.draw(winner, table)?;
+        let block = self.draw(winner, table);
         if block >= limit {
             self.is_past = true;
             return Err(RoomFault::HeapFull);
@@ -116,19 +118,17 @@ impl OwnBlocks {
         Ok(())
     }
 
-    // Claims a block, and answers its number. All blocks are full.
+    // Claims a block, and answers its number. All blocks are full of won cells, and one cell isn't won: so the list
+    // has room for one number more.
     #[inline(always)]
-    fn draw(&mut self, winner: &mut Winner, table: &RaceTable) -> Result<u64, AllocError>
+    fn draw(&mut self, winner: &mut Winner, table: &RaceTable) -> u64
         requires held { IsHeldBy table.now winner.old self.now }
+        requires room { length winner.old.done.won + 3 < table.now.table.id.words }
         requires full { used_of self.now.aged winner.old.done ≡ CELLS * length self.now.numbers.items }
         ensures { IsDrawn self.entry.now winner.old self.exit.now winner.new result }
     {
-        // There is room for as many blocks as all cells of the table fill. That it is enough isn't proved.
-        if self.numbers.len() == self.numbers.capacity() {
-            return Err(AllocError);
-        }
         let number = winner.claim_block(table, self.aged);
         self.numbers.push_reserved(number);
-        Ok(number)
+        number
     }
 }

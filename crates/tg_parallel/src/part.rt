@@ -1,12 +1,12 @@
 //! One helper of a collection.
-ghost use Rattle.std.specs.Prelude.{◌≡◌, ◌<◌, ◌≤◌, ◌^◌, ◌⊎◌, ℕ, All, Contains, IfErr, IfOk, OnOk, drop, length, nat_lt, slice_index_or, vec_capacity};
+ghost use Rattle.std.specs.Prelude.{◌≡◌, ◌<◌, ◌≤◌, ◌^◌, ◌⊎◌, ℕ, All, Contains, IfErr, IfOk, Ok, OnOk, drop, length, nat_lt, slice_index_or, vec_capacity};
 ghost use Rattle.std.specs.List.{list_all};
 ghost use Rattle.std.specs.Vec.Iter.{into_iter_items};
 ghost use Rattle.tg_word.specs.declared.TheConstants.{MOST_SPACE_CELLS};
 ghost use Rattle.tg_block.specs.Cells.{free_block};
 ghost use Rattle.tg_parallel.specs.Parts.{AreOnce, IsOpenedFor, numbers_of};
 ghost use Rattle.tg_parallel.specs.Helping.{IsHelped, IsNew};
-ghost use Rattle.tg_parallel.specs.Seats.{AreEmptyLists, AreLaidOut, block_at};
+ghost use Rattle.tg_parallel.specs.Seats.{AreEmptyLists, AreLaidOut, AreSmallLists, block_at};
 
 use crate::gate::Gate;
 use crate::seat::{Left, Lists, Seat};
@@ -284,7 +284,8 @@ fn help_kind<G: Gate>(
 // The lists of a helper at a table of so many words that has done nothing yet. That of what it will have won stands in the room, where
 // that is enough.
 fn lists_of(alloc: Global, words: usize, room: Vec<u64>) -> Result<Lists, AllocError>
-    ensures { IfOk result (AreEmptyLists words) }
+    ensures lists { IfOk result (AreEmptyLists words) }
+    ensures few { IfOk result (AreSmallLists words (vec_capacity room)) }
 {
     // All of its blocks of a space but the last are full of cells that it has won.
     let blocks = words / CELLS as usize + 1;
@@ -297,7 +298,9 @@ fn lists_of(alloc: Global, words: usize, room: Vec<u64>) -> Result<Lists, AllocE
 
 // Room for so many words: this, where it is enough.
 fn roomy(alloc: Global, words: usize, room: Vec<u64>) -> Result<Vec<u64>, AllocError>
-    ensures { IfOk result (λ room. words ≤ vec_capacity room) }
+    ensures room { IfOk result (λ held. words ≤ vec_capacity held) }
+    ensures same { words ≤ vec_capacity room → result ≡ Ok room }
+    ensures exact { vec_capacity room < words → IfOk result (λ held. vec_capacity held ≡ words) }
 {
     if words <= room.capacity() {
         return Ok(room);

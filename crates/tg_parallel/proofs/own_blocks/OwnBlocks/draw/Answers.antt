@@ -1,14 +1,19 @@
-use Rattle.std.proofs.Common.{◌++◌, ◌∷◌, [], ap, refl}
+use Rattle.std.proofs.Common.{◌++◌, ◌∷◌, [], ap, refl, arith}
 use Rattle.tg_race.specs.Race.{with_claimed_block}
 use Rattle.tg_race.specs.Seats.{Seated}
 use Rattle.tg_parallel.specs.Seats.{used_of}
-use Rattle.tg_parallel.proofs.Filled.{filled_all, filled_grown, may_claim, only_claimed, other_claimed}
+use Rattle.tg_parallel.proofs.Filled.{filled_all, filled_grown, may_claim, only_claimed, other_claimed, used_few}
 use Rattle.tg_parallel.proofs.own_blocks.OwnBlocks.draw.Goals as goal
 
 pub claim_block-number-requires-clause-allowed : goal.claim_block-number-requires-clause-allowed
 claim_block-number-requires-clause-allowed c =
     let b = c.args.self.now in let v = c.args.winner.now.done in
     may_claim b.aged v b.numbers.items (used_of b.aged v) c.requires.held.filled c.requires.full
+
+pub push_reserved-requires : goal.push_reserved-requires
+push_reserved-requires c =
+    let b = c.args.self.now in let v = c.args.winner.now.done in
+    let few = used_few b.aged v in let room = c.requires.held.room in let won = c.requires.room in let full = c.requires.full in omega arith
 
 pub returns : goal.returns
 returns c =
@@ -22,11 +27,11 @@ returns c =
         seat = ap (λ (x : Seated). x.table) c.claim_block-number.ensures.drawn;
         filled = rw (done, items) (filled_all b.aged (with_claimed_block b.aged v number) (b.numbers.items ++ number ∷ []) used grown);
         other = rw done (other_claimed b.aged v number);
+        room = c.push_reserved.ensures.capacity;
       };
       blocks = rw done (only_claimed b.aged v number);
       next = refl;
       end = refl;
       past = refl;
       drawn = items;
-      none = tt;
     }

@@ -20,5 +20,7 @@ invariant_of-result c =
       in_aged = rw done (filled_none true c.new-2.result.numbers.items c.new-2.ensures.numbers);
       in_old = rw done (filled_none false c.new-3.result.numbers.items c.new-3.ensures.numbers);
       aged_next = rw done (knows_none c.args.limit c.new-2.result c.new-2.ensures.numbers c.new-2.ensures.next c.new-2.ensures.within);
+      aged_room = (let room = c.new-2.ensures.room in let words = c.requires.lists.aged_room in omega arith);
+      old_room = (let room = c.new-3.ensures.room in let words = c.requires.lists.old_room in omega arith);
       old_next = rw done (knows_none c.args.limit c.new-3.result c.new-3.ensures.numbers c.new-3.ensures.next c.new-3.ensures.within);
     }
