@@ -74,9 +74,10 @@ def kinds(bodies):
 
 
 def finder(body):
-    """What finds the body: a test, or clauses of a function."""
+    """What finds the body: a test, a script, or clauses of a function."""
     if body.is_found_by_run:
-        return body.words["found"].replace("test ", "the test ", 1)
+        kind, name = body.words["found"].split(" ", 1)
+        return f"the test {name}" if kind == "test" else f"rows/held/run: {name}"
     function, clauses = body.refused
     return f"`{function}`: {', '.join('(no name)' if it == 'ensures' else it for it in clauses)}"
 

@@ -8,7 +8,6 @@ pub mod Finish
 pub mod Merging
 pub mod Filled
 pub mod Seating
-pub mod Sharing
 pub mod Reached
 pub mod Working
 pub mod Handing

@@ -1,5 +1,5 @@
 //! The run of one worker's lines.
-ghost use Rattle.std.specs.Prelude.{◌≡◌, ◌≢◌, ◌<◌, ◌≤◌, ◌+◌, ◌++◌, ◌∷◌, ◌↔◌, [], ℕ, Bool, true, false, if◌then◌else◌, length, map, List, Err, IfErr, IfOk};
+ghost use Rattle.std.specs.Prelude.{◌≡◌, ◌≢◌, ◌<◌, ◌≤◌, ◌+◌, ◌++◌, ◌∷◌, ◌↔◌, [], ℕ, Bool, true, false, if◌then◌else◌, length, map, List, Some, Err, IfErr, IfOk};
 ghost use Rattle.std.specs.List.{count_by};
 ghost use Rattle.std.specs.Vec.{vec_len, vec_capacity};
 ghost use Rattle.tg_model.specs.declared.command.Deed.TheVariants as Deed;
@@ -243,7 +243,11 @@ fn collect<L: Round, P: Payload, R: Threads + Wait + Sync>(
     session: &Session<L>,
     kind: Kind,
 ) -> Told
-    ensures { HasCollected helpers kind result }
+    ensures collected { HasCollected helpers kind result }
+    ensures number { (kept : ℕ) → result ≡ Told.Collected (Some kept) → AtSome L.start (λ s.
+        (kept ≡ length (content_of s.heap).names) × IsCountOf (IsReachable (graph_of_store s)) kept) }
+    ensures full { result ≡ Told.Refused Refusal.Heap → AtSome L.start (λ s.
+        LacksRoomToCollect kind helpers s.heap) }
 {
     match (collect_by(rt, store, helpers, session, kind, &NoGate), kind) {
         (Ok(kept), Kind::Full) => Told::Collected(Some(kept)),

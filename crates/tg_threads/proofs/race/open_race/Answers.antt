@@ -11,7 +11,7 @@ returns-clause-output g c = λ bytes known.
     let lines = c.in_ok-whole.whole.lines.items in
     let commands = c.in_ok-whole.ensures.commands in
     let read = c.in_ok-whole.ensures.bytes bytes known in
-    let opens = c.in_ok-store.ensures in
+    let opens = c.in_ok-store.ensures.opened in
     let plan : List Edge → Plan = λ es. record { workers = c.args.settings.workers; edges = es; values = c.args.workers.items; limit = c.args.settings.max_vertices } in (
       read.0,
       read.1,

@@ -13,7 +13,7 @@ pub returns-in-Full-clause-run : goal.returns-in-Full-clause-run
 returns-in-Full-clause-run g c = λ workers before is by.
     let s = c.args.session.now in
     let P : Line → Type 0 = λ l. HasRun c.args.helpers before (record { line = l; value = c.args.task.draft }) c.collect.result s s in
-    subst P (sym c.in-Full.is) (full_runs c.args.helpers before c.args.task.draft c.collect.result s c.collect.ensures)
+    subst P (sym c.in-Full.is) (full_runs c.args.helpers before c.args.task.draft c.collect.result s c.collect.ensures.collected)
 
 pub returns-in-Plain-clause-run : goal.returns-in-Plain-clause-run
 returns-in-Plain-clause-run g c = λ workers before is by.
