@@ -1,6 +1,7 @@
 """The shared library: where it is found, and its functions as ctypes calls them."""
 import ctypes
 import os
+import platform
 from operator import index
 from pathlib import Path
 from typing import Type
@@ -98,7 +99,8 @@ def _loaded(kind: Type[ctypes.CDLL]) -> ctypes.CDLL:
         raise ImportError(
             f"no library of Kovshenul. KOVSHENUL_LIBRARY is {named or 'not set'}, "
             f"{beside} {'is there' if beside.exists() else 'is not there'}, "
-            f"and the system looks for {NAME}. {path} did not load: {error}"
+            f"and the system looks for {NAME}. It is code for Linux on x86-64 with glibc, and this is {platform.system()} "
+            f"on {platform.machine()}. {path} did not load: {error}"
         ) from error
     if library.tg_abi() != ABI:
         raise ImportError(f"{path} has interface {library.tg_abi()}, and this module is for {ABI}")
