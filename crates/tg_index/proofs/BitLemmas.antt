@@ -36,7 +36,7 @@ some_bit : (word i : ℕ) → bit_at word i ≡ 1 → word ≢ 0
 some_bit word i one none = let z : 1 ≡ 0 = sym one ∙ ap (λ x. bit_at x i) none ∙ bit_at-zero i in omega (arith, z)
 
 -- a word that is 0 has no bit
-no_bit : (words : List ℕ) (n : ℕ) → get_or words (n / 64) 0 ≡ 0 → bit_of words n ≡ 0
+pub no_bit : (words : List ℕ) (n : ℕ) → get_or words (n / 64) 0 ≡ 0 → bit_of words n ≡ 0
 no_bit words n none = ap (λ x. bit_at x (n % 64)) none ∙ bit_at-zero (n % 64)
 
 -- behind the last word all are 0

@@ -29,6 +29,12 @@ pub record IsFirstOf (words : List ℕ) (n : ℕ) : Type 0 where
   pub here : bit_of words n ≡ 1
   pub before : (m : ℕ) → m < n → bit_of words m ≡ 0
 
+-- the number is the first of the set from this one on
+pub record IsNextFrom (words : List ℕ) (from n : ℕ) : Type 0 where
+  pub here : bit_of words n ≡ 1
+  pub behind : from ≤ n
+  pub before : (m : ℕ) → from ≤ m → m < n → bit_of words m ≡ 0
+
 -- A mark stands at each word that isn't 0, and `least` is the first word of marks that isn't 0, or the number of these words.
 -- There is a mark for each word, and no word of marks too many. There are at most 2 ^ 32 bits.
 pub record AreMarks (words marks : List ℕ) (least : ℕ) : Type 0 where

@@ -1,10 +1,14 @@
 //! Sets of numbers as the bits of words. No change takes memory but `widen`.
-ghost use Rattle.std.specs.Prelude.{◌≡◌, ◌≢◌, ℕ, ◌*◌, ◌^◌, ◌<◌, ◌≤◌, [], ◌∷◌, ◌++◌, length, slice_index, OnErr, OnOk};
-ghost use Rattle.tg_index.specs.Bits.{IsFirstFrom, SetsBit};
+ghost use Rattle.std.specs.Prelude.{◌≡◌, ◌≢◌, ℕ, ◌*◌, ◌^◌, ◌<◌, ◌≤◌, [], ◌∷◌, ◌++◌, length, slice_index, None, IfSome, OnErr, OnOk};
+ghost use Rattle.tg_index.specs.Bits.{IsFirstFrom, IsNextFrom, SetsBit, bit_of};
 
 use std::alloc::{AllocError, Global};
 
-const BITS: usize = 64;
+/// How many numbers a word has a bit for.
+pub(crate) const BITS: usize = 64;
+
+/// How many words a set may have: its numbers are below 2 ^ 32.
+pub(crate) const MOST_WORDS: usize = 1 << 26;
 
 /// A set of numbers: each that is in it has its bit set.
 #[derive(Drop)]
@@ -58,6 +62,7 @@ impl Bits {
     /// The first word from one on that isn't 0, or the number of words.
     pub(crate) fn first_word(&self, from: usize) -> usize
         requires { from ≤ length self.now.words.items }
+        ensures behind { from ≤ result }
         ensures within { result ≤ length self.now.words.items }
         ensures before { (w : ℕ) → from ≤ w → w < result → slice_index self.now.words.items w ≡ 0 }
         ensures found { result < length self.now.words.items → slice_index self.now.words.items result ≢ 0 }
@@ -67,5 +72,26 @@ impl Bits {
             word += 1;
         }
         word
+    }
+
+    /// The least number of the set from one on.
+    pub(crate) fn next(&self, from: usize) -> Option<usize>
+        requires { 64 * length self.now.words.items < 2 ^ 64 }
+        ensures some { IfSome result (IsNextFrom self.now.words.items from) }
+        ensures none { result ≡ None → (n : ℕ) → from ≤ n → bit_of self.now.words.items n ≡ 0 }
+    {
+        let word = from / BITS;
+        if word >= self.words.len() {
+            return None;
+        }
+        let left = self.words[word] >> (from % BITS);
+        if left != 0 {
+            return Some(from + left.trailing_zeros() as usize);
+        }
+        let later = self.first_word(word + 1);
+        if later == self.words.len() {
+            return None;
+        }
+        Some(self.first_in(later))
     }
 }

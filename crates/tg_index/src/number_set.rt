@@ -1,20 +1,17 @@
-//! The empty places of a row: a bit for each place, and one above for each word that has an empty place. So the first one is found
-//! by two looks, however long the row is, and to give up a place takes no memory.
+//! A set of numbers: a bit for each, and one above for each word that has a number of the set. So the first one is found by two
+//! looks, a look for the next one passes over 4,096 numbers at a step, and to put a number in or take one out takes no memory.
 //!
 //! Contracts see the words of the lower bits.
 ghost use Rattle.std.specs.Prelude.{◌≡◌, ℕ, List, ◌*◌, ◌^◌, ◌<◌, ◌≤◌, [], length, None, IfSome, OnOk};
-ghost use Rattle.tg_index.specs.Bits.{AreMarks, IsFirstOf, SetsBit, bit_of};
+ghost use Rattle.tg_index.specs.Bits.{AreMarks, IsFirstOf, IsNextFrom, SetsBit, bit_of};
 
-use crate::bits::Bits;
+use crate::bits::{BITS, Bits, MOST_WORDS};
 use std::alloc::{AllocError, Global};
 use std::marker::Model;
 
-// The number of a place is below 2 ^ 32.
-const MOST_WORDS: usize = 1 << 26;
-
-/// The empty places of a row.
+/// A set of numbers below 2 ^ 32, which is gone through from the least on. There is room for the numbers below some one.
 #[derive(Drop)]
-pub(crate) struct Holes {
+pub struct NumberSet {
     places: Bits,
     // The words of `places` that aren't 0.
     marks: Bits,
@@ -22,7 +19,7 @@ pub(crate) struct Holes {
     least: usize,
 }
 
-impl Model for Holes {
+impl Model for NumberSet {
     ghost use Rattle.std.specs.Prelude.{ℕ, List};
     ghost use Rattle.tg_index.specs.Bits.{AreMarks};
 
@@ -33,20 +30,53 @@ impl Model for Holes {
     ghost invariant = { λ a. AreMarks a.places.words.items a.marks.words.items a.least };
 }
 
-impl Holes {
-    /// No place. Takes no memory.
-    pub(crate) fn new(alloc: Global) -> Holes
+impl NumberSet {
+    /// No number. Takes no memory.
+    pub fn new(alloc: Global) -> NumberSet
         ensures { result ≡ [] }
     {
-        Holes {
+        NumberSet {
             places: Bits::new(alloc),
             marks: Bits::new(alloc),
             least: 0,
         }
     }
 
+    /// Makes room for the numbers below this one. Nothing else changes. Fails only when out of memory, or past 2 ^ 32.
+    #[inline(always)]
+    pub fn reserve(&mut self, numbers: usize) -> Result<(), AllocError>
+        ensures room { OnOk result (numbers ≤ 64 * length self.new) }
+        ensures kept { (n : ℕ) → bit_of self.new n ≡ bit_of self.old n }
+    {
+        if numbers <= self.places.words.len() * BITS {
+            return Ok(());
+        }
+        self.reserve_words(numbers)
+    }
+
+    // Makes room for the numbers below this one, word by word.
+    #[inline(never)]
+    fn reserve_words(&mut self, numbers: usize) -> Result<(), AllocError>
+        ensures room { OnOk result (numbers ≤ 64 * length self.new) }
+        ensures kept { (n : ℕ) → bit_of self.new n ≡ bit_of self.old n }
+    {
+        while self.room() < numbers {
+            self.lengthen(self.room())?;
+        }
+        Ok(())
+    }
+
+    // Below which number there is room.
+    #[inline(always)]
+    fn room(&self) -> usize
+        ensures room { result ≡ 64 * length self.now }
+        ensures few { 64 * length self.now ≤ 2 ^ 32 }
+    {
+        self.places.words.len() * BITS
+    }
+
     /// Makes the bit of a place behind all that have one, or answers that there would be too many. Nothing else changes.
-    pub(crate) fn reserve(&mut self, place: usize) -> Result<(), AllocError>
+    pub(crate) fn lengthen(&mut self, place: usize) -> Result<(), AllocError>
         requires { place ≤ 64 * length self.old }
         ensures room { OnOk result (place < 64 * length self.new) }
         ensures longer { length self.old ≤ length self.new }
@@ -65,7 +95,7 @@ impl Holes {
         Ok(())
     }
 
-    /// The first empty place.
+    /// The least number of the set.
     pub(crate) fn first(&self) -> Option<usize>
         ensures some { IfSome result (IsFirstOf self.now) }
         ensures none { result ≡ None → (n : ℕ) → bit_of self.now n ≡ 0 }
@@ -77,8 +107,36 @@ impl Holes {
         Some(self.places.first_in(word))
     }
 
-    /// A place is empty.
-    pub(crate) fn insert(&mut self, place: usize)
+    /// The least number of the set from one on.
+    pub fn next(&self, from: usize) -> Option<usize>
+        ensures some { IfSome result (IsNextFrom self.now from) }
+        ensures none { result ≡ None → (n : ℕ) → from ≤ n → bit_of self.now n ≡ 0 }
+    {
+        let word = from / BITS;
+        if word >= self.places.words.len() {
+            return None;
+        }
+        let left = self.places.words[word] >> (from % BITS);
+        if left != 0 {
+            return Some(from + left.trailing_zeros() as usize);
+        }
+        match self.marks.next(word + 1) {
+            Some(later) => Some(self.places.first_in(later)),
+            None => None,
+        }
+    }
+
+    /// Takes all numbers out of the set. The room for them goes too, but its memory stays.
+    pub fn clear(&mut self)
+        ensures { self.new ≡ [] }
+    {
+        self.places.words.clear();
+        self.marks.words.clear();
+        self.least = 0;
+    }
+
+    /// Puts a number into the set, for which there is room. Takes no memory.
+    pub fn insert(&mut self, place: usize)
         requires { place < 64 * length self.old }
         ensures { SetsBit self.old self.new place 1 }
     {
@@ -88,8 +146,8 @@ impl Holes {
         self.least = self.least.min(word / 64);
     }
 
-    /// A place is empty no more.
-    pub(crate) fn remove(&mut self, place: usize)
+    /// Takes a number out of the set. Takes no memory.
+    pub fn remove(&mut self, place: usize)
         requires { bit_of self.old place ≡ 1 }
         ensures { SetsBit self.old self.new place 0 }
     {

@@ -1,7 +1,7 @@
 use Rattle.std.proofs.Common.{◌≡◌, ◌∙◌, ◌<◌, ◌/◌, List, length, ℕ, arith, subst, sym}
 use Rattle.tg_index.specs.Bits.{bit_of}
 use Rattle.tg_index.proofs.BitLemmas.{bit_inside, marks_less, marks_same, word_read}
-use Rattle.tg_index.proofs.holes.Holes.remove.Goals as goal
+use Rattle.tg_index.proofs.number_set.NumberSet.remove.Goals as goal
 
 pub invariant_of-self : goal.invariant_of-self
 invariant_of-self c =
