@@ -16,6 +16,7 @@ use Rattle.tg_word.specs.declared.Place.{Place}
 use Rattle.tg_space.specs.Targets.{from_space}
 use Rattle.tg_space.specs.declared.kind.Kind.{Kind}
 use Rattle.tg_space.specs.declared.kind.Kind.TheVariants.{Full, Nursery}
+use Rattle.tg_index.specs.Bits.{bit_of}
 use Rattle.tg_graph.specs.Cells.{CellList}
 use Rattle.tg_graph.specs.Index.{AreAged, HasIndexAt, IsAged, IsOldPlace, IsOldRow, followed_place}
 use Rattle.tg_graph.specs.declared.index.IndexedRow.{IndexedRow}
@@ -206,13 +207,6 @@ module _ (es later : Entries) (old at : ℕ) (aged : AreAged es old) (low : at <
         found = same name ∙ was.found;
       }
 
--- a chunk at the end of a row changes nothing of the first cells
-pub grown_aged : (row later : IndexedRow) (chunk : Place) → IsAged row → later.cells.items ≡ row.cells.items ++ chunk ∷ [] → later.old_cells ≡ row.old_cells → IsAged later
-grown_aged row later chunk aged grown same = record {
-  within = let low = aged.within in omega (arith, low, same, ap (λ (ps : List Place). length ps) grown ∙ length-append row.cells.items (chunk ∷ []));
-  cells = subst (All IsOldPlace) (sym (ap (λ n. take n later.cells.items) same ∙ ap (λ (ps : List Place). take row.old_cells ps) grown ∙ take-append-le row.old_cells row.cells.items (chunk ∷ []) aged.within)) aged.cells;
-}
-
 -- ---- the index that was found
 
 module _ (es : Entries) (name at : ℕ) (was : HasIndexAt es name at) where
@@ -246,11 +240,12 @@ old_or_behind es old aged name at was later still = by_place (cases_lt at old)
     by_place (inr behind) = inl behind
 
 -- the cells and how many are known to be old are as they were
-pub same_aged : (row later : IndexedRow) → later.cells ≡ row.cells → later.old_cells ≡ row.old_cells → (IsAged row → IsAged later) × (IsOldRow row → IsOldRow later)
-same_aged row later cells known = (
+pub same_aged : (row later : IndexedRow) → later.cells ≡ row.cells → later.old_cells ≡ row.old_cells → later.noted ≡ row.noted → (IsAged row → IsAged later) × (IsOldRow row → IsOldRow later)
+same_aged row later cells known marks = (
   λ aged. record {
     within = let low = aged.within in omega (arith, low, known, ap (λ (v : CellList). length v.items) cells);
     cells = subst (All IsOldPlace) (sym (ap (λ n. take n later.cells.items) known ∙ ap (λ (v : CellList). take row.old_cells v.items) cells)) aged.cells;
+    marks = λ n here. let low = aged.marks n (ap (λ (words : List ℕ). bit_of words n) (sym marks) ∙ here) in omega (arith, low, known);
   },
   λ old. known ∙ old ∙ sym (ap (λ (v : CellList). length v.items) cells),
 )

@@ -19,7 +19,7 @@ use Rattle.tg_space.specs.Collection.{new_place}
 use Rattle.tg_space.specs.Targets.{from_space}
 use Rattle.tg_space.specs.declared.kind.Kind.{Kind}
 use Rattle.tg_space.specs.declared.kind.Kind.TheVariants.{Full, Nursery}
-use Rattle.tg_graph.specs.Index.{AreAged, AreFollowed, IsAged, IsFollowable, IsFollowed, IsFollowedTo, IsLeftBehind, IsNumbered, IsOldPlace, IsOldRow, IsQuiet, followed_place, known_notes}
+use Rattle.tg_graph.specs.Index.{AreAged, AreFollowed, IsAged, IsFollowable, IsFollowed, IsFollowedTo, IsLeftBehind, IsNumbered, IsOldPlace, IsOldRow, IsMarked, followed_place, known_notes}
 use Rattle.tg_graph.specs.declared.index.IndexedRow.{IndexedRow}
 use Rattle.tg_graph.specs.declared.followed.Fate.TheVariants.{Gone, Young, Old}
 use Rattle.tg_graph.proofs.Ages.{exchanged_none, exchanged_second, first_below, map_same, old_row_at, slice_get_is, value_here, value_of, value_other, written_aged}
@@ -66,8 +66,8 @@ pub record AreFollowedTo (kind : Kind) (starts forward : List ℕ) (notes : List
   pub kept : (name : ℕ) (row : IndexedRow) → lookup (nat_eq name) rows ≡ Some row → IsSome (lookup (nat_eq name) es) ⊎ IsLeftBehind kind starts forward row
 
 -- a row that lies in Old whole is followed as it is by a nursery collection
-old_followed : (starts forward : List ℕ) (notes : List Place) (rows : Entries) (name : ℕ) (row : IndexedRow) → lookup (nat_eq name) rows ≡ Some row → IsQuiet notes row → IsAged row → IsOldRow row → IsFollowed Nursery starts forward notes rows name row
-old_followed starts forward notes rows name row was quiet aged old = record {
+old_followed : (starts forward : List ℕ) (notes : List Place) (rows : Entries) (name : ℕ) (row : IndexedRow) → lookup (nat_eq name) rows ≡ Some row → IsMarked notes row → IsAged row → IsOldRow row → IsFollowed Nursery starts forward notes rows name row
+old_followed starts forward notes rows name row was marked aged old = record {
   row = row;
   was = was;
   to = record {
@@ -75,7 +75,7 @@ old_followed starts forward notes rows name row was quiet aged old = record {
     cells = sym (map_same (followed_place (from_space Nursery) starts (new_place forward)) row.cells.items stays);
     copied = λ p first moves. let here : from_space Nursery p.space ≡ false = in_old p first in let no : true ≡ false = sym moves ∙ here in absurd cc;
   };
-  quiet = quiet;
+  marked = marked;
 }
   where
     all_old : All IsOldPlace row.cells.items
@@ -104,7 +104,7 @@ follow_begins kind starts forward notes es first words able aged full unique = r
     first_done Full can none j d low inside = let zero_rows = none refl in absurd (omega (arith, zero_rows))
     first_done Nursery can none j d low inside =
         let was = found_at j d inside in
-        old_followed starts forward notes es (get_or es j d).0 (get_or es j d).1 was (can (get_or es j d).0 (get_or es j d).1 was).quiet (aged.each j d inside) (old_row_at es first aged j d low)
+        old_followed starts forward notes es (get_or es j d).0 (get_or es j d).1 was (can (get_or es j d).0 (get_or es j d).1 was).marked (aged.each j d inside) (old_row_at es first aged j d low)
 
 pub follow_ends : (kind : Kind) (starts forward : List ℕ) (notes : List Place) (rows es : Entries) (at : ℕ) → AreFollowedTo kind starts forward notes rows es at → length es ≤ at → AreFollowed kind starts forward notes rows es
 follow_ends kind starts forward notes rows es at followed all = record {
@@ -136,8 +136,8 @@ module _ (kind : Kind) (starts forward : List ℕ) (notes : List Place) (rows es
   kept_later name r in_rows = ⊎_elim (λ some. inl (still_some name ∙ some)) (λ left. inr left) (followed.kept name r in_rows)
 
   -- one more was followed
-  pub one_followed : IsFollowedTo kind starts forward row next → IsQuiet notes next → AreFollowedTo kind starts forward notes rows later (at + 1)
-  one_followed to quiet = record {
+  pub one_followed : IsFollowedTo kind starts forward row next → IsMarked notes next → AreFollowedTo kind starts forward notes rows later (at + 1)
+  one_followed to marked = record {
     done = λ j d low in_later. by_place j d low in_later (cases_eq j at);
     todo = λ j d high in_later.
         subst (λ (e : Entry). lookup (nat_eq e.0) rows ≡ Some e.1) (sym (other j d (λ e. omega arith))) (followed.todo j d (omega arith) (omega (arith, later_long)));
@@ -149,7 +149,7 @@ module _ (kind : Kind) (starts forward : List ℕ) (notes : List Place) (rows es
           let now : get_or later j d ≡ (here.0, next) =
           ap (λ (l : Entries). get_or l j d) written ∙ ap (λ k. get_or (set_value_at es at next) k d) same ∙ value_here es at next d inside
           ∙ ap (λ (e : Entry). (e.0, next)) (get_or_default es at d (0, row) inside) in
-          subst (λ (e : Entry). IsFollowed kind starts forward notes rows e.0 e.1) (sym now) (record { row = row; was = was; to = to; quiet = quiet })
+          subst (λ (e : Entry). IsFollowed kind starts forward notes rows e.0 e.1) (sym now) (record { row = row; was = was; to = to; marked = marked })
       by_place j d low in_later (inr ne) =
           subst (λ (e : Entry). IsFollowed kind starts forward notes rows e.0 e.1) (sym (other j d ne)) (followed.done j d (omega arith) (omega (arith, later_long)))
 
@@ -323,5 +323,5 @@ module _ (kind : Kind) (starts forward : List ℕ) (notes : List Place) (rows es
   pub aged_here : IsAged row
   aged_here = subst IsAged (value_of es at row (0, row) found) (aged.each at (0, row) inside)
 
-  pub quiet_here : IsQuiet (known_notes kind notes) row
-  quiet_here = can_follow.quiet
+  pub marked_here : IsMarked (known_notes kind notes) row
+  marked_here = can_follow.marked

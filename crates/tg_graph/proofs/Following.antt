@@ -36,7 +36,7 @@ use Rattle.tg_graph.proofs.Kept.{Becomes}
 use Rattle.tg_graph.proofs.Layouts.{present_place}
 use Rattle.tg_graph.proofs.Indexed.{places_short}
 use Rattle.tg_graph.proofs.Putting.{narrowed_becomes, put_becomes}
-use Rattle.tg_graph.proofs.Quiet.{KeepsOthersQuiet, others_quiet}
+use Rattle.tg_graph.proofs.Marked.{KeepsOthersMarked, others_marked}
 use Rattle.tg_graph.proofs.RowLengths.{grown_put}
 
 -- ---- rights were put at a spot
@@ -161,12 +161,12 @@ module _ {new : SpaceTable} {later : List Place} {rows : Indexes} {way : Way} {f
       put_others behind.put.put r s places other (behind.put.rows.objects r at)
       (kept_rows_index behind.old.spaces behind.put.ready.spaces behind.payloads list behind.graph behind.put.rows r at s places index)
 
-  pub behind_quieter : KeepsOthersQuiet behind.old.spaces behind.places later from
-  behind_quieter p row other at cells quiet =
+  pub behind_marked : KeepsOthersMarked behind.old.spaces behind.places later from
+  behind_marked p row other at cells marked =
       let put = behind.put.put in
-      others_quiet behind.put.ready.spaces (table_list behind.put.ready put.table) put.payloads put.graph from put.object note
+      others_marked behind.put.ready.spaces (table_list behind.put.ready put.table) put.payloads put.graph from put.object note
       (record { name = name; spot = spot; young = put.young; found = put.found; is = put.noted }) behind.places later behind.put.remembered p row other (behind.put.rows.objects p at)
-      (cells ∙ sym (behind.put.rows.rows p at)) quiet
+      (cells ∙ sym (behind.put.rows.rows p at)) marked
 
   pub behind_grown : length (row_of new.spaces from) ≤ length (row_of behind.old.spaces from) + 1
   behind_grown =

@@ -8,22 +8,22 @@ use Rattle.tg_space.specs.SpaceList.{SpaceList}
 use Rattle.tg_space.specs.Soundness.{IsKindAt}
 use Rattle.tg_payload.specs.Table.{Payloads}
 use Rattle.tg_graph.specs.Heap.{IsGraph}
-use Rattle.tg_graph.specs.Index.{AreIndexed, IsIndexed, IsQuiet, IsRowIndex, KeepsOtherIndexes, MayIndex, SameIndexed, indexed_in}
+use Rattle.tg_graph.specs.Index.{AreIndexed, IsIndexed, IsMarked, IsRowIndex, KeepsOtherIndexes, MayIndex, SameIndexed, indexed_in}
 use Rattle.tg_graph.specs.Rows.{IsVertexAt, name_at}
 use Rattle.tg_graph.specs.declared.index.IndexedRow.{IndexedRow}
 use Rattle.indexmap.specs.Layout.{set_value_at}
 use Rattle.tg_graph.proofs.FollowedRows.{same_some}
-use Rattle.tg_graph.proofs.Quiet.{KeepsOthersQuiet}
+use Rattle.tg_graph.proofs.Marked.{KeepsOthersMarked}
 
 abbrev pub Entries : Type 0
 Entries = List (ℕ × IndexedRow)
 
 -- the index under the name of an object is that of its row
 pub index_at : (h : SpaceList) (payloads : Payloads) → IsGraph h payloads → (remembered : List Place) (rows : Entries) → AreIndexed h remembered rows → (from : Place) → IsKindAt h Object from → (own : ℕ) → own ≡ name_at h from → (row : IndexedRow) →
-    lookup (nat_eq own) rows ≡ Some row → IsRowIndex h from row.names row.cells.items × IsQuiet remembered row
+    lookup (nat_eq own) rows ≡ Some row → IsRowIndex h from row.names row.cells.items × IsMarked remembered row
 index_at h payloads graph remembered rows indexed from object own named row found =
     let is = indexed own row found in
-    (subst (λ (p : Place). IsRowIndex h p row.names row.cells.items) (graph.names is.place from is.vertex.object object (is.vertex.named ∙ named)) is.index, is.quiet)
+    (subst (λ (p : Place). IsRowIndex h p row.names row.cells.items) (graph.names is.place from is.vertex.object object (is.vertex.named ∙ named)) is.index, is.marked)
 
 -- an entry of the name that was written is the one that was written, and any other is as it was
 module _ (own name : ℕ) (new row : IndexedRow) (rows later : Entries) (written : (q : ℕ) → lookup (nat_eq q) later ≡ cond (nat_eq own q) (Some new) (lookup (nat_eq q) rows)) (found : lookup (nat_eq name) later ≡ Some row) where
@@ -36,7 +36,7 @@ module _ (own name : ℕ) (new row : IndexedRow) (rows later : Entries) (written
   is_kept other = ap (λ (b : Bool). cond b (Some new) (lookup (nat_eq name) rows)) (sym other) ∙ sym (written name) ∙ found
 
 module _ (h after : SpaceList) (vertices : (x : ℕ) (p : Place) → IsVertexAt h x p → IsVertexAt after x p) (from : Place) (object : IsKindAt h Object from) (others : KeepsOtherIndexes h after from)
-    (before now : List Place) (quieter : KeepsOthersQuiet h before now from) (rows : Entries) (indexed : AreIndexed h before rows) (own : ℕ) (named : own ≡ name_at h from) where
+    (before now : List Place) (marks_kept : KeepsOthersMarked h before now from) (rows : Entries) (indexed : AreIndexed h before rows) (own : ℕ) (named : own ≡ name_at h from) where
   -- an index under another name stays
   other_stays : (name : ℕ) (row : IndexedRow) → name ≢ own → lookup (nat_eq name) rows ≡ Some row → IsIndexed after now name row
   other_stays name row other found =
@@ -45,7 +45,7 @@ module _ (h after : SpaceList) (vertices : (x : ℕ) (p : Place) → IsVertexAt 
         place = is.place;
         vertex = vertices name is.place is.vertex;
         index = others is.place row.names row.cells.items (λ same. other (sym is.vertex.named ∙ ap (name_at h) same ∙ sym named)) is.vertex.object is.index;
-        quiet = quieter is.place row (λ same. other (sym is.vertex.named ∙ ap (name_at h) same ∙ sym named)) is.vertex.object is.index.cells is.quiet;
+        marked = marks_kept is.place row (λ same. other (sym is.vertex.named ∙ ap (name_at h) same ∙ sym named)) is.vertex.object is.index.cells is.marked;
       }
 
   -- the row that was changed has no index
@@ -55,30 +55,30 @@ module _ (h after : SpaceList) (vertices : (x : ℕ) (p : Place) → IsVertexAt 
       other_stays name row (λ at. let gone : ◌≡◌ {A = Option IndexedRow} None (Some row) = sym none ∙ subst (λ n. lookup (nat_eq n) rows ≡ Some row) at here in let no : ⊥ = cc in no) here
 
   -- it has this one now
-  pub indexes_written : (later : Entries) (new : IndexedRow) → ((q : ℕ) → lookup (nat_eq q) later ≡ cond (nat_eq own q) (Some new) (lookup (nat_eq q) rows)) → IsRowIndex after from new.names new.cells.items → IsQuiet now new → AreIndexed after now later
-  indexes_written later new written index quiet name row found = by_name (nat_eq own name) refl
+  pub indexes_written : (later : Entries) (new : IndexedRow) → ((q : ℕ) → lookup (nat_eq q) later ≡ cond (nat_eq own q) (Some new) (lookup (nat_eq q) rows)) → IsRowIndex after from new.names new.cells.items → IsMarked now new → AreIndexed after now later
+  indexes_written later new written index marked name row found = by_name (nat_eq own name) refl
     where
       by_name : (b : Bool) → nat_eq own name ≡ b → IsIndexed after now name row
       by_name true same =
           let this = is_written own name new row rows later written found same in
           subst (λ n. IsIndexed after now n row) this.0
-          (subst (IsIndexed after now own) this.1 (record { place = from; vertex = vertices own from (record { object = object; named = sym named }); index = index; quiet = quiet }))
+          (subst (IsIndexed after now own) this.1 (record { place = from; vertex = vertices own from (record { object = object; named = sym named }); index = index; marked = marked }))
       by_name false other =
           let ne : name ≢ own = λ e. let yes : nat_eq own name ≡ true = (Decides-eqb own name).1 (sym e) in let no : false ≡ true = sym other ∙ yes in absurd cc in
           other_stays name row ne (is_kept own name new row rows later written found other)
 
 -- an index was replaced by another one of the same row
 pub indexes_replaced : (rows later : Entries) (own : ℕ) (row new : IndexedRow) → lookup (nat_eq own) rows ≡ Some row → ((q : ℕ) → lookup (nat_eq q) later ≡ cond (nat_eq own q) (Some new) (lookup (nat_eq q) rows)) →
-    ((h : SpaceList) (p : Place) → IsRowIndex h p row.names row.cells.items → IsRowIndex h p new.names new.cells.items) → ((places : List Place) → IsQuiet places row → IsQuiet places new) →
+    ((h : SpaceList) (p : Place) → IsRowIndex h p row.names row.cells.items → IsRowIndex h p new.names new.cells.items) → ((places : List Place) → IsMarked places row → IsMarked places new) →
     (h : SpaceList) (remembered : List Place) → AreIndexed h remembered rows → AreIndexed h remembered later
-indexes_replaced rows later own row new there written kept quiet h remembered indexed name shown found = by_name (nat_eq own name) refl
+indexes_replaced rows later own row new there written kept marked h remembered indexed name shown found = by_name (nat_eq own name) refl
   where
     by_name : (b : Bool) → nat_eq own name ≡ b → IsIndexed h remembered name shown
     by_name true same =
         let this = is_written own name new shown rows later written found same in
         let is = indexed own row there in
         subst (λ n. IsIndexed h remembered n shown) this.0
-        (subst (IsIndexed h remembered own) this.1 (record { place = is.place; vertex = is.vertex; index = kept h is.place is.index; quiet = quiet remembered is.quiet }))
+        (subst (IsIndexed h remembered own) this.1 (record { place = is.place; vertex = is.vertex; index = kept h is.place is.index; marked = marked remembered is.marked }))
     by_name false other = indexed name shown (is_kept own name new shown rows later written found other)
 
 -- ---- which names have an index

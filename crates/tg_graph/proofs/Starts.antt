@@ -1,40 +1,42 @@
--- The roots of a nursery collection: rows from a later cell on, in the place of whole ones.
-use Rattle.std.proofs.Common.{◌≡◌, ◌≢◌, ◌↔◌, ℕ, zero, suc, ◌+◌, ◌<◌, ◌≤◌, ◌⊎◌, inl, inr, ◌++◌, ◌==◌, not, Bool, true, false, cond, List, [], ◌∷◌, length, get_or, map, take, refl, sym, ap, subst, arith, ◌∙◌, ⊎_elim}
+-- The roots of a nursery collection: the young cells that rows in Old name, in the place of the rows.
+use Rattle.std.proofs.Common.{◌≡◌, ◌≢◌, ◌↔◌, ℕ, zero, suc, ◌+◌, ◌-◌, ◌<◌, ◌≤◌, ◌⊎◌, inl, inr, ◌++◌, ◌==◌, not, Bool, true, false, cond, List, [], ◌∷◌, length, get_or, map, take, drop, append_assoc, length-drop, refl, sym, ap, subst, arith, ◌∙◌, ⊎_elim}
 use Rattle.std.specs.List.{All, Contains, flat_map, take_while}
-use Rattle.std.proofs.lemmas.Bool.{cases_eq}
+use Rattle.std.proofs.lemmas.Bool.{cases_eq, false≢true, ne_eqb}
+use Rattle.std.proofs.lemmas.Bool.Decides.{nat_tests}
 use Rattle.std.proofs.lemmas.Grind.{flat_map-append}
-use Rattle.std.proofs.lemmas.List.{take_more}
-use Rattle.std.proofs.lemmas.List.Elements.{All-nil, All-cons, All-append, All-map, Contains-append_cases, Contains-append_left, Contains-append_right}
+use Rattle.std.proofs.lemmas.List.{append-nil, drop_all, drop_more, get_or-take, length-take-le, map-append, take_all, take_more}
+use Rattle.std.proofs.lemmas.List.Elements.{All-nil, All-cons, All-append, All-contains, All-map, All-weaker, Contains-append_cases, Contains-append_left, Contains-append_right}
 use Rattle.std.proofs.lemmas.List.Sums.{take_while-cons}
-use Rattle.std.proofs.lemmas.Option.{slice_get_within}
 use Rattle.tg_model.specs.Walks.{Walk-map}
 use Rattle.tg_word.specs.declared.Place.{Place}
 use Rattle.tg_word.specs.Word.{place_in}
 use Rattle.tg_subjects.specs.Subjects.{places_of}
 use Rattle.tg_block.specs.declared.CellKind.TheVariants.{Object, Chunk}
+use Rattle.tg_index.specs.Bits.{bit_of}
 use Rattle.tg_space.specs.SpaceList.{SpaceList, IsSpaceList, BlockList, Holds, cell_at, cells_of, flat_of}
-use Rattle.tg_space.specs.Soundness.{AreSound, IsKindAt, IsRootIn}
+use Rattle.tg_space.specs.Soundness.{AreSound, HasLayout, HasLayoutOf, IsLink, IsReference, IsRootIn, LinksTo, RefersTo}
 use Rattle.tg_space.specs.Closure.{IsInClosure}
 use Rattle.tg_space.specs.Collection.{IsCollection, IsMadeInOld}
 use Rattle.tg_space.specs.Generations.{IsRowTarget, NamesYoung}
-use Rattle.tg_space.specs.Rows.{chunks_from, link_at, row_of}
-use Rattle.tg_space.specs.Targets.{all_root_targets, cells_followed, first_pointer, named_by, pointers_of, root_targets_of, target_in, targets_at, targets_of, young_spaces}
+use Rattle.tg_space.specs.Rows.{chunks_from, link_at, link_of, row_of}
+use Rattle.tg_space.specs.Targets.{all_root_targets, named_by, pointers_of, root_targets_of, target_in, targets_at, targets_of, young_spaces}
 use Rattle.tg_space.specs.declared.kind.Kind.TheVariants.{Nursery}
 use Rattle.tg_space.specs.declared.root.Root.{Root}
 use Rattle.tg_space.specs.declared.root.Root.TheVariants.{Row, Remembered}
-use Rattle.tg_graph.specs.Heap.{AreShorter, CollectAlike, HeapState, IsShorter, IsWellFormed, roots_of}
-use Rattle.tg_graph.specs.Index.{IsIndexed, IsQuietCell, IsStart}
+use Rattle.tg_space.proofs.Pointing.{parts}
+use Rattle.tg_graph.specs.Heap.{AddsRoots, CollectAlike, HeapState, IsRowRoot, IsWellFormed, NamesRow, roots_of}
+use Rattle.tg_graph.specs.Index.{IsIndexed, IsOldPlace}
 use Rattle.tg_graph.specs.Rows.{IsChain, IsVertexAt}
 use Rattle.tg_graph.specs.declared.index.IndexedRow.{IndexedRow}
-use Rattle.tg_graph.proofs.Ages.{slice_get_is}
 use Rattle.tg_graph.proofs.Chains.{chain_chunks, chain_enough, chain_short, row_held}
 use Rattle.tg_graph.proofs.KeptAdopted.{old_stays}
 use Rattle.tg_graph.proofs.KeptHeap.{remembered_cells, remembered_root}
-use Rattle.tg_graph.proofs.Layouts.{chunk_tagged, object_tagged}
-use Rattle.tg_graph.proofs.Members.{Contains-cases, Contains-from_map, Contains-here, Contains-map, Contains-more, Contains-none, found_later}
-use Rattle.tg_graph.proofs.Places.{cell_long}
-use Rattle.tg_graph.proofs.Quiet.{quiet_at}
-use Rattle.tg_graph.proofs.Remembering.{word_names}
+use Rattle.tg_graph.proofs.Places.{layout_at}
+use Rattle.tg_graph.proofs.Members.{Contains-flat_map, Contains-from_flat_map, Contains-from_map, Contains-here, Contains-map, Contains-more}
+
+-- where a list that is too short would be read
+abbrev nowhere : Place
+nowhere = record { space = 0; block = 0; cell = 0 }
 
 -- ---- cells of Old that name no young cell
 
@@ -55,162 +57,310 @@ record IsSilent (h : SpaceList) (p : Place) : Type 0 where
   held : Holds h p
   old : p.space ≡ 0
   none : NamesYoung (cell_at h p) → ⊥
-  first : first_pointer (get_or (cell_at h p) 0 0) ≤ 7
 
 silent_targets : (h : SpaceList) (p : Place) → IsSilent h p → targets_at young_spaces h p ≡ []
 silent_targets h p silent =
     named_none h (pointers_of (cell_at h p)) (λ word has. ⊎_elim (λ z. z) (λ young. absurd (silent.none (word, has, young))) (cases_eq (place_in word).space 0))
 
--- ---- a row from a later cell on
+-- ---- a row in parts
+
+-- the cells of a row that are met in Old
+abbrev met : List Place → List Place
+met ps = take_while (λ q. not (young_spaces q.space)) ps
+
+-- the targets of these cells
+abbrev pub all_targets : SpaceList → List Place → List ℕ
+all_targets h ps = flat_map (targets_at young_spaces h) ps
 
 abbrev targets : SpaceList → Place → List ℕ
 targets h p = root_targets_of young_spaces h (Row p)
 
 -- a cell of Old that is met, and those behind it
-in_front : (p : Place) (ps : List Place) → young_spaces p.space ≡ false → take_while (λ q. not (young_spaces q.space)) (p ∷ ps) ≡ p ∷ take_while (λ q. not (young_spaces q.space)) ps
-in_front p ps stays = take_while-cons (λ (q : Place). not (young_spaces q.space)) p ps ∙ ap (λ (b : Bool). cond (not b) (p ∷ take_while (λ q. not (young_spaces q.space)) ps) []) stays
+in_front : (p : Place) (ps : List Place) → young_spaces p.space ≡ false → met (p ∷ ps) ≡ p ∷ met ps
+in_front p ps stays = take_while-cons (λ (q : Place). not (young_spaces q.space)) p ps ∙ ap (λ (b : Bool). cond (not b) (p ∷ met ps) []) stays
+
+-- behind a young cell none is met
+at_young : (p : Place) (ps : List Place) → young_spaces p.space ≡ true → met (p ∷ ps) ≡ []
+at_young p ps moves = take_while-cons (λ (q : Place). not (young_spaces q.space)) p ps ∙ ap (λ (b : Bool). cond (not b) (p ∷ met ps) []) moves
 
 -- the targets of a row that begins in Old
-row_in_old : (h : SpaceList) (p : Place) → p.space ≡ 0 → targets h p ≡ targets_at young_spaces h p ++ flat_map (targets_at young_spaces h) (take_while (λ q. not (young_spaces q.space)) (chunks_from h (length (cells_of h)) (link_at h p)))
-row_in_old h p old =
-    let stays : young_spaces p.space ≡ false = ap young_spaces old in
-    ap (λ (b : Bool). cond b (flat_of h p ∷ []) (flat_map (targets_at young_spaces h) (cells_followed young_spaces h p))) stays
-    ∙ ap (flat_map (targets_at young_spaces h)) (in_front p (chunks_from h (length (cells_of h)) (link_at h p)) stays)
+row_met : (h : SpaceList) (p : Place) → IsOldPlace p → targets h p ≡ all_targets h (met (row_of h p))
+row_met h p stays = ap (λ (b : Bool). cond b (flat_of h p ∷ []) (all_targets h (met (row_of h p)))) stays
 
-module _ (h : SpaceList) (is : IsSpaceList h) where
-  -- behind a silent cell, in the place of the row from there on
-  one_behind : (p q : Place) (qs : List Place) → IsSilent h p → IsChain h (link_at h p) (q ∷ qs) → length (q ∷ qs) ≤ length (cells_of h) → (targets h q ≡ targets h p) × (q.space ≡ 0)
-  one_behind p q qs silent ends short =
-      let link : get_or (cell_at h p) 7 0 ≡ link_at h p = refl in
-      let old : q.space ≡ 0 =
-      ⊎_elim (λ z. z)
-      (λ young. absurd (silent.none (word_names (cell_at h p) (cell_long h is p silent.held) 7 silent.first (omega arith) (subst (λ (r : Place). r.space ≢ 0) (sym ends.1) young))))
-      (cases_eq q.space 0) in
-      let mine : chunks_from h (length (cells_of h)) (link_at h p) ≡ q ∷ qs = chain_enough h (q ∷ qs) (link_at h p) (length (cells_of h)) ends short in
-      let its : chunks_from h (length (cells_of h)) (link_at h q) ≡ qs = chain_enough h qs (link_at h q) (length (cells_of h)) ends.3 (omega arith) in
-      let inside = in_front q qs (ap young_spaces old) in (
-        row_in_old h q old
-            ∙ ap (λ (rs : List Place). targets_at young_spaces h q ++ flat_map (targets_at young_spaces h) (take_while (λ r. not (young_spaces r.space)) rs)) its
-            ∙ ap (flat_map (targets_at young_spaces h)) (sym inside)
-            ∙ ap (λ (rs : List Place). flat_map (targets_at young_spaces h) (take_while (λ r. not (young_spaces r.space)) rs)) (sym mine)
-            ∙ ap (λ (ts : List ℕ). ts ++ flat_map (targets_at young_spaces h) (take_while (λ r. not (young_spaces r.space)) (chunks_from h (length (cells_of h)) (link_at h p)))) (sym (silent_targets h p silent))
-            ∙ sym (row_in_old h p silent.old),
-        old,
-      )
+-- first so many cells of Old, then the others
+met_parts : (h : SpaceList) (ps : List Place) (k : ℕ) → k ≤ length ps → All IsOldPlace (take k ps) → all_targets h (met ps) ≡ all_targets h (take k ps) ++ all_targets h (met (drop k ps))
+met_parts h ps zero low old = refl
+met_parts h [] (suc k) low old = absurd (omega arith)
+met_parts h (p ∷ ps) (suc k) low old =
+    ap (all_targets h) (in_front p ps (old zero p (omega arith)))
+    ∙ ap (λ (ts : List ℕ). targets_at young_spaces h p ++ ts) (met_parts h ps k (omega arith) (λ j d below. old (suc j) d (omega arith)))
+    ∙ sym (append_assoc (targets_at young_spaces h p) (all_targets h (take k ps)) (all_targets h (met (drop k ps))))
 
-  -- behind so many silent cells
-  from_later : (p : Place) (ps : List Place) → IsChain h (link_at h p) ps → length ps ≤ length (cells_of h) → (number : ℕ) (d : Place) → number < length (p ∷ ps) → ((k : ℕ) → k < number → IsSilent h (get_or (p ∷ ps) k d)) → targets h (get_or (p ∷ ps) number d) ≡ targets h p
-  from_later p ps ends short zero d low silent = refl
-  from_later p [] ends short (suc k) d low silent = absurd (omega arith)
-  from_later p (q ∷ qs) ends short (suc k) d low silent =
-      let first = one_behind p q qs (silent zero (omega arith)) ends short in
-      from_later q qs ends.3 (omega arith) k d (omega arith) (λ j less. silent (suc j) (omega arith)) ∙ first.0
+-- cells that have no target, behind so many
+silent_between : (h : SpaceList) (ps : List Place) (i n : ℕ) → i + n ≤ length ps → ((k : ℕ) (d : Place) → i ≤ k → k < i + n → targets_at young_spaces h (get_or ps k d) ≡ []) → all_targets h (take (i + n) ps) ≡ all_targets h (take i ps)
+silent_between h ps i zero low silent = ap (λ k. all_targets h (take k ps)) (omega arith)
+silent_between h ps i (suc n) low silent =
+    let here : all_targets h (get_or ps (i + n) nowhere ∷ []) ≡ [] = ap (λ (ts : List ℕ). ts ++ []) (silent (i + n) nowhere (omega arith) (omega arith)) in
+    ap (λ k. all_targets h (take k ps)) (omega arith)
+    ∙ ap (all_targets h) (take_more ps (i + n) nowhere (omega arith))
+    ∙ flat_map-append (targets_at young_spaces h) (take (i + n) ps) (get_or ps (i + n) nowhere ∷ [])
+    ∙ ap (λ (ts : List ℕ). all_targets h (take (i + n) ps) ++ ts) here
+    ∙ append-nil (all_targets h (take (i + n) ps))
+    ∙ silent_between h ps i n (omega arith) (λ k d from below. silent k d from (omega arith))
 
--- ---- the rows of a heap
+-- the row from a later cell on
+row_later : (h : SpaceList) (p : Place) (ps : List Place) → IsChain h (link_at h p) ps → length ps ≤ length (cells_of h) → (k : ℕ) (d : Place) → k < length (p ∷ ps) → row_of h (get_or (p ∷ ps) k d) ≡ drop k (p ∷ ps)
+row_later h p ps ends short zero d low = ap (λ (qs : List Place). p ∷ qs) (chain_enough h ps (link_at h p) (length (cells_of h)) ends short)
+row_later h p [] ends short (suc k) d low = absurd (omega arith)
+row_later h p (q ∷ qs) ends short (suc k) d low = row_later h q qs ends.3 (omega arith) k d (omega arith)
 
-module _ (s : HeapState) (formed : IsWellFormed s) (is : IsSpaceList s.table.spaces) where
+module _ (h : SpaceList) (p : Place) (ps : List Place) (ends : IsChain h (link_at h p) ps) (short : length ps ≤ length (cells_of h)) (k : ℕ) (within : k ≤ length (p ∷ ps)) (old : All IsOldPlace (take k (p ∷ ps))) where
+  whole : row_of h p ≡ p ∷ ps
+  whole = row_later h p ps ends short zero p (omega arith)
+
+  first_old : 0 < k → IsOldPlace p
+  first_old some = subst IsOldPlace (get_or-take k (p ∷ ps) zero p some) (old zero p (omega (arith, length-take-le k (p ∷ ps) within)))
+
+  split : 0 < k → targets h p ≡ all_targets h (take k (p ∷ ps)) ++ all_targets h (met (drop k (p ∷ ps)))
+  split some = row_met h p (first_old some) ∙ ap (λ (qs : List Place). all_targets h (met qs)) whole ∙ met_parts h (p ∷ ps) k within old
+
+  behind : (d : Place) → k < length (p ∷ ps) → drop k (p ∷ ps) ≡ get_or (p ∷ ps) k d ∷ drop (k + 1) (p ∷ ps)
+  behind d low = drop_more (p ∷ ps) k d low
+
+  -- no cell of the row is left
+  pub ends_all : k ≡ length (p ∷ ps) → all_targets h (take k (p ∷ ps)) ≡ targets h p
+  ends_all all =
+      sym (split (omega (arith, all)) ∙ ap (λ (qs : List Place). all_targets h (take k (p ∷ ps)) ++ all_targets h (met qs)) (drop_all k (p ∷ ps) (omega (arith, all)))
+      ∙ append-nil (all_targets h (take k (p ∷ ps))))
+
+  -- the next cell is young
+  pub ends_young : 0 < k → (d : Place) → k < length (p ∷ ps) → young_spaces (get_or (p ∷ ps) k d).space ≡ true → all_targets h (take k (p ∷ ps)) ≡ targets h p
+  ends_young some d low moves =
+      sym (split some
+      ∙ ap (λ (qs : List Place). all_targets h (take k (p ∷ ps)) ++ all_targets h (met qs)) (behind d low)
+      ∙ ap (λ (qs : List Place). all_targets h (take k (p ∷ ps)) ++ all_targets h qs) (at_young (get_or (p ∷ ps) k d) (drop (k + 1) (p ∷ ps)) moves)
+      ∙ append-nil (all_targets h (take k (p ∷ ps))))
+
+  -- the next cell is the object, or lies in Old
+  pub ends_row : (d : Place) → k < length (p ∷ ps) → (k ≡ 0) ⊎ IsOldPlace (get_or (p ∷ ps) k d) → all_targets h (take k (p ∷ ps)) ++ targets h (get_or (p ∷ ps) k d) ≡ targets h p
+  ends_row d low either = by_first (cases_eq k 0) either
+    where
+      by_first : (k ≡ 0) ⊎ (k ≢ 0) → (k ≡ 0) ⊎ IsOldPlace (get_or (p ∷ ps) k d) → all_targets h (take k (p ∷ ps)) ++ targets h (get_or (p ∷ ps) k d) ≡ targets h p
+      by_first (inl none) _ = ap (λ n. all_targets h (take n (p ∷ ps)) ++ targets h (get_or (p ∷ ps) n d)) none
+      by_first (inr some) (inl none) = absurd (some none)
+      by_first (inr some) (inr here) =
+          ap (λ (ts : List ℕ). all_targets h (take k (p ∷ ps)) ++ ts)
+          (row_met h (get_or (p ∷ ps) k d) here ∙ ap (λ (qs : List Place). all_targets h (met qs)) (row_later h p ps ends short k d low))
+          ∙ sym (split (omega (arith, some)))
+
+-- ---- roots that come behind others
+
+pub none_added : (h : SpaceList) (roots : List Root) → AddsRoots h [] roots roots
+none_added h roots = record { more = []; is = sym (append-nil roots); rows = All-nil (IsRowRoot h); targets = refl }
+
+pub both_added : (h : SpaceList) (ts us : List ℕ) (roots mid later : List Root) → AddsRoots h ts roots mid → AddsRoots h us mid later → AddsRoots h (ts ++ us) roots later
+both_added h ts us roots mid later one two = record {
+  more = one.more ++ two.more;
+  is = two.is ∙ ap (λ (rs : List Root). rs ++ two.more) one.is ∙ append_assoc roots one.more two.more;
+  rows = All-append (IsRowRoot h) one.more two.more one.rows two.rows;
+  targets = flat_map-append (root_targets_of young_spaces h) one.more two.more ∙ ap (λ (xs : List ℕ). xs ++ all_root_targets young_spaces h two.more) one.targets ∙ ap (λ (xs : List ℕ). ts ++ xs) two.targets;
+}
+
+pub row_added : (h : SpaceList) (roots later : List Root) (p : Place) → IsRootIn h (Row p) → later ≡ roots ++ Row p ∷ [] → AddsRoots h (targets h p) roots later
+row_added h roots later p sound is = record {
+  more = Row p ∷ [];
+  is = is;
+  rows = All-cons (IsRowRoot h) (Row p) [] (record { cell = p; is = refl; sound = sound }) (All-nil (IsRowRoot h));
+  targets = append-nil (targets h p);
+}
+
+-- ---- the words of a cell
+
+-- a word that names a young cell has the targets of the row that begins there
+word_added : (h : SpaceList) (word : ℕ) → young_spaces (place_in word).space ≡ true → target_in young_spaces h word ≡ targets h (place_in word)
+word_added h word moves = by_word (cases_eq word 0)
+  where
+    by_word : (word ≡ 0) ⊎ (word ≢ 0) → target_in young_spaces h word ≡ targets h (place_in word)
+    by_word (inl none) = let no : young_spaces (place_in 0).space ≡ true = subst (λ w. young_spaces (place_in w).space ≡ true) none moves in absurd (false≢true no)
+    by_word (inr some) = rw (ne_eqb word 0 some, moves) refl
+
+word_silent : (h : SpaceList) (word : ℕ) → young_spaces (place_in word).space ≡ false → target_in young_spaces h word ≡ []
+word_silent h word stays = by_test (word == 0)
+  where
+    by_test : (b : Bool) → cond b [] (cond (young_spaces (place_in word).space) (flat_of h (place_in word) ∷ []) []) ≡ []
+    by_test true = refl
+    by_test false = rw stays refl
+
+-- what a word names came to the roots
+pub word_named : (h : SpaceList) (word : ℕ) → young_spaces (place_in word).space ≡ true → NamesRow h word → (roots later : List Root) → later ≡ roots ++ Row (place_in word) ∷ [] → AddsRoots h (target_in young_spaces h word) roots later
+word_named h word moves names roots later is =
+    subst (λ (ts : List ℕ). AddsRoots h ts roots later) (sym (word_added h word moves)) (row_added h roots later (place_in word) (names (λ none. false≢true (sym (ap young_spaces none) ∙ moves))) is)
+
+pub word_passed : (h : SpaceList) (word : ℕ) → young_spaces (place_in word).space ≡ false → (roots : List Root) → AddsRoots h (target_in young_spaces h word) roots roots
+word_passed h word stays roots = subst (λ (ts : List ℕ). AddsRoots h ts roots roots) (sym (word_silent h word stays)) (none_added h roots)
+
+-- one more word
+pub words_more : (h : SpaceList) (words : List ℕ) (i d : ℕ) → i < length words → (roots mid later : List Root) → AddsRoots h (named_by young_spaces h (take i words)) roots mid → AddsRoots h (target_in young_spaces h (get_or words i d)) mid later →
+    AddsRoots h (named_by young_spaces h (take (i + 1) words)) roots later
+words_more h words i d low roots mid later before here =
+    subst (λ (ts : List ℕ). AddsRoots h ts roots later)
+    (sym (ap (named_by young_spaces h) (take_more words i d low)
+    ∙ flat_map-append (target_in young_spaces h) (take i words) (get_or words i d ∷ [])
+    ∙ ap (λ (ts : List ℕ). named_by young_spaces h (take i words) ++ ts) (append-nil (target_in young_spaces h (get_or words i d)))))
+    (both_added h (named_by young_spaces h (take i words)) (target_in young_spaces h (get_or words i d)) roots mid later before here)
+
+-- the words from one on
+pub rest_taken : (words : List ℕ) (n k : ℕ) → length words ≤ n + k → take k (drop n words) ≡ drop n words
+rest_taken words n k low = take_all k (drop n words) (omega (arith, length-drop n words))
+
+-- references name objects and links chunks
+names_row : (h : SpaceList) (word : ℕ) → IsReference h word ⊎ IsLink h word → NamesRow h word
+names_row h word either young = ⊎_elim
+    (λ reference. ⊎_elim (λ none. absurd (no_word none)) (λ (r : RefersTo h word). inl r.object) reference)
+    (λ link. ⊎_elim (λ none. absurd (no_word none)) (λ (r : LinksTo h word). inr r.chunk) link)
+    either
+  where
+    no_word : word ≡ 0 → ⊥
+    no_word none = young (ap (λ w. (place_in w).space) none)
+
+cell_parts : (h : SpaceList) (words : List ℕ) → length words ≡ 8 → (n m : ℕ) → n + m ≡ 7 → All (IsReference h) (take m (drop n words)) → IsLink h (link_of words) → All (NamesRow h) (drop n words)
+cell_parts h words long n m sum references link =
+    subst (λ (ws : List ℕ). All (NamesRow h) ws) (sym (parts h words long n m sum))
+    (All-append (NamesRow h) (take m (drop n words)) (link_of words ∷ [])
+    (All-weaker (IsReference h) (NamesRow h) (λ word is. names_row h word (inl is)) (take m (drop n words)) references)
+    (All-cons (NamesRow h) (link_of words) [] (names_row h (link_of words) (inr link)) (All-nil (NamesRow h))))
+
+pub cell_names_rows : (h : SpaceList) (words : List ℕ) → length words ≡ 8 → HasLayout h words → All (NamesRow h) (pointers_of words)
+cell_names_rows h words long layout = by_tests (get_or words 0 0 == 0) refl (get_or words 0 0 == 1) refl (get_or words 0 0 == 2) refl
+  where
+    none_left : All (NamesRow h) (drop 8 words)
+    none_left = subst (λ (ws : List ℕ). All (NamesRow h) ws) (sym (drop_all 8 words (omega arith))) (All-nil (NamesRow h))
+
+    by_tests : (z : Bool) → (get_or words 0 0 == 0) ≡ z → (o : Bool) → (get_or words 0 0 == 1) ≡ o → (k : Bool) → (get_or words 0 0 == 2) ≡ k → All (NamesRow h) (pointers_of words)
+    by_tests true z _ _ _ _ = let zero_tag : get_or words 0 0 ≡ 0 = grind (arith, nat_tests) in rw zero_tag none_left
+    by_tests false z true o _ _ = let shape : HasLayoutOf h words Object = rw (z, o) at layout in rw o (cell_parts h words long 4 3 refl shape.1 shape.2)
+    by_tests false z false o true k = let shape : HasLayoutOf h words Chunk = rw (z, o, k) at layout in rw (o, k) (cell_parts h words long 1 6 refl shape.0 shape.1)
+    by_tests false z false o false k = rw (o, k) none_left
+
+-- ---- the row of an active subject
+
+module _ (s : HeapState) (formed : IsWellFormed s) (is : IsSpaceList s.table.spaces) (x : ℕ) (p : Place) (vertex : IsVertexAt s.table.spaces x p) (row : IndexedRow) (indexed : IsIndexed s.table.spaces s.remembered x row) where
   abbrev h : SpaceList
   h = s.table.spaces
 
+  abbrev qs : List Place
+  qs = chunks_from h (length (cells_of h)) (link_at h p)
+
+  ends : IsChain h (link_at h p) qs
+  ends = formed.graph.ends p vertex.object
+
+  pub row_cells : row.cells.items ≡ p ∷ qs
+  row_cells = subst (λ (r : Place). row.cells.items ≡ row_of h r) (formed.graph.names indexed.place p indexed.vertex.object vertex.object (indexed.vertex.named ∙ sym vertex.named)) indexed.index.cells
+
+  held : All (Holds h) (p ∷ qs)
+  held = row_held h p qs vertex.object ends
+
+  short : length (p ∷ qs) ≤ length (cells_of h)
+  short = chain_short h is [] formed.graph.sound p qs vertex.object ends
+
+  kind : (k : ℕ) (d : Place) → k < length (p ∷ qs) → IsRootIn h (Row (get_or (p ∷ qs) k d))
+  kind zero d low = inl vertex.object
+  kind (suc k) d low = inr (chain_chunks h qs (link_at h p) ends k d (omega arith))
+
+  -- a cell of the row by its number
+  pub cell_held : (k : ℕ) (d : Place) → k < length row.cells.items → Holds h (get_or row.cells.items k d)
+  cell_held k d low = subst (λ (ps : List Place). Holds h (get_or ps k d)) (sym row_cells) (held k d (subst (λ (ps : List Place). k < length ps) row_cells low))
+
+  pub cell_layout : (k : ℕ) (d : Place) → k < length row.cells.items → HasLayout h (cell_at h (get_or row.cells.items k d))
+  cell_layout k d low = layout_at h is [] formed.graph.sound (get_or row.cells.items k d) (cell_held k d low)
+
+  pub cell_root : (k : ℕ) (d : Place) → k < length row.cells.items → IsRootIn h (Row (get_or row.cells.items k d))
+  cell_root k d low = subst (λ (ps : List Place). IsRootIn h (Row (get_or ps k d))) (sym row_cells) (kind k d (subst (λ (ps : List Place). k < length ps) row_cells low))
+
+  -- one that isn't marked, and is known to lie in Old, has no young target
+  unmarked_silent : (k : ℕ) (d : Place) → k < row.old_cells → bit_of row.noted k ≡ 0 → targets_at young_spaces h (get_or row.cells.items k d) ≡ []
+  unmarked_silent k d low none =
+      let within = indexed.marked.aged.within in
+      let old : IsOldPlace (get_or row.cells.items k d) = subst IsOldPlace (get_or-take row.old_cells row.cells.items k d low) (indexed.marked.aged.cells k d (omega (arith, low, length-take-le row.old_cells row.cells.items within))) in
+      let there = cell_held k d (omega arith) in
+      let space = old_stays (get_or row.cells.items k d).space old in
+      silent_targets h (get_or row.cells.items k d) (record {
+        held = there;
+        old = space;
+        none = λ names.
+            let noted = formed.remembered.all (get_or row.cells.items k d) (record { held = there; space = space }) names in
+            let one = indexed.marked.marked k d low noted in
+            omega (arith, none, one);
+      })
+
+  -- the targets up to the next marked cell are those of the cells before
+  pub skipped : (from later : ℕ) → from ≤ later → later ≤ row.old_cells → ((m : ℕ) → from ≤ m → m < later → bit_of row.noted m ≡ 0) → all_targets h (take later row.cells.items) ≡ all_targets h (take from row.cells.items)
+  skipped from later low within unset =
+      let inside = indexed.marked.aged.within in
+      let sum : from + (later - from) ≡ later = omega arith in
+      ap (λ n. all_targets h (take n row.cells.items)) (sym sum)
+      ∙ silent_between h row.cells.items from (later - from) (omega arith) (λ k d above below. unmarked_silent k d (omega arith) (unset k above (omega arith)))
+
+  -- one more cell
+  pub stepped : (from number : ℕ) (d : Place) → from ≤ number → number < row.old_cells → ((m : ℕ) → from ≤ m → m < number → bit_of row.noted m ≡ 0) → (roots mid later : List Root) → AddsRoots h (all_targets h (take from row.cells.items)) roots mid →
+      AddsRoots h (targets_at young_spaces h (get_or row.cells.items number d)) mid later → AddsRoots h (all_targets h (take (number + 1) row.cells.items)) roots later
+  stepped from number d low within unset roots mid later before here =
+      let inside = indexed.marked.aged.within in
+      subst (λ (ts : List ℕ). AddsRoots h ts roots later)
+      (sym (ap (all_targets h) (take_more row.cells.items number d (omega arith)) ∙ flat_map-append (targets_at young_spaces h) (take number row.cells.items) (get_or row.cells.items number d ∷ [])
+      ∙ ap (λ (ts : List ℕ). ts ++ (targets_at young_spaces h (get_or row.cells.items number d) ++ [])) (skipped from number low (omega arith) unset)
+      ∙ ap (λ (ts : List ℕ). all_targets h (take from row.cells.items) ++ ts) (append-nil (targets_at young_spaces h (get_or row.cells.items number d)))))
+      (both_added h (all_targets h (take from row.cells.items)) (targets_at young_spaces h (get_or row.cells.items number d)) roots mid later before here)
+
   -- the whole row
-  pub whole_row : (p : Place) → IsKindAt h Object p → IsShorter h p (Row p)
-  whole_row p object = record { cell = p; is = refl; sound = inl object; targets = refl }
+  known : All IsOldPlace (take row.old_cells (p ∷ qs))
+  known = subst (λ (ps : List Place). All IsOldPlace (take row.old_cells ps)) row_cells indexed.marked.aged.cells
 
-  -- the row from the cell on at which its index says to begin
-  pub shorter_row : (x : ℕ) (p : Place) → IsVertexAt h x p → (row : IndexedRow) → IsIndexed h s.remembered x row → (q : Place) → IsStart row q → IsShorter h p (Row q)
-  shorter_row x p vertex row indexed q start = record {
-    cell = q;
-    is = refl;
-    sound = sound start.number refl;
-    targets = ap (targets h) (sym here) ∙ from_later h is p qs ends (let few = short in omega arith) start.number q inside silent;
-  }
-    where
-      qs : List Place
-      qs = chunks_from h (length (cells_of h)) (link_at h p)
+  within_row : row.old_cells ≤ length (p ∷ qs)
+  within_row = subst (λ (ps : List Place). row.old_cells ≤ length ps) row_cells indexed.marked.aged.within
 
-      ends : IsChain h (link_at h p) qs
-      ends = formed.graph.ends p vertex.object
+  all_known : (from : ℕ) → from ≤ row.old_cells → ((m : ℕ) → from ≤ m → bit_of row.noted m ≡ 0) → all_targets h (take row.old_cells (p ∷ qs)) ≡ all_targets h (take from row.cells.items)
+  all_known from low unset = ap (λ (ps : List Place). all_targets h (take row.old_cells ps)) (sym row_cells) ∙ skipped from row.old_cells low (omega arith) (λ m above below. unset m above)
 
-      same : indexed.place ≡ p
-      same = formed.graph.names indexed.place p indexed.vertex.object vertex.object (indexed.vertex.named ∙ sym vertex.named)
+  pub row_done : (from : ℕ) → from ≤ row.old_cells → ((m : ℕ) → from ≤ m → bit_of row.noted m ≡ 0) → row.old_cells ≡ length row.cells.items → (roots later : List Root) → AddsRoots h (all_targets h (take from row.cells.items)) roots later → AddsRoots h (targets h p) roots later
+  row_done from low unset all roots later added =
+      let few = short in
+      subst (λ (ts : List ℕ). AddsRoots h ts roots later)
+      (sym (all_known from low unset) ∙ ends_all h p qs ends (omega arith) row.old_cells within_row known (all ∙ ap (λ (ps : List Place). length ps) row_cells)) added
 
-      cells : row.cells.items ≡ p ∷ qs
-      cells = subst (λ (r : Place). row.cells.items ≡ row_of h r) same indexed.index.cells
+  pub row_young : (from : ℕ) → from ≤ row.old_cells → ((m : ℕ) → from ≤ m → bit_of row.noted m ≡ 0) → 0 < row.old_cells → (d : Place) → row.old_cells < length row.cells.items → young_spaces (get_or row.cells.items row.old_cells d).space ≡ true →
+      (roots later : List Root) → AddsRoots h (all_targets h (take from row.cells.items)) roots later → AddsRoots h (targets h p) roots later
+  row_young from low unset some d inside moves roots later added =
+      let few = short in
+      subst (λ (ts : List ℕ). AddsRoots h ts roots later)
+      (sym (all_known from low unset)
+      ∙ ends_young h p qs ends (omega arith) row.old_cells within_row known some d (subst (λ (ps : List Place). row.old_cells < length ps) row_cells inside) (subst (λ (ps : List Place). young_spaces (get_or ps row.old_cells d).space ≡ true) row_cells moves))
+      added
 
-      inside : start.number < length (p ∷ qs)
-      inside = subst (λ (ps : List Place). start.number < length ps) cells (slice_get_within row.cells.items start.number q start.at)
-
-      here : get_or (p ∷ qs) start.number q ≡ q
-      here = ap (λ (ps : List Place). get_or ps start.number q) (sym cells) ∙ slice_get_is row.cells.items start.number q start.at
-
-      held : All (Holds h) (p ∷ qs)
-      held = row_held h p qs vertex.object ends
-
-      short : length (p ∷ qs) ≤ length (cells_of h)
-      short = chain_short h is [] formed.graph.sound p qs vertex.object ends
-
-      kind : (k : ℕ) (d : Place) → k < length (p ∷ qs) → IsKindAt h Object (get_or (p ∷ qs) k d) ⊎ IsKindAt h Chunk (get_or (p ∷ qs) k d)
-      kind zero d low = inl vertex.object
-      kind (suc k) d low = inr (chain_chunks h qs (link_at h p) ends k d (omega arith))
-
-      sound : (n : ℕ) → n ≡ start.number → IsRootIn h (Row q)
-      sound n at = subst (λ (r : Place). IsKindAt h Object r ⊎ IsKindAt h Chunk r) here (kind start.number q inside)
-
-      first : (r : Place) → IsKindAt h Object r ⊎ IsKindAt h Chunk r → first_pointer (get_or (cell_at h r) 0 0) ≤ 7
-      first r (inl object) = let four : first_pointer (get_or (cell_at h r) 0 0) ≡ 4 = ap first_pointer ((object_tagged (cell_at h r)).0 object.is) in omega arith
-      first r (inr chunk) = let one : first_pointer (get_or (cell_at h r) 0 0) ≡ 1 = ap first_pointer ((chunk_tagged (cell_at h r)).0 chunk.is) in omega arith
-
-      silent : (k : ℕ) → k < start.number → IsSilent h (get_or (p ∷ qs) k q)
-      silent k low =
-          let known = start.known in
-          let within = inside in
-          let quiet = subst (λ (ps : List Place). IsQuietCell s.remembered (get_or ps k q)) cells (quiet_at s.remembered row indexed.quiet k q (omega arith)) in
-          let old = old_stays (get_or (p ∷ qs) k q).space quiet.0 in
-          record {
-            held = held k q (omega arith);
-            old = old;
-            none = λ names. quiet.1 (formed.remembered.all (get_or (p ∷ qs) k q) (record { held = held k q (omega arith); space = old }) names);
-            first = first (get_or (p ∷ qs) k q) (kind k q (omega arith));
-          }
+  pub row_rest : (from : ℕ) → from ≤ row.old_cells → ((m : ℕ) → from ≤ m → bit_of row.noted m ≡ 0) → (d : Place) → row.old_cells < length row.cells.items → (row.old_cells ≡ 0) ⊎ IsOldPlace (get_or row.cells.items row.old_cells d) →
+      (roots mid later : List Root) → AddsRoots h (all_targets h (take from row.cells.items)) roots mid → later ≡ mid ++ Row (get_or row.cells.items row.old_cells d) ∷ [] → AddsRoots h (targets h p) roots later
+  row_rest from low unset d inside either roots mid later added is =
+      let few = short in
+      let rest = get_or row.cells.items row.old_cells d in
+      subst (λ (ts : List ℕ). AddsRoots h ts roots later)
+      (ap (λ (ts : List ℕ). ts ++ targets h rest) (sym (all_known from low unset))
+      ∙ ap (λ (ps : List Place). all_targets h (take row.old_cells (p ∷ qs)) ++ targets h (get_or ps row.old_cells d)) row_cells
+      ∙ ends_row h p qs ends (omega arith) row.old_cells within_row known d (subst (λ (ps : List Place). row.old_cells < length ps) row_cells inside)
+      (subst (λ (ps : List Place). (row.old_cells ≡ 0) ⊎ IsOldPlace (get_or ps row.old_cells d)) row_cells either))
+      (both_added h (all_targets h (take from row.cells.items)) (targets h rest) roots mid later added (row_added h mid later rest (cell_root row.old_cells d inside) is))
 
 -- ---- all rows
 
-pub one_shorter : (h : SpaceList) (ps : List Place) (roots : List Root) → AreShorter h ps roots → (p : Place) (root : Root) → IsShorter h p root → AreShorter h (ps ++ p ∷ []) (roots ++ root ∷ [])
-one_shorter h [] [] are p root one = (one, tt)
-one_shorter h [] (r ∷ rs) are p root one = absurd are
-one_shorter h (q ∷ qs) [] are p root one = absurd are
-one_shorter h (q ∷ qs) (r ∷ rs) are p root one = (are.0, one_shorter h qs rs are.1 p root one)
-
-pub more_shorter : (h : SpaceList) (ps : List Place) (roots : List Root) (n : ℕ) (d : Place) → n < length ps → AreShorter h (take n ps) roots → (root : Root) → IsShorter h (get_or ps n d) root → AreShorter h (take (n + 1) ps) (roots ++ root ∷ [])
-more_shorter h ps roots n d low are root one = subst (λ (qs : List Place). AreShorter h qs (roots ++ root ∷ [])) (sym (take_more ps n d low)) (one_shorter h (take n ps) roots are (get_or ps n d) root one)
-
-same_targets : (h : SpaceList) (ps : List Place) (roots : List Root) → AreShorter h ps roots → all_root_targets young_spaces h roots ≡ all_root_targets young_spaces h (map (λ p. Row p) ps)
-same_targets h [] [] are = refl
-same_targets h [] (r ∷ rs) are = absurd are
-same_targets h (p ∷ ps) [] are = absurd are
-same_targets h (p ∷ ps) (r ∷ rs) are =
-    ap (λ (ts : List ℕ). ts ++ all_root_targets young_spaces h rs) are.0.targets
-    ∙ ap (λ (ts : List ℕ). root_targets_of young_spaces h (Row p) ++ ts) (same_targets h ps rs are.1)
-
-shorter_sound : (h : SpaceList) (ps : List Place) (roots : List Root) → AreShorter h ps roots → All (IsRootIn h) roots
-shorter_sound h [] [] are = All-nil (IsRootIn h)
-shorter_sound h [] (r ∷ rs) are = absurd are
-shorter_sound h (p ∷ ps) [] are = absurd are
-shorter_sound h (p ∷ ps) (r ∷ rs) are = All-cons (IsRootIn h) r rs are.0.sound (shorter_sound h ps rs are.1)
-
-shorter_of : (h : SpaceList) (ps : List Place) (roots : List Root) → AreShorter h ps roots → (root : Root) → Contains roots root → (p : Place) × Contains ps p × IsShorter h p root
-shorter_of h [] [] are root has = absurd (Contains-none root has)
-shorter_of h [] (r ∷ rs) are root has = absurd are
-shorter_of h (p ∷ ps) [] are root has = absurd are
-shorter_of h (p ∷ ps) (r ∷ rs) are root has =
-    ⊎_elim (λ same. (p, Contains-here p ps, subst (IsShorter h p) same are.0)) (λ later. found_later (λ q. IsShorter h q root) p ps (shorter_of h ps rs are.1 root later)) (Contains-cases r rs root has)
-
-shorter_in : (h : SpaceList) (ps : List Place) (roots : List Root) → AreShorter h ps roots → (p : Place) → Contains ps p → (root : Root) × Contains roots root × IsShorter h p root
-shorter_in h [] [] are p has = absurd (Contains-none p has)
-shorter_in h [] (r ∷ rs) are p has = absurd are
-shorter_in h (q ∷ qs) [] are p has = absurd are
-shorter_in h (q ∷ qs) (r ∷ rs) are p has =
-    ⊎_elim (λ same. (r, Contains-here r rs, subst (λ (x : Place). IsShorter h x r) same are.0)) (λ later. found_later (IsShorter h p) r rs (shorter_in h qs rs are.1 p later)) (Contains-cases q qs p has)
+-- one more subject
+pub more_rows : (h : SpaceList) (ps : List Place) (n : ℕ) (d : Place) → n < length ps → (roots mid later : List Root) → AddsRoots h (all_root_targets young_spaces h (map (λ p. Row p) (take n ps))) roots mid → AddsRoots h (targets h (get_or ps n d)) mid later →
+    AddsRoots h (all_root_targets young_spaces h (map (λ p. Row p) (take (n + 1) ps))) roots later
+more_rows h ps n d low roots mid later before here =
+    subst (λ (ts : List ℕ). AddsRoots h ts roots later)
+    (sym (ap (λ (qs : List Place). all_root_targets young_spaces h (map (λ p. Row p) qs)) (take_more ps n d low)
+    ∙ ap (all_root_targets young_spaces h) (map-append (λ p. Row p) (take n ps) (get_or ps n d ∷ []))
+    ∙ flat_map-append (root_targets_of young_spaces h) (map (λ p. Row p) (take n ps)) (Row (get_or ps n d) ∷ [])
+    ∙ ap (λ (ts : List ℕ). all_root_targets young_spaces h (map (λ p. Row p) (take n ps)) ++ ts) (append-nil (targets h (get_or ps n d)))))
+    (both_added h (all_root_targets young_spaces h (map (λ p. Row p) (take n ps))) (targets h (get_or ps n d)) roots mid later before here)
 
 -- ---- roots whose targets are the same
 
@@ -248,7 +398,7 @@ collected_from h roots others same to back forward aged old notes is = record {
 
 -- ---- a collection from them
 
-module _ (s : HeapState) (formed : IsWellFormed s) (starts : List Root) (are : AreShorter s.table.spaces (places_of s.subjects) starts) where
+module _ (s : HeapState) (formed : IsWellFormed s) (starts : List Root) (are : AddsRoots s.table.spaces (all_root_targets young_spaces s.table.spaces (map (λ p. Row p) (places_of s.subjects))) [] starts) where
   abbrev spaces : SpaceList
   spaces = s.table.spaces
 
@@ -258,17 +408,23 @@ module _ (s : HeapState) (formed : IsWellFormed s) (starts : List Root) (are : A
   abbrev wholes : List Root
   wholes = map (λ p. Row p) (places_of s.subjects)
 
+  rows : All (IsRowRoot spaces) starts
+  rows = subst (All (IsRowRoot spaces)) (sym are.is) are.rows
+
+  same_targets : all_root_targets young_spaces spaces starts ≡ all_root_targets young_spaces spaces wholes
+  same_targets = ap (all_root_targets young_spaces spaces) are.is ∙ are.targets
+
   pub starts_sound : AreSound spaces (starts ++ cells)
   starts_sound = record {
     cells = formed.graph.sound.cells;
     links = formed.graph.sound.links;
-    roots_held = All-append (IsRootIn spaces) starts cells (shorter_sound spaces (places_of s.subjects) starts are) (All-map (IsRootIn spaces) (λ p. Remembered p) s.remembered (remembered_cells s formed));
+    roots_held = All-append (IsRootIn spaces) starts cells (All-weaker (IsRowRoot spaces) (IsRootIn spaces) (λ root row. row.sound) starts rows) (All-map (IsRootIn spaces) (λ p. Remembered p) s.remembered (remembered_cells s formed));
   }
 
   pub all_same : all_root_targets young_spaces spaces (starts ++ cells) ≡ all_root_targets young_spaces spaces (roots_of Nursery s)
   all_same =
       flat_map-append (root_targets_of young_spaces spaces) starts cells
-      ∙ ap (λ (ts : List ℕ). ts ++ all_root_targets young_spaces spaces cells) (same_targets spaces (places_of s.subjects) starts are)
+      ∙ ap (λ (ts : List ℕ). ts ++ all_root_targets young_spaces spaces cells) same_targets
       ∙ sym (flat_map-append (root_targets_of young_spaces spaces) wholes cells)
 
   -- a row is none of the remembered cells
@@ -280,16 +436,18 @@ module _ (s : HeapState) (formed : IsWellFormed s) (starts : List Root) (are : A
 
   no_start : (p : Place) → Contains starts (Remembered p) → ⊥
   no_start p has =
-      let found = shorter_of spaces (places_of s.subjects) starts are (Remembered p) has in
-      let no : Remembered p ≡ Row found.2.cell = found.2.is in
+      let row = All-contains (IsRowRoot spaces) starts (Remembered p) rows has in
+      let no : Remembered p ≡ Row row.cell = row.is in
       absurd cc
 
   start_targets : HaveTargetsIn spaces (starts ++ cells) (roots_of Nursery s)
   start_targets = record {
     rows = λ c target.
         let start : Contains starts (Row target.0) = ⊎_elim (λ here. here) (λ cell. absurd (no_cell target.0 cell)) (Contains-append_cases starts cells (Row target.0) target.1) in
-        let found = shorter_of spaces (places_of s.subjects) starts are (Row target.0) start in
-        (found.0, Contains-append_left wholes cells (Row found.0) (Contains-map (λ (p : Place). Row p) (places_of s.subjects) found.0 found.1), subst (λ (ts : List ℕ). Contains ts c) found.2.targets target.2);
+        let among = Contains-flat_map (root_targets_of young_spaces spaces) starts (Row target.0) c start target.2 in
+        let found = Contains-from_flat_map (root_targets_of young_spaces spaces) wholes c (subst (λ (ts : List ℕ). Contains ts c) same_targets among) in
+        let row = Contains-from_map (λ (p : Place). Row p) (places_of s.subjects) found.0 found.1 in
+        (row.0, Contains-append_left wholes cells (Row row.0) (Contains-map (λ (p : Place). Row p) (places_of s.subjects) row.0 row.1), subst (λ (root : Root). Contains (root_targets_of young_spaces spaces root) c) (sym row.2) found.2);
     cells = λ p has.
         ⊎_elim (λ start. absurd (no_start p start)) (λ cell. Contains-append_right wholes cells (Remembered p) cell) (Contains-append_cases starts cells (Remembered p) has);
   }
@@ -298,13 +456,12 @@ module _ (s : HeapState) (formed : IsWellFormed s) (starts : List Root) (are : A
   whole_targets = record {
     rows = λ c target.
         let whole : Contains wholes (Row target.0) = ⊎_elim (λ here. here) (λ cell. absurd (no_cell target.0 cell)) (Contains-append_cases wholes cells (Row target.0) target.1) in
-        let row = Contains-from_map (λ (p : Place). Row p) (places_of s.subjects) (Row target.0) whole in
-        let found = shorter_in spaces (places_of s.subjects) starts are row.0 row.1 in
-        let same : root_targets_of young_spaces spaces (Row target.0) ≡ root_targets_of young_spaces spaces found.0 = ap (root_targets_of young_spaces spaces) (sym row.2) ∙ sym found.2.targets in
-        let is : found.0 ≡ Row found.2.cell = found.2.is in (
-          found.2.cell,
-          Contains-append_left starts cells (Row found.2.cell) (subst (Contains starts) is found.1),
-          subst (λ (ts : List ℕ). Contains ts c) (same ∙ ap (root_targets_of young_spaces spaces) is) target.2,
+        let among = Contains-flat_map (root_targets_of young_spaces spaces) wholes (Row target.0) c whole target.2 in
+        let found = Contains-from_flat_map (root_targets_of young_spaces spaces) starts c (subst (λ (ts : List ℕ). Contains ts c) (sym same_targets) among) in
+        let row = All-contains (IsRowRoot spaces) starts found.0 rows found.1 in (
+          row.cell,
+          Contains-append_left starts cells (Row row.cell) (subst (Contains starts) row.is found.1),
+          subst (λ (root : Root). Contains (root_targets_of young_spaces spaces root) c) row.is found.2,
         );
     cells = λ p has. Contains-append_right starts cells (Remembered p) (Contains-map (λ (q : Place). Remembered q) s.remembered p ((remembered_root s formed p).0 has));
   }

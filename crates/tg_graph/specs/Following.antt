@@ -1,5 +1,5 @@
 -- What a change of one row leaves for the indexes to follow.
-use Rattle.std.specs.Prelude.{[], ◌≡◌, ℕ, ◌<◌, ◌≤◌, Bool, List, Option, None, false, length, nat_eq, slice_index}
+use Rattle.std.specs.Prelude.{[], ◌≡◌, ℕ, ◌*◌, ◌<◌, ◌≤◌, Bool, List, Option, None, false, length, nat_eq, slice_index}
 use Rattle.std.specs.Map.{lookup}
 use Rattle.tg_rights.specs.RightSet.{RightSet, is_none_held}
 use Rattle.tg_word.specs.declared.Place.{Place}
@@ -12,7 +12,7 @@ use Rattle.tg_nursery.specs.Allocation.{HasLeft}
 use Rattle.tg_payload.specs.Table.{Payloads}
 use Rattle.tg_index.specs.Slots.{HasRoom}
 use Rattle.tg_graph.specs.Heap.{IsGraph}
-use Rattle.tg_graph.specs.Index.{AreIndexed, HasIndexAt, Indexes, IsAged, IsQuiet, IsRowIndex}
+use Rattle.tg_graph.specs.Index.{AreIndexed, HasIndexAt, Indexes, IsAged, IsMarked, IsRowIndex}
 use Rattle.tg_graph.specs.Rows.{IsRow, IsVertexAt, name_at}
 use Rattle.tg_graph.specs.Spots.{IsNoteIn, IsSpotFor, cells_for, narrowed, note_for, table_put, with_note, word_put}
 use Rattle.tg_graph.specs.Steps.{KeepsRows}
@@ -31,17 +31,18 @@ IsWay h rows from Walk = lookup (nat_eq (name_at h from)) rows ≡ None
 IsWay h rows from (Index at) = HasIndexAt rows (name_at h from) at
 IsWay h rows from (New row) = (lookup (nat_eq (name_at h from)) rows ≡ None) × IsRowIndex h from row.value.names row.value.cells.items
 
--- there is room in the index of a row for one more name and one more cell
+-- there is room in the index of a row for one more name and one more cell, and to mark each cell that is known to lie in Old
 pub record HasRoomIn (row : IndexedRow) : Type 0 where
   pub names : HasRoom row.names
   pub cells : 0 < row.cells.spare
+  pub marks : row.old_cells ≤ 64 * length row.noted
 
 -- the index says the same, of each row and of how much of it is known
 pub record HasSameIndex (row later : IndexedRow) : Type 0 where
   pub kept : (h : SpaceList) (p : Place) → IsRowIndex h p row.names row.cells.items → IsRowIndex h p later.names later.cells.items
   pub len : later.names.len ≡ row.names.len
   pub aged : IsAged row → IsAged later
-  pub quiet : (places : List Place) → IsQuiet places row → IsQuiet places later
+  pub marked : (places : List Place) → IsMarked places row → IsMarked places later
 
 -- a row may be changed that has no index, and then isn't long yet
 pub record IsReadyShort (h : SpaceList) (rows : Indexes) (from : Place) : Type 0 where
@@ -60,7 +61,7 @@ pub record IsReadyNew (h : SpaceList) (rows : Indexes) (from : Place) (row : Ind
   pub spare : 0 < rows.spare
   pub index : IsRowIndex h from row.names row.cells.items
   pub aged : IsAged row
-  pub quiet : (places : List Place) → IsQuiet places row
+  pub marked : (places : List Place) → IsMarked places row
   pub room : HasRoomIn row
 
 -- the row of the object at a place may be changed once it was looked along so

@@ -3,7 +3,7 @@ use Rattle.std.specs.Prelude.{◌≡◌, ◌≢◌, ◌↔◌, ◌<◌, ℕ, ◌
 use Rattle.std.specs.List.{All, Contains, IsDistinct}
 use Rattle.tg_rights.specs.RightSet.{RightSet, no_rights}
 use Rattle.tg_model.specs.declared.value.Value.{Value}
-use Rattle.tg_word.specs.Word.{nursery_space}
+use Rattle.tg_word.specs.Word.{nursery_space, place_in}
 use Rattle.tg_word.specs.declared.Place.{Place}
 use Rattle.tg_word.specs.declared.TheConstants.{SPACES}
 use Rattle.tg_subjects.specs.Subjects.{AreSubjects, IsLeastFree, names_of, nursery_held, places_of}
@@ -14,7 +14,7 @@ use Rattle.tg_space.specs.SpaceTable.{SpaceTable, IsFull}
 use Rattle.tg_nursery.specs.Allocation.{HasFewerLeft}
 use Rattle.tg_space.specs.Soundness.{AreSound, IsKindAt, IsRootIn}
 use Rattle.tg_space.specs.Collection.{IsCollection}
-use Rattle.tg_space.specs.Targets.{root_targets_of, young_spaces}
+use Rattle.tg_space.specs.Targets.{all_root_targets, young_spaces}
 use Rattle.tg_space.specs.declared.root.Root.{Root}
 use Rattle.tg_space.specs.declared.root.Root.TheVariants.{Row, Remembered}
 use Rattle.tg_space.specs.declared.kind.Kind.{Kind}
@@ -100,19 +100,22 @@ abbrev pub CollectAlike : Kind → SpaceList → List Root → List Root → Typ
 CollectAlike kind h roots others =
     (forward : List ℕ) (aged old : BlockList) (notes : List Place) → IsCollection kind h roots forward aged old notes ↔ IsCollection kind h others forward aged old notes
 
--- a root in the place of the row of the object at a place: a cell of that row, from which a walk meets the same young targets
-pub record IsShorter (h : SpaceList) (p : Place) (root : Root) : Type 0 where
+-- the root stands for a row from a cell on
+pub record IsRowRoot (h : SpaceList) (root : Root) : Type 0 where
   pub cell : Place
   pub is : root ≡ Row cell
   pub sound : IsRootIn h root
-  pub targets : root_targets_of young_spaces h root ≡ root_targets_of young_spaces h (Row p)
 
--- one by one, the roots are in the place of the rows of the objects at these places
-abbrev pub AreShorter : SpaceList → List Place → List Root → Type 0
-AreShorter h [] [] = Unit {0}
-AreShorter h [] (root ∷ roots) = ⊥
-AreShorter h (p ∷ ps) [] = ⊥
-AreShorter h (p ∷ ps) (root ∷ roots) = IsShorter h p root × AreShorter h ps roots
+-- a word that names a young cell names one on which a row goes on, or with which it begins
+abbrev pub NamesRow : SpaceList → ℕ → Type 0
+NamesRow h word = (place_in word).space ≢ 0 → IsRootIn h (Row (place_in word))
+
+-- roots of rows came behind others, and these are their young targets
+pub record AddsRoots (h : SpaceList) (reached : List ℕ) (roots later : List Root) : Type 0 where
+  pub more : List Root
+  pub is : later ≡ roots ++ more
+  pub rows : All (IsRowRoot h) more
+  pub targets : all_root_targets young_spaces h more ≡ reached
 
 -- A heap's cells are those of a graph with its active subjects.
 pub record IsWellFormed (s : HeapState) : Type 0 where

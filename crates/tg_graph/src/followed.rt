@@ -1,21 +1,24 @@
 //! What a collection does to the indexes of rows. The blocks of from-space may be gone by then: cells are told by their numbers.
-ghost use Rattle.std.specs.Prelude.{◌≡◌, ◌≢◌, ◌≤◌, ◌<◌, ◌+◌, ◌^◌, ℕ, Some, length, map, nat_eq, slice_get, take};
+ghost use Rattle.std.specs.Prelude.{◌≡◌, ◌≢◌, ◌≤◌, ◌<◌, ◌+◌, ◌^◌, ℕ, List, Some, length, map, nat_eq, slice_get, take, OnOk};
 ghost use Rattle.std.specs.List.{All};
 ghost use Rattle.std.specs.Map.{lookup};
 ghost use Rattle.indexmap.specs.IndexMap.{index_map_len, values};
 ghost use Rattle.indexmap.specs.Layout.{set_value_at};
+ghost use Rattle.tg_index.specs.Bits.{bit_of};
 ghost use Rattle.tg_space.specs.SpaceList.{cells_of};
 ghost use Rattle.tg_space.specs.SpaceTable.{IsSpaceTable};
 ghost use Rattle.tg_space.specs.Collection.{new_place};
 ghost use Rattle.tg_space.specs.Targets.{from_space};
 ghost use Rattle.tg_word.specs.Word.{place_in};
-ghost use Rattle.tg_graph.specs.Index.{AreAged, AreFollowed, AreMovedToOld, AreStarts, IsAged, IsFollowable, IsFollowedTo, IsLeftBehind, IsNumbered, IsOldPlace, IsOldRow, IsQuiet, IsQuietCell, followed_place, followed_word, known_notes, number_by};
+ghost use Rattle.tg_word.specs.declared.Place.{Place as PlaceOf};
+ghost use Rattle.tg_graph.specs.Index.{AreAged, AreFollowed, AreMovedToOld, AreStarts, IsAged, IsFollowable, IsFollowedTo, IsLeftBehind, IsMarked, IsNumbered, IsOldPlace, IsOldRow, followed_place, followed_word, known_notes, number_by};
 ghost use Rattle.tg_graph.specs.declared.index.IndexedRow.{IndexedRow as RowOf};
 
 use crate::index::IndexedRow;
 use crate::long_rows::LongRows;
 use crate::row_cells::RowCells;
 use indexmap::IndexMap;
+use std::alloc::AllocError;
 use tg_remember::Remembered;
 use tg_space::{Forwarding, Kind, Spaces};
 use tg_word::{CELLS, SPACES, number_of, nursery_space, place_of};
@@ -35,9 +38,9 @@ pub(crate) struct Numbering {
 enum Fate {
     // It was left behind.
     Gone,
-    // It may have cells outside Old, or remembered ones.
+    // It may have cells outside Old, or marked ones.
     Young,
-    // It lies in Old whole, and no cell of it is remembered.
+    // It lies in Old whole, and no cell of it is marked.
     Old,
 }
 
@@ -97,7 +100,8 @@ impl Numbering {
 impl LongRows {
     /// Each index becomes that of the row's copy, and goes where a collection of this kind left the row behind. A nursery
     /// collection looks at those rows alone that may have young or remembered cells, and only at these cells. Cells have the
-    /// numbers that they had before it. The cells that are to be remembered are in `noted`. Takes no memory.
+    /// numbers that they had before it. The cells that are to be remembered are in `noted`. It asks for memory for marks alone,
+    /// and does without it where that is refused.
     pub(crate) fn follow(
         &mut self,
         numbering: &Numbering,
@@ -164,10 +168,10 @@ fn follow_row_at(
     requires numbered { (row : RowOf) → slice_get (values rows.old) at ≡ Some row → All (IsNumbered numbering.now.starts (length forward.now.words)) row.cells.items }
     requires some { (row : RowOf) → slice_get (values rows.old) at ≡ Some row → 0 < length row.cells.items }
     requires aged { (row : RowOf) → slice_get (values rows.old) at ≡ Some row → IsAged row }
-    requires quiet { (row : RowOf) → slice_get (values rows.old) at ≡ Some row → IsQuiet (known_notes kind noted.now.places) row }
+    requires marked { (row : RowOf) → slice_get (values rows.old) at ≡ Some row → IsMarked (known_notes kind noted.now.places) row }
     requires to_old { AreMovedToOld kind forward.now.words }
     ensures { (row followed : RowOf) × (slice_get (values rows.old) at ≡ Some row) × (rows.new.entries ≡ set_value_at rows.old.entries at followed)
-        × (result ≢ Fate.Gone → IsFollowedTo kind numbering.now.starts forward.now.words row followed) × IsAged followed × (result ≡ Fate.Old → IsOldRow followed) × (result ≢ Fate.Gone → IsQuiet noted.now.places followed)
+        × (result ≢ Fate.Gone → IsFollowedTo kind numbering.now.starts forward.now.words row followed) × IsAged followed × (result ≡ Fate.Old → IsOldRow followed) × (result ≢ Fate.Gone → IsMarked noted.now.places followed)
         × (result ≡ Fate.Gone → IsLeftBehind kind numbering.now.starts forward.now.words row) }
 {
     match rows.get_index_mut(at) {
@@ -187,29 +191,41 @@ fn follow_row(
     requires numbered { All (IsNumbered numbering.now.starts (length forward.now.words)) row.old.cells.items }
     requires some { 0 < length row.old.cells.items }
     requires aged { IsAged row.old }
-    requires quiet { IsQuiet (known_notes kind noted.now.places) row.old }
+    requires marked { IsMarked (known_notes kind noted.now.places) row.old }
     requires to_old { AreMovedToOld kind forward.now.words }
     ensures gone { result ≡ Fate.Gone → IsLeftBehind kind numbering.now.starts forward.now.words row.old }
     ensures followed { result ≢ Fate.Gone → IsFollowedTo kind numbering.now.starts forward.now.words row.old row.new }
     ensures aged { IsAged row.new }
     ensures old { result ≡ Fate.Old → IsOldRow row.new }
-    ensures quiet { result ≢ Fate.Gone → IsQuiet noted.now.places row.new }
+    ensures marked { result ≢ Fate.Gone → IsMarked noted.now.places row.new }
 {
     let object = row.cells.word(0);
     if kind.moves(place_of(object).space) && forward.word(numbering.number(object)) == 0 {
         return Fate::Gone;
     }
-    let first = match kind {
-        Kind::Full => 0,
-        Kind::Nursery => row.old_cells,
-    };
-    let known = known_quiet(kind, row);
-    row.old_cells = follow_cells(numbering, kind, forward, &mut row.cells, first);
-    row.quiet_cells = count_quiet(noted, &row.cells, row.old_cells, known);
-    if row.old_cells.min(row.quiet_cells) < row.cells.len() {
+    forget_moved(kind, row);
+    let old = follow_cells(numbering, kind, forward, &mut row.cells, row.old_cells);
+    note_cells(noted, row, old);
+    if row.old_cells < row.cells.len() || row.noted.next(0).is_some() {
         return Fate::Young;
     }
     Fate::Old
+}
+
+// What is known of cells that a collection of this kind moves is known no more: a full one moves all.
+fn forget_moved(kind: Kind, row: &mut IndexedRow)
+    ensures names { row.new.names ≡ row.old.names }
+    ensures cells { row.new.cells ≡ row.old.cells }
+    ensures full { kind ≡ Kind.Full → row.new.old_cells ≡ 0 }
+    ensures marked { (places : List PlaceOf) → IsMarked (known_notes kind places) row.old → IsMarked places row.new }
+{
+    match kind {
+        Kind::Full => {
+            row.noted.clear();
+            row.old_cells = 0;
+        }
+        Kind::Nursery => {}
+    }
 }
 
 // Follows the cells behind the first ones, which stay where they are. The answer is how many of the first lie in Old now.
@@ -226,6 +242,7 @@ fn follow_cells(
     requires numbered { All (IsNumbered numbering.now.starts (length forward.now.words)) cells.old.items }
     requires to_old { AreMovedToOld kind forward.now.words }
     ensures moved { cells.new.items ≡ map (followed_place (from_space kind) numbering.now.starts (new_place forward.now.words)) cells.old.items }
+    ensures from { first ≤ result }
     ensures within { result ≤ length cells.new.items }
     ensures old { All IsOldPlace (take result cells.new.items) }
 {
@@ -259,35 +276,89 @@ fn count_old(words: &[u64]) -> usize
     words.len()
 }
 
-// How many of the first cells are known to stay in Old and not to be noted.
-fn known_quiet(kind: Kind, row: &IndexedRow) -> usize
-    ensures full { kind ≡ Kind.Full → result ≡ 0 }
-    ensures nursery { kind ≡ Kind.Nursery → result ≡ row.now.quiet_cells }
+// As many first cells of a row lie in Old. Those that are noted are marked, and no other.
+fn note_cells(noted: &Remembered, row: &mut IndexedRow, old: usize)
+    requires marked { IsMarked noted.now.places row.old }
+    requires from { row.old.old_cells ≤ old }
+    requires within { old ≤ length row.old.cells.items }
+    requires old { All IsOldPlace (take old row.old.cells.items) }
+    ensures names { row.new.names ≡ row.old.names }
+    ensures cells { row.new.cells ≡ row.old.cells }
+    ensures marked { IsMarked noted.now.places row.new }
 {
-    match kind {
-        Kind::Full => 0,
-        Kind::Nursery => row.quiet_cells,
+    forget_unnoted(noted, row);
+    if noted.len() == 0 {
+        row.old_cells = old;
+        return;
+    }
+    mark_noted(noted, row, old);
+}
+
+// Cells that aren't noted are marked no more.
+fn forget_unnoted(noted: &Remembered, row: &mut IndexedRow)
+    requires { IsMarked noted.now.places row.old }
+    ensures names { row.new.names ≡ row.old.names }
+    ensures cells { row.new.cells ≡ row.old.cells }
+    ensures old { row.new.old_cells ≡ row.old.old_cells }
+    ensures marked { IsMarked noted.now.places row.new }
+{
+    let mut from = 0;
+    while let Some(number) = row.noted.next(from) {
+        forget_one(noted, row, number);
+        from = number + 1;
     }
 }
 
-// How many of the first cells lie in Old and aren't among the noted ones. The first `old` are known to lie there, and the first
-// `known` not to be noted either.
-fn count_quiet(noted: &Remembered, cells: &RowCells, old: usize, known: usize) -> usize
-    requires old_within { old ≤ length cells.now.items }
-    requires old { All IsOldPlace (take old cells.now.items) }
-    requires within { known ≤ length cells.now.items }
-    requires quiet { All (IsQuietCell noted.now.places) (take known cells.now.items) }
-    ensures within { result ≤ length cells.now.items }
-    ensures quiet { All (IsQuietCell noted.now.places) (take result cells.now.items) }
+// A marked cell that isn't noted is marked no more.
+fn forget_one(noted: &Remembered, row: &mut IndexedRow, number: usize)
+    requires here { bit_of row.old.noted number ≡ 1 }
+    requires marked { IsMarked noted.now.places row.old }
+    ensures names { row.new.names ≡ row.old.names }
+    ensures cells { row.new.cells ≡ row.old.cells }
+    ensures old { row.new.old_cells ≡ row.old.old_cells }
+    ensures marked { IsMarked noted.now.places row.new }
 {
-    if noted.len() == 0 {
-        return old;
+    if noted.contains(row.cells.place(number)) {
+        return;
     }
-    for count in known..cells.len() {
-        let cell = cells.place(count);
-        if Kind::Nursery.moves(cell.space) || noted.contains(cell) {
-            return count;
+    row.noted.remove(number);
+}
+
+// As many first cells of a row lie in Old. They are known to, and the noted ones of those that weren't are marked. Where memory for
+// a mark is refused, the cells from there on aren't known to.
+fn mark_noted(noted: &Remembered, row: &mut IndexedRow, old: usize)
+    requires marked { IsMarked noted.now.places row.old }
+    requires within { old ≤ length row.old.cells.items }
+    requires old { All IsOldPlace (take old row.old.cells.items) }
+    ensures names { row.new.names ≡ row.old.names }
+    ensures cells { row.new.cells ≡ row.old.cells }
+    ensures marked { IsMarked noted.now.places row.new }
+{
+    while row.old_cells < old {
+        if mark_next(noted, row, old).is_err() {
+            return;
         }
     }
-    cells.len()
+}
+
+// The first cell of a row that isn't known to lie in Old, as it does, is known to, and is marked if it is noted. There are as many
+// such cells. Where memory for the mark is refused, nothing changes.
+fn mark_next(noted: &Remembered, row: &mut IndexedRow, old: usize) -> Result<(), AllocError>
+    requires marked { IsMarked noted.now.places row.old }
+    requires below { row.old.old_cells < old }
+    requires within { old ≤ length row.old.cells.items }
+    requires old { All IsOldPlace (take old row.old.cells.items) }
+    ensures names { row.new.names ≡ row.old.names }
+    ensures cells { row.new.cells ≡ row.old.cells }
+    ensures more { OnOk result (row.new.old_cells ≡ row.old.old_cells + 1) }
+    ensures marked { IsMarked noted.now.places row.new }
+{
+    if !noted.contains(row.cells.place(row.old_cells)) {
+        row.old_cells += 1;
+        return Ok(());
+    }
+    row.noted.reserve(old)?;
+    row.noted.insert(row.old_cells);
+    row.old_cells += 1;
+    Ok(())
 }

@@ -7,7 +7,7 @@ ghost use Rattle.tg_space.specs.Soundness.{IsKindAt};
 ghost use Rattle.tg_graph.specs.Content.{IsNamed};
 ghost use Rattle.tg_graph.specs.Following.{AreBehind, AreUncleared, IsReady, IsWay};
 ghost use Rattle.tg_graph.specs.Heap.{IsLongRow, content_in};
-ghost use Rattle.tg_graph.specs.Index.{AreIndexed, IsAged, IsQuiet, IsRowIndex, MayIndex, indexed_in};
+ghost use Rattle.tg_graph.specs.Index.{AreIndexed, IsAged, IsMarked, IsRowIndex, MayIndex, indexed_in};
 ghost use Rattle.std.specs.Map.{lookup};
 ghost use Rattle.tg_graph.specs.Rows.{name_at};
 ghost use Rattle.tg_space.specs.SpaceTable.{IsSpaceTable};
@@ -19,7 +19,7 @@ use crate::index::{IndexedRow, find_indexed, spot_for_new};
 use crate::long_rows::{LongRows, Way};
 use crate::rows::{Spot, find_spot, may_get_long, places_of};
 use std::alloc::AllocError;
-use tg_index::RowIndex;
+use tg_index::{NumberSet, RowIndex};
 use tg_nursery::AllocateFault;
 use tg_payload::{Draft, Payload};
 use tg_rights::Rights;
@@ -32,14 +32,14 @@ impl<P: Payload> Cells<P> {
         requires { HasObject self.now from }
         ensures index { IfOk result (λ row. IsRowIndex self.now.spaces.spaces from row.names row.cells.items) }
         ensures aged { IfOk result IsAged }
-        ensures quiet { (places : List PlaceOf) → IfOk result (IsQuiet places) }
+        ensures marked { (places : List PlaceOf) → IfOk result (IsMarked places) }
     {
         let (names, cells) = places_of(self.alloc, &self.spaces, from)?;
         Ok(IndexedRow {
             names: RowIndex::of_row(self.alloc, &names)?,
             cells,
             old_cells: 0,
-            quiet_cells: 0,
+            noted: NumberSet::new(self.alloc),
         })
     }
 

@@ -1,17 +1,13 @@
-use Rattle.std.proofs.Common.{◌∙◌, length, refl, subst, sym, ℕ, ◌≤◌, take, ap, arith}
-use Rattle.std.specs.List.{All}
+use Rattle.std.proofs.Common.{◌∙◌, length, refl, subst, sym, ap, arith}
 use Rattle.tg_word.specs.Word.{place_in}
 use Rattle.tg_word.specs.declared.Place.{Place}
 use Rattle.tg_space.specs.Collection.{new_place}
 use Rattle.tg_space.specs.Targets.{from_space}
-use Rattle.tg_graph.specs.Index.{IsNumbered, IsOldPlace, IsQuietCell}
-use Rattle.tg_graph.proofs.Quiet.{quiet_moved}
+use Rattle.tg_graph.specs.Index.{IsNumbered}
+use Rattle.tg_graph.proofs.Marked.{marked_moved}
 use Rattle.std.specs.Prelude.{slice_index}
 use Rattle.std.proofs.lemmas.Option.{get_or_from_slice_get}
-use Rattle.std.proofs.lemmas.List.Elements.{All-nil}
-use Rattle.tg_graph.proofs.FollowedRows.{old_or_gone, young_or_gone, young_or_old}
-use Rattle.tg_graph.proofs.Heaps.{full_or_nursery}
-use Rattle.tg_graph.proofs.followed.follow_row.Goals.{in-Full, in-Nursery}
+use Rattle.tg_graph.proofs.FollowedRows.{old_or_gone}
 use Rattle.tg_graph.proofs.followed.follow_row.Goals as goal
 
 -- the object of the row has a number
@@ -20,17 +16,22 @@ numbered c =
     let object = place_in c.word-object.result in
     subst (IsNumbered c.args.numbering.now.starts (length c.args.forward.now.words)) (get_or_from_slice_get c.args.row.now.cells.items 0 object object c.word-object.ensures) (c.requires.numbered 0 object c.requires.some)
 
--- the first cells of the row that are known to be quiet
-known_quiet : (c : goal.After-count_quiet-arg-1) → (c.known_quiet-known.result ≤ length c.follow_cells-row.new.cells.items) × All (IsQuietCell c.args.noted.now.places) (take c.known_quiet-known.result c.follow_cells-row.new.cells.items)
-known_quiet c =
-    quiet_moved c.args.kind c.args.numbering.now.starts (new_place c.args.forward.now.words) c.args.noted.now.places c.args.row.now c.known_quiet-known.result c.known_quiet-known.ensures.full c.known_quiet-known.ensures.nursery
-    c.requires.quiet c.follow_cells-row.new.cells.items c.follow_cells-row.ensures.moved
+pub follow_cells-old-requires-clause-within : goal.follow_cells-old-requires-clause-within
+follow_cells-old-requires-clause-within c = (c.forget_moved.ensures.marked c.args.noted.now.places c.requires.marked).aged.within
 
-pub count_quiet-row-requires-clause-quiet : goal.count_quiet-row-requires-clause-quiet
-count_quiet-row-requires-clause-quiet c = (known_quiet c).1
+pub follow_cells-old-requires-clause-old : goal.follow_cells-old-requires-clause-old
+follow_cells-old-requires-clause-old c = (c.forget_moved.ensures.marked c.args.noted.now.places c.requires.marked).aged.cells
 
-pub count_quiet-row-requires-clause-within : goal.count_quiet-row-requires-clause-within
-count_quiet-row-requires-clause-within c = (known_quiet c).0
+pub follow_cells-old-requires-clause-full : goal.follow_cells-old-requires-clause-full
+follow_cells-old-requires-clause-full c = c.forget_moved.ensures.full
+
+pub follow_cells-old-requires-clause-numbered : goal.follow_cells-old-requires-clause-numbered
+follow_cells-old-requires-clause-numbered c = rw c.forget_moved.ensures.cells c.requires.numbered
+
+pub note_cells-requires-clause-marked : goal.note_cells-requires-clause-marked
+note_cells-requires-clause-marked c =
+    marked_moved c.args.kind c.args.numbering.now.starts (new_place c.args.forward.now.words) c.args.noted.now.places c.forget_moved.new.row _ (c.forget_moved.ensures.marked c.args.noted.now.places c.requires.marked) c.forget_moved.ensures.full
+    c.follow_cells-old.ensures.moved refl refl
 
 pub returns-then-word-eq0-clause-followed : goal.returns-then-word-eq0-clause-followed
 returns-then-word-eq0-clause-followed c = λ no. absurd (no refl)
@@ -41,11 +42,8 @@ returns-then-word-eq0-clause-aged c = c.requires.aged
 pub returns-then-word-eq0-clause-old : goal.returns-then-word-eq0-clause-old
 returns-then-word-eq0-clause-old c = λ is. absurd (old_or_gone (sym is))
 
-pub returns-then-word-eq0-clause-quiet : goal.returns-then-word-eq0-clause-quiet
-returns-then-word-eq0-clause-quiet c = λ no. absurd (no refl)
-
-pub returns-then-min-len-clause-old : goal.returns-then-min-len-clause-old
-returns-then-min-len-clause-old c = λ is. absurd (young_or_old is)
+pub returns-then-word-eq0-clause-marked : goal.returns-then-word-eq0-clause-marked
+returns-then-word-eq0-clause-marked c = λ no. absurd (no refl)
 
 pub number-requires-clause-space : goal.number-requires-clause-space
 number-requires-clause-space c = (numbered c).space
@@ -61,26 +59,3 @@ returns-then-word-eq0-clause-gone c =
       moves = ap (λ (p : Place). from_space c.args.kind p.space) (sym c.place_of.ensures) ∙ sym c.moves.ensures ∙ c.if-moves.true;
       uncopied = ap (slice_index c.args.forward.now.words) (sym c.number.ensures) ∙ sym c.word.ensures ∙ c.if-word-eq0.true;
     }
-
-pub follow_cells-row-requires-clause-within : goal.follow_cells-row-requires-clause-within
-follow_cells-row-requires-clause-within c =
-    elim c.match-kind.branch [
-      | in-Full w ↦ let none = w.first-is in omega (arith, none)
-      | in-Nursery w ↦ subst (λ (n : ℕ). n ≤ length c.args.row.now.cells.items) (sym w.first-is) c.requires.aged.within
-    ]
-
-pub follow_cells-row-requires-clause-old : goal.follow_cells-row-requires-clause-old
-follow_cells-row-requires-clause-old c =
-    elim c.match-kind.branch [
-      | in-Full w ↦ subst (λ (n : ℕ). All IsOldPlace (take n c.args.row.now.cells.items)) (sym w.first-is) (All-nil IsOldPlace)
-      | in-Nursery w ↦ subst (λ (n : ℕ). All IsOldPlace (take n c.args.row.now.cells.items)) (sym w.first-is) c.requires.aged.cells
-    ]
-
-pub follow_cells-row-requires-clause-full : goal.follow_cells-row-requires-clause-full
-follow_cells-row-requires-clause-full c = λ full. elim c.match-kind.branch [ in-Full w ↦ w.first-is | in-Nursery w ↦ absurd (full_or_nursery (sym full ∙ w.in-Nursery.is)) ]
-
-pub returns-then-min-len-clause-gone : goal.returns-then-min-len-clause-gone
-returns-then-min-len-clause-gone c = λ is. absurd (young_or_gone is)
-
-pub returns-clause-gone : goal.returns-clause-gone
-returns-clause-gone c = λ is. absurd (old_or_gone is)

@@ -2,7 +2,7 @@ use Rattle.std.proofs.Common.{◌≡◌, ◌∙◌, ℕ, None, arith, cond, leng
 use Rattle.std.specs.Map.{lookup}
 use Rattle.indexmap.specs.IndexMap.{Updates}
 use Rattle.tg_graph.proofs.Heaps.{if_some}
-use Rattle.tg_graph.proofs.FollowedRows.{aged_here, aged_later, aged_rest, aged_swapped, cells_numbered, follow_begins, follow_ends, followed_swapped, later_long, one_followed, one_gone, quiet_here, some_cell, swapped_long, taken, taken_out, old_or_gone, young_or_gone}
+use Rattle.tg_graph.proofs.FollowedRows.{aged_here, aged_later, aged_rest, aged_swapped, cells_numbered, follow_begins, follow_ends, followed_swapped, later_long, one_followed, one_gone, marked_here, some_cell, swapped_long, taken, taken_out, old_or_gone, young_or_gone}
 use Rattle.tg_graph.proofs.followed.follow_rows.Goals as goal
 
 pub loop-i-init : goal.loop-i-init
@@ -21,9 +21,9 @@ pub follow_row_at-requires-clause-aged : goal.follow_row_at-requires-clause-aged
 follow_row_at-requires-clause-aged c =
     λ row found. aged_here c.args.kind c.args.numbering.now.starts c.args.forward.now.words c.args.noted.now.places c.args.rows.now.entries c.loop-i.rows.entries c.loop-i.old c.loop-i.i (omega (arith, c.loop-i-test.true)) c.loop-i.invariant.0 c.loop-i.invariant.1 (length c.args.forward.now.words) c.requires.rows row found
 
-pub follow_row_at-requires-clause-quiet : goal.follow_row_at-requires-clause-quiet
-follow_row_at-requires-clause-quiet c =
-    λ row found. quiet_here c.args.kind c.args.numbering.now.starts c.args.forward.now.words c.args.noted.now.places c.args.rows.now.entries c.loop-i.rows.entries c.loop-i.old c.loop-i.i (omega (arith, c.loop-i-test.true)) c.loop-i.invariant.0 c.loop-i.invariant.1 (length c.args.forward.now.words) c.requires.rows row found
+pub follow_row_at-requires-clause-marked : goal.follow_row_at-requires-clause-marked
+follow_row_at-requires-clause-marked c =
+    λ row found. marked_here c.args.kind c.args.numbering.now.starts c.args.forward.now.words c.args.noted.now.places c.args.rows.now.entries c.loop-i.rows.entries c.loop-i.old c.loop-i.i (omega (arith, c.loop-i-test.true)) c.loop-i.invariant.0 c.loop-i.invariant.1 (length c.args.forward.now.words) c.requires.rows row found
 
 pub loop-i-smaller-in-Gone : goal.loop-i-smaller-in-Gone
 loop-i-smaller-in-Gone c =

@@ -6,12 +6,12 @@ use Rattle.indexmap.proofs.CallerLemmas.{updates-with_value_at}
 use Rattle.indexmap.specs.Layout.{set_value_at}
 use Rattle.tg_word.specs.declared.Place.{Place}
 use Rattle.tg_graph.specs.Following.{HasRoomIn, IsReady, IsReadyAt, IsReadyNew, IsReadyShort}
-use Rattle.tg_graph.specs.Index.{AreIndexed, Indexes, IsAged, IsQuiet, MayIndex, SameIndexed, indexed_in}
+use Rattle.tg_graph.specs.Index.{AreIndexed, Indexes, IsAged, IsMarked, MayIndex, SameIndexed, indexed_in}
 use Rattle.tg_graph.specs.Rows.{name_at}
 use Rattle.tg_graph.specs.declared.index.IndexedRow.{IndexedRow}
 use Rattle.tg_graph.specs.declared.long_rows.Way.{Way}
 use Rattle.tg_graph.proofs.Ages.{aged_at, row_there, same_row, written_aged}
-use Rattle.tg_graph.proofs.Following.{behind_grown, behind_object, behind_others, behind_own, behind_quieter, behind_vertices, row_behind}
+use Rattle.tg_graph.proofs.Following.{behind_grown, behind_object, behind_others, behind_own, behind_marked, behind_vertices, row_behind}
 use Rattle.tg_graph.proofs.IndexedRows.{added_here, added_index, index_at, indexes_kept, indexes_written, may_index, written_indexed}
 use Rattle.std.proofs.lemmas.Bool.{false≢true}
 use Rattle.tg_graph.proofs.cells.Cells.follow.Goals as goal
@@ -21,7 +21,7 @@ returns-in-Walk-clause-indexed g c =
     let rows = c.args.rows.now in
     let b = c.requires in
     let ready : IsReadyShort b.old.spaces rows c.args.from = subst (λ (w : Way). IsReady b.old.spaces rows c.args.from w) c.in-Walk.is b.looked in
-    indexes_kept b.old.spaces c.args.self.now.spaces.spaces (behind_vertices b) c.args.from b.object (behind_others b) b.places c.args.self.now.remembered.places (behind_quieter b) rows.entries b.indexed (name_at b.old.spaces c.args.from) refl
+    indexes_kept b.old.spaces c.args.self.now.spaces.spaces (behind_vertices b) c.args.from b.object (behind_others b) b.places c.args.self.now.remembered.places (behind_marked b) rows.entries b.indexed (name_at b.old.spaces c.args.from) refl
     rows.entries refl ready.none
 
 pub returns-in-Walk-clause-long : goal.returns-in-Walk-clause-long
@@ -85,11 +85,11 @@ returns-in-Some-clause-indexed g c =
     let ready : IsReadyAt c.args.rows.now own c.in-Index.at = subst (λ (w : Way). IsReady b.old.spaces c.args.rows.now c.args.from w) c.in-Index.is b.looked in
     let inside = subst (λ (s : Indexes). IsReadyAt s own c.in-Index.at) (sym c.rows.view_is) ready in
     let indexed : AreIndexed b.old.spaces b.places es = subst (λ (s : Indexes). AreIndexed b.old.spaces b.places s.entries) (sym c.rows.view_is) b.indexed in
-    let was_quiet = (index_at b.old.spaces b.payloads b.graph b.places es indexed c.args.from b.object own refl c.in-Some.row.now (row_there es own c.in-Index.at inside.here c.in-Some.row.now c.in-Some.ensures.value)).1 in
-    let quiet = subst (λ (ps : List Place). IsQuiet ps new) (sym b.put.remembered) (c.follow.ensures.quiet b.places was_quiet) in
+    let was_marked = (index_at b.old.spaces b.payloads b.graph b.places es indexed c.args.from b.object own refl c.in-Some.row.now (row_there es own c.in-Index.at inside.here c.in-Some.row.now c.in-Some.ensures.value)).1 in
+    let marked = subst (λ (ps : List Place). IsMarked ps new) (sym b.put.remembered) (c.follow.ensures.marked b.places was_marked) in
     let written = updates-with_value_at c.rows.inside.indexes c.in-Index.at new nat_eq_equiv c.get_index_mut.ensures.unique own inside.here.row inside.here.here in
-    indexes_written b.old.spaces c.args.self.now.spaces.spaces (behind_vertices b) c.args.from b.object (behind_others b) b.places c.args.self.now.remembered.places (behind_quieter b) es indexed own refl
-    (set_value_at es c.in-Index.at new) new written.0 c.follow.ensures.index quiet
+    indexes_written b.old.spaces c.args.self.now.spaces.spaces (behind_vertices b) c.args.from b.object (behind_others b) b.places c.args.self.now.remembered.places (behind_marked b) es indexed own refl
+    (set_value_at es c.in-Index.at new) new written.0 c.follow.ensures.index marked
 
 pub returns-in-Some-clause-long : goal.returns-in-Some-clause-long
 returns-in-Some-clause-long g c =
@@ -146,9 +146,9 @@ returns-in-New-clause-indexed g c =
     let b = c.requires in
     let new = c.follow-in-New.new.self in
     let ready = subst (λ (r : IndexedRow). IsReadyNew b.old.spaces c.args.rows.now c.args.from r) (sym c.into_inner-row.ensures) (subst (λ (w : Way). IsReady b.old.spaces c.args.rows.now c.args.from w) c.in-New.is b.looked) in
-    let quiet = subst (λ (ps : List Place). IsQuiet ps new) (sym b.put.remembered) (c.follow-in-New.ensures.quiet b.places (ready.quiet b.places)) in
-    indexes_written b.old.spaces c.args.self.now.spaces.spaces (behind_vertices b) c.args.from b.object (behind_others b) b.places c.args.self.now.remembered.places (behind_quieter b) c.args.rows.now.entries b.indexed
-    c.name_of.result (c.name_of.ensures ∙ behind_own b) c.add.new.self.entries new c.add.ensures c.follow-in-New.ensures.index quiet
+    let marked = subst (λ (ps : List Place). IsMarked ps new) (sym b.put.remembered) (c.follow-in-New.ensures.marked b.places (ready.marked b.places)) in
+    indexes_written b.old.spaces c.args.self.now.spaces.spaces (behind_vertices b) c.args.from b.object (behind_others b) b.places c.args.self.now.remembered.places (behind_marked b) c.args.rows.now.entries b.indexed
+    c.name_of.result (c.name_of.ensures ∙ behind_own b) c.add.new.self.entries new c.add.ensures c.follow-in-New.ensures.index marked
 
 pub returns-in-New-clause-long : goal.returns-in-New-clause-long
 returns-in-New-clause-long g c =

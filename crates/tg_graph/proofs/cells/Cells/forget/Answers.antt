@@ -12,7 +12,7 @@ use Rattle.tg_graph.specs.declared.long_rows.Way.{Way}
 use Rattle.tg_graph.proofs.Ages.{aged_at, old_or_behind, row_there, same_aged, same_row, written_aged}
 use Rattle.tg_graph.proofs.Following.{index_narrowed, narrowed_held, narrowed_inside, narrowed_number, narrowed_others, narrowed_vertices, way_none}
 use Rattle.tg_graph.proofs.IndexedRows.{index_at, indexes_kept, indexes_written, written_indexed}
-use Rattle.tg_graph.proofs.Quiet.{others_quiet_same, quiet_same}
+use Rattle.tg_graph.proofs.Marked.{others_marked_same, marked_same}
 use Rattle.std.proofs.lemmas.Bool.{false≢true}
 use Rattle.tg_graph.proofs.cells.Cells.forget.Goals as goal
 
@@ -23,7 +23,7 @@ returns-in_default g c =
     let taken = c.requires.narrowed in
     let rows = c.args.rows.now.entries in
     record {
-      indexed = indexes_kept old c.args.self.now.spaces.spaces (narrowed_vertices taken) c.args.from taken.object (narrowed_others taken) places places (others_quiet_same old places places c.args.from refl) rows c.requires.indexed
+      indexed = indexes_kept old c.args.self.now.spaces.spaces (narrowed_vertices taken) c.args.from taken.object (narrowed_others taken) places places (others_marked_same old places places c.args.from refl) rows c.requires.indexed
           (name_at old c.args.from) refl rows refl (way_none old rows c.args.from c.args.way c.requires.looked c.in_default.not-Index);
       kept = λ x. refl;
     }
@@ -68,7 +68,7 @@ invariant_of-rows g c =
     let low : c.in-Index.at < length es = slice_get_within es c.in-Index.at (own, was.row) was.here in
     let new = c.forget_if_empty.new.self in
     let same = same_row es own c.in-Index.at was c.in-Some.row.now c.in-Some.ensures.value in
-    let still = same_aged c.in-Some.row.now new c.forget_if_empty.ensures.cells c.forget_if_empty.ensures.old in
+    let still = same_aged c.in-Some.row.now new c.forget_if_empty.ensures.cells c.forget_if_empty.ensures.old c.forget_if_empty.ensures.noted in
     written_aged es (set_value_at es c.in-Index.at new) c.rows.inside.old_rows c.in-Index.at low c.rows.invariant new refl (still.0 (subst IsAged (sym same) (aged_at es c.rows.inside.old_rows c.rows.invariant own c.in-Index.at was)))
     (old_or_behind es c.rows.inside.old_rows c.rows.invariant own c.in-Index.at was new (λ is_old. still.1 (subst IsOldRow (sym same) is_old)))
 
@@ -91,8 +91,8 @@ returns g c =
     let rows = c.args.rows.now.entries in
     let first : SameIndexed rows es = subst (λ (s : Indexes). SameIndexed rows s.entries) (sym c.rows.view_is) (λ x. refl) in
     record {
-      indexed = indexes_written old c.args.self.now.spaces.spaces (narrowed_vertices taken) c.args.from taken.object (narrowed_others taken) places places (others_quiet_same old places places c.args.from refl) es indexed own refl
+      indexed = indexes_written old c.args.self.now.spaces.spaces (narrowed_vertices taken) c.args.from taken.object (narrowed_others taken) places places (others_marked_same old places places c.args.from refl) es indexed own refl
           (set_value_at es c.in-Index.at new) new written.0 (subst (λ (ps : List Place). IsRowIndex c.args.self.now.spaces.spaces c.args.from new.names ps) (sym cells) index)
-          (quiet_same places row new c.forget_if_empty.ensures.cells c.forget_if_empty.ensures.quiet is.1);
+          (marked_same places row new c.forget_if_empty.ensures.cells c.forget_if_empty.ensures.old c.forget_if_empty.ensures.noted is.1);
       kept = written_indexed rows es c.in-Index.at new first;
     }

@@ -31,8 +31,8 @@ returns-clause-ready g c =
       spare = c.in_ok-reserve.ensures.room;
       index = c.reserve-2.ensures.kept.kept c.args.self.now.spaces.spaces c.args.from made.index;
       aged = c.reserve-2.ensures.kept.aged made.aged;
-      quiet = λ places. c.reserve-2.ensures.kept.quiet places (made.quiet places);
-      room = record { names = c.in_ok-reserve-2.ensures.names; cells = c.in_ok-reserve-2.ensures.cells };
+      marked = λ places. c.reserve-2.ensures.kept.marked places (made.marked places);
+      room = c.in_ok-reserve-2.ensures.room;
     } in
     subst (λ (r : IndexedRow). IsReadyNew c.args.self.now.spaces.spaces c.reserve.new.self c.args.from r) (sym c.in_ok-new.ensures.ok) ready
 

@@ -5,11 +5,11 @@ use Rattle.std.proofs.lemmas.Cmp.{nat_eq_equiv}
 use Rattle.std.proofs.lemmas.Option.{slice_get_within}
 use Rattle.indexmap.proofs.CallerLemmas.{updates-with_value_at}
 use Rattle.indexmap.specs.Layout.{set_value_at}
+use Rattle.tg_graph.specs.Following.{HasRoomIn}
 use Rattle.tg_graph.specs.Index.{AreIndexed, HasIndexAt, Indexes, IsAged, SameIndexed}
 use Rattle.tg_graph.proofs.Ages.{aged_at, row_there, same_row, written_aged, written_there}
-use Rattle.tg_graph.proofs.Heaps.{success_gives, both_oks}
+use Rattle.tg_graph.proofs.Heaps.{success_gives}
 use Rattle.tg_graph.proofs.IndexedRows.{indexes_replaced, written_indexed}
-use Rattle.tg_index.specs.Slots.{HasRoom}
 use Rattle.std.proofs.lemmas.Bool.{false≢true}
 use Rattle.tg_graph.proofs.long_rows.LongRows.reserve_at.Goals as goal
 
@@ -37,7 +37,7 @@ returns-clause-indexed c =
     let next = c.reserve.new.self in
     let written = updates-with_value_at c.self.inside.indexes c.args.at next nat_eq_equiv c.get_index_mut.ensures.unique c.args.name was.row was.here in
     λ h places indexed.
-    indexes_replaced es (set_value_at es c.args.at next) c.args.name c.in-Some.row.now next (row_there es c.args.name c.args.at was c.in-Some.row.now c.in-Some.ensures.value) written.0 c.reserve.ensures.kept.kept c.reserve.ensures.kept.quiet h places
+    indexes_replaced es (set_value_at es c.args.at next) c.args.name c.in-Some.row.now next (row_there es c.args.name c.args.at was c.in-Some.row.now c.in-Some.ensures.value) written.0 c.reserve.ensures.kept.kept c.reserve.ensures.kept.marked h places
     (subst (λ (s : Indexes). AreIndexed h places s.entries) (sym c.self.view_is) indexed)
 
 pub returns-clause-names : goal.returns-clause-names
@@ -55,5 +55,4 @@ returns-clause-ready c =
     let written = updates-with_value_at c.self.inside.indexes c.args.at next nat_eq_equiv c.get_index_mut.ensures.unique c.args.name was.row was.here in
     let same : nat_eq c.args.name c.args.name ≡ true = (Decides-eqb c.args.name c.args.name).1 refl in
     let found : lookup (nat_eq c.args.name) (set_value_at es c.args.at next) ≡ Some next = written.0 c.args.name ∙ ap (λ (b : Bool). cond b (Some next) (lookup (nat_eq c.args.name) es)) same in
-    success_gives c.reserve.result (λ (room : HasRoom next.names × (0 < next.cells.spare)). record { here = record { row = next; here = written_there es c.args.name c.args.at was next; found = found }; behind = behind; room = record { names = room.0; cells = room.1 } })
-    (both_oks (HasRoom next.names) (0 < next.cells.spare) c.reserve.result c.reserve.ensures.names c.reserve.ensures.cells)
+    success_gives c.reserve.result (λ (room : HasRoomIn next). record { here = record { row = next; here = written_there es c.args.name c.args.at was next; found = found }; behind = behind; room = room }) c.reserve.ensures.room
