@@ -230,9 +230,9 @@ aged_one notes row later same_cells old only more d inside here noted is = recor
     cells = ap (λ (v : CellList). v.items) same_cells
 
 -- where none is remembered, no mark is needed
-pub unmarked : (notes : List Place) → length notes ≡ 0 → (later : IndexedRow) → later.old_cells ≤ length later.cells.items → All IsOldPlace (take later.old_cells later.cells.items) → later.noted ≡ [] → IsMarked notes later
+pub unmarked : (notes : List Place) → length notes ≡ 0 → (later : IndexedRow) → later.old_cells ≤ length later.cells.items → All IsOldPlace (take later.old_cells later.cells.items) → ((n : ℕ) → bit_of later.noted n ≡ 1 → n < later.old_cells) → IsMarked notes later
 unmarked notes none later within old marks = record {
-  aged = record { within = within; cells = old; marks = λ n here. let no = no_marks later.noted marks n in absurd (omega (arith, no, here)) };
+  aged = record { within = within; cells = old; marks = marks };
   marked = λ n d low has. let among = has.1 in absurd (omega (arith, none, among));
 }
 

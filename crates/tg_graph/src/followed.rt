@@ -286,12 +286,11 @@ fn note_cells(noted: &Remembered, row: &mut IndexedRow, old: usize)
     ensures cells { row.new.cells ≡ row.old.cells }
     ensures marked { IsMarked noted.now.places row.new }
 {
+    forget_unnoted(noted, row);
     if noted.len() == 0 {
-        row.noted.clear();
         row.old_cells = old;
         return;
     }
-    forget_unnoted(noted, row);
     mark_noted(noted, row, old);
 }
 

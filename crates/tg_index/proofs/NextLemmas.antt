@@ -1,13 +1,13 @@
 -- The next number of a set.
-use Rattle.std.proofs.Common.{◌≡◌, ◌≢◌, ℕ, ◌+◌, ◌-◌, ◌*◌, ◌/◌, ◌%◌, ◌^◌, ◌<◌, ◌≤◌, List, length, get_or, sym, ap, arith, ◌∙◌, ⊎_elim}
+use Rattle.std.proofs.Common.{◌≡◌, ◌≢◌, ℕ, ◌+◌, ◌-◌, ◌*◌, ◌/◌, ◌%◌, ◌^◌, ◌<◌, ◌≤◌, List, [], length, get_or, refl, sym, ap, arith, ◌∙◌, ⊎_elim}
 use Rattle.std.specs.Int.{bit_at, trailing_zeros, w64}
 use Rattle.std.proofs.lemmas.Bool.{cases_eq, cases_lt}
 use Rattle.std.proofs.lemmas.List.{get_or_past}
 use Rattle.std.proofs.lemmas.Nat.{pow-add, pow_pos}
-use Rattle.std.proofs.lemmas.Nat.Bits.{bit_at-trailing_zeros, bit_at_above}
+use Rattle.std.proofs.lemmas.Nat.Bits.{bit_at-trailing_zeros, bit_at-zero, bit_at_above}
 use Rattle.std.proofs.Math.Nat.{div-lt_iff_lt-mul, div-le_self}
 use Rattle.std.proofs.Math.Nat.{div-div-eq-div-mul}
-use Rattle.tg_index.specs.Bits.{IsFirstFrom, IsNextFrom, bit_of}
+use Rattle.tg_index.specs.Bits.{AreMarks, IsFirstFrom, IsNextFrom, bit_of}
 use Rattle.tg_index.proofs.BitLemmas.{no_bit, word_read}
 
 -- a bit of a word that is shifted
@@ -91,3 +91,21 @@ module _ (words : List ℕ) (from x : ℕ) (inside : from / 64 < length words) (
           (λ from_later. first.before m below from_later)
           (cases_lt (m / 64) later);
     }
+
+-- ---- marks
+
+-- a word without a mark is 0
+pub unmarked_zero : (words marks : List ℕ) (least : ℕ) → AreMarks words marks least → (w : ℕ) → bit_of marks w ≡ 0 → get_or words w 0 ≡ 0
+unmarked_zero words marks least are w none = ⊎_elim (λ z. z) (λ some. let one = (are.exact w).1 some in absurd (omega (arith, one, none))) (cases_eq (get_or words w 0) 0)
+
+-- no word, no mark
+pub none_are_marks : AreMarks [] [] 0
+none_are_marks = record {
+  exact = λ w. (λ is. let none = bit_at-zero (w % 64) in absurd (omega (arith, is, none)), λ some. absurd (some refl));
+  below = λ m low. absurd (omega arith);
+  lowest = λ low. absurd (omega arith);
+  within = omega arith;
+  each = omega arith;
+  short = omega arith;
+  few = omega arith;
+}

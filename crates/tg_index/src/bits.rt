@@ -1,6 +1,6 @@
 //! Sets of numbers as the bits of words. No change takes memory but `widen`.
-ghost use Rattle.std.specs.Prelude.{◌≡◌, ◌≢◌, ℕ, ◌*◌, ◌^◌, ◌<◌, ◌≤◌, [], ◌∷◌, ◌++◌, length, slice_index, OnErr, OnOk};
-ghost use Rattle.tg_index.specs.Bits.{IsFirstFrom, SetsBit};
+ghost use Rattle.std.specs.Prelude.{◌≡◌, ◌≢◌, ℕ, ◌*◌, ◌^◌, ◌<◌, ◌≤◌, [], ◌∷◌, ◌++◌, length, slice_index, None, IfSome, OnErr, OnOk};
+ghost use Rattle.tg_index.specs.Bits.{IsFirstFrom, IsNextFrom, SetsBit, bit_of};
 
 use std::alloc::{AllocError, Global};
 
@@ -72,5 +72,26 @@ impl Bits {
             word += 1;
         }
         word
+    }
+
+    /// The least number of the set from one on.
+    pub(crate) fn next(&self, from: usize) -> Option<usize>
+        requires { 64 * length self.now.words.items < 2 ^ 64 }
+        ensures some { IfSome result (IsNextFrom self.now.words.items from) }
+        ensures none { result ≡ None → (n : ℕ) → from ≤ n → bit_of self.now.words.items n ≡ 0 }
+    {
+        let word = from / BITS;
+        if word >= self.words.len() {
+            return None;
+        }
+        let left = self.words[word] >> (from % BITS);
+        if left != 0 {
+            return Some(from + left.trailing_zeros() as usize);
+        }
+        let later = self.first_word(word + 1);
+        if later == self.words.len() {
+            return None;
+        }
+        Some(self.first_in(later))
     }
 }

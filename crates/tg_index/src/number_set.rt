@@ -1,28 +1,41 @@
-//! A set of numbers that is gone through from the least on. It takes a bit for each number below the greatest for which there is
-//! room.
+//! A set of numbers: a bit for each, and one above for each word that has a number of the set. So the first one is found by two
+//! looks, a look for the next one passes over 4,096 numbers at a step, and to put a number in or take one out takes no memory.
 //!
-//! Contracts see the words of the bits.
-ghost use Rattle.std.specs.Prelude.{◌≡◌, ℕ, ◌*◌, ◌<◌, ◌≤◌, [], length, None, IfSome, OnOk};
-ghost use Rattle.tg_index.specs.Bits.{IsNextFrom, SetsBit, bit_of};
+//! Contracts see the words of the lower bits.
+ghost use Rattle.std.specs.Prelude.{◌≡◌, ℕ, List, ◌*◌, ◌^◌, ◌<◌, ◌≤◌, [], length, None, IfSome, OnOk};
+ghost use Rattle.tg_index.specs.Bits.{AreMarks, IsFirstOf, IsNextFrom, SetsBit, bit_of};
 
+<<<<<<<< HEAD:crates/tg_index/src/holes.rt
+use crate::bits::{Bits, MOST_WORDS};
+use std::alloc::{AllocError, Global};
+use std::marker::Model;
+
+/// The empty places of a row.
+========
 use crate::bits::{BITS, Bits, MOST_WORDS};
 use std::alloc::{AllocError, Global};
 use std::marker::Model;
 
-/// A set of numbers below 2 ^ 32.
+/// A set of numbers below 2 ^ 32, which is gone through from the least on. There is room for the numbers below some one.
+>>>>>>>> roots:crates/tg_index/src/number_set.rt
 #[derive(Drop)]
 pub struct NumberSet {
-    bits: Bits,
+    places: Bits,
+    // The words of `places` that aren't 0.
+    marks: Bits,
+    // The first word of `marks` that isn't 0, or the number of them.
+    least: usize,
 }
 
 impl Model for NumberSet {
-    ghost use Rattle.std.specs.Prelude.{ℕ, List, ◌*◌, ◌^◌, ◌≤◌, length};
+    ghost use Rattle.std.specs.Prelude.{ℕ, List};
+    ghost use Rattle.tg_index.specs.Bits.{AreMarks};
 
     ghost Value = { List ℕ };
 
-    ghost view = { λ a. a.bits.words.items };
+    ghost view = { λ a. a.places.words.items };
 
-    ghost invariant = { λ a. 64 * length a.bits.words.items ≤ 2 ^ 32 };
+    ghost invariant = { λ a. AreMarks a.places.words.items a.marks.words.items a.least };
 }
 
 impl NumberSet {
@@ -31,7 +44,9 @@ impl NumberSet {
         ensures { result ≡ [] }
     {
         NumberSet {
-            bits: Bits::new(alloc),
+            places: Bits::new(alloc),
+            marks: Bits::new(alloc),
+            least: 0,
         }
     }
 
@@ -41,48 +56,63 @@ impl NumberSet {
         ensures room { OnOk result (numbers ≤ 64 * length self.new) }
         ensures kept { (n : ℕ) → bit_of self.new n ≡ bit_of self.old n }
     {
-        if numbers <= self.bits.words.len() * BITS {
+        if numbers <= self.places.words.len() * BITS {
             return Ok(());
         }
-        self.widen(numbers)
+        self.reserve_words(numbers)
     }
 
-    // Makes words until there is room for the numbers below this one.
+    // Makes room for the numbers below this one, word by word.
     #[inline(never)]
-    fn widen(&mut self, numbers: usize) -> Result<(), AllocError>
+    fn reserve_words(&mut self, numbers: usize) -> Result<(), AllocError>
         ensures room { OnOk result (numbers ≤ 64 * length self.new) }
         ensures kept { (n : ℕ) → bit_of self.new n ≡ bit_of self.old n }
     {
-        while self.bits.words.len() * BITS < numbers {
-            if self.bits.words.len() == MOST_WORDS {
-                return Err(AllocError);
-            }
-            self.bits.widen()?;
+        while self.room() < numbers {
+            self.lengthen(self.room())?;
         }
         Ok(())
     }
 
-    /// Puts a number into the set, for which there is room. Takes no memory.
-    pub fn insert(&mut self, number: usize)
-        requires { number < 64 * length self.old }
-        ensures { SetsBit self.old self.new number 1 }
+    // Below which number there is room.
+    #[inline(always)]
+    fn room(&self) -> usize
+        ensures room { result ≡ 64 * length self.now }
+        ensures few { 64 * length self.now ≤ 2 ^ 32 }
     {
-        self.bits.insert(number);
+        self.places.words.len() * BITS
     }
 
-    /// Takes a number out of the set. Takes no memory.
-    pub fn remove(&mut self, number: usize)
-        requires { bit_of self.old number ≡ 1 }
-        ensures { SetsBit self.old self.new number 0 }
+    /// Makes the bit of a place behind all that have one, or answers that there would be too many. Nothing else changes.
+    pub(crate) fn lengthen(&mut self, place: usize) -> Result<(), AllocError>
+        requires { place ≤ 64 * length self.old }
+        ensures room { OnOk result (place < 64 * length self.new) }
+        ensures longer { length self.old ≤ length self.new }
+        ensures few { 64 * length self.new ≤ 2 ^ 32 }
+        ensures kept { (n : ℕ) → bit_of self.new n ≡ bit_of self.old n }
     {
-        self.bits.remove(number);
+        let words = self.places.words.len();
+        if place / 64 < words {
+            return Ok(());
+        }
+        if words == MOST_WORDS {
+            return Err(AllocError);
+        }
+        reserve_mark(words, &mut self.marks, &mut self.least)?;
+        self.places.widen()?;
+        Ok(())
     }
 
-    /// Takes all numbers out of the set. The room for them goes too, but its memory stays.
-    pub fn clear(&mut self)
-        ensures { self.new ≡ [] }
+    /// The least number of the set.
+    pub(crate) fn first(&self) -> Option<usize>
+        ensures some { IfSome result (IsFirstOf self.now) }
+        ensures none { result ≡ None → (n : ℕ) → bit_of self.now n ≡ 0 }
     {
-        self.bits.words.clear();
+        if self.least == self.marks.words.len() {
+            return None;
+        }
+        let word = self.marks.first_in(self.least);
+        Some(self.places.first_in(word))
     }
 
     /// The least number of the set from one on.
@@ -91,17 +121,68 @@ impl NumberSet {
         ensures none { result ≡ None → (n : ℕ) → from ≤ n → bit_of self.now n ≡ 0 }
     {
         let word = from / BITS;
-        if word >= self.bits.words.len() {
+        if word >= self.places.words.len() {
             return None;
         }
-        let left = self.bits.words[word] >> (from % BITS);
+        let left = self.places.words[word] >> (from % BITS);
         if left != 0 {
             return Some(from + left.trailing_zeros() as usize);
         }
-        let later = self.bits.first_word(word + 1);
-        if later == self.bits.words.len() {
-            return None;
+        match self.marks.next(word + 1) {
+            Some(later) => Some(self.places.first_in(later)),
+            None => None,
         }
-        Some(self.bits.first_in(later))
     }
+
+    /// Takes all numbers out of the set. The room for them goes too, but its memory stays.
+    pub fn clear(&mut self)
+        ensures { self.new ≡ [] }
+    {
+        self.places.words.clear();
+        self.marks.words.clear();
+        self.least = 0;
+    }
+
+    /// Puts a number into the set, for which there is room. Takes no memory.
+    pub fn insert(&mut self, place: usize)
+        requires { place < 64 * length self.old }
+        ensures { SetsBit self.old self.new place 1 }
+    {
+        let word = place / 64;
+        self.places.insert(place);
+        self.marks.insert(word);
+        self.least = self.least.min(word / 64);
+    }
+
+    /// Takes a number out of the set. Takes no memory.
+    pub fn remove(&mut self, place: usize)
+        requires { bit_of self.old place ≡ 1 }
+        ensures { SetsBit self.old self.new place 0 }
+    {
+        let word = place / 64;
+        self.places.remove(place);
+        if self.places.words[word] != 0 {
+            return;
+        }
+        self.marks.remove(word);
+        self.least = self.marks.first_word(self.least);
+    }
+}
+
+// Makes a mark for one more word than these.
+fn reserve_mark(words: usize, marks: &mut Bits, least: &mut usize) -> Result<(), AllocError>
+    requires { words ≤ 64 * length marks.old.words.items }
+    ensures room { OnOk result (words < 64 * length marks.new.words.items) }
+    ensures kept { (lower : List ℕ) → length lower ≡ words → AreMarks lower marks.old.words.items least.old → AreMarks lower marks.new.words.items least.new }
+{
+    let end = marks.words.len();
+    if words / 64 < end {
+        return Ok(());
+    }
+    marks.widen()?;
+    if *least < end {
+        return Ok(());
+    }
+    *least = marks.words.len();
+    Ok(())
 }

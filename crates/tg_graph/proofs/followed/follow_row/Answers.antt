@@ -1,14 +1,13 @@
-use Rattle.std.proofs.Common.{◌∙◌, length, refl, subst, sym, ℕ, ◌≤◌, take, ap, arith}
-use Rattle.std.specs.List.{All}
+use Rattle.std.proofs.Common.{◌∙◌, length, refl, subst, sym, ap, arith}
 use Rattle.tg_word.specs.Word.{place_in}
 use Rattle.tg_word.specs.declared.Place.{Place}
 use Rattle.tg_space.specs.Collection.{new_place}
 use Rattle.tg_space.specs.Targets.{from_space}
-use Rattle.tg_graph.specs.Index.{IsMarked, IsNumbered}
+use Rattle.tg_graph.specs.Index.{IsNumbered}
 use Rattle.tg_graph.proofs.Marked.{marked_moved}
 use Rattle.std.specs.Prelude.{slice_index}
 use Rattle.std.proofs.lemmas.Option.{get_or_from_slice_get}
-use Rattle.tg_graph.proofs.FollowedRows.{old_or_gone, young_or_gone, young_or_old}
+use Rattle.tg_graph.proofs.FollowedRows.{old_or_gone}
 use Rattle.tg_graph.proofs.followed.follow_row.Goals as goal
 
 -- the object of the row has a number

@@ -1,8 +1,6 @@
-use Rattle.std.proofs.Common.{List, refl, subst}
-use Rattle.tg_word.specs.declared.Place.{Place}
+use Rattle.std.proofs.Common.{refl, subst}
 use Rattle.tg_space.specs.declared.kind.Kind.{Kind}
 use Rattle.tg_graph.specs.Index.{IsMarked, known_notes}
-use Rattle.tg_graph.proofs.Heaps.{full_or_nursery}
 use Rattle.tg_graph.proofs.Marked.{no_marks, none_marked}
 use Rattle.tg_graph.proofs.followed.forget_moved.Goals as goal
 

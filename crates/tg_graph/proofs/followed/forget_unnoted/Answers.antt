@@ -1,6 +1,4 @@
-use Rattle.std.proofs.Common.{◌∙◌, ◌<◌, Some, arith, subst}
-use Rattle.std.specs.Prelude.{IfSome}
-use Rattle.tg_index.specs.Bits.{IsNextFrom}
+use Rattle.std.proofs.Common.{◌∙◌, arith}
 use Rattle.tg_graph.proofs.followed.forget_unnoted.Goals as goal
 
 pub forget_one-requires-clause-here : goal.forget_one-requires-clause-here

@@ -1,4 +1,4 @@
-use Rattle.std.proofs.Common.{◌≡◌, ◌<◌, ◌+◌, ◌∙◌, arith, ap, refl, sym, subst, get_or, take, ⊎_elim}
+use Rattle.std.proofs.Common.{◌∙◌, arith, ap, refl, sym, subst, get_or, ⊎_elim}
 use Rattle.std.proofs.lemmas.Bool.{cases_eq, false≢true}
 use Rattle.std.proofs.lemmas.List.{get_or-take, length-take-le}
 use Rattle.std.proofs.lemmas.Option.{get_or_from_slice_get}
@@ -34,11 +34,11 @@ returns-clause-marked c =
     subst IsOldPlace (get_or-take c.args.old row.cells.items row.old_cells cell c.requires.below) (c.requires.old row.old_cells cell (omega (arith, c.requires.below, length-take-le c.args.old row.cells.items c.requires.within))) in
     aged_one c.args.noted.now.places row _ refl refl
     (λ n set. ⊎_elim
-      (λ same. omega (arith, same))
-      (λ other. let low = c.requires.marked.aged.marks n (sym (c.reserve.ensures.kept n) ∙ sym (sets.others n other) ∙ set) in omega (arith, low))
-      (cases_eq n row.old_cells))
+    (λ same. omega (arith, same))
+    (λ other. let low = c.requires.marked.aged.marks n (sym (c.reserve.ensures.kept n) ∙ sym (sets.others n other) ∙ set) in omega (arith, low))
+    (cases_eq n row.old_cells))
     (λ n set. ⊎_elim
-      (λ same. ap (λ k. bit_of c.insert.new.self k) same ∙ sets.here)
-      (λ other. sets.others n other ∙ c.reserve.ensures.kept n ∙ set)
-      (cases_eq n row.old_cells))
+    (λ same. ap (λ k. bit_of c.insert.new.self k) same ∙ sets.here)
+    (λ other. sets.others n other ∙ c.reserve.ensures.kept n ∙ set)
+    (cases_eq n row.old_cells))
     cell (omega (arith, c.requires.below, c.requires.within)) old (λ has. sets.here) c.requires.marked

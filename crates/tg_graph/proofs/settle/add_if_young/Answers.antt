@@ -1,4 +1,4 @@
-use Rattle.std.proofs.Common.{◌∙◌, ap, refl, sym, subst}
+use Rattle.std.proofs.Common.{◌∙◌, ap, sym}
 use Rattle.tg_word.specs.declared.Place.{Place}
 use Rattle.tg_space.specs.Targets.{young_spaces}
 use Rattle.tg_graph.proofs.Starts.{word_named, word_passed}

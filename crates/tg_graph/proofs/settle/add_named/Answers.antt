@@ -1,7 +1,7 @@
-use Rattle.std.proofs.Common.{◌≡◌, ◌∙◌, ◌-◌, ap, arith, drop, take, length, length-drop, subst, sym, List, ℕ}
+use Rattle.std.proofs.Common.{◌≡◌, ◌∙◌, ◌-◌, ap, arith, drop, take, subst, sym, List, ℕ}
 use Rattle.std.specs.List.{All}
 use Rattle.std.specs.Result.{OnOk}
-use Rattle.tg_space.specs.Targets.{first_pointer, named_by, pointers_of, targets_at, young_spaces}
+use Rattle.tg_space.specs.Targets.{named_by, pointers_of, young_spaces}
 use Rattle.tg_graph.specs.Heap.{AddsRoots, NamesRow}
 use Rattle.tg_graph.proofs.Starts.{cell_names_rows, rest_taken}
 use Rattle.tg_graph.proofs.settle.add_named.Goals as goal

@@ -1,4 +1,4 @@
-use Rattle.std.proofs.Common.{◌≡◌, ◌∙◌, List, ℕ, ap, get_or, length, subst, sym, take}
+use Rattle.std.proofs.Common.{List, ℕ, length, subst}
 use Rattle.std.proofs.lemmas.List.{take_all}
 use Rattle.tg_space.specs.Targets.{named_by, young_spaces}
 use Rattle.tg_graph.specs.Heap.{AddsRoots}

@@ -1,4 +1,4 @@
-use Rattle.std.proofs.Common.{List, inl, refl, subst, sym}
+use Rattle.std.proofs.Common.{inl, refl, subst, sym}
 use Rattle.std.specs.List.{Contains}
 use Rattle.tg_space.specs.declared.root.Root.TheVariants.{Row}
 use Rattle.tg_space.specs.Soundness.{IsRootIn}

@@ -1,4 +1,4 @@
-use Rattle.std.proofs.Common.{◌∙◌, ◌+◌, ◌<◌, List, [], ap, arith, get_or, length, map, subst, sym, take}
+use Rattle.std.proofs.Common.{◌∙◌, ◌<◌, List, [], ap, arith, get_or, length, map, subst, sym}
 use Rattle.std.proofs.lemmas.List.{get_or-map, length-map, take_all}
 use Rattle.std.proofs.lemmas.List.Elements.{Contains-get_or}
 use Rattle.std.specs.List.{Contains}
@@ -6,10 +6,9 @@ use Rattle.tg_word.specs.declared.Place.{Place}
 use Rattle.tg_subjects.specs.Subjects.{places_of}
 use Rattle.tg_subjects.specs.declared.subject.Subject.{Subject}
 use Rattle.tg_space.specs.Targets.{all_root_targets, root_targets_of, young_spaces}
-use Rattle.tg_space.specs.declared.root.Root.{Root}
 use Rattle.tg_space.specs.declared.root.Root.TheVariants.{Row}
 use Rattle.tg_graph.specs.Heap.{AddsRoots, HeapState}
-use Rattle.tg_graph.proofs.Starts.{more_rows, none_added}
+use Rattle.tg_graph.proofs.Starts.{more_rows}
 use Rattle.tg_graph.proofs.heap.Heap.named_by_rows.Goals as goal
 
 -- what an index past the end would read

@@ -1,4 +1,4 @@
-use Rattle.std.proofs.Common.{◌-◌, ◌/◌, ◌+◌, Some, arith, ap, sym, subst, ◌∙◌}
+use Rattle.std.proofs.Common.{◌-◌, ◌/◌, ◌+◌, arith, ap, sym, subst, ◌∙◌}
 use Rattle.std.proofs.lemmas.Option.{none-some, same_Some}
 use Rattle.tg_index.specs.Slots.{IsFirstVacant}
 use Rattle.tg_graph.specs.Index.{row_slots}

@@ -1,7 +1,7 @@
 use Rattle.std.proofs.Common.{◌≡◌, ◌/◌, ◌+◌, ℕ, List, [], ◌∷◌, ◌++◌, length, length-append, ap, arith, subst}
 use Rattle.tg_index.specs.Bits.{AreMarks}
 use Rattle.tg_index.proofs.BitLemmas.{marks_all_longer, marks_longer}
-use Rattle.tg_index.proofs.holes.reserve_mark.Goals as goal
+use Rattle.tg_index.proofs.number_set.reserve_mark.Goals as goal
 
 pub returns-in_err-widen-clause-kept : goal.returns-in_err-widen-clause-kept
 returns-in_err-widen-clause-kept c = λ lower len are. rw c.in_err-widen.ensures.err are

@@ -1,7 +1,7 @@
 use Rattle.std.proofs.Common.{◌≡◌, ℕ, List, arith, subst}
 use Rattle.tg_index.specs.Bits.{IsFirstOf, bit_of}
 use Rattle.tg_index.proofs.BitLemmas.{first_marked, none_marked}
-use Rattle.tg_index.proofs.holes.Holes.first.Goals as goal
+use Rattle.tg_index.proofs.number_set.NumberSet.first.Goals as goal
 
 pub first_in-word-requires-clause-some : goal.first_in-word-requires-clause-some
 first_in-word-requires-clause-some c = let le = c.self.invariant.within in c.self.invariant.lowest (omega (arith, le, c.if-self-len.false, c.len.ensures))

@@ -1,6 +1,6 @@
 use Rattle.std.proofs.Common.{◌≡◌, length, arith}
 use Rattle.tg_index.proofs.BitLemmas.{marks_wider}
-use Rattle.tg_index.proofs.holes.Holes.reserve.Goals as goal
+use Rattle.tg_index.proofs.number_set.NumberSet.lengthen.Goals as goal
 
 pub invariant_of-self : goal.invariant_of-self
 invariant_of-self c =
