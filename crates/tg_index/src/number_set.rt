@@ -5,19 +5,11 @@
 ghost use Rattle.std.specs.Prelude.{◌≡◌, ℕ, List, ◌*◌, ◌^◌, ◌<◌, ◌≤◌, [], length, None, IfSome, OnOk};
 ghost use Rattle.tg_index.specs.Bits.{AreMarks, IsFirstOf, IsNextFrom, SetsBit, bit_of};
 
-<<<<<<<< HEAD:crates/tg_index/src/holes.rt
-use crate::bits::{Bits, MOST_WORDS};
-use std::alloc::{AllocError, Global};
-use std::marker::Model;
-
-/// The empty places of a row.
-========
 use crate::bits::{BITS, Bits, MOST_WORDS};
 use std::alloc::{AllocError, Global};
 use std::marker::Model;
 
 /// A set of numbers below 2 ^ 32, which is gone through from the least on. There is room for the numbers below some one.
->>>>>>>> roots:crates/tg_index/src/number_set.rt
 #[derive(Drop)]
 pub struct NumberSet {
     places: Bits,
