@@ -16,8 +16,9 @@ class Script:
     refused: int = 0
 
     @property
-    def is_race(self):
-        return "--race" in self.words
+    def has_rivals(self):
+        """Whether workers run side by side, so that the order isn't the same twice."""
+        return "--race" in self.words and not self.words.startswith("--workers 1 ")
 
     def text(self):
         made = "".join(f"{line}\n" for line in self.lines).encode()
