@@ -16,8 +16,9 @@ class Script:
     refused: int = 0
 
     @property
-    def is_race(self):
-        return "--race" in self.words
+    def has_rivals(self):
+        """Whether workers run side by side, so that the order isn't the same twice."""
+        return "--race" in self.words and not self.words.startswith("--workers 1 ")
 
     def text(self):
         made = "".join(f"{line}\n" for line in self.lines).encode()
@@ -129,12 +130,20 @@ def boxes_that_die():
     return Script(f"--workers 1 --stock {'csml' * 600}", lines, (1, 2))
 
 
+def hundreds_of_long_rows():
+    """300 rows at once that have an index each."""
+    lines, size, count = creates(40), 40, 300
+    for name in range(size + 1, size + 1 + count):
+        lines += ["0 create g", *(f"0 grant {name} {1 + i} r" for i in range(size))]
+    return Script("--workers 1 --stock c400", lines + ["minor", "minor", "full", "0 list"], (1, 2))
+
+
 def old_cells_that_are_remembered():
-    """5,000 old rows of which each comes to name a young object: roots of the next collection of the nurseries."""
-    size = 5_000
+    """20,000 old rows of which each comes to name a young object: roots of the next collection of the nurseries."""
+    size = 20_000
     lines = creates(size, "g") + ["full", "full"] + creates(50)
     lines += [f"0 grant {1 + i} {1 + size + i % 50} r" for i in range(size)] + ["minor", "minor", "0 list"]
-    return Script("--workers 1 --stock c6000", lines, (1, 2, 8))
+    return Script("--workers 1 --stock c21000", lines, (1, 2, 8))
 
 
 def commands_on_a_small_graph():
@@ -199,6 +208,18 @@ def one_request_is_refused():
     return Script("--workers 1 --stock l200", lines, refused=1_000)
 
 
+def a_collection_of_the_nurseries_is_refused():
+    """The first collection makes 378 requests, of which one in the middle is refused, and the next one is made."""
+    lines = creates(20_000, "rwtg") + ["minor", "minor", "full"]
+    return Script("--workers 1 --stock c20000", lines, refused=20_760)
+
+
+def a_collection_by_helpers_is_refused():
+    """The first collection makes 400 requests, of which one in the middle is refused, and the next one is made."""
+    lines = creates(20_000, "rwtg") + ["full", "full", "minor", "0 remove 7 rwtg", "full"]
+    return Script("--workers 1 --stock c20000", lines, (2,), refused=20_760)
+
+
 def a_session_of_25_calls():
     """A worker whose session has its 25 calls behind it when it spawns, and one that spawns first."""
     lines = ["0 read 1", "1 list"] * 25 + ["0 spawn rw", "0 list", "1 spawn r", "1 create r", "1 list"]
@@ -236,11 +257,12 @@ def a_race_that_is_denied():
 SCRIPTS = {
     it.__name__: it
     for it in (
-        edges_lost_and_got_again, long_rows_that_die, spawns_and_retires, sixty_four_subjects, minors,
-        minors_by_helpers, minors_of_nothing, fulls, fulls_of_a_heap_that_grows, a_heap_that_shrinks, boxes_that_die,
-        old_cells_that_are_remembered, commands_on_a_small_graph, lists_of_a_row_of_70000, takes_of_a_row_of_70000,
-        a_heap_of_5000_blocks, old_cells_of_1100000_places, sixty_four_blocks, five_thousand_vertices,
-        a_long_command_line, a_line_too_long, one_request_is_refused, a_session_of_25_calls, a_race_of_12000_lines,
-        a_race_of_nobodys_boxes, a_race_for_a_row_of_70000, a_race_that_is_denied,
+        edges_lost_and_got_again, long_rows_that_die, hundreds_of_long_rows, spawns_and_retires, sixty_four_subjects,
+        minors, minors_by_helpers, minors_of_nothing, fulls, fulls_of_a_heap_that_grows, a_heap_that_shrinks,
+        boxes_that_die, old_cells_that_are_remembered, commands_on_a_small_graph, lists_of_a_row_of_70000,
+        takes_of_a_row_of_70000, a_heap_of_5000_blocks, old_cells_of_1100000_places, sixty_four_blocks,
+        five_thousand_vertices, a_long_command_line, a_line_too_long, one_request_is_refused,
+        a_collection_of_the_nurseries_is_refused, a_collection_by_helpers_is_refused, a_session_of_25_calls,
+        a_race_of_12000_lines, a_race_of_nobodys_boxes, a_race_for_a_row_of_70000, a_race_that_is_denied,
     )
 }
