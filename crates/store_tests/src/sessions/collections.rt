@@ -101,11 +101,12 @@ fn met_on_two<R: Threads + Wait + Sync>(
 }
 
 // A nursery collection drops a young vertex that was given up, and none that lies in Old; a full one drops it. In each of the four
-// the gate is passed for the workers' rows, which are one chunk of roots, and once more by each of several helpers.
+// the gate is passed for the workers' rows, which are one chunk of roots, and once more by each of several helpers. In the third no
+// vertex is young, so there one thread collects, which passes it twice.
 #[test]
 fn collections_of_each_kind(rt: HostRuntime) -> Result<(), Fail> {
     for in_race in [false, true] {
-        for (helpers, passes) in [(1, 0), (2, 12), (3, 16), (8, 36)] {
+        for (helpers, passes) in [(1, 0), (2, 11), (3, 14), (8, 29)] {
             let seen = met_on_two(&rt, rt.alloc(), helpers, in_race).ok_or("a refusal")?;
             assert_eq!(rt; seen, ([2, 3, 3, 2], passes), "with {helpers}");
         }
