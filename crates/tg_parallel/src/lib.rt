@@ -37,7 +37,7 @@
 
 pub use fault::HelpersFault;
 pub use gate::{Gate, NoGate};
-pub use many::{collect_many, collect_seated};
+pub use many::{MOST_HELPERS, collect_many, collect_seated};
 pub use part::{Helped, Part, help};
 
 mod fault;

@@ -33,6 +33,9 @@ use tg_race::{Helper, Opened, RaceTable};
 use tg_space::{Forwarding, Kind, RoomFault, Root, Spaces, Spare};
 use tg_word::CELLS;
 
+/// The most helpers that a collection may have.
+pub const MOST_HELPERS: u32 = 8;
+
 /// Copies what the roots reach into new blocks, by one helper at a table of its own, on the calling thread.
 ///
 /// What it leaves is a collection as that of `tg_evac::collect_one`, and it is refused as that is, but that each space may

@@ -6,8 +6,7 @@ use std::sync::Wait;
 use std::thread::Threads;
 use tg_helpers::{NoGate, collect_with};
 use tg_payload::Payload;
-use tg_refusals::helpers_refusal;
-use tg_script::{Collector, Helpers, OneThread, Refusal};
+use tg_script::{Collector, Helpers, OneThread, Refusal, helpers_refusal};
 use tg_store::{Kind, Store};
 
 /// What makes a run's collections with helpers on threads. Where there is to be one helper alone, the thread that runs the script

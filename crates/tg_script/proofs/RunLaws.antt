@@ -32,7 +32,7 @@ use Rattle.tg_text.specs.declared.answer.Refusal.TheVariants as refusal
 use Rattle.tg_script.specs.declared.run.Run.{Run}
 use Rattle.tg_script.specs.Supply.{values_left}
 use Rattle.tg_script.specs.Script.{Scene, Answers, AnswersMaking, MayAnswerRefused, Serves, create_of, spawn_of, stock_left}
-use Rattle.tg_refusals.specs.Refusals.{apply_refusal, create_answer}
+use Rattle.tg_script.specs.Refusals.{apply_refusal, create_answer}
 use Rattle.tg_script.specs.Run.{Shows, HandlesBy, Handles, making_answer, values_back}
 
 -- ---- who is a subject, and which graph a store stands for

@@ -1,3 +1,4 @@
+pub mod Refusals
 pub mod Script
 pub mod Counting
 pub mod Running

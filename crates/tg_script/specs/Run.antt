@@ -3,7 +3,7 @@ use Rattle.std.specs.Prelude.{◌≡◌, ◌≤◌, ℕ, List, [], ◌∷◌, Re
 use Rattle.tg_model.specs.Opened.{Plan, HasLimits, start_of}
 use Rattle.tg_model.specs.declared.value.Value.{Value}
 use Rattle.tg_model.specs.declared.reply.Reply.TheVariants as reply
-use Rattle.tg_refusals.specs.Refusals.{create_answer}
+use Rattle.tg_script.specs.Refusals.{create_answer}
 use Rattle.tg_store.specs.declared.fault.CreateRefused.{CreateRefused}
 use Rattle.tg_store.specs.Store.{StoreState, StandsFor}
 use Rattle.tg_text.specs.declared.line.Line.{Line}

@@ -2,8 +2,8 @@
 ghost use Rattle.std.specs.Prelude.{◌≡◌};
 
 use crate::helpers::Helpers;
+use crate::refusals::collect_refusal;
 use tg_payload::Payload;
-use tg_refusals::collect_refusal;
 use tg_store::{Kind, Store};
 use tg_text::Refusal;
 

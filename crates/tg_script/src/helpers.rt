@@ -1,9 +1,7 @@
 //! How many helpers collect a store.
 
 use std::marker::Model;
-
-/// The most helpers that a collection may have.
-pub const MOST_HELPERS: u32 = 8;
+use tg_parallel::MOST_HELPERS;
 
 /// How many helpers each collection of a run has: from 1 to 8.
 #[derive(Clone, Copy, Debug)]

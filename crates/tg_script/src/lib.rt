@@ -19,6 +19,7 @@ mod drafts;
 mod helpers;
 pub mod laws;
 mod opening;
+mod refusals;
 mod run;
 mod run_script;
 mod script;
@@ -27,14 +28,15 @@ mod whole;
 
 pub use collector::{Collector, OneThread};
 pub use drafts::drafts_of;
-pub use helpers::{Helpers, MOST_HELPERS};
+pub use helpers::Helpers;
 pub use opening::open_store;
+pub use refusals::{apply_refusal, collect_refusal, create_answer, helpers_refusal};
 pub use run_script::{InMemory, Settings, run_in_memory, run_script_one, run_script_with};
-pub use tg_lines::{MOST_BYTES, MOST_LINE_BYTES};
+pub use tg_parallel::MOST_HELPERS;
 pub use tg_store::Limits;
 pub use tg_text::{
-    Answer, Bytes, Count, Line, MOST_BOXES, Next, OfRead, OfWrite, Put, Refusal, ScriptFault, Sink,
-    Source, StockFault, StockItem, WriteFailed, Written, put_all, put_texts, read_line, read_stock,
-    write_reply,
+    Answer, Bytes, Count, Line, MOST_BOXES, MOST_BYTES, MOST_LINE_BYTES, Next, OfRead, OfWrite,
+    Put, Refusal, ScriptFault, Sink, Source, StockFault, StockItem, WriteFailed, Written, put_all,
+    put_texts, read_line, read_stock, write_reply,
 };
 pub use whole::{WholeScript, read_script};

@@ -3,10 +3,10 @@ ghost use Rattle.std.specs.Prelude.{◌≡◌};
 
 use crate::collector::Collector;
 use crate::helpers::Helpers;
+use crate::refusals::{apply_refusal, create_answer};
 use crate::supply::Supply;
 use tg_model::{Command, Reply};
 use tg_payload::{Draft, Payload};
-use tg_refusals::{apply_refusal, create_answer};
 use tg_rights::Label;
 use tg_store::{CreateRefused, Kind, Store};
 use tg_text::{Answer, Line, Refusal};

@@ -1,8 +1,9 @@
 //! A script that is read line by line, with the first fault in it.
 ghost use Rattle.std.specs.Prelude.{◌+◌, ◌≤◌};
 
-use tg_lines::{Lines, is_opening_after, standing_line};
-use tg_text::{Fetched, Line, LineBuffer, ScriptFault, Sink, Source};
+use tg_text::{
+    Fetched, Line, LineBuffer, Lines, ScriptFault, Sink, Source, is_opening_after, standing_line,
+};
 
 /// A script, as far as it was read.
 #[derive(Drop)]

@@ -22,7 +22,7 @@ use Rattle.tg_shared.specs.declared.receipt.Receipt.{Receipt}
 use Rattle.tg_shared.specs.Receipts.{receipt_of}
 use Rattle.tg_store.specs.declared.fault.CreateFault.{CreateFault}
 use Rattle.tg_store.specs.declared.fault.CreateFault.TheVariants as create
-use Rattle.tg_refusals.specs.Refusals.{create_answer}
+use Rattle.tg_script.specs.Refusals.{create_answer}
 use Rattle.tg_shared.specs.Sessions.{IsAnswered, SessionState, SharedStart, KeepsReceipts}
 use Rattle.tg_threads.specs.declared.threads.ThreadsFault.{ThreadsFault}
 use Rattle.tg_threads.specs.declared.threads.ThreadsFault.TheVariants as threads

@@ -5,7 +5,7 @@ use std::alloc::{AllocError, Global};
 use std::io::{self, ErrorKind, Input};
 use tg_model::Edge;
 use tg_reason::{NO_TEXT, reason_of};
-use tg_text::{Line, StockItem, read_line};
+use tg_text::{Line, StockItem, standing_line};
 
 /// A line of a script.
 #[derive(Clone, Copy)]
@@ -140,16 +140,8 @@ impl Script {
 
     // The line whose text begins here, if it may stand behind the lines before it.
     fn line_at(&self, first: usize) -> Option<Line> {
-        let line = read_line(self.text_from(first).strip_suffix(b"\n")?)?;
-        match line {
-            Line::Edge(edge) if !self.may_stand(&edge) => None,
-            _ => Some(line),
-        }
-    }
-
-    // Whether an edge line may stand behind the lines before it.
-    fn may_stand(&self, edge: &Edge) -> bool {
-        self.lines.is_empty() && edge.joins_workers(self.workers)
+        let text = self.text_from(first).strip_suffix(b"\n")?;
+        standing_line(text, self.workers, self.lines.is_empty())
     }
 
     // Why the text that begins here is a bad line.

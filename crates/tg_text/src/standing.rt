@@ -3,7 +3,8 @@ ghost use Rattle.std.specs.Prelude.{◌≡◌, ◌↔◌, IsTrue, IfSome, IfNone
 ghost use Rattle.tg_text.specs.Grammar.{LineFits, line_text};
 ghost use Rattle.tg_text.specs.Reading.{MayStand, IsBadText, opening_after};
 
-use tg_text::{Line, read_line};
+use crate::line::Line;
+use crate::read::read_line;
 
 /// The line of these bytes, if it may stand here: with so many workers, and where edge lines may still come or no more.
 #[inline(always)]

@@ -1,8 +1,8 @@
 use Rattle.std.proofs.Common.{◌≡◌, ◌+◌, ◌≤◌, length}
 use Rattle.tg_text.specs.Fetching.{IsOneLine}
 use Rattle.tg_text.specs.Sinks.{KeepsBytes}
-use Rattle.tg_lines.proofs.FetchLaws.{Begins}
-use Rattle.tg_lines.proofs.fetch.Lines.next_line_by_bytes.Given as goal
+use Rattle.tg_text.proofs.FetchLaws.{Begins}
+use Rattle.tg_text.proofs.fetch.Lines.next_line_by_bytes.Given as goal
 
 abbrev pub invariant-loop : goal.invariant-loop
 invariant-loop g l =

@@ -3,7 +3,8 @@ ghost use Rattle.std.specs.Prelude.{◌≡◌, ◌⊎◌, ◌+◌, true, false, 
 ghost use Rattle.tg_text.specs.Sources.{TellsNext, failures_of};
 ghost use Rattle.tg_text.specs.Sinks.{KeepsBytes};
 
-use tg_text::{Next, Sink, Source, WriteFailed};
+use crate::sink::{Sink, WriteFailed};
+use crate::source::{Next, Source};
 
 /// The next byte, for which a client may wait until it was answered: where the source doesn't hold its next answer, what was put
 /// into the sink is finished first. `WriteFailed` where that failed; then the source isn't asked.

@@ -5,10 +5,12 @@
 //! line lie in one buffer, which serves all lines.
 ghost use Rattle.std.specs.Prelude.{◌≡◌, ◌+◌, ◌≤◌, true, false, length};
 ghost use Rattle.tg_text.specs.Fetching.{TakesLineAtOnce};
-ghost use Rattle.tg_lines.specs.Fetched.{FetchesLine};
+ghost use Rattle.tg_text.specs.Fetched.{FetchesLine};
 
+use crate::buffer::LineBuffer;
 use crate::exchange::next_byte;
-use tg_text::{Fetched, LineBuffer, Next, Sink, Source};
+use crate::sink::Sink;
+use crate::source::{Fetched, Next, Source};
 
 /// The most bytes that a script may have, line feeds included.
 pub const MOST_BYTES: u32 = 1_048_576;

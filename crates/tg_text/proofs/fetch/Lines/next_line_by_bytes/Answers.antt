@@ -4,9 +4,9 @@ use Rattle.tg_text.specs.declared.source.Next.TheVariants.{Byte}
 use Rattle.tg_text.specs.Fetching.{IsOneLine}
 use Rattle.tg_text.specs.Sinks.{KeepsBytes}
 use Rattle.tg_text.specs.Sources.{TellsNext, failures_of}
-use Rattle.tg_lines.proofs.FetchLaws.{Begins}
-use Rattle.tg_lines.proofs.fetch.Lines.next_line_by_bytes.Goals as goal
-use Rattle.tg_lines.proofs.fetch.Lines.next_line_by_bytes.Goals.{else-byte-ne10-via-then-byte-ne10+else-len-eq-MOST_LINE_BYTES, else-byte-ne10-via-else-byte-ne10}
+use Rattle.tg_text.proofs.FetchLaws.{Begins}
+use Rattle.tg_text.proofs.fetch.Lines.next_line_by_bytes.Goals as goal
+use Rattle.tg_text.proofs.fetch.Lines.next_line_by_bytes.Goals.{else-byte-ne10-via-then-byte-ne10+else-len-eq-MOST_LINE_BYTES, else-byte-ne10-via-else-byte-ne10}
 
 -- a line with one more byte, which is no line feed
 one_more : (line : List ℕ) (byte : ℕ) → IsOneLine line → byte ≢ 10 → IsOneLine (line ++ byte ∷ [])

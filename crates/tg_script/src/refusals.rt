@@ -1,10 +1,7 @@
-//! How the faults of a store are told to who asked: as a refusal in the text of a reply.
-//!
-//! What a reader has to believe stands in `specs/`: `Refusals` says what each fault is told as. Nothing here knows how a store came to it.
-#![tactic(auto)]
-
+//! How the faults of a store are told to who asked: as a refusal in the text of a reply. `Refusals` of `specs/` says what each
+//! fault is told as. Nothing here knows how a store came to it.
 ghost use Rattle.std.specs.Prelude.{◌≡◌};
-ghost use Rattle.tg_refusals.specs.Refusals.{apply_refusal, create_answer, collect_refusal, helpers_refusal};
+ghost use Rattle.tg_script.specs.Refusals.{apply_refusal, create_answer, collect_refusal, helpers_refusal};
 
 use tg_model::Reply;
 use tg_parallel::HelpersFault;
