@@ -1,6 +1,6 @@
 //! Spaces of blocks of cells: the ground that the heap's graph and its collections stand on.
 //!
-//! A heap is a list of spaces. Space 0 is Old, space 1 is Aged, and space 2 + k is the nursery of worker k. A space is
+//! A heap is a list of spaces. Space 0 is Old, space 1 is Aged, and space 2 + k is the nursery with number k. A space is
 //! a list of blocks, which only grows, until a collection takes all its blocks away; a block is 64 cells of 8 words.
 //!
 //! ```text
