@@ -19,7 +19,7 @@ use Rattle.tg_space.specs.declared.kind.Kind.TheVariants.{Full, Nursery}
 use Rattle.tg_index.specs.Bits.{bit_of}
 use Rattle.tg_graph.specs.Cells.{CellList}
 use Rattle.tg_graph.specs.Index.{AreAged, HasIndexAt, IsAged, IsOldPlace, IsOldRow, followed_place}
-use Rattle.tg_graph.specs.declared.index.IndexedRow.{IndexedRow}
+use Rattle.tg_graph.specs.declared.indexed_row.IndexedRow.{IndexedRow}
 
 -- one more of the first
 pub one_more : {X : Type 0} (P : X → Type 0) (xs : List X) (n : ℕ) (d : X) → n < length xs → All P (take n xs) → P (get_or xs n d) → All P (take (n + 1) xs)

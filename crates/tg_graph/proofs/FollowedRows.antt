@@ -20,7 +20,7 @@ use Rattle.tg_space.specs.Targets.{from_space}
 use Rattle.tg_space.specs.declared.kind.Kind.{Kind}
 use Rattle.tg_space.specs.declared.kind.Kind.TheVariants.{Full, Nursery}
 use Rattle.tg_graph.specs.Index.{AreAged, AreFollowed, IsAged, IsFollowable, IsFollowed, IsFollowedTo, IsLeftBehind, IsNumbered, IsOldPlace, IsOldRow, IsMarked, followed_place, known_notes}
-use Rattle.tg_graph.specs.declared.index.IndexedRow.{IndexedRow}
+use Rattle.tg_graph.specs.declared.indexed_row.IndexedRow.{IndexedRow}
 use Rattle.tg_graph.specs.declared.followed.Fate.TheVariants.{Gone, Young, Old}
 use Rattle.tg_graph.proofs.Ages.{exchanged_none, exchanged_second, first_below, map_same, old_row_at, slice_get_is, value_here, value_of, value_other, written_aged}
 

@@ -19,9 +19,9 @@ use Rattle.tg_graph.specs.Heap.{content_in}
 use Rattle.tg_graph.specs.Index.{Indexes, IsRowIndex, KeepsOtherIndexes}
 use Rattle.tg_graph.specs.Rows.{IsRow, IsVertexAt, name_at}
 use Rattle.tg_graph.specs.Spots.{narrowed, word_put}
-use Rattle.tg_graph.specs.declared.index.IndexedRow.{IndexedRow}
-use Rattle.tg_graph.specs.declared.long_rows.Way.{Way}
-use Rattle.tg_graph.specs.declared.long_rows.Way.TheVariants.{Walk, Index, New}
+use Rattle.tg_graph.specs.declared.indexed_row.IndexedRow.{IndexedRow}
+use Rattle.tg_graph.specs.declared.indexes.Way.{Way}
+use Rattle.tg_graph.specs.declared.indexes.Way.TheVariants.{Walk, Index, New}
 use Rattle.tg_graph.specs.declared.rows.Spot.{Spot}
 use Rattle.tg_graph.specs.declared.rows.Spot.TheVariants.{Reference, Empty, Full}
 use Rattle.tg_graph.proofs.IndexExtend.{full_absent, full_chunk, full_held, full_index}
@@ -32,7 +32,7 @@ use Rattle.tg_graph.proofs.Finding.{IsReferenceTo, cell_held, found_refers, refe
 use Rattle.tg_graph.proofs.IndexKept.{other_index}
 use Rattle.tg_graph.proofs.IndexPut.{cleared_index, filled_absent, filled_index, filled_vacant, has_number, kept_index, narrowed_place, slot_of_zero, still_names, wide_index, word_there}
 use Rattle.tg_graph.proofs.IndexedRows.{Entries}
-use Rattle.tg_graph.proofs.Kept.{Becomes}
+use Rattle.tg_graph.proofs.Changed.{Becomes}
 use Rattle.tg_graph.proofs.Layouts.{present_place}
 use Rattle.tg_graph.proofs.Indexed.{places_short}
 use Rattle.tg_graph.proofs.Putting.{narrowed_becomes, put_becomes}

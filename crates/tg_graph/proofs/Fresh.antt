@@ -25,7 +25,7 @@ use Rattle.tg_graph.proofs.Places.{layout_at}
 use Rattle.tg_graph.proofs.Lookups.{label_nowhere, name_of_vertex, value_at, value_nowhere, vertex_of_name}
 use Rattle.tg_graph.proofs.Chains.{chain_chunks, row_held}
 use Rattle.tg_graph.proofs.Changes.{cell_kept, cell_written, holds_written, list_written, same_or_other}
-use Rattle.tg_graph.proofs.Kept.{Becomes, Shows, ShowsRow, Stays, layout_stays, links_stay, reference_stays, row_stays, same_objects, shown_content, shown_graph, vertices_stay}
+use Rattle.tg_graph.proofs.Changed.{Becomes, Shows, ShowsRow, Stays, layout_stays, links_stay, reference_stays, row_stays, same_objects, shown_content, shown_graph, vertices_stay}
 
 -- the cells of a row are objects and chunks
 pub row_used : (h : SpaceList) (p : Place) (ps : List Place) → IsKindAt h Object p → IsChain h (link_at h p) ps → (q : Place) → IsKindAt h Free q → All (λ c. c ≢ q) (p ∷ ps)

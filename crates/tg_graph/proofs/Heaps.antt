@@ -19,7 +19,7 @@ use Rattle.tg_payload.specs.Table.{Payloads}
 use Rattle.tg_graph.specs.Content.{IsContent, IsNamed}
 use Rattle.tg_graph.specs.Heap.{HeapState, IsWellFormed, KeepsPlaces, content_in, content_of}
 use Rattle.tg_graph.specs.Index.{AreIndexed, MayIndex, SameIndexed, indexed_in, names_indexed}
-use Rattle.tg_graph.specs.declared.index.IndexedRow.{IndexedRow}
+use Rattle.tg_graph.specs.declared.indexed_row.IndexedRow.{IndexedRow}
 use Rattle.tg_graph.specs.Rows.{IsVertexAt, name_at, objects_of}
 use Rattle.tg_graph.specs.Steps.{ChangesTo}
 use Rattle.tg_graph.proofs.Growing.{graph_entries}

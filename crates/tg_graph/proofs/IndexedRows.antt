@@ -10,7 +10,7 @@ use Rattle.tg_payload.specs.Table.{Payloads}
 use Rattle.tg_graph.specs.Heap.{IsGraph}
 use Rattle.tg_graph.specs.Index.{AreIndexed, IsIndexed, IsMarked, IsRowIndex, KeepsOtherIndexes, MayIndex, SameIndexed, indexed_in}
 use Rattle.tg_graph.specs.Rows.{IsVertexAt, name_at}
-use Rattle.tg_graph.specs.declared.index.IndexedRow.{IndexedRow}
+use Rattle.tg_graph.specs.declared.indexed_row.IndexedRow.{IndexedRow}
 use Rattle.indexmap.specs.Layout.{set_value_at}
 use Rattle.tg_graph.proofs.FollowedRows.{same_some}
 use Rattle.tg_graph.proofs.Marked.{KeepsOthersMarked}

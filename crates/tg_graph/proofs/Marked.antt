@@ -25,7 +25,7 @@ use Rattle.tg_graph.specs.Heap.{IsGraph}
 use Rattle.tg_graph.specs.Index.{IsAged, IsMarked, IsOldPlace, IsPlaceOf, IsRowIndex, row_slots, followed_place}
 use Rattle.tg_graph.specs.Rows.{IsRow}
 use Rattle.tg_graph.specs.Spots.{IsNoteIn, IsSpotFor, note_for, old_cell_if, with_note}
-use Rattle.tg_graph.specs.declared.index.IndexedRow.{IndexedRow}
+use Rattle.tg_graph.specs.declared.indexed_row.IndexedRow.{IndexedRow}
 use Rattle.tg_graph.specs.declared.rows.Spot.{Spot}
 use Rattle.tg_graph.specs.declared.rows.Spot.TheVariants.{Reference, Empty, Full}
 use Rattle.tg_graph.proofs.Ages.{first_below, one_more}

@@ -27,7 +27,7 @@ use Rattle.tg_space.proofs.Pointing.{parts}
 use Rattle.tg_graph.specs.Heap.{AddsRoots, CollectAlike, HeapState, IsRowRoot, IsWellFormed, NamesRow, roots_of}
 use Rattle.tg_graph.specs.Index.{IsIndexed, IsOldPlace}
 use Rattle.tg_graph.specs.Rows.{IsChain, IsVertexAt}
-use Rattle.tg_graph.specs.declared.index.IndexedRow.{IndexedRow}
+use Rattle.tg_graph.specs.declared.indexed_row.IndexedRow.{IndexedRow}
 use Rattle.tg_graph.proofs.Chains.{chain_chunks, chain_enough, chain_short, row_held}
 use Rattle.tg_graph.proofs.KeptAdopted.{old_stays}
 use Rattle.tg_graph.proofs.KeptHeap.{remembered_cells, remembered_root}

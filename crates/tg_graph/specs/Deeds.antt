@@ -25,7 +25,7 @@ use Rattle.tg_graph.specs.Steps.{ChangesTo}
 use Rattle.tg_graph.specs.declared.cells.Cells.{Cells}
 use Rattle.tg_graph.specs.declared.heap.Found.{Found}
 use Rattle.tg_graph.specs.declared.heap.VertexRefused.{VertexRefused}
-use Rattle.tg_graph.specs.declared.long_rows.Way.{Way}
+use Rattle.tg_graph.specs.declared.indexes.Way.{Way}
 use Rattle.tg_graph.specs.declared.rows.Spot.{Spot}
 
 -- ---- what a look is handed

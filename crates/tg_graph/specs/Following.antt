@@ -16,9 +16,9 @@ use Rattle.tg_graph.specs.Index.{AreIndexed, HasIndexAt, Indexes, IsAged, IsMark
 use Rattle.tg_graph.specs.Rows.{IsRow, IsVertexAt, name_at}
 use Rattle.tg_graph.specs.Spots.{IsNoteIn, IsSpotFor, cells_for, narrowed, note_for, table_put, with_note, word_put}
 use Rattle.tg_graph.specs.Steps.{KeepsRows}
-use Rattle.tg_graph.specs.declared.index.IndexedRow.{IndexedRow}
-use Rattle.tg_graph.specs.declared.long_rows.Way.{Way}
-use Rattle.tg_graph.specs.declared.long_rows.Way.TheVariants.{Walk, Index, New}
+use Rattle.tg_graph.specs.declared.indexed_row.IndexedRow.{IndexedRow}
+use Rattle.tg_graph.specs.declared.indexes.Way.{Way}
+use Rattle.tg_graph.specs.declared.indexes.Way.TheVariants.{Walk, Index, New}
 use Rattle.tg_graph.specs.declared.rows.Spot.{Spot}
 use Rattle.tg_graph.specs.declared.rows.Spot.TheVariants.{Reference}
 use Rattle.tg_graph.specs.declared.rows.TheConstants.{SHORT}

@@ -19,7 +19,7 @@ use Rattle.tg_graph.specs.declared.rows.Spot.{Spot}
 use Rattle.tg_graph.specs.declared.rows.Spot.TheVariants.{Reference, Empty, Full}
 use Rattle.tg_word.specs.declared.TheConstants.{MAX_NURSERIES}
 use Rattle.tg_graph.specs.Index.{IsRowIndex}
-use Rattle.tg_graph.specs.declared.index.IndexedRow.{IndexedRow}
+use Rattle.tg_graph.specs.declared.indexed_row.IndexedRow.{IndexedRow}
 use Rattle.tg_space.specs.Soundness.{AreSound}
 
 -- the word is a reference to the vertex with this name

@@ -12,10 +12,10 @@ ghost use Rattle.tg_space.specs.Targets.{from_space};
 ghost use Rattle.tg_word.specs.Word.{place_in};
 ghost use Rattle.tg_word.specs.declared.Place.{Place as PlaceOf};
 ghost use Rattle.tg_graph.specs.Index.{AreAged, AreFollowed, AreMovedToOld, AreStarts, IsAged, IsFollowable, IsFollowedTo, IsLeftBehind, IsMarked, IsNumbered, IsOldPlace, IsOldRow, followed_place, followed_word, known_notes, number_by};
-ghost use Rattle.tg_graph.specs.declared.index.IndexedRow.{IndexedRow as RowOf};
+ghost use Rattle.tg_graph.specs.declared.indexed_row.IndexedRow.{IndexedRow as RowOf};
 
-use crate::index::IndexedRow;
-use crate::long_rows::LongRows;
+use crate::indexed_row::IndexedRow;
+use crate::indexes::LongRows;
 use crate::row_cells::RowCells;
 use indexmap::IndexMap;
 use std::alloc::AllocError;

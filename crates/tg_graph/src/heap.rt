@@ -18,7 +18,7 @@ ghost use Rattle.tg_graph.specs.Spots.{IsMadeInRow, IsPutInRow, LacksCellsFor};
 ghost use Rattle.tg_graph.specs.Standing.{IsContentOf};
 
 use crate::cells::Cells;
-use crate::long_rows::LongRows;
+use crate::indexes::LongRows;
 use crate::opening::opened;
 use std::alloc::{AllocError, Global};
 use std::marker::Model;

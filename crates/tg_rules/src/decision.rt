@@ -57,7 +57,7 @@ pub fn find_parties<P: Payload>(
             target,
             rights,
         } => {
-            let same = are_not_three(worker.name, via, target);
+            let same = are_two_the_same(worker.name, via, target);
             let via = check_first(heap, Rule::Take, same, worker, via, Rights::of(Right::T))?;
             let target = check_held(heap, Rule::Take, via, target, rights.rights())?;
             Ok(Parties {
@@ -70,7 +70,7 @@ pub fn find_parties<P: Payload>(
             target,
             rights,
         } => {
-            let same = are_not_three(worker.name, via, target);
+            let same = are_two_the_same(worker.name, via, target);
             let receiver = check_first(heap, Rule::Grant, same, worker, via, Rights::of(Right::G))?;
             let target = check_held(heap, Rule::Grant, worker, target, rights.rights())?;
             Ok(Parties {
@@ -129,7 +129,7 @@ fn check_use<P: Payload>(
 
 // Whether two of the three vertices of a take or a grant are one.
 #[inline(always)]
-fn are_not_three(worker: u64, via: u64, target: u64) -> bool
+fn are_two_the_same(worker: u64, via: u64, target: u64) -> bool
     ensures { result ≡ ((worker == via) || (via == target) || (worker == target)) }
 {
     worker == via || via == target || worker == target

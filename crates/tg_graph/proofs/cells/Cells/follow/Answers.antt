@@ -8,8 +8,8 @@ use Rattle.tg_word.specs.declared.Place.{Place}
 use Rattle.tg_graph.specs.Following.{HasRoomIn, IsReady, IsReadyAt, IsReadyNew, IsReadyShort}
 use Rattle.tg_graph.specs.Index.{AreIndexed, Indexes, IsAged, IsMarked, MayIndex, SameIndexed, indexed_in}
 use Rattle.tg_graph.specs.Rows.{name_at}
-use Rattle.tg_graph.specs.declared.index.IndexedRow.{IndexedRow}
-use Rattle.tg_graph.specs.declared.long_rows.Way.{Way}
+use Rattle.tg_graph.specs.declared.indexed_row.IndexedRow.{IndexedRow}
+use Rattle.tg_graph.specs.declared.indexes.Way.{Way}
 use Rattle.tg_graph.proofs.Ages.{aged_at, row_there, same_row, written_aged}
 use Rattle.tg_graph.proofs.Following.{behind_grown, behind_object, behind_others, behind_own, behind_marked, behind_vertices, row_behind}
 use Rattle.tg_graph.proofs.IndexedRows.{added_here, added_index, index_at, indexes_kept, indexes_written, may_index, written_indexed}

@@ -8,7 +8,7 @@ use Rattle.tg_graph.specs.Cells.{CellList}
 use Rattle.tg_graph.specs.Following.{IsWay}
 use Rattle.tg_graph.specs.Index.{AreIndexed, HasIndexAt, Indexes, IsAged, IsOldRow, IsRowIndex, SameIndexed}
 use Rattle.tg_graph.specs.Rows.{name_at}
-use Rattle.tg_graph.specs.declared.long_rows.Way.{Way}
+use Rattle.tg_graph.specs.declared.indexes.Way.{Way}
 use Rattle.tg_graph.proofs.Ages.{aged_at, old_or_behind, row_there, same_aged, same_row, written_aged}
 use Rattle.tg_graph.proofs.Following.{index_narrowed, narrowed_held, narrowed_inside, narrowed_number, narrowed_others, narrowed_vertices, way_none}
 use Rattle.tg_graph.proofs.IndexedRows.{index_at, indexes_kept, indexes_written, written_indexed}

@@ -3,9 +3,9 @@ use Rattle.std.proofs.lemmas.Option.{slice_get_within}
 use Rattle.tg_graph.specs.Following.{IsWay}
 use Rattle.tg_graph.specs.Index.{HasIndexAt, IsRowIndex}
 use Rattle.tg_graph.specs.Rows.{name_at}
-use Rattle.tg_graph.specs.declared.index.IndexedRow.{IndexedRow}
-use Rattle.tg_graph.specs.declared.long_rows.Way.{Way}
-use Rattle.tg_graph.specs.declared.long_rows.Way.TheVariants.{New}
+use Rattle.tg_graph.specs.declared.indexed_row.IndexedRow.{IndexedRow}
+use Rattle.tg_graph.specs.declared.indexes.Way.{Way}
+use Rattle.tg_graph.specs.declared.indexes.Way.TheVariants.{New}
 use Rattle.tg_space.proofs.Tables.{table_list}
 use Rattle.tg_graph.proofs.Finding.{fresh_lacks}
 use Rattle.tg_graph.proofs.IndexedRows.{index_at}

@@ -4,7 +4,7 @@ use Rattle.std.specs.Map.{lookup}
 use Rattle.tg_space.specs.Rows.{row_of}
 use Rattle.tg_graph.specs.Following.{IsReadyNew}
 use Rattle.tg_graph.specs.Rows.{name_at}
-use Rattle.tg_graph.specs.declared.index.IndexedRow.{IndexedRow}
+use Rattle.tg_graph.specs.declared.indexed_row.IndexedRow.{IndexedRow}
 use Rattle.tg_graph.specs.declared.rows.TheConstants.{SHORT}
 use Rattle.tg_graph.proofs.IndexedRows.{Entries}
 use Rattle.tg_graph.proofs.cells.Cells.way_unindexed.Goals as goal

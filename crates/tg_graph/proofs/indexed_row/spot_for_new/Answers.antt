@@ -4,7 +4,7 @@ use Rattle.tg_index.specs.Slots.{IsFirstVacant}
 use Rattle.tg_graph.specs.Index.{row_slots}
 use Rattle.tg_graph.proofs.Ages.{slice_get_is}
 use Rattle.tg_graph.proofs.Indexed.{empty_none, empty_nth, last_is, places_long}
-use Rattle.tg_graph.proofs.index.spot_for_new.Goals as goal
+use Rattle.tg_graph.proofs.indexed_row.spot_for_new.Goals as goal
 
 pub place_of_number-index-requires : goal.place_of_number-index-requires
 place_of_number-index-requires c =

@@ -1,5 +1,5 @@
 use Rattle.std.proofs.lemmas.Option.{slice_get_within}
-use Rattle.tg_graph.proofs.long_rows.LongRows.young_place.Goals as goal
+use Rattle.tg_graph.proofs.indexes.LongRows.young_place.Goals as goal
 
 pub make_young-requires : goal.make_young-requires
 make_young-requires c =

@@ -11,7 +11,7 @@ use Rattle.tg_graph.proofs.Ages.{aged_at, row_there, same_row, written_aged, wri
 use Rattle.tg_graph.proofs.Heaps.{success_gives}
 use Rattle.tg_graph.proofs.IndexedRows.{indexes_replaced, written_indexed}
 use Rattle.std.proofs.lemmas.Bool.{false≢true}
-use Rattle.tg_graph.proofs.long_rows.LongRows.reserve_at.Goals as goal
+use Rattle.tg_graph.proofs.indexes.LongRows.reserve_at.Goals as goal
 
 pub unreachable-requires : goal.unreachable-requires
 unreachable-requires c =

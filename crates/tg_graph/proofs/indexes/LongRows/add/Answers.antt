@@ -3,7 +3,7 @@ use Rattle.std.specs.Map.{lookup}
 use Rattle.indexmap.proofs.CallerLemmas.{insert_entry-new}
 use Rattle.tg_graph.specs.Index.{AreAged, Indexes}
 use Rattle.tg_graph.proofs.Ages.{Entries, one_added}
-use Rattle.tg_graph.proofs.long_rows.LongRows.add.Goals as goal
+use Rattle.tg_graph.proofs.indexes.LongRows.add.Goals as goal
 
 pub invariant_of-self : goal.invariant_of-self
 invariant_of-self c =

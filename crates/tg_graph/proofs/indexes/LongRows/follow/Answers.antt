@@ -1,8 +1,8 @@
 use Rattle.std.proofs.Common.{◌≡◌, ℕ, Some, length, nat_eq, subst, sym}
 use Rattle.std.specs.Map.{lookup}
 use Rattle.tg_graph.specs.Index.{Indexes, IsFollowable, known_notes}
-use Rattle.tg_graph.specs.declared.index.IndexedRow.{IndexedRow}
-use Rattle.tg_graph.proofs.long_rows.LongRows.follow.Goals as goal
+use Rattle.tg_graph.specs.declared.indexed_row.IndexedRow.{IndexedRow}
+use Rattle.tg_graph.proofs.indexes.LongRows.follow.Goals as goal
 
 pub follow_rows-self-inside-requires-clause-rows : goal.follow_rows-self-inside-requires-clause-rows
 follow_rows-self-inside-requires-clause-rows c =

@@ -1,6 +1,6 @@
 use Rattle.std.proofs.Common.{refl}
 use Rattle.tg_graph.proofs.Marked.{aged_set, marked_apart, marked_set}
-use Rattle.tg_graph.proofs.index.IndexedRow.mark.Goals as goal
+use Rattle.tg_graph.proofs.indexed_row.IndexedRow.mark.Goals as goal
 
 pub returns-then-number-self-clause-aged : goal.returns-then-number-self-clause-aged
 returns-then-number-self-clause-aged c = aged_set c.args.self.now _ c.number_noted-number.result refl refl c.insert.ensures c.if-number-self.true

@@ -5,9 +5,9 @@ ghost use Rattle.tg_graph.specs.Following.{IsReadyAt};
 ghost use Rattle.tg_graph.specs.Index.{AreIndexed, HasIndexAt, IsAged, SameIndexed};
 ghost use Rattle.tg_space.specs.SpaceList.{SpaceList};
 ghost use Rattle.tg_word.specs.declared.Place.{Place};
-ghost use Rattle.tg_graph.specs.declared.index.IndexedRow.{IndexedRow as IndexedRowOf};
+ghost use Rattle.tg_graph.specs.declared.indexed_row.IndexedRow.{IndexedRow as IndexedRowOf};
 
-use crate::index::IndexedRow;
+use crate::indexed_row::IndexedRow;
 use indexmap::IndexMap;
 use std::alloc::{AllocError, Global};
 use std::marker::Model;

@@ -3,10 +3,10 @@ use Rattle.std.specs.Map.{lookup}
 use Rattle.tg_word.specs.Word.{place_in}
 use Rattle.tg_index.specs.Slots.{IsFirstVacant}
 use Rattle.tg_graph.specs.Spots.{with_note}
-use Rattle.tg_graph.specs.declared.index.IndexedRow.{IndexedRow}
+use Rattle.tg_graph.specs.declared.indexed_row.IndexedRow.{IndexedRow}
 use Rattle.tg_graph.proofs.Following.{behind_noted, behind_short, empty_absent, empty_vacant, full_lacks, index_extended, index_filled, index_widened, last_held}
 use Rattle.tg_graph.proofs.Marked.{aged_by, aged_grown, marked_by, marked_grown}
-use Rattle.tg_graph.proofs.index.IndexedRow.follow.Goals as goal
+use Rattle.tg_graph.proofs.indexed_row.IndexedRow.follow.Goals as goal
 
 pub mark-requires-clause-noted : goal.mark-requires-clause-noted
 mark-requires-clause-noted c = behind_noted c.requires.put

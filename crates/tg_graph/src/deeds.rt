@@ -15,8 +15,8 @@ ghost use Rattle.tg_graph.specs.Deeds.{AddsEdge, CanGive, CanLook, CanMake, Foll
 
 use crate::cells::Cells;
 use crate::heap::{Found, VertexRefused};
-use crate::index::{IndexedRow, find_indexed, spot_for_new};
-use crate::long_rows::{LongRows, Way};
+use crate::indexed_row::{IndexedRow, find_indexed, spot_for_new};
+use crate::indexes::{LongRows, Way};
 use crate::rows::{Spot, find_spot, may_get_long, places_of};
 use std::alloc::AllocError;
 use tg_index::{NumberSet, RowIndex};

@@ -3,7 +3,7 @@ use Rattle.std.proofs.lemmas.Option.{none-some, same_Some}
 use Rattle.tg_index.specs.Slots.{IsFirstVacant}
 use Rattle.tg_graph.specs.Index.{row_slots}
 use Rattle.tg_graph.proofs.Marked.{note_is}
-use Rattle.tg_graph.proofs.index.IndexedRow.number_noted.Goals as goal
+use Rattle.tg_graph.proofs.indexed_row.IndexedRow.number_noted.Goals as goal
 
 pub overflow_add-result : goal.overflow_add-result
 overflow_add-result c =

@@ -1,7 +1,7 @@
 use Rattle.std.proofs.Common.{subst, sym}
 use Rattle.tg_graph.specs.Index.{HasIndexAt, Indexes}
 use Rattle.tg_graph.proofs.Ages.{one_less, still_there}
-use Rattle.tg_graph.proofs.long_rows.LongRows.make_young.Goals as goal
+use Rattle.tg_graph.proofs.indexes.LongRows.make_young.Goals as goal
 
 pub invariant_of-self : goal.invariant_of-self
 invariant_of-self c = one_less c.self.inside.indexes.entries c.swap_indices.new.self.entries c.self.inside.old_rows c.args.at c.self.invariant c.if-self-at.false c.swap_indices.ensures.entries

@@ -2,7 +2,7 @@ use Rattle.std.proofs.Common.{◌∙◌, ap, nat_eq, position}
 use Rattle.std.specs.Map.{keys_of}
 use Rattle.tg_graph.proofs.Ages.{place_there}
 use Rattle.tg_graph.specs.Index.{Indexes}
-use Rattle.tg_graph.proofs.long_rows.LongRows.place.Goals as goal
+use Rattle.tg_graph.proofs.indexes.LongRows.place.Goals as goal
 
 pub returns-clause-there : goal.returns-clause-there
 returns-clause-there c =
