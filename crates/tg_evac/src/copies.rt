@@ -7,6 +7,7 @@ ghost use Rattle.tg_space.specs.Targets.{cell_numbered, from_space, named_by, po
 ghost use Rattle.std.specs.List.{All};
 ghost use Rattle.tg_word.specs.declared.TheConstants.{MOST_SPACE_CELLS};
 ghost use Rattle.tg_word.specs.Word.{place_in};
+ghost use Rattle.tg_evac.specs.declared.copies.TheConstants.{FAR, NEAR};
 ghost use Rattle.tg_evac.specs.Claims.{win_at, won_in};
 ghost use Rattle.tg_evac.specs.Copies.{HoldCells};
 ghost use Rattle.tg_evac.specs.Claimers.{AddsCopy, AreRead};
@@ -44,7 +45,7 @@ impl Reads {
     /// The faster way to read the cells of these spaces: each where it stands, unless there are so many that a processor doesn't
     /// keep them at hand.
     pub fn of(spaces: &Spaces) -> Self
-        ensures { (result ≡ Reads.Each) ↔ (length (cells_of spaces.now.spaces) < 2 ^ 17) }
+        ensures { (result ≡ Reads.Each) ↔ (length (cells_of spaces.now.spaces) < FAR) }
     {
         if spaces.cells() < FAR {
             Reads::Each
@@ -234,7 +235,7 @@ impl Ahead {
     fn words(&self, k: usize) -> &[u64; WORDS]
         requires before { self.now.first ≤ k }
         requires there { k < self.now.first + self.now.count }
-        requires few { self.now.count ≤ 8 }
+        requires few { self.now.count ≤ NEAR }
         ensures { result.now ≡ slice_index_or self.now.words (k - self.now.first) [] }
     {
         &self.words[k - self.first]
@@ -254,7 +255,7 @@ fn read_some<C: Claimer>(
     requires whole { (C.walked claimer.now).cells ≡ length (cells_of spaces.now.spaces) }
     requires next { k < length (C.walked claimer.now).won }
     ensures some { 0 < result }
-    ensures few { result ≤ 8 }
+    ensures few { result ≤ NEAR }
     ensures read { AreRead spaces.now.spaces (C.walked claimer.now).won k result words.new }
 {
     let count = (claimer.len() - k).min(NEAR);

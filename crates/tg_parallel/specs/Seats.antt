@@ -1,7 +1,7 @@
 -- What a helper holds while it works: its record, and the places that it gives away in its own blocks, one after the other.
 use Rattle.std.specs.Prelude.{◌≡◌, ◌≢◌, ℕ, ◌+◌, ◌*◌, ◌/◌, ◌%◌, ◌^◌, ◌<◌, ◌≤◌, ◌==◌, Bool, true, false, not, List, [], ◌∷◌, ◌++◌, length, slice_index, slice_index_or, vec_capacity, Result, IfErr, IfOk, OnOk}
 use Rattle.std.specs.List.{All, AllPairs, Contains, filter}
-use Rattle.tg_word.specs.declared.TheConstants.{CELLS, MOST_SPACE_BLOCKS, MOST_SPACE_CELLS}
+use Rattle.tg_word.specs.declared.TheConstants.{CELLS, CELL_AT, MOST_SPACE_BLOCKS, MOST_SPACE_CELLS}
 use Rattle.tg_word.specs.declared.Place.{Place}
 use Rattle.tg_word.specs.Word.{IsPlace, link_to, place_in}
 use Rattle.tg_block.specs.Cells.{cell_of, free_cell}
@@ -59,9 +59,9 @@ pub record AreFilled (aged : Bool) (v : Record) (numbers : List ℕ) (used : ℕ
 abbrev pub used_of : Bool → Record → ℕ
 used_of aged v = length (pairs_in (space_of_age aged) v.won)
 
--- as many words are left before the last block's end as places are left, behind so many that were given away (256 divides a link)
+-- as many words are left before the last block's end as places are left, behind so many that were given away (a cell's number begins at `CELL_AT`, so a step of a cell divides a link)
 abbrev pub LeavesPlaces : ℕ → OwnBlocks → Type 0
-LeavesPlaces used b = b.next + 2 ^ 8 * (CELLS * length b.numbers.items) ≡ b.end + 2 ^ 8 * used
+LeavesPlaces used b = b.next + 2 ^ CELL_AT * (CELLS * length b.numbers.items) ≡ b.end + 2 ^ CELL_AT * used
 
 -- the next word is that of the next place, behind so many, in a block that the layout can name
 pub record IsReady (used : ℕ) (b : OwnBlocks) : Type 0 where

@@ -13,6 +13,7 @@ ghost use Rattle.tg_race.specs.declared.record.Record.{Record};
 ghost use Rattle.tg_race.specs.Race.{empty};
 ghost use Rattle.tg_evac.specs.Collects.{Collects};
 ghost use Rattle.tg_evac.specs.Copies.{IsPlaceIn, moved_cell, new_cell};
+ghost use Rattle.tg_parallel.specs.declared.many.TheConstants.{MOST_HELPERS};
 ghost use Rattle.tg_parallel.specs.Faults.{IsNotStarted};
 ghost use Rattle.tg_parallel.specs.Helping.{AllHelped, IsHelped, IsNew};
 ghost use Rattle.tg_parallel.specs.Merged.{AreMerged};
@@ -106,7 +107,7 @@ pub fn collect_many<R: Threads + Wait + Sync, G: Gate>(
 ) -> Result<Copied, HelpersFault>
     requires sound { AreSound spaces.now.spaces roots.now }
     requires some { 1 ≤ helpers }
-    requires few { helpers ≤ 8 }
+    requires few { helpers ≤ MOST_HELPERS }
     ensures collects { Collects HelpersFault.HeapFull kind spaces.now roots.now helpers helpers result }
     ensures alone { helpers ≡ 1 → IfErr result (λ fault. fault ≢ HelpersFault.NoThread) }
 {

@@ -9,7 +9,7 @@ use crate::links::word_to;
 use crate::winner::Winner;
 use tg_race::{CellWord, RaceTable};
 use tg_space::RoomFault;
-use tg_word::{AGED, CELL_AT, CELLS, OLD, Place};
+use tg_word::{AGED, CELLS, OLD, Place, next_link};
 
 /// The blocks that a helper has claimed in a space, and what is left in the last of them.
 #[derive(Drop)]
@@ -109,12 +109,17 @@ impl OwnBlocks {
             self.is_past = true;
             return Err(RoomFault::HeapFull);
         }
+        let space = if self.aged { AGED } else { OLD };
         self.next = word_to(Place {
-            space: if self.aged { AGED } else { OLD },
+            space,
             block,
             cell: 0,
         });
-        self.end = self.next + (CELLS << CELL_AT);
+        self.end = next_link(word_to(Place {
+            space,
+            block,
+            cell: CELLS - 1,
+        }));
         Ok(())
     }
 

@@ -1,5 +1,6 @@
 //! The work of a helper: chunks of roots are claimed until there are none left, and what they lead to is copied.
 ghost use Rattle.std.specs.Prelude.{◌≡◌, ℕ, ◌*◌, ◌<◌, List, OnOk, length};
+ghost use Rattle.tg_parallel.specs.declared.work.TheConstants.{CHUNK};
 ghost use Rattle.tg_parallel.specs.Parts.{AreEarned, roots_of_chunk};
 ghost use Rattle.tg_parallel.specs.Seats.{HasCopied, HasDrawn, HasWorked, HasWorkedAll, MayBegin, MayWork};
 
@@ -56,7 +57,7 @@ fn copy_chunk(
     copies: &mut Copies,
 ) -> Result<(), RoomFault>
     requires seat { MayWork kind spaces.now.spaces roots.now seat.now }
-    requires inside { 8 * chunk < length roots.now }
+    requires inside { CHUNK * chunk < length roots.now }
     requires earned { AreEarned kind spaces.now.spaces roots.now seat.now.done }
     requires drawn { (before : List ℕ) × HasDrawn before chunk seat.now × HasCopied kind spaces.now.spaces roots.now before seat.now copies.now.scanned copies.now.aged copies.now.old }
     ensures worked { HasWorked kind spaces.now.spaces roots.now seat.entry.now seat.exit.now result }
@@ -69,7 +70,7 @@ fn copy_chunk(
 // The roots of a chunk: eights of them are counted from the end. What stands first reaches more of what the others reach, as a
 // subject's row leads to those that it made, so that one helper had most of the work where the first came first.
 fn chunk_of(roots: &[Root], chunk: u64) -> &[Root]
-    requires { 8 * chunk < length roots.now }
+    requires { CHUNK * chunk < length roots.now }
     ensures { result.now ≡ roots_of_chunk roots.now chunk }
 {
     let last = roots.len() - (CHUNK * chunk) as usize;

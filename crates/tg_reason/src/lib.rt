@@ -5,7 +5,7 @@
 
 use std::str;
 use tg_model::Edge;
-use tg_text::{Line, read_line};
+use tg_text::{Line, MOST_LINE_BYTES, read_line};
 
 /// What is said of bytes that aren't UTF-8.
 pub const NO_TEXT: &str = "bytes that are no text";
@@ -15,9 +15,6 @@ const NO_LINE: &str = "no line of the grammar";
 
 // The letters of the rights, in their order.
 const LETTERS: &[u8] = b"rwtgaluv";
-
-// The most bytes that a line may have.
-const MOST_BYTES: usize = 256;
 
 // Where a text stands in a line.
 #[derive(Clone, Copy)]
@@ -91,7 +88,7 @@ fn reason_of_edge(edge: Edge, workers: u64) -> &'static str {
 
 // Why the text is none of the grammar.
 fn reason_of_text(line: &str) -> &'static str {
-    if line.len() > MOST_BYTES {
+    if line.len() > MOST_LINE_BYTES {
         return "over 256 bytes";
     }
     if line.is_empty() {

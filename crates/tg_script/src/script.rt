@@ -1,5 +1,6 @@
 //! A script that is read line by line, with the first fault in it.
 ghost use Rattle.std.specs.Prelude.{◌+◌, ◌≤◌};
+ghost use Rattle.tg_text.specs.declared.fetch.TheConstants.{MOST_BYTES};
 
 use tg_text::{
     Fetched, Line, LineBuffer, Lines, ScriptFault, Sink, Source, is_opening_after, standing_line,
@@ -18,17 +19,18 @@ pub(crate) struct Script {
     pub(crate) count: u64,
     /// Whether edge lines may still come.
     pub(crate) opening: bool,
-    ghost bounded: { count + lines.room ≤ 1048576 },
+    ghost bounded: { count + lines.room ≤ MOST_BYTES },
 }
 
 impl Script {
     ghost use Rattle.std.specs.Prelude.{◌≡◌, ◌+◌, ◌<◌, ◌≤◌, ℕ, List, Some, Ok, true, IfOk, IfSome};
+    ghost use Rattle.tg_text.specs.declared.fetch.TheConstants.{MOST_BYTES};
     ghost use Rattle.tg_script.specs.Lines.{IsOfReading, NextLine, OnlyReads, TakesLine, Follows};
 
     /// No line was read.
     pub(crate) fn new(workers: u64) -> Script
         ensures workers { result.workers ≡ workers }
-        ensures room { result.lines.room ≡ 1048576 }
+        ensures room { result.lines.room ≡ MOST_BYTES }
         ensures count { result.count ≡ 0 }
         ensures opening { result.opening ≡ true }
     {
@@ -71,7 +73,7 @@ impl Script {
     // The line in the buffer, if it is one that may stand here.
     #[inline(always)]
     fn take_line(&mut self) -> Result<Option<Line>, ScriptFault>
-        requires { self.old.count + self.old.lines.room < 1048576 }
+        requires { self.old.count + self.old.lines.room < MOST_BYTES }
         ensures { TakesLine self.old result self.new }
     {
         match standing_line(self.buffer.as_slice(), self.workers, self.opening) {

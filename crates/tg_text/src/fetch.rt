@@ -4,19 +4,18 @@
 //! a byte behind the first fault: that is why a fault is then looked for at each byte, and not when a line is whole. Bytes of a
 //! line lie in one buffer, which serves all lines.
 ghost use Rattle.std.specs.Prelude.{◌≡◌, ◌+◌, ◌≤◌, true, false, length};
+ghost use Rattle.tg_text.specs.declared.buffer.TheConstants.{MOST_LINE_BYTES};
+ghost use Rattle.tg_text.specs.declared.fetch.TheConstants.{MOST_BYTES};
 ghost use Rattle.tg_text.specs.Fetching.{TakesLineAtOnce};
 ghost use Rattle.tg_text.specs.Fetched.{FetchesLine};
 
-use crate::buffer::LineBuffer;
+use crate::buffer::{LineBuffer, MOST_LINE_BYTES};
 use crate::exchange::next_byte;
 use crate::sink::Sink;
 use crate::source::{Fetched, Next, Source};
 
 /// The most bytes that a script may have, line feeds included.
 pub const MOST_BYTES: u32 = 1_048_576;
-
-/// The most bytes that a line may have, without its line feed.
-pub const MOST_LINE_BYTES: usize = 256;
 
 /// How far the lines of a source were read.
 #[derive(Drop)]
@@ -28,7 +27,7 @@ pub struct Lines {
 impl Lines {
     /// All lines are left, and [`MOST_BYTES`] bytes may come.
     pub fn new() -> Lines
-        ensures { result.room ≡ 1048576 }
+        ensures { result.room ≡ MOST_BYTES }
     {
         Lines { room: MOST_BYTES }
     }
@@ -58,7 +57,7 @@ impl Lines {
     #[inline(always)]
     fn take_held<S: Source>(&mut self, source: &mut S, line: &mut LineBuffer) -> bool
         ensures bytes { TakesLineAtOnce (S.left source.old) result line.new (S.left source.new) }
-        ensures few { result ≡ true → length line.new ≤ 256 }
+        ensures few { result ≡ true → length line.new ≤ MOST_LINE_BYTES }
         ensures room { result ≡ true → self.new.room + length line.new + 1 ≡ self.old.room }
         ensures kept { result ≡ false → self.new.room ≡ self.old.room }
         ensures failures { S.failures source.new ≡ S.failures source.old }
@@ -86,7 +85,7 @@ impl Lines {
             self.old.room self.new.room result line.new }
     {
         line.clear();
-        for _ in 0..257u32 {
+        for _ in 0..MOST_LINE_BYTES + 1 {
             let Ok(next) = next_byte(source, sink) else {
                 return Fetched::WriteFailed;
             };

@@ -5,6 +5,7 @@ use clap::builder::ValueParser;
 use clap::{Arg, ArgAction, ArgMatches, Command, Error};
 use std::alloc::{AllocError, Global};
 use std::convert::AsStr;
+use tg_model::{MAX_VERTICES, MAX_WORKERS};
 
 const ABOUT: &str = "Draws the graph that a script leaves, for GraphViz's dot
 
@@ -19,6 +20,11 @@ vertex red that should store a log. Neither the heap nor memory refuses a line h
 
 const EXAMPLE: &str = "Example:
   printf '0 create rw\\n0 list\\n' | tgdot --workers 1 --stock c | dot -Tsvg > graph.svg";
+
+// How many workers there are at first, and how many vertices may be made, where the words don't say it: as tgstore has it.
+const DEFAULT_WORKERS: u64 = 2;
+
+const DEFAULT_VERTICES: u64 = 1_000_000;
 
 // The number of a line, as an option has it.
 const LINE: ValueParser<'static> = ValueParser::Unsigned(1, i64::MAX as u64);
@@ -55,7 +61,7 @@ const CHOICES: &[Choice] = &[
         name: "workers",
         action: ArgAction::Set,
         value: "N",
-        parser: ValueParser::Unsigned(1, 64),
+        parser: ValueParser::Unsigned(1, MAX_WORKERS),
         needs: &[],
         help: WORKERS,
     },
@@ -63,7 +69,7 @@ const CHOICES: &[Choice] = &[
         name: "vertices",
         action: ArgAction::Set,
         value: "N",
-        parser: ValueParser::Unsigned(1, 16_777_216),
+        parser: ValueParser::Unsigned(1, MAX_VERTICES),
         needs: &[],
         help: VERTICES,
     },
@@ -156,8 +162,8 @@ pub fn read_words<'a, S: AsStr>(alloc: Global, words: &'a [S]) -> Result<DotOpti
 // The options that were found in the words, and the defaults of the others.
 fn options_of<'a>(matches: &ArgMatches<'a>) -> DotOptions<'a> {
     DotOptions {
-        workers: matches.get_one("workers").unwrap_or(2),
-        max_vertices: matches.get_one("vertices").unwrap_or(1_000_000),
+        workers: matches.get_one("workers").unwrap_or(DEFAULT_WORKERS),
+        max_vertices: matches.get_one("vertices").unwrap_or(DEFAULT_VERTICES),
         stock: matches.get_str("stock").unwrap_or(""),
         steps: steps_of(matches),
     }
