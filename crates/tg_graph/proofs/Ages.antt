@@ -249,7 +249,3 @@ same_aged row later cells known marks = (
   },
   λ old. known ∙ old ∙ sym (ap (λ (v : CellList). length v.items) cells),
 )
-
-pub none_of : (o : Option ℕ) → ((x : ℕ) → o ≢ Some x) → o ≡ None
-none_of None not = refl
-none_of (Some x) not = absurd (not x refl)

@@ -279,9 +279,6 @@ young_or_gone same = cc
 pub old_or_gone : Old ≡ Gone → ⊥
 old_or_gone same = cc
 
-pub young_or_old : Young ≡ Old → ⊥
-young_or_old same = cc
-
 pub swapped_long : (later swapped : Entries) (a b : ℕ) → swapped ≡ swap later a b → length swapped ≡ length later
 swapped_long later swapped a b is = ap (λ (l : Entries). length l) is ∙ length-swap later a b
 

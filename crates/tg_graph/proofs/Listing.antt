@@ -84,12 +84,6 @@ rising_from_sorted es sorted distinct = λ i j d lt low.
 -- ---- the listing
 
 module _ (label : ℕ → ℕ → RightSet) (n x : ℕ) where
-  edge_to : ℕ → ℕ × RightSet
-  edge_to y = (y, label x y)
-
-  some_right : ℕ × RightSet → Bool
-  some_right e = not (is_none_held e.1)
-
   listing_rises : IsRising (listing_of label n x)
   listing_rises = AllPairs-filter (λ a b. a.0 < b.0) (λ e. not (is_none_held e.1)) (map (λ y. (y, label x y)) (range_with_len 0 n)) range_rises
     where

@@ -22,19 +22,6 @@ first_or_later : (x z : ℕ) (xs : List ℕ) (k : ℕ) → k < length (x ∷ xs)
 first_or_later x z xs zero l e = inl e
 first_or_later x z xs (suc k) l e = inr (k, omega arith, e)
 
--- a number is in a list or isn't
-pub there_or_not : (xs : List ℕ) (x : ℕ) → Contains xs x ⊎ (Contains xs x → ⊥)
-there_or_not [] x = inr (λ (k, inside, at). omega (arith, inside))
-there_or_not (y ∷ xs) x =
-    ⊎_elim (λ (same : y ≡ x). inl (0, omega arith, same))
-    (λ other. ⊎_elim (λ (k, inside, at). inl (suc k, omega (arith, inside), at))
-    (λ none. inr (λ (k, inside, at). ⊎_elim other none (first_or_later y x xs k inside at))) (there_or_not xs x))
-    (cases_eq y x)
-
-map_same : (l : List ℕ) → map (λ n. n) l ≡ l
-map_same [] = refl
-map_same (n ∷ l) = ap (λ (m : List ℕ). n ∷ m) (map_same l)
-
 -- ---- one less
 
 pub length-without : (subjects : List ℕ) (x : ℕ) → length (without_subject subjects x) ≤ length subjects

@@ -70,12 +70,6 @@ module _ {A B : Type 0} (f : A → List B) where
       (Contains-append_cases (f a) (flat_map f xs) y held)
 
 module _ {A : Type 0} where
-  take_has : (n : ℕ) (xs : List A) (i : ℕ) (x : A) → i < n → i < length xs → get_or xs i x ≡ x → Contains (take n xs) x
-  take_has zero xs i x lt low is = absurd (omega arith)
-  take_has (suc n) [] i x lt low is = absurd (omega arith)
-  take_has (suc n) (y ∷ xs) zero x lt low is = (0, omega arith, is)
-  take_has (suc n) (y ∷ xs) (suc i) x lt low is = Contains-append_right (y ∷ []) (take n xs) x (take_has n xs i x (omega arith) (omega arith) is)
-
   take_found : (n : ℕ) (xs : List A) (x : A) → Contains (take n xs) x → Contains xs x
   take_found zero xs x held = absurd (let low = held.1 in omega arith)
   take_found (suc n) [] x held = absurd (let low = held.1 in omega arith)

@@ -231,10 +231,6 @@ module _ (k : Counts) (slots id : ℕ) (m : Me ℕ View) (alive : 0 < m.0.done.s
     ),
   )
 
--- the cell whose word stands there
-pub word_of_cell : (c kept skipped word : ℕ) → 64 * kept ≤ c → word + 64 * kept ≡ c + 3 → skipped ≡ 64 * kept → skipped + (word - 3) ≡ c
-word_of_cell c kept skipped word behind is same = omega arith
-
 -- a step at the word so far behind the counters, which is that of the cell so far behind those that are skipped
 pub looks : (k : Counts) (slots id d : ℕ) (m : Me ℕ View) → 0 < m.0.done.share → skipped_of k + d < k.cells
     → Allows (IsBoardOfRace k) slots id m (d + 3) (λ n. n) (looked (step slots (d + 3) 0 0 none) m)
@@ -298,11 +294,6 @@ opens k n small all = record {
   rule = rule_of _ _ (starts k);
   small = small;
 }
-
-pub found_at : (l : List ℕ) (i a : ℕ) → get_elem? l i ≡ some a → get_or l i 0 ≡ a
-found_at [] i a e = absurd (some-ne-none a (sym e))
-found_at (x ∷ xs) zero a e = some-injective x a e
-found_at (x ∷ xs) (suc i) a e = found_at xs i a e
 
 pub closes : (k : Counts) (id : ℕ) (u : View) (ws xs : List ℕ) → Final (Seen (IsBoardOfRace k) id u) ws xs → u.done.share ≡ k.helpers → IsClosedTable k (replicate (skipped_of k) 0 ++ drop 3 ws) u.done
 closes k id u ws xs final all =

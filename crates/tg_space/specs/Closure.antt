@@ -21,9 +21,3 @@ IsClosed targets won n = (k : ℕ) → k < n → All (Contains won) (targets (sl
 abbrev pub IsComplete : List ℕ → (ℕ → List ℕ) → List ℕ → Type 0
 IsComplete roots targets won =
     All (Contains won) roots × IsClosed targets won (length won)
-
--- the second list is the first with more cells after it, each from `source`
-pub record AddsFrom (source before after : List ℕ) : Type 0 where
-  pub added : List ℕ
-  pub is : after ≡ before ++ added
-  pub from : All (Contains source) added

@@ -14,10 +14,6 @@ use Rattle.tg_subjects.proofs.TableLaws.{all_held, not_in_column}
 
 -- ---- the least free number
 
-pub marks_none : MarksHeld 0 []
-marks_none n low =
-    (λ one. let none = bit_at-zero n in absurd (omega (arith, one, none)), λ (k, inside, at). absurd (omega (arith, inside)))
-
 -- the first bit that isn't set is the least number that is free
 pub least_by_bits : (ss : List Subject) (word : ℕ) → word < 2 ^ 64 → MarksHeld word (nurseries_of ss) → length ss < MAX_NURSERIES → IsLeastFree ss (trailing_ones w64 word)
 least_by_bits ss word fits marks few = record {

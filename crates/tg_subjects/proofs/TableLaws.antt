@@ -1,5 +1,5 @@
 -- The table of subjects, with one more and with one less.
-use Rattle.std.proofs.Common.{◌≡◌, ◌≢◌, ℕ, zero, suc, ◌+◌, ◌<◌, ◌≤◌, ◌==◌, eqb, eq-eqb, ne_eqb, cond, List, [], ◌∷◌, ◌++◌, length, get_or, map, take, drop, refl, sym, ap, ◌∙◌, subst, arith}
+use Rattle.std.proofs.Common.{◌≡◌, ◌≢◌, ℕ, zero, suc, ◌+◌, ◌<◌, ◌≤◌, ◌==◌, eqb, eq-eqb, ne_eqb, List, [], ◌∷◌, ◌++◌, length, get_or, map, take, drop, refl, sym, ap, ◌∙◌, subst, arith}
 use Rattle.std.specs.Prelude.{◌↔◌, Option, None, Some, IfSome, IsSome, not, slice_set}
 use Rattle.std.specs.Cmp.{nat_eq_equiv}
 use Rattle.std.specs.List.{All, AllPairs, Contains}
@@ -109,21 +109,6 @@ held_by ss name s are named = held_rising ss name s are.rising named.there named
         let above : t.name < s.name = All-contains (λ u. t.name < u.name) ss s (rising_head t ss rising) there in
         cond-false (t.name == name) t.nursery (nursery_held ss name) (ne_eqb t.name name (λ same. omega (arith, above, same, is)))
         ∙ held_rising ss name s (rising_tail t ss rising) there is
-
-held_in : List ℕ → List ℕ → ℕ → ℕ
-held_in [] nurseries name = 0
-held_in (n ∷ names) [] name = 0
-held_in (n ∷ names) (nursery ∷ nurseries) name = cond (n == name) nursery (held_in names nurseries name)
-
-held_is : (ss : List Subject) (name : ℕ) → nursery_held ss name ≡ held_in (names_of ss) (nurseries_of ss) name
-unfolding held_in
-held_is [] name = refl
-held_is (s ∷ ss) name = ap (λ n. cond (s.name == name) s.nursery n) (held_is ss name)
-
--- tables with the same names and nurseries give each name the same one
-pub held_same : (old new : List Subject) (name : ℕ) → names_of new ≡ names_of old → nurseries_of new ≡ nurseries_of old → nursery_held new name ≡ nursery_held old name
-held_same old new name names nurseries =
-    held_is new name ∙ ap (λ ns. held_in ns (nurseries_of new) name) names ∙ ap (λ ns. held_in (names_of old) ns name) nurseries ∙ sym (held_is old name)
 
 -- ---- what a look-up found
 
