@@ -1,7 +1,7 @@
 //! The race as a state machine, with no atomic.
 ghost use Rattle.std.specs.Prelude.{◌≡◌, nat_lt, IfOk, MatchResult, if◌then◌else◌, true, false, slice_get};
 ghost use Rattle.std.specs.Option.{option_copied};
-ghost use Rattle.tg_race.specs.Course.{net_of, IsRaceable, can, can_win, is_within, can_happen, happens, starting, record_at, KeepsRule};
+ghost use Rattle.tg_race.specs.Course.{net_of, IsRaceable, can, can_win, is_within, can_happen, happens, starting, record_at};
 ghost use Rattle.tg_race.specs.declared.event.Event.TheVariants.{Claim, Look, Lose, Win, Block, Part, Meet};
 
 use crate::event::Event;
@@ -101,14 +101,6 @@ impl World {
         ensures { result.now ≡ self.now.race.words }
     {
         self.words.as_slice()
-    }
-
-    /// The rule holds of each world, whatever has happened.
-    pub fn rule_holds(&self)
-        ensures { KeepsRule self.now }
-    {
-        // Read here, the world is known to keep what holds of every world: the rule.
-        let _ = &self.shape;
     }
 
     fn is_live(&self, helper: usize) -> bool

@@ -11,7 +11,7 @@ use crate::vertex::{Parties, Vertex, subject_of, vertex_of};
 use tg_graph::Heap;
 use tg_model::{Cause, Command, Denial, Rule};
 use tg_payload::Payload;
-use tg_rights::{Label, Right, Rights};
+use tg_rights::{Right, Rights};
 use tg_subjects::Subject;
 
 /// What is decided of a command.
