@@ -1,5 +1,5 @@
 -- What contracts see of a session and of the value behind the lock, and what a call does to them.
-use Rattle.std.specs.Prelude.{◌≡◌, ◌≢◌, ℕ, ◌+◌, ◌<◌, ◌≤◌, ◌==◌, Bool, true, false, Option, Some, None, List, [], ◌∷◌, ◌++◌, Result, IfErr, OnErr, length, map, take, drop}
+use Rattle.std.specs.Prelude.{◌≡◌, ◌≢◌, ℕ, ◌+◌, ◌<◌, ◌≤◌, ◌==◌, max, Bool, true, false, Option, Some, None, List, [], ◌∷◌, ◌++◌, Result, IfErr, OnErr, length, map, take, drop}
 use Rattle.std.specs.declared.sync.ledger.Blank.{Blank}
 use Rattle.std.specs.List.{All, AllPairs, count_by, filter, sum_by}
 use Rattle.tg_model.specs.declared.command.Deed.{Deed}
@@ -24,11 +24,13 @@ use Rattle.tg_store.specs.Store.{StoreState, Enters, IsFaithful, IsUnchanged, gr
 use Rattle.tg_shared.specs.declared.receipt.Receipt.{Receipt}
 use Rattle.tg_shared.specs.Receipts.{ReceiptsMatch, receipt_of}
 
--- A session: the name of its subject, its receipts in order, for how many more there is room, and the copy of a state
--- that the next receipt may need.
+-- A session: the name of its subject, its receipts in order, how many before them were handed out, for how many sessions it stands
+-- (its own, and those that it took over), for how many more receipts there is room, and the copy of a state that the next may need.
 pub record SessionState : Type 0 where
   pub worker : ℕ
   pub receipts : List Receipt
+  pub handed : ℕ
+  pub parts : ℕ
   pub spare : ℕ
   pub copy : List ℕ
 
@@ -98,13 +100,22 @@ AtSome start holds = (s : StoreState) × GoesOn start s × IsFaithful s × holds
 
 -- the same receipts
 abbrev pub KeepsReceipts : SessionState → SessionState → Type 0
-KeepsReceipts old new = (new.worker ≡ old.worker) × (new.receipts ≡ old.receipts)
+KeepsReceipts old new = (new.worker ≡ old.worker) × (new.receipts ≡ old.receipts) × (new.handed ≡ old.handed) × (new.parts ≡ old.parts)
 
 -- exactly one receipt more: at this place, with the session's worker, this deed and this reply
 abbrev pub AddsReceipt : SessionState → SessionState → ℕ → Deed → Reply → Type 0
 AddsReceipt old new at deed reply =
     (new.worker ≡ old.worker)
     × (new.receipts ≡ old.receipts ++ receipt_of at (record { worker = old.worker; deed = deed; reply = reply }) ∷ [])
+    × (new.handed ≡ old.handed)
+    × (new.parts ≡ old.parts)
+
+-- A session took over one that ended, and stands for both: what that one handed out counts as handed out by this one.
+pub record TakesOver (old ended new : SessionState) : Type 0 where
+  pub worker : new.worker ≡ old.worker
+  pub receipts : new.receipts ≡ old.receipts
+  pub handed : new.handed ≡ old.handed + ended.handed
+  pub parts : new.parts ≡ old.parts + ended.parts
 
 -- Exactly one receipt more, of an entry with this deed and this reply. The entry came next in the journal of a store that may
 -- have been behind the lock, and was legal there: the reply is the rules' answer on that store's graph.
@@ -137,9 +148,13 @@ pub record KeepsLocked {T E : Type 0} (old new : LockedState) (result : Result T
   pub refused : OnErr result (new ≡ old)
   pub sessions : new.sessions ≡ old.sessions
 
--- one session for each of the subjects, with no receipt
+-- a session that never had a receipt, and took none over
+abbrev pub IsFresh : SessionState → Type 0
+IsFresh s = (s.receipts ≡ []) × (s.handed ≡ 0) × (s.parts ≡ 1)
+
+-- one session for each of the subjects, none of which ever had a receipt
 abbrev pub AreFresh : List ℕ → List SessionState → Type 0
-AreFresh subjects sessions = (map (λ s. s.worker) sessions ≡ subjects) × All (λ s. s.receipts ≡ []) sessions
+AreFresh subjects sessions = (map (λ s. s.worker) sessions ≡ subjects) × All IsFresh sessions
 
 -- what holds of the value behind the lock: the book has counted the entries since the start, the parts of the ledger are
 -- the sessions' and the rest, and there are enough of them for a session of each vertex that may ever be made
@@ -171,6 +186,18 @@ pub record MayClose (entries : List Entry) (start : ℕ) (sessions : List Sessio
 -- how many receipts the sessions have
 abbrev pub count_of : List SessionState → ℕ
 count_of sessions = sum_by (λ s. length s.receipts) sessions
+
+-- how many they have handed out
+abbrev pub handed_of : List SessionState → ℕ
+handed_of sessions = sum_by (λ s. s.handed) sessions
+
+-- for how many sessions they stand
+abbrev pub parts_of : List SessionState → ℕ
+parts_of sessions = sum_by (λ s. s.parts) sessions
+
+-- the place from which on a store holds the entries that were made since it was shared
+abbrev pub held_from : SharedStart → StoreState → ℕ
+held_from start s = max (length start.entries) s.handed
 
 -- The entries are shared out: each is of exactly one of the sessions, and the receipts of each session are all its
 -- entries, in their order, each once.

@@ -1,16 +1,15 @@
+-- The store that gave its entries up stands for the graph that it stood for.
+use Rattle.std.proofs.Common.{◌≡◌, ◌∙◌, List, ap}
+use Rattle.tg_model.specs.Graph.{ProtectionGraph}
+use Rattle.tg_model.specs.Opened.{start_of}
+use Rattle.tg_journal.specs.History.{graph_after}
+use Rattle.tg_store.specs.Store.{graph_of_store}
+use Rattle.tg_script.specs.Supply.{values_left}
 use Rattle.tg_script.proofs.run.Run.answer.Goals as goal
 
-pub returns-in-Create : goal.returns-in-Create
-returns-in-Create g c = rw c.in-Create.is c.create.ensures
-
-pub returns-in-Spawn : goal.returns-in-Spawn
-returns-in-Spawn g c = rw c.in-Spawn.is c.spawn.ensures
-
-pub returns-in-Plain : goal.returns-in-Plain
-returns-in-Plain g c = rw c.in-Plain.is c.apply.ensures
-
-pub returns-in-Full : goal.returns-in-Full
-returns-in-Full g c = rw c.in-Full.is c.collect_all.ensures
-
-pub returns-in-Minor : goal.returns-in-Minor
-returns-in-Minor g c = rw c.in-Minor.is c.collect_nurseries.ensures
+pub returns : goal.returns
+returns g c = λ s shows.
+    let told = c.answer_line-answer.ensures s shows in
+    let out = c.give_up_entries.ensures.store in
+    let same : graph_of_store c.give_up_entries.new.self.store ≡ graph_of_store c.answer_line-answer.new.self.store = λ i. graph_after (start_of (out.opening i)) (out.entries i) in
+    (told.0, (same ∙ told.1.0, ap values_left c.give_up_entries.ensures.supply ∙ told.1.1, c.give_up_entries.ensures.helpers ∙ told.1.2), told.2)

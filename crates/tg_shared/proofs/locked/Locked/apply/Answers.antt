@@ -28,7 +28,7 @@ returns-in_err-reply-clause-refused g c =
     let given = err_from_is_err_and c.from_residual.result c.from_residual.ensures.1 in
     let kept : IsUnchanged c.self.inside.store c.apply.new.self = c.in_err-reply.ensures.refused in
     err_here c.from_residual.result given.0 _ given.1
-    (subst (λ (b : LockedState). IsUnchanged b.store c.apply.new.self) c.self.view_is kept, (refl {A = ℕ}, refl))
+    (subst (λ (b : LockedState). IsUnchanged b.store c.apply.new.self) c.self.view_is kept, (refl {A = ℕ}, refl, refl {A = ℕ}))
 
 pub note-requires : goal.note-requires
 note-requires g c = record { room = c.requires.room; own = c.worker-worker.ensures }
@@ -69,6 +69,9 @@ returns-clause-full g c = λ graph stands is. absurd (ok_not_err tt ApplyFault.H
 
 pub returns-clause-opening : goal.returns-clause-opening
 returns-clause-opening g c = c.apply.ensures.opening ∙ ap (λ (b : LockedState). b.store.opening) c.self.view_is
+
+pub returns-clause-handed : goal.returns-clause-handed
+returns-clause-handed g c = c.apply.ensures.handed ∙ ap (λ (b : LockedState). b.store.handed) c.self.view_is
 
 pub returns-clause-limits : goal.returns-clause-limits
 returns-clause-limits g c = c.apply.ensures.limits ∙ ap (λ (b : LockedState). b.store.heap.table.limits) c.self.view_is

@@ -1,4 +1,4 @@
-use Rattle.std.proofs.Common.{◌≡◌, ◌∙◌, ◌<◌, ◌≤◌, ◌+◌, ℕ, length, false, Some, Ok, Err, ap, arith, refl, subst, sym}
+use Rattle.std.proofs.Common.{◌≡◌, ◌∙◌, ◌<◌, ◌≤◌, ◌+◌, ◌^◌, ℕ, length, false, Some, Ok, Err, ap, arith, refl, subst, sym}
 use Rattle.tg_model.specs.declared.command.Deed.{Deed}
 use Rattle.tg_model.specs.declared.reply.Reply.{Reply}
 use Rattle.tg_model.specs.declared.opening.TheConstants.{MAX_WORKERS}
@@ -22,6 +22,10 @@ entered_as E fault.WorkersFull reply is v w = let same : Reply.WorkersFull ≡ r
 entered_as E fault.HeapFull reply is v w = let no : ⊥ = cc in absurd no
 entered_as E fault.OutOfMemory reply is v w = let no : ⊥ = cc in absurd no
 
+-- a ledger's parts are a 64-bit number
+within_word : (limit parts : ℕ) → limit ≤ 16777216 → parts ≡ limit + 1 → parts < 2 ^ 64
+within_word limit parts within are = omega (arith, within, are)
+
 nothing_left : (new old : ℕ) → new + 0 ≡ old → old ≡ 0 → new ≡ 0
 nothing_left new old left none = omega arith
 
@@ -34,6 +38,11 @@ as_many sessions made next is same = omega arith
 pub split_off-share-requires-clause-has_parts : goal.split_off-share-requires-clause-has_parts
 split_off-share-requires-clause-has_parts g c =
     part_left c.self.inside.store (length g.L.Round.start.entries) c.self.inside.sessions c.self.inside.book.total c.self.inside.rest.parts g.L.Ledger.parts c.self.invariant.0 c.journal.ensures.faithful
+
+pub new-requires : goal.new-requires
+new-requires g c =
+    let limit = c.journal.ensures.faithful.plan.limits.1 in
+    (c.split_off-share.ensures.parts, c.split_off-share.ensures.amount, within_word c.self.inside.store.opening.limit g.L.Ledger.parts limit c.self.invariant.0.enough)
 
 pub invariant_of-self : goal.invariant_of-self
 invariant_of-self g c =
