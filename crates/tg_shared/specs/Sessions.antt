@@ -14,6 +14,7 @@ use Rattle.tg_word.specs.Word.{nursery_space}
 use Rattle.tg_space.specs.SpaceTable.{BlockLimits}
 use Rattle.tg_journal.specs.declared.entry.Entry.{Entry}
 use Rattle.tg_journal.specs.History.{IsLegalEntry, graph_after}
+use Rattle.tg_journal.specs.Journal.{Entries}
 use Rattle.tg_graph.specs.Heap.{nursery_of}
 use Rattle.tg_graph.specs.Spots.{LacksCellsFor}
 use Rattle.tg_store.specs.Collecting.{KeepsHistory}
@@ -22,7 +23,7 @@ use Rattle.tg_store.specs.declared.fault.CreateFault.TheVariants as fault
 use Rattle.tg_store.specs.declared.fault.CreateRefused.{CreateRefused}
 use Rattle.tg_store.specs.Store.{StoreState, Enters, IsFaithful, IsUnchanged, graph_of_store}
 use Rattle.tg_shared.specs.declared.receipt.Receipt.{Receipt}
-use Rattle.tg_shared.specs.Receipts.{ReceiptsMatch, receipt_of}
+use Rattle.tg_shared.specs.Receipts.{MatchParts, ReceiptsMatch, all_receipts, receipt_of}
 
 -- A session: the name of its subject, its receipts in order, how many before them were handed out, for how many sessions it stands
 -- (its own, and those that it took over), for how many more receipts there is room, and the copy of a state that the next may need.
@@ -44,21 +45,30 @@ pub record LockedState : Type 0 where
   pub store : StoreState
   pub sessions : ℕ
 
--- What a store was when it was shared: its opening, the entries that its journal had, and its limits.
+-- What a store was when it was shared: its opening, the entries that its journal had, and its limits; and whether the journal may
+-- be handed out in parts while it is shared.
 pub record SharedStart : Type 0 where
   pub opening : Plan
   pub entries : List Entry
   pub limits : BlockLimits
+  pub in_parts : Bool
 
+abbrev pub shared_as : Bool → StoreState → SharedStart
+shared_as in_parts s = record { opening = s.opening; entries = s.entries; limits = s.heap.table.limits; in_parts = in_parts }
+
+-- the start of a store whose journal stays whole, and of one whose journal is handed out in parts
 abbrev pub start_of_store : StoreState → SharedStart
-start_of_store s = record { opening = s.opening; entries = s.entries; limits = s.heap.table.limits }
+start_of_store s = shared_as false s
+
+abbrev pub start_in_parts : StoreState → SharedStart
+start_in_parts s = shared_as true s
 
 -- A store may be shared with a blank by the round that has this name, so many parts and this start: the blank is the round's, it has
 -- one part more than vertices may be made, and the round starts from the store.
 pub record MayShare (ledger whole : ℕ) (first : SharedStart) (blank : Blank) (store : StoreState) : Type 0 where
   pub name : blank.name ≡ ledger
   pub parts : (blank.parts ≡ whole) × (blank.parts ≡ store.opening.limit + 1)
-  pub start : start_of_store store ≡ first
+  pub start : shared_as first.in_parts store ≡ first
 
 -- ---- how many sessions were made
 
@@ -86,11 +96,12 @@ sessions_made start entries = length (subjects_at start) + spawned (drop (length
 -- ---- what is behind the lock
 
 -- The store is the one that was shared, and has only gone on: opening and limits are as they were, and the journal begins
--- with the entries that it had.
+-- with the entries that it had. Where it may not be handed out in parts, none of the entries since then was.
 pub record GoesOn (start : SharedStart) (s : StoreState) : Type 0 where
   pub opening : s.opening ≡ start.opening
   pub earlier : take (length start.entries) s.entries ≡ start.entries
   pub limits : s.heap.table.limits ≡ start.limits
+  pub whole : start.in_parts ≡ false → s.handed ≤ length start.entries
 
 -- This holds of some store that may have been behind the lock: of the shared one, gone on, which keeps the store's promise.
 abbrev pub AtSome : SharedStart → (StoreState → Type 0) → Type 0
@@ -198,6 +209,12 @@ parts_of sessions = sum_by (λ s. s.parts) sessions
 -- the place from which on a store holds the entries that were made since it was shared
 abbrev pub held_from : SharedStart → StoreState → ℕ
 held_from start s = max (length start.entries) s.handed
+
+-- The session has all its receipts, part by part, each of which matches its part of the journal.
+pub record KeptInParts (parts : List Entries) (s : SessionState) : Type 0 where
+  pub lists : List (List Receipt)
+  pub each : MatchParts parts s.worker lists
+  pub all : s.receipts ≡ all_receipts lists
 
 -- The entries are shared out: each is of exactly one of the sessions, and the receipts of each session are all its
 -- entries, in their order, each once.

@@ -1,5 +1,5 @@
 //! Who may take a shared store's entries.
-ghost use Rattle.std.specs.Prelude.{◌≡◌};
+ghost use Rattle.std.specs.Prelude.{◌≡◌, true};
 ghost use Rattle.tg_shared.specs.Sessions.{AtSome};
 
 use crate::round::Round;
@@ -26,12 +26,13 @@ impl<L: Round> Keeper<L> {
     /// Hands out the entries that the store behind the lock holds, by one call of
     /// [`Locked::take_journal`](crate::Locked::take_journal) under the lock, at any moment and whatever the sessions
     /// do. What is handed out begins where the part before it ended, so all parts, in the order in which they were
-    /// taken, are the journal. Takes no memory.
+    /// taken, are the journal. The store has to be shared so as to be handed out in parts. Takes no memory.
     pub fn take_journal<P: Payload, R: Wait>(
         &mut self,
         rt: &R,
         store: &SharedStore<L, P>,
     ) -> Journal
+        requires in_parts { L.start.in_parts ≡ true }
         ensures { AtSome L.start (λ s. (result.entries ≡ s.entries) × (result.start ≡ s.handed)) }
     {
         let mut locked = store.locked.lock(rt);

@@ -1,5 +1,5 @@
 //! The value behind the lock, and what each call does to it.
-ghost use Rattle.std.specs.Prelude.{◌≡◌, ◌≢◌, ◌↔◌, ◌⊎◌, ◌<◌, ◌≤◌, ◌+◌, ◌^◌, Err, Some, IfOk, IfErr, IsErrAnd, OnOk, OnErr, length};
+ghost use Rattle.std.specs.Prelude.{◌≡◌, ◌≢◌, ◌↔◌, ◌⊎◌, ◌<◌, ◌≤◌, ◌+◌, ◌^◌, Err, Some, true, IfOk, IfErr, IsErrAnd, OnOk, OnErr, length};
 ghost use Rattle.tg_subjects.specs.Subjects.{names_of};
 ghost use Rattle.tg_shared.specs.Sessions.{AreFresh, reply_entered};
 
@@ -239,9 +239,10 @@ impl<L: Round, P: Payload> Locked<L, P> {
         self.store.label(session.worker(), target)
     }
 
-    /// Hands out the entries that the store holds, by one call of the store. No session is touched: its receipts are of the entries
-    /// that they were of, wherever these are.
+    /// Hands out the entries that the store holds, by one call of the store, where it was shared so as to be handed out in
+    /// parts. No session is touched: its receipts are of the entries that they were of, wherever these are.
     pub fn take_journal(&mut self) -> Journal
+        requires in_parts { L.start.in_parts ≡ true }
         ensures entries { result.entries ≡ self.old.store.entries }
         ensures start { result.start ≡ self.old.store.handed }
         ensures handed_out { HandsOut self.old.store self.new.store }

@@ -49,6 +49,9 @@ impl<L: Round, P: Payload> SharedStore<L, P> {
 
     /// Shares a store: puts it behind a lock, and makes a session for each active subject of the graph that it stands for. The
     /// blank is spent, and has to have one part more than vertices may be made. Fails only when out of memory.
+    ///
+    /// The round's start says whether the journal stays whole (`start_of_store`), or may be handed out in parts while it is
+    /// shared (`start_in_parts`).
     pub fn new(
         alloc: Global,
         blank: Blank,

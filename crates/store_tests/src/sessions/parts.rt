@@ -1,5 +1,6 @@
 //! A shared store whose journal is taken away in parts while its sessions go on, one of which is taken over once it is
 //! done.
+ghost use Rattle.std.specs.Prelude.{◌≡◌, true};
 ghost use Rattle.tg_shared.specs.Sessions.{MayShare};
 
 use crate::sessions::opened::{closed, draft, make, opening_with, store_of};
@@ -70,7 +71,9 @@ fn cut<L: Round, R: Wait>(
     store: &SharedStore<L, CellPayload>,
     keeper: &mut Keeper<L>,
     session: &mut Session<L>,
-) -> Option<TakenInParts> {
+) -> Option<TakenInParts>
+    requires in_parts { L.start.in_parts ≡ true }
+{
     let _name = make(rt, alloc, store, session)?.ok()?;
     let first = keeper.take_journal(rt, store);
     let receipts = session.take_receipts();
@@ -120,7 +123,9 @@ fn seen_of_shared<L: Round, R: Wait>(
     rt: &R,
     alloc: Global,
     shared: Shared<L, CellPayload>,
-) -> Option<SeenOfParts> {
+) -> Option<SeenOfParts>
+    requires in_parts { L.start.in_parts ≡ true }
+{
     let Shared {
         store,
         mut sessions,
@@ -146,6 +151,7 @@ fn seen_of_store<L: Round, R: Wait>(
     store: Store<CellPayload>,
 ) -> Option<SeenOfParts>
     requires shareable { MayShare L.name L.parts L.start blank store }
+    requires in_parts { L.start.in_parts ≡ true }
 {
     let shared = SharedStore::<L, CellPayload>::new(alloc, blank, store).ok()?;
     seen_of_shared(rt, alloc, shared)

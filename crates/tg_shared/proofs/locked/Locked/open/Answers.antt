@@ -55,6 +55,6 @@ invariant_of-locked g c =
       },
       first,
       c.in-Ok.ensures.rest.1,
-      goes_on_start start c.args.store c.requires.shareable.start,
+      goes_on_start start c.args.store c.requires.shareable.start c.journal.ensures.within,
       (let e : c.len.result ≡ sessions_made start c.args.store.entries = omega (arith, number, names, at_start, made) in e),
     )

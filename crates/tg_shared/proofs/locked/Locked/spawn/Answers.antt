@@ -54,7 +54,7 @@ invariant_of-self g c =
           c.worker-worker.result c.in-Ok.name c.args.label c.args.draft.law c.args.draft.state c.self.invariant.0 entry (c.in-Ok.ensures.made.name (graph_of_store old) refl) c.spawn.ensures.refusals.opening c.note.ensures.book c.split_off-share.ensures.parts_left,
       c.self.invariant.1,
       nothing_left c.split_off-share.new.self.amount c.self.inside.rest.amount c.split_off-share.ensures.amount_left c.self.invariant.2,
-      goes_on_entered g.L.Round.start old new c.worker-worker.result deed (Reply.Name c.in-Ok.name) c.self.invariant.3 entry c.spawn.ensures.refusals.opening c.spawn.ensures.refusals.limits,
+      goes_on_entered g.L.Round.start old new c.worker-worker.result deed (Reply.Name c.in-Ok.name) c.self.invariant.3 entry c.spawn.ensures.refusals.opening c.spawn.ensures.refusals.limits c.spawn.ensures.refusals.handed,
       one_more c.self.inside.sessions _ _ c.self.invariant.4 (made_more g.L.Round.start old new c.worker-worker.result deed (Reply.Name c.in-Ok.name) entry (grown g.L.Round.start old c.self.invariant.3)),
     )
 
@@ -72,7 +72,7 @@ invariant_of-self-in-Some g c =
           c.worker-worker.result deed reply c.self.invariant.0 held.0 c.spawn.ensures.refusals.opening c.note-in-Some.ensures.book,
       c.self.invariant.1,
       c.self.invariant.2,
-      goes_on_entered g.L.Round.start old new c.worker-worker.result deed reply c.self.invariant.3 held.0 c.spawn.ensures.refusals.opening c.spawn.ensures.refusals.limits,
+      goes_on_entered g.L.Round.start old new c.worker-worker.result deed reply c.self.invariant.3 held.0 c.spawn.ensures.refusals.opening c.spawn.ensures.refusals.limits c.spawn.ensures.refusals.handed,
       as_many c.self.inside.sessions _ _ c.self.invariant.4 (rw held.1 at more),
     )
 

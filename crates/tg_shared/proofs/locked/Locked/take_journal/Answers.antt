@@ -1,15 +1,22 @@
 -- What was handed out is what the store held, and what is behind the lock is as it was.
 use Rattle.std.proofs.Common.{◌∙◌, ap, subst}
 use Rattle.tg_graph.specs.Heap.{HeapState}
-use Rattle.tg_store.specs.Store.{HandsOut}
+use Rattle.tg_store.specs.Store.{HandsOut, StoreState}
 use Rattle.tg_shared.specs.Sessions.{LockedState}
-use Rattle.tg_shared.proofs.Balances.{locked_same}
+use Rattle.tg_shared.proofs.Balances.{balanced_same, goes_on_handed, made_same}
 use Rattle.tg_shared.proofs.locked.Locked.take_journal.Goals as goal
 
 pub invariant_of-self : goal.invariant_of-self
 invariant_of-self g c =
     let out = c.take_journal.ensures.handed_out in
-    locked_same g.L.Round.start c.self.inside.store c.take_journal.new.self _ _ _ _ _ c.self.invariant out.entries out.opening (ap (λ (h : HeapState). h.table.limits) out.heap)
+    let old : StoreState = c.self.inside.store in
+    let new : StoreState = c.take_journal.new.self in (
+      balanced_same old new _ _ _ _ _ c.self.invariant.0 out.entries out.opening,
+      c.self.invariant.1,
+      c.self.invariant.2,
+      goes_on_handed g.L.Round.start old new c.self.invariant.3 out.entries out.opening (ap (λ (h : HeapState). h.table.limits) out.heap) c.requires.in_parts,
+      made_same g.L.Round.start c.self.inside.sessions old.entries new.entries c.self.invariant.4 out.entries,
+    )
 
 pub returns-clause-entries : goal.returns-clause-entries
 returns-clause-entries g c = c.take_journal.ensures.entries ∙ ap (λ (b : LockedState). b.store.entries) c.self.view_is
