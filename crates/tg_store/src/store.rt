@@ -146,9 +146,10 @@ impl<P: Payload> Store<P> {
         &self.journal
     }
 
-    /// Hands out the entries that the store holds, as a journal that begins with the place of the first, and goes on with none: the
-    /// next entry gets the next place, and the graph that the store stands for is as it was. So a caller who keeps what is handed
-    /// out has all entries, and one who gives it up bounds what a store's journal takes. Takes no memory, and looks at no entry.
+    /// Hands out the entries that the store holds, as a journal that begins with the place of the first, and goes on
+    /// with none: the next entry gets the next place, and the graph that the store stands for is as it was. So a caller
+    /// who keeps what is handed out has all entries, and one who gives it up bounds what a store's journal takes. Takes
+    /// no memory, and looks at no entry.
     pub fn take_journal(&mut self) -> Journal
         ensures entries { result.entries ≡ self.old.entries }
         ensures start { result.start ≡ self.old.handed }
