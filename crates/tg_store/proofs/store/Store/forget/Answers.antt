@@ -1,5 +1,5 @@
 -- What is held no more is in all the entries still; so the graph is as it was.
-use Rattle.std.proofs.Common.{◌≤◌, ℕ, length, refl, subst, sym}
+use Rattle.std.proofs.Common.{◌≤◌, length, refl, subst, sym}
 use Rattle.tg_store.specs.Store.{HoldsFrom, StoreState}
 use Rattle.tg_store.proofs.HandLaws.{IsStore-handed}
 use Rattle.tg_store.proofs.store.Store.forget.Goals as goal

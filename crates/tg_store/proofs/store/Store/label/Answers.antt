@@ -1,5 +1,5 @@
 -- What the subject's row says is what the graph says.
-use Rattle.std.proofs.Common.{ℕ, None, refl, ap, ◌∙◌}
+use Rattle.std.proofs.Common.{ℕ, refl, ap, ◌∙◌}
 use Rattle.tg_rights.specs.RightSet.{label_of}
 use Rattle.tg_graph.specs.Heap.{content_of}
 use Rattle.tg_store.specs.Store.{StoreState, graph_of_store}

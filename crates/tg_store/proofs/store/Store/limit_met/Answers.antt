@@ -1,5 +1,5 @@
 -- The limit of vertices comes first.
-use Rattle.std.proofs.Common.{◌≡◌, ◌^◌, ◌<◌, ◌≤◌, None, Some, ap, arith, ◌∙◌}
+use Rattle.std.proofs.Common.{◌^◌, ◌<◌, ◌≤◌, None, Some, arith}
 use Rattle.std.proofs.Common.{subst}
 use Rattle.tg_store.specs.declared.making.Limit.TheVariants.{Vertices}
 use Rattle.tg_store.specs.Making.{IsLimitMet}
