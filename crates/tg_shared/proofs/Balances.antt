@@ -124,7 +124,7 @@ active_made s faithful =
     few_from_rising (graph_of_store s).subjects (graph_of_store s).made sound.rising sound.subjects_made
 
 not_both : (b : Bool) → b ≡ true → b ≡ false → ⊥
-not_both b yes no = cc
+not_both b is isnt = cc
 
 -- none of the entries since the start was handed out by what hands out none
 still_whole : (start : SharedStart) (old new : StoreState) → GoesOn start old → new.handed ≡ old.handed → start.in_parts ≡ false → new.handed ≤ length start.entries

@@ -1,8 +1,7 @@
-use Rattle.std.proofs.Common.{◌≡◌, ◌<◌, ◌≤◌, ◌+◌, ◌∙◌, ◌++◌, ◌∷◌, [], ℕ, List, length, get_or, take, arith, refl, sym, ap, subst}
+use Rattle.std.proofs.Common.{◌≡◌, ◌<◌, ◌≤◌, ◌+◌, ◌∙◌, ◌++◌, ◌∷◌, [], ℕ, List, length, get_or, take, arith, refl, sym, ap}
 use Rattle.std.proofs.lemmas.List.{map_more}
 use Rattle.tg_subjects.specs.Subjects.{names_of}
 use Rattle.tg_subjects.specs.declared.subject.Subject.{Subject}
-use Rattle.tg_shared.specs.Sessions.{AreFresh}
 use Rattle.tg_shared.proofs.Fresh.{fresh_push}
 use Rattle.tg_shared.proofs.locked.sessions_of.Goals as goal
 
