@@ -1,6 +1,7 @@
 //! The threads of the workers.
 ghost use Rattle.std.specs.Prelude.{◌≡◌, ◌≢◌, ℕ, IfOk, IfErr, map};
 ghost use Rattle.std.specs.List.{All};
+ghost use Rattle.tg_shared.specs.Sessions.{IsFresh};
 ghost use Rattle.tg_threads.specs.Tasks.{AllBring, RunsTasks, assigned_of, promised_by};
 ghost use Rattle.tg_weave.specs.Boxes.{boxed_of};
 
