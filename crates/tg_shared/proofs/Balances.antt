@@ -126,9 +126,9 @@ active_made s faithful =
 not_both : (b : Bool) → b ≡ true → b ≡ false → ⊥
 not_both b is isnt = cc
 
--- none of the entries since the start was handed out by what hands out none
-still_whole : (start : SharedStart) (old new : StoreState) → GoesOn start old → new.handed ≡ old.handed → start.in_parts ≡ false → new.handed ≤ length start.entries
-still_whole start old new on handed is_whole = let few = on.whole is_whole in omega (arith, few, handed)
+-- none was handed out since the start by what hands out none
+still_whole : (start : SharedStart) (old new : StoreState) → GoesOn start old → new.handed ≡ old.handed → start.in_parts ≡ false → new.handed ≡ start.handed
+still_whole start old new on handed is_whole = handed ∙ on.whole is_whole
 
 -- the shared store goes on: with an entry more, and with the same entries
 pub goes_on_entered : (start : SharedStart) (old new : StoreState) (worker : ℕ) (deed : Deed) (reply : Reply) → GoesOn start old
@@ -143,6 +143,7 @@ goes_on_entered start old new worker deed reply on entry opening limits handed =
       opening = opening ∙ on.opening;
       earlier = ap (take n) entry ∙ (take-append-le n old.entries (e ∷ []) few ∙ earlier);
       limits = limits ∙ on.limits;
+      within = on.within;
       whole = still_whole start old new on handed;
     }
 
@@ -152,6 +153,7 @@ goes_on_same start old new on entries opening limits handed = record {
   opening = opening ∙ on.opening;
   earlier = ap (take (length start.entries)) entries ∙ on.earlier;
   limits = limits ∙ on.limits;
+  within = on.within;
   whole = still_whole start old new on handed;
 }
 
@@ -162,6 +164,7 @@ goes_on_handed start old new on entries opening limits in_parts = record {
   opening = opening ∙ on.opening;
   earlier = ap (take (length start.entries)) entries ∙ on.earlier;
   limits = limits ∙ on.limits;
+  within = on.within;
   whole = λ is_whole. absurd (not_both start.in_parts in_parts is_whole);
 }
 
@@ -183,7 +186,8 @@ goes_on_start start s is within = record {
   opening = ap (λ (b : SharedStart). b.opening) is;
   earlier = subst (λ (es : List Entry). take (length es) s.entries ≡ es) (ap (λ (b : SharedStart). b.entries) is) (take-length s.entries);
   limits = ap (λ (b : SharedStart). b.limits) is;
-  whole = λ _. subst (λ (b : SharedStart). s.handed ≤ length b.entries) is within;
+  within = subst (λ (b : SharedStart). b.handed ≤ length b.entries) is within;
+  whole = λ _. ap (λ (b : SharedStart). b.handed) is;
 }
 
 -- ---- what a collection leaves

@@ -63,7 +63,8 @@ kept_share_out entries first parts ss are kept apart count =
 
 pub whole_held : (start : SharedStart) (s : StoreState) → GoesOn start s → start.in_parts ≡ false → held_from start s ≡ length start.entries
 whole_held start s on is_whole =
-    let few = on.whole is_whole in
+    let same = on.whole is_whole in
+    let few : s.handed ≤ length start.entries = (let within = on.within in omega (arith, same, within)) in
     let least : length start.entries ≤ held_from start s = le-max_left (length start.entries) s.handed in
     let most : held_from start s ≤ length start.entries = max-le {a = length start.entries} {b = s.handed} {k = length start.entries} (omega arith) few in
     omega (arith, least, most)

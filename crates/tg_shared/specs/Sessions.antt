@@ -45,16 +45,17 @@ pub record LockedState : Type 0 where
   pub store : StoreState
   pub sessions : ℕ
 
--- What a store was when it was shared: its opening, the entries that its journal had, and its limits; and whether the journal may
--- be handed out in parts while it is shared.
+-- What a store was when it was shared: its opening, the entries that its journal had, how many of them were handed out, and its
+-- limits; and whether the journal may be handed out in parts while it is shared.
 pub record SharedStart : Type 0 where
   pub opening : Plan
   pub entries : List Entry
+  pub handed : ℕ
   pub limits : BlockLimits
   pub in_parts : Bool
 
 abbrev pub shared_as : Bool → StoreState → SharedStart
-shared_as in_parts s = record { opening = s.opening; entries = s.entries; limits = s.heap.table.limits; in_parts = in_parts }
+shared_as in_parts s = record { opening = s.opening; entries = s.entries; handed = s.handed; limits = s.heap.table.limits; in_parts = in_parts }
 
 -- the start of a store whose journal stays whole, and of one whose journal is handed out in parts
 abbrev pub start_of_store : StoreState → SharedStart
@@ -96,12 +97,13 @@ sessions_made start entries = length (subjects_at start) + spawned (drop (length
 -- ---- what is behind the lock
 
 -- The store is the one that was shared, and has only gone on: opening and limits are as they were, and the journal begins
--- with the entries that it had. Where it may not be handed out in parts, none of the entries since then was.
+-- with the entries that it had. Where it may not be handed out in parts, none was handed out since.
 pub record GoesOn (start : SharedStart) (s : StoreState) : Type 0 where
   pub opening : s.opening ≡ start.opening
   pub earlier : take (length start.entries) s.entries ≡ start.entries
   pub limits : s.heap.table.limits ≡ start.limits
-  pub whole : start.in_parts ≡ false → s.handed ≤ length start.entries
+  pub within : start.handed ≤ length start.entries
+  pub whole : start.in_parts ≡ false → s.handed ≡ start.handed
 
 -- This holds of some store that may have been behind the lock: of the shared one, gone on, which keeps the store's promise.
 abbrev pub AtSome : SharedStart → (StoreState → Type 0) → Type 0

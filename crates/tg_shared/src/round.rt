@@ -13,5 +13,5 @@ pub trait Round: Ledger {
 }
 
 impl Round for Brand {
-    ghost start = { record { opening = record { workers = 0; edges = []; values = []; limit = 0 }; entries = []; limits = record { max_blocks = 0; space_blocks = 0 }; in_parts = false } };
+    ghost start = { record { opening = record { workers = 0; edges = []; values = []; limit = 0 }; entries = []; handed = 0; limits = record { max_blocks = 0; space_blocks = 0 }; in_parts = false } };
 }
