@@ -147,7 +147,7 @@ def old_cells_that_are_remembered():
 
 
 def commands_on_a_small_graph():
-    """What stays is what 100,000 commands leave in the journal."""
+    """100,000 commands leave nothing: each entry is given up once it was answered."""
     forms = ["0 read 2", "1 read 2", "0 write 2 7", "0 list", "0 read 9", "0 read 3", "1 list", "9 list"]
     lines = itertools.islice(itertools.cycle(forms), 100_000)
     return Script("--workers 2 --stock sm", ["0 create rw", "0 create rw", *lines])

@@ -51,6 +51,7 @@ fn tell_and_close<L: Round + Send + Sync, R: Threads + Wait + Sync>(
     let Shared {
         store,
         mut sessions,
+        ..
     } = shared;
     let told = tell(rt, alloc, &store, sessions.as_mut_slice())?;
     Ok((told, close_and_audit(alloc, store, sessions)?))

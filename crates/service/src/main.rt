@@ -63,6 +63,7 @@ fn serve_and_close<L: Round + Send + Sync, R: Threads + Wait + Sync + Print + Al
     let Shared {
         store,
         mut sessions,
+        ..
     } = shared;
     serve(rt, &store, &mut sessions)?;
     let store = close(store, sessions).map_err(|refused| refused.why)?;

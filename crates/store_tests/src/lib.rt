@@ -10,6 +10,8 @@ mod cell_with;
 #[cfg(test)]
 mod counting_payload;
 #[cfg(test)]
+mod cut;
+#[cfg(test)]
 mod help;
 #[cfg(test)]
 mod helpers;

@@ -1,8 +1,10 @@
-//! Sessions of a shared store: on two threads, in turn, with collections that they ask for, spawned, and asked what they hold.
+//! Sessions of a shared store: on two threads, in turn, with collections that they ask for, spawned, taken over, asked
+//! what they hold, and with a journal that is taken in parts.
 mod collections;
 mod held;
 mod in_turn;
 pub(crate) mod opened;
+mod parts;
 mod spawned;
 mod story;
 mod two_threads;

@@ -144,7 +144,8 @@ pub fn tell_census(answer: Result<Census, CallRefusal>, out: &mut CensusOut) -> 
     }
 }
 
-/// Tells the journal's entry at a place: what it says, and of its numbers and edges as many as there is room for.
+/// Tells the journal's entry at a place: what it says, and of its numbers and edges as many as there is room for. No
+/// entry was handed out.
 pub fn tell_entry(
     journal: &Journal,
     at: u64,
@@ -152,6 +153,7 @@ pub fn tell_entry(
     numbers: &mut [u64],
     edges: &mut [EdgeOut],
 ) -> u32
+    requires { journal.now.start ≡ 0 }
     ensures { TellsEntry result (record { record_out = record.old; numbers = numbers.old; edges = edges.old })
         (record { record_out = record.new; numbers = numbers.new; edges = edges.new }) (entry_at journal.now.entries at) }
 {

@@ -46,8 +46,8 @@ subject_held g x h =
     ] refl
 
 -- with the opening and the entries of before, a store stands for the graph of before
-stands_still : (old new : StoreState) (g : ProtectionGraph) → new.opening ≡ old.opening → new.entries ≡ old.entries → StandsFor old g → StandsFor new g
-stands_still old new g opening entries stands = (λ i. graph_of_store (record { opening = opening i; entries = entries i; heap = new.heap })) ∙ stands
+pub stands_still : (old new : StoreState) (g : ProtectionGraph) → new.opening ≡ old.opening → new.entries ≡ old.entries → StandsFor old g → StandsFor new g
+stands_still old new g opening entries stands = (λ i. graph_of_store (record { opening = opening i; entries = entries i; handed = new.handed; heap = new.heap })) ∙ stands
 
 other_way : {T E : Type 0} (x : T) (e : E) → Ok x ≡ Err e → ⊥
 other_way x e same = cc

@@ -24,10 +24,31 @@ impl<P: Payload> Run<P> {
     ghost use Rattle.tg_script.specs.Opening.{IsAnswerable};
     ghost use Rattle.tg_script.specs.Run.{Handles, HandlesWith, making_answer, values_back};
     ghost use Rattle.tg_script.specs.Supply.{values_left};
+    ghost use Rattle.tg_store.specs.Store.{HandsOut};
 
-    /// What a line is answered. No line fails: where memory or room is wanting, that is the answer.
+    /// What a line is answered. No line fails: where memory or room is wanting, that is the answer. What was entered is
+    /// given up then: a run's output is its journal.
     #[inline(always)]
     pub(crate) fn answer<C: Collector>(&mut self, collector: &C, line: Line) -> Answer
+        requires answerable { IsAnswerable C.Ready line }
+        ensures { Handles self.old line result self.new }
+    {
+        let answer = self.answer_line(collector, line);
+        self.give_up_entries();
+        answer
+    }
+
+    fn give_up_entries(&mut self)
+        ensures store { HandsOut self.old.store self.new.store }
+        ensures supply { self.new.supply ≡ self.old.supply }
+        ensures helpers { self.new.helpers ≡ self.old.helpers }
+    {
+        let made = self.store.journal().len();
+        self.store.forget(made);
+    }
+
+    #[inline(always)]
+    fn answer_line<C: Collector>(&mut self, collector: &C, line: Line) -> Answer
         requires answerable { IsAnswerable C.Ready line }
         ensures { Handles self.old line result self.new }
     {

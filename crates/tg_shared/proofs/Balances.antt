@@ -1,5 +1,5 @@
 -- What an entry makes of the balance behind the lock.
-use Rattle.std.proofs.Common.{◌≡◌, ℕ, ◌+◌, ◌≤◌, Bool, cond, List, ◌∷◌, ◌++◌, [], length, length-append, drop, refl, sym, subst, ap, ◌∙◌, arith}
+use Rattle.std.proofs.Common.{◌≡◌, ℕ, ◌+◌, ◌≤◌, Bool, true, false, cond, List, ◌∷◌, ◌++◌, [], length, length-append, drop, refl, sym, subst, ap, ◌∙◌, arith}
 use Rattle.std.specs.Prelude.{Result, take}
 use Rattle.std.proofs.lemmas.List.{length-take, take-append-le, drop-append-le, drop_all}
 use Rattle.std.proofs.lemmas.List.Sums.{sum_by-append, sum_by-cons}
@@ -22,7 +22,7 @@ use Rattle.tg_journal.proofs.HistoryLaws.{IsSound-opened, made-opened}
 use Rattle.tg_store.specs.Collecting.{KeepsHistory}
 use Rattle.tg_store.specs.Store.{StoreState, Enters, IsFaithful, graph_of_store}
 use Rattle.tg_store.proofs.StandLaws.{graph-entered}
-use Rattle.tg_shared.specs.Sessions.{GoesOn, IsBalanced, KeepsLocked, LockedState, SharedStart, is_spawn, made_subject, sessions_made, spawned, start_of_store, subjects_at}
+use Rattle.tg_shared.specs.Sessions.{GoesOn, IsBalanced, KeepsLocked, LockedState, SharedStart, is_spawn, made_subject, sessions_made, shared_as, spawned, subjects_at}
 
 -- ---- how many sessions were made
 
@@ -123,10 +123,17 @@ active_made s faithful =
     let sound : IsSound (graph_of_store s) = IsSound-opened s.opening s.entries faithful.plan faithful.legal in
     few_from_rising (graph_of_store s).subjects (graph_of_store s).made sound.rising sound.subjects_made
 
+not_both : (b : Bool) → b ≡ true → b ≡ false → ⊥
+not_both b is isnt = cc
+
+-- none was handed out since the start by what hands out none
+still_whole : (start : SharedStart) (old new : StoreState) → GoesOn start old → new.handed ≡ old.handed → start.in_parts ≡ false → new.handed ≡ start.handed
+still_whole start old new on handed is_whole = handed ∙ on.whole is_whole
+
 -- the shared store goes on: with an entry more, and with the same entries
 pub goes_on_entered : (start : SharedStart) (old new : StoreState) (worker : ℕ) (deed : Deed) (reply : Reply) → GoesOn start old
-    → Enters old new worker deed reply → new.opening ≡ old.opening → new.heap.table.limits ≡ old.heap.table.limits → GoesOn start new
-goes_on_entered start old new worker deed reply on entry opening limits =
+    → Enters old new worker deed reply → new.opening ≡ old.opening → new.heap.table.limits ≡ old.heap.table.limits → new.handed ≡ old.handed → GoesOn start new
+goes_on_entered start old new worker deed reply on entry opening limits handed =
     let n = length start.entries in
     let earlier : take n old.entries ≡ start.entries = on.earlier in
     let long = ap (λ (es : List Entry). length es) earlier in
@@ -136,21 +143,36 @@ goes_on_entered start old new worker deed reply on entry opening limits =
       opening = opening ∙ on.opening;
       earlier = ap (take n) entry ∙ (take-append-le n old.entries (e ∷ []) few ∙ earlier);
       limits = limits ∙ on.limits;
+      within = on.within;
+      whole = still_whole start old new on handed;
     }
 
 pub goes_on_same : (start : SharedStart) (old new : StoreState) → GoesOn start old
-    → new.entries ≡ old.entries → new.opening ≡ old.opening → new.heap.table.limits ≡ old.heap.table.limits → GoesOn start new
-goes_on_same start old new on entries opening limits = record {
+    → new.entries ≡ old.entries → new.opening ≡ old.opening → new.heap.table.limits ≡ old.heap.table.limits → new.handed ≡ old.handed → GoesOn start new
+goes_on_same start old new on entries opening limits handed = record {
   opening = opening ∙ on.opening;
   earlier = ap (take (length start.entries)) entries ∙ on.earlier;
   limits = limits ∙ on.limits;
+  within = on.within;
+  whole = still_whole start old new on handed;
+}
+
+-- and where what it held was handed out, as it may be
+pub goes_on_handed : (start : SharedStart) (old new : StoreState) → GoesOn start old
+    → new.entries ≡ old.entries → new.opening ≡ old.opening → new.heap.table.limits ≡ old.heap.table.limits → start.in_parts ≡ true → GoesOn start new
+goes_on_handed start old new on entries opening limits in_parts = record {
+  opening = opening ∙ on.opening;
+  earlier = ap (take (length start.entries)) entries ∙ on.earlier;
+  limits = limits ∙ on.limits;
+  within = on.within;
+  whole = λ is_whole. absurd (not_both start.in_parts in_parts is_whole);
 }
 
 -- a collection keeps all that is so of a store behind a lock
 pub locked_same : {P Q : Type 0} (start : SharedStart) (old new : StoreState) (first sessions total rest parts : ℕ) → IsBalanced old first sessions total rest parts × P × Q × GoesOn start old × (sessions ≡ sessions_made start old.entries)
-    → new.entries ≡ old.entries → new.opening ≡ old.opening → new.heap.table.limits ≡ old.heap.table.limits → IsBalanced new first sessions total rest parts × P × Q × GoesOn start new × (sessions ≡ sessions_made start new.entries)
-locked_same start old new first sessions total rest parts held entries opening limits =
-    (balanced_same old new first sessions total rest parts held.0 entries opening, held.1, held.2, goes_on_same start old new held.3 entries opening limits, made_same start sessions old.entries new.entries held.4 entries)
+    → new.entries ≡ old.entries → new.opening ≡ old.opening → new.heap.table.limits ≡ old.heap.table.limits → new.handed ≡ old.handed → IsBalanced new first sessions total rest parts × P × Q × GoesOn start new × (sessions ≡ sessions_made start new.entries)
+locked_same start old new first sessions total rest parts held entries opening limits handed =
+    (balanced_same old new first sessions total rest parts held.0 entries opening, held.1, held.2, goes_on_same start old new held.3 entries opening limits handed, made_same start sessions old.entries new.entries held.4 entries)
 
 -- as long as before at least
 pub grown : (start : SharedStart) (s : StoreState) → GoesOn start s → length start.entries ≤ length s.entries
@@ -159,11 +181,13 @@ grown start s on =
     omega (arith, length-take (length start.entries) s.entries)
 
 -- a store that was just shared goes on
-pub goes_on_start : (start : SharedStart) (s : StoreState) → start_of_store s ≡ start → GoesOn start s
-goes_on_start start s is = record {
+pub goes_on_start : (start : SharedStart) (s : StoreState) → shared_as start.in_parts s ≡ start → s.handed ≤ length s.entries → GoesOn start s
+goes_on_start start s is within = record {
   opening = ap (λ (b : SharedStart). b.opening) is;
   earlier = subst (λ (es : List Entry). take (length es) s.entries ≡ es) (ap (λ (b : SharedStart). b.entries) is) (take-length s.entries);
   limits = ap (λ (b : SharedStart). b.limits) is;
+  within = subst (λ (b : SharedStart). b.handed ≤ length b.entries) is within;
+  whole = λ _. ap (λ (b : SharedStart). b.handed) is;
 }
 
 -- ---- what a collection leaves

@@ -1,5 +1,5 @@
 -- What contracts see of a session and of the value behind the lock, and what a call does to them.
-use Rattle.std.specs.Prelude.{◌≡◌, ◌≢◌, ℕ, ◌+◌, ◌<◌, ◌≤◌, ◌==◌, Bool, true, false, Option, Some, None, List, [], ◌∷◌, ◌++◌, Result, IfErr, OnErr, length, map, take, drop}
+use Rattle.std.specs.Prelude.{◌≡◌, ◌≢◌, ℕ, ◌+◌, ◌<◌, ◌≤◌, ◌==◌, max, Bool, true, false, Option, Some, None, List, [], ◌∷◌, ◌++◌, Result, IfErr, OnErr, length, map, take, drop}
 use Rattle.std.specs.declared.sync.ledger.Blank.{Blank}
 use Rattle.std.specs.List.{All, AllPairs, count_by, filter, sum_by}
 use Rattle.tg_model.specs.declared.command.Deed.{Deed}
@@ -14,6 +14,7 @@ use Rattle.tg_word.specs.Word.{nursery_space}
 use Rattle.tg_space.specs.SpaceTable.{BlockLimits}
 use Rattle.tg_journal.specs.declared.entry.Entry.{Entry}
 use Rattle.tg_journal.specs.History.{IsLegalEntry, graph_after}
+use Rattle.tg_journal.specs.Journal.{Entries}
 use Rattle.tg_graph.specs.Heap.{nursery_of}
 use Rattle.tg_graph.specs.Spots.{LacksCellsFor}
 use Rattle.tg_store.specs.Collecting.{KeepsHistory}
@@ -22,13 +23,15 @@ use Rattle.tg_store.specs.declared.fault.CreateFault.TheVariants as fault
 use Rattle.tg_store.specs.declared.fault.CreateRefused.{CreateRefused}
 use Rattle.tg_store.specs.Store.{StoreState, Enters, IsFaithful, IsUnchanged, graph_of_store}
 use Rattle.tg_shared.specs.declared.receipt.Receipt.{Receipt}
-use Rattle.tg_shared.specs.Receipts.{ReceiptsMatch, receipt_of}
+use Rattle.tg_shared.specs.Receipts.{MatchParts, ReceiptsMatch, all_receipts, receipt_of}
 
--- A session: the name of its subject, its receipts in order, for how many more there is room, and the copy of a state
--- that the next receipt may need.
+-- A session: the name of its subject, its receipts in order, how many before them were handed out, for how many sessions it stands
+-- (its own, and those that it took over), for how many more receipts there is room, and the copy of a state that the next may need.
 pub record SessionState : Type 0 where
   pub worker : ℕ
   pub receipts : List Receipt
+  pub handed : ℕ
+  pub parts : ℕ
   pub spare : ℕ
   pub copy : List ℕ
 
@@ -42,21 +45,31 @@ pub record LockedState : Type 0 where
   pub store : StoreState
   pub sessions : ℕ
 
--- What a store was when it was shared: its opening, the entries that its journal had, and its limits.
+-- What a store was when it was shared: its opening, the entries that its journal had, how many of them were handed out, and its
+-- limits; and whether the journal may be handed out in parts while it is shared.
 pub record SharedStart : Type 0 where
   pub opening : Plan
   pub entries : List Entry
+  pub handed : ℕ
   pub limits : BlockLimits
+  pub in_parts : Bool
 
+abbrev pub shared_as : Bool → StoreState → SharedStart
+shared_as in_parts s = record { opening = s.opening; entries = s.entries; handed = s.handed; limits = s.heap.table.limits; in_parts = in_parts }
+
+-- the start of a store whose journal stays whole, and of one whose journal is handed out in parts
 abbrev pub start_of_store : StoreState → SharedStart
-start_of_store s = record { opening = s.opening; entries = s.entries; limits = s.heap.table.limits }
+start_of_store s = shared_as false s
+
+abbrev pub start_in_parts : StoreState → SharedStart
+start_in_parts s = shared_as true s
 
 -- A store may be shared with a blank by the round that has this name, so many parts and this start: the blank is the round's, it has
 -- one part more than vertices may be made, and the round starts from the store.
 pub record MayShare (ledger whole : ℕ) (first : SharedStart) (blank : Blank) (store : StoreState) : Type 0 where
   pub name : blank.name ≡ ledger
   pub parts : (blank.parts ≡ whole) × (blank.parts ≡ store.opening.limit + 1)
-  pub start : start_of_store store ≡ first
+  pub start : shared_as first.in_parts store ≡ first
 
 -- ---- how many sessions were made
 
@@ -84,11 +97,13 @@ sessions_made start entries = length (subjects_at start) + spawned (drop (length
 -- ---- what is behind the lock
 
 -- The store is the one that was shared, and has only gone on: opening and limits are as they were, and the journal begins
--- with the entries that it had.
+-- with the entries that it had. Where it may not be handed out in parts, none was handed out since.
 pub record GoesOn (start : SharedStart) (s : StoreState) : Type 0 where
   pub opening : s.opening ≡ start.opening
   pub earlier : take (length start.entries) s.entries ≡ start.entries
   pub limits : s.heap.table.limits ≡ start.limits
+  pub within : start.handed ≤ length start.entries
+  pub whole : start.in_parts ≡ false → s.handed ≡ start.handed
 
 -- This holds of some store that may have been behind the lock: of the shared one, gone on, which keeps the store's promise.
 abbrev pub AtSome : SharedStart → (StoreState → Type 0) → Type 0
@@ -98,13 +113,22 @@ AtSome start holds = (s : StoreState) × GoesOn start s × IsFaithful s × holds
 
 -- the same receipts
 abbrev pub KeepsReceipts : SessionState → SessionState → Type 0
-KeepsReceipts old new = (new.worker ≡ old.worker) × (new.receipts ≡ old.receipts)
+KeepsReceipts old new = (new.worker ≡ old.worker) × (new.receipts ≡ old.receipts) × (new.handed ≡ old.handed) × (new.parts ≡ old.parts)
 
 -- exactly one receipt more: at this place, with the session's worker, this deed and this reply
 abbrev pub AddsReceipt : SessionState → SessionState → ℕ → Deed → Reply → Type 0
 AddsReceipt old new at deed reply =
     (new.worker ≡ old.worker)
     × (new.receipts ≡ old.receipts ++ receipt_of at (record { worker = old.worker; deed = deed; reply = reply }) ∷ [])
+    × (new.handed ≡ old.handed)
+    × (new.parts ≡ old.parts)
+
+-- A session took over one that ended, and stands for both: what that one handed out counts as handed out by this one.
+pub record TakesOver (old ended new : SessionState) : Type 0 where
+  pub worker : new.worker ≡ old.worker
+  pub receipts : new.receipts ≡ old.receipts
+  pub handed : new.handed ≡ old.handed + ended.handed
+  pub parts : new.parts ≡ old.parts + ended.parts
 
 -- Exactly one receipt more, of an entry with this deed and this reply. The entry came next in the journal of a store that may
 -- have been behind the lock, and was legal there: the reply is the rules' answer on that store's graph.
@@ -137,9 +161,13 @@ pub record KeepsLocked {T E : Type 0} (old new : LockedState) (result : Result T
   pub refused : OnErr result (new ≡ old)
   pub sessions : new.sessions ≡ old.sessions
 
--- one session for each of the subjects, with no receipt
+-- a session that never had a receipt, and took none over
+abbrev pub IsFresh : SessionState → Type 0
+IsFresh s = (s.receipts ≡ []) × (s.handed ≡ 0) × (s.parts ≡ 1)
+
+-- one session for each of the subjects, none of which ever had a receipt
 abbrev pub AreFresh : List ℕ → List SessionState → Type 0
-AreFresh subjects sessions = (map (λ s. s.worker) sessions ≡ subjects) × All (λ s. s.receipts ≡ []) sessions
+AreFresh subjects sessions = (map (λ s. s.worker) sessions ≡ subjects) × All IsFresh sessions
 
 -- what holds of the value behind the lock: the book has counted the entries since the start, the parts of the ledger are
 -- the sessions' and the rest, and there are enough of them for a session of each vertex that may ever be made
@@ -171,6 +199,24 @@ pub record MayClose (entries : List Entry) (start : ℕ) (sessions : List Sessio
 -- how many receipts the sessions have
 abbrev pub count_of : List SessionState → ℕ
 count_of sessions = sum_by (λ s. length s.receipts) sessions
+
+-- how many they have handed out
+abbrev pub handed_of : List SessionState → ℕ
+handed_of sessions = sum_by (λ s. s.handed) sessions
+
+-- for how many sessions they stand
+abbrev pub parts_of : List SessionState → ℕ
+parts_of sessions = sum_by (λ s. s.parts) sessions
+
+-- the place from which on a store holds the entries that were made since it was shared
+abbrev pub held_from : SharedStart → StoreState → ℕ
+held_from start s = max (length start.entries) s.handed
+
+-- The session has all its receipts, part by part, each of which matches its part of the journal.
+pub record KeptInParts (parts : List Entries) (s : SessionState) : Type 0 where
+  pub lists : List (List Receipt)
+  pub each : MatchParts parts s.worker lists
+  pub all : s.receipts ≡ all_receipts lists
 
 -- The entries are shared out: each is of exactly one of the sessions, and the receipts of each session are all its
 -- entries, in their order, each once.

@@ -1,5 +1,5 @@
 //! The calls of a session, each under the lock.
-ghost use Rattle.std.specs.Prelude.{◌≡◌, ◌≢◌, ◌≤◌, ℕ, [], IfOk, IfErr, MatchResult, ⊤, length};
+ghost use Rattle.std.specs.Prelude.{◌≡◌, ◌≢◌, ◌≤◌, ℕ, IfOk, IfErr, MatchResult, ⊤, length};
 ghost use Rattle.tg_model.specs.Graph.{IsReachable, IsSubject};
 ghost use Rattle.tg_model.specs.Rules.{IsAllowed};
 ghost use Rattle.tg_model.specs.declared.command.Deed.TheVariants.{Create, Plain, Spawn};
@@ -9,7 +9,7 @@ ghost use Rattle.tg_rules.specs.Effect.{AddsEdge, LacksCellsToServe};
 ghost use Rattle.tg_store.specs.Held.{IsHeldOver};
 ghost use Rattle.tg_store.specs.Room.{LacksRoomToCollect};
 ghost use Rattle.tg_store.specs.Store.{IsCountOf, graph_of_store};
-ghost use Rattle.tg_shared.specs.Sessions.{AtSome, IsAnswered, KeepsReceipts, MayRefuseAtSome};
+ghost use Rattle.tg_shared.specs.Sessions.{AtSome, IsAnswered, IsFresh, KeepsReceipts, MayRefuseAtSome};
 
 use crate::round::Round;
 use crate::session::Session;
@@ -100,7 +100,7 @@ impl<L: Round> Session<L> {
         draft: Draft<P>,
     ) -> Result<Session<L>, CreateRefused<P>>
         ensures receipt { IfOk result (λ fresh. IsAnswered L.start self.old self.new (Spawn label draft.law draft.state) (Name fresh.worker)) }
-        ensures fresh { IfOk result (λ fresh. fresh.receipts ≡ []) }
+        ensures fresh { IfOk result IsFresh }
         ensures refusals { MayRefuseAtSome L.start (Spawn label draft.law draft.state) draft self.old self.new result }
         ensures workers_full { IfErr result (λ refused. refused.why ≡ CreateFault.WorkersFull → IsAnswered L.start self.old self.new (Spawn label draft.law draft.state) WorkersFull) }
         ensures refused { IfErr result (λ refused. refused.why ≢ CreateFault.VerticesFull → refused.why ≢ CreateFault.WorkersFull → KeepsReceipts self.old self.new) }

@@ -6,7 +6,7 @@ ghost use Rattle.tg_shared.specs.Sessions.{MatchesSince, MayClose};
 use crate::locked::Locked;
 use crate::receipt::{Receipt, receipts_match};
 use crate::round::Round;
-use crate::session::{Session, audit_all};
+use crate::session::{Session, audit_all, still_owed};
 use tg_journal::Journal;
 use tg_payload::Payload;
 use tg_store::Store;
@@ -15,7 +15,7 @@ use thiserror::Error;
 /// Why a round does not end. Nothing is changed by it.
 #[derive(Clone, Copy, PartialEq, Eq, Debug, Error)]
 pub enum CloseFault {
-    /// There are fewer sessions than were made.
+    /// There are fewer sessions than were made. One that took others over stands for these too.
     #[error("sessions are missing")]
     SessionsMissing,
     /// The receipts of a session don't match the journal, or one is of an entry that was made before the store was
@@ -33,35 +33,38 @@ pub struct LockedRefused<L: Round, P: Payload> {
 }
 
 impl<L: Round, P: Payload> Locked<L, P> {
-    ghost use Rattle.tg_shared.specs.Sessions.{AreSharedOut, GoesOn, MayClose, count_of};
+    ghost use Rattle.tg_shared.specs.Sessions.{AreSharedOut, GoesOn, MayClose, count_of, handed_of, held_from, parts_of};
 
     /// Ends a round: hands out the store, where all sessions are given back and their receipts are right. Then the journal
     /// has grown by as many entries as there are receipts, and they are shared out among the sessions.
     ///
-    /// `SessionsMissing` is answered exactly where there are fewer sessions than were made, and looked for first;
-    /// `ReceiptMismatch` exactly where there are as many, and they may not close. What was handed in then comes back. Takes
-    /// no memory.
+    /// `SessionsMissing` is answered exactly where the sessions stand for fewer than were made, and looked for first;
+    /// `ReceiptMismatch` exactly where they stand for as many, and may not close. What was handed in then comes back.
+    /// Takes no memory.
     pub fn close(mut self, mut sessions: Vec<Session<L>>) -> Result<Store<P>, LockedRefused<L, P>>
         ensures store { IfOk result (λ store. store ≡ self.store) }
-        ensures matching { OnOk result (MayClose self.store.entries (length L.start.entries) sessions.items) }
-        ensures all { OnOk result (length sessions.items ≡ self.sessions) }
-        ensures count { OnOk result (length self.store.entries ≡ length L.start.entries + count_of sessions.items) }
-        ensures shared_out { OnOk result (AreSharedOut (drop (length L.start.entries) self.store.entries) sessions.items) }
+        ensures matching { OnOk result (MayClose self.store.entries (held_from L.start self.store) sessions.items) }
+        ensures all { OnOk result (parts_of sessions.items ≡ self.sessions) }
+        ensures count { OnOk result (length self.store.entries ≡ length L.start.entries + handed_of sessions.items + count_of sessions.items) }
+        ensures shared_out { OnOk result (length L.start.entries + handed_of sessions.items ≡ held_from L.start self.store →
+            AreSharedOut (drop (held_from L.start self.store) self.store.entries) sessions.items) }
+        ensures none_handed { OnOk result (handed_of sessions.items ≡ 0 → held_from L.start self.store ≡ length L.start.entries) }
         ensures gone_on { GoesOn L.start self.store }
-        ensures missing { IsErrAnd result (λ refused. refused.why ≡ CloseFault.SessionsMissing) ↔ (length sessions.items < self.sessions) }
+        ensures missing { IsErrAnd result (λ refused. refused.why ≡ CloseFault.SessionsMissing) ↔ (parts_of sessions.items < self.sessions) }
         ensures mismatch { IsErrAnd result (λ refused. refused.why ≡ CloseFault.ReceiptMismatch) ↔
-            ((self.sessions ≤ length sessions.items) × (¬ MayClose self.store.entries (length L.start.entries) sessions.items)) }
+            ((self.sessions ≤ parts_of sessions.items) × (¬ MayClose self.store.entries (held_from L.start self.store) sessions.items)) }
         ensures counted { IfErr result (λ refused. refused.why ≡ CloseFault.ReceiptMismatch → length L.start.entries + count_of sessions.items ≤ length self.store.entries) }
         ensures handed_back { IfErr result (λ refused. (refused.locked ≡ self) × (refused.sessions.items ≡ sessions.items)) }
     {
-        if (sessions.len() as u64) < self.sessions {
+        if still_owed(self.sessions, sessions.as_slice()) > 0 {
             return Err(LockedRefused {
                 locked: self,
                 sessions,
                 why: CloseFault::SessionsMissing,
             });
         }
-        if !may_close(self.store.journal(), self.start, sessions.as_slice()) {
+        let since = self.start.max(self.store.journal().start());
+        if !may_close(self.store.journal(), since, sessions.as_slice()) {
             // It tells that each of their receipts was counted.
             audit_all(&mut self.book, &mut self.rest, sessions.as_mut_slice());
             return Err(LockedRefused {
@@ -87,12 +90,14 @@ impl<L: Round, P: Payload> Locked<L, P> {
 
 // Whether the sessions may close.
 fn may_close<L: Round>(journal: &Journal, start: u64, sessions: &[Session<L>]) -> bool
+    requires { journal.now.start ≤ start }
     ensures { IsTrue result ↔ MayClose journal.now.entries start sessions.now }
 {
     all_match(journal, start, sessions) && are_apart(sessions)
 }
 
 fn all_match<L: Round>(journal: &Journal, start: u64, sessions: &[Session<L>]) -> bool
+    requires { journal.now.start ≤ start }
     ensures { IsTrue result ↔ All (MatchesSince journal.now.entries start) sessions.now }
 {
     sessions
@@ -103,6 +108,7 @@ fn all_match<L: Round>(journal: &Journal, start: u64, sessions: &[Session<L>]) -
 // Whether the session's receipts match the journal, and none is of an entry before the start.
 #[tactic(auto, unfolding(crate::specs::Sessions::MatchesSince))]
 fn matches_since<L: Round>(journal: &Journal, start: u64, session: &Session<L>) -> bool
+    requires { journal.now.start ≤ start }
     ensures { IsTrue result ↔ MatchesSince journal.now.entries start session.now }
 {
     receipts_match(journal, session.worker(), session.receipts())

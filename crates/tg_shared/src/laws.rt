@@ -1,11 +1,14 @@
 //! What receipts say of a history. A function here does nothing: what it ensures is the law.
-ghost use Rattle.std.specs.Prelude.{◌≡◌, ℕ, List, take};
+ghost use Rattle.std.specs.Prelude.{◌≡◌, ◌≢◌, ◌≤◌, ◌+◌, ℕ, List, drop, false, length, take};
 ghost use Rattle.std.specs.List.{All, AllPairs, Contains};
 ghost use Rattle.tg_model.specs.Graph.{ProtectionGraph};
 ghost use Rattle.tg_journal.specs.declared.entry.Entry.{Entry};
 ghost use Rattle.tg_journal.specs.History.{IsLegal, IsLegalEntry, graph_after};
 ghost use Rattle.tg_shared.specs.declared.receipt.Receipt.{Receipt};
-ghost use Rattle.tg_shared.specs.Receipts.{ReceiptsMatch};
+ghost use Rattle.tg_journal.specs.Journal.{Entries};
+ghost use Rattle.tg_shared.specs.Receipts.{AreParts, MatchParts, ReceiptsMatch, all_receipts};
+ghost use Rattle.tg_shared.specs.Sessions.{AreSharedOut, GoesOn, KeptInParts, MayClose, SessionState, SharedStart, count_of, held_from, parts_of};
+ghost use Rattle.tg_store.specs.Store.{StoreState};
 
 /// The entry of each receipt that matches a legal history was answered by the rules, on the graph after all entries
 /// before it; and among these are the entries of all earlier receipts. So what a session reads stands after all that it
@@ -15,4 +18,40 @@ pub fn receipts_stand_in_order()
         IsLegal g entries → ReceiptsMatch entries worker receipts → All (λ r. IsLegalEntry (graph_after g (take r.at entries)) r.entry) receipts }
     ensures earlier { (entries : List Entry) (worker : ℕ) (receipts : List Receipt) →
         ReceiptsMatch entries worker receipts → AllPairs (λ r later. Contains (take later.at entries) r.entry) receipts }
+{}
+
+/// Where a journal was handed out in parts, each of which begins where the last one ends, and a worker's receipts of
+/// each part match it, all its receipts match the journal: those of the first part, then those of the second, and so
+/// on.
+pub fn receipts_of_parts_match()
+    ensures { (entries : List Entry) (parts : List Entries) (worker first : ℕ) (lists : List (List Receipt)) →
+        AreParts first entries parts → MatchParts parts worker lists →
+        ReceiptsMatch entries worker (all_receipts lists) × All (λ r. first ≤ r.at) (all_receipts lists) }
+{}
+
+/// Receipts that may close with a journal, as many as it has entries from a place on, share these out.
+pub fn as_many_receipts_share_out()
+    ensures { (entries : List Entry) (first : ℕ) (sessions : List SessionState) →
+        MayClose entries first sessions → length entries ≡ first + count_of sessions → AreSharedOut (drop first entries) sessions }
+{}
+
+/// What [`close`](crate::close) says of receipts, for who has kept all parts of a journal and all receipts of each of its
+/// sessions, whether these were taken over or not: where the receipts match part by part, no two sessions are of one worker, and
+/// there are as many receipts as entries, each entry stands in exactly one of them, and the receipts of each session are all its
+/// entries, in their order. The last part may be what the store still holds.
+pub fn kept_parts_share_out()
+    ensures { (entries : List Entry) (first : ℕ) (parts : List Entries) (sessions : List SessionState) →
+        AreParts first entries parts → All (KeptInParts parts) sessions → AllPairs (λ s t. s.worker ≢ t.worker) sessions →
+        length entries ≡ first + count_of sessions → AreSharedOut (drop first entries) sessions }
+{}
+
+/// Of a store that was shared whole, no entry made since is handed out while it is shared. So where `close` says from which place
+/// on it has looked, that is the place where the store was shared.
+pub fn a_whole_journal_is_held()
+    ensures { (start : SharedStart) (s : StoreState) → GoesOn start s → start.in_parts ≡ false → held_from start s ≡ length start.entries }
+{}
+
+/// Sessions that took no other over stand for as many as they are.
+pub fn each_stands_for_itself()
+    ensures { (sessions : List SessionState) → All (λ s. s.parts ≡ 1) sessions → parts_of sessions ≡ length sessions }
 {}

@@ -24,6 +24,12 @@
 //! A session may make a subject, and is answered its session ([`Session::spawn`]), which is owed to [`close`] like the others. A
 //! subject that retires makes no entry any more; its session is owed all the same.
 //!
+//! A service that goes on for years takes the journal and the receipts in parts: who shares the store so has its
+//! [`Keeper`], who takes the entries while the sessions go on, and each session hands its receipts out
+//! ([`Session::take_receipts`]), to be looked at with the part that has their entries ([`receipts_match`]; [`laws`]
+//! join the parts). One that is done goes into another ([`Session::take_over`]). Of a store that is shared whole nothing
+//! is handed out before it is closed.
+//!
 //! The book is that of a ledger ([`std::sync::ledger`]). That there are as many receipts as entries, where a close succeeds,
 //! is told by 'Why the count is known at the close' in docs/ARCHITECTURE.md.
 //!
@@ -35,6 +41,7 @@
 mod call;
 mod closing;
 mod helpers;
+mod keeper;
 pub mod laws;
 mod locked;
 mod receipt;
@@ -44,6 +51,7 @@ mod session;
 mod shared;
 
 pub use closing::{CloseFault, LockedRefused};
+pub use keeper::Keeper;
 pub use locked::Locked;
 pub use receipt::{Receipt, receipts_match};
 pub use round::Round;

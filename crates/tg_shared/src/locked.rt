@@ -1,5 +1,5 @@
 //! The value behind the lock, and what each call does to it.
-ghost use Rattle.std.specs.Prelude.{◌≡◌, ◌≢◌, ◌↔◌, ◌⊎◌, ◌<◌, ◌≤◌, ◌+◌, [], Err, Some, IfOk, IfErr, IsErrAnd, OnOk, OnErr, length};
+ghost use Rattle.std.specs.Prelude.{◌≡◌, ◌≢◌, ◌↔◌, ◌⊎◌, ◌<◌, ◌≤◌, ◌+◌, ◌^◌, Err, Some, true, IfOk, IfErr, IsErrAnd, OnOk, OnErr, length};
 ghost use Rattle.tg_subjects.specs.Subjects.{names_of};
 ghost use Rattle.tg_shared.specs.Sessions.{AreFresh, reply_entered};
 
@@ -8,7 +8,7 @@ use crate::session::Session;
 use std::alloc::{AllocError, Global};
 use std::marker::Model;
 use std::sync::ledger::{Blank, Book, Share};
-use tg_journal::Entry;
+use tg_journal::{Entry, Journal};
 use tg_model::{Command, Deed, Reply};
 use tg_payload::{Draft, Payload};
 use tg_rights::Label;
@@ -50,8 +50,8 @@ impl<L: Round, P: Payload> Locked<L, P> {
     ghost use Rattle.tg_store.specs.Held.{IsHeldOver};
     ghost use Rattle.tg_store.specs.Made.{IsMadeFor, MayRefuse};
     ghost use Rattle.tg_store.specs.Room.{LacksRoomToCollect};
-    ghost use Rattle.tg_store.specs.Store.{HasFewBlocks, IsFaithful, StandsFor};
-    ghost use Rattle.tg_shared.specs.Sessions.{AreFresh, GoesOn, KeepsLocked, MayNote, MayShare, Records, RecordsNothing, sessions_made, subjects_at};
+    ghost use Rattle.tg_store.specs.Store.{HandsOut, HasFewBlocks, IsFaithful, StandsFor};
+    ghost use Rattle.tg_shared.specs.Sessions.{AreFresh, GoesOn, IsFresh, KeepsLocked, MayNote, MayShare, Records, RecordsNothing, sessions_made, subjects_at};
 
     /// The store. What holds whenever the lock is free is told here: the store's own promise, that its journal is a legal
     /// history of its opening and its heap stands for the graph after it; and it is the store that was shared, gone on: with its
@@ -112,6 +112,7 @@ impl<L: Round, P: Payload> Locked<L, P> {
             IsAllowed g session.old.worker (Deed.Plain command) × AddsEdge command × LacksCellsToServe self.old.store.heap.table (nursery_of self.old.store.heap session.old.worker) session.old.worker command }
         ensures refused { OnErr result (RecordsNothing self.old.store self.new.store session.old session.new) }
         ensures opening { self.new.store.opening ≡ self.old.store.opening }
+        ensures handed { self.new.store.handed ≡ self.old.store.handed }
         ensures limits { self.new.store.heap.table.limits ≡ self.old.store.heap.table.limits }
         ensures sessions { self.new.sessions ≡ self.old.sessions }
     {
@@ -185,7 +186,7 @@ impl<L: Round, P: Payload> Locked<L, P> {
     ) -> Result<Session<L>, CreateRefused<P>>
         requires notable { MayNote session.old draft.state }
         ensures entry { IfOk result (λ fresh. Records self.old.store self.new.store session.old session.new (Deed.Spawn label draft.law draft.state) (Reply.Name fresh.worker)) }
-        ensures fresh { IfOk result (λ fresh. fresh.receipts ≡ []) }
+        ensures fresh { IfOk result IsFresh }
         ensures made { IfOk result (λ fresh. IsMadeFor (Deed.Spawn label draft.law draft.state) session.old.worker label draft self.old.store self.new.store fresh.worker) }
         ensures refusals { MayRefuse (Deed.Spawn label draft.law draft.state) session.old.worker draft self.old.store self.new.store result }
         ensures no_more_entry { IfErr result (λ refused. refused.why ≡ CreateFault.VerticesFull →
@@ -238,6 +239,18 @@ impl<L: Round, P: Payload> Locked<L, P> {
         self.store.label(session.worker(), target)
     }
 
+    /// Hands out the entries that the store holds, by one call of the store, where it was shared so as to be handed out in
+    /// parts. No session is touched: its receipts are of the entries that they were of, wherever these are.
+    pub fn take_journal(&mut self) -> Journal
+        requires in_parts { L.start.in_parts ≡ true }
+        ensures entries { result.entries ≡ self.old.store.entries }
+        ensures start { result.start ≡ self.old.store.handed }
+        ensures handed_out { HandsOut self.old.store self.new.store }
+        ensures sessions { self.new.sessions ≡ self.old.sessions }
+    {
+        self.store.take_journal()
+    }
+
     /// Collects the heap, by one call of the store. The journal stays as it is, and no session is touched.
     pub fn collect(&mut self, kind: Kind) -> Result<u64, RoomFault>
         ensures swept { IfOk result (IsSwept kind self.old.store self.new.store) }
@@ -273,7 +286,7 @@ fn sessions_of<L: Round>(
     rest: &mut Share<L>,
     subjects: &[Subject],
 ) -> Result<Vec<Session<L>>, AllocError>
-    requires { (length subjects.now < rest.old.parts) × (rest.old.amount ≡ 0) }
+    requires { (length subjects.now < rest.old.parts) × (rest.old.amount ≡ 0) × (L.parts < 2 ^ 64) }
     ensures fresh { IfOk result (λ sessions. AreFresh (names_of subjects.now) sessions.items) }
     ensures rest { OnOk result ((rest.new.parts + length subjects.now ≡ rest.old.parts) × (rest.new.amount ≡ 0)) }
 {

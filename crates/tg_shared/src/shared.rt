@@ -1,9 +1,10 @@
 //! The store behind its lock, from sharing it to closing it.
 ghost use Rattle.std.specs.Prelude.{◌≡◌, ◌<◌, ◌≤◌, ◌+◌, IfOk, IfErr, IsErrAnd, drop, length};
 ghost use Rattle.tg_store.specs.Store.{IsFaithful};
-ghost use Rattle.tg_shared.specs.Sessions.{AreFresh, AreSharedOut, AtSome, GoesOn, MayClose, count_of, sessions_made, subjects_at};
+ghost use Rattle.tg_shared.specs.Sessions.{AreFresh, AreSharedOut, AtSome, GoesOn, MayClose, count_of, handed_of, held_from, parts_of, sessions_made, subjects_at};
 
 use crate::closing::{CloseFault, LockedRefused};
+use crate::keeper::Keeper;
 use crate::locked::Locked;
 use crate::round::Round;
 use crate::session::Session;
@@ -19,11 +20,12 @@ pub struct SharedStore<L: Round, P: Payload> {
     pub(crate) locked: Mutex<Locked<L, P>>,
 }
 
-/// A shared store with its sessions, one for each active subject, by rising name.
+/// A shared store with its sessions, one for each active subject, by rising name, and with its one keeper.
 #[derive(Drop)]
 pub struct Shared<L: Round, P: Payload> {
     pub store: SharedStore<L, P>,
     pub sessions: Vec<Session<L>>,
+    pub keeper: Keeper<L>,
 }
 
 /// There was no memory for the sessions. The store comes back as it was; the blank is spent.
@@ -47,6 +49,9 @@ impl<L: Round, P: Payload> SharedStore<L, P> {
 
     /// Shares a store: puts it behind a lock, and makes a session for each active subject of the graph that it stands for. The
     /// blank is spent, and has to have one part more than vertices may be made. Fails only when out of memory.
+    ///
+    /// The round's start says whether the journal stays whole (`start_of_store`), or may be handed out in parts while it is
+    /// shared (`start_in_parts`).
     pub fn new(
         alloc: Global,
         blank: Blank,
@@ -62,6 +67,7 @@ impl<L: Round, P: Payload> SharedStore<L, P> {
                     locked: Mutex::new(locked),
                 },
                 sessions,
+                keeper: Keeper::new(),
             }),
             Err(store) => Err(SharedRefused { store }),
         }
@@ -88,26 +94,29 @@ impl<L: Round, P: Payload> SharedStore<L, P> {
 /// them, and the receipts of each session are all its entries, in their order. It is the store that was shared, with its
 /// opening, its limits and the entries that it had. It is [`SharedStore::into_locked`] and [`Locked::close`] in a row.
 ///
-/// `SessionsMissing` is looked for first. Where it is answered, more sessions were made than were handed in, by a journal that may
-/// have been behind the lock; fewer than there were subjects when the store was shared are always refused so; and where a round
-/// ends, exactly as many were handed in as its journal says: one for each subject of then, and one for each that was made since.
-/// `ReceiptMismatch` is answered only where the sessions may not close with some journal that may have been behind the lock, and that has
-/// grown by as many entries at least as they have receipts. A caller who wants to know of the very journal takes the two
-/// calls. Store and sessions then come back. Takes no memory, and no lock is waited for.
+/// `SessionsMissing` is looked for first. Where it is answered, more sessions were made than those handed in stand for,
+/// by a journal that may have been behind the lock; fewer than there were subjects when the store was shared are always
+/// refused so; and where a round ends, they stand for exactly as many as its journal says: one for each subject of
+/// then, and one for each that was made since. `ReceiptMismatch` is answered only where the sessions may not close with
+/// some journal that may have been behind the lock, and that has grown by as many entries at least as they have
+/// receipts. A caller who wants to know of the very journal takes the two calls. Store and sessions then come back.
+/// Takes no memory, and no lock is waited for.
 pub fn close<L: Round, P: Payload>(
     store: SharedStore<L, P>,
     sessions: Vec<Session<L>>,
 ) -> Result<Store<P>, CloseRefused<L, P>>
-    ensures matching { IfOk result (λ store. MayClose store.entries (length L.start.entries) sessions.items) }
-    ensures count { IfOk result (λ store. length store.entries ≡ length L.start.entries + count_of sessions.items) }
-    ensures shared_out { IfOk result (λ store. AreSharedOut (drop (length L.start.entries) store.entries) sessions.items) }
+    ensures matching { IfOk result (λ store. MayClose store.entries (held_from L.start store) sessions.items) }
+    ensures count { IfOk result (λ store. length store.entries ≡ length L.start.entries + handed_of sessions.items + count_of sessions.items) }
+    ensures shared_out { IfOk result (λ store. length L.start.entries + handed_of sessions.items ≡ held_from L.start store →
+        AreSharedOut (drop (held_from L.start store) store.entries) sessions.items) }
+    ensures none_handed { IfOk result (λ store. handed_of sessions.items ≡ 0 → held_from L.start store ≡ length L.start.entries) }
     ensures faithful { IfOk result IsFaithful }
     ensures gone_on { IfOk result (GoesOn L.start) }
-    ensures all { IfOk result (λ store. length sessions.items ≡ sessions_made L.start store.entries) }
-    ensures missing { IfErr result (λ refused. refused.why ≡ CloseFault.SessionsMissing → AtSome L.start (λ s. length sessions.items < sessions_made L.start s.entries)) }
-    ensures too_few { length sessions.items < length (subjects_at L.start) → IsErrAnd result (λ refused. refused.why ≡ CloseFault.SessionsMissing) }
+    ensures all { IfOk result (λ store. parts_of sessions.items ≡ sessions_made L.start store.entries) }
+    ensures missing { IfErr result (λ refused. refused.why ≡ CloseFault.SessionsMissing → AtSome L.start (λ s. parts_of sessions.items < sessions_made L.start s.entries)) }
+    ensures too_few { parts_of sessions.items < length (subjects_at L.start) → IsErrAnd result (λ refused. refused.why ≡ CloseFault.SessionsMissing) }
     ensures mismatch { IfErr result (λ refused. refused.why ≡ CloseFault.ReceiptMismatch → AtSome L.start (λ s.
-        (length L.start.entries + count_of sessions.items ≤ length s.entries) × (¬ MayClose s.entries (length L.start.entries) sessions.items))) }
+        (length L.start.entries + count_of sessions.items ≤ length s.entries) × (¬ MayClose s.entries (held_from L.start s) sessions.items))) }
     ensures handed_back { IfErr result (λ refused. refused.sessions.items ≡ sessions.items) }
 {
     let locked = store.into_locked();

@@ -5,6 +5,7 @@ mod MakingLaws
 mod DifferenceLaws
 mod HeldLaws
 pub mod HistoryLaws
+pub mod HandLaws
 mod ReadLaws
 pub mod RoomLaws
 pub mod StandLaws

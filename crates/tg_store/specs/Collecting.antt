@@ -29,6 +29,7 @@ pub record IsSwept (kind : Kind) (old new : StoreState) (count : ℕ) : Type 0 w
 -- What a collection leaves as it was, whatever comes of it: the opening, the limits and the journal; and where it is refused, all.
 pub record KeepsHistory {T E : Type 0} (old new : StoreState) (result : Result T E) : Type 0 where
   pub entries : new.entries ≡ old.entries
+  pub handed : new.handed ≡ old.handed
   pub refused : OnErr result (new ≡ old)
   pub opening : new.opening ≡ old.opening
   pub limits : new.heap.table.limits ≡ old.heap.table.limits

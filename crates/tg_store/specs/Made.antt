@@ -33,4 +33,5 @@ pub record MayRefuse {P T : Type 0} (deed : Deed) (worker : ℕ) (value : Value)
   pub same_graph : (g : ProtectionGraph) → StandsFor old g → OnErr result (StandsFor new g)
   pub handed_back : IfErr result (λ refused. refused.draft ≡ value)
   pub opening : new.opening ≡ old.opening
+  pub handed : new.handed ≡ old.handed
   pub limits : new.heap.table.limits ≡ old.heap.table.limits

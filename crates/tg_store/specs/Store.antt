@@ -17,10 +17,12 @@ use Rattle.tg_graph.specs.Heap.{HeapState, content_of}
 use Rattle.tg_graph.specs.Kept.{AreWritten, rewritten_at}
 use Rattle.tg_graph.specs.Standing as standing
 
--- What a store holds: the opening that it was opened with, the entries of its journal, oldest first, and its heap.
+-- What a store is: the opening that it was opened with, all entries that were made since, oldest first, how many of these were handed
+-- out or given up, and its heap. The store holds the entries from that number on; which those before it are, clauses alone say.
 pub record StoreState : Type 0 where
   pub opening : Plan
   pub entries : List Entry
+  pub handed : ℕ
   pub heap : HeapState
 
 -- the graph that was never collected: the opening's, after the deeds of all entries
@@ -54,13 +56,26 @@ Enters old new worker deed reply = new.entries ≡ old.entries ++ (record { work
 pub record OnlyEnters (old new : StoreState) (worker : ℕ) (deed : Deed) (reply : Reply) : Type 0 where
   pub entry : Enters old new worker deed reply
   pub opening : new.opening ≡ old.opening
+  pub handed : new.handed ≡ old.handed
   pub heap : new.heap ≡ old.heap
 
 -- the two stores are the same but for room for more payloads
 pub record IsUnchanged (old new : StoreState) : Type 0 where
   pub opening : new.opening ≡ old.opening
   pub entries : new.entries ≡ old.entries
+  pub handed : new.handed ≡ old.handed
   pub heap : graph.IsUnchangedHeap old.heap new.heap
+
+-- The store holds the entries from a place on, and nothing else changed: those before it were handed out or given up.
+pub record HoldsFrom (first : ℕ) (old new : StoreState) : Type 0 where
+  pub entries : new.entries ≡ old.entries
+  pub handed : new.handed ≡ first
+  pub opening : new.opening ≡ old.opening
+  pub heap : new.heap ≡ old.heap
+
+-- the same of all that were made: none is held any more
+abbrev pub HandsOut : StoreState → StoreState → Type 0
+HandsOut old new = HoldsFrom (length old.entries) old new
 
 -- What a collection made stands in the place of what it moved: of a full one it is all that there is; a nursery collection has
 -- written the remembered cells besides.

@@ -81,6 +81,7 @@ pub(crate) fn deed_to_enter(
     ensures deed { IfOk result (λ deed. deed ≡ deed_making kind label value.now) }
     ensures room { OnOk result (0 < journal.new.spare) }
     ensures entries { journal.new.entries ≡ journal.old.entries }
+    ensures start { journal.new.start ≡ journal.old.start }
 {
     journal.reserve()?;
     Ok(kind.deed(label, value.copy(alloc)?))

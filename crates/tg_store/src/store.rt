@@ -39,9 +39,9 @@ impl<P: Payload> Model for Store<P> {
 
     ghost Value = { StoreState };
 
-    ghost view = { λ a. record { opening = a.opening; entries = a.journal.entries; heap = a.heap } };
+    ghost view = { λ a. record { opening = a.opening; entries = a.journal.entries; handed = a.journal.start; heap = a.heap } };
 
-    ghost invariant = { λ a. IsStore (record { opening = a.opening; entries = a.journal.entries; heap = a.heap }) a.made };
+    ghost invariant = { λ a. IsStore (record { opening = a.opening; entries = a.journal.entries; handed = a.journal.start; heap = a.heap }) a.made };
 }
 
 impl<P: Payload> Store<P> {
@@ -68,7 +68,7 @@ impl<P: Payload> Store<P> {
     ghost use Rattle.tg_store.specs.Making.{IsLimitMet, deed_making};
     ghost use Rattle.tg_store.specs.declared.making.Limit.{Limit as LimitOf};
     ghost use Rattle.tg_store.specs.Room.{LacksRoomToCollect};
-    ghost use Rattle.tg_store.specs.Store.{Enters, HasAdopted, HasFewBlocks, IsFaithful, IsUnchanged, OnlyEnters, StandsFor, graph_of_store};
+    ghost use Rattle.tg_store.specs.Store.{Enters, HandsOut, HasAdopted, HasFewBlocks, HoldsFrom, IsFaithful, IsUnchanged, OnlyEnters, StandsFor, graph_of_store};
 
     /// A store that starts from the opening, with the payloads of the drafts, one for each worker, and with no entry in
     /// its journal. Its heap takes a block for each worker and no more. `PayloadMismatch` is answered exactly where the
@@ -84,6 +84,7 @@ impl<P: Payload> Store<P> {
         ensures start { IfOk result (λ store. StandsFor store (start_of opening)) }
         ensures opening { IfOk result (λ store. store.opening ≡ opening) }
         ensures no_entry { IfOk result (λ store. store.entries ≡ []) }
+        ensures none_handed { IfOk result (λ store. store.handed ≡ 0) }
         ensures limits { IfOk result (λ store. store.heap.table.limits ≡ limits) }
         ensures blocks { IfOk result (λ store. block_count store.heap.table.spaces ≡ opening.workers) }
         ensures mismatch { (at : ℕ) → IsErrAnd result (λ refused. refused.why ≡ OpenFault.PayloadMismatch at) ↔ IsFirstDifference opening.values drafts.items at }
@@ -136,9 +137,35 @@ impl<P: Payload> Store<P> {
     /// history of the opening, and the heap stands for the graph after it. Takes no memory.
     pub fn journal(&self) -> &Journal
         ensures entries { result.now.entries ≡ self.now.entries }
+        ensures start { result.now.start ≡ self.now.handed }
+        ensures within { self.now.handed ≤ length self.now.entries }
         ensures faithful { IsFaithful self.now }
     {
+        // It tells that no more were handed out than were made.
+        let _ = self.journal.start();
         &self.journal
+    }
+
+    /// Hands out the entries that the store holds, as a journal that begins with the place of the first, and goes on
+    /// with none: the next entry gets the next place, and the graph that the store stands for is as it was. So a caller
+    /// who keeps what is handed out has all entries, and one who gives it up bounds what a store's journal takes. Takes
+    /// no memory, and looks at no entry.
+    pub fn take_journal(&mut self) -> Journal
+        ensures entries { result.entries ≡ self.old.entries }
+        ensures start { result.start ≡ self.old.handed }
+        ensures handed_out { HandsOut self.old self.new }
+    {
+        self.journal.take(self.alloc)
+    }
+
+    /// Gives up the entries before a place, which has to be that of an entry that the store holds, or the next. The
+    /// graph that the store stands for is as it was. It keeps the journal's room, so a store whose entries are given up
+    /// as it goes makes no more room for them. Takes no memory; a call costs what it gives up, spread over calls.
+    pub fn forget(&mut self, upto: u64)
+        requires { (self.old.handed ≤ upto) × (upto ≤ length self.old.entries) }
+        ensures { HoldsFrom upto self.old self.new }
+    {
+        self.journal.forget(upto);
     }
 
     /// How many vertices, payloads and blocks the heap has. Takes no memory.
@@ -172,6 +199,7 @@ impl<P: Payload> Store<P> {
             IsAllowed g worker (Deed.Plain command) × AddsEdge command × LacksCellsToServe self.old.heap.table (nursery_of self.old.heap worker) worker command }
         ensures refused { OnErr result (IsUnchanged self.old self.new) }
         ensures opening { self.new.opening ≡ self.old.opening }
+        ensures handed { self.new.handed ≡ self.old.handed }
         ensures limits { self.new.heap.table.limits ≡ self.old.heap.table.limits }
     {
         let Some(subject) = self.heap.subject(worker) else {

@@ -89,8 +89,8 @@ abbrev pub runner_named : ℕ → ℕ → Option ℕ
 runner_named workers x = if nat_lt x workers then Some x else None
 
 -- a session that keeps its receipts gets none
-none_more : (old new : SessionState) → KeepsReceipts old new → (new.worker ≡ old.worker) × (new.receipts ≡ old.receipts ++ [])
-none_more old new keeps = (keeps.0, keeps.1 ∙ sym (append-nil old.receipts))
+none_more : (old new : SessionState) → KeepsReceipts old new → (new.worker ≡ old.worker) × (new.receipts ≡ old.receipts ++ []) × (new.handed ≡ old.handed)
+none_more old new keeps = (keeps.0, keeps.1 ∙ sym (append-nil old.receipts), keeps.2)
 
 -- the line's worker is the session's, whose lines are run
 served_by : (workers x : ℕ) (served : ℕ → Bool) (old : SessionState) → runner_named workers x ≡ Some old.worker → served old.worker ≡ true → served x ≡ true
@@ -109,11 +109,11 @@ pub asked_runs : (helpers workers x : ℕ) (served : ℕ → Bool) (command : Co
     HasAsked (deed.Plain command) t old new → HasRun helpers served (record { line = line.Plain x command; value = box }) t old new
 asked_runs helpers workers x served command box (came.Entered at) old new is by h =
     let e : Entry = record { worker = old.worker; deed = deed.Plain command; reply = h.0 } in
-    (receipt_of at e ∷ [], h.1.0, h.1.1, (e, refl, asked_told workers x served (deed.Plain command) (Some e) (answer.Reply h.0) old by is (refl, refl, refl)))
+    (receipt_of at e ∷ [], h.1.0, h.1.1, h.1.2, (e, refl, asked_told workers x served (deed.Plain command) (Some e) (answer.Reply h.0) old by is (refl, refl, refl)))
 asked_runs helpers workers x served command box (came.Collected kept) old new is by h = absurd h
 asked_runs helpers workers x served command box (came.Refused r) old new is by h =
     let k = none_more old new h.1 in
-    ([], k.0, k.1, (refl, asked_told workers x served (deed.Plain command) None (answer.Refused r) old by is (r, h.0, refl)))
+    ([], k.0, k.1, k.2, (refl, asked_told workers x served (deed.Plain command) None (answer.Refused r) old by is (r, h.0, refl)))
 
 -- the same of a deed that makes a vertex
 pub made_runs : (helpers workers x : ℕ) (served : ℕ → Bool) (b : Boxed) (making : Value → Deed) (t : Told) (old new : SessionState) → served old.worker ≡ true → runner_named workers x ≡ Some old.worker →
@@ -130,7 +130,7 @@ made_runs helpers workers x served b making t old new is by tells h = by_box b.v
       let k = none_more old new h.1 in
       let told : Tells helpers served b.line b.value None (answer.Refused refusal.Stock) = tells None (answer.Refused refusal.Stock)
       (as_served (served x) (IsMade x making b.value None (answer.Refused refusal.Stock)) None (answer.Refused refusal.Stock) on (subst (λ box. IsMade x making box None (answer.Refused refusal.Stock)) (sym none) (refl, refl))) in
-      ([], k.0, k.1, subst (λ a. RunsOne helpers served b a []) (sym h.0) (refl, told))
+      ([], k.0, k.1, k.2, subst (λ a. RunsOne helpers served b a []) (sym h.0) (refl, told))
   by_box (Some value) some h = by_told t h where
     as_told : (e : Option Entry) (a : Answer) → EntersOrRefuses old.worker (making value) e a → Tells helpers served b.line b.value e a
     as_told e a h =
@@ -140,11 +140,11 @@ made_runs helpers workers x served b making t old new is by tells h = by_box b.v
     by_told : (t : Told) → HasAsked (making value) t old new → HasRun helpers served b t old new
     by_told (came.Entered at) h =
         let e : Entry = record { worker = old.worker; deed = making value; reply = h.0 } in
-        (receipt_of at e ∷ [], h.1.0, h.1.1, (e, refl, as_told (Some e) (answer.Reply h.0) (refl, refl, refl)))
+        (receipt_of at e ∷ [], h.1.0, h.1.1, h.1.2, (e, refl, as_told (Some e) (answer.Reply h.0) (refl, refl, refl)))
     by_told (came.Collected kept) h = absurd h
     by_told (came.Refused r) h =
         let k = none_more old new h.1 in
-        ([], k.0, k.1, (refl, as_told None (answer.Refused r) (r, h.0, refl)))
+        ([], k.0, k.1, k.2, (refl, as_told None (answer.Refused r) (r, h.0, refl)))
 
 -- a line that isn't refused, and asks for a deed, is of a worker whose lines are run
 pub served_of : (served : Bool) (l : Line) (refused : Bool) → refused ≡ (if served then false else is_deed l) → refused ≡ false → is_deed l ≡ true → served ≡ true
@@ -153,8 +153,8 @@ served_of false l refused is not_refused asks = absurd (false≢true (sym not_re
 
 pub full_runs : (helpers : ℕ) (served : ℕ → Bool) (box : Option Value) (t : Told) (s : SessionState) → HasCollected helpers kind.Full t → HasRun helpers served (record { line = line.Full; value = box }) t s s
 full_runs helpers served box (came.Entered at) s h = absurd h
-full_runs helpers served box (came.Collected kept) s h = ([], refl, sym (append-nil s.receipts), (refl, (h.0, (refl, inl (ap answer.Collected h.1)))))
-full_runs helpers served box (came.Refused r) s h = ([], refl, sym (append-nil s.receipts), (refl, (0, (refl, inr (r, h, refl)))))
+full_runs helpers served box (came.Collected kept) s h = ([], refl, sym (append-nil s.receipts), refl, (refl, (h.0, (refl, inl (ap answer.Collected h.1)))))
+full_runs helpers served box (came.Refused r) s h = ([], refl, sym (append-nil s.receipts), refl, (refl, (0, (refl, inr (r, h, refl)))))
 
 -- ---- many lines
 
@@ -195,6 +195,7 @@ all_next {X = X} P xs x ys all is h = go xs (subst (All P) (sym is) h) where
 -- Lines of worker x were run, came to this, and its lines are run behind them or not.
 pub record HasRunSo (helpers workers x : ℕ) (served : Bool) (bs : List Boxed) (ts : List Told) (s : SessionState) : Type 0 where
   pub worker : s.worker ≡ x
+  pub handed : s.handed ≡ 0
   pub runs : Runs helpers (has_thread workers) bs ts s.receipts
   pub behind : served_after (has_thread workers) bs ts x ≡ served
 
@@ -206,9 +207,10 @@ run_more helpers workers x served next bs ts old new b t held by step past =
     let before : ℕ → Bool = served_after (has_thread workers) bs ts in
     let h = step before (ap before held.worker ∙ held.behind) (subst (λ n. IsRunBy workers n b) (sym held.worker) by) in
     let worker : new.worker ≡ x = h.1 ∙ held.worker in
-    let more = runs_more helpers (has_thread workers) bs ts old.receipts b t h.0 held.runs h.3 in
+    let more = runs_more helpers (has_thread workers) bs ts old.receipts b t h.0 held.runs h.4 in
     record {
       worker = worker;
+      handed = h.3 ∙ held.handed;
       runs = subst (λ r. Runs helpers (has_thread workers) (bs ++ b ∷ []) (ts ++ t ∷ []) r) (sym h.2) more.0;
       behind = (λ i. more.1 i x) ∙ ap (λ n. served_past before b.line t n) (sym worker) ∙ sym (past before (ap before worker ∙ held.behind));
     }

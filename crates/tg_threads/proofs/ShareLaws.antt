@@ -3,7 +3,7 @@ use Rattle.std.proofs.Common.{◌≡◌, ℕ, true, List, [], ◌∷◌, map, re
 use Rattle.std.specs.List.{All, range_with_len}
 use Rattle.std.proofs.lemmas.Simd.{map-map}
 use Rattle.std.proofs.lemmas.List.Elements.{All-nil, All-cons, All-head, All-tail, All-weaker, filter_passes}
-use Rattle.tg_shared.specs.Sessions.{SessionState, AreFresh}
+use Rattle.tg_shared.specs.Sessions.{SessionState, AreFresh, IsFresh}
 use Rattle.tg_weave.specs.declared.work.Work.{Work}
 use Rattle.tg_weave.specs.Boxes.{Boxed}
 use Rattle.tg_weave.specs.Shares.{is_run_by, lines_of, all_lines, lines_in}
@@ -37,9 +37,8 @@ mapped_each : {X Y : Type 0} (f : X → Y) (P : Y → Type 0) (xs : List X) → 
 mapped_each f P [] h = All-nil (λ x. P (f x))
 mapped_each f P (x ∷ xs) h = All-cons (λ x. P (f x)) x xs (All-head P (f x) (map f xs) h) (mapped_each f P xs (All-tail P (f x) (map f xs) h))
 
--- their sessions have no receipts yet
-pub works_fresh : {P : Type 0} (xs : List ℕ) (works : List (Work SessionState P)) (sessions : List SessionState) → AreFresh xs sessions → map (λ w. w.session) works ≡ sessions → All (λ w. w.session.receipts ≡ []) works
+-- their sessions never had a receipt
+pub works_fresh : {P : Type 0} (xs : List ℕ) (works : List (Work SessionState P)) (sessions : List SessionState) → AreFresh xs sessions → map (λ w. w.session) works ≡ sessions → All (λ w. IsFresh w.session) works
 works_fresh {P = P} xs works sessions fresh is =
     let session : Work SessionState P → SessionState = λ w. w.session in
-    let Fresh : SessionState → Type 0 = λ s. s.receipts ≡ [] in
-    mapped_each session Fresh works (subst (All Fresh) (sym is) fresh.1)
+    mapped_each session IsFresh works (subst (All IsFresh) (sym is) fresh.1)

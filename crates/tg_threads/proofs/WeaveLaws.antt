@@ -14,7 +14,7 @@ use Rattle.tg_text.specs.declared.answer.Refusal.TheVariants as refusal
 use Rattle.tg_script.specs.Opening.{IsCommand}
 use Rattle.tg_shared.specs.declared.receipt.Receipt.{Receipt}
 use Rattle.tg_shared.specs.Receipts.{Stands}
-use Rattle.tg_shared.specs.Sessions.{SessionState, MatchesSince, MayClose, AreSharedOut}
+use Rattle.tg_shared.specs.Sessions.{SessionState, IsFresh, MatchesSince, MayClose, AreSharedOut, handed_of}
 use Rattle.tg_weave.specs.declared.task.Told.{Told}
 use Rattle.tg_weave.specs.declared.task.Told.TheVariants as came
 use Rattle.tg_weave.specs.declared.work.Finished.{Finished}
@@ -49,6 +49,7 @@ record IsBrought (helpers workers : ℕ) (bs : List Boxed) (all : List (Finished
   worker : f.session.worker ≡ x
   runs : Runs helpers (has_thread workers) (lines_of workers x bs) f.told.items f.session.receipts
   none : HaveNone f.spawned.items
+  handed : f.session.handed ≡ 0
 
 brought : (helpers workers : ℕ) (bs : List Boxed) (all : List (Finished SessionState)) → AllBring helpers workers (all_assigned workers bs) all → (x : ℕ) → x < workers → (f : Finished SessionState) × IsBrought helpers workers bs all x f
 brought helpers workers bs all h x low =
@@ -58,7 +59,7 @@ brought helpers workers bs all h x low =
     slice_get-get_or (all_assigned workers bs) x (0, []) (omega (arith, low, long)) ∙ ap (λ a. Some a) (get_or-map-range_with_len as_given 0 workers x x (0, []) low (omega arith)) in
     let b = brings_at helpers workers (all_assigned workers bs) all x (as_given x) h at in
     let ran = b.2 low (own_lines workers x bs) in
-    (b.0, record { at = b.1; worker = ran.0; runs = ran.1; none = ran.2 })
+    (b.0, record { at = b.1; worker = ran.0; runs = ran.1; none = ran.2; handed = ran.3 })
 
 -- ---- as many as there were lines
 
@@ -191,7 +192,7 @@ none_past workers x k (f ∷ all) past each few =
     (λ i low. let next = each (suc i) (omega (arith, low)) in (next.0, next.1, next.2 ∙ (let e : k + suc i ≡ (k + 1) + i = omega arith in e), next.3))
     (omega (arith, few)) in
     All-cons P f.session (f.spawned.items ++ all_sessions all) (λ is. absurd (omega (arith, is, worker, past, few)))
-    (All-append P f.spawned.items (all_sessions all) (All-weaker (λ s. s.receipts ≡ []) P (λ s h is. h) f.spawned.items none) later)
+    (All-append P f.spawned.items (all_sessions all) (All-weaker IsFresh P (λ s h is. h.0) f.spawned.items none) later)
 
 others_none : (helpers workers x : ℕ) (bs : List Boxed) (all : List (Finished SessionState)) → AllBring helpers workers (all_assigned workers bs) all → workers ≤ x → All (λ s. s.worker ≡ x → s.receipts ≡ []) (all_sessions all)
 others_none helpers workers x bs all h past =
@@ -199,6 +200,32 @@ others_none helpers workers x bs all h past =
     none_past workers x 0 all past
     (λ i low. let b = brought helpers workers bs all h i (omega (arith, low, long)) in (b.0, b.1.at, b.1.worker ∙ (let e : i ≡ 0 + i = omega arith in e), b.1.none))
     (omega (arith, long))
+
+-- ---- nobody handed out a receipt
+
+none_handed_by : (all : List (Finished SessionState)) → ((i : ℕ) → i < length all → (f : Finished SessionState) × (slice_get all i ≡ Some f) × (f.session.handed ≡ 0) × HaveNone f.spawned.items) →
+    All (λ s. s.handed ≡ 0) (all_sessions all)
+none_handed_by [] each = All-nil (λ s. s.handed ≡ 0)
+none_handed_by (f ∷ all) each =
+    let P : SessionState → Type 0 = λ s. s.handed ≡ 0 in
+    let here = each 0 (omega arith) in
+    let same : f ≡ here.0 = (let is : Some f ≡ Some here.0 = here.1 in cc) in
+    let none : HaveNone f.spawned.items = subst (λ (g : Finished SessionState). HaveNone g.spawned.items) (sym same) here.3 in
+    let later : All P (all_sessions all) = none_handed_by all (λ i low. each (suc i) (omega (arith, low))) in
+    All-cons P f.session (f.spawned.items ++ all_sessions all) (ap (λ (g : Finished SessionState). g.session.handed) same ∙ here.2)
+    (All-append P f.spawned.items (all_sessions all) (All-weaker IsFresh P (λ s h. h.1) f.spawned.items none) later)
+
+sum_none : (sessions : List SessionState) → All (λ s. s.handed ≡ 0) sessions → handed_of sessions ≡ 0
+sum_none [] none = refl
+sum_none (s ∷ sessions) none =
+    sum_by-cons (λ s. s.handed) s sessions ∙ (λ i. All-head (λ s. s.handed ≡ 0) s sessions none i + sum_none sessions (All-tail (λ s. s.handed ≡ 0) s sessions none) i)
+
+-- the sessions that the threads brought back have handed out no receipt
+pub brought_none_handed : (helpers workers : ℕ) (bs : List Boxed) (all : List (Finished SessionState)) → AllBring helpers workers (all_assigned workers bs) all → handed_of (all_sessions all) ≡ 0
+brought_none_handed helpers workers bs all h =
+    let long : length all ≡ workers = bring_as_many helpers workers (all_assigned workers bs) all h ∙ length-map-range_with_len (λ x. (x, lines_of workers x bs)) 0 workers in
+    sum_none (all_sessions all)
+    (none_handed_by all (λ i low. let b = brought helpers workers bs all h i (omega (arith, low, long)) in (b.0, b.1.at, b.1.handed, b.1.none)))
 
 -- ---- the race
 

@@ -142,12 +142,13 @@ pub record MayRace (opening : Plan) (entries : List Entry) (lines : List Line) :
   pub new : (1 ≤ opening.workers) × (entries ≡ [])
   pub commands : All IsCommand lines
 
--- The lines were run in a store of this opening, each collection with so many helpers, and it has them all in its journal; or else a
--- fault came before anything was written.
+-- The lines were run in a store of this opening, each collection with so many helpers, and it has them all in its journal, of which
+-- nothing was handed out; or else a fault came before anything was written.
 pub record RunsRace {P : Type 0} (helpers : ℕ) (opening : Plan) (stock : List Value) (lines : List Line)
     (result : Result (Raced P) RaceFault) : Type 0 where
   pub raced : IfOk result (λ raced. (raced.store.opening ≡ opening)
-      × AreRaced helpers opening.workers (boxed stock lines) raced.store.entries raced.told.items)
+      × AreRaced helpers opening.workers (boxed stock lines) raced.store.entries raced.told.items
+      × (raced.store.handed ≡ 0))
   pub fault : IfErr result IsBeforeWriting
 
 -- the whole script was read, and a store of its opening has no entry yet

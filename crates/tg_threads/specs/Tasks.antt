@@ -17,7 +17,7 @@ use Rattle.tg_text.specs.declared.answer.Answer.TheVariants as answer
 use Rattle.tg_text.specs.declared.answer.Refusal.TheVariants as refusal
 use Rattle.tg_shared.specs.declared.receipt.Receipt.{Receipt}
 use Rattle.tg_shared.specs.Receipts.{receipt_of}
-use Rattle.tg_shared.specs.Sessions.{SessionState, SharedStart, AddsReceipt, AtSome, KeepsReceipts}
+use Rattle.tg_shared.specs.Sessions.{SessionState, SharedStart, IsFresh, AddsReceipt, AtSome, KeepsReceipts}
 use Rattle.std.specs.declared.thread.PromisedHandle.{PromisedHandle}
 use Rattle.tg_threads.specs.declared.threads.Assigned.{Assigned}
 use Rattle.tg_threads.specs.declared.threads.ThreadsFault.{ThreadsFault}
@@ -84,7 +84,7 @@ HasCollected helpers k (came.Refused r) = MayWant helpers r
 
 -- a session ran the line, where the lines of these workers are run
 abbrev pub HasRun : ℕ → (ℕ → Bool) → Boxed → Told → SessionState → SessionState → Type 0
-HasRun helpers served b t old new = (more : List Receipt) × (new.worker ≡ old.worker) × (new.receipts ≡ old.receipts ++ more) × RunsOne helpers served b t more
+HasRun helpers served b t old new = (more : List Receipt) × (new.worker ≡ old.worker) × (new.receipts ≡ old.receipts ++ more) × (new.handed ≡ old.handed) × RunsOne helpers served b t more
 
 -- these lines were run one after the other, came to this, and these are the receipts
 abbrev pub Runs : ℕ → (ℕ → Bool) → List Boxed → List Told → List Receipt → Type 0
@@ -102,9 +102,9 @@ pub record IsToldOrGone (start : SharedStart) (session : SessionState) (IsTold :
   pub asked : IfOk result IsTold
   pub gone : IfErr result (λ why. (why ≡ threads.NoSuchWorker) × AtSome start (λ s. ¬ IsSubject (graph_of_store s) session.worker))
 
--- no session of these has a receipt
+-- no session of these ever had a receipt
 abbrev pub HaveNone : List SessionState → Type 0
-HaveNone sessions = All (λ s. s.receipts ≡ []) sessions
+HaveNone sessions = All IsFresh sessions
 
 -- more sessions without a receipt may have come to those of the subjects that a worker made, into the room that there was
 pub record KeepsNone {A : Type 0} (sessions sessions' : Vec SessionState A) : Type 0 where
@@ -112,10 +112,10 @@ pub record KeepsNone {A : Type 0} (sessions sessions' : Vec SessionState A) : Ty
   pub kept : vec_capacity sessions' ≡ vec_capacity sessions
 
 -- The session of one of so many workers ran its lines, all that its thread was given, and they came to this; the sessions of the
--- subjects that they made ran none.
+-- subjects that they made ran none, and none of them handed out a receipt.
 abbrev pub Brings : ℕ → ℕ → ℕ → List Boxed → Finished SessionState → Type 0
 Brings helpers workers x bs f =
-    x < workers → All (IsRunBy workers x) bs → (f.session.worker ≡ x) × Runs helpers (has_thread workers) bs f.told.items f.session.receipts × HaveNone f.spawned.items
+    x < workers → All (IsRunBy workers x) bs → (f.session.worker ≡ x) × Runs helpers (has_thread workers) bs f.told.items f.session.receipts × HaveNone f.spawned.items × (f.session.handed ≡ 0)
 
 -- it ran these lines, or else there is a fault, but for want of a thread there is none
 pub record RunsTasks (helpers workers x : ℕ) (bs : List Boxed) (result : Result (Finished SessionState) ThreadsFault) : Type 0 where

@@ -7,7 +7,7 @@ ghost use Rattle.tg_journal.specs.History.{IsAuditFault, IsLegal};
 ghost use Rattle.tg_text.specs.Sinks.{KeepsBytes};
 ghost use Rattle.tg_script.specs.Opening.{IsCommand};
 ghost use Rattle.tg_script.specs.Script.{MayStart, start_with};
-ghost use Rattle.tg_shared.specs.Sessions.{AreFresh, AreSharedOut, AtSome, MayClose, MayShare, count_of, sessions_made};
+ghost use Rattle.tg_shared.specs.Sessions.{AreFresh, AreSharedOut, AtSome, MayClose, MayShare, count_of, handed_of, held_from, parts_of, sessions_made};
 ghost use Rattle.tg_threads.specs.Race.{CountsRace, EndsRace, FinishesRace, HasRaced, IsRaceDue, MayRace, OpensRace, RacesFrom, RunsRace};
 
 use crate::fault::RaceFault;
@@ -167,7 +167,8 @@ impl<P: Payload> Raced<P> {
 
     // Audits the journal, and writes the replies.
     fn tell<K: Sink>(&self, alloc: Global, sink: &mut K) -> Result<(), RaceFault>
-        requires { All (IsThere self.now.store.entries) self.now.told.items }
+        requires there { All (IsThere self.now.store.entries) self.now.told.items }
+        requires none_handed { self.now.store.handed ≡ 0 }
         ensures fault { IfErr result IsOfTelling }
         ensures read { race_read_failures result ≡ 0 }
         ensures write_failed { K.failures sink.new ≡ K.failures sink.old + race_write_failures result }
@@ -244,7 +245,11 @@ fn run_shared<
     requires fresh { AreFresh (range_with_len 0 L.start.opening.workers) shared.sessions.items }
     ensures run { RunsRace helpers L.start.opening stock.items lines.now result }
 {
-    let Shared { store, sessions } = shared;
+    let Shared {
+        store,
+        sessions,
+        ..
+    } = shared;
     let works = share_out(alloc, sessions, stock, lines)?;
     let finished = run_threads(rt, alloc, &store, turnstile, helpers, works)?;
     let told = in_script_order(alloc, lines, finished.as_slice())?;
@@ -253,18 +258,21 @@ fn run_shared<
     Ok(Raced { store, told })
 }
 
-// The store, where all sessions have come back and their receipts are right.
+// The store, where all sessions have come back and their receipts are right. Where no receipt was handed out, no entry
+// was.
 fn closed<L: Round, P: Payload>(
     store: SharedStore<L, P>,
     sessions: Vec<Session<L>>,
 ) -> Result<Store<P>, RaceFault>
-    requires { L.start.entries ≡ [] }
+    requires new { L.start.entries ≡ [] }
+    requires none_handed { handed_of sessions.items ≡ 0 }
     ensures opening { IfOk result (λ store. store.opening ≡ L.start.opening) }
     ensures matching { IfOk result (λ store. MayClose store.entries 0 sessions.items) }
     ensures shared_out { IfOk result (λ store. AreSharedOut store.entries sessions.items) }
+    ensures none_handed { IfOk result (λ store. store.handed ≡ 0) }
     ensures due { IfErr result (λ why. (why ≡ RaceFault.ReceiptMismatch)
-        × ((AtSome L.start (λ s. length sessions.items < sessions_made L.start s.entries)) ⊎ AtSome L.start (λ s.
-        (length L.start.entries + count_of sessions.items ≤ length s.entries) × (¬ MayClose s.entries (length L.start.entries) sessions.items)))) }
+        × ((AtSome L.start (λ s. parts_of sessions.items < sessions_made L.start s.entries)) ⊎ AtSome L.start (λ s.
+        (length L.start.entries + count_of sessions.items ≤ length s.entries) × (¬ MayClose s.entries (held_from L.start s) sessions.items)))) }
 {
     match close(store, sessions) {
         Ok(store) => Ok(store),

@@ -1,6 +1,7 @@
 //! The threads of the workers.
-ghost use Rattle.std.specs.Prelude.{◌≡◌, ◌≢◌, ℕ, [], IfOk, IfErr, map};
+ghost use Rattle.std.specs.Prelude.{◌≡◌, ◌≢◌, ℕ, IfOk, IfErr, map};
 ghost use Rattle.std.specs.List.{All};
+ghost use Rattle.tg_shared.specs.Sessions.{IsFresh};
 ghost use Rattle.tg_threads.specs.Tasks.{AllBring, RunsTasks, assigned_of, promised_by};
 ghost use Rattle.tg_weave.specs.Boxes.{boxed_of};
 
@@ -77,7 +78,7 @@ impl<L: Round, P: Payload> Promise<Result<Finished<L>, ThreadsFault>> for Assign
 /// Gives each worker a thread that runs its lines, and waits for all of them. What they bring back stands in the order of the
 /// workers: each session has run its lines one after the other, and each line has come to a receipt, to a refusal or to a
 /// collection, which has so many helpers. Where a thread can't be started, those that were started run to their end. The sessions
-/// have no receipts yet.
+/// never had a receipt.
 pub fn run_threads<
     L: Round + Send + Sync,
     P: Payload + Send,
@@ -91,14 +92,14 @@ pub fn run_threads<
     helpers: Helpers,
     works: Vec<Work<L, P>>,
 ) -> Result<Vec<Finished<L>>, ThreadsFault>
-    requires fresh { All (λ w. w.session.receipts ≡ []) works.items }
+    requires fresh { All (λ w. IsFresh w.session) works.items }
     ensures { IfOk result (λ all. AllBring helpers L.start.opening.workers (map assigned_of works.items) all.items) }
 {
     thread::scope(
         thread::scope_env(),
         rt,
         |scope| -> Result<Vec<Finished<L>>, ThreadsFault>
-            requires { All (λ w. w.session.receipts ≡ []) works.items }
+            requires { All (λ w. IsFresh w.session) works.items }
             ensures { IfOk result (λ all. AllBring helpers L.start.opening.workers (map assigned_of works.items) all.items) }
         {
             let handles = start_all(rt, alloc, scope, store, turnstile, helpers, works)?;
@@ -124,7 +125,7 @@ fn start_all<
     helpers: Helpers,
     works: Vec<Work<L, P>>,
 ) -> Result<Vec<PromisedHandle<Result<Finished<L>, ThreadsFault>, Assigned<P>>>, ThreadsFault>
-    requires fresh { All (λ w. w.session.receipts ≡ []) works.items }
+    requires fresh { All (λ w. IsFresh w.session) works.items }
     ensures promises { IfOk result (λ handles. map promised_by handles.items ≡ map assigned_of works.items) }
     ensures helpers { IfOk result (λ handles. All (λ h. h.promise.helpers ≡ helpers) handles.items) }
 {
@@ -153,7 +154,7 @@ fn start<
     helpers: Helpers,
     work: Work<L, P>,
 ) -> Result<PromisedHandle<Result<Finished<L>, ThreadsFault>, Assigned<P>>, ThreadsFault>
-    requires fresh { work.session.receipts ≡ [] }
+    requires fresh { IsFresh work.session }
     ensures promise { IfOk result (λ handle. promised_by handle ≡ assigned_of work) }
     ensures helpers { IfOk result (λ handle. handle.promise.helpers ≡ helpers) }
     ensures fault { IfErr result (λ fault. fault ≡ ThreadsFault.NoThread) }
@@ -167,7 +168,7 @@ fn start<
     let Ok(handle) = scope.spawn_with(
         assigned,
         move || -> Result<Finished<L>, ThreadsFault>
-            requires { session.receipts ≡ [] }
+            requires { IsFresh session }
             ensures ran { RunsTasks helpers L.start.opening.workers session.worker (map boxed_of tasks.items) result }
         { run_tasks(rt, alloc, store, turnstile, helpers, session, tasks) },
     ) else {

@@ -10,7 +10,7 @@ ghost use Rattle.tg_store.specs.Room.{LacksRoomToCollect};
 ghost use Rattle.tg_store.specs.Store.{IsCountOf, graph_of_store};
 ghost use Rattle.tg_script.specs.Refusals.{create_answer};
 ghost use Rattle.tg_script.specs.Script.{MayWant, create_of, spawn_of};
-ghost use Rattle.tg_shared.specs.Sessions.{AtSome};
+ghost use Rattle.tg_shared.specs.Sessions.{AtSome, IsFresh};
 ghost use Rattle.tg_shared.specs.declared.receipt.Receipt.{Receipt as ReceiptOf};
 ghost use Rattle.tg_text.specs.declared.answer.Refusal.{Refusal as RefusalOf};
 ghost use Rattle.tg_threads.specs.Output.{is_retire_of};
@@ -48,7 +48,7 @@ pub(crate) fn run_tasks<L: Round, P: Payload, G: Turnstile, R: Threads + Wait + 
     mut session: Session<L>,
     tasks: Vec<Task<P>>,
 ) -> Result<Finished<L>, ThreadsFault>
-    requires fresh { session.receipts ≡ [] }
+    requires fresh { IsFresh session }
     ensures ran { RunsTasks helpers L.start.opening.workers session.worker (map boxed_of tasks.items) result }
 {
     let mut told = Vec::with_capacity(alloc, tasks.len())?;

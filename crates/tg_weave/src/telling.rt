@@ -18,7 +18,8 @@ pub fn tell_all<K: Sink>(
     told: &[Told],
     audited: u64,
 ) -> Result<(), WriteFailed>
-    requires { All (IsThere journal.now.entries) told.now }
+    requires whole { journal.now.start ≡ 0 }
+    requires there { All (IsThere journal.now.entries) told.now }
     ensures { Writes (K.taken sink.old) (K.failures sink.old) (text_of_told journal.now.entries told.now ++ end_text audited) result (K.taken sink.new) (K.failures sink.new) }
 {
     tell_lines(sink, journal, told)?;
@@ -27,7 +28,8 @@ pub fn tell_all<K: Sink>(
 
 // Writes the reply to each line.
 fn tell_lines<K: Sink>(sink: &mut K, journal: &Journal, told: &[Told]) -> Result<(), WriteFailed>
-    requires { All (IsThere journal.now.entries) told.now }
+    requires whole { journal.now.start ≡ 0 }
+    requires there { All (IsThere journal.now.entries) told.now }
     ensures { Writes (K.taken sink.old) (K.failures sink.old) (text_of_told journal.now.entries told.now) result (K.taken sink.new) (K.failures sink.new) }
 {
     for one in told {
@@ -37,7 +39,8 @@ fn tell_lines<K: Sink>(sink: &mut K, journal: &Journal, told: &[Told]) -> Result
 }
 
 fn tell<K: Sink>(sink: &mut K, journal: &Journal, told: Told) -> Result<(), WriteFailed>
-    requires { IsThere journal.now.entries told }
+    requires whole { journal.now.start ≡ 0 }
+    requires there { IsThere journal.now.entries told }
     ensures { Writes (K.taken sink.old) (K.failures sink.old) (answer_text (told_answer journal.now.entries told)) result (K.taken sink.new) (K.failures sink.new) }
 {
     match told {

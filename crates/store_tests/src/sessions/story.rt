@@ -121,6 +121,7 @@ fn seen_of_shared<L: Round + Send + Sync, R: Threads + Wait + Sync>(
     let Shared {
         store,
         mut sessions,
+        ..
     } = shared;
     let told = tell(rt, alloc, story, &store, &mut sessions);
     let (why_not_closed, store) = close_twice(store, sessions)?;

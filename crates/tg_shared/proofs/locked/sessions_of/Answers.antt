@@ -1,8 +1,7 @@
-use Rattle.std.proofs.Common.{◌≡◌, ◌<◌, ◌≤◌, ◌+◌, ◌∙◌, ◌++◌, ◌∷◌, [], ℕ, List, length, get_or, take, arith, refl, sym, ap, subst}
+use Rattle.std.proofs.Common.{◌≡◌, ◌<◌, ◌≤◌, ◌+◌, ◌∙◌, ◌++◌, ◌∷◌, [], ℕ, List, length, get_or, take, arith, refl, sym, ap}
 use Rattle.std.proofs.lemmas.List.{map_more}
 use Rattle.tg_subjects.specs.Subjects.{names_of}
 use Rattle.tg_subjects.specs.declared.subject.Subject.{Subject}
-use Rattle.tg_shared.specs.Sessions.{AreFresh}
 use Rattle.tg_shared.proofs.Fresh.{fresh_push}
 use Rattle.tg_shared.proofs.locked.sessions_of.Goals as goal
 
@@ -25,7 +24,7 @@ split_off-share-requires g c = record {
 }
 
 pub new-requires : goal.new-requires
-new-requires g c = (c.split_off-share.ensures.parts, c.split_off-share.ensures.amount)
+new-requires g c = (c.split_off-share.ensures.parts, c.split_off-share.ensures.amount, c.requires.2)
 
 pub loop-subject-preserved : goal.loop-subject-preserved
 loop-subject-preserved g c =
@@ -35,7 +34,7 @@ loop-subject-preserved g c =
     let items = c.in_ok-push.ensures.items in
     let more = name_more c.args.subjects.now i _ s.worker c.loop-subject-test.true c.new.ensures.0 in
     record {
-      fresh = rw (items, more) (fresh_push (names_of (take i c.args.subjects.now)) s.worker ss s c.loop-subject.invariant.fresh refl c.new.ensures.1);
+      fresh = rw (items, more) (fresh_push (names_of (take i c.args.subjects.now)) s.worker ss s c.loop-subject.invariant.fresh refl (c.new.ensures.1, c.new.ensures.2, c.new.ensures.3));
       parts = omega (arith, c.split_off-share.ensures.parts_left, c.loop-subject.invariant.parts);
       amount = omega (arith, c.split_off-share.ensures.amount_left, c.loop-subject.invariant.amount);
     }

@@ -1,6 +1,31 @@
-use Rattle.std.proofs.Common.{refl}
+use Rattle.std.proofs.Common.{◌≡◌, ◌∙◌, ◌+◌, ◌≤◌, ℕ, List, ap, arith, drop, length, max, refl, subst}
+use Rattle.std.proofs.Math.Nat.{le-max_right}
+use Rattle.tg_journal.specs.declared.entry.Entry.{Entry}
+use Rattle.tg_shared.specs.Sessions.{AreSharedOut, MayClose, SessionState, handed_of, held_from}
 use Rattle.tg_threads.proofs.RaceLaws.{unclosed}
 use Rattle.tg_threads.proofs.race.closed.Goals as goal
+
+none_out : (start out : ℕ) → max start out ≡ 0 → out ≡ 0
+none_out start out is = let most : out ≤ max start out = le-max_right start out in omega (arith, most, is)
+
+from_first : (first handed since : ℕ) → first ≡ 0 → handed ≡ 0 → since ≡ 0 → first + handed ≡ since
+from_first first handed since a b c = omega (arith, a, b, c)
+
+pub returns-in-Ok : goal.returns-in-Ok
+returns-in-Ok g c =
+    let items : List SessionState = c.args.sessions.items in
+    let entries : List Entry = c.in-Ok.store.entries in
+    let start = g.L.Round.start in
+    let first : length start.entries ≡ 0 = ap (λ (es : List Entry). length es) c.requires.new in
+    let since : held_from start c.in-Ok.store ≡ 0 = c.in-Ok.ensures.none_handed c.requires.none_handed ∙ first in
+    record {
+      opening = c.in-Ok.ensures.gone_on.opening;
+      matching = subst (λ (n : ℕ). MayClose entries n items) since c.in-Ok.ensures.matching;
+      shared_out = subst (λ (n : ℕ). AreSharedOut (drop n entries) items) since
+          (c.in-Ok.ensures.shared_out (from_first (length start.entries) (handed_of items) (held_from start c.in-Ok.store) first c.requires.none_handed since));
+      none_handed = none_out (length start.entries) c.in-Ok.store.handed since;
+      due = tt;
+    }
 
 pub returns-in-Err-clause-due : goal.returns-in-Err-clause-due
 returns-in-Err-clause-due g c = (refl, unclosed c.in-Err.refused.why c.in-Err.ensures.missing c.in-Err.ensures.mismatch)

@@ -1,10 +1,10 @@
-use Rattle.std.proofs.Common.{arith, length, ◌<◌, sym, subst, List}
+use Rattle.std.proofs.Common.{ap, arith, ◌∙◌, length, ◌<◌, sym, subst, List}
 use Rattle.std.specs.List.{range_with_len}
-use Rattle.tg_shared.specs.Sessions.{AreSharedOut, MayClose, SessionState}
+use Rattle.tg_shared.specs.Sessions.{AreSharedOut, MayClose, SessionState, handed_of}
 use Rattle.tg_weave.specs.Boxes.{boxed}
 use Rattle.tg_threads.proofs.RaceLaws.{fresh_length, all_brought, brought_by_each, brought_in_order, brought_whole}
 use Rattle.tg_threads.proofs.ShareLaws.{works_fresh}
-use Rattle.tg_threads.proofs.WeaveLaws.{raced}
+use Rattle.tg_threads.proofs.WeaveLaws.{brought_none_handed, raced}
 use Rattle.tg_threads.proofs.race.run_shared.Goals as goal
 
 pub share_out-requires : goal.share_out-requires
@@ -33,6 +33,15 @@ in_script_order-requires-clause-whole g c =
     let bring = all_brought c.args.helpers workers bs c.in_ok-works.works.items sessions all c.requires.fresh c.in_ok-works.ensures.sessions c.in_ok-works.ensures.lines c.in_ok-finished.ensures in
     brought_whole c.args.helpers workers c.args.stock.items c.args.lines.now all c.as_slice.result.now c.as_slice.ensures.value bring
 
+pub closed-requires-clause-none_handed : goal.closed-requires-clause-none_handed
+closed-requires-clause-none_handed g c =
+    let workers = g.L.Round.start.opening.workers in
+    let sessions = c.args.shared.sessions.items in
+    let bs = boxed c.args.stock.items c.args.lines.now in
+    let all = c.in_ok-finished.finished.items in
+    let bring = all_brought c.args.helpers workers bs c.in_ok-works.works.items sessions all c.requires.fresh c.in_ok-works.ensures.sessions c.in_ok-works.ensures.lines c.in_ok-finished.ensures in
+    ap handed_of c.in_ok-sessions.ensures ∙ brought_none_handed c.args.helpers workers bs all bring
+
 pub returns : goal.returns
 returns g c =
     let workers = g.L.Round.start.opening.workers in
@@ -53,6 +62,7 @@ returns g c =
           c.in_ok-store.ensures.opening,
           raced c.args.helpers workers 0 stock lines all ts entries (omega (arith, c.requires.raceable.new.0)) c.requires.raceable.commands bring order
               (subst closes c.in_ok-sessions.ensures c.in_ok-store.ensures.matching) (subst shared c.in_ok-sessions.ensures c.in_ok-store.ensures.shared_out),
+          c.in_ok-store.ensures.none_handed,
         );
         fault = tt;
       };

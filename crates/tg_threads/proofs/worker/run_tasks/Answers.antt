@@ -4,7 +4,7 @@ use Rattle.std.proofs.lemmas.Bool.{lt-ltb}
 use Rattle.std.proofs.lemmas.List.Sums.{sum_by-cons}
 use Rattle.std.proofs.lemmas.Grind.{common_steps}
 use Rattle.std.proofs.lemmas.List.Elements.{All-nil}
-use Rattle.tg_shared.specs.Sessions.{SessionState}
+use Rattle.tg_shared.specs.Sessions.{IsFresh}
 use Rattle.tg_weave.specs.Boxes.{Boxed, boxed_of}
 use Rattle.tg_weave.proofs.ShareLaws.{map_push}
 use Rattle.tg_threads.specs.Tasks.{HaveNone, IsRunBy, Runs, may_make_subject, served_past}
@@ -35,11 +35,12 @@ run_task-requires-clause-room g c = λ lifetimes outlive is.
 pub loop-task-init : goal.loop-task-init
 loop-task-init g c = record {
   left = search rules;
-  none = subst HaveNone (sym c.in_ok-spawned.ensures.items) (All-nil (λ (s : SessionState). s.receipts ≡ []));
+  none = subst HaveNone (sym c.in_ok-spawned.ensures.items) (All-nil IsFresh);
   room = search rules;
   runs = λ low all. record {
     worker = refl;
-    runs = (c.in_ok-told.ensures.items, c.requires.fresh);
+    handed = c.requires.fresh.1;
+    runs = (c.in_ok-told.ensures.items, c.requires.fresh.0);
     behind = lt-ltb c.args.session.worker g.L.Round.start.opening.workers low;
   };
 }
@@ -71,7 +72,7 @@ returns g c =
         brought = λ low by.
             let workers = g.L.Round.start.opening.workers in
             let i = c.loop-task.invariant.runs low by in
-            (i.worker, subst (λ (ts : List (Task _)). Runs c.args.helpers (has_thread workers) (map boxed_of ts) c.loop-task.told.items c.loop-task.session.receipts) all i.runs, c.loop-task.invariant.none);
+            (i.worker, subst (λ (ts : List (Task _)). Runs c.args.helpers (has_thread workers) (map boxed_of ts) c.loop-task.told.items c.loop-task.session.receipts) all i.runs, c.loop-task.invariant.none, i.handed);
         fault = tt;
       };
     }

@@ -1,16 +1,18 @@
+-- The store that gave its entries up stands for the graph that it stood for.
+use Rattle.std.proofs.Common.{◌∙◌, ap}
+use Rattle.tg_script.specs.Supply.{values_left}
+use Rattle.tg_script.proofs.RunLaws.{stands_still}
 use Rattle.tg_script.proofs.run.Run.answer.Goals as goal
 
-pub returns-in-Create : goal.returns-in-Create
-returns-in-Create g c = rw c.in-Create.is c.create.ensures
-
-pub returns-in-Spawn : goal.returns-in-Spawn
-returns-in-Spawn g c = rw c.in-Spawn.is c.spawn.ensures
-
-pub returns-in-Plain : goal.returns-in-Plain
-returns-in-Plain g c = rw c.in-Plain.is c.apply.ensures
-
-pub returns-in-Full : goal.returns-in-Full
-returns-in-Full g c = rw c.in-Full.is c.collect_all.ensures
-
-pub returns-in-Minor : goal.returns-in-Minor
-returns-in-Minor g c = rw c.in-Minor.is c.collect_nurseries.ensures
+pub returns : goal.returns
+returns g c = λ s shows.
+    let told = c.answer_line-answer.ensures s shows in
+    let out = c.give_up_entries.ensures.store in (
+      told.0,
+      (
+        stands_still c.answer_line-answer.new.self.store c.give_up_entries.new.self.store _ out.opening out.entries told.1.0,
+        ap values_left c.give_up_entries.ensures.supply ∙ told.1.1,
+        c.give_up_entries.ensures.helpers ∙ told.1.2,
+      ),
+      told.2,
+    )

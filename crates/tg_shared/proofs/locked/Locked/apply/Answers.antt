@@ -19,7 +19,7 @@ invariant_of-self g c =
       balanced_same c.self.inside.store c.apply.new.self (length g.L.Round.start.entries) c.self.inside.sessions c.self.inside.book.total c.self.inside.rest.parts g.L.Ledger.parts c.self.invariant.0 kept.entries kept.opening,
       c.self.invariant.1,
       c.self.invariant.2,
-      goes_on_same g.L.Round.start c.self.inside.store c.apply.new.self c.self.invariant.3 kept.entries kept.opening c.apply.ensures.limits,
+      goes_on_same g.L.Round.start c.self.inside.store c.apply.new.self c.self.invariant.3 kept.entries kept.opening c.apply.ensures.limits c.apply.ensures.handed,
       made_same g.L.Round.start c.self.inside.sessions c.self.inside.store.entries c.apply.new.self.entries c.self.invariant.4 kept.entries,
     )
 
@@ -28,7 +28,7 @@ returns-in_err-reply-clause-refused g c =
     let given = err_from_is_err_and c.from_residual.result c.from_residual.ensures.1 in
     let kept : IsUnchanged c.self.inside.store c.apply.new.self = c.in_err-reply.ensures.refused in
     err_here c.from_residual.result given.0 _ given.1
-    (subst (λ (b : LockedState). IsUnchanged b.store c.apply.new.self) c.self.view_is kept, (refl {A = ℕ}, refl))
+    (subst (λ (b : LockedState). IsUnchanged b.store c.apply.new.self) c.self.view_is kept, (refl {A = ℕ}, refl, refl {A = ℕ}, refl {A = ℕ}))
 
 pub note-requires : goal.note-requires
 note-requires g c = record { room = c.requires.room; own = c.worker-worker.ensures }
@@ -70,6 +70,9 @@ returns-clause-full g c = λ graph stands is. absurd (ok_not_err tt ApplyFault.H
 pub returns-clause-opening : goal.returns-clause-opening
 returns-clause-opening g c = c.apply.ensures.opening ∙ ap (λ (b : LockedState). b.store.opening) c.self.view_is
 
+pub returns-clause-handed : goal.returns-clause-handed
+returns-clause-handed g c = c.apply.ensures.handed ∙ ap (λ (b : LockedState). b.store.handed) c.self.view_is
+
 pub returns-clause-limits : goal.returns-clause-limits
 returns-clause-limits g c = c.apply.ensures.limits ∙ ap (λ (b : LockedState). b.store.heap.table.limits) c.self.view_is
 
@@ -103,6 +106,6 @@ invariant_of-self-2 g c = (
   balanced_entered _ _ _ _ _ _ _ _ _ _ _ c.self.invariant.0 c.in_ok-reply.ensures.entry c.apply.ensures.opening c.note.ensures.book,
   c.self.invariant.1,
   c.self.invariant.2,
-  goes_on_entered _ _ _ _ _ _ c.self.invariant.3 c.in_ok-reply.ensures.entry c.apply.ensures.opening c.apply.ensures.limits,
+  goes_on_entered _ _ _ _ _ _ c.self.invariant.3 c.in_ok-reply.ensures.entry c.apply.ensures.opening c.apply.ensures.limits c.apply.ensures.handed,
   as_many c.self.inside.sessions _ _ c.self.invariant.4 (made_more g.L.Round.start c.self.inside.store c.apply.new.self c.worker-worker.result (Deed.Plain c.args.command) c.in_ok-reply.reply c.in_ok-reply.ensures.entry (grown g.L.Round.start c.self.inside.store c.self.invariant.3)),
 )

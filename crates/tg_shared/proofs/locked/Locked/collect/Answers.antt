@@ -7,7 +7,7 @@ use Rattle.tg_shared.proofs.Balances.{kept_locked, locked_same}
 use Rattle.tg_shared.proofs.locked.Locked.collect.Goals as goal
 
 pub invariant_of-self : goal.invariant_of-self
-invariant_of-self g c = locked_same g.L.Round.start c.self.inside.store c.collect.new.self _ _ _ _ _ c.self.invariant c.collect.ensures.history.entries c.collect.ensures.history.opening c.collect.ensures.history.limits
+invariant_of-self g c = locked_same g.L.Round.start c.self.inside.store c.collect.new.self _ _ _ _ _ c.self.invariant c.collect.ensures.history.entries c.collect.ensures.history.opening c.collect.ensures.history.limits c.collect.ensures.history.handed
 
 pub returns-clause-swept : goal.returns-clause-swept
 returns-clause-swept g c = subst (λ (b : LockedState). IfOk c.collect.result (IsSwept c.args.kind b.store c.collect.new.self)) c.self.view_is c.collect.ensures.swept

@@ -7,7 +7,7 @@ use Rattle.tg_shared.proofs.Balances.{kept_locked, locked_same}
 use Rattle.tg_shared.proofs.locked.Locked.collect_with.Goals as goal
 
 pub invariant_of-self : goal.invariant_of-self
-invariant_of-self g c = locked_same g.L.Round.start c.self.inside.store c.collect_with.new.store _ _ _ _ _ c.self.invariant c.collect_with.ensures.history.entries c.collect_with.ensures.history.opening c.collect_with.ensures.history.limits
+invariant_of-self g c = locked_same g.L.Round.start c.self.inside.store c.collect_with.new.store _ _ _ _ _ c.self.invariant c.collect_with.ensures.history.entries c.collect_with.ensures.history.opening c.collect_with.ensures.history.limits c.collect_with.ensures.history.handed
 
 pub returns-clause-swept : goal.returns-clause-swept
 returns-clause-swept g c = subst (λ (b : LockedState). IfOk c.collect_with.result (IsSwept c.args.kind b.store c.collect_with.new.store)) c.self.view_is c.collect_with.ensures.swept

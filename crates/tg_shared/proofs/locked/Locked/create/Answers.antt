@@ -25,14 +25,14 @@ invariant_of-self-2 g c =
         balanced_entered _ _ _ _ _ _ _ _ _ _ _ c.self.invariant.0 (IfOk-at_ok _ w.in-Ok.is c.create-created.ensures.entry) c.create-created.ensures.refusals.opening c.note.ensures.book,
         c.self.invariant.1,
         c.self.invariant.2,
-        goes_on_entered _ _ _ _ _ _ c.self.invariant.3 (IfOk-at_ok _ w.in-Ok.is c.create-created.ensures.entry) c.create-created.ensures.refusals.opening c.create-created.ensures.refusals.limits,
+        goes_on_entered _ _ _ _ _ _ c.self.invariant.3 (IfOk-at_ok _ w.in-Ok.is c.create-created.ensures.entry) c.create-created.ensures.refusals.opening c.create-created.ensures.refusals.limits c.create-created.ensures.refusals.handed,
         more _ (IfOk-at_ok _ w.in-Ok.is c.create-created.ensures.entry),
       )
       | in-Err-VerticesFull w ↦ (
         balanced_entered _ _ _ _ _ _ _ _ _ _ _ c.self.invariant.0 (IfErr-at_err _ w.in-Err-VerticesFull.is c.create-created.ensures.no_more_entry (search rules)).entry c.create-created.ensures.refusals.opening c.note.ensures.book,
         c.self.invariant.1,
         c.self.invariant.2,
-        goes_on_entered _ _ _ _ _ _ c.self.invariant.3 (IfErr-at_err _ w.in-Err-VerticesFull.is c.create-created.ensures.no_more_entry (search rules)).entry c.create-created.ensures.refusals.opening c.create-created.ensures.refusals.limits,
+        goes_on_entered _ _ _ _ _ _ c.self.invariant.3 (IfErr-at_err _ w.in-Err-VerticesFull.is c.create-created.ensures.no_more_entry (search rules)).entry c.create-created.ensures.refusals.opening c.create-created.ensures.refusals.limits c.create-created.ensures.refusals.handed,
         more _ (IfErr-at_err _ w.in-Err-VerticesFull.is c.create-created.ensures.no_more_entry (search rules)).entry,
       )
     ]

@@ -1,4 +1,4 @@
-use Rattle.std.proofs.Common.{◌≡◌, ◌≤◌, ◌<◌, ◌+◌, ◌∙◌, List, ℕ, length, map, ap, refl, sym, subst, arith}
+use Rattle.std.proofs.Common.{◌≡◌, ◌≤◌, ◌<◌, ◌+◌, ◌^◌, ◌∙◌, List, ℕ, length, map, ap, refl, sym, subst, arith}
 use Rattle.std.proofs.lemmas.List.{length-map}
 use Rattle.tg_subjects.specs.declared.subject.Subject.{Subject}
 use Rattle.tg_journal.proofs.HistoryLaws.{made-opened}
@@ -13,6 +13,10 @@ returns-clause-sessions g c =
     let ss : List SessionState = c.in-Ok.sessions.items in
     λ graph stands. subst (λ (l : List ℕ). AreFresh l ss) (c.subjects.ensures.names graph stands) c.in-Ok.ensures.fresh
 
+-- a ledger's parts are a 64-bit number
+fits : (limit parts ledger : ℕ) → limit ≤ 16777216 → parts ≡ limit + 1 → parts ≡ ledger → ledger < 2 ^ 64
+fits limit parts ledger within are same = omega (arith, within, are, same)
+
 few_enough : (subjects made limit parts : ℕ) → subjects ≤ made → made ≤ limit → parts ≡ limit + 1 → subjects < parts
 few_enough subjects made limit parts low within are = omega arith
 
@@ -23,7 +27,7 @@ sessions_of-requires g c =
     let low : length c.subjects.result.now ≤ (graph_of_store c.args.store).made = (let active = active_made c.args.store faithful in omega (arith, active, names)) in
     let within = made-opened c.args.store.opening c.args.store.entries faithful.plan in
     let parts : c.open-book.result.1.parts ≡ c.args.store.opening.limit + 1 = c.open-book.ensures.parts ∙ (sym c.requires.shareable.parts.0 ∙ c.requires.shareable.parts.1) in
-    (few_enough (length c.subjects.result.now) (graph_of_store c.args.store).made c.args.store.opening.limit c.open-book.result.1.parts low within parts, c.open-book.ensures.amount)
+    (few_enough (length c.subjects.result.now) (graph_of_store c.args.store).made c.args.store.opening.limit c.open-book.result.1.parts low within parts, c.open-book.ensures.amount, fits c.args.store.opening.limit c.open-book.result.1.parts g.L.Ledger.parts faithful.plan.limits.1 parts c.open-book.ensures.parts)
 
 pub invariant_of-locked : goal.invariant_of-locked
 invariant_of-locked g c =
@@ -51,6 +55,6 @@ invariant_of-locked g c =
       },
       first,
       c.in-Ok.ensures.rest.1,
-      goes_on_start start c.args.store c.requires.shareable.start,
+      goes_on_start start c.args.store c.requires.shareable.start c.journal.ensures.within,
       (let e : c.len.result ≡ sessions_made start c.args.store.entries = omega (arith, number, names, at_start, made) in e),
     )

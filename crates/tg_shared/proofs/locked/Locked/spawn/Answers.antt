@@ -1,4 +1,4 @@
-use Rattle.std.proofs.Common.{◌≡◌, ◌∙◌, ◌<◌, ◌≤◌, ◌+◌, ℕ, length, false, Some, Ok, Err, ap, arith, refl, subst, sym}
+use Rattle.std.proofs.Common.{◌≡◌, ◌∙◌, ◌<◌, ◌≤◌, ◌+◌, ◌^◌, ℕ, length, false, Some, Err, ap, arith, refl, subst, sym}
 use Rattle.tg_model.specs.declared.command.Deed.{Deed}
 use Rattle.tg_model.specs.declared.reply.Reply.{Reply}
 use Rattle.tg_model.specs.declared.opening.TheConstants.{MAX_WORKERS}
@@ -22,6 +22,10 @@ entered_as E fault.WorkersFull reply is v w = let same : Reply.WorkersFull ≡ r
 entered_as E fault.HeapFull reply is v w = let no : ⊥ = cc in absurd no
 entered_as E fault.OutOfMemory reply is v w = let no : ⊥ = cc in absurd no
 
+-- a ledger's parts are a 64-bit number
+within_word : (limit parts : ℕ) → limit ≤ 16777216 → parts ≡ limit + 1 → parts < 2 ^ 64
+within_word limit parts within are = omega (arith, within, are)
+
 nothing_left : (new old : ℕ) → new + 0 ≡ old → old ≡ 0 → new ≡ 0
 nothing_left new old left none = omega arith
 
@@ -35,6 +39,11 @@ pub split_off-share-requires-clause-has_parts : goal.split_off-share-requires-cl
 split_off-share-requires-clause-has_parts g c =
     part_left c.self.inside.store (length g.L.Round.start.entries) c.self.inside.sessions c.self.inside.book.total c.self.inside.rest.parts g.L.Ledger.parts c.self.invariant.0 c.journal.ensures.faithful
 
+pub new-requires : goal.new-requires
+new-requires g c =
+    let limit = c.journal.ensures.faithful.plan.limits.1 in
+    (c.split_off-share.ensures.parts, c.split_off-share.ensures.amount, within_word c.self.inside.store.opening.limit g.L.Ledger.parts limit c.self.invariant.0.enough)
+
 pub invariant_of-self : goal.invariant_of-self
 invariant_of-self g c =
     let old : StoreState = c.self.inside.store in
@@ -45,7 +54,7 @@ invariant_of-self g c =
           c.worker-worker.result c.in-Ok.name c.args.label c.args.draft.law c.args.draft.state c.self.invariant.0 entry (c.in-Ok.ensures.made.name (graph_of_store old) refl) c.spawn.ensures.refusals.opening c.note.ensures.book c.split_off-share.ensures.parts_left,
       c.self.invariant.1,
       nothing_left c.split_off-share.new.self.amount c.self.inside.rest.amount c.split_off-share.ensures.amount_left c.self.invariant.2,
-      goes_on_entered g.L.Round.start old new c.worker-worker.result deed (Reply.Name c.in-Ok.name) c.self.invariant.3 entry c.spawn.ensures.refusals.opening c.spawn.ensures.refusals.limits,
+      goes_on_entered g.L.Round.start old new c.worker-worker.result deed (Reply.Name c.in-Ok.name) c.self.invariant.3 entry c.spawn.ensures.refusals.opening c.spawn.ensures.refusals.limits c.spawn.ensures.refusals.handed,
       one_more c.self.inside.sessions _ _ c.self.invariant.4 (made_more g.L.Round.start old new c.worker-worker.result deed (Reply.Name c.in-Ok.name) entry (grown g.L.Round.start old c.self.invariant.3)),
     )
 
@@ -63,7 +72,7 @@ invariant_of-self-in-Some g c =
           c.worker-worker.result deed reply c.self.invariant.0 held.0 c.spawn.ensures.refusals.opening c.note-in-Some.ensures.book,
       c.self.invariant.1,
       c.self.invariant.2,
-      goes_on_entered g.L.Round.start old new c.worker-worker.result deed reply c.self.invariant.3 held.0 c.spawn.ensures.refusals.opening c.spawn.ensures.refusals.limits,
+      goes_on_entered g.L.Round.start old new c.worker-worker.result deed reply c.self.invariant.3 held.0 c.spawn.ensures.refusals.opening c.spawn.ensures.refusals.limits c.spawn.ensures.refusals.handed,
       as_many c.self.inside.sessions _ _ c.self.invariant.4 (rw held.1 at more),
     )
 

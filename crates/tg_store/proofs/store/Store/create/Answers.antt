@@ -1,5 +1,5 @@
 -- An object meets no limit of subjects.
-use Rattle.std.proofs.Common.{◌≡◌, ◌≢◌, refl}
+use Rattle.std.proofs.Common.{◌≢◌, refl}
 use Rattle.tg_store.specs.declared.fault.CreateFault.TheVariants.{WorkersFull}
 use Rattle.tg_store.specs.Store.{graph_of_store}
 use Rattle.tg_store.proofs.ErrLaws.{IfErr-both, IfErr-weaker}

@@ -30,6 +30,9 @@ returns-in-Some-clause-opening g c = rw c.open_refused.ensures tt
 pub returns-in-Some-clause-no_entry : goal.returns-in-Some-clause-no_entry
 returns-in-Some-clause-no_entry g c = rw c.open_refused.ensures tt
 
+pub returns-in-Some-clause-none_handed : goal.returns-in-Some-clause-none_handed
+returns-in-Some-clause-none_handed g c = rw c.open_refused.ensures tt
+
 pub returns-in-Some-clause-limits : goal.returns-in-Some-clause-limits
 returns-in-Some-clause-limits g c = rw c.open_refused.ensures tt
 
@@ -41,6 +44,9 @@ returns-in-Err-clause-opening g c = rw c.open_refused-in-Err.ensures tt
 
 pub returns-in-Err-clause-no_entry : goal.returns-in-Err-clause-no_entry
 returns-in-Err-clause-no_entry g c = rw c.open_refused-in-Err.ensures tt
+
+pub returns-in-Err-clause-none_handed : goal.returns-in-Err-clause-none_handed
+returns-in-Err-clause-none_handed g c = rw c.open_refused-in-Err.ensures tt
 
 pub returns-in-Err-clause-limits : goal.returns-in-Err-clause-limits
 returns-in-Err-clause-limits g c = rw c.open_refused-in-Err.ensures tt

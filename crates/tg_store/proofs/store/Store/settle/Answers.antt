@@ -9,14 +9,14 @@ use Rattle.tg_store.proofs.store.Store.settle.Goals as goal
 
 pub invariant_of-self-2 : goal.invariant_of-self-2
 invariant_of-self-2 g c =
-    let old : StoreState = record { opening = c.self.inside.opening; entries = c.self.inside.journal.entries; heap = c.self.inside.heap } in
-    let new : StoreState = record { opening = c.self.inside.opening; entries = c.self.inside.journal.entries; heap = c.settle.new.self } in
+    let old : StoreState = record { opening = c.self.inside.opening; entries = c.self.inside.journal.entries; handed = c.self.inside.journal.start; heap = c.self.inside.heap } in
+    let new : StoreState = record { opening = c.self.inside.opening; entries = c.self.inside.journal.entries; handed = c.self.inside.journal.start; heap = c.settle.new.self } in
     IsStore-collected old new c.self.inside.made c.self.invariant c.args.kind c.in_ok-settle.ensures.kept refl refl c.settle.ensures.subjects
 
 pub returns-clause-swept : goal.returns-clause-swept
 returns-clause-swept g c =
-    let old : StoreState = record { opening = c.self.inside.opening; entries = c.self.inside.journal.entries; heap = c.self.inside.heap } in
-    let new : StoreState = record { opening = c.self.inside.opening; entries = c.self.inside.journal.entries; heap = c.settle.new.self } in
+    let old : StoreState = record { opening = c.self.inside.opening; entries = c.self.inside.journal.entries; handed = c.self.inside.journal.start; heap = c.self.inside.heap } in
+    let new : StoreState = record { opening = c.self.inside.opening; entries = c.self.inside.journal.entries; handed = c.self.inside.journal.start; heap = c.settle.new.self } in
     record {
       number = c.vertices.ensures.number;
       names = (λ graph stands full.
@@ -50,6 +50,7 @@ pub returns-clause-history : goal.returns-clause-history
 returns-clause-history g c =
     record {
       entries = ap (λ (s : StoreState). s.entries) c.self.view_is;
+      handed = ap (λ (s : StoreState). s.handed) c.self.view_is;
       refused = tt;
       opening = ap (λ (s : StoreState). s.opening) c.self.view_is;
       limits = c.settle.ensures.limits ∙ ap (λ (s : StoreState). s.heap.table.limits) c.self.view_is;
@@ -61,7 +62,8 @@ returns-in_err-settle-clause-history g c =
     let same = c.in_err-settle.ensures.refused in
     record {
       entries = ap (λ (s : StoreState). s.entries) c.self.view_is;
-      refused = rw given.1 ((λ i. record { opening = c.self.inside.opening; entries = c.self.inside.journal.entries; heap = same i }) ∙ c.self.view_is);
+      handed = ap (λ (s : StoreState). s.handed) c.self.view_is;
+      refused = rw given.1 ((λ i. record { opening = c.self.inside.opening; entries = c.self.inside.journal.entries; handed = c.self.inside.journal.start; heap = same i }) ∙ c.self.view_is);
       opening = ap (λ (s : StoreState). s.opening) c.self.view_is;
       limits = c.settle.ensures.limits ∙ ap (λ (s : StoreState). s.heap.table.limits) c.self.view_is;
     }

@@ -1,0 +1,182 @@
+//! A shared store whose journal is taken away in parts while its sessions go on, one of which is taken over once it is
+//! done.
+ghost use Rattle.std.specs.Prelude.{◌≡◌, true};
+ghost use Rattle.tg_shared.specs.Sessions.{MayShare};
+
+use crate::sessions::opened::{closed, draft, make, opening_with, store_of};
+use std::alloc::Global;
+use std::marker::Brand;
+use std::sync::Wait;
+use std::sync::ledger::Blank;
+use std::test::Fail;
+use tg_journal::{AuditFault, Auditor, Journal, audit};
+use tg_model::Command;
+use tg_payload::CellPayload;
+use tg_rights::Label;
+use tg_shared::{
+    CloseFault, CloseRefused, Keeper, Round, Session, Shared, SharedStore, close, receipts_match,
+};
+use tg_store::Store;
+
+// The vertex that the first session makes.
+const READ: Command = Command::Read { target: 2 };
+
+// What is seen of a store of two workers that is cut twice.
+#[derive(Clone, Copy)]
+struct SeenOfParts {
+    // the place of the first entry of each part, and the one behind its last
+    places: [(u64, u64); 2],
+    // whether the receipts of the first part match it, and the second
+    matches: [bool; 2],
+    // whether a spawned session is taken over with its receipts, and without
+    taken_over: [bool; 2],
+    // why the store isn't closed while a session holds a receipt of the second part
+    why_not_closed: CloseFault,
+    // how many entries it made, and from which place on it holds them
+    entries: (u64, u64),
+    // what an audit of the second part alone says, and whether both parts and the rest pass, one after the other
+    alone: Result<(), AuditFault>,
+    in_a_row: bool,
+}
+
+// The two parts that were taken, and what was seen meanwhile.
+#[derive(Drop)]
+struct TakenInParts {
+    parts: [Journal; 2],
+    matches: [bool; 2],
+    taken_over: [bool; 2],
+}
+
+// Lets the session spawn one, which retires. It is taken over once its receipt was taken.
+fn spawn_and_take_over<L: Round, R: Wait>(
+    rt: &R,
+    alloc: Global,
+    store: &SharedStore<L, CellPayload>,
+    session: &mut Session<L>,
+) -> Option<[bool; 2]> {
+    let label = Label::read_text(b"r")?;
+    let mut spawned = session.spawn(rt, store, label, draft(alloc)?).ok()?;
+    let _retired = spawned.call(rt, store, Command::Retire).ok()?;
+    let Err(mut spawned) = session.take_over(spawned) else {
+        return Some([true, false]);
+    };
+    drop(spawned.take_receipts());
+    Some([false, session.take_over(spawned).is_ok()])
+}
+
+// Lets the first session make a vertex, takes the part with it, and lets it go on to another part.
+fn cut<L: Round, R: Wait>(
+    rt: &R,
+    alloc: Global,
+    store: &SharedStore<L, CellPayload>,
+    keeper: &mut Keeper<L>,
+    session: &mut Session<L>,
+) -> Option<TakenInParts>
+    requires in_parts { L.start.in_parts ≡ true }
+{
+    let _name = make(rt, alloc, store, session)?.ok()?;
+    let first = keeper.take_journal(rt, store);
+    let receipts = session.take_receipts();
+    let _read = session.call(rt, store, READ).ok()?;
+    let taken_over = spawn_and_take_over(rt, alloc, store, session)?;
+    let second = keeper.take_journal(rt, store);
+    let matches = [
+        receipts_match(&first, 0, &receipts),
+        receipts_match(&second, 0, &receipts),
+    ];
+    let _read = session.call(rt, store, READ).ok()?;
+    Some(TakenInParts {
+        parts: [first, second],
+        matches,
+        taken_over,
+    })
+}
+
+// Closes the store, once the first session holds no receipt of a part any more. Answers why it isn't closed before.
+fn close_at_last<L: Round>(
+    store: SharedStore<L, CellPayload>,
+    sessions: Vec<Session<L>>,
+) -> Option<(CloseFault, Store<CellPayload>)> {
+    let CloseRefused {
+        store,
+        mut sessions,
+        why,
+    } = close(store, sessions).err()?;
+    drop(sessions.get_mut(0)?.take_receipts());
+    Some((why, closed(store, sessions)?))
+}
+
+fn places(part: &Journal) -> (u64, u64) {
+    (part.start(), part.len())
+}
+
+// Whether the parts and what the store holds are legal, one after the other.
+fn pass_in_a_row(alloc: Global, parts: &[Journal; 2], store: &Store<CellPayload>) -> Option<bool> {
+    let mut auditor = Auditor::open(alloc, store.opening()).ok()?;
+    let first = auditor.feed(parts[0].entries()).is_ok();
+    let second = auditor.feed(parts[1].entries()).is_ok();
+    let rest = auditor.feed(store.journal().entries()).is_ok();
+    Some(first && second && rest)
+}
+
+fn seen_of_shared<L: Round, R: Wait>(
+    rt: &R,
+    alloc: Global,
+    shared: Shared<L, CellPayload>,
+) -> Option<SeenOfParts>
+    requires in_parts { L.start.in_parts ≡ true }
+{
+    let Shared {
+        store,
+        mut sessions,
+        mut keeper,
+    } = shared;
+    let cut = cut(rt, alloc, &store, &mut keeper, sessions.get_mut(0)?)?;
+    let (why_not_closed, store) = close_at_last(store, sessions)?;
+    Some(SeenOfParts {
+        places: [places(&cut.parts[0]), places(&cut.parts[1])],
+        matches: cut.matches,
+        taken_over: cut.taken_over,
+        why_not_closed,
+        entries: (store.journal().len(), store.journal().start()),
+        alone: audit(alloc, store.opening(), cut.parts[1].entries()),
+        in_a_row: pass_in_a_row(alloc, &cut.parts, &store)?,
+    })
+}
+
+fn seen_of_store<L: Round, R: Wait>(
+    rt: &R,
+    alloc: Global,
+    blank: Blank,
+    store: Store<CellPayload>,
+) -> Option<SeenOfParts>
+    requires shareable { MayShare L.name L.parts L.start blank store }
+    requires in_parts { L.start.in_parts ≡ true }
+{
+    let shared = SharedStore::<L, CellPayload>::new(alloc, blank, store).ok()?;
+    seen_of_shared(rt, alloc, shared)
+}
+
+fn seen<R: Wait>(rt: &R, alloc: Global) -> Option<SeenOfParts> {
+    let store = store_of(alloc, opening_with(alloc, "rw")?)?;
+    let blank = Blank::new(store.opening().max_vertices() + 1);
+    seen_of_store::<Brand, R>(rt, alloc, blank, store)
+}
+
+// Parts begin where the last one ended; the second alone isn't legal, since it reads what was made in the first. A
+// spawned session is taken over once its receipts were taken, and the store closes without it; while a receipt of a
+// part is held it doesn't.
+#[test]
+fn a_shared_store_is_cut_and_closes(rt: HostRuntime) -> Result<(), Fail> {
+    let Some(seen) = seen(&rt, rt.alloc()) else {
+        return Err(Fail::from("a refusal"));
+    };
+    assert_eq!(rt; seen.places, [(0, 1), (1, 4)]);
+    assert_eq!(rt; seen.matches, [true, false]);
+    assert_eq!(rt; seen.taken_over, [false, true]);
+    assert_eq!(rt; seen.why_not_closed, CloseFault::ReceiptMismatch);
+    assert_eq!(rt; seen.entries, (5, 4));
+    assert_eq!(rt; seen.alone, Err(AuditFault::BadEntry { at: 0 }));
+    assert!(rt; seen.in_a_row);
+    Ok(())
+}

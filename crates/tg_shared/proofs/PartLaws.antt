@@ -1,0 +1,77 @@
+-- Receipts of a journal that was handed out in parts.
+use Rattle.std.proofs.Common.{◌≡◌, ◌≢◌, ◌∙◌, ℕ, ◌+◌, ◌<◌, ◌≤◌, false, List, [], ◌∷◌, ◌++◌, length, take, drop, Some, slice_get, refl, sym, ap, subst, arith}
+use Rattle.std.specs.List.{All, AllPairs}
+use Rattle.std.proofs.lemmas.List.{get_or-take, length-take}
+use Rattle.std.proofs.lemmas.List.Elements.{All-nil, All-cons, All-head, All-tail, All-append, All-weaker}
+use Rattle.std.proofs.lemmas.List.Sums.{sum_by-cons}
+use Rattle.std.proofs.lemmas.Option.{get_or_from_slice_get, slice_get-get_or, slice_get_within}
+use Rattle.std.proofs.Math.Nat.{le-max_left, max-le}
+use Rattle.tg_journal.specs.declared.entry.Entry.{Entry}
+use Rattle.tg_journal.specs.Journal.{Entries}
+use Rattle.tg_store.specs.Store.{StoreState}
+use Rattle.tg_shared.specs.declared.receipt.Receipt.{Receipt}
+use Rattle.tg_shared.specs.Receipts.{AreParts, MatchParts, ReceiptsMatch, Stands, all_receipts}
+use Rattle.tg_shared.specs.Sessions.{AreSharedOut, GoesOn, KeptInParts, MatchesSince, SessionState, SharedStart, count_of, held_from, parts_of}
+use Rattle.tg_shared.proofs.Matching.{MatchFrom, held-is_from}
+use Rattle.tg_shared.proofs.Sharing.{shared_out}
+
+-- an entry at a place of a front stands there in the whole
+in_whole : (entries : List Entry) (n at : ℕ) (e : Entry) → slice_get (take n entries) at ≡ Some e → slice_get entries at ≡ Some e
+in_whole entries n at e some =
+    let inside = slice_get_within (take n entries) at e some in
+    slice_get-get_or entries at e (omega (arith, inside, length-take n entries))
+    ∙ ap (λ (x : Entry). Some x) (sym (get_or-take n entries at e (omega (arith, inside, length-take n entries))) ∙ get_or_from_slice_get (take n entries) at e e some)
+
+-- receipts that match a front from a place on, and then later ones that match the whole from its end on
+joined : (entries part : List Entry) (worker least : ℕ) (rs later : List Receipt) → take (length part) entries ≡ part → least ≤ length part → MatchFrom part worker least rs → MatchFrom entries worker (length part) later →
+    MatchFrom entries worker least (rs ++ later)
+joined entries part worker least [] [] front low m after = tt
+joined entries part worker least [] (r ∷ rs) front low m after = (omega (arith, low, after.0), after.1, after.2)
+joined entries part worker least (r ∷ rs) later front low m after =
+    let there : slice_get part r.at ≡ Some r.entry = m.1.0 in
+    let inside = slice_get_within part r.at r.entry there in
+    let stands : Stands entries worker r = (in_whole entries (length part) r.at r.entry (subst (λ (es : List Entry). slice_get es r.at ≡ Some r.entry) (sym front) there), m.1.1) in
+    (m.0, stands, joined entries part worker (r.at + 1) rs later front (omega (arith, inside)) m.2 after)
+
+-- so all receipts match, from the first place on
+match_parts : (entries : List Entry) (parts : List Entries) (worker first : ℕ) (lists : List (List Receipt)) → AreParts first entries parts → MatchParts parts worker lists → MatchFrom entries worker first (all_receipts lists)
+match_parts entries [] worker first lists are match = subst (λ (ls : List (List Receipt)). MatchFrom entries worker first (all_receipts ls)) (sym match) tt
+match_parts entries (part ∷ parts) worker first lists are match =
+    let held = (held-is_from part.entries worker part.start match.0).0 match.3 in
+    let here : MatchFrom part.entries worker first match.0 = subst (λ (n : ℕ). MatchFrom part.entries worker n match.0) are.0 held in
+    let later = match_parts entries parts worker (length part.entries) match.1 are.3 match.4 in
+    subst (λ (ls : List (List Receipt)). MatchFrom entries worker first (all_receipts ls)) (sym match.2)
+    (joined entries part.entries worker first match.0 (all_receipts match.1) are.2 are.1 here later)
+
+pub parts_match : (entries : List Entry) (parts : List Entries) (worker first : ℕ) (lists : List (List Receipt)) → AreParts first entries parts → MatchParts parts worker lists →
+    ReceiptsMatch entries worker (all_receipts lists) × All (λ r. first ≤ r.at) (all_receipts lists)
+parts_match entries parts worker first lists are match = (held-is_from entries worker first (all_receipts lists)).1 (match_parts entries parts worker first lists are match)
+
+-- ---- sessions that have all their receipts, part by part
+
+since_kept : (entries : List Entry) (first : ℕ) (parts : List Entries) (s : SessionState) → AreParts first entries parts → KeptInParts parts s → MatchesSince entries first s
+unfolding MatchesSince
+since_kept entries first parts s are kept =
+    subst (λ (rs : List Receipt). ReceiptsMatch entries s.worker rs × All (λ r. first ≤ r.at) rs) (sym kept.all) (parts_match entries parts s.worker first kept.lists are kept.each)
+
+pub kept_share_out : (entries : List Entry) (first : ℕ) (parts : List Entries) (ss : List SessionState) → AreParts first entries parts → All (KeptInParts parts) ss → AllPairs (λ s t. s.worker ≢ t.worker) ss → length entries ≡ first + count_of ss →
+    AreSharedOut (drop first entries) ss
+kept_share_out entries first parts ss are kept apart count =
+    shared_out entries first ss (record { matching = All-weaker (KeptInParts parts) (MatchesSince entries first) (λ s. since_kept entries first parts s are) ss kept; apart = apart }) count
+
+-- ---- the place from which on a store holds its entries
+
+pub whole_held : (start : SharedStart) (s : StoreState) → GoesOn start s → start.in_parts ≡ false → held_from start s ≡ length start.entries
+whole_held start s on is_whole =
+    let same = on.whole is_whole in
+    let few : s.handed ≤ length start.entries = (let within = on.within in omega (arith, same, within)) in
+    let least : length start.entries ≤ held_from start s = le-max_left (length start.entries) s.handed in
+    let most : held_from start s ≤ length start.entries = max-le {a = length start.entries} {b = s.handed} {k = length start.entries} (omega arith) few in
+    omega (arith, least, most)
+
+-- sessions that took none over
+pub ones : (ss : List SessionState) → All (λ s. s.parts ≡ 1) ss → parts_of ss ≡ length ss
+ones [] each = refl
+ones (s ∷ ss) each =
+    let here = All-head (λ (x : SessionState). x.parts ≡ 1) s ss each in
+    omega (arith, sum_by-cons (λ (x : SessionState). x.parts) s ss, here, ones ss (All-tail (λ (x : SessionState). x.parts ≡ 1) s ss each))

@@ -1,0 +1,5 @@
+use Rattle.tg_shared.proofs.PartLaws.{whole_held}
+use Rattle.tg_shared.proofs.laws.a_whole_journal_is_held.Goals as goal
+
+pub returns : goal.returns
+returns c = whole_held
