@@ -1,5 +1,5 @@
 -- The references and links of the cells of sound spaces.
-use Rattle.std.proofs.Common.{◌≡◌, ℕ, ◌<◌, ◌-◌, ◌+◌, ◌==◌, ◌++◌, ◌∷◌, inl, inr, Bool, true, false, List, [], length, get_or, take, drop, refl, sym, ap, subst, arith, ◌∙◌, ⊎_elim}
+use Rattle.std.proofs.Common.{◌≡◌, ℕ, ◌<◌, ◌+◌, ◌==◌, ◌++◌, ◌∷◌, inl, inr, Bool, true, false, List, [], length, get_or, take, drop, refl, sym, ap, subst, arith, ◌∙◌, ⊎_elim}
 use Rattle.std.specs.List.{All}
 use Rattle.std.proofs.lemmas.Bool.Decides.{nat_tests}
 use Rattle.std.proofs.lemmas.List.{take-append-drop, drop-drop, drop_more, drop_all}

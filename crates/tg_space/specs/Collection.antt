@@ -1,5 +1,5 @@
 -- What a collection leaves: one forwarding word for each cell, the new blocks, and the cells of Old to be remembered.
-use Rattle.std.specs.Prelude.{◌≡◌, ◌≢◌, ◌↔◌, ℕ, ◌+◌, ◌-◌, ◌*◌, ◌/◌, ◌^◌, ◌<◌, ◌≤◌, ◌⊎◌, ◌==◌, ◌&&◌, Bool, List, [], drop, length, slice_index, not, count_by}
+use Rattle.std.specs.Prelude.{◌≡◌, ◌≢◌, ◌↔◌, ℕ, ◌+◌, ◌-◌, ◌*◌, ◌/◌, ◌<◌, ◌≤◌, ◌⊎◌, ◌==◌, ◌&&◌, Bool, List, [], drop, length, slice_index, not, count_by}
 use Rattle.std.specs.List.{Contains}
 use Rattle.tg_word.specs.declared.TheConstants.{CELLS, MOST_SPACE_BLOCKS}
 use Rattle.tg_word.specs.declared.Place.{Place}

@@ -19,9 +19,12 @@ use std::alloc::{AllocError, Global};
 use std::marker::Model;
 use std::mem;
 use tg_block::{Block, WORDS};
-use tg_word::{CELLS, Place, nursery_space};
+use tg_word::{CELLS, OLD, Place, nursery_space};
 
 mod numbers;
+
+// How many spare blocks a nursery collection gives back that it doesn't want: so few that it hardly takes longer.
+const GIVEN_BACK: u64 = 64;
 
 /// All spaces of a heap: Old, Aged and the nurseries.
 #[derive(Drop)]
@@ -241,8 +244,8 @@ impl Spaces {
     /// changed.
     ///
     /// The blocks that Old had before a full collection are spare then. So are those that Aged had before a nursery collection,
-    /// behind the spare ones that it had no use for: the next full collection finds blocks to copy to. Of these, no more are
-    /// kept than the heap has blocks.
+    /// behind the spare ones that it had no use for. Of these, no more are kept than the heap has blocks; and a nursery collection
+    /// keeps as many as it emptied, for the next one, and gives back 64 of those beyond.
     pub fn adopt(&mut self, kind: Kind, adoption: Adoption) -> Result<(), AllocError>
         requires { kind ≡ Kind.Nursery → kept_blocks kind self.old.spaces + length adoption.old ≤ MOST_SPACE_BLOCKS }
         ensures adopted { OnOk result (self.new ≡ with_adopted self.old kind adoption.aged adoption.old) }
@@ -289,7 +292,8 @@ impl Spaces {
         filled
     }
 
-    // Old is followed by these blocks, Aged is the other ones, and every nursery has none. What is left of the spare blocks stays.
+    // Old is followed by these blocks, Aged is the other ones, and every nursery has none. Of the spare blocks and those that Aged
+    // had as many are kept as the collection emptied.
     #[tactic(auto, using(crate::proofs::Tables::table_adopted))]
     fn keep_old_and(&mut self, aged: Space, old: Space, left: Vec<Block>) -> Result<(), AllocError>
         requires { length (space_of self.old.spaces 0) + length old ≤ MOST_SPACE_BLOCKS }
@@ -298,11 +302,13 @@ impl Spaces {
         ensures table { OnOk result (IsSpaceTable self.new) }
     {
         let filled = self.filled();
+        let young = self.blocks().saturating_sub(self.len(OLD));
         let spare = put_behind(self.alloc, &mut self.spaces, filled, aged, old, left)?;
         self.used.fill(0);
         count_old_and_aged(&self.spaces, &mut self.starts);
         let most = self.starts[self.spaces.len()];
-        self.spare.keep_blocks(spare, most);
+        let wanted = wanted_of(spare.len() as u64, young);
+        self.spare.keep_blocks(spare, most.min(wanted));
         Ok(())
     }
 
@@ -318,4 +324,9 @@ impl Spaces {
         let most = self.starts[self.spaces.len()];
         self.spare.keep_blocks(emptied, most);
     }
+}
+
+// How many of so many spare blocks stay behind a nursery collection that emptied so many: the next one may need as many.
+fn wanted_of(spare: u64, emptied: u64) -> u64 {
+    emptied.max(spare.saturating_sub(GIVEN_BACK))
 }

@@ -88,6 +88,7 @@ pub(crate) fn deed_to_enter(
 }
 
 /// Makes the vertex of a kind in the heap, with a name that none has and that is above those of all subjects.
+#[inline(always)]
 pub(crate) fn add_vertex<P: Payload>(
     heap: &mut Heap<P>,
     worker: u64,

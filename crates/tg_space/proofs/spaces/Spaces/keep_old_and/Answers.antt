@@ -1,4 +1,4 @@
-use Rattle.std.proofs.Common.{rules, ◌≡◌, ◌+◌, ◌++◌, ◌∙◌, length, subst, sym, take, drop, arith}
+use Rattle.std.proofs.Common.{rules, ◌≡◌, ◌++◌, ◌∙◌, length, subst, sym, take, drop, arith}
 use Rattle.tg_space.specs.SpaceList.{SpaceList, IsEmptyFrom, IsSpace, space_of}
 use Rattle.tg_space.specs.SpaceTable.{SpaceTable, IsSpaceTable, IsPrefixCount, adopted, with_adopted}
 use Rattle.tg_space.specs.declared.kind.Kind.TheVariants.{Nursery}

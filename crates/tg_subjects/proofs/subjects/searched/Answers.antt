@@ -5,8 +5,8 @@ use Rattle.tg_subjects.specs.Subjects.{IsAt}
 use Rattle.std.specs.List.Sorted.{IsBinarySearchResult}
 use Rattle.std.specs.Ordering.{nat_cmp}
 use Rattle.tg_subjects.proofs.SearchLaws.{none_by_search, there_by_search}
-use Rattle.tg_subjects.proofs.subjects.position.Goals as goal
-use Rattle.tg_subjects.proofs.subjects.position.Goals.{After-ok}
+use Rattle.tg_subjects.proofs.subjects.searched.Goals as goal
+use Rattle.tg_subjects.proofs.subjects.searched.Goals.{After-ok}
 
 by_name : (c : After-ok) → IsBinarySearchResult (λ s. nat_cmp s.name c.args.name) c.args.subjects.now c.binary_search_by_key.result
 by_name c = c.binary_search_by_key.ensures.position (λ s. s.name) (answers_always _ _ _ (λ f a r g called. search rules))
