@@ -92,9 +92,7 @@ fn told_of(answer: &Answer) -> Told {
         is_never: matches!(answer, Answer::Never(_)),
         is_open: matches!(answer, Answer::Open),
         made: match answer {
-            Answer::Could(turns) | Answer::WantsNames { turns, .. } => {
-                makings(turns.as_slice())
-            }
+            Answer::Could(turns) | Answer::WantsNames { turns, .. } => { makings(turns.as_slice()) }
             _ => 0,
         },
     }

@@ -3,13 +3,12 @@
 pub const ABOUT: &str = "Answers whether x could ever come to hold a right over y
 
 Reads a script of tgstore's from standard input, runs it, and answers questions on the graph that it leaves: could x come to hold
-a right over y, by any turns of the active subjects? Whom you trust you name as silent, and they take no turns. What is answered
-is proved, both ways.";
+a right over y, by any turns of the active subjects? Whom you trust you name as silent, and they take no turns. Both 'never' and
+'could' are proved.";
 
 pub const SILENT: &str = "A subject that takes no turns, as the host itself; once for each";
 
-pub const AS_IF: &str =
-    "Rights of X over Y that are supposed to be there too: so a grant is asked
+pub const AS_IF: &str = "Rights of X over Y that are supposed to be there too: so a grant is asked
 about before it is made; once for each";
 
 pub const ASK: &str = "What is asked, as '3 r 7'; once for each question";
@@ -25,7 +24,8 @@ pub const MANUAL: &str = "Questions:
   'X * *'         which rights could X come to hold, and over whom?
 
   Who acts is an active subject that isn't silent, and whoever is spawned on the way. They create, spawn, take, grant, give
-  up and retire as they like, together.
+  up and retire as they like, together. A line of the script that is denied or refused, as by a --stock that is too short,
+  changes nothing and isn't told of here: tgstore tells.
 
 Answers:
   never           X doesn't, whatever those who act do
@@ -46,7 +46,7 @@ Answers:
   The answers are of the graph, with no heap: a 'full' in the script takes nothing from it, and who is collected is answered
   about as it stood; so no 'unreached' is told here.
 
-What it doesn't speak of:
+What is no right:
   It speaks of rights. What a worker learns by names, by refusals for room, by the number of a 'full' or by time, or is told
   by reading and writing, is no right.
 
@@ -62,5 +62,5 @@ Exit status:
   2  the words of the command line were not accepted
 
 Example:
-  printf 'edge 0 1 g\\n0 create r\\n' | tgcould --stock c --ask '1 r 2'
-  writes 'could' and '0 grant 1 2 r'.";
+  printf 'edge 0 1 g\\n0 create rw\\n' | tgcould --stock c --silent 0 --ask '1 w 2'
+  writes 'never'; without --silent 0 it writes lines by which 0 hands w on.";

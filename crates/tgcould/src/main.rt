@@ -20,9 +20,9 @@ use options::{AskOptions, Asked, Supposed, WordFault, read_words};
 use std::alloc::{AllocError, Global};
 use std::env;
 use std::process::ExitCode;
+use text::add;
 use tg_model::Picture;
 use tg_plain::{PlainRun, Script};
-use text::add;
 
 fn main(rt: HostRuntime) -> ExitCode {
     match obey(&rt) {
@@ -48,11 +48,13 @@ fn obey(rt: &HostRuntime) -> Result<u8, AskFault> {
             Ok(error.exit_code() as u8)
         }
         Err(WordFault::OutOfMemory) => Err(AskFault::OutOfMemory(AllocError)),
-        Err(WordFault::Value {
-            option,
-            text,
-            reason,
-        }) => {
+        Err(
+            WordFault::Value {
+                option,
+                text,
+                reason,
+            },
+        ) => {
             eprintln!(rt; "tgcould: --{option} '{text}': {reason}")?;
             Err(AskFault::WasSaid)
         }

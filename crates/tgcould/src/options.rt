@@ -121,6 +121,7 @@ pub fn read_words<'a, S: AsStr>(
     let mut args = Vec::new(alloc);
     add_args(&mut args, alloc, CHOICES)?;
     let command = Command::new(alloc, "tgcould")
+        .bin_name("tgcould")?
         .about(help::ABOUT)
         .after_help(help::MANUAL)
         .args(args)?;
@@ -192,26 +193,27 @@ fn supposed_of<'a>(
 ) -> Result<Vec<Supposed<'a>>, WordFault<'a>> {
     let mut supposed = Vec::new(alloc);
     for text in matches.get_strs("as-if").unwrap_or(&[]) {
-        match read_edge(alloc, text)? {
-            Ok(edge) => supposed.push(Supposed { text, edge })?,
-            Err(reason) => {
-                return Err(WordFault::Value {
-                    option: "as-if",
-                    text,
-                    reason,
-                });
-            }
-        }
+        let edge = read_edge(alloc, text)?;
+        supposed.push(Supposed { text, edge })?;
     }
     Ok(supposed)
 }
 
-// The edge that the text is, as it stands in an edge line, or why it is none.
-fn read_edge(alloc: Global, text: &str) -> Result<Result<Edge, &'static str>, AllocError> {
+// The edge that the text is, as it stands in an edge line.
+fn read_edge<'a>(alloc: Global, text: &'a str) -> Result<Edge, WordFault<'a>> {
     let mut line = Vec::from_slice(alloc, b"edge ")?;
     line.extend_from_slice(text.as_bytes())?;
-    Ok(match read_line(line.as_slice()) {
+    match read_line(line.as_slice()) {
         Some(Line::Edge(edge)) if edge.from != edge.to => Ok(edge),
-        _ => Err(reason_of(line.as_slice(), true, ANY)),
-    })
+        Some(_) => Err(WordFault::Value {
+            option: "as-if",
+            text,
+            reason: "an edge joins two different vertices",
+        }),
+        None => Err(WordFault::Value {
+            option: "as-if",
+            text,
+            reason: reason_of(line.as_slice(), true, ANY),
+        }),
+    }
 }

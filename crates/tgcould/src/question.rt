@@ -16,11 +16,7 @@ pub enum Vertex {
 #[derive(Clone, Copy, Debug)]
 pub enum Question {
     /// Could x come to hold the right over y? `3 r 7`
-    Hold {
-        x: Vertex,
-        right: Right,
-        y: Vertex,
-    },
+    Hold { x: Vertex, right: Right, y: Vertex },
     /// Who could come to hold the right over y? `* r 7`
     Who { right: Right, y: Vertex },
     /// Which rights could x come to hold, and over whom? `3 * *`

@@ -115,7 +115,11 @@ fn add_making(text: &mut Vec<u8>, worker: u64, word: &[u8], label: Label) -> Res
 {
     let mut first = Buffer::new();
     let rights = label.rights().text();
-    add_line(text, first.format(worker).as_bytes(), &[word, rights.as_bytes()])
+    add_line(
+        text,
+        first.format(worker).as_bytes(),
+        &[word, rights.as_bytes()],
+    )
 }
 
 // Adds the line of a take or a grant.
