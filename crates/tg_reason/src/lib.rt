@@ -208,7 +208,8 @@ fn cut(words: &str) -> (&str, &str) {
     }
 }
 
-fn reason_of_number(word: &str) -> Option<&'static str> {
+/// Why the word is no number as lines have them, or `None` where it is one. One sentence without its dot.
+pub fn reason_of_number(word: &str) -> Option<&'static str> {
     let first = word.as_bytes().first();
     if word.is_empty() {
         Some("too few words")

@@ -2,16 +2,15 @@
 
 use crate::draft::Draft;
 use crate::fault::DrawFault;
-use crate::run::{Run, graph_of};
-use crate::script::Script;
+use crate::run::Run;
+use tg_plain::{PlainRun, Script};
 use tg_text::Line;
 
 /// Writes the graph that a script leaves as a digraph: its vertices by rising name, then its edges. What a collection would take is there
 /// too. A bad line leaves nothing to be drawn.
 pub fn write_last(text: &mut Draft, script: &Script) -> Result<(), DrawFault> {
     script.whole()?;
-    let graph = graph_of(script)?;
-    let mut run = Run::new(script.alloc, graph);
+    let mut run = Run::new(script.alloc, PlainRun::open(script)?);
     write_run(text, script, &mut run);
     Ok(())
 }

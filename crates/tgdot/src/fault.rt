@@ -2,8 +2,7 @@
 
 use std::alloc::AllocError;
 use std::io;
-use tg_model::OpeningFault;
-use tg_text::StockFault;
+use tg_plain::PlainFault;
 use thiserror::Error;
 
 /// Why the program ends early: the line on standard error, after its name.
@@ -15,25 +14,19 @@ pub enum DrawFault {
     /// The words of the command line can't be had as text.
     #[error("bad words")]
     BadWords,
-    /// The stock is none, or names too many boxes.
+    /// The script isn't run, or ends at a bad line.
     #[error(transparent)]
-    Stock(#[from] StockFault),
-    /// The workers and vertices don't fit each other.
-    #[error(transparent)]
-    Opening(#[from] OpeningFault),
+    Plain(#[from] PlainFault),
     /// The first line that is asked for stands behind the last.
     #[error("--from {from} is behind --to {to}")]
     BadRange { from: u64, to: u64 },
     /// The script has no line that is asked for.
     #[error("--from {from} is behind the last of {lines} lines")]
     NoStep { from: u64, lines: u64 },
-    /// The line is none of the grammar, or an edge where it may not stand, or has no end.
-    #[error("line {number}: bad line: {reason}")]
-    BadLine { number: u64, reason: &'static str },
     /// There are more lines, or more vertices in all steps, than are drawn at once.
     #[error("more than {most} {what}: choose some of the lines by --from and --to")]
     TooMany { most: u64, what: &'static str },
-    /// Standard input or standard output failed.
+    /// Standard output failed.
     #[error(transparent)]
     Stream(#[from] io::Error),
 }
@@ -42,10 +35,8 @@ impl DrawFault {
     /// The exit status: 2 where the words of the command line are at fault, else 1.
     pub fn status(&self) -> u8 {
         match self {
-            DrawFault::BadWords
-            | DrawFault::Stock(StockFault::BadStock)
-            | DrawFault::Opening(_)
-            | DrawFault::BadRange { .. } => 2,
+            DrawFault::BadWords | DrawFault::BadRange { .. } => 2,
+            DrawFault::Plain(fault) => fault.status(),
             _ => 1,
         }
     }

@@ -6,9 +6,9 @@
 //! subject reaches any more, which is what a collection of the whole heap frees. With `--steps` it prints a digraph for
 //! each line.
 //!
-//! The words of the command line are `options`' matter, and lines `script`'s; `tg_reason` says why one is bad. `run`
-//! runs them, and knows which edges there are, so that no pair of vertices is asked for its edge in vain; `reach` says
-//! what subjects reach. `drawing` writes the last graph. Of the steps, `shot` says what is shown at one, `marks` what
+//! The words of the command line are `options`' matter. `tg_plain` reads the script and runs its lines; `run` follows them,
+//! and knows which edges there are, so that no pair of vertices is asked for its edge in vain; `reach` says what subjects
+//! reach. `drawing` writes the last graph. Of the steps, `shot` says what is shown at one, `marks` what
 //! stands out and `look` how that looks, `frame` what all have in common, `picture` writes one, and `steps` all. What
 //! they write is a `draft`, which is printed at once. A line of the grammar has a place in `run`, where it is taken and
 //! followed, and in `named` of `marks`.
@@ -24,7 +24,6 @@ mod options;
 mod picture;
 mod reach;
 mod run;
-mod script;
 mod shot;
 mod steps;
 
@@ -32,12 +31,11 @@ use draft::Draft;
 use drawing::write_last;
 use fault::DrawFault;
 use options::{DotOptions, LineRange, read_words};
-use script::Script;
 use std::alloc::Global;
 use std::env;
 use std::process::ExitCode;
 use steps::write_steps;
-use tg_text::read_stock;
+use tg_plain::Script;
 
 fn main(rt: HostRuntime) -> ExitCode {
     match obey(&rt) {
@@ -81,8 +79,7 @@ fn draw_script<R: Print + Input>(
     if let Some(range) = options.steps {
         range.check()?;
     }
-    let stock = read_stock(alloc, options.stock.as_bytes())?;
-    let mut script = Script::new(alloc, options.workers, options.max_vertices, stock);
+    let mut script = Script::new(alloc, options.plain)?;
     draw(rt, options.steps, &mut script)
 }
 
@@ -106,7 +103,7 @@ fn print<R: Print>(
 ) -> Result<(), DrawFault> {
     write(text, steps, script)?;
     text.print(rt)?;
-    script.whole()
+    Ok(script.whole()?)
 }
 
 // Writes what these lines leave, or their steps.

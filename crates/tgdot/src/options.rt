@@ -2,10 +2,10 @@
 
 use crate::fault::DrawFault;
 use clap::builder::ValueParser;
-use clap::{Arg, ArgAction, ArgMatches, Command, Error};
-use std::alloc::{AllocError, Global};
+use clap::{ArgAction, ArgMatches, Command, Error};
+use std::alloc::Global;
 use std::convert::AsStr;
-use tg_model::{MAX_VERTICES, MAX_WORKERS};
+use tg_plain::{Choice, PlainOptions, STOCK, VERTICES, WORKERS, add_args, read_options};
 
 const ABOUT: &str = "Draws the graph that a script leaves, for GraphViz's dot
 
@@ -29,12 +29,6 @@ const DEFAULT_VERTICES: u64 = 1_000_000;
 // The number of a line, as an option has it.
 const LINE: ValueParser<'static> = ValueParser::Unsigned(1, i64::MAX as u64);
 
-const WORKERS: &str = "How many workers there are at first, from 1 to 64 [default: 2]";
-
-const VERTICES: &str = "How many vertices may ever be made, from 1 to 16777216 [default: 1000000]";
-
-const STOCK: &str = "The boxes that creates and spawns take, as tgstore has them";
-
 const STEPS: &str =
     "A digraph for each line, of at most 400 lines, and one before the first; 100000 vertices in all";
 
@@ -42,45 +36,11 @@ const FROM: &str = "With --steps: the first line that is shown, not above --to [
 
 const TO: &str = "With --steps: the last line that is shown [default: the last of all]";
 
-// An option of the command line.
-#[derive(Clone, Copy)]
-struct Choice {
-    name: &'static str,
-    action: ArgAction,
-    // The word for its value.
-    value: &'static str,
-    parser: ValueParser<'static>,
-    // What has to stand beside it.
-    needs: &'static [&'static str],
-    help: &'static str,
-}
-
 // The options: two numbers, a text, a flag, and with the flag the numbers of two lines.
 const CHOICES: &[Choice] = &[
-    Choice {
-        name: "workers",
-        action: ArgAction::Set,
-        value: "N",
-        parser: ValueParser::Unsigned(1, MAX_WORKERS),
-        needs: &[],
-        help: WORKERS,
-    },
-    Choice {
-        name: "vertices",
-        action: ArgAction::Set,
-        value: "N",
-        parser: ValueParser::Unsigned(1, MAX_VERTICES),
-        needs: &[],
-        help: VERTICES,
-    },
-    Choice {
-        name: "stock",
-        action: ArgAction::Set,
-        value: "TEXT",
-        parser: ValueParser::String,
-        needs: &[],
-        help: STOCK,
-    },
+    WORKERS,
+    VERTICES,
+    STOCK,
     Choice {
         name: "steps",
         action: ArgAction::SetTrue,
@@ -110,12 +70,8 @@ const CHOICES: &[Choice] = &[
 /// What the words ask for.
 #[derive(Clone, Copy)]
 pub struct DotOptions<'a> {
-    /// How many workers there are at first, from 1 to 64.
-    pub workers: u64,
-    /// How many vertices may ever be made, from 1 to 2^24.
-    pub max_vertices: u64,
-    /// The text of the stock, as it was written.
-    pub stock: &'a str,
+    /// What the script runs on.
+    pub plain: PlainOptions<'a>,
     /// The lines whose steps are drawn, or `None` where only the last graph is.
     pub steps: Option<LineRange>,
 }
@@ -148,7 +104,7 @@ impl LineRange {
 /// Reads the words, the first of which is the program's name. An `Err` is the text for the user, of the help as of a fault.
 pub fn read_words<'a, S: AsStr>(alloc: Global, words: &'a [S]) -> Result<DotOptions<'a>, Error> {
     let mut args = Vec::new(alloc);
-    add_args(&mut args, alloc)?;
+    add_args(&mut args, alloc, CHOICES)?;
     let command = Command::new(alloc, "tgdot")
         .about(ABOUT)
         .after_help(EXAMPLE)
@@ -162,9 +118,7 @@ pub fn read_words<'a, S: AsStr>(alloc: Global, words: &'a [S]) -> Result<DotOpti
 // The options that were found in the words, and the defaults of the others.
 fn options_of<'a>(matches: &ArgMatches<'a>) -> DotOptions<'a> {
     DotOptions {
-        workers: matches.get_one("workers").unwrap_or(DEFAULT_WORKERS),
-        max_vertices: matches.get_one("vertices").unwrap_or(DEFAULT_VERTICES),
-        stock: matches.get_str("stock").unwrap_or(""),
+        plain: read_options(matches),
         steps: steps_of(matches),
     }
 }
@@ -178,23 +132,4 @@ fn steps_of(matches: &ArgMatches) -> Option<LineRange> {
         from: matches.get_one("from").unwrap_or(1),
         to: matches.get_one("to").unwrap_or(u64::MAX),
     })
-}
-
-// Adds all options.
-fn add_args<'a>(args: &mut Vec<Arg<'a>>, alloc: Global) -> Result<(), AllocError> {
-    for choice in CHOICES {
-        args.push(arg_of(alloc, choice)?)?;
-    }
-    Ok(())
-}
-
-// An option, as clap has it.
-fn arg_of<'a>(alloc: Global, choice: &Choice) -> Result<Arg<'a>, AllocError> {
-    Arg::new(alloc, choice.name)
-        .long(choice.name)
-        .help(choice.help)
-        .action(choice.action)
-        .value_name(choice.value)
-        .value_parser(choice.parser)
-        .requires_all(choice.needs)
 }

@@ -1,21 +1,20 @@
 //! A script, run on the plain graph.
 
-use crate::fault::DrawFault;
 use crate::reach::Reach;
-use crate::script::Script;
 use std::alloc::{AllocError, Global};
 use std::collections::BTreeSet;
 use std::mem;
-use tg_model::{Command, Deed, Edge, Graph, Law, ModelFault, Numbers, Opening, Reply, Value};
-use tg_rights::{Label, Rights};
+use tg_model::{Command, Reply, Value};
+use tg_plain::{PlainRun, Script, value_of};
+use tg_rights::Rights;
 use tg_text::{Answer, Line, Refusal, StockItem};
 
-/// The run of a script. The plain graph says what the rules do. Beside it stand what each vertex stores, and between which vertices there
+/// The run of a script. The plain graph of `tg_plain` says what the rules do. Beside it stand what each vertex stores, and between which vertices there
 /// are edges, so that nobody has to ask each pair of vertices for its edge. It remembers whether memory was wanting for a part of it.
 #[derive(Drop)]
 pub struct Run {
     alloc: Global,
-    graph: Graph,
+    plain: PlainRun,
     // What all vertices store that were ever made, by name.
     values: Vec<Value>,
     // The names of those that are subjects, or were until they retired.
@@ -26,24 +25,21 @@ pub struct Run {
     pub edges: BTreeSet<(u64, u64)>,
     // What the subjects reached when this was last looked for.
     reached: Reach,
-    // How many boxes of the stock were taken.
-    taken: usize,
     // Whether memory was wanting.
     is_short: bool,
 }
 
 impl Run {
     /// A run of which nothing is known but the graph.
-    pub fn new(alloc: Global, graph: Graph) -> Run {
+    pub fn new(alloc: Global, plain: PlainRun) -> Run {
         Run {
             alloc,
-            graph,
+            plain,
             values: Vec::new(alloc),
             ever_subjects: BTreeSet::new(alloc),
             names: BTreeSet::new(alloc),
             edges: BTreeSet::new(alloc),
             reached: Reach::new(alloc),
-            taken: 0,
             is_short: false,
         }
     }
@@ -66,11 +62,8 @@ impl Run {
     /// Runs a line with the boxes of this stock. What it is answered. An edge line does nothing here: the graph began with its edge.
     pub fn take(&mut self, stock: &[StockItem], line: &Line) -> Answer {
         match *line {
-            Line::Create { worker, label } => self.make(stock, worker, label, false),
-            Line::Spawn { worker, label } => self.make(stock, worker, label, true),
-            Line::Plain { worker, command } => self.obey(worker, command),
             Line::Full => self.collect(),
-            Line::Minor | Line::Edge(_) => Answer::Collected(None),
+            _ => self.run(stock, line),
         }
     }
 
@@ -85,7 +78,7 @@ impl Run {
 
     /// Whether the vertex is an active subject.
     pub fn is_subject(&self, name: u64) -> bool {
-        self.graph.is_subject(name)
+        self.plain.graph.is_subject(name)
     }
 
     /// Whether a vertex that no collection took is a subject, or was one until it retired.
@@ -101,7 +94,7 @@ impl Run {
     /// The rights on the edge between these, or none where it isn't there.
     pub fn held(&self, ends: (u64, u64)) -> Rights {
         if self.names.contains(&ends.0) && self.edges.contains(&ends) {
-            self.graph.label(ends.0, ends.1)
+            self.plain.graph.label(ends.0, ends.1)
         } else {
             Rights::empty()
         }
@@ -109,7 +102,7 @@ impl Run {
 
     /// Looks anew for what the subjects reach.
     pub fn reach(&mut self) {
-        self.reached.fill(&self.graph, &self.edges);
+        self.reached.fill(&self.plain.graph, &self.edges);
     }
 
     /// Whether a subject reached the vertex when this was last looked for.
@@ -128,49 +121,39 @@ impl Run {
 
     // Notes an edge, or forgets it where its last right was given up.
     fn note_edge(&mut self, ends: (u64, u64)) {
-        if self.graph.label(ends.0, ends.1).is_empty() {
+        if self.plain.graph.label(ends.0, ends.1).is_empty() {
             self.edges.remove(&ends);
         } else {
             self.is_short |= self.edges.insert(ends).is_err();
         }
     }
 
-    // Makes a subject or an object that stores the next box. Where none is made, the box stays.
-    fn make(&mut self, stock: &[StockItem], worker: u64, label: Label, as_subject: bool) -> Answer {
-        let Some(kind) = stock.get(self.taken) else {
-            return Answer::Refused(Refusal::Stock);
+    // Has the plain graph run a line, and follows it.
+    fn run(&mut self, stock: &[StockItem], line: &Line) -> Answer {
+        let next = stock.get(self.plain.taken).copied();
+        let Ok(answer) = self.plain.take(stock, line) else {
+            self.is_short = true;
+            return Answer::Refused(Refusal::Memory);
         };
-        let answer = self.apply(worker, &deed_of(label, *kind, as_subject));
-        if let Answer::Reply(Reply::Name(name)) = answer {
-            self.taken = self.taken.saturating_add(1);
-            self.add_vertex(name, as_subject, *kind);
-            self.note_edge((worker, name));
-        }
-        answer
-    }
-
-    // Runs a command that makes no vertex.
-    fn obey(&mut self, worker: u64, command: Command) -> Answer {
-        let answer = self.apply(worker, &Deed::Plain(command));
-        if let Answer::Reply(Reply::Done) = answer {
-            self.follow(worker, &command);
-        }
-        answer
-    }
-
-    // Has the graph take a deed. A new box fits its law, so no vertex is missed here.
-    fn apply(&mut self, worker: u64, deed: &Deed) -> Answer {
-        if !deed.fits() {
-            return Answer::Refused(Refusal::Stock);
-        }
-        match self.graph.apply(worker, deed) {
-            Ok(reply) => Answer::Reply(reply),
-            Err(ModelFault::NoSuchWorker) => Answer::Refused(Refusal::Worker),
-            Err(ModelFault::OutOfMemory) => {
-                self.is_short = true;
-                Answer::Refused(Refusal::Memory)
+        match (*line, &answer) {
+            (Line::Create { worker, .. }, Answer::Reply(Reply::Name(name))) => {
+                self.add_made(worker, *name, false, next)
             }
+            (Line::Spawn { worker, .. }, Answer::Reply(Reply::Name(name))) => {
+                self.add_made(worker, *name, true, next)
+            }
+            (Line::Plain { worker, command }, Answer::Reply(Reply::Done)) => {
+                self.follow(worker, &command)
+            }
+            _ => (),
         }
+        answer
+    }
+
+    // Adds the vertex that was made last, with the edge to it.
+    fn add_made(&mut self, worker: u64, name: u64, as_subject: bool, kind: Option<StockItem>) {
+        self.add_vertex(name, as_subject, kind.unwrap_or(StockItem::Cell));
+        self.note_edge((worker, name));
     }
 
     // Follows a command that was served.
@@ -205,50 +188,6 @@ pub fn changed_by(worker: u64, command: &Command) -> Option<(u64, u64)> {
         Command::Grant { via, target, .. } => Some((via, target)),
         _ => None,
     }
-}
-
-/// The graph with which a script begins: the edges of its edge lines, and for each worker a cell with 0.
-pub fn graph_of(script: &Script) -> Result<Graph, DrawFault> {
-    let mut edges = Vec::new(script.alloc);
-    let mut values = Vec::new(script.alloc);
-    add_parts(&mut edges, &mut values, script)?;
-    match Opening::new(script.workers, edges, values, script.max_vertices) {
-        Ok(opening) => Ok(Graph::open(script.alloc, &opening)?),
-        Err(fault) => Err(DrawFault::Opening(fault)),
-    }
-}
-
-// Adds the edges of a script, and the cells of its workers.
-fn add_parts(
-    edges: &mut Vec<Edge>,
-    values: &mut Vec<Value>,
-    script: &Script,
-) -> Result<(), AllocError> {
-    for _ in 0..script.workers {
-        values.push(value_of(StockItem::Cell))?;
-    }
-    edges.extend_from_slice(script.edges.as_slice())
-}
-
-// The making of a subject or an object that stores a new box.
-fn deed_of(label: Label, kind: StockItem, as_subject: bool) -> Deed {
-    let Value { law, state } = value_of(kind);
-    if as_subject {
-        Deed::Spawn { label, law, state }
-    } else {
-        Deed::Create { label, law, state }
-    }
-}
-
-// What a new box stores.
-fn value_of(kind: StockItem) -> Value {
-    let (law, state) = match kind {
-        StockItem::Cell => (Law::Cell, Numbers::one(0)),
-        StockItem::Sum => (Law::Sum, Numbers::one(0)),
-        StockItem::Max => (Law::Max, Numbers::one(0)),
-        StockItem::Log => (Law::Log(4), Numbers::none()),
-    };
-    Value { law, state }
 }
 
 // Has a value take a number in.

@@ -4,9 +4,9 @@ use crate::draft::Draft;
 use crate::look::{Colour, Look, Stroke};
 use crate::marks::{Marks, NO_MARKS};
 use crate::run::Run;
-use crate::script::{Script, ScriptLine};
 use std::alloc::Global;
-use tg_model::{Graph, Law, Value};
+use tg_model::{Law, Value};
+use tg_plain::{PlainRun, Script, ScriptLine};
 use tg_rights::Rights;
 
 /// The graph of a run at a step, what its line was answered, and what stands out.
@@ -44,13 +44,13 @@ pub struct EdgeView {
 
 impl Shot {
     /// A graph of which nothing is shown yet.
-    pub fn new(alloc: Global, graph: Graph) -> Shot {
+    pub fn new(alloc: Global, plain: PlainRun) -> Shot {
         Shot {
             number: 0,
             heading: Draft::new(alloc),
             told: Draft::new(alloc),
             marks: NO_MARKS,
-            run: Run::new(alloc, graph),
+            run: Run::new(alloc, plain),
         }
     }
 

@@ -5,9 +5,8 @@ use crate::fault::DrawFault;
 use crate::frame::Frame;
 use crate::options::LineRange;
 use crate::picture::write_shot;
-use crate::run::graph_of;
-use crate::script::Script;
 use crate::shot::Shot;
+use tg_plain::{PlainRun, Script};
 
 // The most lines of which the steps are drawn at once.
 const MOST_LINES: u64 = 400;
@@ -72,8 +71,7 @@ fn run_lines(
     range: LineRange,
     script: &Script,
 ) -> Result<(), DrawFault> {
-    let graph = graph_of(script)?;
-    let mut shot = Shot::new(script.alloc, graph);
+    let mut shot = Shot::new(script.alloc, PlainRun::open(script)?);
     show_lines(text, frame, range, script, &mut shot);
     Ok(())
 }

@@ -1,11 +1,12 @@
 //! The lines of a script.
 
-use crate::fault::DrawFault;
+use crate::fault::PlainFault;
+use crate::options::PlainOptions;
 use std::alloc::{AllocError, Global};
 use std::io::{self, ErrorKind, Input};
 use tg_model::Edge;
 use tg_reason::{NO_TEXT, reason_of};
-use tg_text::{Line, StockItem, standing_line};
+use tg_text::{Line, StockItem, read_stock, standing_line};
 
 /// A line of a script.
 #[derive(Clone, Copy)]
@@ -50,20 +51,20 @@ pub struct Script {
 }
 
 impl Script {
-    /// A script with no line.
-    pub fn new(alloc: Global, workers: u64, max_vertices: u64, stock: Vec<StockItem>) -> Script {
-        Script {
+    /// A script with no line. `Stock` where the text of the stock is none, or memory is wanting for its boxes.
+    pub fn new(alloc: Global, options: PlainOptions) -> Result<Script, PlainFault> {
+        Ok(Script {
             alloc,
-            workers,
-            max_vertices,
-            stock,
+            workers: options.workers,
+            max_vertices: options.max_vertices,
+            stock: read_stock(alloc, options.stock.as_bytes())?,
             edges: Vec::new(alloc),
             lines: Vec::new(alloc),
             text: String::new(alloc),
             bad_line: None,
             failure: None,
             is_short: false,
-        }
+        })
     }
 
     /// The text of one of the lines, without its line feed.
@@ -75,25 +76,25 @@ impl Script {
     }
 
     /// An error where there is a bad line.
-    pub fn whole(&self) -> Result<(), DrawFault> {
+    pub fn whole(&self) -> Result<(), PlainFault> {
         match self.bad_line {
-            Some(BadLine { number, reason }) => Err(DrawFault::BadLine { number, reason }),
+            Some(BadLine { number, reason }) => Err(PlainFault::BadLine { number, reason }),
             None => Ok(()),
         }
     }
 
     /// Adds the lines of standard input up to the first bad one. An edge stands before all other lines, and between workers.
-    pub fn read<R: Input>(&mut self, rt: &R) -> Result<(), DrawFault> {
+    pub fn read<R: Input>(&mut self, rt: &R) -> Result<(), PlainFault> {
         for number in 1..u64::MAX {
             if !self.read_next(rt, number) {
                 break;
             }
         }
         if self.is_short {
-            return Err(DrawFault::OutOfMemory(AllocError));
+            return Err(PlainFault::OutOfMemory(AllocError));
         }
         match self.failure {
-            Some(error) => Err(DrawFault::Stream(error)),
+            Some(error) => Err(PlainFault::Stream(error)),
             None => Ok(()),
         }
     }

@@ -1,0 +1,71 @@
+-- The graph that the lines of a script leave, with no collection, and how many boxes of its stock they take.
+use Rattle.std.specs.Prelude.{◌≡◌, ◌⊎◌, ℕ, ◌+◌, ◌<◌, ◌≤◌, true, false, List, [], ◌∷◌, length, slice_index_or, map, replicate, nat_lt, if◌then◌else◌}
+use Rattle.tg_model.specs.declared.command.Deed.{Deed}
+use Rattle.tg_model.specs.declared.command.Deed.TheVariants as deed
+use Rattle.tg_model.specs.declared.value.Value.{Value}
+use Rattle.tg_model.specs.Graph.{ProtectionGraph, IsSubject}
+use Rattle.tg_model.specs.Rules.{step}
+use Rattle.tg_model.specs.Plain.{graph_of}
+use Rattle.tg_model.specs.Opened.{start_of}
+use Rattle.tg_plain.specs.Boxes.{value_of_box, making_of}
+use Rattle.tg_plain.specs.declared.run.PlainRun.{PlainRun}
+use Rattle.tg_plain.specs.declared.script.Script.{Script}
+use Rattle.tg_text.specs.declared.line.Line.{Line}
+use Rattle.tg_text.specs.declared.line.Line.TheVariants as line
+use Rattle.tg_text.specs.declared.stock.StockItem.{StockItem}
+use Rattle.tg_text.specs.declared.stock.StockItem.TheVariants.{Cell}
+
+-- a graph, and how many boxes of the stock were taken
+pub record Stage : Type 0 where
+  pub graph : ProtectionGraph
+  pub taken : ℕ
+
+-- an active subject's deed leads from one graph to the other; who is none changes nothing
+abbrev pub Steps : ProtectionGraph → ℕ → Deed → ProtectionGraph → Type 0
+Steps g x d h = (IsSubject g x × (h ≡ step g x d)) ⊎ ((¬ IsSubject g x) × (h ≡ g))
+
+-- the next box is of this kind, where so many were taken
+abbrev pub IsNext : List StockItem → ℕ → StockItem → Type 0
+IsNext stock taken kind = (taken < length stock) × (kind ≡ slice_index_or stock taken kind)
+
+-- a vertex is made with the next box, which is taken where one was made; without a box none is
+abbrev pub Makes : List StockItem → Stage → ℕ → (Value → Deed) → Stage → Type 0
+Makes stock s x making t =
+    ((length stock ≤ s.taken) × (t ≡ s))
+    ⊎ ((kind : StockItem) × IsNext stock s.taken kind × Steps s.graph x (making (value_of_box kind)) t.graph
+    × (t.taken ≡ (if nat_lt s.graph.made t.graph.made then s.taken + 1 else s.taken)))
+
+-- a line leads from one stage to the other; a collection changes nothing, and neither does an edge line, which the graph began with
+abbrev pub Leads : List StockItem → Stage → Line → Stage → Type 0
+Leads stock s (line.Edge edge) t = t ≡ s
+Leads stock s (line.Create x label) t = Makes stock s x (making_of false label) t
+Leads stock s (line.Spawn x label) t = Makes stock s x (making_of true label) t
+Leads stock s (line.Plain x command) t = Steps s.graph x (deed.Plain command) t.graph × (t.taken ≡ s.taken)
+Leads stock s line.Full t = t ≡ s
+Leads stock s line.Minor t = t ≡ s
+
+-- these lines do, one after the other
+abbrev pub Runs : List StockItem → Stage → List Line → Stage → Type 0
+Runs stock s [] t = t ≡ s
+Runs stock s (l ∷ lines) t = (m : Stage) × Leads stock s l m × Runs stock m lines t
+
+-- ---- the run of a script
+
+-- the graph of a run, and how many boxes it took
+abbrev pub stage_of : PlainRun → Stage
+stage_of run = record { graph = graph_of run.graph; taken = run.taken }
+
+-- the graph of a script's workers and edge lines, where no box was taken
+abbrev pub start_of_script : Script → Stage
+start_of_script s = record {
+  graph = start_of (record { workers = s.workers; edges = s.edges.items; values = replicate s.workers (value_of_box Cell); limit = s.max_vertices });
+  taken = 0;
+}
+
+-- the script's other lines
+abbrev pub lines_of : Script → List Line
+lines_of s = map (λ l. l.line) s.lines.items
+
+-- the run is that of all of the script's lines
+abbrev pub RunsScript : Script → PlainRun → Type 0
+RunsScript s run = Runs s.stock.items (start_of_script s) (lines_of s) (stage_of run)

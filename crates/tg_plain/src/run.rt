@@ -1,0 +1,156 @@
+//! A script, run on the plain graph.
+ghost use Rattle.std.specs.Prelude.{◌≡◌, ◌<◌, ◌+◌, ◌^◌, nat_lt, if◌then◌else◌, IfOk, OnOk, OnErr, replicate};
+ghost use Rattle.tg_model.specs.Rules.{DeedFits};
+ghost use Rattle.tg_text.specs.declared.stock.StockItem.TheVariants as StockItem;
+ghost use Rattle.tg_plain.specs.Boxes.{value_of_box, making_of};
+
+use crate::fault::PlainFault;
+use crate::script::Script;
+use std::alloc::{AllocError, Global};
+use tg_model::{Deed, Graph, Law, Numbers, Opening, Picture, Value};
+use tg_rights::Label;
+use tg_text::{Answer, Line, Refusal, StockItem};
+
+/// The run of a script's lines: the graph that they leave, and how many boxes of the stock were taken.
+#[derive(Drop)]
+pub struct PlainRun {
+    /// The graph that the lines so far leave.
+    pub graph: Graph,
+    /// How many boxes of the stock they took.
+    pub taken: usize,
+}
+
+impl PlainRun {
+    ghost use Rattle.tg_model.specs.Picture.{IsPictureOf};
+    ghost use Rattle.tg_model.specs.Plain.{graph_of};
+    ghost use Rattle.tg_plain.specs.Lines.{Leads, Makes, RunsScript, Steps, stage_of, start_of_script};
+
+    /// The run of a script's edge lines: the graph that it begins with. `Opening` where the workers and vertices don't fit
+    /// each other; else it fails only when out of memory.
+    pub fn open(script: &Script) -> Result<PlainRun, PlainFault>
+        ensures { IfOk result (λ run. stage_of run ≡ start_of_script script.now) }
+    {
+        let edges = Vec::from_slice(script.alloc, script.edges.as_slice())?;
+        let values = cells(script.alloc, script.workers)?;
+        let opening = Opening::new(script.workers, edges, values, script.max_vertices)?;
+        Ok(PlainRun {
+            graph: Graph::open(script.alloc, &opening)?,
+            taken: 0,
+        })
+    }
+
+    /// The run of all of a script's lines. Fails as [`PlainRun::open`] does.
+    pub fn of(script: &Script) -> Result<PlainRun, PlainFault>
+        ensures { IfOk result (RunsScript script.now) }
+    {
+        let mut run = PlainRun::open(script)?;
+        for line in script.lines.as_slice() {
+            run.take(script.stock.as_slice(), &line.line)?;
+        }
+        Ok(run)
+    }
+
+    /// Runs a line with the boxes of this stock. What it is answered; an edge line and a collection do nothing here. Fails only
+    /// when out of memory, and nothing changes then.
+    pub fn take(&mut self, stock: &[StockItem], line: &Line) -> Result<Answer, AllocError>
+        ensures ok { OnOk result (Leads stock.now (stage_of self.old) line.now (stage_of self.new)) }
+        ensures err { OnErr result (self.new ≡ self.old) }
+    {
+        match *line {
+            Line::Create { worker, label } => self.make(stock, worker, label, false),
+            Line::Spawn { worker, label } => self.make(stock, worker, label, true),
+            Line::Plain { worker, command } => self.apply(worker, &Deed::Plain(command)),
+            Line::Full | Line::Minor | Line::Edge(_) => Ok(Answer::Collected(None)),
+        }
+    }
+
+    /// The picture of the graph. Fails only when out of memory.
+    pub fn picture(&self, alloc: Global) -> Result<Picture, AllocError>
+        ensures { IfOk result (λ picture. IsPictureOf picture (graph_of self.now.graph)) }
+    {
+        self.graph.picture(alloc)
+    }
+
+    // Makes a subject or an object that stores the next box. Where none is made, the box stays.
+    fn make(
+        &mut self,
+        stock: &[StockItem],
+        worker: u64,
+        label: Label,
+        as_subject: bool,
+    ) -> Result<Answer, AllocError>
+        ensures ok { OnOk result (Makes stock.now (stage_of self.old) worker (making_of as_subject label) (stage_of self.new)) }
+        ensures err { OnErr result (self.new ≡ self.old) }
+    {
+        if self.taken >= stock.len() {
+            return Ok(Answer::Refused(Refusal::Stock));
+        }
+        let kind = stock[self.taken];
+        let made = self.graph.made();
+        let answer = self.apply(worker, &deed_of(label, kind, as_subject))?;
+        self.taken = taken_after(self.taken, made, self.graph.made());
+        Ok(answer)
+    }
+
+    // Has the graph take a deed.
+    fn apply(&mut self, worker: u64, deed: &Deed) -> Result<Answer, AllocError>
+        requires { DeedFits deed.now }
+        ensures ok { OnOk result (Steps (graph_of self.old.graph) worker deed.now (graph_of self.new.graph)) }
+        ensures taken { self.new.taken ≡ self.old.taken }
+        ensures err { OnErr result (self.new ≡ self.old) }
+    {
+        if !self.graph.is_subject(worker) {
+            return Ok(Answer::Refused(Refusal::Worker));
+        }
+        // The worker is one, so only memory can be wanting.
+        match self.graph.apply(worker, deed) {
+            Ok(reply) => Ok(Answer::Reply(reply)),
+            Err(_) => Err(AllocError),
+        }
+    }
+}
+
+// How many boxes were taken, where so many were before, and so many vertices were made before and after.
+fn taken_after(taken: usize, before: u64, after: u64) -> usize
+    requires { taken + 1 < 2 ^ 64 }
+    ensures { result ≡ if nat_lt before after then taken + 1 else taken }
+{
+    if before < after { taken + 1 } else { taken }
+}
+
+// As many cells, each with 0.
+fn cells(alloc: Global, number: u64) -> Result<Vec<Value>, AllocError>
+    ensures { IfOk result (λ values. values.items ≡ replicate number (value_of_box StockItem.Cell)) }
+{
+    let mut values = Vec::new(alloc);
+    for _ in 0..number {
+        values.push(value_of(StockItem::Cell))?;
+    }
+    Ok(values)
+}
+
+// The making of a subject or an object that stores a new box.
+fn deed_of(label: Label, kind: StockItem, as_subject: bool) -> Deed
+    ensures made { result ≡ making_of as_subject label (value_of_box kind) }
+    ensures fits { DeedFits result }
+{
+    let Value { law, state } = value_of(kind);
+    if as_subject {
+        Deed::Spawn { label, law, state }
+    } else {
+        Deed::Create { label, law, state }
+    }
+}
+
+/// What a new box stores.
+pub fn value_of(kind: StockItem) -> Value
+    ensures { result ≡ value_of_box kind }
+{
+    let (law, state) = match kind {
+        StockItem::Cell => (Law::Cell, Numbers::one(0)),
+        StockItem::Sum => (Law::Sum, Numbers::one(0)),
+        StockItem::Max => (Law::Max, Numbers::one(0)),
+        StockItem::Log => (Law::Log(4), Numbers::none()),
+    };
+    Value { law, state }
+}

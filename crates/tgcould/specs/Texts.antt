@@ -1,0 +1,36 @@
+-- The texts of answers: a word, and behind `could` the lines of a script that do it.
+use Rattle.std.specs.Prelude.{ℕ, ◌==◌, List, [], ◌∷◌, ◌++◌, codes, decimal, if◌then◌else◌}
+use Rattle.std.specs.List.{flat_map}
+use Rattle.tg_model.specs.declared.command.Deed.{Deed}
+use Rattle.tg_model.specs.declared.command.Deed.TheVariants as deed
+use Rattle.tg_could.specs.declared.answer.Answer.{Answer}
+use Rattle.tg_could.specs.declared.answer.Answer.TheVariants.{Never, Could, WantsNames, Open}
+use Rattle.tg_could.specs.Turns.{Turn}
+use Rattle.tg_text.specs.declared.line.Line.{Line}
+use Rattle.tg_text.specs.declared.line.Line.TheVariants as line
+use Rattle.tg_text.specs.Grammar.{line_text}
+
+-- the line by which x asks for a deed
+abbrev pub line_of_deed : ℕ → Deed → Line
+line_of_deed x (deed.Create label law state) = line.Create x label
+line_of_deed x (deed.Spawn label law state) = line.Spawn x label
+line_of_deed x (deed.Plain command) = line.Plain x command
+
+-- a turn as a line of a script, with its line feed
+abbrev pub turn_text : Turn → List ℕ
+turn_text turn = line_text (line_of_deed turn.0 turn.1) ++ 10 ∷ []
+
+-- how many names are wanting
+abbrev pub wanting_text : ℕ → List ℕ
+wanting_text names = codes "could, with " ++ (decimal names ++ (if names == 1 then codes " name more\n" else codes " names more\n"))
+
+-- turns that lead there, none where it is so already
+abbrev pub could_text : List Turn → List ℕ
+could_text [] = codes "now\n"
+could_text (turn ∷ turns) = codes "could\n" ++ flat_map turn_text (turn ∷ turns)
+
+abbrev pub answer_text : Answer → List ℕ
+answer_text (Never separation) = codes "never\n"
+answer_text (Could turns) = could_text turns.items
+answer_text (WantsNames turns names) = wanting_text names ++ flat_map turn_text turns.items
+answer_text Open = codes "open\n"

@@ -1,0 +1,208 @@
+//! What is asked of a picture, and told.
+ghost use Rattle.std.specs.Prelude.{◌≡◌, ℕ, IfOk, OnOk};
+ghost use Rattle.std.specs.List.{Contains};
+ghost use Rattle.tgcould.specs.Told.{Answers, IsNever, ListsWho, TellsHold, named_in};
+
+use crate::question::{Question, Vertex};
+use crate::text::{add, add_answer, add_rights, add_vertex};
+use std::alloc::{AllocError, Global};
+use tg_could::{Answer, could_hold};
+use tg_model::{Deed, Picture};
+use tg_rights::{Right, Rights};
+
+// All rights, in the order of their letters.
+const RIGHTS: [Right; 8] = [
+    Right::R,
+    Right::W,
+    Right::T,
+    Right::G,
+    Right::A,
+    Right::L,
+    Right::U,
+    Right::V,
+];
+
+/// What is asked about: the picture of a graph, and who takes no turns.
+#[derive(Clone, Copy)]
+pub struct Scene<'a> {
+    /// Where memory comes from.
+    pub alloc: Global,
+    /// The picture.
+    pub picture: &'a Picture,
+    /// Who takes no turns.
+    pub silent: &'a [u64],
+}
+
+/// What was told of a question.
+#[derive(Clone, Copy, Debug)]
+pub struct Told {
+    /// Whether what is asked never comes about.
+    pub is_never: bool,
+    /// Whether neither this nor the other was shown.
+    pub is_open: bool,
+    /// How many vertices the lines make that were told.
+    pub made: u64,
+}
+
+/// Adds the answer to a question. Fails only when out of memory.
+pub fn tell(text: &mut Vec<u8>, scene: &Scene, question: Question) -> Result<Told, AllocError> {
+    match question {
+        Question::Hold { x, right, y } => tell_hold(text, scene, x, right, y),
+        Question::Who { right, y } => tell_who(text, scene, right, y),
+        Question::What { x } => tell_what(text, scene, x),
+    }
+}
+
+// The name of a vertex of a question.
+fn name_of(scene: &Scene, vertex: Vertex) -> u64
+    ensures { result ≡ named_in scene.now.picture.now vertex }
+{
+    match vertex {
+        Vertex::Named(name) => name,
+        Vertex::New => scene.picture.made(),
+    }
+}
+
+// Whether x could come to hold the right over y.
+fn ask(scene: &Scene, x: u64, right: Right, y: u64) -> Result<Answer, AllocError>
+    ensures { IfOk result (Answers scene.now.picture.now scene.now.silent.now x right y) }
+{
+    could_hold(scene.alloc, scene.picture, scene.silent, x, right, y)
+}
+
+// Adds whether x could come to hold the right over y.
+fn tell_hold(
+    text: &mut Vec<u8>,
+    scene: &Scene,
+    x: Vertex,
+    right: Right,
+    y: Vertex,
+) -> Result<Told, AllocError>
+    ensures { OnOk result (TellsHold scene.now.picture.now scene.now.silent.now
+        (named_in scene.now.picture.now x) right (named_in scene.now.picture.now y) text.old.items text.new.items) }
+{
+    let answer = ask(scene, name_of(scene, x), right, name_of(scene, y))?;
+    add_answer(text, &answer)?;
+    Ok(told_of(&answer))
+}
+
+// What was told by an answer.
+fn told_of(answer: &Answer) -> Told {
+    Told {
+        is_never: matches!(answer, Answer::Never(_)),
+        is_open: matches!(answer, Answer::Open),
+        made: match answer {
+            Answer::Could(turns) | Answer::WantsNames { turns, .. } => { makings(turns.as_slice()) }
+            _ => 0,
+        },
+    }
+}
+
+// How many vertices the turns make.
+fn makings(turns: &[(u64, Deed)]) -> u64 {
+    let mut made: u64 = 0;
+    for turn in turns {
+        if matches!(turn.1, Deed::Create { .. } | Deed::Spawn { .. }) {
+            made = made.saturating_add(1);
+        }
+    }
+    made
+}
+
+// Adds who could come to hold the right over y.
+fn tell_who(
+    text: &mut Vec<u8>,
+    scene: &Scene,
+    right: Right,
+    y: Vertex,
+) -> Result<Told, AllocError> {
+    let names = who(scene, right, name_of(scene, y))?;
+    if names.is_empty() {
+        add(text, &[b"nobody\n"])?;
+    } else {
+        add_names(text, scene.picture.made(), names.as_slice())?;
+    }
+    Ok(listed(names.is_empty()))
+}
+
+// What was told by a list.
+fn listed(is_never: bool) -> Told {
+    Told {
+        is_never,
+        is_open: false,
+        made: 0,
+    }
+}
+
+// Adds names, with a space between two.
+fn add_names(text: &mut Vec<u8>, made: u64, names: &[u64]) -> Result<(), AllocError> {
+    let mut space: &[u8] = b"";
+    for name in names {
+        add(text, &[space])?;
+        add_vertex(text, made, *name)?;
+        space = b" ";
+    }
+    add(text, &[b"\n"])
+}
+
+// Of all vertices and the next, those of whom it isn't shown that they never hold the right over y.
+fn who(scene: &Scene, right: Right, y: u64) -> Result<Vec<u64>, AllocError>
+    ensures { IfOk result (λ names. ListsWho scene.now.picture.now scene.now.silent.now right y names.items) }
+{
+    let mut names = Vec::new(scene.alloc);
+    let made = scene.picture.made();
+    for x in 0..made {
+        add_unless_never(&mut names, scene, x, right, y)?;
+    }
+    add_unless_never(&mut names, scene, made, right, y)?;
+    Ok(names)
+}
+
+// Adds x, unless it is shown that x never holds the right over y.
+fn add_unless_never(
+    names: &mut Vec<u64>,
+    scene: &Scene,
+    x: u64,
+    right: Right,
+    y: u64,
+) -> Result<(), AllocError>
+    ensures kept { OnOk result ((k : ℕ) → Contains names.old.items k → Contains names.new.items k) }
+    ensures shown { OnOk result ((¬ Contains names.new.items x) → IsNever scene.now.picture.now scene.now.silent.now x right y) }
+{
+    if let Answer::Never(_) = ask(scene, x, right, y)? {
+        return Ok(());
+    }
+    names.push(x)?;
+    Ok(())
+}
+
+// Adds which rights x could come to hold, and over whom.
+fn tell_what(text: &mut Vec<u8>, scene: &Scene, x: Vertex) -> Result<Told, AllocError> {
+    let made = scene.picture.made();
+    let first = text.len();
+    let x = name_of(scene, x);
+    for y in 0..=made {
+        let rights = what(scene, x, y)?;
+        if !rights.is_empty() {
+            if text.len() > first {
+                add(text, &[b" "])?;
+            }
+            add_vertex(text, made, y)?;
+            add_rights(text, rights)?;
+        }
+    }
+    let is_never = text.len() == first;
+    add(text, &[if is_never { b"nothing" } else { b"" }, b"\n"])?;
+    Ok(listed(is_never))
+}
+
+// The rights of which it isn't shown that x never holds them over y.
+fn what(scene: &Scene, x: u64, y: u64) -> Result<Rights, AllocError> {
+    let mut rights = Rights::empty();
+    for right in RIGHTS {
+        if !matches!(ask(scene, x, right, y)?, Answer::Never(_)) {
+            rights = rights.union(Rights::of(right));
+        }
+    }
+    Ok(rights)
+}
