@@ -2,3 +2,4 @@ pub mod SeparationLaws
 pub mod StillLaws
 pub mod MarkLaws
 pub mod TurnLaws
+pub mod ReachedLaws

@@ -2,3 +2,4 @@ pub mod Turns
 pub mod Separation
 pub mod Trial
 pub mod Answered
+pub mod Reached

@@ -14,22 +14,27 @@
 //!
 //! A question about a grant is asked before it is made, on the picture with the new edge (`Picture::with`).
 //!
-//! What a reader has to believe stands in `specs/`: `Turns` (turns, `NeverHolds`, `LeadThere`) and `Answered` (what an answer
-//! says); of `Separation` no more than that a law speaks of it. The theorem is that of Jones, Lipton and Snyder ("A linear time
-//! algorithm for deciding security", 1976) and of Lipton and Snyder ("A linear time algorithm for deciding subject
-//! security", Journal of the ACM 24(3), 1977). The search (`search`) and the turns that it leads to (`plan`) promise nothing:
-//! what they find is checked. [`laws`] has what holds of the definitions alone.
+//! Of a store there is a picture of what its active subjects reach. On it [`could_hold_reached`] asks: whom nobody reaches is
+//! told as `Unreached`, and all else as it is on the whole graph.
+//!
+//! What a reader has to believe stands in `specs/`: `Turns` (turns, `NeverHolds`, `LeadThere`), `Answered` (what an answer
+//! says) and `Reached`; of `Separation` no more than that a law speaks of it. The theorem is that of Jones, Lipton and Snyder
+//! ("A linear time algorithm for deciding security", 1976) and of Lipton and Snyder ("A linear time algorithm for deciding
+//! subject security", Journal of the ACM 24(3), 1977). The search (`search`) and the turns that it leads to (`plan`) promise
+//! nothing: what they find is checked. [`laws`] has what holds of the definitions alone.
 #![tactic(auto)]
 
 mod answer;
 mod chains;
 pub mod laws;
 mod plan;
+mod reached;
 mod search;
 mod separation;
 mod trial;
 mod witness;
 
 pub use answer::{Answer, could_hold};
+pub use reached::{Told, could_hold_reached, is_reached};
 pub use separation::Separation;
 pub use witness::lead_there;

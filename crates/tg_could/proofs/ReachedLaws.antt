@@ -1,0 +1,420 @@
+-- A graph and a picture of what its active subjects reach take the same turns, and agree on who is reached after each.
+use Rattle.std.proofs.Common.{◌≡◌, ◌↔◌, ◌⊎◌, inl, inr, ⊎_elim, ℕ, suc, ◌+◌, ◌<◌, ◌≤◌, ◌==◌, ◌&&◌, nat_lt, Bool, true, false, cond, List, [], ◌∷◌, length, Option, Some, None, refl, sym, ap, ◌∙◌, subst, arith}
+use Rattle.std.specs.List.{Contains}
+use Rattle.std.proofs.lemmas.Bool.{and_parts, cases_Bool, cases_lt, eqb-true, false≢true}
+use Rattle.std.proofs.lemmas.List.Elements.{Contains-push_cases}
+use Rattle.tg_rights.specs.RightSet.{RightSet, has, no_rights, union, is_none_held}
+use Rattle.tg_rights.specs.RightLaws.{has-no_rights, has-none_held, has-union, none_held-same, same_rights}
+use Rattle.tg_rights.specs.declared.Right.{Right}
+use Rattle.tg_model.specs.declared.opening.TheConstants.{MAX_WORKERS}
+use Rattle.tg_model.specs.declared.edge.Edge.{Edge}
+use Rattle.tg_model.specs.declared.value.Value.{Value}
+use Rattle.tg_model.specs.declared.command.Command.{Command}
+use Rattle.tg_model.specs.declared.command.Deed.{Deed}
+use Rattle.tg_model.specs.declared.command.Deed.TheVariants.{Create, Spawn, Plain}
+use Rattle.tg_model.specs.declared.reply.Denial.{Denial}
+use Rattle.tg_model.specs.Graph.{ProtectionGraph, IsSubject, HasEdge, IsReachable, IsSound, with_rights}
+use Rattle.tg_model.specs.Near.{SameNear, SameValuesNear}
+use Rattle.tg_model.specs.Opened.{label_in}
+use Rattle.tg_model.specs.Picture.{Holds, Shown, IsPictureOf}
+use Rattle.tg_model.specs.Rules.{Permits, denial_of, effect, labels_after, unless_denied, with_vertex, with_subject, step}
+use Rattle.tg_model.specs.Walks.{begins, goes, Walk-within}
+use Rattle.tg_model.proofs.AllowedLaws.{permits-no_denial}
+use Rattle.tg_model.proofs.PictureLaws.{or_true}
+use Rattle.tg_model.proofs.NearLaws.{denial_of-near, labels_after-same}
+use Rattle.tg_model.proofs.ReachLaws.{HasEdge-with_rights, closed_after, lt-IsReachable, IsReachable-step, unreachable_row}
+use Rattle.tg_model.proofs.SoundLaws.{IsSound-step, le-step-made}
+use Rattle.tg_model.proofs.SubjectLaws.{subject_before}
+use Rattle.tg_could.specs.Turns.{Turn, Acts, AreTurns, IsSilent, LeadThere, NeverHolds, after, with_names}
+use Rattle.tg_could.specs.Answered.{IsAnswer}
+use Rattle.tg_could.specs.Reached.{HaveSameReach, IsLedTo, IsReachedEdge, IsReachedPicture, IsToldOf}
+use Rattle.tg_could.specs.declared.reached.Told.TheVariants.{Of, Unreached}
+use Rattle.tg_could.proofs.TurnLaws.{Holds-member}
+use Rattle.tg_could.specs.declared.answer.Answer.{Answer}
+use Rattle.tg_could.specs.declared.answer.Answer.TheVariants.{Never, Could, WantsNames, Open}
+
+-- ---- two graphs that agree on a set of vertices
+
+-- the same graph with other labels
+abbrev pub relabelled : ProtectionGraph → (ℕ → ℕ → RightSet) → ProtectionGraph
+relabelled g label = record g { label = label }
+
+-- Other labels are the same in the rows of a set, which has the subjects and what isn't made yet, and which no edge leaves.
+pub record Agree (known : ℕ → Type 0) (g : ProtectionGraph) (label : ℕ → ℕ → RightSet) : Type 0 where
+  pub subjects : (p : ℕ) → IsSubject g p → known p
+  pub later : (x : ℕ) → g.made ≤ x → known x
+  pub closed : (a b : ℕ) → known a → HasEdge g.label a b → known b
+  pub labels : (a b : ℕ) → known a → label a b ≡ g.label a b
+
+-- the other graph is the same but for its labels, and they agree
+pub record AreAlike (known : ℕ → Type 0) (g h : ProtectionGraph) : Type 0 where
+  pub same : h ≡ relabelled g h.label
+  pub agree : Agree known g h.label
+
+module _ (known : ℕ → Type 0) (g : ProtectionGraph) (label : ℕ → ℕ → RightSet) (agree : Agree known g label) (p : ℕ) (subject : IsSubject g p) where
+  abbrev Both : ProtectionGraph → ProtectionGraph → Type 0
+  Both = AreAlike known
+
+  abbrev other : ProtectionGraph
+  other = relabelled g label
+
+  own : known p
+  own = agree.subjects p subject
+
+  near : SameNear g.label label p
+  near = record { own = λ y. agree.labels p y own; next = λ via y edge. agree.labels via y (agree.closed p via own edge) }
+
+  same_denial : (command : Command) → denial_of label g.value p command ≡ denial_of g.label g.value p command
+  same_denial command = denial_of-near g.label label p g.value g.value near (λ y edge. refl) command
+
+  both_same : Both g other
+  both_same = record { same = refl; agree = agree }
+
+  both_served : (command : Command) → denial_of g.label g.value p command ≡ None → Both (effect g p command) (effect other p command)
+  both_served command none =
+      let allowed = permits-no_denial g.label g.value p command none in
+      record {
+        same = refl;
+        agree = record {
+          subjects = λ q later. agree.subjects q (subject_before g.subjects p command q later);
+          later = agree.later;
+          closed = closed_after g.label known agree.closed g.value p command own allowed;
+          labels = λ a b is. labels_after-same g.label label p command a b (agree.labels a b is);
+        };
+      }
+
+  both_plain : (command : Command) → Both (step g p (Plain command)) (step other p (Plain command))
+  both_plain command =
+      let d : Option Denial = denial_of g.label g.value p command in
+      subst (λ (e : Option Denial). Both (unless_denied d g (effect g p command)) (unless_denied e other (effect other p command))) (sym (same_denial command))
+      (elim d as (λ (e : Option Denial). denial_of g.label g.value p command ≡ e → Both (unless_denied e g (effect g p command)) (unless_denied e other (effect other p command))) [
+        | None ↦ λ none. both_served command none
+        | Some denial ↦ λ denied. both_same
+      ] refl)
+
+  -- one vertex more
+  agree_made : (rights : RightSet) (value : Value) → Agree known (with_vertex g p rights value) (with_rights label p g.made rights)
+  agree_made rights value = record {
+    subjects = agree.subjects;
+    later = λ x above. agree.later x (omega (arith, above));
+    closed = λ a b is edge. ⊎_elim
+        (λ old. agree.closed a b is old)
+        (λ (at_p, at_new, some). agree.later b (omega (arith, at_new)))
+        (HasEdge-with_rights g.label p g.made rights a b edge);
+    labels = λ a b is. ap (λ s. cond ((a == p) && (b == g.made)) (union s rights) s) (agree.labels a b is);
+  }
+
+  both_made : (rights : RightSet) (value : Value) → Both (with_vertex g p rights value) (with_vertex other p rights value)
+  both_made rights value = record { same = refl; agree = agree_made rights value }
+
+  both_spawned : (rights : RightSet) (value : Value) → Both (with_subject g p rights value) (with_subject other p rights value)
+  both_spawned rights value =
+      let made = agree_made rights value in
+      record {
+        same = refl;
+        agree = record {
+          subjects = λ q is. ⊎_elim (agree.subjects q) (λ new. agree.later q (omega (arith, new))) (Contains-push_cases g.subjects g.made q is);
+          later = made.later;
+          closed = made.closed;
+          labels = made.labels;
+        };
+      }
+
+  both_step : (deed : Deed) → Both (step g p deed) (step other p deed)
+  both_step (Create rights law state) =
+      let value : Value = record { law = law; state = state } in
+      elim (nat_lt g.made g.limit) as (λ (b : Bool). Both (cond b (with_vertex g p rights value) g) (cond b (with_vertex other p rights value) other)) [
+        | true ↦ both_made rights value
+        | false ↦ both_same
+      ]
+  both_step (Spawn rights law state) =
+      let value : Value = record { law = law; state = state } in
+      elim (nat_lt g.made g.limit) as (λ (b : Bool).
+      Both (cond b (cond (nat_lt (length g.subjects) MAX_WORKERS) (with_subject g p rights value) g) g)
+      (cond b (cond (nat_lt (length g.subjects) MAX_WORKERS) (with_subject other p rights value) other) other)) [
+        | true ↦ elim (nat_lt (length g.subjects) MAX_WORKERS) as (λ (b : Bool). Both (cond b (with_subject g p rights value) g) (cond b (with_subject other p rights value) other)) [
+          | true ↦ both_spawned rights value
+          | false ↦ both_same
+        ]
+        | false ↦ both_same
+      ]
+  both_step (Plain command) = both_plain command
+
+-- ---- turns
+
+module _ (known : ℕ → Type 0) (silent : ℕ → Type 0) where
+  alike_step : (g h : ProtectionGraph) → AreAlike known g h → (p : ℕ) → IsSubject g p → (deed : Deed) → AreAlike known (step g p deed) (step h p deed)
+  alike_step g h alike p subject deed =
+      subst (λ (k : ProtectionGraph). AreAlike known (step g p deed) (step k p deed)) (sym alike.same)
+      (both_step known g h.label alike.agree p subject deed)
+
+  same_acts : (g h : ProtectionGraph) → AreAlike known g h → (p : ℕ) → Acts silent h p → Acts silent g p
+  same_acts g h alike p acts = subst (λ (k : ProtectionGraph). Acts silent k p) alike.same acts
+
+  same_acts_back : (g h : ProtectionGraph) → AreAlike known g h → (p : ℕ) → Acts silent g p → Acts silent h p
+  same_acts_back g h alike p acts = subst (λ (k : ProtectionGraph). Acts silent k p) (sym alike.same) acts
+
+  -- the turns of the one graph are those of the other, and the graphs are alike after them
+  pub alike_on : (turns : List Turn) (g h : ProtectionGraph) → AreAlike known g h → AreTurns silent g turns → AreTurns silent h turns × AreAlike known (after g turns) (after h turns)
+  alike_on [] g h alike are = (tt, alike)
+  alike_on (turn ∷ turns) g h alike are =
+      let next = alike_step g h alike turn.0 are.0.0 turn.1 in
+      let rest = alike_on turns (step g turn.0 turn.1) (step h turn.0 turn.1) next are.1 in
+      ((same_acts_back g h alike turn.0 are.0, rest.0), rest.1)
+
+  pub alike_back : (turns : List Turn) (g h : ProtectionGraph) → AreAlike known g h → AreTurns silent h turns → AreTurns silent g turns × AreAlike known (after g turns) (after h turns)
+  alike_back [] g h alike are = (tt, alike)
+  alike_back (turn ∷ turns) g h alike are =
+      let acts = same_acts g h alike turn.0 are.0 in
+      let next = alike_step g h alike turn.0 acts.0 turn.1 in
+      let rest = alike_back turns (step g turn.0 turn.1) (step h turn.0 turn.1) next are.1 in
+      ((acts, rest.0), rest.1)
+
+-- ---- pictures
+
+-- who is reached, or isn't made yet
+abbrev pub Known : ProtectionGraph → ℕ → Type 0
+Known g x = IsReachable g x ⊎ (g.made ≤ x)
+
+no_edge : (s : RightSet) → ¬ (is_none_held s ≡ false) → s ≡ no_rights
+no_edge s none = none_held-same s (is_true (is_none_held s) none)
+  where
+    is_true : (b : Bool) → ¬ (b ≡ false) → b ≡ true
+    is_true true none = refl
+    is_true false none = absurd (none refl)
+
+-- a right that is held, and an edge
+right_edge : (s : RightSet) (q : Right) → has s q ≡ true → is_none_held s ≡ false
+right_edge s q h = by_test (cases_Bool (is_none_held s))
+  where
+    by_test : (is_none_held s ≡ true) ⊎ (is_none_held s ≡ false) → is_none_held s ≡ false
+    by_test (inl none) = absurd (false≢true (sym (has-none_held s none q) ∙ h))
+    by_test (inr some) = some
+
+alike : (s t : Bool) → (s ≡ true → t ≡ true) → (t ≡ true → s ≡ true) → s ≡ t
+alike true t on back = sym (on refl)
+alike false true on back = back refl
+alike false false on back = refl
+
+contains_here : (e : Edge) (es : List Edge) → Contains (e ∷ es) e
+contains_here e es = (0, omega arith, refl)
+
+contains_more : (e : Edge) (es : List Edge) (z : Edge) → Contains es z → Contains (e ∷ es) z
+contains_more e es z there = let low = there.1 in (suc there.0, omega arith, there.2)
+
+-- no edge where no right is held
+pub some_edge : (s : RightSet) (q : Right) → has s q ≡ true → s ≡ no_rights → ⊥
+some_edge s q h none =
+    let lacks : has s q ≡ false = has-none_held s (ap is_none_held none) q in
+    let no : true ≡ false = sym h ∙ lacks in
+    absurd cc
+
+-- a right that edges of a list give is that of one of them, and the other way round
+module _ (a b : ℕ) (q : Right) where
+  -- an edge of the list from a to b that has the right
+  record IsGiven (es : List Edge) : Type 0 where
+    edge : Edge
+    there : Contains es edge
+    from : edge.from ≡ a
+    to : edge.to ≡ b
+    holds : has edge.label q ≡ true
+
+  given_later : (e : Edge) (es : List Edge) → IsGiven es → IsGiven (e ∷ es)
+  given_later e es given = record {
+    edge = given.edge;
+    there = contains_more e es given.edge given.there;
+    from = given.from;
+    to = given.to;
+    holds = given.holds;
+  }
+
+  given_by : (es : List Edge) → Holds (label_in es) a q b → IsGiven es
+  given_by [] h = let no : false ≡ true = sym (has-no_rights q) ∙ h in absurd (false≢true no)
+  given_by (e ∷ es) h = by_case (cases_Bool ((a == e.from) && (b == e.to))) (given_by es)
+    where
+      by_case : (((a == e.from) && (b == e.to)) ≡ true) ⊎ (((a == e.from) && (b == e.to)) ≡ false) → (Holds (label_in es) a q b → IsGiven es) → IsGiven (e ∷ es)
+      by_case (inl t) rest =
+          let ends = and_parts (a == e.from) (b == e.to) t in
+          let both : has (union e.label (label_in es a b)) q ≡ true = ap (λ c. has (cond c (union e.label (label_in es a b)) (label_in es a b)) q) (sym t) ∙ h in
+          ⊎_elim
+          (λ own. record { edge = e; there = contains_here e es; from = sym (eqb-true a e.from ends.0); to = sym (eqb-true b e.to ends.1); holds = own })
+          (λ others. given_later e es (rest others))
+          (or_true (has e.label q) (has (label_in es a b) q) (sym (has-union e.label (label_in es a b) q) ∙ both))
+      by_case (inr f) rest =
+          given_later e es (rest (ap (λ c. has (cond c (union e.label (label_in es a b)) (label_in es a b)) q) (sym f) ∙ h))
+
+-- the picture's edge from a to b, where there is one
+module _ (p : Shown) (g : ProtectionGraph) (picture : IsReachedPicture p g) where
+  abbrev shown : ℕ → ℕ → RightSet
+  shown = label_in p.edges
+
+  given_is : (a b : ℕ) (q : Right) → Holds shown a q b → IsReachable g a × Holds g.label a q b
+  given_is a b q h =
+      let given = given_by a b q p.edges h in
+      let is = (picture.edges given.edge).0 given.there in
+      let P : ℕ → ℕ → Type 0 = λ x y. IsReachable g x × Holds g.label x q y in
+      subst (λ y. P a y) given.to (subst (λ x. P x given.edge.to) given.from (is.from, ap (λ s. has s q) (sym is.label) ∙ given.holds))
+
+  given_back : (a b : ℕ) (q : Right) → IsReachable g a → Holds g.label a q b → Holds shown a q b
+  given_back a b q reached h =
+      let edge : Edge = record { from = a; to = b; label = g.label a b } in
+      let there : HasEdge g.label a b = right_edge (g.label a b) q h in
+      let is : Contains p.edges edge = (picture.edges edge).1 (record { from = reached; there = there; label = refl }) in
+      Holds-member p.edges is.0 edge is.1 (sym is.2) q h
+
+  -- the rows of those who are reached, and no others
+  pub shown_labels : (a b : ℕ) → IsReachable g a → shown a b ≡ g.label a b
+  shown_labels a b reached = same_rights (shown a b) (g.label a b) (λ q. alike (has (shown a b) q) (has (g.label a b) q) (λ h. (given_is a b q h).1) (λ h. given_back a b q reached h))
+
+  pub shown_others : (a b : ℕ) → ¬ IsReachable g a → shown a b ≡ no_rights
+  shown_others a b unreached =
+      same_rights (shown a b) no_rights (λ q. alike (has (shown a b) q) (has no_rights q) (λ h. absurd (unreached (given_is a b q h).0)) (λ h. let no : false ≡ true = sym (has-no_rights q) ∙ h in absurd (false≢true no)))
+
+  -- who is reached is an active subject, or an edge leads to it
+  pub reached_shown : (x : ℕ) → IsReachable g x → Contains p.subjects x ⊎ IsLedTo p.edges x
+  reached_shown x (begins is) = inl (subst (λ (names : List ℕ). Contains names x) picture.subjects is)
+  reached_shown x (goes {b = b} walk edge) =
+      let e : Edge = record { from = b; to = x; label = g.label b x } in
+      inr (record { edge = e; there = (picture.edges e).1 (record { from = walk; there = edge; label = refl }); leads = refl })
+
+  pub shown_reached : (x : ℕ) → Contains p.subjects x ⊎ IsLedTo p.edges x → IsReachable g x
+  shown_reached x (inl is) = begins (subst (λ (names : List ℕ). Contains names x) (sym picture.subjects) is)
+  shown_reached x (inr led) =
+      let is = (picture.edges led.edge).0 led.there in
+      subst (IsReachable g) led.leads (goes is.from is.there)
+
+module _ (p : Shown) (g : ProtectionGraph) (sound : IsSound g) (picture : IsReachedPicture p g) where
+  not_yet : (a : ℕ) → g.made ≤ a → ¬ IsReachable g a
+  not_yet a above reached = let below = lt-IsReachable g sound a reached in omega (arith, above, below)
+
+  pub picture_agrees : Agree (Known g) g (label_in p.edges)
+  picture_agrees = record {
+    subjects = λ q is. inl (begins is);
+    later = λ x above. inr above;
+    closed = λ a b is edge. ⊎_elim
+        (λ reached. inl (goes reached edge))
+        (λ above. let ends = sound.ends_made a b edge in absurd (omega (arith, above, ends.0)))
+        is;
+    labels = λ a b is. ⊎_elim
+        (λ reached. shown_labels p g picture a b reached)
+        (λ above.
+        shown_others p g picture a b (not_yet a above)
+        ∙ sym (no_edge (g.label a b) (λ edge. let ends = sound.ends_made a b edge in omega (arith, above, ends.0))))
+        is;
+  }
+
+  -- it is a picture of the graph with the labels that it shows
+  pub pictured : IsPictureOf p (relabelled g (label_in p.edges))
+  pictured = record {
+    is_made = record {
+      subjects = sound.subjects_made;
+      ends = λ a b q h. (
+        ⊎_elim (λ below. below) (λ above. absurd (some_edge (label_in p.edges a b) q h (shown_others p g picture a b (not_yet a above)))) (cases_lt a g.made),
+        ⊎_elim (λ below. below) (λ above. absurd (past a b q h above)) (cases_lt b g.made),
+      );
+    };
+    subjects = picture.subjects;
+    made = picture.made;
+    limit = picture.limit;
+    labels = λ a b. refl;
+  }
+    where
+      past : (a b : ℕ) (q : Right) → Holds (label_in p.edges) a q b → g.made ≤ b → ⊥
+      past a b q h above =
+          some_edge (label_in p.edges a b) q h
+          (shown_others p g picture a b (λ reached.
+          let none : g.label a b ≡ no_rights = no_edge (g.label a b) (λ edge. let ends = sound.ends_made a b edge in omega (arith, above, ends.1)) in
+          some_edge (label_in p.edges a b) q h (shown_labels p g picture a b reached ∙ none)))
+
+module _ (silent : List ℕ) (g : ProtectionGraph) (label : ℕ → ℕ → RightSet) (known : ℕ → Type 0) (agree : Agree known g label) (x : ℕ) (is : known x) (r : Right) (y : ℕ) where
+  alike_first : AreAlike known g (relabelled g label)
+  alike_first = record { same = refl; agree = agree }
+
+  pub never_on : NeverHolds silent (relabelled g label) x r y → NeverHolds silent g x r y
+  never_on never turns are h =
+      let both = alike_on known (IsSilent silent g) turns g (relabelled g label) alike_first are in
+      never turns both.0 (subst (λ (s : RightSet). has s r ≡ true) (sym (both.1.agree.labels x y is)) h)
+
+  pub lead_on : (turns : List Turn) → LeadThere silent (relabelled g label) turns x r y → LeadThere silent g turns x r y
+  lead_on turns lead =
+      let both = alike_back known (IsSilent silent g) turns g (relabelled g label) alike_first lead.0 in
+      (both.0, subst (λ (s : RightSet). has s r ≡ true) (both.1.agree.labels x y is) lead.1)
+
+-- what is answered of a graph with the labels of a picture is so of the whole graph
+pub answer_on : (silent : List ℕ) (p : Shown) (g : ProtectionGraph) → IsSound g → IsReachedPicture p g → (x : ℕ) → Known g x → (r : Right) (y : ℕ) (answer : Answer) → IsAnswer silent (relabelled g (label_in p.edges)) x r y answer → IsAnswer silent g x r y answer
+answer_on silent p g sound picture x is r y (Never separation) never = never_on silent g (label_in p.edges) (Known g) (picture_agrees p g sound picture) x is r y never
+answer_on silent p g sound picture x is r y (Could turns) lead = lead_on silent g (label_in p.edges) (Known g) (picture_agrees p g sound picture) x is r y turns.items lead
+answer_on silent p g sound picture x is r y (WantsNames turns names) (lead, short) =
+    let agree = picture_agrees p g sound picture in
+    let more : Agree (Known g) (with_names g names) (label_in p.edges) = record { subjects = agree.subjects; later = agree.later; closed = agree.closed; labels = agree.labels } in
+    (lead_on silent (with_names g names) (label_in p.edges) (Known g) more x is r y turns.items lead, short)
+answer_on silent p g sound picture x is r y Open said = tt
+
+-- ---- who isn't reached
+
+pub unreached_row : (silent : ℕ → Type 0) (turns : List Turn) (g : ProtectionGraph) (x : ℕ) → IsSound g → x < g.made → ¬ IsReachable g x → AreTurns silent g turns → (y : ℕ) → (after g turns).label x y ≡ g.label x y
+unreached_row silent [] g x sound made unreached are y = refl
+unreached_row silent (turn ∷ turns) g x sound made unreached are y =
+    let p = turn.0 in
+    let next = step g p turn.1 in
+    let more = le-step-made g p turn.1 in
+    let still : ¬ IsReachable next x = λ reached. ⊎_elim unreached (λ (new : x ≡ g.made). omega (arith, new, made)) (IsReachable-step g p are.0.0 sound turn.1 x reached) in
+    unreached_row silent turns next x (IsSound-step g sound p are.0.0 turn.1) (omega (arith, made, more)) still are.1 y
+    ∙ unreachable_row g p are.0.0 x unreached turn.1 y
+
+-- ---- graphs with the same reached part
+
+module _ (g h : ProtectionGraph) (same : HaveSameReach g h) where
+  edge_same : (a b : ℕ) → IsReachable g a → HasEdge g.label a b → HasEdge h.label a b
+  edge_same a b reached edge = ap is_none_held (same.labels a b reached) ∙ edge
+
+  edge_back : (a b : ℕ) → IsReachable g a → HasEdge h.label a b → HasEdge g.label a b
+  edge_back a b reached edge = sym (ap is_none_held (same.labels a b reached)) ∙ edge
+
+  reach_back : (x : ℕ) → IsReachable h x → IsReachable g x
+  reach_back =
+      Walk-within (IsReachable g) (λ q is. begins (subst (λ (names : List ℕ). Contains names q) same.subjects is))
+      (λ a b reached edge. goes reached (edge_back a b reached edge))
+
+  reach_both : (x : ℕ) → IsReachable g x → IsReachable g x × IsReachable h x
+  reach_both =
+      Walk-within (λ x. IsReachable g x × IsReachable h x)
+      (λ q is. (begins is, begins (subst (λ (names : List ℕ). Contains names q) (sym same.subjects) is)))
+      (λ a b both edge. (goes both.0 edge, goes both.1 (edge_same a b both.0 edge)))
+
+  edge_on : (edge : Edge) → IsReachedEdge g edge → IsReachedEdge h edge
+  edge_on edge is = record {
+    from = (reach_both edge.from is.from).1;
+    there = edge_same edge.from edge.to is.from is.there;
+    label = is.label ∙ sym (same.labels edge.from edge.to is.from);
+  }
+
+  edge_off : (edge : Edge) → IsReachedEdge h edge → IsReachedEdge g edge
+  edge_off edge is =
+      let reached = reach_back edge.from is.from in
+      record {
+        from = reached;
+        there = edge_back edge.from edge.to reached is.there;
+        label = is.label ∙ same.labels edge.from edge.to reached;
+      }
+
+  pub same_picture : (p : Shown) → IsReachedPicture p g → IsReachedPicture p h
+  same_picture p picture = record {
+    subjects = same.subjects ∙ picture.subjects;
+    made = same.made ∙ picture.made;
+    limit = same.limit ∙ picture.limit;
+    edges = λ edge. (λ there. edge_on edge ((picture.edges edge).0 there), λ is. (picture.edges edge).1 (edge_off edge is));
+  }
+
+-- ---- what is told
+
+module _ (silent : List ℕ) (p : Shown) (g : ProtectionGraph) (sound : IsSound g) (picture : IsReachedPicture p g) (x : ℕ) (r : Right) (y : ℕ) where
+  pub told_unreached : x < p.made → ¬ IsReachable g x → IsToldOf silent g x r y Unreached
+  told_unreached made unreached =
+      let below : x < g.made = let same = picture.made in omega (arith, same, made) in
+      (below, unreached, λ turns are y. unreached_row (λ q. ⊥) turns g x sound below unreached are y)
+
+  pub told_of : (answer : Answer) → IsReachable g x ⊎ (p.made ≤ x) → ((h : ProtectionGraph) → IsPictureOf p h → IsAnswer silent h x r y answer) → IsToldOf silent g x r y (Of answer)
+  told_of answer where_x of_all =
+      let is : Known g x = ⊎_elim inl (λ (above : p.made ≤ x). let same = picture.made in inr (omega (arith, same, above))) where_x in
+      (is, answer_on silent p g sound picture x is r y answer (of_all (relabelled g (label_in p.edges)) (pictured p g sound picture)))

@@ -1,0 +1,46 @@
+-- What the active subjects of a graph reach, pictures of that part alone, and what they say of the whole graph.
+use Rattle.std.specs.Prelude.{◌≡◌, ◌↔◌, ◌⊎◌, ℕ, ◌<◌, ◌≤◌, List}
+use Rattle.std.specs.List.{Contains}
+use Rattle.tg_rights.specs.declared.Right.{Right}
+use Rattle.tg_model.specs.declared.edge.Edge.{Edge}
+use Rattle.tg_model.specs.Graph.{ProtectionGraph, HasEdge, IsReachable}
+use Rattle.tg_model.specs.Picture.{Shown}
+use Rattle.tg_could.specs.Turns.{Turn, AreTurns, after}
+use Rattle.tg_could.specs.Answered.{IsAnswer}
+use Rattle.tg_could.specs.declared.reached.Told.{Told}
+use Rattle.tg_could.specs.declared.reached.Told.TheVariants.{Unreached, Of}
+
+-- an edge of one whom an active subject reaches, with all of its rights
+pub record IsReachedEdge (g : ProtectionGraph) (edge : Edge) : Type 0 where
+  pub from : IsReachable g edge.from
+  pub there : HasEdge g.label edge.from edge.to
+  pub label : edge.label ≡ g.label edge.from edge.to
+
+-- It is a picture of what the active subjects of the graph reach: it shows exactly the edges of those who are reached.
+pub record IsReachedPicture (p : Shown) (g : ProtectionGraph) : Type 0 where
+  pub subjects : g.subjects ≡ p.subjects
+  pub made : g.made ≡ p.made
+  pub limit : g.limit ≡ p.limit
+  pub edges : (edge : Edge) → Contains p.edges edge ↔ IsReachedEdge g edge
+
+-- an edge of the list leads to x
+pub record IsLedTo (edges : List Edge) (x : ℕ) : Type 0 where
+  pub edge : Edge
+  pub there : Contains edges edge
+  pub leads : edge.to ≡ x
+
+-- the active subjects reach the same part of both graphs
+pub record HaveSameReach (g h : ProtectionGraph) : Type 0 where
+  pub subjects : h.subjects ≡ g.subjects
+  pub made : h.made ≡ g.made
+  pub limit : h.limit ≡ g.limit
+  pub labels : (a b : ℕ) → IsReachable g a → h.label a b ≡ g.label a b
+
+-- x holds what it holds: after no turns of anybody is a label at x another
+abbrev pub HoldsWhatItHolds : ProtectionGraph → ℕ → Type 0
+HoldsWhatItHolds g x = (turns : List Turn) → AreTurns (λ p. ⊥) g turns → (y : ℕ) → (after g turns).label x y ≡ g.label x y
+
+-- What is told of a graph. `Unreached`: x was made, no active subject reaches it, and it holds what it holds. Else the answer.
+abbrev pub IsToldOf : List ℕ → ProtectionGraph → ℕ → Right → ℕ → Told → Type 0
+IsToldOf silent g x right y Unreached = (x < g.made) × (¬ IsReachable g x) × HoldsWhatItHolds g x
+IsToldOf silent g x right y (Of answer) = (IsReachable g x ⊎ (g.made ≤ x)) × IsAnswer silent g x right y answer

@@ -1,0 +1,93 @@
+//! What the active subjects of a graph reach, and the question on a picture of that part alone. Of a heap that was
+//! collected it is all that there is.
+ghost use Rattle.std.specs.Prelude.{◌≡◌, ◌↔◌, ◌⊎◌, ◌<◌, ◌≤◌, ℕ, List, IfOk, IsTrue};
+ghost use Rattle.std.specs.List.{Contains};
+ghost use Rattle.tg_rights.specs.declared.Right.{Right as RightOf};
+ghost use Rattle.tg_model.specs.Graph.{ProtectionGraph, IsReachable, IsSound};
+ghost use Rattle.tg_model.specs.Opened.{label_in};
+ghost use Rattle.tg_model.specs.Picture.{Shown};
+ghost use Rattle.tg_could.specs.Turns.{NeverHolds, IsSilent, Turn, AreTurns, LeadThere, after};
+ghost use Rattle.tg_could.specs.Reached.{HaveSameReach, HoldsWhatItHolds, IsLedTo, IsReachedPicture, IsToldOf};
+
+use crate::answer::{Answer, could_hold};
+use std::alloc::{AllocError, Global};
+use tg_model::{Edge, Picture};
+use tg_rights::Right;
+
+/// What comes of the question on a picture of what the active subjects reach.
+#[derive(Drop)]
+pub enum Told {
+    /// No active subject reaches x, which was made: it holds what it holds, and no turns of anybody change that. The
+    /// picture doesn't show what this is.
+    Unreached,
+    /// What [`could_hold`] answers. It is true of the whole graph.
+    Of(Answer),
+}
+
+/// Whether an active subject reaches the vertex with a name, on the graph of whose reached part this is a picture: it
+/// is one, or an edge of the picture leads to it. Looks at each edge once at most. Takes no memory.
+pub fn is_reached(picture: &Picture, name: u64) -> bool
+    ensures { (g : ProtectionGraph) → IsReachedPicture picture.now g → IsTrue result ↔ IsReachable g name }
+{
+    is_shown(picture, name)
+}
+
+// Whether the vertex with a name is an active subject of the picture, or an edge leads to it.
+fn is_shown(picture: &Picture, name: u64) -> bool
+    ensures { IsTrue result ↔ (Contains picture.now.subjects name ⊎ IsLedTo picture.now.edges name) }
+{
+    picture.subjects().contains(&name) || is_led_to(picture.edges(), name)
+}
+
+// Whether one of these edges leads to the vertex with a name.
+fn is_led_to(edges: &[Edge], name: u64) -> bool
+    ensures { IsTrue result ↔ IsLedTo edges.now name }
+{
+    for edge in edges {
+        if edge.to == name {
+            return true;
+        }
+    }
+    false
+}
+
+/// What [`could_hold`] answers, on a picture of what the active subjects of a graph reach, and so true of the whole
+/// graph; but `Unreached` exactly where x was made and no active subject reaches it. Fails only when out of memory.
+pub fn could_hold_reached(
+    alloc: Global,
+    picture: &Picture,
+    silent: &[u64],
+    x: u64,
+    right: Right,
+    y: u64,
+) -> Result<Told, AllocError>
+    ensures { IfOk result (λ told. (g : ProtectionGraph) → IsSound g → IsReachedPicture picture.now g →
+        IsToldOf silent.now g x right y told) }
+{
+    if x < picture.made() && !is_reached(picture, x) {
+        return Ok(Told::Unreached);
+    }
+    let answer = could_hold(alloc, picture, silent, x, right, y)?;
+    Ok(Told::Of(answer))
+}
+
+/// On the graph with the labels that a picture of its reached part shows, whoever is reached or isn't made yet could
+/// hold exactly what it could on the whole graph: the same turns lead there, and where none do there, none do here.
+pub fn what_is_reached_says_it_all()
+    ensures never { (silent : List ℕ) (p : Shown) (g : ProtectionGraph) (x : ℕ) (right : RightOf) (y : ℕ) →
+        IsSound g → IsReachedPicture p g → IsReachable g x ⊎ (g.made ≤ x) →
+        NeverHolds silent (record g { label = label_in p.edges }) x right y → NeverHolds silent g x right y }
+    ensures could { (silent : List ℕ) (p : Shown) (g : ProtectionGraph) (x : ℕ) (right : RightOf) (y : ℕ) (turns : List Turn) →
+        IsSound g → IsReachedPicture p g → IsReachable g x ⊎ (g.made ≤ x) →
+        LeadThere silent (record g { label = label_in p.edges }) turns x right y → LeadThere silent g turns x right y }
+{}
+
+/// Whoever was made and no active subject reaches holds what it holds: no turns of anybody change a label at it.
+pub fn the_unreached_hold_what_they_hold()
+    ensures { (g : ProtectionGraph) (x : ℕ) → IsSound g → x < g.made → ¬ IsReachable g x → HoldsWhatItHolds g x }
+{}
+
+/// Two graphs of which the active subjects reach the same part have the same pictures of it.
+pub fn the_same_reach_has_the_same_picture()
+    ensures { (p : Shown) (g h : ProtectionGraph) → HaveSameReach g h → IsReachedPicture p g → IsReachedPicture p h }
+{}
