@@ -10,8 +10,8 @@
 //! ```
 //!
 //! The first word of a cell, its tag, says what the cell is; a cell that is none of the three is bad. What its
-//! references mean is no matter of this crate. Code knows the layout by the constants below; where a cell is written whole,
-//! its words stand in this order.
+//! references mean is no matter of this crate. Code knows the layout by the constants below; where a cell is written
+//! whole, its words stand in this order.
 //!
 //! The cells of a block are one allocation of 4 KiB, zeroed where it stands. A block is moved by its pointer, so
 //! its cells never move, and a list of blocks grows without copying them.

@@ -1,8 +1,8 @@
 //! The words of a table that several helpers shared, read where they stand once no one shares it any more.
 //!
-//! A collection by several helpers gives each cell its new place in such a table (`tg_race`). What settles the heap afterwards
-//! reads these words in place (`tg_space`), so that closing the table copies none of them. A table's words are zeros at first,
-//! and `zeros` lays them out in room that the last collection left.
+//! A collection by several helpers gives each cell its new place in such a table (`tg_race`). What settles the heap
+//! afterwards reads these words in place (`tg_space`), so that closing the table copies none of them. A table's words
+//! are zeros at first, and `zeros` lays them out in room that the last collection left.
 #![tactic(auto)]
 
 ghost use Rattle.std.specs.Prelude.{◌≡◌, ◌+◌, ◌<◌, ◌≤◌, IfOk, drop, length, replicate, slice_index};
@@ -65,8 +65,8 @@ impl Drop for ClosedWords {
     }
 }
 
-/// As many zeros: in the room, whatever it holds, where that is enough; else the room is given back, and the zeros take memory
-/// of their own.
+/// As many zeros: in the room, whatever it holds, where that is enough; else the room is given back, and the zeros take
+/// memory of their own.
 ///
 /// It is refused only where memory was.
 #[inline(never)]

@@ -26,26 +26,26 @@ pub struct Copied {
     pub forward: Forwarding,
     /// The new blocks.
     pub adoption: Adoption,
-    /// The cells of Old that will name young ones: of those that were remembered, and of the copies in Old. None after a
-    /// full collection.
+    /// The cells of Old that will name young ones: of those that were remembered, and of the copies in Old. None after
+    /// a full collection.
     pub remembered: Remembered,
 }
 
 /// Copies what the roots reach into new blocks, with one thread. The spaces are only read.
 ///
-/// Exactly the cells of from-space in the closure of the roots are copied; a copy is its original with the places of what
-/// it names replaced. A full collection copies all of them to Old, whose new blocks are numbered from 0. A nursery
-/// collection leaves the blocks of Old, and numbers the new ones behind them. It copies cells of Aged to Old, and cells of
-/// nurseries to Aged, but those that are first met from a remembered cell or from a copy in Old go straight to Old. So no
-/// more cells are copied than there are cells of from-space that aren't free.
+/// Exactly the cells of from-space in the closure of the roots are copied; a copy is its original with the places of
+/// what it names replaced. A full collection copies all of them to Old, whose new blocks are numbered from 0. A nursery
+/// collection leaves the blocks of Old, and numbers the new ones behind them. It copies cells of Aged to Old, and cells
+/// of nurseries to Aged, but those that are first met from a remembered cell or from a copy in Old go straight to Old.
+/// So no more cells are copied than there are cells of from-space that aren't free.
 ///
-/// The spare blocks are filled first, whatever their cells hold, so that a collection that is handed those which the last one
-/// emptied takes few from the allocator; those that aren't needed are handed over with the others. The forwarding words stand in
-/// the spare room, where that is enough.
+/// The spare blocks are filled first, whatever their cells hold, so that a collection that is handed those which the
+/// last one emptied takes few from the allocator; those that aren't needed are handed over with the others. The
+/// forwarding words stand in the spare room, where that is enough.
 ///
-/// The refusals change nothing: `OutOfMemory` where memory was refused, and `HeapFull` where Aged or Old would need more
-/// than `space_blocks` blocks, so that the roots reach at least as many cells of from-space as there is room for in Old.
-/// Cells that they don't reach take no room.
+/// The refusals change nothing: `OutOfMemory` where memory was refused, and `HeapFull` where Aged or Old would need
+/// more than `space_blocks` blocks, so that the roots reach at least as many cells of from-space as there is room for
+/// in Old. Cells that they don't reach take no room.
 pub fn collect_one(
     alloc: Global,
     spaces: &Spaces,
@@ -100,7 +100,8 @@ fn collect_ahead(
     collect_kind(alloc, spaces, roots, Kind::Full, Reads::Ahead, spare)
 }
 
-// The collection of a kind. It is compiled for each, so that a full one asks of no cell which kind this is, nor how cells are read.
+// The collection of a kind. It is compiled for each, so that a full one asks of no cell which kind this is, nor how
+// cells are read.
 #[inline(always)]
 #[tactic(auto, using(crate::proofs::Behind::kept_within))]
 fn collect_kind(

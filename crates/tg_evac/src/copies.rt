@@ -22,8 +22,8 @@ use tg_block::{Block, WORDS};
 use tg_space::{Adoption, Kind, RoomFault, Spaces};
 use tg_word::OLD;
 
-// How many won cells are read before the first of them is scanned, where the heap is large. Memory answers for them side by side
-// then, though they lie apart from one another.
+// How many won cells are read before the first of them is scanned, where the heap is large. Memory answers for them
+// side by side then, though they lie apart from one another.
 const NEAR: usize = 8;
 
 // How many cells a heap has that is large: more than a processor keeps at hand.
@@ -31,8 +31,8 @@ const FAR: u64 = 1 << 17;
 
 /// How won cells are read.
 ///
-/// Who calls a walk with a reading that is known has it compiled for this reading alone. So where each is read where it stands, a
-/// table of claims that nothing else refers to is kept in registers.
+/// Who calls a walk with a reading that is known has it compiled for this reading alone. So where each is read where it
+/// stands, a table of claims that nothing else refers to is kept in registers.
 #[derive(Clone, Copy)]
 pub enum Reads {
     /// Each where it stands.
@@ -42,8 +42,8 @@ pub enum Reads {
 }
 
 impl Reads {
-    /// The faster way to read the cells of these spaces: each where it stands, unless there are so many that a processor doesn't
-    /// keep them at hand.
+    /// The faster way to read the cells of these spaces: each where it stands, unless there are so many that a
+    /// processor doesn't keep them at hand.
     pub fn of(spaces: &Spaces) -> Self
         ensures { (result ≡ Reads.Each) ↔ (length (cells_of spaces.now.spaces) < FAR) }
     {
@@ -98,8 +98,8 @@ impl Copies {
         })
     }
 
-    // Puts the copy of the cell that is scanned next, which has these words, behind the others of Old or of Aged. What they name is
-    // claimed.
+    // Puts the copy of the cell that is scanned next, which has these words, behind the others of Old or of Aged. What
+    // they name is claimed.
     #[inline(always)]
     fn push_copy<C: Claimer>(
         &mut self,
@@ -152,11 +152,11 @@ impl<'a> Both<'a> {
     }
 }
 
-/// Scans the won cells that were not, in the order in which they were won, until none is left. What a cell names whose copy
-/// is in Old goes straight to Old.
+/// Scans the won cells that were not, in the order in which they were won, until none is left. What a cell names whose
+/// copy is in Old goes straight to Old.
 ///
-/// It is refused as a claim is, or with `OutOfMemory` where memory for a copy was refused. What was claimed till then stays
-/// so.
+/// It is refused as a claim is, or with `OutOfMemory` where memory for a copy was refused. What was claimed till then
+/// stays so.
 #[inline(always)]
 pub fn scan<C: Claimer>(
     claimer: &mut C,
@@ -211,8 +211,8 @@ impl Ahead {
         }
     }
 
-    // Reads won cells from the k-th on, as many as there is room for, unless that one was read. Each is looked for from the space of
-    // the one before it (`near`).
+    // Reads won cells from the k-th on, as many as there is room for, unless that one was read. Each is looked for from
+    // the space of the one before it (`near`).
     #[inline(always)]
     fn read<C: Claimer>(&mut self, claimer: &C, spaces: &Spaces, k: usize, near: &mut u64)
         requires whole { (C.walked claimer.now).cells ≡ length (cells_of spaces.now.spaces) }
@@ -242,8 +242,8 @@ impl Ahead {
     }
 }
 
-// Reads the won cells from the k-th on, as many as there is room for, and answers how many. Each is looked for from the space of
-// the one before it (`near`).
+// Reads the won cells from the k-th on, as many as there is room for, and answers how many. Each is looked for from the
+// space of the one before it (`near`).
 #[inline(always)]
 fn read_some<C: Claimer>(
     claimer: &C,
@@ -286,7 +286,8 @@ fn scan_next<C: Claimer>(
     copies.push_copy(claimer, spaces, kind, words, straight)
 }
 
-// Whether the copy of the k-th won cell is in Old. All copies of a full collection are, so that nothing is looked up there.
+// Whether the copy of the k-th won cell is in Old. All copies of a full collection are, so that nothing is looked up
+// there.
 #[inline(always)]
 fn is_in_old<C: Claimer>(claimer: &C, kind: Kind, k: usize) -> bool
     requires next { k < length (C.walked claimer.now).won }

@@ -15,11 +15,12 @@ use tg_space::{Kind, RoomFault, Root, Spaces};
 
 /// Claims the targets of the roots, and scans the won cells until none is left.
 ///
-/// A full collection does so for one root after the other, so that what a root leads to lies together. A nursery collection
-/// claims the targets of all roots first, since what a remembered cell names goes to Old where it is met from there first.
+/// A full collection does so for one root after the other, so that what a root leads to lies together. A nursery
+/// collection claims the targets of all roots first, since what a remembered cell names goes to Old where it is met
+/// from there first.
 ///
-/// It is refused as a claim is, or with `OutOfMemory` where memory for a copy was refused. What was claimed till then stays
-/// so.
+/// It is refused as a claim is, or with `OutOfMemory` where memory for a copy was refused. What was claimed till then
+/// stays so.
 #[inline(always)]
 pub fn walk<C: Claimer>(
     claimer: &mut C,

@@ -56,8 +56,9 @@ impl NewBlocks {
         })
     }
 
-    /// Puts the copy of a cell with these words behind the others: what they name is claimed, to go straight to Old or not, while
-    /// its words are moved where they stand. A block that it opens is one of the spare ones, as long as there are any.
+    /// Puts the copy of a cell with these words behind the others: what they name is claimed, to go straight to Old or
+    /// not, while its words are moved where they stand. A block that it opens is one of the spare ones, as long as
+    /// there are any.
     ///
     /// It is refused as a claim is, or with `OutOfMemory` where memory for a block was refused.
     #[inline(always)]

@@ -133,9 +133,9 @@ impl<P: Payload> Cells<P> {
         self.payloads.write(cell[KEY], number)
     }
 
-    /// Gives one object rights over another, at the spot for them, and notes the written cell if it has to be remembered. Growth
-    /// comes first, that of the spaces last: where it is refused, there may be room for one more note, and else nothing is
-    /// changed.
+    /// Gives one object rights over another, at the spot for them, and notes the written cell if it has to be
+    /// remembered. Growth comes first, that of the spaces last: where it is refused, there may be room for one more
+    /// note, and else nothing is changed.
     pub(crate) fn put_edge(
         &mut self,
         nursery: u64,
@@ -176,9 +176,10 @@ impl<P: Payload> Cells<P> {
         narrow(&mut self.spaces, cell, index, rights);
     }
 
-    /// Makes an object with a name that none has, gives another one rights over it, at the spot for them, and notes the written
-    /// cell if it has to be remembered. The answer is where the object is. Growth comes first, that of the spaces last: where it
-    /// is refused, there may be room for one more payload and one more note, and else nothing is changed.
+    /// Makes an object with a name that none has, gives another one rights over it, at the spot for them, and notes the
+    /// written cell if it has to be remembered. The answer is where the object is. Growth comes first, that of the
+    /// spaces last: where it is refused, there may be room for one more payload and one more note, and else nothing is
+    /// changed.
     pub(crate) fn put_vertex(
         &mut self,
         nursery: u64,

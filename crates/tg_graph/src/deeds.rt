@@ -1,5 +1,5 @@
-//! The graph in the cells, where some rows have an index: each call goes by the index of the row, if it has one, and else
-//! walks.
+//! The graph in the cells, where some rows have an index: each call goes by the index of the row, if it has one, and
+//! else walks.
 ghost use Rattle.std.specs.Prelude.{◌≡◌, ◌<◌, List, None, nat_eq, Err, IfOk, IsTrue};
 ghost use Rattle.tg_word.specs.declared.Place.{Place as PlaceOf};
 ghost use Rattle.tg_block.specs.declared.CellKind.TheVariants.{Object};
@@ -54,8 +54,8 @@ impl<P: Payload> Cells<P> {
         }
     }
 
-    /// How the row of an object is looked along for a change. Its index has room for that then: its own, or a new one where the
-    /// row may get long. Where memory was refused, no name has another index.
+    /// How the row of an object is looked along for a change. Its index has room for that then: its own, or a new one
+    /// where the row may get long. Where memory was refused, no name has another index.
     #[inline(always)]
     fn way_to_change(&self, rows: &mut LongRows, from: Place) -> Result<Way, AllocError>
         requires { CanLook self.now rows.old from }
@@ -86,8 +86,8 @@ impl<P: Payload> Cells<P> {
         Ok(Way::New(Box::new(self.alloc, row)?))
     }
 
-    // What follows in the indexes where rights over the vertex with a name were put at the spot for it in a row, which was looked
-    // along so. The row has an index then, if it is long.
+    // What follows in the indexes where rights over the vertex with a name were put at the spot for it in a row, which
+    // was looked along so. The row has an index then, if it is long.
     #[inline(always)]
     fn follow(
         &self,
@@ -130,7 +130,8 @@ impl<P: Payload> Cells<P> {
         }
     }
 
-    // Where the reference to a vertex that isn't made yet may be put in the row of an object. An index isn't asked for its name.
+    // Where the reference to a vertex that isn't made yet may be put in the row of an object. An index isn't asked for
+    // its name.
     #[inline(always)]
     fn spot_for_new(&self, rows: &LongRows, way: &Way, from: Place, name: u64) -> Spot
         requires row { LooksAlong self.now rows.now way.now from }
@@ -157,8 +158,8 @@ impl<P: Payload> Cells<P> {
     }
 
     /// Gives one object rights over another, and notes the written cell if it has to be remembered. Growth comes first,
-    /// that of the spaces last: where it is refused, there may be room for one more note, and else nothing is changed. The row has
-    /// an index then, if it is long.
+    /// that of the spaces last: where it is refused, there may be room for one more note, and else nothing is changed.
+    /// The row has an index then, if it is long.
     pub(crate) fn add_edge(
         &mut self,
         rows: &mut LongRows,
@@ -204,7 +205,8 @@ impl<P: Payload> Cells<P> {
         }
     }
 
-    // What follows in the index of a row, which was looked along so, where the reference to the vertex with a name lost rights.
+    // What follows in the index of a row, which was looked along so, where the reference to the vertex with a name lost
+    // rights.
     fn forget(
         &self,
         rows: &mut LongRows,
@@ -227,10 +229,10 @@ impl<P: Payload> Cells<P> {
         }
     }
 
-    /// Makes an object with a name that none has, gives another one rights over it, and notes the written cell if it has
-    /// to be remembered. The answer is where the object is. Growth comes first, that of the spaces last: where it is refused,
-    /// there may be room for one more payload and one more note, and else nothing is changed. The row has an index then, if it
-    /// is long.
+    /// Makes an object with a name that none has, gives another one rights over it, and notes the written cell if it
+    /// has to be remembered. The answer is where the object is. Growth comes first, that of the spaces last: where it
+    /// is refused, there may be room for one more payload and one more note, and else nothing is changed. The row has
+    /// an index then, if it is long.
     pub(crate) fn new_vertex(
         &mut self,
         rows: &mut LongRows,

@@ -1,4 +1,5 @@
-//! What a collection does to the indexes of rows. The blocks of from-space may be gone by then: cells are told by their numbers.
+//! What a collection does to the indexes of rows. The blocks of from-space may be gone by then: cells are told by their
+//! numbers.
 ghost use Rattle.std.specs.Prelude.{◌≡◌, ◌≢◌, ◌≤◌, ◌<◌, ◌+◌, ◌^◌, ℕ, List, Some, length, map, nat_eq, slice_get, take, OnOk};
 ghost use Rattle.std.specs.List.{All};
 ghost use Rattle.std.specs.Map.{lookup};
@@ -26,8 +27,8 @@ use tg_word::{CELLS, SPACES, number_of, nursery_space, place_of};
 // How many spaces there may be.
 const MOST_SPACES: usize = SPACES as usize;
 
-/// How many blocks stood before each space of a heap, from which the numbers of its cells come. A collection may then put other blocks
-/// in their place.
+/// How many blocks stood before each space of a heap, from which the numbers of its cells come. A collection may then
+/// put other blocks in their place.
 #[derive(Drop)]
 pub(crate) struct Numbering {
     starts: [u64; MOST_SPACES],
@@ -98,10 +99,10 @@ impl Numbering {
 }
 
 impl LongRows {
-    /// Each index becomes that of the row's copy, and goes where a collection of this kind left the row behind. A nursery
-    /// collection looks at those rows alone that may have young or remembered cells, and only at these cells. Cells have the
-    /// numbers that they had before it. The cells that are to be remembered are in `noted`. It asks for memory for marks alone,
-    /// and does without it where that is refused.
+    /// Each index becomes that of the row's copy, and goes where a collection of this kind left the row behind. A
+    /// nursery collection looks at those rows alone that may have young or remembered cells, and only at these cells.
+    /// Cells have the numbers that they had before it. The cells that are to be remembered are in `noted`. It asks for
+    /// memory for marks alone, and does without it where that is refused.
     pub(crate) fn follow(
         &mut self,
         numbering: &Numbering,
@@ -228,7 +229,8 @@ fn forget_moved(kind: Kind, row: &mut IndexedRow)
     }
 }
 
-// Follows the cells behind the first ones, which stay where they are. The answer is how many of the first lie in Old now.
+// Follows the cells behind the first ones, which stay where they are. The answer is how many of the first lie in Old
+// now.
 fn follow_cells(
     numbering: &Numbering,
     kind: Kind,
@@ -324,8 +326,8 @@ fn forget_one(noted: &Remembered, row: &mut IndexedRow, number: usize)
     row.noted.remove(number);
 }
 
-// As many first cells of a row lie in Old. They are known to, and the noted ones of those that weren't are marked. Where memory for
-// a mark is refused, the cells from there on aren't known to.
+// As many first cells of a row lie in Old. They are known to, and the noted ones of those that weren't are marked.
+// Where memory for a mark is refused, the cells from there on aren't known to.
 fn mark_noted(noted: &Remembered, row: &mut IndexedRow, old: usize)
     requires marked { IsMarked noted.now.places row.old }
     requires within { old ≤ length row.old.cells.items }
@@ -341,8 +343,8 @@ fn mark_noted(noted: &Remembered, row: &mut IndexedRow, old: usize)
     }
 }
 
-// The first cell of a row that isn't known to lie in Old, as it does, is known to, and is marked if it is noted. There are as many
-// such cells. Where memory for the mark is refused, nothing changes.
+// The first cell of a row that isn't known to lie in Old, as it does, is known to, and is marked if it is noted. There
+// are as many such cells. Where memory for the mark is refused, nothing changes.
 fn mark_next(noted: &Remembered, row: &mut IndexedRow, old: usize) -> Result<(), AllocError>
     requires marked { IsMarked noted.now.places row.old }
     requires below { row.old.old_cells < old }

@@ -77,11 +77,11 @@ impl<P: Payload> Model for Heap<P> {
 
 impl<P: Payload> Heap<P> {
     /// The heap of the graph that an opening starts from. The drafts are those of the workers, by rising name, with the
-    /// opening's values. The active subjects are the workers, and each holds the nursery whose number is its name. Its object
-    /// lies there, and so do the chunks of its row. The heap takes a block for each worker and no more.
+    /// opening's values. The active subjects are the workers, and each holds the nursery whose number is its name. Its
+    /// object lies there, and so do the chunks of its row. The heap takes a block for each worker and no more.
     ///
-    /// It is refused where there may be fewer blocks than there are workers (`HeapFull`, exactly then), and where memory
-    /// is (`OutOfMemory`). Then the drafts come back as they were.
+    /// It is refused where there may be fewer blocks than there are workers (`HeapFull`, exactly then), and where
+    /// memory is (`OutOfMemory`). Then the drafts come back as they were.
     pub fn open(
         alloc: Global,
         opening: &Opening,
@@ -247,12 +247,12 @@ impl<P: Payload> Heap<P> {
     }
 
     /// Gives the vertex at one place rights over the vertex at another. Where the row has a reference to it, that gets
-    /// the rights too; else the first empty place of the row gets a new reference, or else a new chunk from the nursery that
-    /// the worker holds, an active subject. A cell of Old that names a young one then is remembered.
+    /// the rights too; else the first empty place of the row gets a new reference, or else a new chunk from the nursery
+    /// that the worker holds, an active subject. A cell of Old that names a young one then is remembered.
     ///
-    /// It is refused where memory for the block of a chunk, for the note of a cell or for the index of the row was refused
-    /// (`OutOfMemory`), or where a chunk is needed and the nursery is used up and gets no more blocks (`HeapFull`). Then
-    /// nothing is changed but that there may be room for one more note.
+    /// It is refused where memory for the block of a chunk, for the note of a cell or for the index of the row was
+    /// refused (`OutOfMemory`), or where a chunk is needed and the nursery is used up and gets no more blocks
+    /// (`HeapFull`). Then nothing is changed but that there may be room for one more note.
     ///
     /// The row has an index then, if it has more than four cells.
     pub fn add_edge(
@@ -319,14 +319,14 @@ impl<P: Payload> Heap<P> {
             .drop_rights(&mut self.rows, from, name, label.rights());
     }
 
-    /// Makes a vertex with a name that none has, which stores the draft's payload, and gives the worker, an active subject,
-    /// rights over it. All growth comes before any change, that of the blocks last. The vertex is the next cell of the nursery
-    /// that the worker holds, and the reference to it goes where `add_edge` would put it. A cell of Old that names the vertex, or
-    /// a new chunk, is remembered.
+    /// Makes a vertex with a name that none has, which stores the draft's payload, and gives the worker, an active
+    /// subject, rights over it. All growth comes before any change, that of the blocks last. The vertex is the next
+    /// cell of the nursery that the worker holds, and the reference to it goes where `add_edge` would put it. A cell of
+    /// Old that names the vertex, or a new chunk, is remembered.
     ///
     /// It is refused where memory was (`OutOfMemory`), and where the vertex and its reference need more cells than the
-    /// nursery of the worker has left, and it gets no more blocks (`HeapFull`). Then the draft comes back, and nothing is changed
-    /// but that there may be room for one more payload and one more note.
+    /// nursery of the worker has left, and it gets no more blocks (`HeapFull`). Then the draft comes back, and nothing
+    /// is changed but that there may be room for one more payload and one more note.
     ///
     /// The row of the worker has an index then, if it has more than four cells.
     pub fn new_vertex(
@@ -385,9 +385,9 @@ impl<P: Payload> Heap<P> {
         )
     }
 
-    /// Makes a vertex as `new_vertex` does, which is an active subject then. It holds the nursery with the least number that
-    /// no active subject holds. Its own cell lies in the nursery of the worker, and where a retired subject left cells in the
-    /// nursery that it holds, its cells come behind them. It asks for no more memory than `new_vertex`.
+    /// Makes a vertex as `new_vertex` does, which is an active subject then. It holds the nursery with the least number
+    /// that no active subject holds. Its own cell lies in the nursery of the worker, and where a retired subject left
+    /// cells in the nursery that it holds, its cells come behind them. It asks for no more memory than `new_vertex`.
     ///
     /// Its name is above those of all active subjects, of which there are fewer than there may be. It is refused as
     /// `new_vertex` is, and leaves the same.
@@ -417,8 +417,9 @@ impl<P: Payload> Heap<P> {
         Ok(())
     }
 
-    /// The active subject with a name is one no more, if there is one. Its vertex stays, with its edges and what it stores.
-    /// Its nursery keeps its cells until the next collection, and may be given to a new subject before. Takes no memory.
+    /// The active subject with a name is one no more, if there is one. Its vertex stays, with its edges and what it
+    /// stores. Its nursery keeps its cells until the next collection, and may be given to a new subject before. Takes
+    /// no memory.
     pub fn retire(&mut self, name: u64)
         ensures subjects { self.new.subjects ≡ without self.old.subjects name }
         ensures table { self.new.table ≡ self.old.table }

@@ -1,4 +1,5 @@
-//! The indexes of long rows, and which of them may have young cells. See 'Rows and their indexes' in docs/ARCHITECTURE.md.
+//! The indexes of long rows, and which of them may have young cells. See 'Rows and their indexes' in
+//! docs/ARCHITECTURE.md.
 ghost use Rattle.std.specs.Prelude.{◌≡◌, ◌≤◌, ◌<◌, ℕ, List, [], None, Some, if◌then◌else◌, length, nat_eq, option_copied, slice_get, IfSome, OnOk};
 ghost use Rattle.std.specs.Map.{lookup};
 ghost use Rattle.tg_graph.specs.Following.{IsReadyAt};
@@ -23,8 +24,8 @@ pub(crate) enum Way {
     New(Box<IndexedRow>),
 }
 
-/// The indexes of long rows, each under the name of the row's vertex. First stand those of rows that are known to lie in Old
-/// whole, so a nursery collection begins behind them.
+/// The indexes of long rows, each under the name of the row's vertex. First stand those of rows that are known to lie
+/// in Old whole, so a nursery collection begins behind them.
 #[derive(Drop)]
 pub(crate) struct LongRows {
     pub(crate) indexes: IndexMap<u64, IndexedRow>,
@@ -81,8 +82,8 @@ impl LongRows {
         }
     }
 
-    /// Where the index of the row of the vertex with a name stands then, among those of rows that may have young cells, if it has
-    /// one. Takes no memory.
+    /// Where the index of the row of the vertex with a name stands then, among those of rows that may have young cells,
+    /// if it has one. Takes no memory.
     #[inline(always)]
     pub(crate) fn young_place(&mut self, name: u64) -> Option<usize>
         ensures young { IfSome result (λ at. self.new.old_rows ≤ at) }
@@ -94,8 +95,8 @@ impl LongRows {
         Some(self.make_young(at))
     }
 
-    /// Makes room for one more name and one more cell in the index of the row of the vertex with a name, which stands at this
-    /// place, among those of rows that may have young cells.
+    /// Makes room for one more name and one more cell in the index of the row of the vertex with a name, which stands
+    /// at this place, among those of rows that may have young cells.
     pub(crate) fn reserve_at(&mut self, name: u64, at: usize) -> Result<(), AllocError>
         requires there { HasIndexAt self.old.entries name at }
         requires young { self.old.old_rows ≤ at }
@@ -117,8 +118,8 @@ impl LongRows {
         self.indexes.reserve(1)
     }
 
-    /// Adds the index of the row of the vertex with a name, which has none, among those of rows that may have young cells. There is
-    /// room for it. Takes no memory.
+    /// Adds the index of the row of the vertex with a name, which has none, among those of rows that may have young
+    /// cells. There is room for it. Takes no memory.
     pub(crate) fn add(&mut self, name: u64, row: IndexedRow)
         requires absent { lookup (nat_eq name) self.old.entries ≡ None }
         requires aged { IsAged row }
@@ -128,8 +129,8 @@ impl LongRows {
         drop(self.indexes.insert(name, row).unwrap());
     }
 
-    /// The index at a place comes to stand among those of rows that may have young cells. The answer is its new place. Takes
-    /// no memory.
+    /// The index at a place comes to stand among those of rows that may have young cells. The answer is its new place.
+    /// Takes no memory.
     pub(crate) fn make_young(&mut self, at: usize) -> usize
         requires { at < length self.old.entries }
         ensures young { self.new.old_rows ≤ result }

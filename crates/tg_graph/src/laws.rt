@@ -9,8 +9,8 @@ ghost use Rattle.tg_graph.specs.Heap.{HeapState, IsUnchangedHeap, content_of};
 ghost use Rattle.tg_graph.specs.Standing.{IsContentOf, IsReached, Keeps, KeepsReached};
 
 /// What a collection keeps stands for the graph that the old content stood for, where all that can be reached is
-/// kept. A full collection keeps what can be reached on the content, from the graph's subjects: this is what can be reached on
-/// the graph, so it stands for the graph too, and its names are exactly those that can be reached.
+/// kept. A full collection keeps what can be reached on the content, from the graph's subjects: this is what can be
+/// reached on the graph, so it stands for the graph too, and its names are exactly those that can be reached.
 pub fn what_is_kept_stands_for_the_same_graph()
     ensures kept { (old new : Content) (g : ProtectionGraph) →
         IsContentOf old g → Keeps old new (IsNamed new) → ((x : ℕ) → IsReachable g x → IsNamed new x) →

@@ -12,9 +12,9 @@ use tg_payload::Payload;
 use tg_space::Spaces;
 
 impl<P: Payload> Heap<P> {
-    /// The names of the vertices that the heap has, in the order of the places of their objects, each once: the first of them
-    /// that fit go to `into`, and what there is room for behind them stays as it is. Answers how many vertices there are. It
-    /// goes over the cells once. Takes no memory.
+    /// The names of the vertices that the heap has, in the order of the places of their objects, each once: the first
+    /// of them that fit go to `into`, and what there is room for behind them stays as it is. Answers how many vertices
+    /// there are. It goes over the cells once. Takes no memory.
     pub fn names(&self, into: &mut [u64]) -> u64
         ensures number { result ≡ length (content_of self.now).names }
         ensures shown { into.new ≡ shown_in (content_of self.now).names into.old }

@@ -41,8 +41,8 @@ struct Room<P: Payload> {
     row: Vec<Rights>,
 }
 
-/// The cells of the graph that an opening starts from, and its workers as the active subjects. See 'Growth comes first' in
-/// docs/ARCHITECTURE.md.
+/// The cells of the graph that an opening starts from, and its workers as the active subjects. See 'Growth comes first'
+/// in docs/ARCHITECTURE.md.
 pub(crate) fn opened<P: Payload>(
     alloc: Global,
     opening: &Opening,

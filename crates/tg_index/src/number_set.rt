@@ -1,5 +1,6 @@
-//! A set of numbers: a bit for each, and one above for each word that has a number of the set. So the first one is found by two
-//! looks, a look for the next one passes over 4,096 numbers at a step, and to put a number in or take one out takes no memory.
+//! A set of numbers: a bit for each, and one above for each word that has a number of the set. So the first one is
+//! found by two looks, a look for the next one passes over 4,096 numbers at a step, and to put a number in or take one
+//! out takes no memory.
 //!
 //! Contracts see the words of the lower bits.
 ghost use Rattle.std.specs.Prelude.{◌≡◌, ℕ, List, ◌*◌, ◌^◌, ◌<◌, ◌≤◌, [], length, None, IfSome, OnOk};
@@ -9,7 +10,8 @@ use crate::bits::{BITS, Bits, MOST_WORDS};
 use std::alloc::{AllocError, Global};
 use std::marker::Model;
 
-/// A set of numbers below 2 ^ 32, which is gone through from the least on. There is room for the numbers below some one.
+/// A set of numbers below 2 ^ 32, which is gone through from the least on. There is room for the numbers below some
+/// one.
 #[derive(Drop)]
 pub struct NumberSet {
     places: Bits,
@@ -75,7 +77,8 @@ impl NumberSet {
         self.places.words.len() * BITS
     }
 
-    /// Makes the bit of a place behind all that have one, or answers that there would be too many. Nothing else changes.
+    /// Makes the bit of a place behind all that have one, or answers that there would be too many. Nothing else
+    /// changes.
     pub(crate) fn lengthen(&mut self, place: usize) -> Result<(), AllocError>
         requires { place ≤ 64 * length self.old }
         ensures room { OnOk result (place < 64 * length self.new) }

@@ -8,8 +8,8 @@ use std::alloc::AllocError;
 use std::marker::Model;
 use tg_rights::Label;
 
-/// A graph without what its vertices store: its active subjects, its edges, how many vertices were ever made, and the most
-/// that may be. Contracts see it as the record of these, `Shown`.
+/// A graph without what its vertices store: its active subjects, its edges, how many vertices were ever made, and the
+/// most that may be. Contracts see it as the record of these, `Shown`.
 #[derive(Drop)]
 pub struct Picture {
     subjects: Vec<u64>,
@@ -27,8 +27,8 @@ impl Model for Picture {
 }
 
 impl Picture {
-    /// The picture of these parts. Whoever hands them in says of which graph they are: of two edges of one pair it has the
-    /// union of the labels. Takes no memory.
+    /// The picture of these parts. Whoever hands them in says of which graph they are: of two edges of one pair it has
+    /// the union of the labels. Takes no memory.
     pub fn new(subjects: Vec<u64>, edges: Vec<Edge>, made: u64, limit: u64) -> Picture
         ensures { result ≡ record { subjects = subjects.items; edges = edges.items; made = made; limit = limit } }
     {
@@ -40,8 +40,8 @@ impl Picture {
         }
     }
 
-    /// The picture as it would be if `from` had these rights over `to` too. Fails only when out of memory, and the picture is
-    /// dropped then.
+    /// The picture as it would be if `from` had these rights over `to` too. Fails only when out of memory, and the
+    /// picture is dropped then.
     pub fn with(self, from: u64, to: u64, rights: Label) -> Result<Picture, AllocError>
         ensures { IfOk result (λ picture. (g : ProtectionGraph) → IsPictureOf self g → from < g.made → to < g.made →
             IsPictureOf picture (with_edge g from to rights)) }

@@ -45,7 +45,8 @@ pub fn allocate(spaces: &mut Spaces, nursery: u64) -> Result<Place, RoomFault>
     Ok(spaces.hand_out(space))
 }
 
-/// Makes room for so many cells, at most 64, in the nursery with a number, which `Spaces::hand_out` then gives one by one.
+/// Makes room for so many cells, at most 64, in the nursery with a number, which `Spaces::hand_out` then gives one by
+/// one.
 ///
 /// The nursery gets one more block where it has fewer cells left, and nothing else changes. The refusals change
 /// nothing: `HeapFull` where a block is needed, and all spaces together have `max_blocks` or more or the nursery has

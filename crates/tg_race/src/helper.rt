@@ -82,8 +82,8 @@ impl Helper {
             .fetch_add::<DrawChunk>(&mut self.seat, 0, 1)
     }
 
-    /// The place that a cell has got, if it has one. The helper has then seen it. A cell that the helper has won or seen
-    /// before has one, and it is the same.
+    /// The place that a cell has got, if it has one. The helper has then seen it. A cell that the helper has won or
+    /// seen before has one, and it is the same.
     #[inline(always)]
     pub fn look(&mut self, table: &RaceTable, cell: u64) -> Option<Place>
         requires own { self.old.table ≡ table.now.table }
@@ -153,8 +153,8 @@ impl Helper {
             .compare_exchange::<Try>(&mut self.seat, at.number, 0, word)
     }
 
-    /// Claims the next block of Aged or of Old, and answers its number, which is greater than those of all blocks of that
-    /// space that the helper claimed before. These are full.
+    /// Claims the next block of Aged or of Old, and answers its number, which is greater than those of all blocks of
+    /// that space that the helper claimed before. These are full.
     pub fn claim_block(&mut self, table: &RaceTable, aged: bool) -> u64
         requires own { self.old.table ≡ table.now.table }
         requires allowed { IsTrue (can_claim_block aged self.old.done) }

@@ -81,8 +81,8 @@ pub fn blocks_are_few()
     ensures wins { (k : Counts) (r : Race) → Rule k r → weigh (λ v. length v.won) r.records ≤ k.cells }
 {}
 
-/// The same of each block that was claimed in a closed table; and those of a space are full of cells that were won into it,
-/// but for one a helper.
+/// The same of each block that was claimed in a closed table; and those of a space are full of cells that were won into
+/// it, but for one a helper.
 pub fn claimed_blocks_are_few()
     ensures aged_blocks { (k : Counts) (words : List ℕ) (done : Record) → IsClosedTable k words done → (b : ℕ) → IsTrue (has_number b done.aged_blocks) → CELLS * (b + 1) ≤ CELLS * k.helpers + length done.won }
     ensures old_blocks { (k : Counts) (words : List ℕ) (done : Record) → IsClosedTable k words done → (b : ℕ) → IsTrue (has_number b done.old_blocks) → CELLS * (b + 1) ≤ CELLS * (k.kept + k.helpers) + length done.won }

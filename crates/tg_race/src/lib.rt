@@ -14,9 +14,10 @@
 //! The blocks that Old keeps come first, and their cells go nowhere: they have no word in the table, so that a nursery
 //! collection takes no memory for Old. Contracts see a word for each cell, and those of the kept blocks are 0.
 //!
-//! A helper claims chunks of 8 roots and blocks of places by drawing numbers from the counters, and gives a cell a place
-//! by exchanging its word, which is 0, for that place. One helper wins; the others see where the cell went, and that is
-//! all they need. What a helper has done stands in its [`Record`], which exists in proofs alone when the table runs.
+//! A helper claims chunks of 8 roots and blocks of places by drawing numbers from the counters, and gives a cell a
+//! place by exchanging its word, which is 0, for that place. One helper wins; the others see where the cell went, and
+//! that is all they need. What a helper has done stands in its [`Record`], which exists in proofs alone when the table
+//! runs.
 //!
 //! The rule between the words and the records has seven sentences (`specs/Race.antt`, and `KeepsRule` of
 //! `specs/Course.antt`):
@@ -33,8 +34,8 @@
 //! events any number of helpers do, in any order, the rule holds after each (`laws`), no event changes a place that a
 //! cell has, and where one complete record is left, the cells with a place are exactly the closure of the roots.
 //! [`RaceTable`] is the table itself, over the crate `atomic_table`, and [`Helper`] a seat at it: between any two steps
-//! of any threads the rule holds, but for *wins_earned*, which speaks of targets and stays with each helper. Each call of
-//! a helper ensures what its event does to the record, and requires the event's condition by the same test that the
+//! of any threads the rule holds, but for *wins_earned*, which speaks of targets and stays with each helper. Each call
+//! of a helper ensures what its event does to the record, and requires the event's condition by the same test that the
 //! world makes (`specs/Conditions.antt`).
 //!
 //! A condition with room: a helper claims its next block only where its last one is full. So blocks are few

@@ -5,7 +5,8 @@ ghost use Rattle.tg_race.specs.Race.{empty, both, less_one};
 use crate::record::{Counts, Record};
 use atomic_table::{Join, Play, Split, TableRule};
 
-/// What a seat knows, in proofs alone: how many of the first cells have no word in the table, and what its helper has done.
+/// What a seat knows, in proofs alone: how many of the first cells have no word in the table, and what its helper has
+/// done.
 pub struct View {
     /// How many of the first cells have no word.
     pub skipped: u64,

@@ -17,8 +17,8 @@ use tg_word::CELLS;
 // How many words stand in front of those of the cells.
 const COUNTERS: usize = 3;
 
-/// The table that the helpers of one collection share: three counters, and a word for each cell behind those of the blocks
-/// that Old keeps. These are moved nowhere.
+/// The table that the helpers of one collection share: three counters, and a word for each cell behind those of the
+/// blocks that Old keeps. These are moved nowhere.
 ///
 /// A clause sees which table it is and the numbers with which it was opened. All helpers use it at once, each through
 /// its own `Helper` and a `&RaceTable`.
@@ -65,9 +65,9 @@ impl Model for RaceTable {
 impl RaceTable {
     /// A table in which no cell has a place, and its first helper, who stands for all.
     ///
-    /// It is the only call here that takes memory: a word for each cell that isn't in one of Old's `kept` blocks, which come
-    /// first. It lays them out in the room first, as `tg_closed::zeros` does, and hands that back, which has a word for each
-    /// such cell then. `kept` is also Old's first block number.
+    /// It is the only call here that takes memory: a word for each cell that isn't in one of Old's `kept` blocks, which
+    /// come first. It lays them out in the room first, as `tg_closed::zeros` does, and hands that back, which has a
+    /// word for each such cell then. `kept` is also Old's first block number.
     pub fn open(
         alloc: Global,
         cells: u64,
@@ -116,9 +116,11 @@ impl RaceTable {
         (self.counts.cells - self.skipped) as usize + COUNTERS
     }
 
-    /// The words of the cells behind those that Old keeps, where they stand, once the helper that is left stands for all.
+    /// The words of the cells behind those that Old keeps, where they stand, once the helper that is left stands for
+    /// all.
     ///
-    /// With a 0 for each cell that Old keeps they and its record are those of a race under the rule, with that one record.
+    /// With a 0 for each cell that Old keeps they and its record are those of a race under the rule, with that one
+    /// record.
     pub fn close(self, helper: Helper) -> ClosedWords
         requires own { helper.table ≡ self.table }
         requires all { helper.done.share ≡ self.counts.helpers }

@@ -135,8 +135,8 @@ fn are_two_the_same(worker: u64, via: u64, target: u64) -> bool
     worker == via || via == target || worker == target
 }
 
-// The first checks of a command: that its vertices differ, and that the worker holds the rights to use the rule over another
-// vertex. Answers that other.
+// The first checks of a command: that its vertices differ, and that the worker holds the rights to use the rule over
+// another vertex. Answers that other.
 #[inline(always)]
 fn check_first<P: Payload>(
     heap: &Heap<P>,

@@ -21,8 +21,8 @@ use tg_space::RoomFault;
 use tg_subjects::Subject;
 
 /// Performs a command of a worker that is to be served: answers as the rules say on what the heap has, and changes
-/// that as they say. The vertices that there are stay where they are; one who retires is no active subject any more, and all other
-/// subjects stay.
+/// that as they say. The vertices that there are stay where they are; one who retires is no active subject any more,
+/// and all other subjects stay.
 ///
 /// It is refused where memory was, and a take or a grant also where its reference isn't there yet, the row has no empty
 /// place for it, and the nursery of the worker has no cell left and gets no more blocks; then nothing is changed.
@@ -47,8 +47,8 @@ pub fn perform<P: Payload>(
     }
 }
 
-/// Performs a command of a subject between the vertices that its checks met: what [`perform`] does, without looking anything
-/// up again.
+/// Performs a command of a subject between the vertices that its checks met: what [`perform`] does, without looking
+/// anything up again.
 #[inline(always)]
 pub fn perform_between<P: Payload>(
     heap: &mut Heap<P>,
@@ -81,8 +81,8 @@ pub fn perform_between<P: Payload>(
     }
 }
 
-/// What the vertex with a name stores, where a worker may read it: `Some` exactly where a read command of the worker is to
-/// be served. Takes no memory.
+/// What the vertex with a name stores, where a worker may read it: `Some` exactly where a read command of the worker is
+/// to be served. Takes no memory.
 pub fn readable<P: Payload>(heap: &Heap<P>, worker: u64, name: u64) -> Option<&P>
     requires { IsActive heap.now worker }
     ensures allowed { IsSome result ↔ (denial_of (content_of heap.now).label (content_of heap.now).value worker (Command.Read name) ≡ None) }

@@ -36,9 +36,9 @@ pub fn decisions_on_a_content_are_its_graphs()
         answer_of g x (Plain command) ≡ Denied denial }
 {}
 
-/// A content that is changed as the rules say stands for the next graph: where a command is served, and where an object or a
-/// subject is made. Where a command is denied, or no more vertices may be made, it does where it stays as it is. The next name
-/// is one that the content doesn't have.
+/// A content that is changed as the rules say stands for the next graph: where a command is served, and where an object
+/// or a subject is made. Where a command is denied, or no more vertices may be made, it does where it stays as it is.
+/// The next name is one that the content doesn't have.
 pub fn steps_on_a_content_are_its_graphs()
     ensures served { (c new : Content) (g : ProtectionGraph) (x : ℕ) (command : Command) →
         IsContentOf c g → IsSubject g x → denial_of c.label c.value x command ≡ None →

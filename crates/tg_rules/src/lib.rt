@@ -4,8 +4,8 @@
 //! the rules say on that content, and changes nothing. [`perform`] does what a command asks for that is served: it
 //! answers and changes the content as the rules say, or is refused for want of memory or room and changes nothing.
 //!
-//! A store does both with one look-up for each edge: [`find_parties`] makes the checks and answers the vertices that it met,
-//! and [`perform_between`] performs the command between these.
+//! A store does both with one look-up for each edge: [`find_parties`] makes the checks and answers the vertices that it
+//! met, and [`perform_between`] performs the command between these.
 //!
 //! [`readable`] lends what a vertex stores to a worker that may read it.
 //!

@@ -6,8 +6,8 @@ use std::alloc::{AllocError, Global};
 use std::marker::Model;
 use tg_closed::{ClosedWords, zeros};
 
-/// Forwarding words while one thread gives them: for each cell, by its flat number, the word of its new place, or 0 where it
-/// has none. The first cells may be skipped: their words are 0 for good, and take no memory.
+/// Forwarding words while one thread gives them: for each cell, by its flat number, the word of its new place, or 0
+/// where it has none. The first cells may be skipped: their words are 0 for good, and take no memory.
 ///
 /// The idea is that of a collector's forwarding addresses, in a table of their own beside cells that are only read.
 #[derive(Drop)]
@@ -26,8 +26,8 @@ impl Model for ForwardingTable {
 }
 
 impl ForwardingTable {
-    /// A word of 0 for each of as many cells, of which the first ones are skipped. The words of the others stand in the given
-    /// room, whatever it holds, where that is enough; else the room is given back.
+    /// A word of 0 for each of as many cells, of which the first ones are skipped. The words of the others stand in the
+    /// given room, whatever it holds, where that is enough; else the room is given back.
     ///
     /// It is refused only where memory for the words of the others was.
     #[inline(always)]

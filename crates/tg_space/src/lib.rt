@@ -1,7 +1,7 @@
 //! Spaces of blocks of cells: the ground that the heap's graph and its collections stand on.
 //!
-//! A heap is a list of spaces. Space 0 is Old, space 1 is Aged, and space 2 + k is the nursery with number k. A space is
-//! a list of blocks, which only grows, until a collection takes all its blocks away; a block is 64 cells of 8 words.
+//! A heap is a list of spaces. Space 0 is Old, space 1 is Aged, and space 2 + k is the nursery with number k. A space
+//! is a list of blocks, which only grows, until a collection takes all its blocks away; a block is 64 cells of 8 words.
 //!
 //! ```text
 //!   space 0  Old         [block 0] [block 1] [block 2]
@@ -22,13 +22,13 @@
 //!
 //! **Who may call.** The heap's graph reads and writes words and allocates; a collection only reads, builds new
 //! blocks in a `Space` of its own, and hands them over by `adopt`. So a collection that is refused leaves all as it
-//! was. Only `new`, `add_block`, `adopt`, `ForwardingTable::new`, and of a `Space` `push`, `add_block` and `append` take
-//! memory.
+//! was. Only `new`, `add_block`, `adopt`, `ForwardingTable::new`, and of a `Space` `push`, `add_block` and `append`
+//! take memory.
 //!
 //! **What stands here for several crates above**, as definitions in `specs/`: the targets of cells and roots, the
 //! closure of the roots as the least set, the image of a cell under a map to new places, which spaces and roots are
-//! sound, and what a collection of either kind leaves. The module `laws` says what follows from them, above all the law of
-//! tracing: what was traced from the roots, and is complete, is exactly the closure.
+//! sound, and what a collection of either kind leaves. The module `laws` says what follows from them, above all the law
+//! of tracing: what was traced from the roots, and is complete, is exactly the closure.
 #![tactic(auto)]
 
 pub use adoption::Adoption;

@@ -9,7 +9,8 @@ use std::alloc::{AllocError, Global};
 use std::marker::Model;
 use tg_block::{Block, WORDS};
 
-/// The blocks of one space, at most 1,048,576. Contracts see the list of its blocks, each a list of 64 cells of 8 words.
+/// The blocks of one space, at most 1,048,576. Contracts see the list of its blocks, each a list of 64 cells of 8
+/// words.
 #[derive(Drop)]
 pub struct Space {
     blocks: Vec<Block>,

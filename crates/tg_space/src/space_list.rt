@@ -22,11 +22,11 @@ pub fn empty_spaces(alloc: Global, count: usize) -> Result<Vec<Space>, AllocErro
     Ok(spaces)
 }
 
-/// Old is followed by these blocks, Aged is the other ones, and every nursery has none. The answer is the blocks that were left,
-/// and behind them those that Aged had.
+/// Old is followed by these blocks, Aged is the other ones, and every nursery has none. The answer is the blocks that
+/// were left, and behind them those that Aged had.
 ///
-/// The spaces from a number on, at least 2, have no block: it looks at none of them. It is refused only where memory was; then
-/// nothing is changed.
+/// The spaces from a number on, at least 2, have no block: it looks at none of them. It is refused only where memory
+/// was; then nothing is changed.
 pub fn put_behind(
     alloc: Global,
     spaces: &mut [Space],

@@ -243,9 +243,9 @@ impl Spaces {
     /// Aged is its new blocks, and the nurseries have none. That is refused only where memory was; then nothing is
     /// changed.
     ///
-    /// The blocks that Old had before a full collection are spare then. So are those that Aged had before a nursery collection,
-    /// behind the spare ones that it had no use for. Of these, no more are kept than the heap has blocks; and a nursery collection
-    /// keeps as many as it emptied, for the next one, and gives back 64 of those beyond.
+    /// The blocks that Old had before a full collection are spare then. So are those that Aged had before a nursery
+    /// collection, behind the spare ones that it had no use for. Of these, no more are kept than the heap has blocks;
+    /// and a nursery collection keeps as many as it emptied, for the next one, and gives back 64 of those beyond.
     pub fn adopt(&mut self, kind: Kind, adoption: Adoption) -> Result<(), AllocError>
         requires { kind ≡ Kind.Nursery → kept_blocks kind self.old.spaces + length adoption.old ≤ MOST_SPACE_BLOCKS }
         ensures adopted { OnOk result (self.new ≡ with_adopted self.old kind adoption.aged adoption.old) }
@@ -268,8 +268,8 @@ impl Spaces {
         mem::replace(&mut self.spare, Spare::none(self.alloc))
     }
 
-    /// Keeps the room that came with forwarding words that nobody asks any more for the next collection: 8 bytes a cell of the
-    /// last one until then, and at most 32 a cell that the heap has now. Takes no memory.
+    /// Keeps the room that came with forwarding words that nobody asks any more for the next collection: 8 bytes a cell
+    /// of the last one until then, and at most 32 a cell that the heap has now. Takes no memory.
     pub fn keep_words(&mut self, forward: Forwarding)
         ensures { self.new ≡ self.old }
     {
@@ -278,7 +278,8 @@ impl Spaces {
             .keep_words(self.alloc, forward.into_room(), cells);
     }
 
-    // How many spaces there are up to the last nursery that has a block: as many as a collection has to empty. Old and Aged count always.
+    // How many spaces there are up to the last nursery that has a block: as many as a collection has to empty. Old and
+    // Aged count always.
     fn filled(&self) -> usize
         ensures some { 2 ≤ result }
         ensures empty { IsEmptyFrom result self.now.spaces }
@@ -292,8 +293,8 @@ impl Spaces {
         filled
     }
 
-    // Old is followed by these blocks, Aged is the other ones, and every nursery has none. Of the spare blocks and those that Aged
-    // had as many are kept as the collection emptied.
+    // Old is followed by these blocks, Aged is the other ones, and every nursery has none. Of the spare blocks and
+    // those that Aged had as many are kept as the collection emptied.
     #[tactic(auto, using(crate::proofs::Tables::table_adopted))]
     fn keep_old_and(&mut self, aged: Space, old: Space, left: Vec<Block>) -> Result<(), AllocError>
         requires { length (space_of self.old.spaces 0) + length old ≤ MOST_SPACE_BLOCKS }
@@ -326,7 +327,8 @@ impl Spaces {
     }
 }
 
-// How many of so many spare blocks stay behind a nursery collection that emptied so many: the next one may need as many.
+// How many of so many spare blocks stay behind a nursery collection that emptied so many: the next one may need as
+// many.
 fn wanted_of(spare: u64, emptied: u64) -> u64 {
     emptied.max(spare.saturating_sub(GIVEN_BACK))
 }

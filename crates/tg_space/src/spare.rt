@@ -4,16 +4,16 @@ ghost use Rattle.std.specs.Prelude.{◌≡◌, ◌≤◌, ◌*◌, ◌<◌, ◌^
 use std::alloc::Global;
 use tg_block::Block;
 
-/// What the last collection left for the next one to use. It counts for no limit, and is no more than the heap may need for a
-/// full collection.
+/// What the last collection left for the next one to use. It counts for no limit, and is no more than the heap may need
+/// for a full collection.
 #[derive(Drop)]
 pub struct Spare {
-    /// Blocks that collections emptied or had no use for, at most as many as the heap had behind the last one. They hold
-    /// whatever they held.
+    /// Blocks that collections emptied or had no use for, at most as many as the heap had behind the last one. They
+    /// hold whatever they held.
     pub blocks: Vec<Block>,
     /// Room for a word of each cell that might be moved, or for no word: that of the forwarding words, where one thread
-    /// collected, and else that of a helper's list of won cells. It is at most for four times as many cells as the heap had
-    /// behind the last collection.
+    /// collected, and else that of a helper's list of won cells. It is at most for four times as many cells as the heap
+    /// had behind the last collection.
     pub words: Vec<u64>,
 }
 
@@ -37,8 +37,8 @@ impl Spare {
         self.blocks = blocks;
     }
 
-    /// Keeps this room for the next collection of as many cells, but gives it back where it is for more than four times as many.
-    /// Takes no memory.
+    /// Keeps this room for the next collection of as many cells, but gives it back where it is for more than four times
+    /// as many. Takes no memory.
     pub(crate) fn keep_words(&mut self, alloc: Global, room: Vec<u64>, cells: u64)
         requires { 4 * cells < 2 ^ 64 }
         ensures { vec_capacity self.new.words ≤ 4 * cells }

@@ -10,11 +10,12 @@
 //! ```
 //!
 //! The table goes by rising name. A name is given once, and each is above all that were given before, so a new subject
-//! comes last. Where no subject was retired, a name is also the number of its row in the table, and there `find` looks first.
-//! Else it looks at the one who came last, and then searches the names by halves. A bit for each nursery that is held tells the least one that is free.
+//! comes last. Where no subject was retired, a name is also the number of its row in the table, and there `find` looks
+//! first. Else it looks at the one who came last, and then searches the names by halves. A bit for each nursery that is
+//! held tells the least one that is free.
 //!
-//! `new` makes room for all subjects that there may be, and nothing else here takes memory: whoever changes the table is
-//! never refused behind the change.
+//! `new` makes room for all subjects that there may be, and nothing else here takes memory: whoever changes the table
+//! is never refused behind the change.
 #![tactic(auto)]
 
 mod subject;

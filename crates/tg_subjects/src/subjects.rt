@@ -28,8 +28,8 @@ impl Model for Subjects {
 
     ghost view = { λ table. table.items.items };
 
-    // names rise, each subject has a nursery of its own, there is room for all that there may be, and just the bits of held
-    // nurseries are set
+    // names rise, each subject has a nursery of its own, there is room for all that there may be, and just the bits of
+    // held nurseries are set
     ghost invariant = { λ table. AreSubjects table.items.items × (MAX_NURSERIES ≤ vec_capacity table.items) × MarksHeld table.held (nurseries_of table.items.items) };
 }
 

@@ -1,8 +1,8 @@
 //! The lines of a source, byte by byte.
 //!
-//! A line that the source holds whole is taken at once. For any other the source is asked for one byte at a time, and never for
-//! a byte behind the first fault: that is why a fault is then looked for at each byte, and not when a line is whole. Bytes of a
-//! line lie in one buffer, which serves all lines.
+//! A line that the source holds whole is taken at once. For any other the source is asked for one byte at a time, and
+//! never for a byte behind the first fault: that is why a fault is then looked for at each byte, and not when a line is
+//! whole. Bytes of a line lie in one buffer, which serves all lines.
 ghost use Rattle.std.specs.Prelude.{◌≡◌, ◌+◌, ◌≤◌, true, false, length};
 ghost use Rattle.tg_text.specs.declared.buffer.TheConstants.{MOST_LINE_BYTES};
 ghost use Rattle.tg_text.specs.declared.fetch.TheConstants.{MOST_BYTES};
@@ -33,10 +33,10 @@ impl Lines {
     }
 
     /// Reads the next line into the buffer, without its line feed, and says what came of it: a line, no more bytes, or
-    /// the first fault, looked for at each byte in this order: what was written couldn't be finished, the source failed, more
-    /// bytes came than may, the line has more than [`MOST_LINE_BYTES`]; or the input ended within a line. The source is asked
-    /// once for each byte of the line and for what ended it, and not again. What was put into the sink is finished before the
-    /// source is asked for what it doesn't hold. Takes no memory.
+    /// the first fault, looked for at each byte in this order: what was written couldn't be finished, the source
+    /// failed, more bytes came than may, the line has more than [`MOST_LINE_BYTES`]; or the input ended within a line.
+    /// The source is asked once for each byte of the line and for what ended it, and not again. What was put into the
+    /// sink is finished before the source is asked for what it doesn't hold. Takes no memory.
     #[inline(always)]
     pub fn next_line<S: Source, K: Sink>(
         &mut self,
@@ -53,7 +53,8 @@ impl Lines {
         self.next_line_by_bytes(source, sink, line)
     }
 
-    // Reads the next line into the buffer where the source holds all of it, and answers whether it did; else nothing is read.
+    // Reads the next line into the buffer where the source holds all of it, and answers whether it did; else nothing is
+    // read.
     #[inline(always)]
     fn take_held<S: Source>(&mut self, source: &mut S, line: &mut LineBuffer) -> bool
         ensures bytes { TakesLineAtOnce (S.left source.old) result line.new (S.left source.new) }
