@@ -92,7 +92,8 @@ fn collect_alone<G: Gate>(
 /// its copies need as there are helpers. `HeapFull` is answered only where the cells that the roots reach may not fit into
 /// the blocks that a space may have, if each helper leaves one open; cells that they don't reach take no room. `NoThread` is
 /// answered where a thread couldn't be started, and never of one helper alone. Those that were started end before the
-/// answer. Each helper has a like share of the spare blocks, and fills them first. The table is laid out in the
+/// answer. Each helper has a like share of the spare blocks, but no more than it may fill, and fills them
+/// first; the one here has the rest too. The table is laid out in the
 /// spare room first, where the list of won cells of the helper on the calling thread stands then.
 #[tactic(auto, using(tg_evac::proofs::Behind::kept_within))]
 pub fn collect_many<R: Threads + Wait + Sync, G: Gate>(
@@ -216,7 +217,7 @@ fn work_in_scope<R: Threads + Wait, G: Gate>(
     )
 }
 
-// Starts a thread of the scope for each helper, with its share of the spare blocks. One share is left, and the room.
+// Starts a thread of the scope for each helper, with its share of the spare blocks. The others are left, and the room.
 fn start_all<'s, E, G: Gate>(
     alloc: Global,
     scope: &Scope<'s, E>,
@@ -232,7 +233,8 @@ fn start_all<'s, E, G: Gate>(
     ensures refused { IfErr result (IsNotStarted (length others.items)) }
 {
     let mut children = Vec::with_capacity(alloc, others.len())?;
-    let blocks = spare.blocks.len() / (others.len() + 1);
+    let like = spare.blocks.len() / (others.len() + 1);
+    let blocks = like.min(most_filled(promise.table));
     let mut number: u32 = 0;
     for other in others {
         number = number.wrapping_add(1);
@@ -244,6 +246,11 @@ fn start_all<'s, E, G: Gate>(
         children.push(child)?;
     }
     Ok(children)
+}
+
+// How many blocks a helper may fill: what may move, and the open block of each space.
+fn most_filled(table: &RaceTable) -> usize {
+    table.len() / CELLS as usize + 2
 }
 
 // Starts a thread of the scope for a helper.
