@@ -3,9 +3,10 @@
 //! A store is opened with an [`Opening`](tg_model::Opening), which says who its workers are, a draft of the payload of
 //! each, and how many blocks its heap may have. From then on it keeps a journal: each command that is decided, served
 //! or denied, has one entry with its reply, and so has each create that makes a vertex or finds that no more may be
-//! made. The graph that a store stands for (`StandsFor`) is that of its opening after the deeds of its journal, and
-//! each call is told by it: [`Store::apply`] answers what the rules answer on that graph, and then the store stands for
-//! the next graph by the rules; so do [`Store::create`] and [`Store::spawn`].
+//! made. The journal is handed out in parts, or given up ([`Store::take_journal`], [`Store::forget`]); the store goes on.
+//! The graph that a store stands for (`StandsFor`) is that of its opening after the deeds of all entries, held or not,
+//! and each call is told by it: [`Store::apply`] answers what the rules answer on that graph, and then the store stands
+//! for the next graph by the rules; so do [`Store::create`] and [`Store::spawn`].
 //!
 //! ```text
 //!     opening --deeds of the journal--> graph        what every reply is told by; no collection enters it

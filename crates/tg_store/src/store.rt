@@ -21,8 +21,8 @@ use tg_subjects::Subject;
 use tg_word::OLD;
 
 /// An object store with access control, over payloads that its callers hand in. Contracts see it as a `StoreState`,
-/// and tell each call by the protection graph that this stands for: that of its opening, after the deeds of its journal.
-/// No collection enters it.
+/// and tell each call by the protection graph that this stands for: that of its opening, after the deeds of all entries
+/// that were made. No collection enters it.
 #[derive(Drop)]
 pub struct Store<P: Payload> {
     alloc: Global,
