@@ -1,5 +1,5 @@
 -- A graph and a picture of what its active subjects reach take the same turns, and agree on who is reached after each.
-use Rattle.std.proofs.Common.{◌≡◌, ◌↔◌, ◌⊎◌, inl, inr, ⊎_elim, ℕ, suc, ◌+◌, ◌<◌, ◌≤◌, ◌==◌, ◌&&◌, nat_lt, Bool, true, false, cond, List, [], ◌∷◌, length, Option, Some, None, refl, sym, ap, ◌∙◌, subst, arith}
+use Rattle.std.proofs.Common.{◌≡◌, ◌⊎◌, inl, inr, ⊎_elim, ℕ, suc, ◌<◌, ◌≤◌, ◌==◌, ◌&&◌, nat_lt, Bool, true, false, cond, List, [], ◌∷◌, length, Option, Some, None, refl, sym, ap, ◌∙◌, subst, arith}
 use Rattle.std.specs.List.{Contains}
 use Rattle.std.proofs.lemmas.Bool.{and_parts, cases_Bool, cases_lt, eqb-true, false≢true}
 use Rattle.std.proofs.lemmas.List.Elements.{Contains-push_cases}
@@ -14,10 +14,10 @@ use Rattle.tg_model.specs.declared.command.Deed.{Deed}
 use Rattle.tg_model.specs.declared.command.Deed.TheVariants.{Create, Spawn, Plain}
 use Rattle.tg_model.specs.declared.reply.Denial.{Denial}
 use Rattle.tg_model.specs.Graph.{ProtectionGraph, IsSubject, HasEdge, IsReachable, IsSound, with_rights}
-use Rattle.tg_model.specs.Near.{SameNear, SameValuesNear}
+use Rattle.tg_model.specs.Near.{SameNear}
 use Rattle.tg_model.specs.Opened.{label_in}
 use Rattle.tg_model.specs.Picture.{Holds, Shown, IsPictureOf}
-use Rattle.tg_model.specs.Rules.{Permits, denial_of, effect, labels_after, unless_denied, with_vertex, with_subject, step}
+use Rattle.tg_model.specs.Rules.{denial_of, effect, labels_after, unless_denied, with_vertex, with_subject, step}
 use Rattle.tg_model.specs.Walks.{begins, goes, Walk-within}
 use Rattle.tg_model.proofs.AllowedLaws.{permits-no_denial}
 use Rattle.tg_model.proofs.PictureLaws.{or_true}
