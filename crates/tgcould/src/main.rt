@@ -20,7 +20,7 @@ use options::{AskOptions, Asked, Supposed, WordFault, read_words};
 use std::alloc::{AllocError, Global};
 use std::env;
 use std::process::ExitCode;
-use text::add;
+use text::put;
 use tg_model::Picture;
 use tg_plain::{PlainRun, Script};
 
@@ -144,11 +144,12 @@ fn add_answers(
     let are_several = questions.len() > 1;
     for asked in questions {
         if are_several {
-            add(text, &[asked.text.as_bytes(), b": "])?;
+            put(text, asked.text.as_bytes())?;
+            put(text, b": ")?;
         }
         all_told.push(tell(text, scene, asked.question)?)?;
         if are_several {
-            add(text, &[b"\n"])?;
+            put(text, b"\n")?;
         }
     }
     Ok(())
