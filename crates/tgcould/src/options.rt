@@ -139,10 +139,12 @@ fn options_of<'a>(
     let mut questions = Vec::new(alloc);
     add_questions(&mut questions, matches, "ask", false)?;
     add_questions(&mut questions, matches, "never", true)?;
+    let mut as_if = Vec::new(alloc);
+    add_supposed(&mut as_if, alloc, matches)?;
     Ok(AskOptions {
         plain: read_options(matches),
         silent: silent_of(alloc, matches)?,
-        as_if: supposed_of(alloc, matches)?,
+        as_if,
         questions,
     })
 }
@@ -186,17 +188,17 @@ fn silent_of(alloc: Global, matches: &ArgMatches) -> Result<Vec<u64>, AllocError
     Ok(silent)
 }
 
-// The edges that are asked about as if they were there.
-fn supposed_of<'a>(
+// Adds the edges that are asked about as if they were there.
+fn add_supposed<'a>(
+    supposed: &mut Vec<Supposed<'a>>,
     alloc: Global,
     matches: &ArgMatches<'a>,
-) -> Result<Vec<Supposed<'a>>, WordFault<'a>> {
-    let mut supposed = Vec::new(alloc);
+) -> Result<(), WordFault<'a>> {
     for text in matches.get_strs("as-if").unwrap_or(&[]) {
         let edge = read_edge(alloc, text)?;
         supposed.push(Supposed { text, edge })?;
     }
-    Ok(supposed)
+    Ok(())
 }
 
 // The edge that the text is, as it stands in an edge line.

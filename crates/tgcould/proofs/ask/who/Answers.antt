@@ -14,5 +14,5 @@ returns c =
     let made = c.made-made.result in
     let Shown : ℕ → Type 0 = λ k. (¬ Contains c.add_unless_never-2.new.names.items k) → IsNever c.args.scene.now.picture.now c.args.scene.now.silent.now k c.args.right c.args.y in
     λ k within. below_more Shown made
-      (λ k below without. c.loop-x.invariant k (omega (arith, below, c.loop-x-test.false)) (λ has. without (c.in_ok-add_unless_never-2.ensures.kept k has)))
-      c.in_ok-add_unless_never-2.ensures.shown k (omega (arith, within, c.made-made.ensures))
+    (λ k below without. c.loop-x.invariant k (omega (arith, below, c.loop-x-test.false)) (λ has. without (c.in_ok-add_unless_never-2.ensures.kept k has)))
+    c.in_ok-add_unless_never-2.ensures.shown k (omega (arith, within, c.made-made.ensures))
