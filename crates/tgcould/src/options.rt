@@ -64,15 +64,6 @@ pub struct Asked<'a> {
     pub must_never: bool,
 }
 
-/// An edge of the command line.
-#[derive(Clone, Copy)]
-pub struct Supposed<'a> {
-    /// Its text, as it was written.
-    pub text: &'a str,
-    /// The edge.
-    pub edge: Edge,
-}
-
 /// What the words ask for.
 #[derive(Drop)]
 pub struct AskOptions<'a> {
@@ -81,7 +72,7 @@ pub struct AskOptions<'a> {
     /// Who takes no turns.
     pub silent: Vec<u64>,
     /// The edges that are asked about as if they were there.
-    pub as_if: Vec<Supposed<'a>>,
+    pub as_if: Vec<Edge>,
     /// The questions: first those to be answered, then those that must never come about.
     pub questions: Vec<Asked<'a>>,
 }
@@ -139,12 +130,10 @@ fn options_of<'a>(
     let mut questions = Vec::new(alloc);
     add_questions(&mut questions, matches, "ask", false)?;
     add_questions(&mut questions, matches, "never", true)?;
-    let mut as_if = Vec::new(alloc);
-    add_supposed(&mut as_if, alloc, matches)?;
     Ok(AskOptions {
         plain: read_options(matches),
         silent: silent_of(alloc, matches)?,
-        as_if,
+        as_if: supposed_of(alloc, matches)?,
         questions,
     })
 }
@@ -188,17 +177,13 @@ fn silent_of(alloc: Global, matches: &ArgMatches) -> Result<Vec<u64>, AllocError
     Ok(silent)
 }
 
-// Adds the edges that are asked about as if they were there.
-fn add_supposed<'a>(
-    supposed: &mut Vec<Supposed<'a>>,
-    alloc: Global,
-    matches: &ArgMatches<'a>,
-) -> Result<(), WordFault<'a>> {
+// The edges that are asked about as if they were there.
+fn supposed_of<'a>(alloc: Global, matches: &ArgMatches<'a>) -> Result<Vec<Edge>, WordFault<'a>> {
+    let mut edges = Vec::new(alloc);
     for text in matches.get_strs("as-if").unwrap_or(&[]) {
-        let edge = read_edge(alloc, text)?;
-        supposed.push(Supposed { text, edge })?;
+        edges.push(read_edge(alloc, text)?)?;
     }
-    Ok(())
+    Ok(edges)
 }
 
 // The edge that the text is, as it stands in an edge line.

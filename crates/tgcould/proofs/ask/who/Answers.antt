@@ -1,4 +1,4 @@
-use Rattle.std.proofs.Common.{ℕ, ◌<◌, below_more, arith}
+use Rattle.std.proofs.Common.{ℕ, below_more, arith}
 use Rattle.std.specs.List.{Contains}
 use Rattle.tgcould.specs.Told.{IsNever}
 use Rattle.tgcould.proofs.ask.who.Goals as goal
