@@ -1,7 +1,7 @@
 -- Texts that grow.
 use Rattle.std.proofs.Common.{◌≡◌, ◌∙◌, ℕ, ◌+◌, ◌<◌, List, [], ◌∷◌, ◌++◌, sym, ap, append_assoc, append-nil, map, take, length, get_or}
 use Rattle.std.proofs.lemmas.List.{take_more, flat_map_more}
-use Rattle.std.specs.Prelude.{Bor}
+use Rattle.std.proofs.Common.{Bor}
 use Rattle.std.specs.List.{flat_map, join_with_byte}
 
 -- words behind a first one, each behind a space, are joined by spaces

@@ -1,6 +1,7 @@
 use Rattle.std.proofs.Common.{◌≡◌, ◌∙◌, ℕ, List, [], ◌∷◌, ◌++◌, sym, ap, subst, append_assoc, OnOk, map, Bool, false, length, ◌==◌, if◌then◌else◌}
 use Rattle.std.specs.Fmt.{decimal}
-use Rattle.std.specs.Prelude.{codes, Bor}
+use Rattle.std.specs.Prelude.{codes}
+use Rattle.std.proofs.Common.{Bor}
 use Rattle.std.specs.List.{flat_map, join_with_byte}
 use Rattle.tg_rights.specs.RightSet.{text_of}
 use Rattle.tgcould.specs.Texts.{turn_text, wanting_text, more_text}
