@@ -1,5 +1,5 @@
 -- The texts of answers: a word, and behind `could` the lines of a script that do it.
-use Rattle.std.specs.Prelude.{ℕ, ◌==◌, List, [], ◌∷◌, ◌++◌, codes, decimal, if◌then◌else◌}
+use Rattle.std.specs.Prelude.{ℕ, ◌==◌, List, [], ◌∷◌, ◌++◌, codes, decimal, length, if◌then◌else◌}
 use Rattle.std.specs.List.{flat_map}
 use Rattle.tg_model.specs.declared.command.Deed.{Deed}
 use Rattle.tg_model.specs.declared.command.Deed.TheVariants as deed
@@ -20,14 +20,17 @@ line_of_deed x (deed.Plain command) = line.Plain x command
 abbrev pub turn_text : Turn → List ℕ
 turn_text turn = line_text (line_of_deed turn.0 turn.1) ++ 10 ∷ []
 
+-- the words behind the number of names that are wanting
+abbrev pub more_text : ℕ → List ℕ
+more_text names = if names == 1 then codes " name more\n" else codes " names more\n"
+
 -- how many names are wanting
 abbrev pub wanting_text : ℕ → List ℕ
-wanting_text names = codes "could, with " ++ (decimal names ++ (if names == 1 then codes " name more\n" else codes " names more\n"))
+wanting_text names = codes "could, with " ++ (decimal names ++ more_text names)
 
 -- turns that lead there, none where it is so already
 abbrev pub could_text : List Turn → List ℕ
-could_text [] = codes "now\n"
-could_text (turn ∷ turns) = codes "could\n" ++ flat_map turn_text (turn ∷ turns)
+could_text turns = if length turns == 0 then codes "now\n" else codes "could\n" ++ flat_map turn_text turns
 
 abbrev pub answer_text : Answer → List ℕ
 answer_text (Never separation) = codes "never\n"

@@ -4,7 +4,7 @@ ghost use Rattle.std.specs.List.{Contains};
 ghost use Rattle.tgcould.specs.Told.{Answers, IsNever, ListsWho, TellsHold, named_in};
 
 use crate::question::{Question, Vertex};
-use crate::text::{add, add_answer, add_rights, add_vertex};
+use crate::text::{add_answer, add_rights, add_vertex, put};
 use std::alloc::{AllocError, Global};
 use tg_could::{Answer, could_hold};
 use tg_model::{Deed, Picture};
@@ -118,7 +118,7 @@ fn tell_who(
 ) -> Result<Told, AllocError> {
     let names = who(scene, right, name_of(scene, y))?;
     if names.is_empty() {
-        add(text, &[b"nobody\n"])?;
+        put(text, b"nobody\n")?;
     } else {
         add_names(text, scene.picture.made(), names.as_slice())?;
     }
@@ -138,11 +138,11 @@ fn listed(is_never: bool) -> Told {
 fn add_names(text: &mut Vec<u8>, made: u64, names: &[u64]) -> Result<(), AllocError> {
     let mut space: &[u8] = b"";
     for name in names {
-        add(text, &[space])?;
+        put(text, space)?;
         add_vertex(text, made, *name)?;
         space = b" ";
     }
-    add(text, &[b"\n"])
+    put(text, b"\n")
 }
 
 // Of all vertices and the next, those of whom it isn't shown that they never hold the right over y.
@@ -185,14 +185,17 @@ fn tell_what(text: &mut Vec<u8>, scene: &Scene, x: Vertex) -> Result<Told, Alloc
         let rights = what(scene, x, y)?;
         if !rights.is_empty() {
             if text.len() > first {
-                add(text, &[b" "])?;
+                put(text, b" ")?;
             }
             add_vertex(text, made, y)?;
             add_rights(text, rights)?;
         }
     }
     let is_never = text.len() == first;
-    add(text, &[if is_never { b"nothing" } else { b"" }, b"\n"])?;
+    if is_never {
+        put(text, b"nothing")?;
+    }
+    put(text, b"\n")?;
     Ok(listed(is_never))
 }
 

@@ -16,12 +16,12 @@ mod text;
 
 use ask::{Scene, Told, tell};
 use fault::AskFault;
-use options::{AskOptions, Asked, Supposed, WordFault, read_words};
+use options::{AskOptions, Asked, WordFault, read_words};
 use std::alloc::{AllocError, Global};
 use std::env;
 use std::process::ExitCode;
-use text::add;
-use tg_model::Picture;
+use text::put;
+use tg_model::{Edge, Picture};
 use tg_plain::{PlainRun, Script};
 
 fn main(rt: HostRuntime) -> ExitCode {
@@ -93,11 +93,13 @@ fn check_names<R: Eprint>(rt: &R, options: &AskOptions, made: u64) -> Result<(),
             return Err(AskFault::WasSaid);
         }
     }
-    for supposed in options.as_if.as_slice() {
-        let name = supposed.edge.from.max(supposed.edge.to);
+    for edge in options.as_if.as_slice() {
+        let Edge { from, to, label } = *edge;
+        let name = from.max(to);
         if name >= made {
-            let text = supposed.text;
-            eprintln!(rt; "tgcould: --as-if '{text}': the script makes no vertex {name}")?;
+            eprintln!(rt;
+                "tgcould: --as-if '{from} {to} {label}': the script makes no vertex {name}"
+            )?;
             return Err(AskFault::WasSaid);
         }
     }
@@ -105,10 +107,9 @@ fn check_names<R: Eprint>(rt: &R, options: &AskOptions, made: u64) -> Result<(),
 }
 
 // The picture of the graph that a run leaves, with the edges that are supposed to be there.
-fn picture_of(alloc: Global, run: &PlainRun, as_if: &[Supposed]) -> Result<Picture, AllocError> {
+fn picture_of(alloc: Global, run: &PlainRun, as_if: &[Edge]) -> Result<Picture, AllocError> {
     let mut picture = run.picture(alloc)?;
-    for supposed in as_if {
-        let edge = supposed.edge;
+    for edge in as_if {
         picture = picture.with(edge.from, edge.to, edge.label)?;
     }
     Ok(picture)
@@ -144,11 +145,12 @@ fn add_answers(
     let are_several = questions.len() > 1;
     for asked in questions {
         if are_several {
-            add(text, &[asked.text.as_bytes(), b": "])?;
+            put(text, asked.text.as_bytes())?;
+            put(text, b": ")?;
         }
         all_told.push(tell(text, scene, asked.question)?)?;
         if are_several {
-            add(text, &[b"\n"])?;
+            put(text, b"\n")?;
         }
     }
     Ok(())

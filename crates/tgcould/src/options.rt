@@ -64,15 +64,6 @@ pub struct Asked<'a> {
     pub must_never: bool,
 }
 
-/// An edge of the command line.
-#[derive(Clone, Copy)]
-pub struct Supposed<'a> {
-    /// Its text, as it was written.
-    pub text: &'a str,
-    /// The edge.
-    pub edge: Edge,
-}
-
 /// What the words ask for.
 #[derive(Drop)]
 pub struct AskOptions<'a> {
@@ -81,7 +72,7 @@ pub struct AskOptions<'a> {
     /// Who takes no turns.
     pub silent: Vec<u64>,
     /// The edges that are asked about as if they were there.
-    pub as_if: Vec<Supposed<'a>>,
+    pub as_if: Vec<Edge>,
     /// The questions: first those to be answered, then those that must never come about.
     pub questions: Vec<Asked<'a>>,
 }
@@ -187,16 +178,12 @@ fn silent_of(alloc: Global, matches: &ArgMatches) -> Result<Vec<u64>, AllocError
 }
 
 // The edges that are asked about as if they were there.
-fn supposed_of<'a>(
-    alloc: Global,
-    matches: &ArgMatches<'a>,
-) -> Result<Vec<Supposed<'a>>, WordFault<'a>> {
-    let mut supposed = Vec::new(alloc);
+fn supposed_of<'a>(alloc: Global, matches: &ArgMatches<'a>) -> Result<Vec<Edge>, WordFault<'a>> {
+    let mut edges = Vec::new(alloc);
     for text in matches.get_strs("as-if").unwrap_or(&[]) {
-        let edge = read_edge(alloc, text)?;
-        supposed.push(Supposed { text, edge })?;
+        edges.push(read_edge(alloc, text)?)?;
     }
-    Ok(supposed)
+    Ok(edges)
 }
 
 // The edge that the text is, as it stands in an edge line.

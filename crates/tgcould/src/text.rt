@@ -5,7 +5,7 @@ ghost use Rattle.tg_rights.specs.RightSet.{text_of};
 ghost use Rattle.tg_model.specs.declared.command.Deed.TheVariants as Deed;
 ghost use Rattle.tg_text.specs.declared.line.Line.TheVariants as Line;
 ghost use Rattle.tg_text.specs.Grammar.{line_text};
-ghost use Rattle.tgcould.specs.Texts.{answer_text, turn_text, wanting_text, could_text};
+ghost use Rattle.tgcould.specs.Texts.{more_text, answer_text, turn_text, wanting_text, could_text};
 
 use itoa::Buffer;
 use std::alloc::AllocError;
@@ -13,13 +13,11 @@ use tg_could::Answer;
 use tg_model::{Command, Deed};
 use tg_rights::{Label, Rights};
 
-/// Adds texts, one after the other. Fails only when out of memory.
-pub fn add(text: &mut Vec<u8>, parts: &[&[u8]]) -> Result<(), AllocError>
-    ensures { OnOk result (text.new.items ≡ text.old.items ++ flat_map (λ part. part.now) parts.now) }
+/// Adds a text. Fails only when out of memory.
+pub fn put(text: &mut Vec<u8>, bytes: &[u8]) -> Result<(), AllocError>
+    ensures { OnOk result (text.new.items ≡ text.old.items ++ bytes.now) }
 {
-    for part in parts {
-        text.extend_from_slice(part)?;
-    }
+    text.extend_from_slice(bytes)?;
     Ok(())
 }
 
@@ -28,13 +26,10 @@ pub fn add_answer(text: &mut Vec<u8>, answer: &Answer) -> Result<(), AllocError>
     ensures { OnOk result (text.new.items ≡ text.old.items ++ answer_text answer.now) }
 {
     match answer {
-        Answer::Never(_) => text.extend_from_slice(b"never\n"),
+        Answer::Never(_) => put(text, b"never\n"),
         Answer::Could(turns) => add_could(text, turns.as_slice()),
-        Answer::WantsNames { turns, names } => {
-            add_wanting(text, *names)?;
-            add_turns(text, turns.as_slice())
-        }
-        Answer::Open => text.extend_from_slice(b"open\n"),
+        Answer::WantsNames { turns, names } => add_wanting(text, turns.as_slice(), *names),
+        Answer::Open => put(text, b"open\n"),
     }
 }
 
@@ -43,23 +38,38 @@ fn add_could(text: &mut Vec<u8>, turns: &[(u64, Deed)]) -> Result<(), AllocError
     ensures { OnOk result (text.new.items ≡ text.old.items ++ could_text turns.now) }
 {
     if turns.is_empty() {
-        return text.extend_from_slice(b"now\n");
+        return put(text, b"now\n");
     }
-    text.extend_from_slice(b"could\n")?;
+    put(text, b"could\n")?;
+    add_turns(text, turns)
+}
+
+// Adds turns that lead there where so many more vertices may be made.
+fn add_wanting(text: &mut Vec<u8>, turns: &[(u64, Deed)], names: u64) -> Result<(), AllocError>
+    ensures { OnOk result (text.new.items ≡ text.old.items ++ (wanting_text names ++ flat_map turn_text turns.now)) }
+{
+    add_names_more(text, names)?;
     add_turns(text, turns)
 }
 
 // Adds that so many names are wanting.
-fn add_wanting(text: &mut Vec<u8>, names: u64) -> Result<(), AllocError>
+fn add_names_more(text: &mut Vec<u8>, names: u64) -> Result<(), AllocError>
     ensures { OnOk result (text.new.items ≡ text.old.items ++ wanting_text names) }
 {
     let mut buffer = Buffer::new();
-    text.extend_from_slice(b"could, with ")?;
-    text.extend_from_slice(buffer.format(names).as_bytes())?;
+    put(text, b"could, with ")?;
+    put(text, buffer.format(names).as_bytes())?;
+    put(text, names_more(names))
+}
+
+// The words behind the number of names.
+fn names_more(names: u64) -> &'static [u8]
+    ensures { result.now ≡ more_text names }
+{
     if names == 1 {
-        text.extend_from_slice(b" name more\n")
+        b" name more\n"
     } else {
-        text.extend_from_slice(b" names more\n")
+        b" names more\n"
     }
 }
 
@@ -138,13 +148,16 @@ fn add_move(
     let mut second = Buffer::new();
     let mut third = Buffer::new();
     let rights = label.rights().text();
-    let words: [&[u8]; 4] = [
-        word,
-        second.format(via).as_bytes(),
-        third.format(target).as_bytes(),
-        rights.as_bytes(),
-    ];
-    add_line(text, first.format(worker).as_bytes(), &words)
+    add_line(
+        text,
+        first.format(worker).as_bytes(),
+        &[
+            word,
+            second.format(via).as_bytes(),
+            third.format(target).as_bytes(),
+            rights.as_bytes(),
+        ],
+    )
 }
 
 // Adds the line of a removal.
@@ -155,12 +168,15 @@ fn add_removal(text: &mut Vec<u8>, worker: u64, target: u64, label: Label) -> Re
     let mut first = Buffer::new();
     let mut second = Buffer::new();
     let rights = label.rights().text();
-    let words: [&[u8]; 3] = [
-        b"remove",
-        second.format(target).as_bytes(),
-        rights.as_bytes(),
-    ];
-    add_line(text, first.format(worker).as_bytes(), &words)
+    add_line(
+        text,
+        first.format(worker).as_bytes(),
+        &[
+            b"remove",
+            second.format(target).as_bytes(),
+            rights.as_bytes(),
+        ],
+    )
 }
 
 // Adds the line of a command with one number behind its word.
@@ -170,8 +186,11 @@ fn add_of_one(text: &mut Vec<u8>, worker: u64, word: &[u8], number: u64) -> Resu
 {
     let mut first = Buffer::new();
     let mut second = Buffer::new();
-    let words: [&[u8]; 2] = [word, second.format(number).as_bytes()];
-    add_line(text, first.format(worker).as_bytes(), &words)
+    add_line(
+        text,
+        first.format(worker).as_bytes(),
+        &[word, second.format(number).as_bytes()],
+    )
 }
 
 // Adds the line of a command with two numbers behind its word.
@@ -188,12 +207,15 @@ fn add_of_two(
     let mut first = Buffer::new();
     let mut second = Buffer::new();
     let mut third = Buffer::new();
-    let words: [&[u8]; 3] = [
-        word,
-        second.format(number).as_bytes(),
-        third.format(value).as_bytes(),
-    ];
-    add_line(text, first.format(worker).as_bytes(), &words)
+    add_line(
+        text,
+        first.format(worker).as_bytes(),
+        &[
+            word,
+            second.format(number).as_bytes(),
+            third.format(value).as_bytes(),
+        ],
+    )
 }
 
 // Adds the line of a command with nothing behind its word.
@@ -209,9 +231,9 @@ fn add_line(text: &mut Vec<u8>, first: &[u8], others: &[&[u8]]) -> Result<(), Al
     ensures { OnOk result (text.new.items ≡
         text.old.items ++ (join_with_byte 32 (first.now ∷ map (λ word. word.now) others.now) ++ 10 ∷ [])) }
 {
-    text.extend_from_slice(first)?;
+    put(text, first)?;
     add_words(text, others)?;
-    text.extend_from_slice(b"\n")
+    put(text, b"\n")
 }
 
 // Adds words, each behind a space.
@@ -219,22 +241,31 @@ fn add_words(text: &mut Vec<u8>, words: &[&[u8]]) -> Result<(), AllocError>
     ensures { OnOk result (text.new.items ≡ text.old.items ++ flat_map (λ word. 32 ∷ word.now) words.now) }
 {
     for word in words {
-        add(text, &[b" ", word])?;
+        add_word(text, word)?;
     }
     Ok(())
+}
+
+// Adds a word behind a space.
+fn add_word(text: &mut Vec<u8>, word: &[u8]) -> Result<(), AllocError>
+    ensures { OnOk result (text.new.items ≡ text.old.items ++ 32 ∷ word.now) }
+{
+    put(text, b" ")?;
+    put(text, word)
 }
 
 /// Adds a vertex of an answer: its name, or `new` where it is the next. Fails only when out of memory.
 pub fn add_vertex(text: &mut Vec<u8>, made: u64, name: u64) -> Result<(), AllocError> {
     if name == made {
-        return text.extend_from_slice(b"new");
+        return put(text, b"new");
     }
     let mut buffer = Buffer::new();
-    text.extend_from_slice(buffer.format(name).as_bytes())
+    put(text, buffer.format(name).as_bytes())
 }
 
 /// Adds the letters of rights behind a colon. Fails only when out of memory.
 pub fn add_rights(text: &mut Vec<u8>, rights: Rights) -> Result<(), AllocError> {
     let rights = rights.text();
-    add(text, &[b":", rights.as_bytes()])
+    put(text, b":")?;
+    put(text, rights.as_bytes())
 }

@@ -1,0 +1,18 @@
+use Rattle.std.proofs.Common.{◌≡◌, ◌∙◌, ℕ, List, [], ◌∷◌, ◌++◌, sym, ap, subst, append_assoc, OnOk, map, Bool, false, length, ◌==◌, if◌then◌else◌}
+use Rattle.std.specs.Fmt.{decimal}
+use Rattle.std.specs.Prelude.{codes}
+use Rattle.std.proofs.Common.{Bor}
+use Rattle.std.specs.List.{flat_map, join_with_byte}
+use Rattle.tg_rights.specs.RightSet.{text_of}
+use Rattle.tgcould.specs.Texts.{turn_text, wanting_text, more_text}
+use Rattle.tgcould.proofs.TextLaws.{words_join, grew, grew_thrice}
+use Rattle.tgcould.proofs.text.add_could.Goals as goal
+
+pub returns : goal.returns
+returns c =
+    let turns = flat_map turn_text c.args.turns.now in
+    let some : (length c.args.turns.now == 0) ≡ false = sym c.is_empty.ensures ∙ c.if-is_empty.false in
+    subst (λ (b : Bool). OnOk c.add_turns.result (c.add_turns.new.text.items ≡ c.args.text.now.items ++ (if b then codes "now\n" else codes "could\n" ++ turns))) (sym some)
+    (subst (λ (ys : List ℕ). OnOk c.add_turns.result (c.add_turns.new.text.items ≡ ys))
+    (ap (λ (ys : List ℕ). ys ++ turns) c.in_ok-put.ensures ∙ append_assoc c.args.text.now.items (codes "could\n") turns)
+    c.add_turns.ensures)
