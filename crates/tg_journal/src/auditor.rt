@@ -1,8 +1,8 @@
 //! An audit of a history that comes in parts.
-ghost use Rattle.std.specs.Prelude.{◌≡◌, IfOk, IfErr, OnOk};
+ghost use Rattle.std.specs.Prelude.{IfOk, IfErr, OnOk};
+ghost use Rattle.tg_model.specs.Graph.{ProtectionGraph};
 ghost use Rattle.tg_model.specs.Opened.{start_of};
-ghost use Rattle.tg_model.specs.Plain.{graph_of};
-ghost use Rattle.tg_journal.specs.Auditing.{Passes, IsStopped};
+ghost use Rattle.tg_journal.specs.Auditing.{HasComeTo, Passes, IsStopped, graph_kept};
 
 use crate::entry::Entry;
 use crate::replay::{AuditFault, replay};
@@ -10,8 +10,9 @@ use std::alloc::{AllocError, Global};
 use std::marker::Model;
 use tg_model::{Graph, Opening};
 
-/// An audit that has come to some entry of a history. Contracts see it as the graph after the entries that passed. It keeps no
-/// entry, so each part of a history can be given up once it was fed.
+/// An audit that has come to some entry of a history. It keeps no entry, so each part of a history can be given up once it was
+/// fed. Contracts see the graph that it keeps: the one that it has come to is alike where subjects reach (`HasComeTo`), and no
+/// clause says more of it.
 #[derive(Drop)]
 pub struct Auditor {
     graph: Graph,
@@ -36,10 +37,12 @@ pub struct AuditStopped {
 }
 
 impl Auditor {
-    /// An audit of a history of this opening, from its first entry on.
+    /// An audit of a history of this opening, from its first entry on. Fails only when out of memory.
     pub fn open(alloc: Global, opening: &Opening) -> Result<Auditor, AllocError>
-        ensures { IfOk result (λ auditor. graph_of auditor ≡ start_of opening.now) }
+        ensures { IfOk result (λ auditor. HasComeTo (start_of opening.now) (graph_kept auditor)) }
     {
+        // That tells of the opening what holds of each.
+        let _workers = opening.workers();
         Ok(Auditor {
             graph: Graph::open(alloc, opening)?,
         })
@@ -49,8 +52,8 @@ impl Auditor {
     /// come to the graph after them. Else those before the place that is told are, and the audit has come there; of a bad entry it
     /// is the first, and of want of memory the audit can be fed again from it.
     pub fn feed(&mut self, entries: &[Entry]) -> Result<(), AuditStopped>
-        ensures legal { OnOk result (Passes (graph_of self.old) entries.now (graph_of self.new)) }
-        ensures stopped { IfErr result (IsStopped (graph_of self.old) entries.now (graph_of self.new)) }
+        ensures legal { (g : ProtectionGraph) → HasComeTo g (graph_kept self.old) → OnOk result (Passes g entries.now (graph_kept self.new)) }
+        ensures stopped { (g : ProtectionGraph) → HasComeTo g (graph_kept self.old) → IfErr result (IsStopped g entries.now (graph_kept self.new)) }
     {
         for (at, entry) in entries.iter().enumerate() {
             let at = at as u64;
