@@ -22,8 +22,9 @@ use Rattle.tg_model.proofs.NearLaws.{denial_of-near, reply_of-near, labels_after
 use Rattle.tg_model.proofs.ReachLaws.{IsReachable-plain, IsReachable-step, lt-IsReachable}
 use Rattle.tg_model.proofs.SoundLaws.{IsSound-step, IsSound-start_of, le-step-made}
 use Rattle.tg_journal.specs.declared.entry.Entry.{Entry}
-use Rattle.tg_journal.specs.Auditing.{MayMatter, HasComeTo, IsSwept}
+use Rattle.tg_journal.specs.Auditing.{MayMatter, HasComeTo}
 use Rattle.tg_journal.specs.History.{IsLegalEntry}
+use Rattle.tg_journal.specs.Live.{IsAsBefore, IsSwept}
 
 -- ---- what holds of a sound graph at names that weren't made
 
@@ -201,6 +202,21 @@ module _ (g k : ProtectionGraph) (come : HasComeTo g k) where
       reply = legal.reply ∙ sym (answer_alike e.worker legal.subject e.deed);
     },
   )
+
+  -- want of memory for a deed
+  pub as_before : (new : ProtectionGraph) → IsAsBefore k new → HasComeTo g new
+  as_before new before = record {
+    sound = come.sound;
+    alike = record {
+      subjects = before.subjects ∙ come.alike.subjects;
+      made = before.made ∙ come.alike.made;
+      limit = before.limit ∙ come.alike.limit;
+      label = λ a c matters. ap (λ f. f a c) before.label ∙ come.alike.label a c matters;
+      value = λ y reachable.
+          before.value y (omega (arith, lt-IsReachable g come.sound y reachable, come.alike.made))
+          ∙ come.alike.value y reachable;
+    };
+  }
 
   -- ---- what is reached in one graph is in the other
 

@@ -1,8 +1,6 @@
 -- What an audit says of the entries that it was fed.
-use Rattle.std.specs.Prelude.{◌≡◌, ◌<◌, ◌≤◌, ◌⊎◌, ℕ, List, None, take, length}
-use Rattle.tg_rights.specs.RightSet.{no_rights}
+use Rattle.std.specs.Prelude.{◌≡◌, ◌<◌, ◌≤◌, ◌⊎◌, ℕ, List, take, length}
 use Rattle.tg_model.specs.Graph.{ProtectionGraph, IsReachable, IsSound}
-use Rattle.tg_model.specs.Plain.{PlainGraph, graph_of}
 use Rattle.tg_journal.specs.declared.auditor.AuditStopped.{AuditStopped}
 use Rattle.tg_journal.specs.declared.entry.Entry.{Entry}
 use Rattle.tg_journal.specs.declared.replay.AuditFault.TheVariants.{OutOfMemory, BadEntry}
@@ -25,20 +23,6 @@ pub record AlikeWhereReached (g kept : ProtectionGraph) : Type 0 where
 pub record HasComeTo (g kept : ProtectionGraph) : Type 0 where
   pub sound : IsSound g
   pub alike : AlikeWhereReached g kept
-
--- the graph that an audit keeps
-abbrev pub graph_kept : PlainGraph → ProtectionGraph
-graph_kept p = graph_of p
-
--- all that a subject reaches is as it was, and nothing else is left
-pub record IsSwept (old new : ProtectionGraph) : Type 0 where
-  pub subjects : new.subjects ≡ old.subjects
-  pub made : new.made ≡ old.made
-  pub limit : new.limit ≡ old.limit
-  pub label : (x y : ℕ) → IsReachable old x → new.label x y ≡ old.label x y
-  pub value : (y : ℕ) → IsReachable old y → new.value y ≡ old.value y
-  pub no_label : (x y : ℕ) → ¬ IsReachable old x → new.label x y ≡ no_rights
-  pub no_value : (y : ℕ) → ¬ IsReachable old y → new.value y ≡ None
 
 -- the entries are a legal history of the first graph, and the audit has come to the one after them
 pub record Passes (g : ProtectionGraph) (es : List Entry) (kept : ProtectionGraph) : Type 0 where
